@@ -1,0 +1,5 @@
+pub mod Graph
+pub mod Membership
+pub mod Serial
+pub mod Walk
+pub mod Build

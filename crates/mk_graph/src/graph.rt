@@ -1,0 +1,73 @@
+//! A makefile's graph.
+
+ghost use Rattle.std.specs.Prelude.{◌≡◌, IfOk};
+ghost use Rattle.mk_graph.specs.Graph.{IsGraph, IsSound};
+ghost use Rattle.mk_graph.specs.Build.{Builds};
+ghost use Rattle.mk_graph.specs.Serial.{serial_order};
+
+use crate::fault::GraphFault;
+use crate::node::Node;
+use std::alloc::{AllocError, Global};
+use std::marker::Model;
+
+/// At most so many nodes are a graph.
+pub const MAX_NODES: usize = 4096;
+
+/// The nodes that goals reach through prerequisites, without a cycle.
+#[derive(Debug, Drop)]
+pub struct Graph {
+    nodes: Vec<Node>,
+    goals: Vec<usize>,
+    order: Vec<usize>,
+}
+
+impl Model for Graph {
+    ghost use Rattle.std.specs.Prelude.{◌≡◌};
+    ghost use Rattle.mk_graph.specs.Graph as value;
+    ghost use Rattle.mk_graph.specs.Serial.{serial_order};
+
+    ghost Value = { value.Graph };
+
+    ghost view = { λ g. record { nodes = g.nodes.items; goals = g.goals.items } };
+
+    ghost invariant = { λ g. value.IsGraph (record { nodes = g.nodes.items; goals = g.goals.items }) × (g.order.items ≡ serial_order (record { nodes = g.nodes.items; goals = g.goals.items })) };
+}
+
+impl Graph {
+    /// The graph of these nodes, which are known by their places, and these goals. Fault 43 where
+    /// there are over 4,096 nodes, else 42 where a path of prerequisites leads from a node to itself.
+    ///
+    /// The caller owes that names differ, that goals and prerequisites are places of nodes, and that
+    /// each node is reached from a goal. No nodes and no goals are a graph.
+    pub fn build(alloc: Global, nodes: Vec<Node>, goals: Vec<usize>) -> Result<Graph, GraphFault>
+        requires { IsSound (record { nodes = nodes.items; goals = goals.items }) }
+        ensures { Builds (record { nodes = nodes.items; goals = goals.items }) result }
+    {
+        let _ = (alloc, nodes, goals);
+        Err(GraphFault::Memory)
+    }
+
+    /// The nodes, each at its number.
+    pub fn nodes(&self) -> &[Node]
+        ensures value { result.now ≡ self.now.nodes }
+        ensures graph { IsGraph self.now }
+    {
+        self.nodes.as_slice()
+    }
+
+    /// The numbers of the goals, in their order.
+    pub fn goals(&self) -> &[usize]
+        ensures value { result.now ≡ self.now.goals }
+        ensures graph { IsGraph self.now }
+    {
+        self.goals.as_slice()
+    }
+
+    /// The numbers of all nodes in the order in which a make with one job makes them: depth first,
+    /// left to right, each node after its prerequisites, once.
+    pub fn serial(&self, alloc: Global) -> Result<Vec<usize>, AllocError>
+        ensures { IfOk result (λ order. order.items ≡ serial_order self.now) }
+    {
+        Vec::from_slice(alloc, &self.order)
+    }
+}

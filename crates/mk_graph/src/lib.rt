@@ -1,0 +1,12 @@
+//! Graphs of makefile targets: nodes, cycles and the serial order.
+#![tactic(auto)]
+
+mod fault;
+mod graph;
+mod name;
+mod node;
+
+pub use fault::GraphFault;
+pub use graph::{Graph, MAX_NODES};
+pub use name::{Groups, Name, Names};
+pub use node::Node;

@@ -1,0 +1,107 @@
+//! Names, lists of names and groups of node numbers, which contracts see as lists.
+
+ghost use Rattle.std.specs.Prelude.{◌≡◌, IfOk, map};
+ghost use Rattle.std.specs.String.{string_bytes};
+
+use std::alloc::{AllocError, Global};
+use std::marker::Model;
+
+/// The name of a target, a file or a place. A contract sees its bytes.
+#[derive(Debug, Drop)]
+pub struct Name {
+    text: String,
+}
+
+impl Model for Name {
+    ghost use Rattle.std.specs.Prelude.{List, ℕ};
+    ghost use Rattle.std.specs.String.{string_bytes};
+
+    ghost Value = { List ℕ };
+
+    ghost view = { λ n. string_bytes n.text };
+}
+
+impl Name {
+    /// A name with a copy of the text.
+    pub fn new(alloc: Global, text: &str) -> Result<Name, AllocError>
+        ensures { IfOk result (λ name. name ≡ text.now) }
+    {
+        Ok(Name {
+            text: String::from_str(alloc, text)?,
+        })
+    }
+
+    /// The name that the text spells.
+    pub fn from_string(text: String) -> Name
+        ensures { result ≡ string_bytes text }
+    {
+        Name { text }
+    }
+
+    /// The name as text.
+    pub fn as_str(&self) -> &str
+        ensures { result.now ≡ self.now }
+    {
+        self.text.as_str()
+    }
+}
+
+/// Names in their order. A contract sees a list of lists of bytes.
+#[derive(Debug, Drop)]
+pub struct Names {
+    names: Vec<Name>,
+}
+
+impl Model for Names {
+    ghost use Rattle.std.specs.Prelude.{List, ℕ};
+
+    ghost Value = { List (List ℕ) };
+
+    ghost view = { λ n. n.names.items };
+}
+
+impl Names {
+    /// The names of a list, in its order.
+    pub fn new(names: Vec<Name>) -> Names
+        ensures { result ≡ names.items }
+    {
+        Names { names }
+    }
+
+    /// The names as a slice.
+    pub fn as_slice(&self) -> &[Name]
+        ensures { result.now ≡ self.now }
+    {
+        self.names.as_slice()
+    }
+}
+
+/// The groups of a node's prerequisites, each a list of node numbers.
+#[derive(Debug, Drop)]
+pub struct Groups {
+    groups: Vec<Vec<usize>>,
+}
+
+impl Model for Groups {
+    ghost use Rattle.std.specs.Prelude.{List, ℕ, map};
+
+    ghost Value = { List (List ℕ) };
+
+    ghost view = { λ g. map (λ group. group.items) g.groups.items };
+}
+
+impl Groups {
+    /// The groups of a list, in its order.
+    pub fn new(groups: Vec<Vec<usize>>) -> Groups
+        ensures { result ≡ map (λ group. group.items) groups.items }
+    {
+        Groups { groups }
+    }
+
+    /// The groups as a slice.
+    pub fn as_slice(&self) -> &[Vec<usize>]
+        ensures { map (λ group. group.items) result.now ≡ self.now }
+    {
+        self.groups.as_slice()
+    }
+}
