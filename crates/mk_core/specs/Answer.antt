@@ -1,0 +1,88 @@
+-- What a request for a graph is answered.
+use Rattle.std.specs.Prelude.{◌≡◌, ◌⊎◌, ℕ, ◌<◌, Bool, true, not, ◌&&◌, List, [], ◌∷◌, reverse, codes, Option, None, Some, Result, Ok, Err, if◌then◌else◌}
+use Rattle.std.specs.Str.{bytes_eq}
+use Rattle.mk_graph.specs.Graph as value
+use Rattle.mk_graph.specs.Build.{Builds}
+use Rattle.mk_graph.specs.declared.fault.GraphFault.TheVariants as graph
+use Rattle.mk_core.specs.declared.fault.Fault.{Fault}
+use Rattle.mk_core.specs.declared.fault.Fault.TheVariants.{BadMacroName, BadMakefileName, ReadFailed, NoMakefile, Graph, Memory}
+use Rattle.mk_core.specs.declared.request.Request.{Request}
+use Rattle.mk_core.specs.Files.{Told, text_at}
+use Rattle.mk_core.specs.Names.{is_plain_path}
+use Rattle.mk_core.specs.Lines.{logical_lines}
+use Rattle.mk_core.specs.Rules.{Rule, with_lines}
+use Rattle.mk_core.specs.Goals.{goal_names}
+use Rattle.mk_core.specs.Selection.{IsGraphOf}
+use Rattle.mk_core.specs.GraphText.{graph_text}
+use Rattle.mk_core.specs.Outcome.{◌>>=◌}
+
+-- a makefile that is named has a plain path as its name, other than `-`
+abbrev pub tested_name : Option (List ℕ) → Result (Option (List ℕ)) Fault
+tested_name None = Ok None
+tested_name (Some name) = if is_plain_path name && not (bytes_eq name (codes "-")) then Ok (Some name) else Err (BadMakefileName name)
+
+-- no macro operand is read yet
+abbrev pub no_operands : List (List ℕ) → Result Bool Fault
+no_operands [] = Ok true
+no_operands (word ∷ words) = Err (BadMacroName (record { file = codes "operand"; line = 1 }))
+
+-- the text under a name, else what is answered without it
+abbrev pub text_or : List ℕ → Option (List ℕ) → Result (List ℕ × List ℕ) Fault → Result (List ℕ × List ℕ) Fault
+text_or name (Some text) other = Ok (name, text)
+text_or name None other = other
+
+-- the makefile's name and text: the one that is named, else `makefile`, else `Makefile`
+unfoldable pub makefile_of : Told → Option (List ℕ) → Result (List ℕ × List ℕ) Fault
+makefile_of files (Some name) = text_or name (text_at files name) (Err (NoMakefile (Some name)))
+makefile_of files None = text_or (codes "makefile") (text_at files (codes "makefile")) (text_or (codes "Makefile") (text_at files (codes "Makefile")) (Err (NoMakefile None)))
+
+-- the makefile that a request names
+unfoldable pub makefile_for : Told → Request → Result (List ℕ × List ℕ) Fault
+makefile_for files request = do
+  name ← tested_name request.makefile
+  none ← no_operands request.operands
+  makefile_of files name
+
+-- a read for the request may be of this name
+abbrev pub IsAsked : Told → Option (List ℕ) → List ℕ → Type 0
+IsAsked files (Some asked) name = name ≡ asked
+IsAsked files None name = (name ≡ codes "makefile") ⊎ ((text_at files (codes "makefile") ≡ None) × (name ≡ codes "Makefile"))
+
+-- the rule lines of a text, in their order
+unfoldable pub rules_of : List ℕ → List ℕ → Result (List Rule) Fault
+rules_of file text = do
+  lines ← logical_lines file text
+  rules ← with_lines file [] lines
+  Ok (reverse rules)
+
+-- the rule lines and the goals of a request
+unfoldable pub read_for : Told → Request → Result (List Rule × List (List ℕ)) Fault
+read_for files request = do
+  makefile ← makefile_for files request
+  rules ← rules_of makefile.0 makefile.1
+  goals ← goal_names rules request.goals
+  Ok (rules, goals)
+
+-- The graph that is handed in is built and printed, or refused.
+abbrev pub Prints : value.Graph → Result (List ℕ) Fault → Type 0
+Prints handed (Ok text) = (g : value.Graph) × Builds handed (Ok g) × (text ≡ graph_text g)
+Prints handed (Err (Graph fault)) = Builds handed (Err fault)
+Prints handed (Err fault) = ⊥
+
+-- the answer over rule lines and goals, or the fault in reading them
+abbrev pub Draws : Result (List Rule × List (List ℕ)) Fault → Result (List ℕ) Fault → Type 0
+Draws (Err fault) answer = answer ≡ Err fault
+Draws (Ok (rules, goals)) answer = (handed : value.Graph) × IsGraphOf rules goals handed × Prints handed answer
+
+-- Over files that are told, the answer is that of the definitions; a failed read is one of a name that is asked for,
+-- and of want of memory nothing is said.
+abbrev pub Answers : Told → Request → Result (List ℕ) Fault → Type 0
+Answers files request (Err Memory) = Unit {0}
+Answers files request (Err (Graph graph.Memory)) = Unit {0}
+Answers files request (Err (ReadFailed name)) = IsAsked files request.makefile name
+Answers files request answer = Draws (read_for files request) answer
+
+-- a failed read is answered only where the count of failures rose, and it rises nowhere else
+abbrev pub Counts : {A : Type 0} → ℕ → ℕ → Result A Fault → Type 0
+Counts old new (Err (ReadFailed name)) = old < new
+Counts old new answer = new ≡ old

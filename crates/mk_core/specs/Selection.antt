@@ -1,0 +1,40 @@
+-- The graph of the names that goals reach.
+use Rattle.std.specs.Prelude.{◌≡◌, ℕ, suc, false, List, [], ◌∷◌, ◌++◌, map, filter, if◌then◌else◌}
+use Rattle.std.specs.List.{flat_map}
+use Rattle.std.specs.Str.{bytes_eq}
+use Rattle.mk_graph.specs.declared.node.Node.{Node}
+use Rattle.mk_graph.specs.Graph.{Graph}
+use Rattle.mk_graph.specs.Membership.{Has}
+use Rattle.mk_core.specs.Rules.{Rule, has_name, has_commands}
+
+-- the prerequisites of a name: those of all rule lines that name it, in their order
+abbrev pub prerequisites_of : List Rule → List ℕ → List (List ℕ)
+prerequisites_of rules name = flat_map (λ (rule : Rule). rule.words) (filter (λ (rule : Rule). has_name rule.targets name) rules)
+
+-- The names as a walk depth first, left to right, first meets them: with these met, the walk of the names to do
+-- meets these in all. A new name's prerequisites are met before what follows it.
+pub data Meets (needs : List ℕ → List (List ℕ)) : (met todo all : List (List ℕ)) → Type 0 where
+  ends : {met : List (List ℕ)} → Meets needs met [] met
+  known : {met todo all : List (List ℕ)} {name : List ℕ} → Has met name → Meets needs met todo all → Meets needs met (name ∷ todo) all
+  new : {met todo all : List (List ℕ)} {name : List ℕ} → ¬ (Has met name) → Meets needs (met ++ name ∷ []) (needs name ++ todo) all → Meets needs met (name ∷ todo) all
+
+-- where the name first stands
+abbrev pub number_of : List (List ℕ) → List ℕ → ℕ
+number_of [] name = 0
+number_of (other ∷ names) name = if bytes_eq other name then 0 else suc (number_of names name)
+
+-- all prerequisites are one group, and no group is empty
+abbrev pub one_group : List ℕ → List (List ℕ)
+one_group [] = []
+one_group (n ∷ ns) = (n ∷ ns) ∷ []
+
+abbrev pub node_of : List Rule → List (List ℕ) → List ℕ → Node
+node_of rules all name = record { name = name; groups = one_group (map (number_of all) (prerequisites_of rules name)); recipe = has_commands rules name; phony = false }
+
+-- the graph of these names, each numbered by its place
+abbrev pub graph_of : List Rule → List (List ℕ) → List (List ℕ) → Graph
+graph_of rules goals all = record { nodes = map (node_of rules all) all; goals = map (number_of all) goals }
+
+-- the graph of what the goals reach
+abbrev pub IsGraphOf : List Rule → List (List ℕ) → Graph → Type 0
+IsGraphOf rules goals g = (all : List (List ℕ)) × Meets (prerequisites_of rules) [] goals all × (g ≡ graph_of rules goals all)

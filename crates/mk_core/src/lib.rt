@@ -1,0 +1,17 @@
+//! From a request to a graph, a verdict or a refusal.
+#![tactic(auto)]
+
+mod answer;
+mod fault;
+mod files;
+mod mem_files;
+mod request;
+mod wording;
+
+pub use answer::graph_text;
+pub use fault::{Fault, Place};
+pub use files::{Files, FilesError};
+pub use mem_files::MemFiles;
+pub use mk_graph::{Name, Names};
+pub use request::{Request, split_words};
+pub use wording::fault_text;
