@@ -3,6 +3,7 @@ use Rattle.std.specs.Prelude.{ℕ, ◌+◌, ◌==◌, Bool, true, false, not, �
 use Rattle.std.specs.List.{slice_split, enumerate_from, list_all, list_any}
 use Rattle.mk_core.specs.declared.fault.Fault.{Fault}
 use Rattle.mk_core.specs.declared.fault.Place.{Place}
+use Rattle.mk_core.specs.declared.lines.Line as lines
 use Rattle.mk_core.specs.declared.fault.Fault.TheVariants.{NulByte, LineTooLong, TooManyLines}
 
 -- a line: the number of its first physical line, counted from 1; whether it is a command line; its text, of a
@@ -57,3 +58,12 @@ unless None x = Ok x
 -- the lines of the text of this file, or what is wrong with the first faulty one
 unfoldable pub logical_lines : List ℕ → List ℕ → Result (List Line) Fault
 logical_lines file text = unless (first_fault file 0 (lines_of (pieces text))) (lines_of (pieces text))
+
+-- a line of the code, whose text is a part of the makefile's
+abbrev pub line_view : lines.Line → Line
+line_view line = record { first = line.first; command = line.command; text = line.text.now }
+
+-- the pieces of what is left of a text
+abbrev pub pieces_left : Option (List ℕ) → List (List ℕ)
+pieces_left None = []
+pieces_left (Some text) = slice_split is_newline text

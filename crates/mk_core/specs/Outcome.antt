@@ -1,8 +1,8 @@
 -- Results in steps: the first fault is the result.
-use Rattle.std.specs.Prelude.{◌≡◌, Result, Ok, Err}
+use Rattle.std.specs.Prelude.{◌≡◌, ◌⊎◌, Result, Ok, Err}
 use Rattle.mk_graph.specs.declared.fault.GraphFault.TheVariants as graph
 use Rattle.mk_core.specs.declared.fault.Fault.{Fault}
-use Rattle.mk_core.specs.declared.fault.Fault.TheVariants.{Graph, Memory}
+use Rattle.mk_core.specs.declared.fault.Fault.TheVariants.{Graph, Memory, ReadFailed}
 
 infixl 10 ◌>>=◌
 abbrev pub ◌>>=◌ : {A B : Type 0} → Result A Fault → (A → Result B Fault) → Result B Fault
@@ -14,13 +14,23 @@ abbrev pub seen : {X Y : Type 0} → (X → Y) → Result X Fault → Result Y F
 seen view (Ok x) = Ok (view x)
 seen view (Err fault) = Err fault
 
--- A fault that is the definition's, or want of memory, of which nothing is said.
+-- want of memory
+abbrev pub IsMemory : Fault → Type 0
+IsMemory Memory = Unit {0}
+IsMemory (Graph graph.Memory) = Unit {0}
+IsMemory fault = ⊥
+
+-- A fault is the one that is defined, or want of memory, of which nothing is said.
 abbrev pub Fails : {Y : Type 0} → Fault → Result Y Fault → Type 0
-Fails Memory defined = Unit {0}
-Fails (Graph graph.Memory) defined = Unit {0}
-Fails fault defined = defined ≡ Err fault
+Fails fault defined = IsMemory fault ⊎ (defined ≡ Err fault)
 
 -- What a function returned, seen by view, is what is defined, unless memory ran out.
 abbrev pub Gives : {X Y : Type 0} → (X → Y) → Result X Fault → Result Y Fault → Type 0
 Gives view (Ok x) defined = defined ≡ Ok (view x)
 Gives view (Err fault) defined = Fails fault defined
+
+-- a fault of the text or the words: no reader failed, and no graph was built
+abbrev pub IsOfText : Fault → Type 0
+IsOfText (ReadFailed name) = ⊥
+IsOfText (Graph fault) = ⊥
+IsOfText fault = Unit {0}

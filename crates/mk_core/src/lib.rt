@@ -4,6 +4,7 @@
 mod answer;
 mod fault;
 mod files;
+mod lines;
 mod mem_files;
 mod request;
 mod wording;
