@@ -1,0 +1,27 @@
+#ifndef TABLE_H
+#define TABLE_H
+
+#include <stdbool.h>
+#include <stddef.h>
+
+struct entry {
+    char *word;
+    unsigned long count;
+};
+
+/* How often each word was added. A table that is all zero is empty. */
+struct table {
+    struct entry *entries;
+    size_t length;
+    size_t capacity;
+};
+
+/* Counts the word once more. Answers false, and changes no count, for want of memory. */
+bool table_add(struct table *table, const char *word);
+
+/* Puts the most frequent words first, equal ones by the alphabet. No word may be added after this. */
+void table_rank(struct table *table);
+
+void table_free(struct table *table);
+
+#endif
