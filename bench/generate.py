@@ -2,6 +2,7 @@
 
 import argparse
 import sys
+from collections.abc import Callable
 from dataclasses import dataclass
 
 PREREQUISITES_A_LINE = 20
@@ -61,6 +62,14 @@ def layered(layers: int, width: int) -> Generated:
     return Generated(top + "".join(rules), nodes=layers * width + 1, recipes=layers * width)
 
 
+# Each shape, and the sizes that it takes.
+SHAPES: dict[Callable[..., Generated], tuple[str, ...]] = {
+    flat: ("count",),
+    deep: ("count",),
+    layered: ("layers", "width"),
+}
+
+
 def size(word: str) -> int:
     """A size on the command line."""
     number = int(word)
@@ -72,16 +81,16 @@ def size(word: str) -> int:
 def main() -> None:
     parser = argparse.ArgumentParser(description=__doc__)
     shapes = parser.add_subparsers(dest="shape", required=True)
-    for shape in (flat, deep):
+    for shape, sizes in SHAPES.items():
         command = shapes.add_parser(shape.__name__, help=shape.__doc__)
-        command.add_argument("count", type=size)
-    command = shapes.add_parser(layered.__name__, help=layered.__doc__)
-    command.add_argument("layers", type=size)
-    command.add_argument("width", type=size)
+        command.set_defaults(generate=shape)
+        for name in sizes:
+            command.add_argument(name, type=size)
     arguments = vars(parser.parse_args())
-    shape = {"flat": flat, "deep": deep, "layered": layered}[arguments.pop("shape")]
+    generate = arguments.pop("generate")
+    del arguments["shape"]
     try:
-        sys.stdout.write(shape(**arguments).text)
+        sys.stdout.write(generate(**arguments).text)
     except ValueError as problem:
         parser.error(str(problem))
 

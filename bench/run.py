@@ -139,7 +139,7 @@ def row(case: Case, figures: dict[str, Measure], before: dict[str, dict[str, Mea
         growth = f"{own.time / before[case.smaller]['mkcheck'].time:.1f}"
         memory = f"{own.memory:.0f}"
     times = "".join(f"{figure.time:>11.1f}" for figure in figures.values())
-    return f"{case.label:<18}{case.makefile.nodes:>6}{times}{ratio:>8}{growth:>8}{memory:>11}"
+    return f"{case.label:<18}{case.makefile.nodes:>6}{times}{ratio:>8}{growth:>8}{memory:>11}".rstrip()
 
 
 def bounds(tool_count: int) -> str:

@@ -1,4 +1,7 @@
-/* Counts the lines, words and bytes of a file, or of standard input, and names its most frequent words. */
+/*
+ * Counts the lines, words and bytes of a file, or of standard input, and names
+ * its most frequent words.
+ */
 
 #include "reader.h"
 #include "table.h"
@@ -8,7 +11,7 @@
 
 enum { SHOWN = 5 };
 
-/* Reads the file to its end. Answers a message where it could not be counted, else NULL. */
+/* Reads the file to its end. Answers NULL, or a message where it could not be counted. */
 static const char *count(FILE *file, struct reader *reader, struct table *table)
 {
     reader_open(reader, file);

@@ -4,7 +4,7 @@
 #include <stdbool.h>
 #include <stdio.h>
 
-/* The longest word that is told from others: of a longer one the front counts. */
+/* How much of a word is kept: longer ones are told apart by their fronts alone. */
 enum { WORD_LIMIT = 63 };
 
 /* A file that is read word by word, and what was met in it so far. */

@@ -4,7 +4,10 @@
 #include <stdlib.h>
 #include <string.h>
 
-/* The place of the word, or the one where it belongs: until the table is ranked, words stand by the alphabet. */
+/*
+ * The place of the word, or the one where it belongs: until the table is ranked,
+ * the words stand by the alphabet.
+ */
 static size_t find(const struct table *table, const char *word)
 {
     size_t low = 0;

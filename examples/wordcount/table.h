@@ -16,10 +16,13 @@ struct table {
     size_t capacity;
 };
 
-/* Counts the word once more. Answers false, and changes no count, for want of memory. */
+/* Counts the word once more. For want of memory answers false and changes no count. */
 bool table_add(struct table *table, const char *word);
 
-/* Puts the most frequent words first, equal ones by the alphabet. No word may be added after this. */
+/*
+ * Puts the most frequent words first, equally frequent ones by the alphabet. No
+ * word may be added after this.
+ */
 void table_rank(struct table *table);
 
 void table_free(struct table *table);
