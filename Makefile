@@ -1,0 +1,38 @@
+# Builds, shows and checks mkcheck. Only what POSIX defines is used here, so
+# that any make reads this file, and mkcheck itself too.
+
+.POSIX:
+
+PREFIX = /usr/local
+
+.PHONY: all demo check bench install clean
+
+# rt looks by itself at what changed since the last build, so `all` is always
+# run and names no source. It proves the program, links it, and runs it once.
+all:
+	cd crates/mkcheck && rt run -- --version
+	mkdir -p bin
+	cp -f crates/mkcheck/out/mkcheck bin/mkcheck
+
+# The last line holds the program to the text that the documents show.
+demo: all
+	cd examples/wordcount && cat makefile
+	cd examples/wordcount && ../../bin/mkcheck graph
+	cd examples/wordcount && ../../bin/mkcheck graph reader.o table.o
+	@cd examples/wordcount && ../../bin/mkcheck graph | cmp - graph.txt
+
+# The gate proves and runs everything from nothing, so it needs no `all`. Its
+# last line, `N passed, M failed`, is to stay the last one that is printed.
+check:
+	@rt ci
+
+bench: all
+	@python3 bench/run.py
+
+install: all
+	mkdir -p $(DESTDIR)$(PREFIX)/bin
+	cp -f bin/mkcheck $(DESTDIR)$(PREFIX)/bin/mkcheck
+
+clean:
+	rm -rf bin bench/data bench/__pycache__ crates/*/out
+	cd examples/wordcount && rm -f wordcount *.o counted.txt

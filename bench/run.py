@@ -1,0 +1,172 @@
+"""Measures `mkcheck graph` beside `make -n` and `bmake -n` on the same makefiles, and prints a table."""
+
+import argparse
+import os
+import resource
+import sys
+from dataclasses import dataclass
+from pathlib import Path
+
+from generate import Generated, deep, flat, layered
+
+HERE = Path(__file__).resolve().parent
+DATA = HERE / "data"
+RUNS = 11
+
+# What is to be reached. The table shows it; no figure makes the run fail.
+RATIO_BOUND = 1.00
+GROWTH_BOUND = 5.0
+MEMORY_BOUND = 64
+
+
+@dataclass(frozen=True)
+class Case:
+    """A makefile to measure. The growth is the time against that of the case `smaller`."""
+
+    label: str
+    makefile: Generated
+    smaller: str | None = None
+
+    @property
+    def file(self) -> str:
+        return f"{self.label.replace(' ', '-')}.mk"
+
+
+@dataclass(frozen=True)
+class Tool:
+    """A program that reads a makefile and writes a line for each of its recipes, or each of its nodes."""
+
+    name: str
+    path: str
+    arguments: tuple[str, ...]
+    writes_nodes: bool = False
+
+    def lines(self, makefile: Generated) -> int:
+        """How many lines it writes: mkcheck one for each node, after that of the goals."""
+        return makefile.nodes + 1 if self.writes_nodes else makefile.recipes
+
+
+@dataclass(frozen=True)
+class Measure:
+    """The median processor time of some runs, in milliseconds, and their peak memory in megabytes."""
+
+    time: float
+    memory: float
+
+
+CASES = [
+    Case("flat 1000", flat(1000)),
+    Case("flat 4000", flat(4000), "flat 1000"),
+    Case("deep 1000", deep(1000)),
+    Case("deep 4000", deep(4000), "deep 1000"),
+    Case("layered 25 by 40", layered(25, 40)),
+    Case("layered 60 by 60", layered(60, 60)),
+    Case("layered 50 by 80", layered(50, 80), "layered 25 by 40"),
+]
+
+
+def installed(name: str) -> str | None:
+    """Where the command is that the search path finds under this name."""
+    places = (os.path.join(folder, name) for folder in os.get_exec_path())
+    return next((place for place in places if os.access(place, os.X_OK)), None)
+
+
+def tools(program: Path) -> list[Tool]:
+    """mkcheck, and after it the peers that are installed here."""
+    found = [Tool("mkcheck", str(program), ("graph", "-f"), writes_nodes=True)]
+    for name, arguments in (("make", ("-n", "-r", "-f")), ("bmake", ("-n", "-f"))):
+        path = installed(name)
+        if path is not None:
+            found.append(Tool(name, path, arguments))
+    return found
+
+
+def run(tool: Tool, file: str, output: Path) -> resource.struct_rusage:
+    """Runs the tool on the file, and ends the benchmark where it fails."""
+    command = [tool.path, *tool.arguments, file]
+    # Nothing is handed down from a make that calls this script: its flags would change what the peers do.
+    environment = {"PATH": os.environ.get("PATH", os.defpath), "LC_ALL": "C"}
+    with output.open("wb") as stream:
+        redirection = (os.POSIX_SPAWN_DUP2, stream.fileno(), 1)
+        pid = os.posix_spawn(tool.path, command, environment, file_actions=[redirection])
+    _, status, usage = os.wait4(pid, 0)
+    if status != 0:
+        code = os.waitstatus_to_exitcode(status)
+        sys.exit(f"bench: {' '.join(command)}: status {code}, output in {output}")
+    return usage
+
+
+def try_out(tool: Tool, case: Case) -> None:
+    """One run before those that count, to see that the tool does the whole work."""
+    output = DATA / "output"
+    run(tool, case.file, output)
+    lines = output.read_bytes().count(b"\n")
+    wanted = tool.lines(case.makefile)
+    if lines != wanted:
+        sys.exit(f"bench: {tool.name} on {case.file}: {lines} lines and not {wanted}, output in {output}")
+
+
+def measure(case: Case, measured: list[Tool]) -> dict[str, Measure]:
+    """The tools take turns, so that what else the machine does falls on all of them."""
+    for tool in measured:
+        try_out(tool, case)
+    usages: dict[str, list[resource.struct_rusage]] = {tool.name: [] for tool in measured}
+    for _ in range(RUNS):
+        for tool in measured:
+            usages[tool.name].append(run(tool, case.file, Path(os.devnull)))
+    return {name: summary(taken) for name, taken in usages.items()}
+
+
+def summary(usages: list[resource.struct_rusage]) -> Measure:
+    """The number of runs is odd, so one of them is the median."""
+    times = sorted(usage.ru_utime + usage.ru_stime for usage in usages)
+    peak = max(usage.ru_maxrss for usage in usages)
+    return Measure(time=1000 * times[len(times) // 2], memory=peak / 1024)
+
+
+def header(names: list[str]) -> str:
+    columns = [f"{'makefile':<18}{'nodes':>6}", *(f"{name + ' ms':>11}" for name in names)]
+    return "".join([*columns, f"{'ratio':>8}{'growth':>8}{'memory MB':>11}"])
+
+
+def row(case: Case, figures: dict[str, Measure], before: dict[str, dict[str, Measure]]) -> str:
+    """The ratio is to the fastest peer; growth and memory stand at the largest size of each shape."""
+    own = figures["mkcheck"]
+    peers = [figure.time for name, figure in figures.items() if name != "mkcheck"]
+    ratio = f"{own.time / min(peers):.2f}" if peers else "-"
+    growth = memory = ""
+    if case.smaller is not None:
+        growth = f"{own.time / before[case.smaller]['mkcheck'].time:.1f}"
+        memory = f"{own.memory:.0f}"
+    times = "".join(f"{figure.time:>11.1f}" for figure in figures.values())
+    return f"{case.label:<18}{case.makefile.nodes:>6}{times}{ratio:>8}{growth:>8}{memory:>11}".rstrip()
+
+
+def bounds(tool_count: int) -> str:
+    """The last row: what is to be reached at most."""
+    return f"{'at most':<{24 + 11 * tool_count}}{RATIO_BOUND:>8.2f}{GROWTH_BOUND:>8.1f}{MEMORY_BOUND:>11}"
+
+
+def main() -> None:
+    parser = argparse.ArgumentParser(description=__doc__)
+    parser.add_argument("--program", type=Path, default=HERE.parent / "bin" / "mkcheck", help="the mkcheck to measure")
+    program = parser.parse_args().program.resolve()
+    if not os.access(program, os.X_OK):
+        sys.exit(f"bench: {program} is not there: run `make all` first")
+    measured = tools(program)
+    DATA.mkdir(exist_ok=True)
+    for case in CASES:
+        (DATA / case.file).write_text(case.makefile.text)
+    os.chdir(DATA)
+
+    print(f"processor time, median of {RUNS} runs; {', '.join(tool.path for tool in measured)}")
+    print(header([tool.name for tool in measured]))
+    figures: dict[str, dict[str, Measure]] = {}
+    for case in CASES:
+        figures[case.label] = measure(case, measured)
+        print(row(case, figures[case.label], figures), flush=True)
+    print(bounds(len(measured)))
+
+
+if __name__ == "__main__":
+    main()
