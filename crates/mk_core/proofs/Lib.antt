@@ -1,2 +1,4 @@
 pub mod FirstByte
-pub mod Pieces
+pub mod TextLeft
+pub mod Utf8
+pub mod Components

@@ -6,6 +6,7 @@ pub mod Files
 pub mod MemFiles
 pub mod Words
 pub mod Outcome
+pub mod Parts
 pub mod Lines
 pub mod Names
 pub mod Rules

@@ -1,6 +1,7 @@
 -- The lines of a text.
 use Rattle.std.specs.Prelude.{ℕ, ◌+◌, ◌==◌, Bool, true, false, not, ◌||◌, List, [], ◌∷◌, length, map, filter, Option, None, Some, Result, Ok, Err, nat_lt, nat_le, if◌then◌else◌}
 use Rattle.std.specs.List.{slice_split, enumerate_from, list_all, list_any}
+use Rattle.mk_core.specs.Parts.{is_byte}
 use Rattle.mk_core.specs.declared.fault.Fault.{Fault}
 use Rattle.mk_core.specs.declared.fault.Place.{Place}
 use Rattle.mk_core.specs.declared.lines.Line as lines
@@ -13,9 +14,6 @@ pub record Line : Type 0 where
   pub command : Bool
   pub text : List ℕ
 
-abbrev pub is_newline : ℕ → Bool
-is_newline b = b == 10
-
 -- a space or a tab
 abbrev pub is_blank : ℕ → Bool
 is_blank b = b == 32 || b == 9
@@ -27,7 +25,7 @@ line_of (number, (b ∷ text)) = if b == 9 then record { first = number; command
 
 -- the pieces between newlines, with their numbers
 abbrev pub pieces : List ℕ → List (ℕ × List ℕ)
-pieces text = enumerate_from 1 (slice_split is_newline text)
+pieces text = enumerate_from 1 (slice_split (is_byte 10) text)
 
 -- the lines, without those of blanks alone
 abbrev pub lines_of : List (ℕ × List ℕ) → List Line
@@ -62,8 +60,3 @@ logical_lines file text = unless (first_fault file 0 (lines_of (pieces text))) (
 -- a line of the code, whose text is a part of the makefile's
 abbrev pub line_view : lines.Line → Line
 line_view line = record { first = line.first; command = line.command; text = line.text.now }
-
--- the pieces of what is left of a text
-abbrev pub pieces_left : Option (List ℕ) → List (List ℕ)
-pieces_left None = []
-pieces_left (Some text) = slice_split is_newline text

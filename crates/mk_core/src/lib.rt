@@ -6,6 +6,8 @@ mod fault;
 mod files;
 mod lines;
 mod mem_files;
+mod names;
+mod parts;
 mod request;
 mod wording;
 

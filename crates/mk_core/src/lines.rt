@@ -1,13 +1,12 @@
 //! The lines of a text.
 
-ghost use Rattle.std.specs.Prelude.{◌≡◌, ◌∷◌, ◌==◌, ◌<◌, length, map, IfSome, IfErr, Ok};
-ghost use Rattle.std.specs.Option.{option_map};
-ghost use Rattle.std.specs.List.{slice_split, list_all};
-ghost use Rattle.mk_core.specs.Lines.{is_newline, is_blank, line_of, line_view, line_fault, unless, logical_lines, pieces_left};
+ghost use Rattle.std.specs.Prelude.{◌≡◌, map, IfErr};
+ghost use Rattle.std.specs.List.{list_all};
+ghost use Rattle.mk_core.specs.Lines.{is_blank, line_of, line_view, line_fault, unless, logical_lines};
 ghost use Rattle.mk_core.specs.Outcome.{Gives, IsOfText};
 
 use crate::fault::{Fault, Place};
-use bstr::ByteSlice;
+use crate::parts::cut;
 use mk_graph::Name;
 use std::alloc::{AllocError, Global};
 
@@ -26,17 +25,6 @@ pub struct Line<'a> {
     pub command: bool,
     /// Its text, of a command line without the tab.
     pub text: &'a [u8],
-}
-
-/// The piece up to the first newline, and what follows that newline.
-fn cut(text: &[u8]) -> (&[u8], Option<&[u8]>)
-    ensures shorter { IfSome result.1 (λ rest. length rest.now < length text.now) }
-    ensures pieces { slice_split is_newline text.now ≡ result.0.now ∷ pieces_left (option_map (λ rest. rest.now) result.1) }
-{
-    match text.find_byte(b'\n') {
-        Some(at) => (&text[..at], Some(&text[at + 1..])),
-        None => (text, None),
-    }
 }
 
 /// Whether a piece has spaces and tabs alone.
@@ -100,7 +88,7 @@ pub fn logical_lines<'a>(
     let mut rest = Some(text);
     let mut number = 0;
     while let Some(text) = rest {
-        let (piece, after) = cut(text);
+        let (piece, after) = cut(text, b'\n');
         rest = after;
         number += 1;
         if !is_blank_alone(piece) {
