@@ -2,3 +2,9 @@ pub mod FirstByte
 pub mod TextLeft
 pub mod Utf8
 pub mod Components
+pub mod ListTests
+pub mod WithFront
+pub mod NameSets
+pub mod NameLists
+pub mod Commands
+pub mod Reading

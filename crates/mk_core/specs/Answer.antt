@@ -1,5 +1,5 @@
 -- What a request for a graph is answered.
-use Rattle.std.specs.Prelude.{◌≡◌, ◌⊎◌, ℕ, ◌<◌, Bool, true, not, ◌&&◌, List, [], ◌∷◌, reverse, codes, Option, None, Some, Result, Ok, Err, if◌then◌else◌}
+use Rattle.std.specs.Prelude.{◌≡◌, ◌⊎◌, ℕ, ◌<◌, Bool, true, not, ◌&&◌, List, [], ◌∷◌, codes, Option, None, Some, Result, Ok, Err, if◌then◌else◌}
 use Rattle.std.specs.Str.{bytes_eq}
 use Rattle.mk_graph.specs.Graph as value
 use Rattle.mk_graph.specs.Build.{Builds}
@@ -10,7 +10,7 @@ use Rattle.mk_core.specs.declared.request.Request.{Request}
 use Rattle.mk_core.specs.Files.{Told, text_at}
 use Rattle.mk_core.specs.Names.{is_plain_path}
 use Rattle.mk_core.specs.Lines.{logical_lines}
-use Rattle.mk_core.specs.Rules.{Rule, with_lines}
+use Rattle.mk_core.specs.Rules.{Rule, with_lines, nothing_read, all_rules}
 use Rattle.mk_core.specs.Goals.{goal_names}
 use Rattle.mk_core.specs.Selection.{IsGraphOf}
 use Rattle.mk_core.specs.GraphText.{graph_text}
@@ -52,8 +52,8 @@ IsAsked files None name = (name ≡ codes "makefile") ⊎ ((text_at files (codes
 unfoldable pub rules_of : List ℕ → List ℕ → Result (List Rule) Fault
 rules_of file text = do
   lines ← logical_lines file text
-  rules ← with_lines file [] lines
-  Ok (reverse rules)
+  read ← with_lines file nothing_read lines
+  Ok (all_rules read)
 
 -- the rule lines and the goals of a request
 unfoldable pub read_for : Told → Request → Result (List Rule × List (List ℕ)) Fault

@@ -1,6 +1,6 @@
 -- Words and names.
 use Rattle.std.specs.Prelude.{ℕ, ◌==◌, Bool, true, false, not, ◌&&◌, ◌||◌, List, [], ◌∷◌, length, filter, Result, Ok, Err, nat_lt, nat_le, if◌then◌else◌}
-use Rattle.std.specs.List.{slice_split, list_all, list_any}
+use Rattle.std.specs.List.{slice_split, list_all, list_any, position_or_len}
 use Rattle.std.specs.Str.{bytes_eq, is_utf8}
 use Rattle.mk_core.specs.declared.fault.Fault.{Fault}
 use Rattle.mk_core.specs.declared.fault.Fault.TheVariants.{BadName, ArchiveMember}
@@ -81,3 +81,11 @@ is_special (b ∷ rest) = b == 46 && (nat_le 3 (length rest) && list_all is_capi
 -- `.WAIT`
 abbrev pub wait_word : List ℕ
 wait_word = 46 ∷ 87 ∷ 65 ∷ 73 ∷ 84 ∷ []
+
+-- the name stands among the names
+abbrev pub has_name : List (List ℕ) → List ℕ → Bool
+has_name names name = list_any (λ other. bytes_eq name other) names
+
+-- where the name first stands
+abbrev pub number_of : List (List ℕ) → List ℕ → ℕ
+number_of names name = position_or_len (λ other. bytes_eq name other) names

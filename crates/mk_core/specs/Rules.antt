@@ -1,12 +1,14 @@
 -- The rule lines of a makefile.
-use Rattle.std.specs.Prelude.{ℕ, ◌-◌, ◌==◌, Bool, true, false, not, ◌&&◌, ◌||◌, List, [], ◌∷◌, length, drop, codes, find, slice_index, Option, None, Some, Result, Ok, Err, if◌then◌else◌}
+use Rattle.std.specs.Prelude.{◌≡◌, ℕ, ◌-◌, ◌==◌, Bool, true, false, not, ◌&&◌, ◌||◌, List, [], ◌∷◌, ◌++◌, map, option_to_list, length, drop, codes, find, slice_index, Option, None, Some, Result, Ok, Err, if◌then◌else◌}
 use Rattle.std.specs.List.{list_all, list_any, before_first, after_first, prefix_len}
 use Rattle.std.specs.Str.{bytes_eq}
 use Rattle.mk_core.specs.declared.fault.Fault.{Fault}
 use Rattle.mk_core.specs.declared.fault.Fault.TheVariants.{DoubleColon, NotALine, StrayCommand, UnknownSpecial, TwoRecipes}
 use Rattle.mk_core.specs.declared.fault.Place.{Place}
+use Rattle.mk_core.specs.declared.rules.Rule as code
+use Rattle.mk_core.specs.Parts.{is_byte}
 use Rattle.mk_core.specs.Lines.{Line, is_blank}
-use Rattle.mk_core.specs.Names.{words, names_of, is_special, wait_word}
+use Rattle.mk_core.specs.Names.{words, has_name, names_of, is_special, wait_word}
 use Rattle.mk_core.specs.Outcome.{◌>>=◌}
 
 -- a rule line: its targets, its prerequisites, whether commands follow it, and the number of its line
@@ -16,22 +18,26 @@ pub record Rule : Type 0 where
   pub recipe : Bool
   pub line : ℕ
 
-abbrev pub has_name : List (List ℕ) → List ℕ → Bool
-has_name names name = list_any (λ other. bytes_eq other name) names
+-- the text behind the blanks that lead it
+abbrev pub trimmed : List ℕ → List ℕ
+trimmed text = drop (prefix_len is_blank text) text
 
--- the line is not read yet: it goes on in the next one, or holds `#`, `$`, `=` or `;`, or its first word is `include` or `-include`
+abbrev pub first_word : List ℕ → List ℕ
+first_word text = before_first is_blank (trimmed text)
+
+-- The line is not read yet: it goes on in the next one, or holds `#`, `$`, `=` or `;`, or its first word is
+-- `include` or `-include`.
 abbrev pub goes_on : List ℕ → Bool
 goes_on text = slice_index text (length text - 1) == 92
 
 abbrev pub is_unread : ℕ → Bool
 is_unread b = b == 35 || (b == 36 || (b == 61 || b == 59))
 
-abbrev pub first_is_include : List (List ℕ) → Bool
-first_is_include [] = false
-first_is_include (word ∷ rest) = bytes_eq word (codes "include") || bytes_eq word (codes "-include")
+abbrev pub is_include : List ℕ → Bool
+is_include text = bytes_eq (first_word text) (codes "include") || bytes_eq (first_word text) (codes "-include")
 
 abbrev pub is_colon : ℕ → Bool
-is_colon b = b == 58
+is_colon b = is_byte 58 b
 
 abbrev pub begins_with_colon : List ℕ → Bool
 begins_with_colon [] = false
@@ -40,7 +46,7 @@ begins_with_colon (b ∷ text) = is_colon b
 -- the text of the targets and that of the prerequisites, at the first colon
 unfoldable pub rule_parts : Place → List ℕ → Result (List ℕ × List ℕ) Fault
 rule_parts place text =
-    if goes_on text || (list_any is_unread text || first_is_include (words text)) then Err (NotALine place)
+    if goes_on text || (list_any is_unread text || is_include text) then Err (NotALine place)
     else (if not (list_any is_colon text) then Err (NotALine place)
     else (if begins_with_colon (after_first is_colon text) then Err (DoubleColon place)
     else (if list_all is_blank (before_first is_colon text) then Err (NotALine place)
@@ -60,28 +66,48 @@ has_commands rules name = list_any (λ (rule : Rule). rule.recipe && has_name ru
 
 -- the first non-blank byte is `#`
 abbrev pub is_comment : List ℕ → Bool
-is_comment text = slice_index (drop (prefix_len is_blank text) text) 0 == 35
+is_comment text = slice_index (trimmed text) 0 == 35
 
--- the rule lines, of which the last one stands first, once that one has commands
-abbrev pub given_commands : List ℕ → Rule → List Rule → Option (List ℕ) → Result (List Rule) Fault
-given_commands file rule earlier (Some target) = Err (TwoRecipes (record { file = file; line = rule.line }) target)
-given_commands file rule earlier None = Ok (record rule { recipe = true } ∷ earlier)
+-- what was read so far: rule lines in their order, and the last one apart, to which commands belong
+pub record Read : Type 0 where
+  pub earlier : List Rule
+  pub last : Option Rule
 
--- a command belongs to the last rule line before it
-abbrev pub command_line : List ℕ → Place → List ℕ → List Rule → Result (List Rule) Fault
-command_line file place text [] = if is_comment text then Ok [] else Err (StrayCommand place)
-command_line file place text (rule ∷ earlier) = if rule.recipe then Ok (rule ∷ earlier) else given_commands file rule earlier (find (has_commands earlier) rule.targets)
+abbrev pub all_rules : Read → List Rule
+all_rules read = read.earlier ++ option_to_list read.last
 
--- the rule lines after one more line, the last one first
-unfoldable pub with_line : List ℕ → List Rule → Line → Result (List Rule) Fault
-with_line file rules line =
+-- the last rule line has commands from here on, where none of its targets has commands of an earlier one
+abbrev pub given_commands : List ℕ → List Rule → Rule → Option (List ℕ) → Result Read Fault
+given_commands file earlier rule (Some target) = Err (TwoRecipes (record { file = file; line = rule.line }) target)
+given_commands file earlier rule None = Ok (record { earlier = earlier; last = Some (record rule { recipe = true }) })
+
+abbrev pub command_line : List ℕ → Place → List ℕ → List Rule → Option Rule → Result Read Fault
+command_line file place text earlier None = if is_comment text then Ok (record { earlier = earlier; last = None }) else Err (StrayCommand place)
+command_line file place text earlier (Some rule) =
+    if rule.recipe then Ok (record { earlier = earlier; last = Some rule })
+    else given_commands file earlier rule (find (has_commands earlier) rule.targets)
+
+-- what is read after one more line
+unfoldable pub with_line : List ℕ → Read → Line → Result Read Fault
+with_line file read line =
     let place : Place = record { file = file; line = line.first } in
-    if line.command then (if goes_on line.text then Err (NotALine place) else command_line file place line.text rules)
-    else rule_line place line.text >>= λ rule. Ok (rule ∷ rules)
+    if line.command then (if goes_on line.text then Err (NotALine place) else command_line file place line.text read.earlier read.last)
+    else rule_line place line.text >>= λ rule. Ok (record { earlier = all_rules read; last = Some rule })
 
--- the rule lines after these lines, the last one first
-unfoldable pub with_lines : List ℕ → List Rule → List Line → Result (List Rule) Fault
-with_lines file rules [] = Ok rules
-with_lines file rules (line ∷ lines) = do
-  after ← with_line file rules line
+-- what is read after these lines
+unfoldable pub with_lines : List ℕ → Read → List Line → Result Read Fault
+with_lines file read [] = Ok read
+with_lines file read (line ∷ lines) = do
+  after ← with_line file read line
   with_lines file after lines
+
+abbrev pub nothing_read : Read
+nothing_read = record { earlier = []; last = None }
+
+-- a rule of the code, whose names are parts of the makefile's text
+abbrev pub rule_view : code.Rule → Rule
+rule_view rule = record { targets = map (λ name. name.now) rule.targets.items; words = map (λ name. name.now) rule.words.items; recipe = rule.recipe; line = rule.line }
+
+-- the names are those for which commands were read
+abbrev pub KnowsCommands : List (List ℕ) → Read → Type 0
+KnowsCommands names read = (name : List ℕ) → has_name names name ≡ has_commands (all_rules read) name

@@ -1,11 +1,11 @@
 -- The graph of the names that goals reach.
 use Rattle.std.specs.Prelude.{◌≡◌, ℕ, suc, false, List, [], ◌∷◌, ◌++◌, map, filter, if◌then◌else◌}
 use Rattle.std.specs.List.{flat_map}
-use Rattle.std.specs.Str.{bytes_eq}
 use Rattle.mk_graph.specs.declared.node.Node.{Node}
 use Rattle.mk_graph.specs.Graph.{Graph}
 use Rattle.mk_graph.specs.Membership.{Has}
-use Rattle.mk_core.specs.Rules.{Rule, has_name, has_commands}
+use Rattle.mk_core.specs.Names.{has_name, number_of}
+use Rattle.mk_core.specs.Rules.{Rule, has_commands}
 
 -- the prerequisites of a name: those of all rule lines that name it, in their order
 abbrev pub prerequisites_of : List Rule → List ℕ → List (List ℕ)
@@ -17,11 +17,6 @@ pub data Meets (needs : List ℕ → List (List ℕ)) : (met todo all : List (Li
   ends : {met : List (List ℕ)} → Meets needs met [] met
   known : {met todo all : List (List ℕ)} {name : List ℕ} → Has met name → Meets needs met todo all → Meets needs met (name ∷ todo) all
   new : {met todo all : List (List ℕ)} {name : List ℕ} → ¬ (Has met name) → Meets needs (met ++ name ∷ []) (needs name ++ todo) all → Meets needs met (name ∷ todo) all
-
--- where the name first stands
-abbrev pub number_of : List (List ℕ) → List ℕ → ℕ
-number_of [] name = 0
-number_of (other ∷ names) name = if bytes_eq other name then 0 else suc (number_of names name)
 
 -- all prerequisites are one group, and no group is empty
 abbrev pub one_group : List ℕ → List (List ℕ)

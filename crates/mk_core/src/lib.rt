@@ -6,9 +6,11 @@ mod fault;
 mod files;
 mod lines;
 mod mem_files;
+mod name_set;
 mod names;
 mod parts;
 mod request;
+mod rules;
 mod wording;
 
 pub use answer::graph_text;

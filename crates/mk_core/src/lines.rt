@@ -28,7 +28,7 @@ pub struct Line<'a> {
 }
 
 /// Whether a piece has spaces and tabs alone.
-fn is_blank_alone(piece: &[u8]) -> bool
+pub fn is_blank_alone(piece: &[u8]) -> bool
     ensures { result ≡ list_all is_blank piece.now }
 {
     piece.iter().all(|b| *b == b' ' || *b == b'\t')

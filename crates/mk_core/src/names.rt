@@ -4,7 +4,7 @@ ghost use Rattle.std.specs.Prelude.{◌≡◌, true, false, map, IfOk, IfErr, Ma
 ghost use Rattle.std.specs.List.{slice_split, list_all, list_any};
 ghost use Rattle.std.specs.Str.{is_utf8};
 ghost use Rattle.mk_core.specs.Parts.{is_byte};
-ghost use Rattle.mk_core.specs.Names.{words, is_proper, goes_up_first, are_components, is_visible, has_path_shape, is_plain_path, is_make_name, is_reserved, is_bracket, is_special, name_of, names_of};
+ghost use Rattle.mk_core.specs.Names.{words, is_proper, goes_up_first, are_components, is_visible, has_path_shape, is_plain_path, is_make_name, is_reserved, is_bracket, is_special, is_capital, name_of, names_of};
 ghost use Rattle.mk_core.specs.Outcome.{Gives, IsOfText};
 
 use crate::fault::{Fault, Place};
@@ -183,4 +183,20 @@ pub fn name_of<'a>(alloc: Global, file: &Name, line: usize, word: &'a [u8]) -> R
     } else {
         Fault::BadName(place)
     })
+}
+
+/// Whether a name is a dot and three or more of `A-Z` and `_`.
+pub fn is_special(name: &str) -> bool
+    ensures { result ≡ is_special name.now }
+{
+    match name.as_bytes() {
+        [b'.', rest @ ..] => rest.len() >= 3 && is_capital_throughout(rest),
+        _ => false,
+    }
+}
+
+fn is_capital_throughout(word: &[u8]) -> bool
+    ensures { result ≡ list_all is_capital word.now }
+{
+    word.iter().all(|b| b.is_ascii_uppercase() || *b == b'_')
 }

@@ -1,0 +1,49 @@
+//! Names, each once, in the order in which they came.
+
+ghost use Rattle.std.specs.Prelude.{◌≡◌, ◌∷◌, ◌++◌, [], not, IfOk, OnOk, OnErr, Option, Some, None, if◌then◌else◌};
+ghost use Rattle.mk_core.specs.Names.{has_name, number_of};
+
+use indexmap::IndexSet;
+use std::alloc::{AllocError, Global};
+use std::marker::Model;
+
+/// Names, each once, in the order in which they came. A contract sees a list of names.
+#[derive(Drop)]
+pub struct NameSet<'a> {
+    names: IndexSet<&'a str>,
+}
+
+impl<'a> Model for NameSet<'a> {
+    ghost use Rattle.std.specs.Prelude.{List, ℕ, map};
+
+    ghost Value = { List (List ℕ) };
+
+    ghost view = { λ s. map (λ name. name.now) s.names.keys };
+}
+
+impl<'a> NameSet<'a> {
+    /// No names.
+    pub fn new(alloc: Global) -> NameSet<'a>
+        ensures { result ≡ [] }
+    {
+        NameSet {
+            names: IndexSet::new(alloc),
+        }
+    }
+
+    /// Adds a name at the end, unless it is there already. Answers whether it was new.
+    pub fn insert(&mut self, name: &'a str) -> Result<bool, AllocError>
+        ensures new { IfOk result (λ added. added ≡ not (has_name self.old name.entry.now)) }
+        ensures ok { OnOk result (self.new ≡ (if has_name self.old name.entry.now then self.old else self.old ++ name.entry.now ∷ [])) }
+        ensures err { OnErr result (self.new ≡ self.old) }
+    {
+        Ok(self.names.insert(name)?)
+    }
+
+    /// Whether the name is there.
+    pub fn contains(&self, name: &str) -> bool
+        ensures { result ≡ has_name self.now name.now }
+    {
+        self.names.contains(name)
+    }
+}
