@@ -8,3 +8,5 @@ pub mod NameSets
 pub mod NameLists
 pub mod Commands
 pub mod Reading
+pub mod GoalLists
+pub mod Once

@@ -4,6 +4,7 @@
 mod answer;
 mod fault;
 mod files;
+mod goals;
 mod lines;
 mod mem_files;
 mod name_set;
