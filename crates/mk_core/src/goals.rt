@@ -1,7 +1,8 @@
 //! The goals of a request.
 
 ghost use Rattle.std.specs.Prelude.{◌≡◌, map, codes, IfOk, IfErr};
-ghost use Rattle.mk_core.specs.Goals.{goal_of, goals_from, goal_names, once, given_or_first};
+ghost use Rattle.std.specs.Option.{option_map};
+ghost use Rattle.mk_core.specs.Goals.{goal_of, goals_from, goal_names, first_target, once};
 ghost use Rattle.mk_core.specs.Outcome.{Gives, IsOfText};
 ghost use Rattle.mk_core.specs.Rules.{rule_view};
 
@@ -46,4 +47,36 @@ pub fn once<'a>(alloc: Global, names: &[&'a str]) -> Result<NameSet<'a>, AllocEr
         set.insert(name)?;
     }
     Ok(set)
+}
+
+/// The first target of the rule lines.
+fn first_target<'a>(rules: &[Rule<'a>]) -> Option<&'a str>
+    ensures { option_map (λ target. target.now) result ≡ first_target (map rule_view rules.now) }
+{
+    for rule in rules {
+        if let Some(target) = rule.targets.first() {
+            return Some(target);
+        }
+    }
+    None
+}
+
+/// The goals: those that are given, each once, else the first target. Fault 44 where there is none.
+#[tactic(auto, unfolding(crate::specs::Goals::goal_names))]
+pub fn goal_names<'a>(
+    alloc: Global,
+    rules: &[Rule<'a>],
+    goals: &'a [Name],
+) -> Result<NameSet<'a>, Fault>
+    ensures exact { Gives (λ set. set) result (goal_names (map rule_view rules.now) goals.now) }
+    ensures own { IfErr result IsOfText }
+{
+    let names = goals_from(alloc, goals)?;
+    if !names.is_empty() {
+        return Ok(once(alloc, &names)?);
+    }
+    let Some(target) = first_target(rules) else {
+        return Err(Fault::NoGoal);
+    };
+    Ok(once(alloc, &[target])?)
 }
