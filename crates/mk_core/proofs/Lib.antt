@@ -10,3 +10,4 @@ pub mod Commands
 pub mod Reading
 pub mod GoalLists
 pub mod Once
+pub mod TableLemmas

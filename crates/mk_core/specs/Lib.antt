@@ -11,6 +11,7 @@ pub mod Lines
 pub mod Names
 pub mod Rules
 pub mod Goals
+pub mod Table
 pub mod Selection
 pub mod GraphText
 pub mod FaultText

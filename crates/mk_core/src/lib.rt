@@ -12,6 +12,7 @@ mod names;
 mod parts;
 mod request;
 mod rules;
+mod selection;
 mod wording;
 
 pub use answer::graph_text;

@@ -1,6 +1,6 @@
 //! Names, each once, in the order in which they came.
 
-ghost use Rattle.std.specs.Prelude.{◌≡◌, ◌∷◌, ◌++◌, [], not, IfOk, OnOk, OnErr, Option, Some, None, if◌then◌else◌};
+ghost use Rattle.std.specs.Prelude.{◌≡◌, ◌∷◌, ◌++◌, [], not, map, IfOk, OnOk, OnErr, Option, Some, None, if◌then◌else◌};
 ghost use Rattle.mk_core.specs.Names.{has_name, number_of};
 
 use indexmap::IndexSet;
@@ -45,5 +45,22 @@ impl<'a> NameSet<'a> {
         ensures { result ≡ has_name self.now name.now }
     {
         self.names.contains(name)
+    }
+
+    /// The place at which the name stands, or how many names there are where it doesn't.
+    pub fn number_of(&self, name: &str) -> usize
+        ensures { result ≡ number_of self.now name.now }
+    {
+        match self.names.get_index_of(name) {
+            Some(number) => number,
+            None => self.names.len(),
+        }
+    }
+
+    /// The names as a slice.
+    pub fn as_slice(&self) -> &[&'a str]
+        ensures { map (λ name. name.now) result.now ≡ self.now }
+    {
+        self.names.as_slice()
     }
 }

@@ -1,0 +1,121 @@
+-- Tables of rule lines.
+use Rattle.std.proofs.Common.{◌≡◌, ℕ, ◌+◌, ◌<◌, Bool, true, false, not, ◌||◌, ◌&&◌, cond, List, [], ◌∷◌, ◌++◌, map, length, get_or, take, drop, Option, Some, None, refl, sym, ap, ◌∙◌, append-nil, append_assoc}
+use Rattle.std.specs.Prelude.{filter, slice_get}
+use Rattle.std.specs.Borrow.{Bor}
+use Rattle.std.specs.Str.{bytes_eq}
+use Rattle.std.specs.List.{filter_map, cons_option, list_any, flat_map}
+use Rattle.std.proofs.lemmas.Bool.{not-false, not-true}
+use Rattle.std.proofs.lemmas.List.{drop_more}
+use Rattle.std.proofs.lemmas.List.Elements.{filter_map-append, filter_more}
+use Rattle.std.proofs.lemmas.Option.{slice_get-get_or}
+use Rattle.std.proofs.lemmas.Slice.Eq.{bytes_eq-Decides}
+use Rattle.mk_core.specs.Names.{has_name}
+use Rattle.mk_core.specs.Rules.{Rule, has_commands}
+use Rattle.mk_core.specs.Selection.{prerequisites_of}
+use Rattle.mk_core.specs.Table.{lines_at}
+use Rattle.mk_core.proofs.NameLists.{texts}
+use Rattle.mk_core.proofs.Commands.{one_added, has_name_push}
+
+-- a target more is seen
+pub seen_more : (seen new : List (List ℕ)) (targets : List (Bor (List ℕ))) (i : ℕ) (d : Bor (List ℕ)) (name : List ℕ) → new ≡ cond (has_name seen (get_or targets i d).now) seen (seen ++ (get_or targets i d).now ∷ [])
+    → has_name seen name ≡ has_name (texts (take i targets)) name → i < length targets → has_name new name ≡ has_name (texts (take (i + 1) targets)) name
+seen_more seen new targets i d name e h lt = one_added seen [] new targets i d name e h lt
+
+-- a target that was seen changes nothing
+pub noted_same : (seen new : List (List ℕ)) (x name : List ℕ) (places old : List ℕ) (place : ℕ) (added : Bool) → added ≡ not (has_name seen x) → added ≡ false → new ≡ cond (has_name seen x) seen (seen ++ x ∷ [])
+    → places ≡ cond (has_name seen name) (old ++ place ∷ []) old → places ≡ cond (has_name new name) (old ++ place ∷ []) old
+noted_same seen new x name places old place added a f e h =
+    let there : has_name seen x ≡ true = not-false (has_name seen x) (sym a ∙ f) in
+    let same : new ≡ seen = e ∙ ap (λ b. cond b seen (seen ++ x ∷ [])) there in
+    h ∙ ap (λ s. cond (has_name s name) (old ++ place ∷ []) old) (sym same)
+
+-- a new one has the place
+at_name : (seen : List (List ℕ)) (x name : List ℕ) (old : List ℕ) (place : ℕ) (before : List ℕ) → has_name seen x ≡ false → before ≡ cond (has_name seen name) (old ++ place ∷ []) old → (b : Bool) → bytes_eq name x ≡ b
+    → cond b (before ++ place ∷ []) before ≡ cond (has_name seen name || b) (old ++ place ∷ []) old
+at_name seen x name old place before new h true t =
+    let unseen : has_name seen name ≡ false = ap (has_name seen) ((bytes_eq-Decides name x).0 t) ∙ new in
+    ap (λ ps. ps ++ place ∷ []) (h ∙ ap (λ b. cond b (old ++ place ∷ []) old) unseen) ∙ sym (ap (λ b. cond (b || true) (old ++ place ∷ []) old) unseen)
+at_name seen x name old place before new h false t = h ∙ sym (or_none (has_name seen name))
+  where
+    or_none : (b : Bool) → cond (b || false) (old ++ place ∷ []) old ≡ cond b (old ++ place ∷ []) old
+    or_none true = refl
+    or_none false = refl
+
+pub noted_more : (seen new : List (List ℕ)) (x name : List ℕ) (before after old : List ℕ) (place : ℕ) (added : Bool) → added ≡ not (has_name seen x) → added ≡ true → new ≡ cond (has_name seen x) seen (seen ++ x ∷ [])
+    → before ≡ cond (has_name seen name) (old ++ place ∷ []) old → after ≡ cond (bytes_eq name x) (before ++ place ∷ []) before → after ≡ cond (has_name new name) (old ++ place ∷ []) old
+noted_more seen new x name before after old place added a t e h k =
+    let unseen : has_name seen x ≡ false = not-true (has_name seen x) (sym a ∙ t) in
+    let same : new ≡ seen ++ x ∷ [] = e ∙ ap (λ b. cond b seen (seen ++ x ∷ [])) unseen in
+    k ∙ (at_name seen x name old place before unseen h (bytes_eq name x) refl ∙ ap (λ b. cond b (old ++ place ∷ []) old) (sym (ap (λ s. has_name s name) same ∙ has_name_push seen x name)))
+
+-- one rule line more
+pub lines_more : (rules : List Rule) (i : ℕ) (d : Rule) (name : List ℕ) (before after : List ℕ) → after ≡ cond (has_name (get_or rules i d).targets name) (before ++ i ∷ []) before
+    → lines_at rules before ≡ filter (λ rule. has_name rule.targets name) (take i rules) → i < length rules → lines_at rules after ≡ filter (λ rule. has_name rule.targets name) (take (i + 1) rules)
+lines_more rules i d name before after e h lt =
+    let test : Rule → Bool = λ rule. has_name rule.targets name in
+    ap (lines_at rules) e ∙ (at (test (get_or rules i d)) ∙ (ap (λ ls. ls ++ cond (test (get_or rules i d)) (get_or rules i d ∷ []) []) h ∙ sym (filter_more test rules i d lt)))
+  where
+    last : lines_at rules (i ∷ []) ≡ get_or rules i d ∷ []
+    last = rw (slice_get-get_or rules i d lt) refl
+    at : (b : Bool) → lines_at rules (cond b (before ++ i ∷ []) before) ≡ lines_at rules before ++ cond b (get_or rules i d ∷ []) []
+    at true = filter_map-append (λ place. slice_get rules place) before (i ∷ []) ∙ ap (λ ls. lines_at rules before ++ ls) last
+    at false = sym (append-nil (lines_at rules before))
+
+-- rule lines that name a target and have commands
+pub commands_of_lines : (rules : List Rule) (name : List ℕ) → list_any (λ (rule : Rule). rule.recipe) (filter (λ (rule : Rule). has_name rule.targets name) rules) ≡ has_commands rules name
+commands_of_lines [] name = refl
+commands_of_lines (rule ∷ rules) name = at (has_name rule.targets name) ∙ ap (λ b. (rule.recipe && has_name rule.targets name) || b) (commands_of_lines rules name)
+  where
+    rest : List Rule
+    rest = filter (λ (r : Rule). has_name r.targets name) rules
+    and_true : (b c : Bool) → (b || c) ≡ ((b && true) || c)
+    and_true true c = refl
+    and_true false c = refl
+    and_false : (b c : Bool) → c ≡ ((b && false) || c)
+    and_false true c = refl
+    and_false false c = refl
+    at : (b : Bool) → list_any (λ (r : Rule). r.recipe) (cond b (rule ∷ filter (λ (r : Rule). has_name r.targets name) rules) (filter (λ (r : Rule). has_name r.targets name) rules)) ≡ ((rule.recipe && b) || list_any (λ (r : Rule). r.recipe) (filter (λ (r : Rule). has_name r.targets name) rules))
+    at true = and_true rule.recipe _
+    at false = and_false rule.recipe _
+
+-- the rule lines from a place on
+lines_from : (rules : List Rule) (places : List ℕ) (i d : ℕ) → i < length places → lines_at rules (drop i places) ≡ cons_option (slice_get rules (get_or places i d)) (lines_at rules (drop (i + 1) places))
+lines_from rules places i d lt = ap (lines_at rules) (drop_more places i d lt)
+
+abbrev words_of : List Rule → List (List ℕ)
+words_of rules = flat_map (λ (rule : Rule). rule.words) rules
+
+-- the words of one rule line more
+pub words_more : (rules : List Rule) (places : List ℕ) (i d : ℕ) (rule : Rule) (front whole : List (List ℕ)) → slice_get rules (get_or places i d) ≡ Some rule
+    → front ++ words_of (lines_at rules (drop i places)) ≡ whole → i < length places → (front ++ rule.words) ++ words_of (lines_at rules (drop (i + 1) places)) ≡ whole
+words_more rules places i d rule front whole e h lt =
+    append_assoc front rule.words (words_of (lines_at rules (drop (i + 1) places))) ∙ (sym (ap (λ ls. front ++ words_of ls) (lines_from rules places i d lt ∙ ap (λ o. cons_option o (lines_at rules (drop (i + 1) places))) e)) ∙ h)
+
+pub words_same : (rules : List Rule) (places : List ℕ) (i d : ℕ) (front whole : List (List ℕ)) → slice_get rules (get_or places i d) ≡ None
+    → front ++ words_of (lines_at rules (drop i places)) ≡ whole → i < length places → front ++ words_of (lines_at rules (drop (i + 1) places)) ≡ whole
+words_same rules places i d front whole e h lt =
+    sym (ap (λ ls. front ++ words_of ls) (lines_from rules places i d lt ∙ ap (λ o. cons_option o (lines_at rules (drop (i + 1) places))) e)) ∙ h
+
+abbrev any_recipe : List Rule → Bool
+any_recipe rules = list_any (λ (rule : Rule). rule.recipe) rules
+
+-- whether one has commands
+recipe_more : (rules : List Rule) (places : List ℕ) (i d : ℕ) (rule : Rule) (whole : Bool) → slice_get rules (get_or places i d) ≡ Some rule
+    → any_recipe (lines_at rules (drop i places)) ≡ whole → i < length places → (rule.recipe || any_recipe (lines_at rules (drop (i + 1) places))) ≡ whole
+recipe_more rules places i d rule whole e h lt =
+    sym (ap any_recipe (lines_from rules places i d lt ∙ ap (λ o. cons_option o (lines_at rules (drop (i + 1) places))) e)) ∙ h
+
+pub recipe_same : (rules : List Rule) (places : List ℕ) (i d : ℕ) (whole : Bool) → slice_get rules (get_or places i d) ≡ None
+    → any_recipe (lines_at rules (drop i places)) ≡ whole → i < length places → any_recipe (lines_at rules (drop (i + 1) places)) ≡ whole
+recipe_same rules places i d whole e h lt =
+    sym (ap any_recipe (lines_from rules places i d lt ∙ ap (λ o. cons_option o (lines_at rules (drop (i + 1) places))) e)) ∙ h
+
+pub recipe_found : (rules : List Rule) (places : List ℕ) (i d : ℕ) (rule : Rule) (whole : Bool) → slice_get rules (get_or places i d) ≡ Some rule
+    → any_recipe (lines_at rules (drop i places)) ≡ whole → i < length places → rule.recipe ≡ true → true ≡ whole
+recipe_found rules places i d rule whole e h lt t =
+    sym (ap (λ b. b || any_recipe (lines_at rules (drop (i + 1) places))) t) ∙ recipe_more rules places i d rule whole e h lt
+
+pub recipe_not : (rules : List Rule) (places : List ℕ) (i d : ℕ) (rule : Rule) (whole : Bool) → slice_get rules (get_or places i d) ≡ Some rule
+    → any_recipe (lines_at rules (drop i places)) ≡ whole → i < length places → rule.recipe ≡ false → any_recipe (lines_at rules (drop (i + 1) places)) ≡ whole
+recipe_not rules places i d rule whole e h lt f =
+    sym (ap (λ b. b || any_recipe (lines_at rules (drop (i + 1) places))) f) ∙ recipe_more rules places i d rule whole e h lt
