@@ -11,3 +11,4 @@ pub mod Reading
 pub mod GoalLists
 pub mod Once
 pub mod TableLemmas
+pub mod Walking
