@@ -12,3 +12,4 @@ pub mod GoalLists
 pub mod Once
 pub mod TableLemmas
 pub mod Walking
+pub mod Soundness
