@@ -13,3 +13,4 @@ pub mod Once
 pub mod TableLemmas
 pub mod Walking
 pub mod Soundness
+pub mod Handed

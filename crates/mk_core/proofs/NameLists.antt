@@ -1,7 +1,7 @@
 -- Words that are read as names, one after another.
-use Rattle.std.proofs.Common.{◌≡◌, ℕ, ◌+◌, ◌<◌, ◌≤◌, List, [], ◌∷◌, ◌++◌, map, length, get_or, drop, Result, Ok, Err, inl, inr, refl, sym, ap, ◌∙◌, ⊎_elim, arith, append-nil}
+use Rattle.std.proofs.Common.{◌≡◌, ℕ, ◌+◌, ◌<◌, ◌≤◌, List, [], ◌∷◌, ◌++◌, map, length, get_or, take, drop, Result, Ok, Err, inl, inr, refl, sym, ap, ◌∙◌, ⊎_elim, arith, append-nil}
 use Rattle.std.specs.Borrow.{Bor}
-use Rattle.std.proofs.lemmas.List.{drop_more, drop_all}
+use Rattle.std.proofs.lemmas.List.{drop_more, drop_all, take_more, map_push}
 use Rattle.mk_core.specs.declared.fault.Fault.{Fault}
 use Rattle.mk_core.specs.declared.fault.Place.{Place}
 use Rattle.mk_core.specs.Outcome.{◌>>=◌, Fails}
@@ -42,3 +42,10 @@ unfolding names_of
 names_end place front words i whole so_far le =
     let last : names_of place (texts (drop i words)) ≡ Ok [] = ap (λ ws. names_of place (texts ws)) (drop_all i words le) in
     sym so_far ∙ (ap (with_front front) last ∙ ap (λ (xs : List (List ℕ)). Ok xs) (append-nil front))
+
+-- what f gives for one name more
+pub mapped_more : {B : Type 0} (f : List ℕ → B) (names : List (Bor (List ℕ))) (i : ℕ) (d : Bor (List ℕ)) (before after : List B) (x : B) → after ≡ before ++ x ∷ [] → x ≡ f (get_or names i d).now
+    → before ≡ map f (texts (take i names)) → i < length names → after ≡ map f (texts (take (i + 1) names))
+mapped_more f names i d before after x grown is so_far lt =
+    let one : texts (take (i + 1) names) ≡ texts (take i names) ++ (get_or names i d).now ∷ [] = ap texts (take_more names i d lt) ∙ map_push (λ (n : Bor (List ℕ)). n.now) (take i names) (get_or names i d) in
+    grown ∙ (ap (λ y. before ++ y ∷ []) is ∙ (ap (λ bs. bs ++ f (get_or names i d).now ∷ []) so_far ∙ sym (ap (map f) one ∙ map_push f (texts (take i names)) (get_or names i d).now)))

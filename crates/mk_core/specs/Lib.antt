@@ -11,8 +11,8 @@ pub mod Lines
 pub mod Names
 pub mod Rules
 pub mod Goals
-pub mod Table
 pub mod Selection
+pub mod Table
 pub mod GraphText
 pub mod FaultText
 pub mod Answer

@@ -1,8 +1,11 @@
 -- The graph of the names that goals reach.
-use Rattle.std.specs.Prelude.{◌≡◌, ℕ, suc, false, List, [], ◌∷◌, ◌++◌, map, filter, if◌then◌else◌}
+use Rattle.std.specs.Prelude.{◌≡◌, ℕ, false, List, [], ◌∷◌, ◌++◌, map, filter, Result, Ok, Err}
 use Rattle.std.specs.List.{flat_map}
 use Rattle.mk_graph.specs.declared.node.Node.{Node}
 use Rattle.mk_graph.specs.Graph.{Graph}
+use Rattle.mk_graph.specs.Build.{Builds}
+use Rattle.mk_graph.specs.declared.fault.GraphFault.{GraphFault}
+use Rattle.mk_graph.specs.declared.fault.GraphFault.TheVariants.{Memory}
 use Rattle.mk_graph.specs.Membership.{Has}
 use Rattle.mk_core.specs.Names.{has_name, number_of}
 use Rattle.mk_core.specs.Rules.{Rule, has_commands}
@@ -33,3 +36,9 @@ graph_of rules goals all = record { nodes = map (node_of rules all) all; goals =
 -- the graph of what the goals reach
 abbrev pub IsGraphOf : List Rule → List (List ℕ) → Graph → Type 0
 IsGraphOf rules goals g = (all : List (List ℕ)) × Meets (prerequisites_of rules) [] goals all × (g ≡ graph_of rules goals all)
+
+-- What becomes of rule lines and goals: the graph of what the goals reach, or its first fault. Nothing is said of
+-- want of memory.
+abbrev pub Selects : List Rule → List (List ℕ) → Result Graph GraphFault → Type 0
+Selects rules goals (Err Memory) = Unit {0}
+Selects rules goals built = (handed : Graph) × IsGraphOf rules goals handed × Builds handed built

@@ -5,14 +5,15 @@ ghost use Rattle.std.specs.Option.{option_map_or};
 ghost use Rattle.std.specs.Str.{bytes_eq};
 ghost use Rattle.indexmap.specs.IndexMap.{get_by};
 ghost use Rattle.std.specs.List.{flat_map, list_any};
-ghost use Rattle.mk_core.specs.Names.{has_name};
+ghost use Rattle.mk_core.specs.Names.{has_name, number_of};
 ghost use Rattle.mk_core.specs.Rules.{rule_view};
-ghost use Rattle.mk_core.specs.Table.{places_at, lines_at, needs_in};
-ghost use Rattle.mk_core.specs.Selection.{Meets, prerequisites_of};
+ghost use Rattle.mk_core.specs.Table.{places_at, lines_at, needs_in, node_in};
+ghost use Rattle.mk_core.specs.Selection.{Meets, Selects, one_group};
 
 use crate::name_set::NameSet;
 use crate::rules::Rule;
 use indexmap::IndexMap;
+use mk_graph::{Graph, GraphFault, Groups, Name, Node};
 use std::alloc::{AllocError, Global};
 
 /// For each target the places of the rule lines that name it, in their order.
@@ -138,4 +139,78 @@ fn met_names<'a>(
         todo.extend_from_slice(&words)?;
     }
     Ok(met)
+}
+
+/// The numbers of names: the places at which they were first met.
+fn numbers(alloc: Global, met: &NameSet<'_>, names: &[&str]) -> Result<Vec<usize>, AllocError>
+    ensures { IfOk result (λ found. found.items ≡ map (number_of met.now) (map (λ name. name.now) names.now)) }
+{
+    let mut numbers = Vec::new(alloc);
+    for name in names {
+        numbers.push(met.number_of(name))?;
+    }
+    Ok(numbers)
+}
+
+/// All prerequisites as one group, and no group where there are none.
+fn one_group(alloc: Global, numbers: Vec<usize>) -> Result<Groups, AllocError>
+    ensures { IfOk result (λ groups. groups ≡ one_group numbers.items) }
+{
+    let mut groups = Vec::new(alloc);
+    if !numbers.is_empty() {
+        groups.push(numbers)?;
+    }
+    Ok(Groups::new(groups))
+}
+
+/// The node of a name.
+fn node_of<'a>(
+    alloc: Global,
+    rules: &[Rule<'a>],
+    table: &Table<'a>,
+    met: &NameSet<'a>,
+    name: &str,
+) -> Result<Node, AllocError>
+    ensures { IfOk result (λ node. node ≡ node_in (map rule_view rules.now) table.now met.now name.now) }
+{
+    let words = prerequisites(alloc, rules, table, name)?;
+    let numbers = numbers(alloc, met, &words)?;
+    Ok(Node {
+        name: Name::new(alloc, name)?,
+        groups: one_group(alloc, numbers)?,
+        recipe: has_recipe(rules, table, name),
+        phony: false,
+    })
+}
+
+/// The nodes of all names that were met.
+fn nodes_of<'a>(
+    alloc: Global,
+    rules: &[Rule<'a>],
+    table: &Table<'a>,
+    met: &NameSet<'a>,
+) -> Result<Vec<Node>, AllocError>
+    ensures { IfOk result (λ nodes. nodes.items ≡ map (node_in (map rule_view rules.now) table.now met.now) met.now) }
+{
+    let mut nodes = Vec::new(alloc);
+    for name in met.as_slice() {
+        nodes.push(node_of(alloc, rules, table, met, name)?)?;
+    }
+    Ok(nodes)
+}
+
+/// The graph of what the goals reach. Fault 43 where over 4,096 names are reached, else 42 where
+/// prerequisites form a cycle.
+pub fn select<'a>(
+    alloc: Global,
+    rules: &[Rule<'a>],
+    goals: &[&'a str],
+) -> Result<Graph, GraphFault>
+    ensures { Selects (map rule_view rules.now) (map (λ goal. goal.now) goals.now) result }
+{
+    let table = table_of(alloc, rules)?;
+    let met = met_names(alloc, rules, &table, goals)?;
+    let nodes = nodes_of(alloc, rules, &table, &met)?;
+    let goals = numbers(alloc, &met, goals)?;
+    Graph::build(alloc, nodes, goals)
 }
