@@ -10,6 +10,7 @@ mod mem_files;
 mod name_set;
 mod names;
 mod parts;
+mod printing;
 mod request;
 mod rules;
 mod selection;
