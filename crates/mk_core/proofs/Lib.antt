@@ -14,3 +14,4 @@ pub mod TableLemmas
 pub mod Walking
 pub mod Soundness
 pub mod Handed
+pub mod Answering

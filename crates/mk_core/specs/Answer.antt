@@ -43,10 +43,14 @@ makefile_for files request = do
   none ← no_operands request.operands
   makefile_of files name
 
--- a read for the request may be of this name
-abbrev pub IsAsked : Told → Option (List ℕ) → List ℕ → Type 0
-IsAsked files (Some asked) name = name ≡ asked
-IsAsked files None name = (name ≡ codes "makefile") ⊎ ((text_at files (codes "makefile") ≡ None) × (name ≡ codes "Makefile"))
+-- The name is looked for: the one that is named, else a usual one, the second only where the first isn't there.
+abbrev pub IsLookedFor : Told → Option (List ℕ) → List ℕ → Type 0
+IsLookedFor files (Some asked) name = name ≡ asked
+IsLookedFor files None name = (name ≡ codes "makefile") ⊎ ((text_at files (codes "makefile") ≡ None) × (name ≡ codes "Makefile"))
+
+-- a read for the request may be of this name: the words passed their tests, and the name is looked for
+abbrev pub IsAsked : Told → Request → List ℕ → Type 0
+IsAsked files request name = (tested_name request.makefile ≡ Ok request.makefile) × (no_operands request.operands ≡ Ok true) × IsLookedFor files request.makefile name
 
 -- the rule lines of a text, in their order
 unfoldable pub rules_of : List ℕ → List ℕ → Result (List Rule) Fault
@@ -55,13 +59,18 @@ rules_of file text = do
   read ← with_lines file nothing_read lines
   Ok (all_rules read)
 
+-- the rule lines of a text, and the goals over them
+unfoldable pub rules_and_goals : List ℕ → List ℕ → List (List ℕ) → Result (List Rule × List (List ℕ)) Fault
+rules_and_goals file text words = do
+  rules ← rules_of file text
+  goals ← goal_names rules words
+  Ok (rules, goals)
+
 -- the rule lines and the goals of a request
 unfoldable pub read_for : Told → Request → Result (List Rule × List (List ℕ)) Fault
 read_for files request = do
   makefile ← makefile_for files request
-  rules ← rules_of makefile.0 makefile.1
-  goals ← goal_names rules request.goals
-  Ok (rules, goals)
+  rules_and_goals makefile.0 makefile.1 request.goals
 
 -- The graph that is handed in is built and printed, or refused.
 abbrev pub Prints : value.Graph → Result (List ℕ) Fault → Type 0
@@ -72,17 +81,48 @@ Prints handed (Err fault) = ⊥
 -- the answer over rule lines and goals, or the fault in reading them
 abbrev pub Draws : Result (List Rule × List (List ℕ)) Fault → Result (List ℕ) Fault → Type 0
 Draws (Err fault) answer = answer ≡ Err fault
-Draws (Ok (rules, goals)) answer = (handed : value.Graph) × IsGraphOf rules goals handed × Prints handed answer
+Draws (Ok read) answer = (handed : value.Graph) × IsGraphOf read.0 read.1 handed × Prints handed answer
 
--- Over files that are told, the answer is that of the definitions; a failed read is one of a name that is asked for,
--- and of want of memory nothing is said.
+-- A fault is the one that is defined, but of want of memory nothing is said, and a failed read is one that may be
+-- asked for.
+abbrev pub SaysOf : (List ℕ → Type 0) → Type 0 → Fault → Type 0
+SaysOf asked exact Memory = Unit {0}
+SaysOf asked exact (Graph graph.Memory) = Unit {0}
+SaysOf asked exact (ReadFailed name) = asked name
+SaysOf asked exact fault = exact
+
+-- an answer, in the same sense
+abbrev pub Says : {A : Type 0} → (List ℕ → Type 0) → Type 0 → Result A Fault → Type 0
+Says asked exact (Ok x) = exact
+Says asked exact (Err fault) = SaysOf asked exact fault
+
+-- over files that are told, the answer to a request
 abbrev pub Answers : Told → Request → Result (List ℕ) Fault → Type 0
-Answers files request (Err Memory) = Unit {0}
-Answers files request (Err (Graph graph.Memory)) = Unit {0}
-Answers files request (Err (ReadFailed name)) = IsAsked files request.makefile name
-Answers files request answer = Draws (read_for files request) answer
+Answers files request answer = Says (IsAsked files request) (Draws (read_for files request) answer) answer
 
--- a failed read is answered only where the count of failures rose, and it rises nowhere else
+-- the count of failed reads, old and new, with a fault: it rises where a read failed, and nowhere else
+abbrev pub Rises : ℕ → ℕ → Fault → Type 0
+Rises old new (ReadFailed name) = old < new
+Rises old new fault = new ≡ old
+
+-- the count with an answer
 abbrev pub Counts : {A : Type 0} → ℕ → ℕ → Result A Fault → Type 0
-Counts old new (Err (ReadFailed name)) = old < new
-Counts old new answer = new ≡ old
+Counts old new (Ok x) = new ≡ old
+Counts old new (Err fault) = Rises old new fault
+
+-- over files that are told, what is found for the makefile's name that is given or not
+abbrev pub FindsUnder : Told → Option (List ℕ) → Result (List ℕ × List ℕ) Fault → Type 0
+FindsUnder files name found = Says (IsLookedFor files name) (makefile_of files name ≡ found) found
+
+-- over files that are told, what is found for a request
+abbrev pub Finds : Told → Request → Result (List ℕ × List ℕ) Fault → Type 0
+Finds files request found = Says (IsAsked files request) (makefile_for files request ≡ found) found
+
+-- what is printed over a text and the words of goals; no file is read
+abbrev pub PrintsFor : List ℕ → List ℕ → List (List ℕ) → Result (List ℕ) Fault → Type 0
+PrintsFor file text words answer = Says (λ name. ⊥) (Draws (rules_and_goals file text words) answer) answer
+
+-- a text under its name
+abbrev pub named : List ℕ → Option (List ℕ) → Option (List ℕ × List ℕ)
+named name None = None
+named name (Some text) = Some (name, text)
