@@ -3,3 +3,4 @@ pub mod Membership
 pub mod Serial
 pub mod Walk
 pub mod Build
+pub mod Progress

@@ -1,12 +1,15 @@
 //! A makefile's graph.
 
-ghost use Rattle.std.specs.Prelude.{◌≡◌, IfOk};
-ghost use Rattle.mk_graph.specs.Graph.{IsGraph, IsSound};
+ghost use Rattle.std.specs.Prelude.{◌≡◌, ◌<◌, All, length, map, slice_index_or, IfOk};
+ghost use Rattle.mk_graph.specs.Graph.{IsGraph, IsSound, no_node};
 ghost use Rattle.mk_graph.specs.Build.{Builds};
 ghost use Rattle.mk_graph.specs.Serial.{serial_order};
 
 use crate::fault::GraphFault;
+use crate::name::Names;
 use crate::node::Node;
+use crate::prerequisites::rows_of;
+use crate::walk::{walk, End};
 use std::alloc::{AllocError, Global};
 use std::marker::Model;
 
@@ -43,8 +46,18 @@ impl Graph {
         requires { IsSound (record { nodes = nodes.items; goals = goals.items }) }
         ensures { Builds (record { nodes = nodes.items; goals = goals.items }) result }
     {
-        let _ = (alloc, nodes, goals);
-        Err(GraphFault::Memory)
+        if nodes.len() > MAX_NODES {
+            return Err(GraphFault::TooManyNodes);
+        }
+        let rows = rows_of(alloc, &nodes)?;
+        match walk(alloc, &rows, &goals)? {
+            End::Order(order) => Ok(Graph {
+                nodes,
+                goals,
+                order,
+            }),
+            End::Cycle(path) => Err(GraphFault::Cycle(names_along(alloc, &nodes, &path)?)),
+        }
     }
 
     /// The nodes, each at its number.
@@ -70,4 +83,16 @@ impl Graph {
     {
         Vec::from_slice(alloc, &self.order)
     }
+}
+
+/// The names of the nodes along a path.
+fn names_along(alloc: Global, nodes: &[Node], path: &[usize]) -> Result<Names, AllocError>
+    requires { All (λ n. n < length nodes.now) path.now }
+    ensures { IfOk result (λ names. names ≡ map (λ n. (slice_index_or nodes.now n no_node).name) path.now) }
+{
+    let mut names = Vec::with_capacity(alloc, path.len())?;
+    for n in path {
+        names.push(nodes[*n].name.clone()?)?;
+    }
+    Ok(Names::new(names))
 }

@@ -5,6 +5,8 @@ mod fault;
 mod graph;
 mod name;
 mod node;
+mod prerequisites;
+mod walk;
 
 pub use fault::GraphFault;
 pub use graph::{Graph, MAX_NODES};

@@ -1,0 +1,4 @@
+pub mod Members
+pub mod Walks
+pub mod Frames
+pub mod Paths
