@@ -2,3 +2,4 @@ pub mod Members
 pub mod Walks
 pub mod Frames
 pub mod Paths
+pub mod Steps

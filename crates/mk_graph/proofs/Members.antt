@@ -1,5 +1,5 @@
 -- What stands in lists that are joined, reversed or filtered, and the test for it.
-use Rattle.std.proofs.Common.{◌≡◌, ℕ, ◌<◌, ◌≤◌, zero, suc, Bool, true, false, not, cond, eqb, ◌||◌, List, [], ◌∷◌, ◌++◌, length, reverse, filter, ◌⊎◌, inl, inr, ⊎_elim, refl, sym, ap, ◌∙◌, subst, arith, eqb-true, eq-eqb}
+use Rattle.std.proofs.Common.{◌≡◌, ℕ, ◌<◌, ◌≤◌, zero, suc, Bool, true, false, not, cond, eqb, ◌||◌, List, [], ◌∷◌, ◌++◌, length, reverse, get_or, All, ◌⊎◌, inl, inr, ⊎_elim, refl, sym, ap, ◌∙◌, subst, arith, eqb-true, eq-eqb}
 use Rattle.std.specs.List.{AllByRecursion, IsDistinct as HasNoEqualPair, list_any}
 use Rattle.std.proofs.lemmas.Bool.{false≢true, or_cases, or_left, or_right, cases_Bool, cases_eq, false_from_ne_true, ne_eqb}
 use Rattle.std.proofs.lemmas.Map.Steps.{length-le_from_distinct_below}
@@ -87,3 +87,13 @@ Has-from_any (m ∷ ms) n e = ⊎_elim (λ here. inl (sym (eqb-true n m here))) 
 -- numbers below a bound of which none repeats are at most so many
 pub length-le_distinct : (ns : List ℕ) (bound : ℕ) → IsDistinct ns → ((n : ℕ) → Has ns n → n < bound) → length ns ≤ bound
 length-le_distinct ns bound d low = length-le_from_distinct_below ns bound (no_equal_pair ns d) (λ n e. low n (Has-from_any ns n e))
+
+-- the element at a place stands in the list
+pub Has-get_or : (xs : List ℕ) (i d : ℕ) → i < length xs → Has xs (get_or xs i d)
+Has-get_or [] i d within = absurd (omega arith)
+Has-get_or (x ∷ xs) zero d within = inl refl
+Has-get_or (x ∷ xs) (suc i) d within = inr (Has-get_or xs i d (omega arith))
+
+-- what holds of all that stands in the list holds at each place
+pub All-from_Has : (P : ℕ → Type 0) (xs : List ℕ) → ((n : ℕ) → Has xs n → P n) → All P xs
+All-from_Has P xs h k d within = h (get_or xs k d) (Has-get_or xs k d within)
