@@ -104,3 +104,9 @@ weight-set [] marks n mark in_rows in_marks = absurd (omega arith)
 weight-set (r ∷ rows) [] n mark in_rows in_marks = absurd (omega arith)
 weight-set (r ∷ rows) (m ∷ marks) zero mark in_rows in_marks = omega arith
 weight-set (r ∷ rows) (m ∷ marks) (suc n) mark in_rows in_marks = omega (arith, weight-set rows marks n mark (omega arith) (omega arith))
+
+-- with nothing under way, what isn't finished is new
+pub is_new : (mark : Mark) (finished : List ℕ) (n : ℕ) → (mark ≡ Finished → ⊥) → IsMark mark [] finished n → mark ≡ New
+is_new New finished n ne is = refl
+is_new UnderWay finished n ne is = absurd is
+is_new Finished finished n ne is = absurd (ne refl)

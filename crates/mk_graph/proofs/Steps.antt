@@ -1,7 +1,7 @@
 -- The steps of the code's walk, and that each of them leaves less to do.
 use Rattle.std.proofs.Common.{◌≡◌, ℕ, suc, ◌+◌, ◌-◌, ◌<◌, ◌≤◌, List, [], ◌∷◌, ◌++◌, length, get_or, set, drop, map, reverse, sum_by, Vec, Some, All, refl, sym, ap, subst, ◌∙◌, arith}
 use Rattle.std.specs.declared.alloc.Global.{Global}
-use Rattle.std.proofs.lemmas.List.{reverse-append, drop_more, drop_all}
+use Rattle.std.proofs.lemmas.List.{reverse-append, drop_more, drop_all, get_or-map}
 use Rattle.std.proofs.lemmas.List.Elements.{All-push, All-pop}
 use Rattle.std.proofs.lemmas.List.Sums.{sum_by_push}
 use Rattle.mk_graph.specs.declared.walk.Frame.{Frame}
@@ -139,3 +139,7 @@ module _ (rows : List (Vec ℕ Global)) where
   end_step start goal marks all order none is =
       let is' : IsUnderWay rows start goal marks [] order = subst (λ (l : List Frame). IsUnderWay rows start goal marks l order) none is in
       (is'.resumes (Through (reverse order)) refl, is'.marked)
+
+-- what the code reads of a row
+pub row_is : (rows : List (Vec ℕ Global)) (n : ℕ) (r : Vec ℕ Global) → n < length rows → r ≡ get_or rows n r → row rows n ≡ r.items
+row_is rows n r low is = get_or-map (λ (v : Vec ℕ Global). v.items) rows n r [] low ∙ ap (λ (v : Vec ℕ Global). v.items) (sym is)
