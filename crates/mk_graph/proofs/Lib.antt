@@ -3,3 +3,5 @@ pub mod Walks
 pub mod Frames
 pub mod Paths
 pub mod Steps
+pub mod Goals
+pub mod Acyclic
