@@ -5,3 +5,5 @@ pub mod Paths
 pub mod Steps
 pub mod Goals
 pub mod Acyclic
+pub mod SerialOrder
+pub mod Building

@@ -70,7 +70,7 @@ module _ (needs : ℕ → List ℕ) where
   through_closes : {A : Type 0} (finished path : List ℕ) → Through finished ≡ Closes path → A
   through_closes finished path e = absurd (cc)
 
-  same_finished : (a b : List ℕ) → Through a ≡ Through b → a ≡ b
+  pub same_finished : (a b : List ℕ) → Through a ≡ Through b → a ≡ b
   same_finished a b e = cc
 
   -- a walk has one end
