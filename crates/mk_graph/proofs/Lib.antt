@@ -7,3 +7,5 @@ pub mod Goals
 pub mod Acyclic
 pub mod SerialOrder
 pub mod Building
+pub mod Orders
+pub mod Cycles

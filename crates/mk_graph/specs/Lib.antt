@@ -4,3 +4,4 @@ pub mod Serial
 pub mod Walk
 pub mod Build
 pub mod Progress
+pub mod Laws

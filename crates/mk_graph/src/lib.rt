@@ -3,6 +3,7 @@
 
 mod fault;
 mod graph;
+pub mod laws;
 mod name;
 mod node;
 mod prerequisites;
