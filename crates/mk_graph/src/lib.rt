@@ -13,3 +13,6 @@ pub use fault::GraphFault;
 pub use graph::{Graph, MAX_NODES};
 pub use name::{Groups, Name, Names};
 pub use node::Node;
+
+#[cfg(test)]
+mod tests;
