@@ -9,3 +9,4 @@ pub mod SerialOrder
 pub mod Building
 pub mod Orders
 pub mod Cycles
+pub mod Fixtures

@@ -30,19 +30,20 @@ pub cases_Has : (ns : List ℕ) (n : ℕ) → Has ns n ⊎ (¬ (Has ns n))
 cases_Has ns n = ⊎_elim (λ e. inl (Has-from_has ns n e)) (λ e. inr (not-from_has ns n e)) (cases_Bool (has ns n))
 
 -- in two joined lists
-pub Has-append_left : (xs ys : List ℕ) (n : ℕ) → Has xs n → Has (xs ++ ys) n
-Has-append_left [] ys n h = absurd h
-Has-append_left (x ∷ xs) ys n (inl here) = inl here
-Has-append_left (x ∷ xs) ys n (inr there) = inr (Has-append_left xs ys n there)
+module _ {A : Type 0} where
+  pub Has-append_left : (xs ys : List A) (x : A) → Has xs x → Has (xs ++ ys) x
+  Has-append_left [] ys x h = absurd h
+  Has-append_left (y ∷ xs) ys x (inl here) = inl here
+  Has-append_left (y ∷ xs) ys x (inr there) = inr (Has-append_left xs ys x there)
 
-pub Has-append_right : (xs ys : List ℕ) (n : ℕ) → Has ys n → Has (xs ++ ys) n
-Has-append_right [] ys n h = h
-Has-append_right (x ∷ xs) ys n h = inr (Has-append_right xs ys n h)
+  pub Has-append_right : (xs ys : List A) (x : A) → Has ys x → Has (xs ++ ys) x
+  Has-append_right [] ys x h = h
+  Has-append_right (y ∷ xs) ys x h = inr (Has-append_right xs ys x h)
 
-pub Has-append_cases : (xs ys : List ℕ) (n : ℕ) → Has (xs ++ ys) n → Has xs n ⊎ Has ys n
-Has-append_cases [] ys n h = inr h
-Has-append_cases (x ∷ xs) ys n (inl here) = inl (inl here)
-Has-append_cases (x ∷ xs) ys n (inr there) = ⊎_elim (λ h. inl (inr h)) (λ h. inr h) (Has-append_cases xs ys n there)
+  pub Has-append_cases : (xs ys : List A) (x : A) → Has (xs ++ ys) x → Has xs x ⊎ Has ys x
+  Has-append_cases [] ys x h = inr h
+  Has-append_cases (y ∷ xs) ys x (inl here) = inl (inl here)
+  Has-append_cases (y ∷ xs) ys x (inr there) = ⊎_elim (λ h. inl (inr h)) (λ h. inr h) (Has-append_cases xs ys x there)
 
 -- in a reversed list
 pub Has-reverse : (xs : List ℕ) (n : ℕ) → Has xs n → Has (reverse xs) n

@@ -103,7 +103,16 @@ fn is_sound(alloc: Global, nodes: &[Node], goals: &[usize]) -> Result<bool, Allo
     ensures { IfOk result (λ sound. IsTrue sound → IsSound (record { nodes = nodes.now; goals = goals.now })) }
 {
     let rows = rows_of(alloc, nodes)?;
-    Ok(names_differ(nodes) && are_rows(&rows) && are_below(goals, rows.len()) && have_parents(&rows, goals))
+    if !names_differ(nodes) {
+        return Ok(false);
+    }
+    if !are_rows(&rows) {
+        return Ok(false);
+    }
+    if !are_below(goals, nodes.len()) {
+        return Ok(false);
+    }
+    Ok(have_parents(&rows, goals))
 }
 
 /// A node with prerequisites in groups.
