@@ -1,11 +1,11 @@
 -- Walks close cycles, come through without cycles, and have an end.
-use Rattle.std.proofs.Common.{◌≡◌, ℕ, zero, suc, ◌+◌, ◌<◌, ◌≤◌, cond, eqb, List, [], ◌∷◌, ◌++◌, length, inl, inr, ⊎_elim, refl, sym, ap, subst, ◌∙◌, arith, eqb-true}
+use Rattle.std.proofs.Common.{ℕ, zero, suc, ◌+◌, ◌<◌, eqb, List, [], ◌∷◌, ◌++◌, length, inl, inr, ⊎_elim, refl, sym, subst, arith, eqb-true}
 use Rattle.std.proofs.lemmas.Bool.{cases_Bool, cond-true, cond-false, eqb-false}
 use Rattle.mk_graph.specs.Membership.{Has, IsDistinct}
 use Rattle.mk_graph.specs.Graph.{Graph, prerequisites, Reached, goal, onward, Leads, one, then, HasNoCycle, IsSound}
 use Rattle.mk_graph.specs.Walk.{Outcome, Through, Closes, path_from, closed_path, Walks, ends, passes, closes, breaks, finishes}
 use Rattle.mk_graph.specs.Build.{WalksAll}
-use Rattle.mk_graph.specs.Laws.{WalkHasAnEnd, WalkHasOneEnd, GoesAlong, step, further, IsCycle, ClosesOnlyCycles, ComesThroughWithoutCycles, HeightsForbidCycles}
+use Rattle.mk_graph.specs.Laws.{WalkHasAnEnd, WalkHasOneEnd, GoesAlong, step, further, ClosesOnlyCycles, ComesThroughWithoutCycles, HeightsForbidCycles, NoCycleGivesHeights}
 use Rattle.mk_graph.proofs.Members.{cases_Has, length-le_distinct}
 use Rattle.mk_graph.proofs.Walks.{one_end, holds_closes}
 use Rattle.mk_graph.proofs.Acyclic.{no_cycle, no_node_leads_to_itself}
@@ -95,3 +95,12 @@ module _ (needs : ℕ → List ℕ) (bound : ℕ) (within : (n p : ℕ) → Has 
 
 pub walk_has_an_end : WalkHasAnEnd
 walk_has_an_end g sound = has_end (prerequisites g) (length g.nodes) sound.edges (suc (length g.nodes)) [] [] g.goals tt (λ n u. absurd u) sound.goals (omega arith)
+
+-- each end of a walk of a graph without cycles gives heights
+heights_from : (g : Graph) → IsSound g → ((n : ℕ) → ¬ (Leads g n n)) → (end : Outcome) → WalksAll g end → HasNoCycle g
+heights_from g sound none (Through finished) w = no_cycle g finished sound w
+heights_from g sound none (Closes path) w = let cycle = closes_only_cycles g path w in absurd (none cycle.first cycle.leads)
+
+-- where no node leads to itself, nodes have heights
+pub no_cycle_gives_heights : NoCycleGivesHeights
+no_cycle_gives_heights g sound none = let w = walk_has_an_end g sound in heights_from g sound none w.0 w.1

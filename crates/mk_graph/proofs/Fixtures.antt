@@ -1,10 +1,10 @@
 -- What the tests' fixtures are tested for makes them sound.
-use Rattle.std.proofs.Common.{◌≡◌, ℕ, zero, suc, ◌+◌, ◌<◌, ◌≤◌, List, [], ◌∷◌, ◌++◌, ◌⊎◌, length, map, take, get_or, All, Vec, inl, inr, ⊎_elim, refl, sym, ap, subst, ◌∙◌, arith}
+use Rattle.std.proofs.Common.{◌≡◌, ℕ, zero, suc, ◌+◌, ◌<◌, List, [], ◌∷◌, ◌⊎◌, length, map, take, get_or, Vec, inl, inr, ⊎_elim, sym, ap, subst, ◌∙◌, arith}
 use Rattle.std.specs.declared.alloc.Global.{Global}
 use Rattle.std.proofs.lemmas.List.{map_more}
 use Rattle.mk_graph.specs.declared.node.Node.{Node}
 use Rattle.mk_graph.specs.Membership.{Has, IsDistinct}
-use Rattle.mk_graph.specs.Graph.{Graph, prerequisites, Reached, goal, onward, IsSound}
+use Rattle.mk_graph.specs.Graph.{Graph, Reached, goal, onward, IsSound}
 use Rattle.mk_graph.specs.Progress.{row, AreRows}
 use Rattle.mk_graph.proofs.Members.{Has-append_cases}
 use Rattle.mk_graph.proofs.Building.{joined_groups, rows_are, rows_length}

@@ -1,5 +1,5 @@
 -- What is left to walk for the nodes that are under way, how much it is, and the marks.
-use Rattle.std.proofs.Common.{◌≡◌, ℕ, zero, suc, ◌+◌, ◌-◌, ◌<◌, ◌≤◌, List, [], ◌∷◌, ◌++◌, ◌⊎◌, length, map, set, get_or, drop, reverse, sum_by, Vec, inl, inr, ⊎_elim, refl, sym, subst, ◌∙◌, arith, get_or-set_same, get_or-set_other, length-set}
+use Rattle.std.proofs.Common.{◌≡◌, ℕ, zero, suc, ◌+◌, ◌-◌, ◌<◌, List, [], ◌∷◌, ◌⊎◌, length, map, set, get_or, drop, sum_by, Vec, inl, inr, ⊎_elim, refl, sym, subst, arith, get_or-set_same, get_or-set_other, length-set}
 use Rattle.std.specs.declared.alloc.Global.{Global}
 use Rattle.std.proofs.lemmas.Bool.{cases_eq}
 use Rattle.mk_graph.specs.declared.walk.Frame.{Frame}

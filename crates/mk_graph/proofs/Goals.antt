@@ -1,13 +1,11 @@
 -- The walks of one goal after another are one walk.
-use Rattle.std.proofs.Common.{◌≡◌, ℕ, ◌+◌, ◌<◌, ◌≤◌, List, [], ◌∷◌, length, get_or, drop, reverse, replicate, Vec, refl, sym, ap, subst, ◌∙◌, arith}
+use Rattle.std.proofs.Common.{◌≡◌, ℕ, ◌+◌, ◌<◌, ◌≤◌, List, [], ◌∷◌, length, get_or, drop, reverse, replicate, Vec, sym, subst, ◌∙◌}
 use Rattle.std.specs.declared.alloc.Global.{Global}
 use Rattle.std.proofs.lemmas.List.{drop_more, drop_all, get_or-replicate, length-replicate}
 use Rattle.mk_graph.specs.declared.walk.Mark.{Mark}
 use Rattle.mk_graph.specs.declared.walk.Mark.TheVariants.{New}
-use Rattle.mk_graph.specs.Membership.{Has}
 use Rattle.mk_graph.specs.Walk.{Outcome, Through, Closes, Walks, ends, passes, closes, breaks, finishes}
 use Rattle.mk_graph.specs.Progress.{row, IsMark, AreMarks}
-use Rattle.mk_graph.proofs.Members.{Has-get_or}
 
 module _ (needs : ℕ → List ℕ) where
   -- one node, and then the others

@@ -1,15 +1,14 @@
 -- Laws of the serial order.
-use Rattle.std.proofs.Common.{◌≡◌, ℕ, zero, suc, cond, not, true, false, List, [], ◌∷◌, ◌++◌, length, fold, filter, reverse, ◌↔◌, inl, inr, ⊎_elim, refl, sym, ap, subst, ◌∙◌, append_assoc, append-nil}
+use Rattle.std.proofs.Common.{◌≡◌, ℕ, zero, suc, not, true, false, List, [], ◌∷◌, ◌++◌, length, fold, reverse, inl, inr, ⊎_elim, refl, sym, ap, subst, ◌∙◌, append_assoc, append-nil}
 use Rattle.std.proofs.lemmas.Bool.{cases_Bool, cond-true, cond-false, not_from_true, not_from_false}
 use Rattle.std.proofs.lemmas.List.{reverse-reverse, reverse-append}
 use Rattle.std.proofs.lemmas.List.Elements.{filter-append, filter_agree}
 use Rattle.std.proofs.lemmas.List.Sums.{fold-append}
 use mathlib.Core.List.{reverse-cons}
-use Rattle.mk_graph.specs.Membership.{Has, has, IsDistinct}
-use Rattle.mk_graph.specs.Graph.{Graph, prerequisites, Reached, HasNoCycle}
-use Rattle.mk_graph.specs.Walk.{Through, Walks}
+use Rattle.mk_graph.specs.Membership.{Has, has}
+use Rattle.mk_graph.specs.Graph.{Graph, prerequisites, HasNoCycle}
 use Rattle.mk_graph.specs.Serial.{visit, visits, serial_from, serial_order}
-use Rattle.mk_graph.specs.Laws.{SerialReachesEachOnce, StandsBefore, PrerequisitesComeFirst, beside, GoalsDecideWhatComesFirst}
+use Rattle.mk_graph.specs.Laws.{SerialReachesEachOnce, PrerequisitesComeFirst, beside, GoalsDecideWhatComesFirst}
 use Rattle.mk_graph.proofs.Members.{Has-from_has, has-from_Has, has-from_not, not-from_has, Has-append_left, Has-append_right, Has-append_cases, Has-reverse, Has-from_reverse, has-reverse, IsDistinct-reverse}
 use Rattle.mk_graph.proofs.Walks.{IsOrdered, ordered_needs, ordered_distinct, ordered_behind, keeps_order}
 use Rattle.mk_graph.proofs.Acyclic.{finished_all, finished_only}

@@ -58,3 +58,7 @@ ComesThroughWithoutCycles = (g : Graph) (finished : List ℕ) → IsSound g → 
 -- Where heights fall along prerequisites, no node leads to itself.
 abbrev pub HeightsForbidCycles : Type 0
 HeightsForbidCycles = (g : Graph) → HasNoCycle g → (n : ℕ) → ¬ (Leads g n n)
+
+-- Heights ask no more: where no node of a sound graph leads to itself, there are such heights.
+abbrev pub NoCycleGivesHeights : Type 0
+NoCycleGivesHeights = (g : Graph) → IsSound g → ((n : ℕ) → ¬ (Leads g n n)) → HasNoCycle g

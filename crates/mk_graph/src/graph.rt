@@ -9,7 +9,7 @@ use crate::fault::GraphFault;
 use crate::name::Names;
 use crate::node::Node;
 use crate::prerequisites::rows_of;
-use crate::walk::{walk, End};
+use crate::walk::{End, walk};
 use std::alloc::{AllocError, Global};
 use std::marker::Model;
 

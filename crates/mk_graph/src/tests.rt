@@ -130,7 +130,12 @@ fn node(alloc: Global, name: &str, groups: &[&[usize]]) -> Result<Node, AllocErr
 }
 
 /// What becomes of nodes and goals.
-fn built(rt: &impl Abort, alloc: Global, nodes: Vec<Node>, goals: &[usize]) -> Result<Graph, GraphFault> {
+fn built(
+    rt: &impl Abort,
+    alloc: Global,
+    nodes: Vec<Node>,
+    goals: &[usize],
+) -> Result<Graph, GraphFault> {
     assert!(rt; is_sound(alloc, &nodes, goals)?);
     Graph::build(alloc, nodes, Vec::from_slice(alloc, goals)?)
 }

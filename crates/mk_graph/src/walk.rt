@@ -104,7 +104,11 @@ fn enter(frames: &mut Vec<Frame>, marks: &mut [Mark], node: usize) -> Result<(),
 }
 
 /// The path from a node that is under way along the frames, and to the node again.
-fn closed_path_from(alloc: Global, mut frames: Vec<Frame>, node: usize) -> Result<Vec<usize>, AllocError>
+fn closed_path_from(
+    alloc: Global,
+    mut frames: Vec<Frame>,
+    node: usize,
+) -> Result<Vec<usize>, AllocError>
     ensures { IfOk result (λ path. path.items ≡ closed_path node (map (λ frame. frame.node) (reverse frames.items))) }
 {
     let mut path = vec![in alloc; node]?;

@@ -1,6 +1,5 @@
-use Rattle.std.proofs.Common.{ℕ, ◌<◌, length, below_more, subst, sym, refl, ◌∙◌, List}
+use Rattle.std.proofs.Common.{ℕ, below_more, subst, sym, refl, ◌∙◌, List}
 use Rattle.mk_graph.specs.Membership.{Has}
-use Rattle.mk_graph.specs.Progress.{row}
 use Rattle.mk_graph.proofs.Steps.{row_is}
 use Rattle.mk_graph.proofs.tests.are_rows.Goals as goal
 

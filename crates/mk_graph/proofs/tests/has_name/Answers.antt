@@ -2,7 +2,7 @@
 use Rattle.std.proofs.lemmas.Bool.{false≢true}
 use Rattle.std.proofs.lemmas.Bool.Decides.{Decides-eqb}
 use Rattle.std.proofs.lemmas.Slice.Eq.{slice_eq-Decides}
-use Rattle.std.proofs.Common.{sym, ◌∙◌, false, List, ℕ}
+use Rattle.std.proofs.Common.{◌∙◌, false}
 use Rattle.mk_graph.specs.declared.node.Node.{Node}
 use Rattle.mk_graph.proofs.Fixtures.{not_Has-map_more}
 use Rattle.mk_graph.proofs.tests.has_name.Goals as goal

@@ -1,4 +1,4 @@
-use Rattle.std.proofs.Common.{ℕ, get_or, subst}
+use Rattle.std.proofs.Common.{subst}
 use Rattle.mk_graph.specs.Membership.{Has}
 use Rattle.mk_graph.proofs.Members.{Has-get_or}
 use Rattle.mk_graph.proofs.tests.has_number.Goals as goal

@@ -1,6 +1,5 @@
 -- What was tested makes the nodes and goals sound.
-use Rattle.std.proofs.Common.{◌≡◌, ℕ, ◌<◌, ◌⊎◌, ◌∙◌, ap, refl, length, map, subst, List}
-use Rattle.mk_graph.specs.declared.node.Node.{Node}
+use Rattle.std.proofs.Common.{ℕ, ◌<◌, ◌⊎◌, refl, length}
 use Rattle.mk_graph.specs.Membership.{Has}
 use Rattle.mk_graph.specs.Graph.{Graph}
 use Rattle.mk_graph.specs.Progress.{row, AreRows}

@@ -4,7 +4,7 @@ use Rattle.mk_graph.specs.declared.walk.Mark.TheVariants.{New}
 use Rattle.mk_graph.specs.Walk.{passes, ends}
 use Rattle.mk_graph.specs.Progress.{row, IsMark}
 use Rattle.mk_graph.proofs.Frames.{is_new}
-use Rattle.mk_graph.proofs.Steps.{row_is, node_low, begin_step, finish_step, finish_less, next_low, pass_step, pass_less, close_step, down_step, down_less, end_step}
+use Rattle.mk_graph.proofs.Steps.{row_is, node_low, begin_step, finish_step, finish_less, next_low, pass_step, pass_less, close_step, down_step, down_less}
 use Rattle.mk_graph.proofs.walk.walk_from.Goals as goal
 use Rattle.mk_graph.proofs.walk.walk_from.Goals.{After-as_slice-needs}
 

@@ -1,5 +1,5 @@
 -- What the walk of the rows says of the graph.
-use Rattle.std.proofs.Common.{◌≡◌, ◌∙◌, ◌≤◌, ap, refl, arith, reverse, length, map, List}
+use Rattle.std.proofs.Common.{◌∙◌, ◌≤◌, ap, refl, arith, reverse, length, map, List}
 use Rattle.mk_graph.specs.declared.node.Node.{Node}
 use Rattle.mk_graph.specs.Graph.{Graph}
 use Rattle.mk_graph.specs.declared.walk.End.TheVariants.{Order, Cycle}
