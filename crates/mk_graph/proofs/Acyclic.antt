@@ -16,12 +16,15 @@ abbrev behind : List ℕ → ℕ → ℕ
 behind [] n = 0
 behind (m ∷ ms) n = cond (eqb m n) (length ms) (behind ms n)
 
+-- at the front, all others stand behind it
 behind_here : (m n : ℕ) (ms : List ℕ) → eqb m n ≡ true → behind (m ∷ ms) n ≡ length ms
 behind_here m n ms e = cond-true (eqb m n) (length ms) (behind ms n) e
 
+-- not at the front, those behind it are those of the rest
 behind_there : (m n : ℕ) (ms : List ℕ) → eqb m n ≡ false → behind (m ∷ ms) n ≡ behind ms n
 behind_there m n ms e = cond-false (eqb m n) (length ms) (behind ms n) e
 
+-- behind what stands in a list stand fewer than the list has
 behind_lt : (ms : List ℕ) (n : ℕ) → Has ms n → behind ms n < length ms
 behind_lt [] n h = absurd h
 behind_lt (m ∷ ms) n (inl here) = let e = behind_here m n ms (eq-eqb m n here) in omega arith

@@ -28,18 +28,22 @@ abbrev pub joined_groups : Node → List ℕ
 joined_groups node = flat_map (λ group. group) node.groups
 
 module _ (g : Graph) (rows : List (Vec ℕ Global)) (are : map (λ (r : Vec ℕ Global). r.items) rows ≡ map joined_groups g.nodes) where
+  -- a row is what its node needs
   pub rows_are : row rows ≡ prerequisites g
   rows_are = fun_ext (λ n. ap (λ (l : List (List ℕ)). get_or l n []) are ∙ get_or-map_default joined_groups g.nodes n no_node)
 
+  -- there are as many rows as nodes
   pub rows_length : length rows ≡ length g.nodes
   rows_length = sym (length-map rows (λ (r : Vec ℕ Global). r.items)) ∙ ap (λ (l : List (List ℕ)). length l) are ∙ length-map g.nodes joined_groups
 
+  -- rows of a sound graph hold numbers of rows
   pub rows_within : IsSound g → AreRows rows
   rows_within sound n p h =
       let low = sound.edges n p (subst (λ (f : ℕ → List ℕ). Has (f n) p) rows_are h) in
       let same = rows_length in
       omega arith
 
+  -- a walk over the rows is one of the graph
   pub walks_graph : (end : Outcome) → Walks (row rows) [] [] g.goals end → WalksAll g end
   walks_graph end w = subst (λ (f : ℕ → List ℕ). Walks f [] [] g.goals end) rows_are w
 

@@ -10,12 +10,15 @@ use Rattle.mk_graph.proofs.Members.{cases_Has, length-le_distinct}
 use Rattle.mk_graph.proofs.Walks.{one_end, holds_closes}
 use Rattle.mk_graph.proofs.Acyclic.{no_cycle, no_node_leads_to_itself}
 
+-- from no node under way and none finished, there is one end
 pub walk_has_one_end : WalkHasOneEnd
 walk_has_one_end g a b w v = one_end (prerequisites g) (λ n u. absurd u) w v
 
+-- heights fall along a path, so it doesn't come back
 pub heights_forbid_cycles : HeightsForbidCycles
 heights_forbid_cycles g is n = no_node_leads_to_itself g is n
 
+-- what a walk finishes has heights
 pub comes_through_without_cycles : ComesThroughWithoutCycles
 comes_through_without_cycles g finished sound w n = no_node_leads_to_itself g (no_cycle g finished sound w) n
 
@@ -35,6 +38,7 @@ module _ (g : Graph) where
     stays : Trail first first (first ∷ [])
     onto : {m p : ℕ} {path : List ℕ} → Trail first m path → Has (prerequisites g m) p → Trail first p (path ++ p ∷ [])
 
+  -- one step more makes it a path of a step or more
   trail_on : {first m p : ℕ} {path : List ℕ} → Trail first m path → Has (prerequisites g m) p → GoesAlong g first p (path ++ p ∷ [])
   trail_on stays h = step h
   trail_on (onto t h') h = further (trail_on t h') h
@@ -46,6 +50,7 @@ module _ (g : Graph) where
   trail_from n m (k ∷ under) h chain =
       ⊎_elim (λ e. subst (λ (l : List ℕ). Trail n m l) (sym (cond-true (eqb m n) (m ∷ []) (path_from n (k ∷ under) ++ m ∷ []) e)) (subst (λ j. Trail n j (j ∷ [])) (sym (eqb-true m n e)) stays)) (λ e. subst (λ (l : List ℕ). Trail n m l) (sym (cond-false (eqb m n) (m ∷ []) (path_from n (k ∷ under) ++ m ∷ []) e)) (onto (trail_from n k under (⊎_elim (λ here. absurd (eqb-false m n e here)) (λ there. there) h) chain.1) chain.0)) (cases_Bool (eqb m n))
 
+  -- back to a node that is under way, the path is closed
   closed_along : (n : ℕ) (under : List ℕ) → Has under n → IsChain under → IsNext under n → GoesAlong g n n (closed_path n under)
   closed_along n [] h chain next = absurd h
   closed_along n (m ∷ under) h chain next = trail_on (trail_from n m under h chain) next
@@ -57,10 +62,12 @@ module _ (g : Graph) where
   closes_along (breaks {n} new unfinished w) chain next = closes_along w (next n (inl refl), chain) (λ p need. need)
   closes_along (finishes new unfinished w v) chain next = closes_along v chain (λ p t. next p (inr t))
 
+  -- a path leads to its end
   along_leads : {n p : ℕ} {path : List ℕ} → GoesAlong g n p path → Leads g n p
   along_leads (step h) = one h
   along_leads (further a h) = then (along_leads a) h
 
+-- a closed path goes along prerequisites, among what is reached
 pub closes_only_cycles : ClosesOnlyCycles
 closes_only_cycles g path w =
     let cycle = closes_along g w tt (λ p t. tt) in
@@ -76,23 +83,28 @@ module _ (needs : ℕ → List ℕ) (bound : ℕ) (within : (n p : ℕ) → Has 
   abbrev HasEnd : ℕ → Type 0
   HasEnd room = (under finished todo : List ℕ) → IsDistinct under → ((n : ℕ) → Has under n → n < bound) → ((n : ℕ) → Has todo n → n < bound) → bound < room + length under → (end : Outcome) × Walks needs under finished todo end
 
+  -- after the prerequisites of a node: it is finished, or their path is the end
   after_inside : {under finished todo : List ℕ} {n : ℕ} (end : Outcome) → ¬ (Has under n) → ¬ (Has finished n) → Walks needs (n ∷ under) finished (needs n) end → ((middle : List ℕ) → (end : Outcome) × Walks needs under (n ∷ middle) todo end) → (end : Outcome) × Walks needs under finished (n ∷ todo) end
   after_inside (Through middle) new unfinished w rest = let r = rest middle in (r.0, finishes new unfinished w r.1)
   after_inside (Closes path) new unfinished w rest = (Closes path, breaks new unfinished w)
 
+  -- not more nodes are under way than there are
   no_room : HasEnd zero
   no_room under finished todo distinct low todo_low room = let few = length-le_distinct under bound distinct low in absurd (omega arith)
 
+  -- one node more may be under way
   more_room : (room : ℕ) → HasEnd room → HasEnd (suc room)
   more_room room below under finished [] distinct low todo_low fits = (Through finished, ends)
   more_room room below under finished (n ∷ todo) distinct low todo_low fits =
       let rest : (l : List ℕ) → (end : Outcome) × Walks needs under l todo end = λ l. more_room room below under l todo distinct low (λ k t. todo_low k (inr t)) fits in
       ⊎_elim (λ was. let r = rest finished in (r.0, passes was r.1)) (λ unfinished. ⊎_elim (λ u. (Closes (closed_path n under), closes u)) (λ new. let inside = below (n ∷ under) finished (needs n) (new, distinct) (λ k u. ⊎_elim (λ e. subst (λ j. j < bound) e (todo_low n (inl refl))) (low k) u) (within n) (omega arith) in after_inside inside.0 new unfinished inside.1 (λ middle. rest (n ∷ middle))) (cases_Has under n)) (cases_Has finished n)
 
+  -- however many may be under way, there is an end
   pub has_end : (room : ℕ) → HasEnd room
   has_end zero = no_room
   has_end (suc room) = more_room room (has_end room)
 
+-- from no node under way, as many may be as there are nodes
 pub walk_has_an_end : WalkHasAnEnd
 walk_has_an_end g sound = has_end (prerequisites g) (length g.nodes) sound.edges (suc (length g.nodes)) [] [] g.goals tt (λ n u. absurd u) sound.goals (omega arith)
 

@@ -27,6 +27,7 @@ module _ (g : Graph) (rows : List (Vec ℕ Global)) (are : map (λ (r : Vec ℕ 
   reached_below parents (suc bound) n low within =
       ⊎_elim (λ h. goal h) (λ parent. let before = parent.1 in onward (reached_below parents bound parent.0 (omega arith) (omega arith)) (subst (λ (f : ℕ → List ℕ). Has (f parent.0) n) (rows_are g rows are) parent.2)) (parents n within)
 
+  -- so nodes and goals that were tested are sound
   pub is_sound : IsDistinct (map (λ (node : Node). node.name) g.nodes) → AreRows rows → ((n : ℕ) → Has g.goals n → n < length g.nodes) → ((k : ℕ) → k < length rows → Has g.goals k ⊎ (n : ℕ) × (n < k) × Has (row rows n) k) → IsSound g
   is_sound distinct within low parents =
       let same = rows_length g rows are in

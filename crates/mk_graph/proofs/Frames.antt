@@ -68,6 +68,7 @@ other_mark New under under' finished finished' k u u' f f' is = (λ h. is.0 (u' 
 other_mark UnderWay under under' finished finished' k u u' f f' is = u is
 other_mark Finished under under' finished finished' k u u' f f' is = f is
 
+-- another number than the first stands in the rest
 in_rest : (n k : ℕ) (ns : List ℕ) → (k ≡ n → ⊥) → Has (n ∷ ns) k → Has ns k
 in_rest n k ns ne (inl here) = absurd (ne (sym here))
 in_rest n k ns ne (inr there) = there

@@ -31,15 +31,18 @@ cases_Has ns n = ⊎_elim (λ e. inl (Has-from_has ns n e)) (λ e. inr (not-from
 
 -- in two joined lists
 module _ {A : Type 0} where
+  -- what stands in the first list
   pub Has-append_left : (xs ys : List A) (x : A) → Has xs x → Has (xs ++ ys) x
   Has-append_left [] ys x h = absurd h
   Has-append_left (y ∷ xs) ys x (inl here) = inl here
   Has-append_left (y ∷ xs) ys x (inr there) = inr (Has-append_left xs ys x there)
 
+  -- what stands in the second list
   pub Has-append_right : (xs ys : List A) (x : A) → Has ys x → Has (xs ++ ys) x
   Has-append_right [] ys x h = h
   Has-append_right (y ∷ xs) ys x h = inr (Has-append_right xs ys x h)
 
+  -- it stands in one of the two
   pub Has-append_cases : (xs ys : List A) (x : A) → Has (xs ++ ys) x → Has xs x ⊎ Has ys x
   Has-append_cases [] ys x h = inr h
   Has-append_cases (y ∷ xs) ys x (inl here) = inl (inl here)
@@ -51,6 +54,7 @@ Has-reverse [] n h = absurd h
 Has-reverse (x ∷ xs) n (inl here) = subst (λ (l : List ℕ). Has l n) (sym (reverse-cons x xs)) (Has-append_right (reverse xs) (x ∷ []) n (inl here))
 Has-reverse (x ∷ xs) n (inr there) = subst (λ (l : List ℕ). Has l n) (sym (reverse-cons x xs)) (Has-append_left (reverse xs) (x ∷ []) n (Has-reverse xs n there))
 
+-- and the other way round
 pub Has-from_reverse : (xs : List ℕ) (n : ℕ) → Has (reverse xs) n → Has xs n
 Has-from_reverse [] n h = absurd h
 Has-from_reverse (x ∷ xs) n h =
@@ -76,11 +80,13 @@ differs : (n : ℕ) (ns : List ℕ) → ¬ (Has ns n) → AllByRecursion (λ m. 
 differs n [] out = tt
 differs n (m ∷ ms) out = (ne_eqb n m (λ e. out (inl (sym e))), differs n ms (λ h. out (inr h)))
 
+-- the same in the words of the maps' lemmas
 no_equal_pair : (ns : List ℕ) → IsDistinct ns → HasNoEqualPair eqb ns
 unfolding HasNoEqualPair
 no_equal_pair [] d = tt
 no_equal_pair (n ∷ ns) d = (differs n ns d.0, no_equal_pair ns d.1)
 
+-- a number that equals some element is one
 Has-from_any : (ns : List ℕ) (n : ℕ) → list_any (eqb n) ns ≡ true → Has ns n
 Has-from_any [] n e = absurd (false≢true e)
 Has-from_any (m ∷ ms) n e = ⊎_elim (λ here. inl (sym (eqb-true n m here))) (λ there. inr (Has-from_any ms n there)) (or_cases (eqb n m) (list_any (eqb n) ms) e)

@@ -18,6 +18,7 @@ use Rattle.mk_graph.proofs.SerialOrder.{visit_old, visit_new, visits_walk}
 visits_ordered : (g : Graph) → HasNoCycle g → (ns : List ℕ) → IsOrdered (prerequisites g) (visits g [] ns)
 visits_ordered g is ns = keeps_order (prerequisites g) (visits_walk g is ns) tt
 
+-- the walk that visits the serial order finishes what is reached, once
 pub serial_reaches_each_once : SerialReachesEachOnce
 unfolding serial_order serial_from
 serial_reaches_each_once g is =
@@ -30,6 +31,7 @@ reverse_cut : (xs front back : List ℕ) (n : ℕ) → reverse xs ≡ front ++ n
 reverse_cut xs front back n e =
     sym (reverse-reverse xs) ∙ ap (λ (l : List ℕ). reverse l) e ∙ reverse-append front (n ∷ back) ∙ ap (λ (l : List ℕ). l ++ reverse front) (reverse-cons n back) ∙ append_assoc (reverse back) (n ∷ []) (reverse front)
 
+-- the walk finishes a node behind its prerequisites
 pub prerequisites_come_first : PrerequisitesComeFirst
 unfolding serial_order serial_from
 prerequisites_come_first g is n p need front back e =
@@ -41,9 +43,11 @@ prerequisites_come_first g is n p need front back e =
 beside_in : (other : List ℕ) (n : ℕ) (ns : List ℕ) → has other n ≡ true → beside other (n ∷ ns) ≡ beside other ns
 beside_in other n ns e = cond-false (not (has other n)) (n ∷ beside other ns) (beside other ns) (not_from_true (has other n) e)
 
+-- an element that isn't among the others stays
 beside_out : (other : List ℕ) (n : ℕ) (ns : List ℕ) → has other n ≡ false → beside other (n ∷ ns) ≡ n ∷ beside other ns
 beside_out other n ns e = cond-true (not (has other n)) (n ∷ beside other ns) (beside other ns) (not_from_false (has other n) e)
 
+-- it stands there if the others lack it
 Has-beside : (other ns : List ℕ) (n : ℕ) → Has ns n → has other n ≡ false → Has (beside other ns) n
 Has-beside other [] n h out = absurd h
 Has-beside other (m ∷ ms) n (inl here) out =
@@ -52,6 +56,7 @@ Has-beside other (m ∷ ms) n (inr there) out =
     let rest = Has-beside other ms n there out in
     ⊎_elim (λ e. subst (λ (l : List ℕ). Has l n) (sym (beside_in other m ms e)) rest) (λ e. subst (λ (l : List ℕ). Has l n) (sym (beside_out other m ms e)) (inr rest)) (cases_Bool (has other m))
 
+-- what stands there stood in the list
 Has-from_beside : (other ns : List ℕ) (n : ℕ) → Has (beside other ns) n → Has ns n
 Has-from_beside other [] n h = absurd h
 Has-from_beside other (m ∷ ms) n h =
@@ -62,20 +67,24 @@ module _ (needs : ℕ → List ℕ) (done : List ℕ) (closed : (n p : ℕ) → 
   abbrev AddNothing : ℕ → Type 0
   AddNothing deep = (visited ns : List ℕ) → ((n : ℕ) → Has ns n → Has done n) → beside done (fold (visit needs deep) visited ns) ≡ beside done visited
 
+  -- at no depth nothing is visited
   adds_nothing_flat : AddNothing zero
   unfolding visit
   adds_nothing_flat visited [] all = refl
   adds_nothing_flat visited (n ∷ ns) all = adds_nothing_flat visited ns (λ k t. all k (inr t))
 
+  -- a visit of one such node
   one_adds_nothing : (deep : ℕ) → AddNothing deep → (visited : List ℕ) (n : ℕ) → Has done n → beside done (visit needs (suc deep) visited n) ≡ beside done visited
   one_adds_nothing deep below visited n h =
       ⊎_elim (λ e. ap (λ (l : List ℕ). beside done l) (visit_old needs deep visited n e)) (λ e. ap (λ (l : List ℕ). beside done l) (visit_new needs deep visited n e) ∙ beside_in done n (fold (visit needs deep) visited (needs n)) (has-from_Has done n h) ∙ below visited (needs n) (λ p need. closed n p h need)) (cases_Bool (has visited n))
 
+  -- visits one level deeper
   adds_nothing_deep : (deep : ℕ) → AddNothing deep → AddNothing (suc deep)
   adds_nothing_deep deep below visited [] all = refl
   adds_nothing_deep deep below visited (n ∷ ns) all =
       adds_nothing_deep deep below (visit needs (suc deep) visited n) ns (λ k t. all k (inr t)) ∙ one_adds_nothing deep below visited n (all n (inl refl))
 
+  -- visits at any depth
   adds_nothing : (deep : ℕ) → AddNothing deep
   adds_nothing zero = adds_nothing_flat
   adds_nothing (suc deep) = adds_nothing_deep deep (adds_nothing deep)
@@ -84,30 +93,36 @@ module _ (needs : ℕ → List ℕ) (done : List ℕ) (closed : (n p : ℕ) → 
   abbrev AddBeside : ℕ → Type 0
   AddBeside deep = (visited ns : List ℕ) → fold (visit needs deep) (beside done visited ++ done) ns ≡ beside done (fold (visit needs deep) visited ns) ++ done
 
+  -- at no depth nothing is visited
   add_beside_flat : AddBeside zero
   unfolding visit
   add_beside_flat visited [] = refl
   add_beside_flat visited (n ∷ ns) = add_beside_flat visited ns
 
+  -- what was visited alone, or is done, is visited in both
   has_old : (visited : List ℕ) (n : ℕ) → Has visited n → has (beside done visited ++ done) n ≡ true
   has_old visited n h =
       has-from_Has (beside done visited ++ done) n (⊎_elim (λ e. Has-append_right (beside done visited) done n (Has-from_has done n e)) (λ e. Has-append_left (beside done visited) done n (Has-beside done visited n h e)) (cases_Bool (has done n)))
 
+  -- what was neither is not
   has_new : (visited : List ℕ) (n : ℕ) → ¬ (Has visited n) → ¬ (Has done n) → has (beside done visited ++ done) n ≡ false
   has_new visited n out undone =
       has-from_not (beside done visited ++ done) n (λ h. ⊎_elim (λ b. out (Has-from_beside done visited n b)) undone (Has-append_cases (beside done visited) done n h))
 
+  -- a visit of one node
   one_beside : (deep : ℕ) → AddBeside deep → (visited : List ℕ) (n : ℕ) → visit needs (suc deep) (beside done visited ++ done) n ≡ beside done (visit needs (suc deep) visited n) ++ done
   one_beside deep below visited n =
       let both = beside done visited ++ done in
       let found = fold (visit needs deep) visited (needs n) in
       ⊎_elim (λ e. visit_old needs deep both n (has_old visited n (Has-from_has visited n e)) ∙ sym (ap (λ (l : List ℕ). beside done l ++ done) (visit_old needs deep visited n e))) (λ e. ⊎_elim (λ d. visit_old needs deep both n (has-from_Has both n (Has-append_right (beside done visited) done n (Has-from_has done n d))) ∙ sym (ap (λ (l : List ℕ). beside done l ++ done) (visit_new needs deep visited n e) ∙ ap (λ (l : List ℕ). l ++ done) (beside_in done n found d ∙ adds_nothing deep visited (needs n) (λ p need. closed n p (Has-from_has done n d) need)))) (λ d. visit_new needs deep both n (has_new visited n (not-from_has visited n e) (not-from_has done n d)) ∙ ap (λ (l : List ℕ). n ∷ l) (below visited (needs n)) ∙ sym (ap (λ (l : List ℕ). beside done l ++ done) (visit_new needs deep visited n e) ∙ ap (λ (l : List ℕ). l ++ done) (beside_out done n found d))) (cases_Bool (has done n))) (cases_Bool (has visited n))
 
+  -- visits one level deeper
   add_beside_deep : (deep : ℕ) → AddBeside deep → AddBeside (suc deep)
   add_beside_deep deep below visited [] = refl
   add_beside_deep deep below visited (n ∷ ns) =
       ap (λ (l : List ℕ). fold (visit needs (suc deep)) l ns) (one_beside deep below visited n) ∙ add_beside_deep deep below (visit needs (suc deep) visited n) ns
 
+  -- visits at any depth
   add_beside : (deep : ℕ) → AddBeside deep
   add_beside zero = add_beside_flat
   add_beside (suc deep) = add_beside_deep deep (add_beside deep)
@@ -121,6 +136,7 @@ beside-reverse other (n ∷ ns) =
     let rest = beside-reverse other ns in
     ⊎_elim (λ e. ap (λ (l : List ℕ). reverse l) (beside_in other n ns e) ∙ rest ∙ sym (append-nil (beside (reverse other) (reverse ns))) ∙ sym (pushed ∙ ap (λ (l : List ℕ). beside (reverse other) (reverse ns) ++ l) (beside_in other n [] e))) (λ e. ap (λ (l : List ℕ). reverse l) (beside_out other n ns e) ∙ reverse-cons n (beside other ns) ∙ ap (λ (l : List ℕ). l ++ n ∷ []) rest ∙ sym (pushed ∙ ap (λ (l : List ℕ). beside (reverse other) (reverse ns) ++ l) (beside_out other n [] e))) (cases_Bool (has other n))
 
+-- visits of the others begin with what the first goals reach
 pub goals_decide_what_comes_first : GoalsDecideWhatComesFirst
 unfolding serial_from visits
 goals_decide_what_comes_first g is first others =

@@ -12,6 +12,7 @@ abbrev pub down_to : ℕ → List ℕ → List ℕ
 down_to n [] = []
 down_to n (m ∷ under) = cond (eqb m n) (m ∷ []) (m ∷ down_to n under)
 
+-- the path down to n, the other way round
 path_from_is : (n : ℕ) (under : List ℕ) → reverse (down_to n under) ≡ path_from n under
 path_from_is n [] = refl
 path_from_is n (m ∷ under) = ⊎_elim (λ e. rw e) (λ e. rw e (reverse-cons m (down_to n under) ∙ ap (λ (l : List ℕ). l ++ m ∷ []) (path_from_is n under))) (cases_Bool (eqb m n))

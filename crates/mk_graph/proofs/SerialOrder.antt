@@ -26,19 +26,23 @@ module _ (needs : ℕ → List ℕ) (height : ℕ → ℕ) (falls : (n p : ℕ) 
   abbrev ComeThrough : ℕ → Type 0
   ComeThrough deep = (under finished todo : List ℕ) → ((n : ℕ) → Has todo n → height n < deep) → ((m n : ℕ) → Has under m → Has todo n → height n < height m) → Walks needs under finished todo (Through (fold (visit needs deep) finished todo))
 
+  -- one level deeper
   one_level : (deep : ℕ) → ComeThrough deep → ComeThrough (suc deep)
   one_level deep below under finished [] low above = ends
   one_level deep below under finished (n ∷ todo) low above =
       let rest : (visited : List ℕ) → Walks needs under visited todo (Through (fold (visit needs (suc deep)) visited todo)) = λ visited. one_level deep below under visited todo (λ k t. low k (inr t)) (λ m k u t. above m k u (inr t)) in
       ⊎_elim (λ e. passes (Has-from_has finished n e) (subst (λ (l : List ℕ). Walks needs under finished todo (Through (fold (visit needs (suc deep)) l todo))) (sym (visit_old needs deep finished n e)) (rest finished))) (λ e. let middle = fold (visit needs deep) finished (needs n) in let here : height n < suc deep = low n (inl refl) in let new : ¬ (Has under n) = λ u. not_below_itself (height n) (above n n u (inl refl)) in let inside : Walks needs (n ∷ under) finished (needs n) (Through middle) = below (n ∷ under) finished (needs n) (λ p need. let less = falls n p need in omega arith) (λ m p u need. let less = falls n p need in elim u [ inl same ↦ subst (λ k. height p < height k) same less | inr u' ↦ let above' = above m n u' (inl refl) in omega arith ]) in finishes new (not-from_has finished n e) inside (subst (λ (l : List ℕ). Walks needs under (n ∷ middle) todo (Through (fold (visit needs (suc deep)) l todo))) (sym (visit_new needs deep finished n e)) (rest (n ∷ middle)))) (cases_Bool (has finished n))
     where
+      -- no height is below itself
       not_below_itself : (k : ℕ) → k < k → ⊥
       not_below_itself k h = omega arith
 
+  -- no node has a height below zero
   no_level : ComeThrough zero
   no_level under finished [] low above = ends
   no_level under finished (n ∷ todo) low above = let none = low n (inl refl) in absurd (omega arith)
 
+  -- at any depth
   pub come_through : (deep : ℕ) → ComeThrough deep
   come_through zero = no_level
   come_through (suc deep) = one_level deep (come_through deep)
@@ -47,18 +51,22 @@ module _ (needs : ℕ → List ℕ) (height : ℕ → ℕ) (falls : (n p : ℕ) 
 pub cut_height : (g : Graph) → HasNoCycle g → ℕ → ℕ
 cut_height g is n = cond (ltb n (length g.nodes)) (is.height n) 0
 
+-- a node keeps its height
 cut_inside : (g : Graph) (is : HasNoCycle g) (n : ℕ) → n < length g.nodes → cut_height g is n ≡ is.height n
 unfolding cut_height
 cut_inside g is n lt = cond-true (ltb n (length g.nodes)) (is.height n) 0 (lt-ltb n (length g.nodes) lt)
 
+-- what is no node has none
 cut_outside : (g : Graph) (is : HasNoCycle g) (n : ℕ) → length g.nodes ≤ n → cut_height g is n ≡ 0
 unfolding cut_height
 cut_outside g is n le = cond-false (ltb n (length g.nodes)) (is.height n) 0 (le-ltb n (length g.nodes) le)
 
+-- they are at most the number of nodes
 pub cut_low : (g : Graph) (is : HasNoCycle g) (n : ℕ) → cut_height g is n < suc (length g.nodes)
 cut_low g is n =
     ⊎_elim (λ lt. let same = cut_inside g is n lt in let low = is.low n lt in omega arith) (λ le. let same = cut_outside g is n le in omega arith) (cases_lt n (length g.nodes))
 
+-- they fall along prerequisites
 pub cut_falls : (g : Graph) (is : HasNoCycle g) (n p : ℕ) → Has (prerequisites g n) p → cut_height g is p < cut_height g is n
 cut_falls g is n p need =
     let here = cut_inside g is n (is_node g n p need) in

@@ -24,13 +24,16 @@ pub record IsUnderWay (rows : List (Vec ℕ Global)) (start : List ℕ) (goal : 
 abbrev pub work : List (Vec ℕ Global) → List Mark → List Frame → ℕ
 work rows marks frames = weight rows marks + frames_weight rows frames
 
+-- the last frame is the innermost
 newest : (frames : List Frame) (frame : Frame) → reverse (frames ++ frame ∷ []) ≡ frame ∷ reverse frames
 newest frames frame = reverse-append frames (frame ∷ [])
 
+-- the last node of an order is the newest
 newest_node : (order : List ℕ) (n : ℕ) → reverse (order ++ n ∷ []) ≡ n ∷ reverse order
 newest_node order n = reverse-append order (n ∷ [])
 
 module _ (rows : List (Vec ℕ Global)) where
+  -- what is left of a frame begins with its next prerequisite
   next_is : (frame : Frame) → frame.walked < length (row rows frame.node) → left_of (row rows) frame ≡ get_or (row rows frame.node) frame.walked 0 ∷ left_of (row rows) (advanced frame)
   next_is frame more = drop_more (row rows frame.node) frame.walked 0 more
 
@@ -44,15 +47,19 @@ module _ (rows : List (Vec ℕ Global)) where
 
   -- each step takes the innermost frame
   module _ (start : List ℕ) (goal : ℕ) (marks : List Mark) (all frames : List Frame) (frame : Frame) (order : List ℕ) (popped : all ≡ frames ++ frame ∷ []) (is : IsUnderWay rows start goal marks all order) (sizes : length marks ≡ length rows) where
+    -- the frame that was popped is the innermost
     inner : reverse all ≡ frame ∷ reverse frames
     inner = ap (λ (l : List Frame). reverse l) popped ∙ newest frames frame
 
+    -- marks agree with it and the others
     marked : AreMarks marks (frame.node ∷ nodes_of (reverse frames)) (reverse order)
     marked = subst (λ (l : List Frame). AreMarks marks (nodes_of l) (reverse order)) inner is.marked
 
+    -- the nodes of all frames are nodes
     within : All (λ (f : Frame). f.node < length rows) (frames ++ frame ∷ [])
     within = subst (λ (l : List Frame). All (λ (f : Frame). f.node < length rows) l) popped is.within
 
+    -- what is left goes on from it
     resumes : (end : Outcome) → Resumes (row rows) (frame ∷ reverse frames) (reverse order) end → Walks (row rows) [] (reverse start) (goal ∷ []) end
     resumes end r = is.resumes end (subst (λ (l : List Frame). Resumes (row rows) l (reverse order) end) (sym inner) r)
 
@@ -60,6 +67,7 @@ module _ (rows : List (Vec ℕ Global)) where
     pub node_low : frame.node < length rows
     node_low = (All-pop (λ (f : Frame). f.node < length rows) (frames ++ frame ∷ []) frames (Some frame) refl within).1
 
+    -- so are those of the other frames
     rest_low : All (λ (f : Frame). f.node < length rows) frames
     rest_low = (All-pop (λ (f : Frame). f.node < length rows) (frames ++ frame ∷ []) frames (Some frame) refl within).0
 
@@ -71,6 +79,7 @@ module _ (rows : List (Vec ℕ Global)) where
       within = rest_low;
     }
 
+    -- and less is left to do
     pub finish_less : work rows (set marks frame.node Finished) frames < work rows marks all
     finish_less =
         let changed = weight-set rows marks frame.node Finished node_low (subst (λ k. frame.node < k) (sym sizes) node_low) in
@@ -79,12 +88,15 @@ module _ (rows : List (Vec ℕ Global)) where
 
     -- one of its prerequisites is next
     module _ (p : ℕ) (more : frame.walked < length (row rows frame.node)) (next : p ≡ get_or (row rows frame.node) frame.walked 0) where
+      -- it is the first of what is left
       left : left_of (row rows) frame ≡ p ∷ left_of (row rows) (advanced frame)
       left = next_is frame more ∙ ap (λ k. k ∷ left_of (row rows) (advanced frame)) (sym next)
 
+      -- the frames with it behind them hold nodes
       advanced_low : All (λ (f : Frame). f.node < length rows) (frames ++ advanced frame ∷ [])
       advanced_low = All-push (λ (f : Frame). f.node < length rows) frames (advanced frame) rest_low node_low
 
+      -- marks agree with them
       advanced_marked : AreMarks marks (nodes_of (reverse (frames ++ advanced frame ∷ []))) (reverse order)
       advanced_marked = subst (λ (l : List Frame). AreMarks marks (nodes_of l) (reverse order)) (sym (newest frames (advanced frame))) marked
 
@@ -100,6 +112,7 @@ module _ (rows : List (Vec ℕ Global)) where
         within = advanced_low;
       }
 
+      -- and less is left to do
       pub pass_less : work rows marks (frames ++ advanced frame ∷ []) < work rows marks all
       pass_less =
           let before = sum_by_push (λ (f : Frame). suc (length (row rows f.node) - f.walked)) frames frame in
@@ -113,12 +126,15 @@ module _ (rows : List (Vec ℕ Global)) where
 
       -- it is new
       module _ (mark : get_or marks p New ≡ New) (low : p < length marks) where
+        -- it is neither under way nor finished
         news : (¬ (Has (frame.node ∷ nodes_of (reverse frames)) p)) × (¬ (Has (reverse order) p))
         news = subst (λ m. IsMark m (frame.node ∷ nodes_of (reverse frames)) (reverse order) p) mark (marked p low)
 
+        -- its frame is the innermost
         inner_two : reverse ((frames ++ advanced frame ∷ []) ++ begun p ∷ []) ≡ begun p ∷ advanced frame ∷ reverse frames
         inner_two = newest (frames ++ advanced frame ∷ []) (begun p) ∙ ap (λ (l : List Frame). begun p ∷ l) (newest frames (advanced frame))
 
+        -- its prerequisites are walked next
         pub down_step : p < length rows → IsUnderWay rows start goal (set marks p UnderWay) ((frames ++ advanced frame ∷ []) ++ begun p ∷ []) order
         down_step in_rows = record {
           resumes = λ end r. resumes end (goes_down (row rows) frame (reverse frames) (reverse order) p end left news.0 news.1 (subst (λ (l : List Frame). Resumes (row rows) l (reverse order) end) inner_two r));
@@ -126,6 +142,7 @@ module _ (rows : List (Vec ℕ Global)) where
           within = All-push (λ (f : Frame). f.node < length rows) (frames ++ advanced frame ∷ []) (begun p) advanced_low in_rows;
         }
 
+        -- and less is left to do
         pub down_less : p < length rows → work rows (set marks p UnderWay) ((frames ++ advanced frame ∷ []) ++ begun p ∷ []) < work rows marks all
         down_less in_rows =
             let changed = subst (λ m. weight rows (set marks p UnderWay) + weight_of m (row rows p) ≡ weight rows marks + 0) mark (weight-set rows marks p UnderWay in_rows low) in

@@ -59,17 +59,21 @@ module _ (needs : ℕ → List ℕ) where
   abbrev pub AreApart : (under finished : List ℕ) → Type 0
   AreApart under finished = (n : ℕ) → Has under n → ¬ (Has finished n)
 
+  -- a new node under way is apart
   apart_in : (under finished : List ℕ) (n : ℕ) → AreApart under finished → ¬ (Has finished n) → AreApart (n ∷ under) finished
   apart_in under finished n apart unfinished m (inl here) h = unfinished (subst (λ k. Has finished k) (sym here) h)
   apart_in under finished n apart unfinished m (inr there) h = apart m there h
 
+  -- so is a node behind its prerequisites
   apart_after : {under finished todo middle : List ℕ} (n : ℕ) → ¬ (Has under n) → AreApart (n ∷ under) finished → Walks needs (n ∷ under) finished todo (Through middle) → AreApart under (n ∷ middle)
   apart_after {under} n new apart w m u (inl here) = new (subst (λ k. Has under k) (sym here) u)
   apart_after n new apart w m u (inr there) = elim (stays_under w m there) [ inl was ↦ apart m (inr u) was | inr out ↦ out (inr u) ]
 
+  -- a walk that comes through closes no path
   through_closes : {A : Type 0} (finished path : List ℕ) → Through finished ≡ Closes path → A
   through_closes finished path e = absurd (cc)
 
+  -- one end has one list of finished nodes
   pub same_finished : (a b : List ℕ) → Through a ≡ Through b → a ≡ b
   same_finished a b e = cc
 
@@ -109,6 +113,7 @@ module _ (needs : ℕ → List ℕ) where
   path_from_holds P n (k ∷ under) h =
       cond_both (eqb k n) (k ∷ []) (path_from n under ++ k ∷ []) (λ (l : List ℕ). (m : ℕ) → Has l m → P m) (λ e m in_it. elim in_it [ inl here ↦ h m (inl here) | inr none ↦ absurd none ]) (λ e m in_it. elim (Has-append_cases (path_from n under) (k ∷ []) m in_it) [ inl before ↦ path_from_holds P n under (λ q u. h q (inr u)) m before | inr (inl last) ↦ h m (inl last) | inr (inr none) ↦ absurd none ])
 
+  -- what holds of all that is under way and to do holds along the closed path
   pub holds_closes : (P : ℕ → Type 0) → ((n p : ℕ) → P n → Has (needs n) p → P p) → {under finished todo path : List ℕ} → Walks needs under finished todo (Closes path) → ((n : ℕ) → Has under n → P n) → ((n : ℕ) → Has todo n → P n) → (n : ℕ) → Has path n → P n
   holds_closes P on (passes was w) u h n in_it = holds_closes P on w u (λ m t. h m (inr t)) n in_it
   holds_closes P on (closes {under} {n = m} there) u h n in_it =

@@ -41,7 +41,8 @@ impl Graph {
     /// there are over 4,096 nodes, else 42 where a path of prerequisites leads from a node to itself.
     ///
     /// The caller owes that names differ, that goals and prerequisites are places of nodes, and that
-    /// each node is reached from a goal. No nodes and no goals are a graph.
+    /// each node is reached from a goal. No nodes and no goals are a graph. The time is linear in
+    /// nodes and prerequisites, and a chain of nodes takes none of the machine's stack.
     pub fn build(alloc: Global, nodes: Vec<Node>, goals: Vec<usize>) -> Result<Graph, GraphFault>
         requires { IsSound (record { nodes = nodes.items; goals = goals.items }) }
         ensures { Builds (record { nodes = nodes.items; goals = goals.items }) result }
@@ -77,7 +78,11 @@ impl Graph {
     }
 
     /// The numbers of all nodes in the order in which a make with one job makes them: depth first,
-    /// left to right, each node after its prerequisites, once.
+    /// left to right, each node after its prerequisites, once. The prerequisites of a target are
+    /// made before it, in the order in which they appear (IEEE Std 1003.1-2024, XCU make, "Target
+    /// Rules"). `laws` says what this order keeps.
+    ///
+    /// It fails for want of memory alone.
     pub fn serial(&self, alloc: Global) -> Result<Vec<usize>, AllocError>
         ensures { IfOk result (λ order. order.items ≡ serial_order self.now) }
     {
