@@ -1,5 +1,5 @@
 -- Walks close cycles, come through without cycles, and have an end.
-use Rattle.std.proofs.Common.{ℕ, zero, suc, ◌+◌, ◌<◌, eqb, List, [], ◌∷◌, ◌++◌, length, inl, inr, ⊎_elim, refl, sym, subst, arith, eqb-true}
+use Rattle.std.proofs.Common.{true, false, ◌≡◌, ℕ, zero, suc, ◌+◌, ◌<◌, eqb, List, [], ◌∷◌, ◌++◌, length, inl, inr, ⊎_elim, refl, sym, subst, arith, eqb-true, eq-eqb}
 use Rattle.std.proofs.lemmas.Bool.{cases_Bool, cond-true, cond-false, eqb-false}
 use Rattle.mk_graph.specs.Membership.{Has, IsDistinct}
 use Rattle.mk_graph.specs.Graph.{Graph, prerequisites, Reached, goal, onward, Leads, one, then, HasNoCycle, IsSound}
@@ -43,12 +43,24 @@ module _ (g : Graph) where
   trail_on stays h = step h
   trail_on (onto t h') h = further (trail_on t h') h
 
+  -- where the innermost node is n, the path is n alone
+  ends_here : (n m : ℕ) (under : List ℕ) → eqb m n ≡ true → Trail n m (path_from n (m ∷ under))
+  ends_here n m under e =
+      let alone : path_from n (m ∷ under) ≡ m ∷ [] = cond-true (eqb m n) (m ∷ []) (path_from n under ++ m ∷ []) e in
+      subst (λ (l : List ℕ). Trail n m l) (sym alone) (subst (λ k. Trail n k (k ∷ [])) (sym (eqb-true m n e)) stays)
+
+  -- else it is that of the nodes outside, and the innermost
+  goes_out : (n m k : ℕ) (under : List ℕ) → eqb m n ≡ false → Trail n k (path_from n (k ∷ under)) → Has (prerequisites g k) m → Trail n m (path_from n (m ∷ k ∷ under))
+  goes_out n m k under e t h =
+      let longer : path_from n (m ∷ k ∷ under) ≡ path_from n (k ∷ under) ++ m ∷ [] = cond-false (eqb m n) (m ∷ []) (path_from n (k ∷ under) ++ m ∷ []) e in
+      subst (λ (l : List ℕ). Trail n m l) (sym longer) (onto t h)
+
   -- from a node that is under way to the innermost one
   trail_from : (n m : ℕ) (under : List ℕ) → Has (m ∷ under) n → IsChain (m ∷ under) → Trail n m (path_from n (m ∷ under))
   trail_from n m [] h chain =
-      ⊎_elim (λ e. subst (λ (l : List ℕ). Trail n m l) (sym (cond-true (eqb m n) (m ∷ []) ([] ++ m ∷ []) e)) (subst (λ k. Trail n k (k ∷ [])) (sym (eqb-true m n e)) stays)) (λ e. absurd (⊎_elim (eqb-false m n e) (λ none. none) h)) (cases_Bool (eqb m n))
+      ⊎_elim (λ here. ends_here n m [] (eq-eqb m n here)) (λ none. absurd none) h
   trail_from n m (k ∷ under) h chain =
-      ⊎_elim (λ e. subst (λ (l : List ℕ). Trail n m l) (sym (cond-true (eqb m n) (m ∷ []) (path_from n (k ∷ under) ++ m ∷ []) e)) (subst (λ j. Trail n j (j ∷ [])) (sym (eqb-true m n e)) stays)) (λ e. subst (λ (l : List ℕ). Trail n m l) (sym (cond-false (eqb m n) (m ∷ []) (path_from n (k ∷ under) ++ m ∷ []) e)) (onto (trail_from n k under (⊎_elim (λ here. absurd (eqb-false m n e here)) (λ there. there) h) chain.1) chain.0)) (cases_Bool (eqb m n))
+      ⊎_elim (ends_here n m (k ∷ under)) (λ e. goes_out n m k under e (trail_from n k under (⊎_elim (λ here. absurd (eqb-false m n e here)) (λ there. there) h) chain.1) chain.0) (cases_Bool (eqb m n))
 
   -- back to a node that is under way, the path is closed
   closed_along : (n : ℕ) (under : List ℕ) → Has under n → IsChain under → IsNext under n → GoesAlong g n n (closed_path n under)

@@ -1,5 +1,5 @@
 -- What is left to walk for the nodes that are under way, how much it is, and the marks.
-use Rattle.std.proofs.Common.{◌≡◌, ℕ, zero, suc, ◌+◌, ◌-◌, ◌<◌, List, [], ◌∷◌, ◌⊎◌, length, map, set, get_or, drop, sum_by, Vec, inl, inr, ⊎_elim, refl, sym, subst, arith, get_or-set_same, get_or-set_other, length-set}
+use Rattle.std.proofs.Common.{◌∙◌, ap, ◌≡◌, ℕ, zero, suc, ◌+◌, ◌-◌, ◌<◌, List, [], ◌∷◌, ◌⊎◌, length, map, set, get_or, drop, sum_by, Vec, inl, inr, ⊎_elim, refl, sym, subst, arith, get_or-set_same, get_or-set_other, length-set}
 use Rattle.std.specs.declared.alloc.Global.{Global}
 use Rattle.std.proofs.lemmas.Bool.{cases_eq}
 use Rattle.mk_graph.specs.declared.walk.Frame.{Frame}
@@ -73,15 +73,23 @@ in_rest : (n k : ℕ) (ns : List ℕ) → (k ≡ n → ⊥) → Has (n ∷ ns) k
 in_rest n k ns ne (inl here) = absurd (ne (sym here))
 in_rest n k ns ne (inr there) = there
 
+-- what a changed mark and the others say, all marks say
+mark_set : (P : Mark → Type 0) (marks : List Mark) (n k : ℕ) (mark : Mark) → n < length marks → (k ≡ n → P mark) → ((k ≡ n → ⊥) → P (get_or marks k New)) → P (get_or (set marks n mark) k New)
+mark_set P marks n k mark within here other =
+    let at_n : get_or (set marks n mark) n New ≡ mark = get_or-set_same marks n mark New within in
+    ⊎_elim (λ e. subst P (sym (ap (λ j. get_or (set marks n mark) j New) e ∙ at_n)) (here e)) (λ ne. subst P (sym (get_or-set_other marks n k mark New ne)) (other ne)) (cases_eq k n)
+
 -- a node that begins is marked so
 pub marks_begin : (marks : List Mark) (under finished : List ℕ) (n : ℕ) → n < length marks → AreMarks marks under finished → AreMarks (set marks n UnderWay) (n ∷ under) finished
 marks_begin marks under finished n within are k low =
-    ⊎_elim (λ e. let here : get_or (set marks n UnderWay) k New ≡ UnderWay = subst (λ j. get_or (set marks n UnderWay) j New ≡ UnderWay) (sym e) (get_or-set_same marks n UnderWay New within) in subst (λ m. IsMark m (n ∷ under) finished k) (sym here) (inl (sym e))) (λ ne. let same : get_or (set marks n UnderWay) k New ≡ get_or marks k New = get_or-set_other marks n k UnderWay New ne in subst (λ m. IsMark m (n ∷ under) finished k) (sym same) (other_mark (get_or marks k New) under (n ∷ under) finished finished k (λ h. inr h) (in_rest n k under ne) (λ h. h) (λ h. h) (are k (subst (λ l. k < l) (length-set marks n UnderWay) low)))) (cases_eq k n)
+    let low' : k < length marks = subst (λ l. k < l) (length-set marks n UnderWay) low in
+    mark_set (λ m. IsMark m (n ∷ under) finished k) marks n k UnderWay within (λ e. inl (sym e)) (λ ne. other_mark (get_or marks k New) under (n ∷ under) finished finished k (λ h. inr h) (in_rest n k under ne) (λ h. h) (λ h. h) (are k low'))
 
 -- a node that is finished is marked so
 pub marks_finish : (marks : List Mark) (under finished : List ℕ) (n : ℕ) → n < length marks → AreMarks marks (n ∷ under) finished → AreMarks (set marks n Finished) under (n ∷ finished)
 marks_finish marks under finished n within are k low =
-    ⊎_elim (λ e. let here : get_or (set marks n Finished) k New ≡ Finished = subst (λ j. get_or (set marks n Finished) j New ≡ Finished) (sym e) (get_or-set_same marks n Finished New within) in subst (λ m. IsMark m under (n ∷ finished) k) (sym here) (inl (sym e))) (λ ne. let same : get_or (set marks n Finished) k New ≡ get_or marks k New = get_or-set_other marks n k Finished New ne in subst (λ m. IsMark m under (n ∷ finished) k) (sym same) (other_mark (get_or marks k New) (n ∷ under) under finished (n ∷ finished) k (in_rest n k under ne) (λ h. inr h) (λ h. inr h) (in_rest n k finished ne) (are k (subst (λ l. k < l) (length-set marks n Finished) low)))) (cases_eq k n)
+    let low' : k < length marks = subst (λ l. k < l) (length-set marks n Finished) low in
+    mark_set (λ m. IsMark m under (n ∷ finished) k) marks n k Finished within (λ e. inl (sym e)) (λ ne. other_mark (get_or marks k New) (n ∷ under) under finished (n ∷ finished) k (in_rest n k under ne) (λ h. inr h) (λ h. inr h) (in_rest n k finished ne) (are k low'))
 
 -- what a node with this mark and this row has left
 abbrev pub weight_of : Mark → List ℕ → ℕ

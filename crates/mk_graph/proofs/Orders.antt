@@ -109,12 +109,30 @@ module _ (needs : ℕ → List ℕ) (done : List ℕ) (closed : (n p : ℕ) → 
   has_new visited n out undone =
       has-from_not (beside done visited ++ done) n (λ h. ⊎_elim (λ b. out (Has-from_beside done visited n b)) undone (Has-append_cases (beside done visited) done n h))
 
+  -- a visit of what was visited alone
+  one_old : (deep : ℕ) (visited : List ℕ) (n : ℕ) → has visited n ≡ true → visit needs (suc deep) (beside done visited ++ done) n ≡ beside done (visit needs (suc deep) visited n) ++ done
+  one_old deep visited n e =
+      visit_old needs deep (beside done visited ++ done) n (has_old visited n (Has-from_has visited n e)) ∙ sym (ap (λ (l : List ℕ). beside done l ++ done) (visit_old needs deep visited n e))
+
+  -- a visit of what is done
+  one_done : (deep : ℕ) (visited : List ℕ) (n : ℕ) → has visited n ≡ false → has done n ≡ true → visit needs (suc deep) (beside done visited ++ done) n ≡ beside done (visit needs (suc deep) visited n) ++ done
+  one_done deep visited n e d =
+      let found = fold (visit needs deep) visited (needs n) in
+      let there = Has-from_has done n d in
+      let alone : beside done (visit needs (suc deep) visited n) ≡ beside done visited = ap (λ (l : List ℕ). beside done l) (visit_new needs deep visited n e) ∙ beside_in done n found d ∙ adds_nothing deep visited (needs n) (λ p need. closed n p there need) in
+      visit_old needs deep (beside done visited ++ done) n (has-from_Has (beside done visited ++ done) n (Has-append_right (beside done visited) done n there)) ∙ sym (ap (λ (l : List ℕ). l ++ done) alone)
+
+  -- a visit of what is neither
+  one_new : (deep : ℕ) → AddBeside deep → (visited : List ℕ) (n : ℕ) → has visited n ≡ false → has done n ≡ false → visit needs (suc deep) (beside done visited ++ done) n ≡ beside done (visit needs (suc deep) visited n) ++ done
+  one_new deep below visited n e d =
+      let found = fold (visit needs deep) visited (needs n) in
+      let alone : beside done (visit needs (suc deep) visited n) ≡ n ∷ beside done found = ap (λ (l : List ℕ). beside done l) (visit_new needs deep visited n e) ∙ beside_out done n found d in
+      visit_new needs deep (beside done visited ++ done) n (has_new visited n (not-from_has visited n e) (not-from_has done n d)) ∙ ap (λ (l : List ℕ). n ∷ l) (below visited (needs n)) ∙ sym (ap (λ (l : List ℕ). l ++ done) alone)
+
   -- a visit of one node
   one_beside : (deep : ℕ) → AddBeside deep → (visited : List ℕ) (n : ℕ) → visit needs (suc deep) (beside done visited ++ done) n ≡ beside done (visit needs (suc deep) visited n) ++ done
   one_beside deep below visited n =
-      let both = beside done visited ++ done in
-      let found = fold (visit needs deep) visited (needs n) in
-      ⊎_elim (λ e. visit_old needs deep both n (has_old visited n (Has-from_has visited n e)) ∙ sym (ap (λ (l : List ℕ). beside done l ++ done) (visit_old needs deep visited n e))) (λ e. ⊎_elim (λ d. visit_old needs deep both n (has-from_Has both n (Has-append_right (beside done visited) done n (Has-from_has done n d))) ∙ sym (ap (λ (l : List ℕ). beside done l ++ done) (visit_new needs deep visited n e) ∙ ap (λ (l : List ℕ). l ++ done) (beside_in done n found d ∙ adds_nothing deep visited (needs n) (λ p need. closed n p (Has-from_has done n d) need)))) (λ d. visit_new needs deep both n (has_new visited n (not-from_has visited n e) (not-from_has done n d)) ∙ ap (λ (l : List ℕ). n ∷ l) (below visited (needs n)) ∙ sym (ap (λ (l : List ℕ). beside done l ++ done) (visit_new needs deep visited n e) ∙ ap (λ (l : List ℕ). l ++ done) (beside_out done n found d))) (cases_Bool (has done n))) (cases_Bool (has visited n))
+      ⊎_elim (one_old deep visited n) (λ e. ⊎_elim (one_done deep visited n e) (one_new deep below visited n e) (cases_Bool (has done n))) (cases_Bool (has visited n))
 
   -- visits one level deeper
   add_beside_deep : (deep : ℕ) → AddBeside deep → AddBeside (suc deep)
@@ -127,14 +145,23 @@ module _ (needs : ℕ → List ℕ) (done : List ℕ) (closed : (n p : ℕ) → 
   add_beside zero = add_beside_flat
   add_beside (suc deep) = add_beside_deep deep (add_beside deep)
 
--- a reversed list of what stands beside others
-beside-reverse : (other ns : List ℕ) → reverse (beside other ns) ≡ beside (reverse other) (reverse ns)
-beside-reverse other [] = refl
-beside-reverse other (n ∷ ns) =
-    let agree : (l : List ℕ) → beside other l ≡ beside (reverse other) l = λ l. filter_agree (λ k. not (has other k)) (λ k. not (has (reverse other) k)) (λ k. ap not (sym (has-reverse other k))) l in
-    let pushed : beside (reverse other) (reverse (n ∷ ns)) ≡ beside (reverse other) (reverse ns) ++ beside other (n ∷ []) = ap (λ (l : List ℕ). beside (reverse other) l) (reverse-cons n ns) ∙ filter-append (λ k. not (has (reverse other) k)) (reverse ns) (n ∷ []) ∙ ap (λ (l : List ℕ). beside (reverse other) (reverse ns) ++ l) (sym (agree (n ∷ []))) in
-    let rest = beside-reverse other ns in
-    ⊎_elim (λ e. ap (λ (l : List ℕ). reverse l) (beside_in other n ns e) ∙ rest ∙ sym (append-nil (beside (reverse other) (reverse ns))) ∙ sym (pushed ∙ ap (λ (l : List ℕ). beside (reverse other) (reverse ns) ++ l) (beside_in other n [] e))) (λ e. ap (λ (l : List ℕ). reverse l) (beside_out other n ns e) ∙ reverse-cons n (beside other ns) ∙ ap (λ (l : List ℕ). l ++ n ∷ []) rest ∙ sym (pushed ∙ ap (λ (l : List ℕ). beside (reverse other) (reverse ns) ++ l) (beside_out other n [] e))) (cases_Bool (has other n))
+-- beside the others, in whichever order they stand
+beside_agree : (other ns : List ℕ) → beside (reverse other) ns ≡ beside other ns
+beside_agree other ns = filter_agree (λ k. not (has (reverse other) k)) (λ k. not (has other k)) (λ k. ap not (has-reverse other k)) ns
+
+-- what stands beside others of a list, the other way round
+beside_turned : (other : List ℕ) (n : ℕ) (ns : List ℕ) → beside other (reverse (n ∷ ns)) ≡ beside other (reverse ns) ++ beside other (n ∷ [])
+beside_turned other n ns = ap (λ (l : List ℕ). beside other l) (reverse-cons n ns) ∙ filter-append (λ k. not (has other k)) (reverse ns) (n ∷ [])
+
+-- the same for the whole list
+reverse-beside : (other ns : List ℕ) → reverse (beside other ns) ≡ beside other (reverse ns)
+reverse-beside other [] = refl
+reverse-beside other (n ∷ ns) =
+    let rest = reverse-beside other ns in
+    let front = beside other (reverse ns) in
+    let dropped = λ (e : has other n ≡ true). ap (λ (l : List ℕ). reverse l) (beside_in other n ns e) ∙ rest ∙ sym (beside_turned other n ns ∙ ap (λ (l : List ℕ). front ++ l) (beside_in other n [] e) ∙ append-nil front) in
+    let kept = λ (e : has other n ≡ false). ap (λ (l : List ℕ). reverse l) (beside_out other n ns e) ∙ reverse-cons n (beside other ns) ∙ ap (λ (l : List ℕ). l ++ n ∷ []) rest ∙ sym (beside_turned other n ns ∙ ap (λ (l : List ℕ). front ++ l) (beside_out other n [] e)) in
+    ⊎_elim dropped kept (cases_Bool (has other n))
 
 -- visits of the others begin with what the first goals reach
 pub goals_decide_what_comes_first : GoalsDecideWhatComesFirst
@@ -144,4 +171,4 @@ goals_decide_what_comes_first g is first others =
     let done = fold step [] first in
     let closed : (n p : ℕ) → Has done n → Has (prerequisites g n) p → Has done p = λ n p h need. ordered_needs (prerequisites g) done n p (visits_ordered g is first) h need in
     let both : fold step [] (first ++ others) ≡ beside done (fold step [] others) ++ done = fold-append step [] first others ∙ add_beside (prerequisites g) done closed (suc (length g.nodes)) [] others in
-    ap (λ (l : List ℕ). reverse l) both ∙ reverse-append (beside done (fold step [] others)) done ∙ ap (λ (l : List ℕ). reverse done ++ l) (beside-reverse done (fold step [] others))
+    ap (λ (l : List ℕ). reverse l) both ∙ reverse-append (beside done (fold step [] others)) done ∙ ap (λ (l : List ℕ). reverse done ++ l) (reverse-beside done (fold step [] others) ∙ sym (beside_agree done (reverse (fold step [] others))))

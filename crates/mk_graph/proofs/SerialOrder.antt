@@ -21,21 +21,41 @@ pub visit_new : (needs : ℕ → List ℕ) (deep : ℕ) (visited : List ℕ) (n 
 unfolding visit
 visit_new needs deep visited n e = cond-false (has visited n) visited (n ∷ fold (visit needs deep) visited (needs n)) e
 
+module _ (needs : ℕ → List ℕ) (deep : ℕ) (under finished todo : List ℕ) (n : ℕ) where
+  -- a walk passes over what was visited before
+  passes_old : has finished n ≡ true → Walks needs under finished todo (Through (fold (visit needs (suc deep)) finished todo)) → Walks needs under finished (n ∷ todo) (Through (fold (visit needs (suc deep)) finished (n ∷ todo)))
+  passes_old e w =
+      passes (Has-from_has finished n e) (subst (λ (l : List ℕ). Walks needs under finished todo (Through (fold (visit needs (suc deep)) l todo))) (sym (visit_old needs deep finished n e)) w)
+
+  -- and finishes what was not
+  finishes_new : has finished n ≡ false → ¬ (Has under n) → Walks needs (n ∷ under) finished (needs n) (Through (fold (visit needs deep) finished (needs n))) → ((visited : List ℕ) → Walks needs under visited todo (Through (fold (visit needs (suc deep)) visited todo))) → Walks needs under finished (n ∷ todo) (Through (fold (visit needs (suc deep)) finished (n ∷ todo)))
+  finishes_new e new inside rest =
+      let middle = fold (visit needs deep) finished (needs n) in
+      finishes new (not-from_has finished n e) inside (subst (λ (l : List ℕ). Walks needs under (n ∷ middle) todo (Through (fold (visit needs (suc deep)) l todo))) (sym (visit_new needs deep finished n e)) (rest (n ∷ middle)))
+
+-- no height is below itself
+not_below_itself : (k : ℕ) → k < k → ⊥
+not_below_itself k h = omega arith
+
 module _ (needs : ℕ → List ℕ) (height : ℕ → ℕ) (falls : (n p : ℕ) → Has (needs n) p → height p < height n) where
   -- visits of nodes below a height are a walk
   abbrev ComeThrough : ℕ → Type 0
   ComeThrough deep = (under finished todo : List ℕ) → ((n : ℕ) → Has todo n → height n < deep) → ((m n : ℕ) → Has under m → Has todo n → height n < height m) → Walks needs under finished todo (Through (fold (visit needs deep) finished todo))
+
+  -- prerequisites are below all that is under way
+  below_all : (under : List ℕ) (n : ℕ) → ((m : ℕ) → Has under m → height n < height m) → (m p : ℕ) → Has (n ∷ under) m → Has (needs n) p → height p < height m
+  below_all under n above m p (inl same) need = subst (λ k. height p < height k) same (falls n p need)
+  below_all under n above m p (inr there) need = let less = falls n p need in let above' = above m there in omega arith
 
   -- one level deeper
   one_level : (deep : ℕ) → ComeThrough deep → ComeThrough (suc deep)
   one_level deep below under finished [] low above = ends
   one_level deep below under finished (n ∷ todo) low above =
       let rest : (visited : List ℕ) → Walks needs under visited todo (Through (fold (visit needs (suc deep)) visited todo)) = λ visited. one_level deep below under visited todo (λ k t. low k (inr t)) (λ m k u t. above m k u (inr t)) in
-      ⊎_elim (λ e. passes (Has-from_has finished n e) (subst (λ (l : List ℕ). Walks needs under finished todo (Through (fold (visit needs (suc deep)) l todo))) (sym (visit_old needs deep finished n e)) (rest finished))) (λ e. let middle = fold (visit needs deep) finished (needs n) in let here : height n < suc deep = low n (inl refl) in let new : ¬ (Has under n) = λ u. not_below_itself (height n) (above n n u (inl refl)) in let inside : Walks needs (n ∷ under) finished (needs n) (Through middle) = below (n ∷ under) finished (needs n) (λ p need. let less = falls n p need in omega arith) (λ m p u need. let less = falls n p need in elim u [ inl same ↦ subst (λ k. height p < height k) same less | inr u' ↦ let above' = above m n u' (inl refl) in omega arith ]) in finishes new (not-from_has finished n e) inside (subst (λ (l : List ℕ). Walks needs under (n ∷ middle) todo (Through (fold (visit needs (suc deep)) l todo))) (sym (visit_new needs deep finished n e)) (rest (n ∷ middle)))) (cases_Bool (has finished n))
-    where
-      -- no height is below itself
-      not_below_itself : (k : ℕ) → k < k → ⊥
-      not_below_itself k h = omega arith
+      let here : height n < suc deep = low n (inl refl) in
+      let over : (m : ℕ) → Has under m → height n < height m = λ m u. above m n u (inl refl) in
+      let inside : Walks needs (n ∷ under) finished (needs n) (Through (fold (visit needs deep) finished (needs n))) = below (n ∷ under) finished (needs n) (λ p need. let less = falls n p need in omega arith) (below_all under n over) in
+      ⊎_elim (λ e. passes_old needs deep under finished todo n e (rest finished)) (λ e. finishes_new needs deep under finished todo n e (λ u. not_below_itself (height n) (over n u)) inside rest) (cases_Bool (has finished n))
 
   -- no node has a height below zero
   no_level : ComeThrough zero
