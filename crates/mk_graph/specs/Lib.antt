@@ -3,3 +3,5 @@ pub mod Membership
 pub mod Serial
 pub mod Walk
 pub mod Build
+pub mod Progress
+pub mod Laws

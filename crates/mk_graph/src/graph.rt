@@ -1,12 +1,15 @@
 //! A makefile's graph.
 
-ghost use Rattle.std.specs.Prelude.{◌≡◌, IfOk};
-ghost use Rattle.mk_graph.specs.Graph.{IsGraph, IsSound};
+ghost use Rattle.std.specs.Prelude.{◌≡◌, ◌<◌, All, length, map, slice_index_or, IfOk};
+ghost use Rattle.mk_graph.specs.Graph.{IsGraph, IsSound, no_node};
 ghost use Rattle.mk_graph.specs.Build.{Builds};
 ghost use Rattle.mk_graph.specs.Serial.{serial_order};
 
 use crate::fault::GraphFault;
+use crate::name::Names;
 use crate::node::Node;
+use crate::prerequisites::rows_of;
+use crate::walk::{End, walk};
 use std::alloc::{AllocError, Global};
 use std::marker::Model;
 
@@ -38,13 +41,24 @@ impl Graph {
     /// there are over 4,096 nodes, else 42 where a path of prerequisites leads from a node to itself.
     ///
     /// The caller owes that names differ, that goals and prerequisites are places of nodes, and that
-    /// each node is reached from a goal. No nodes and no goals are a graph.
+    /// each node is reached from a goal. No nodes and no goals are a graph. The time is linear in
+    /// nodes and prerequisites, and a chain of nodes takes none of the machine's stack.
     pub fn build(alloc: Global, nodes: Vec<Node>, goals: Vec<usize>) -> Result<Graph, GraphFault>
         requires { IsSound (record { nodes = nodes.items; goals = goals.items }) }
         ensures { Builds (record { nodes = nodes.items; goals = goals.items }) result }
     {
-        let _ = (alloc, nodes, goals);
-        Err(GraphFault::Memory)
+        if nodes.len() > MAX_NODES {
+            return Err(GraphFault::TooManyNodes);
+        }
+        let rows = rows_of(alloc, &nodes)?;
+        match walk(alloc, &rows, &goals)? {
+            End::Order(order) => Ok(Graph {
+                nodes,
+                goals,
+                order,
+            }),
+            End::Cycle(path) => Err(GraphFault::Cycle(names_along(alloc, &nodes, &path)?)),
+        }
     }
 
     /// The nodes, each at its number.
@@ -64,10 +78,26 @@ impl Graph {
     }
 
     /// The numbers of all nodes in the order in which a make with one job makes them: depth first,
-    /// left to right, each node after its prerequisites, once.
+    /// left to right, each node after its prerequisites, once. The prerequisites of a target are
+    /// made before it, in the order in which they appear (IEEE Std 1003.1-2024, XCU make, "Target
+    /// Rules"). `laws` says what this order keeps.
+    ///
+    /// It fails for want of memory alone.
     pub fn serial(&self, alloc: Global) -> Result<Vec<usize>, AllocError>
         ensures { IfOk result (λ order. order.items ≡ serial_order self.now) }
     {
         Vec::from_slice(alloc, &self.order)
     }
+}
+
+/// The names of the nodes along a path.
+fn names_along(alloc: Global, nodes: &[Node], path: &[usize]) -> Result<Names, AllocError>
+    requires { All (λ n. n < length nodes.now) path.now }
+    ensures { IfOk result (λ names. names ≡ map (λ n. (slice_index_or nodes.now n no_node).name) path.now) }
+{
+    let mut names = Vec::with_capacity(alloc, path.len())?;
+    for n in path {
+        names.push(nodes[*n].name.clone()?)?;
+    }
+    Ok(Names::new(names))
 }

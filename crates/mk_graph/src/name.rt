@@ -46,6 +46,16 @@ impl Name {
     }
 }
 
+impl Clone for Name {
+    ghost is_clone = { λ name copy. copy ≡ name };
+
+    fn clone(&self) -> Result<Name, AllocError> {
+        Ok(Name {
+            text: self.text.clone()?,
+        })
+    }
+}
+
 /// Names in their order. A contract sees a list of lists of bytes.
 #[derive(Debug, Drop)]
 pub struct Names {

@@ -1,0 +1,12 @@
+pub mod Members
+pub mod Walks
+pub mod Frames
+pub mod Paths
+pub mod Steps
+pub mod Goals
+pub mod Acyclic
+pub mod SerialOrder
+pub mod Building
+pub mod Orders
+pub mod Cycles
+pub mod Fixtures

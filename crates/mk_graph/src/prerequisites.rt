@@ -1,0 +1,29 @@
+//! The prerequisites of each node, all groups in one row.
+
+ghost use Rattle.std.specs.Prelude.{◌≡◌, map, IfOk};
+ghost use Rattle.std.specs.List.{flat_map};
+
+use crate::node::Node;
+use std::alloc::{AllocError, Global};
+
+/// A row for each node: its prerequisites, in the order of its groups.
+pub fn rows_of(alloc: Global, nodes: &[Node]) -> Result<Vec<Vec<usize>>, AllocError>
+    ensures { IfOk result (λ rows. map (λ row. row.items) rows.items ≡ map (λ node. flat_map (λ group. group) node.groups) nodes.now) }
+{
+    let mut rows = Vec::with_capacity(alloc, nodes.len())?;
+    for node in nodes {
+        rows.push(joined(alloc, node.groups.as_slice())?)?;
+    }
+    Ok(rows)
+}
+
+/// The members of all groups, one group after another.
+fn joined(alloc: Global, groups: &[Vec<usize>]) -> Result<Vec<usize>, AllocError>
+    ensures { IfOk result (λ row. row.items ≡ flat_map (λ group. group) (map (λ group. group.items) groups.now)) }
+{
+    let mut row = Vec::new(alloc);
+    for group in groups {
+        row.extend_from_slice(group)?;
+    }
+    Ok(row)
+}
