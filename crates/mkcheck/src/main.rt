@@ -1,6 +1,9 @@
 //! The makefile checker.
 #![tactic(auto)]
 
+mod command;
+mod disk;
+mod run;
 mod slurp;
 
 use std::io;

@@ -1,0 +1,27 @@
+-- The command line as data.
+use Rattle.std.specs.Prelude.{ℕ, ◌-◌, ◌^◌, true, Some, codes}
+use Rattle.clap.specs.Words.{App, Rule, new_app, new_rule, with_rule, with_subcommand}
+
+-- `-f F`, once at most
+abbrev pub makefile_option : Rule
+makefile_option = record (new_rule (codes "makefile")) { short = Some 102; value_names = 1 }
+
+-- `[WORD..]`
+abbrev pub words_argument : Rule
+words_argument = record (new_rule (codes "words")) { range = Some (record { start_inclusive = 0; end_inclusive = 18446744073709551615 }); value_names = 1 }
+
+-- `graph [-f F] [WORD..]`
+abbrev pub graph_command : App
+graph_command = with_rule (with_rule (new_app (codes "graph")) makefile_option) words_argument
+
+-- `mkcheck`, with a version
+abbrev pub named_program : App
+named_program = let app = new_app (codes "mkcheck") in record app { top = record (app.top) { has_version = true } }
+
+-- the words stand behind the program's name, and one of them is the name of a subcommand
+abbrev pub program : App
+program = record named_program { top = record (named_program.top) { no_binary_name = true; subcommand_required = true; disable_help_subcommand = true } }
+
+-- `mkcheck graph [-f F] [WORD..]`
+abbrev pub command_line : App
+command_line = with_subcommand program graph_command.top
