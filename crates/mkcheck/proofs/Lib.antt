@@ -1,1 +1,2 @@
 mod ReaderLemmas
+mod RunLemmas

@@ -39,7 +39,8 @@ fn graph_command<'a>(alloc: Global) -> Result<Command<'a>, AllocError>
 }
 
 fn named_program<'a>(alloc: Global) -> Command<'a>
-    ensures { app_of result ≡ named_program }
+    ensures app { app_of result ≡ named_program }
+    ensures local { (fields_of result).has_globals ≡ false }
 {
     Command::new(alloc, "mkcheck")
         .version("0.1.0")
@@ -48,7 +49,8 @@ fn named_program<'a>(alloc: Global) -> Command<'a>
 }
 
 fn program<'a>(alloc: Global) -> Command<'a>
-    ensures { app_of result ≡ program }
+    ensures app { app_of result ≡ program }
+    ensures local { (fields_of result).has_globals ≡ false }
 {
     named_program(alloc)
         .no_binary_name(true)
@@ -58,7 +60,8 @@ fn program<'a>(alloc: Global) -> Command<'a>
 
 /// The command line of the program, which reads the words behind the program's name.
 pub fn command_line<'a>(alloc: Global) -> Result<Command<'a>, AllocError>
-    ensures { IfOk result (λ c. app_of c ≡ command_line) }
+    ensures app { IfOk result (λ c. app_of c ≡ command_line) }
+    ensures local { IfOk result (λ c. (fields_of c).has_globals ≡ false) }
 {
     program(alloc).subcommand(graph_command(alloc)?)
 }

@@ -1,14 +1,16 @@
 //! A run of the program, from the words of its command line to what it writes.
 
-ghost use Rattle.std.specs.Prelude.{◌≡◌, ◌≢◌, ◌<◌, ◌^◌, ◌-◌, [], map, IfOk};
-ghost use Rattle.clap.specs.Words.{found_of, kind_of, rows_of};
+ghost use Rattle.std.specs.Prelude.{◌≡◌, ◌≢◌, ◌<◌, ◌^◌, ◌-◌, [], true, codes, map, unwrap_or, IfOk};
+ghost use Rattle.std.specs.Option.{option_map_or};
+ghost use Rattle.clap.specs.Words.{all_of, first_of, found_of, has_subcommand, kind_of, rows_of, subcommand_rows_of};
+ghost use Rattle.mk_core.specs.Words.{goals_of, operands_of};
 ghost use Rattle.mk_core.specs.Outcome.{seen};
 ghost use Rattle.mkcheck.specs.Run.{Explains, IsAnswered, IsRefused, Shows, faults_of, is_want_of_memory, request_of, requested, written};
 
 use crate::command::command_line;
 use clap::error::ErrorKind;
 use clap::{ArgMatches, Error};
-use mk_core::{Fault, Files, Name, Request, fault_text, graph_text, split_words};
+use mk_core::{Fault, Files, Name, Names, Request, fault_text, graph_text, split_words};
 use mk_graph::GraphFault;
 use std::alloc::{AllocError, Global};
 use std::convert::AsStr;
@@ -68,21 +70,80 @@ fn explained(alloc: Global, error: &Error) -> Result<Outcome, AllocError>
     }
 }
 
+// The makefile that `-f` names.
+fn named_makefile(alloc: Global, matches: &ArgMatches<'_>) -> Result<Option<Name>, AllocError>
+    ensures { IfOk result (λ name. name ≡ first_of (codes "makefile") (rows_of (found_of matches.now))) }
+{
+    match matches.get_str("makefile") {
+        Some(name) => Ok(Some(Name::new(alloc, name)?)),
+        None => Ok(None),
+    }
+}
+
+// The macro operands and the goals among the words.
+fn given_words(alloc: Global, matches: &ArgMatches<'_>) -> Result<(Names, Names), AllocError>
+    ensures operands { IfOk result (λ r. r.0 ≡ operands_of (unwrap_or (all_of (codes "words") (rows_of (found_of matches.now))) [])) }
+    ensures goals { IfOk result (λ r. r.1 ≡ goals_of (unwrap_or (all_of (codes "words") (rows_of (found_of matches.now))) [])) }
+{
+    match matches.get_strs("words") {
+        Some(words) => split_words(alloc, words),
+        None => split_words(alloc, &[]),
+    }
+}
+
 // The request that the matches of `graph` make.
 fn requested(alloc: Global, matches: &ArgMatches<'_>) -> Result<Request, AllocError>
     ensures { IfOk result (λ request. request ≡ requested (rows_of (found_of matches.now))) }
 {
-    let makefile = match matches.get_str("makefile") {
-        Some(name) => Some(Name::new(alloc, name)?),
-        None => None,
-    };
-    let (operands, goals) = match matches.get_strs("words") {
-        Some(words) => split_words(alloc, words)?,
-        None => split_words(alloc, &[])?,
-    };
+    let makefile = named_makefile(alloc, matches)?;
+    let (operands, goals) = given_words(alloc, matches)?;
     Ok(Request {
         makefile,
         operands,
         goals,
     })
+}
+
+// The answer to the request that the matches of the command line make.
+fn answered<F: Files>(
+    alloc: Global,
+    files: &mut F,
+    matches: &ArgMatches<'_>,
+) -> Result<Outcome, AllocError>
+    requires room { F.failed files.old < 2 ^ 64 - 1 }
+    requires met { has_subcommand matches.now ≡ true }
+    ensures map { F.told files.new ≡ F.told files.old }
+    ensures answered { IfOk result (λ outcome. IsAnswered (F.told files.old) (F.failed files.old) (F.failed files.new)
+        (requested (option_map_or (λ met. met.1) (subcommand_rows_of matches.now) [])) (written outcome)) }
+{
+    let (_, graph) = matches.subcommand().unwrap();
+    let request = requested(alloc, graph)?;
+    let answer = graph_text(alloc, files, &request);
+    shown(alloc, answer)
+}
+
+/// Reads the words behind the program's name, and answers the request that they make.
+pub fn run<F: Files, S: AsStr>(
+    alloc: Global,
+    files: &mut F,
+    words: &[S],
+) -> Result<Outcome, AllocError>
+    requires { F.failed files.old < 2 ^ 64 - 1 }
+    ensures map { F.told files.new ≡ F.told files.old }
+
+    // Words that the command line takes make a request, which is answered.
+    ensures taken { IfOk result (λ outcome. faults_of (map S.text words.now) ≡ [] →
+        IsAnswered (F.told files.old) (F.failed files.old) (F.failed files.new)
+        (request_of (map S.text words.now)) (written outcome)) }
+
+    // Others are refused, and nothing is read.
+    ensures refused { IfOk result (λ outcome. faults_of (map S.text words.now) ≢ [] →
+        IsRefused (faults_of (map S.text words.now)) (written outcome)
+        × (F.failed files.new ≡ F.failed files.old)) }
+{
+    let command = command_line(alloc)?;
+    match command.try_get_matches_from(words) {
+        Ok(matches) => answered(alloc, files, &matches),
+        Err(error) => explained(alloc, &error),
+    }
 }

@@ -1,0 +1,27 @@
+use Rattle.std.proofs.Common.{◌≡◌, ◌∙◌, [], ap, subst, map, refl}
+use Rattle.std.proofs.lemmas.Result.{IfOk-weaker}
+use Rattle.clap.specs.Words.{App, HasKind, IsAmong, fault_of, is_simple_and_free, kind_of}
+use Rattle.mkcheck.specs.Run.{written}
+use Rattle.mkcheck.proofs.RunLemmas.{IfOk-each, explained_kind, is_simple_line}
+use Rattle.mkcheck.proofs.run.run.Goals as goal
+
+pub returns-in-Ok-clause-refused : goal.returns-in-Ok-clause-refused
+returns-in-Ok-clause-refused g c =
+    let app = c.in_ok-command.ensures.app in
+    let words = map g.S.AsStr.text c.args.words.now in
+    let none = subst (λ (a : App). fault_of a words ≡ []) app (c.in-Ok.ensures.kinds (ap is_simple_and_free app ∙ is_simple_line)) in
+    IfOk-each c.answered.result _ (λ outcome some. absurd (some none))
+
+pub returns-in-Err-clause-taken : goal.returns-in-Err-clause-taken
+returns-in-Err-clause-taken g c =
+    let app = c.in_ok-command.ensures.app in
+    let words = map g.S.AsStr.text c.args.words.now in
+    let kinds = subst (λ (a : App). HasKind (fault_of a words) c.in-Err.error) app (c.in-Err.ensures.kinds (ap is_simple_and_free app ∙ is_simple_line)) in
+    IfOk-weaker c.explained.result _ _ (λ outcome h none. absurd (subst (IsAmong (kind_of c.in-Err.error)) none (explained_kind _ _ _ h kinds))) c.explained.ensures
+
+pub returns-in-Err-clause-refused : goal.returns-in-Err-clause-refused
+returns-in-Err-clause-refused g c =
+    let app = c.in_ok-command.ensures.app in
+    let words = map g.S.AsStr.text c.args.words.now in
+    let kinds = subst (λ (a : App). HasKind (fault_of a words) c.in-Err.error) app (c.in-Err.ensures.kinds (ap is_simple_and_free app ∙ is_simple_line)) in
+    IfOk-weaker c.explained.result _ _ (λ outcome h some. ((kind_of c.in-Err.error, explained_kind _ _ _ h kinds, h), refl)) c.explained.ensures
