@@ -1,13 +1,43 @@
-//! The makefile checker.
+//! The makefile checker: reads the words of its command line, and answers them.
 #![tactic(auto)]
 
 mod command;
 mod disk;
+mod ending;
 mod run;
 mod slurp;
 
+use disk::Disk;
+use ending::{end, end_without_memory, end_without_words};
+use run::run;
+use std::alloc::Global;
+use std::env;
+use std::env::Env;
 use std::io;
+use std::process::ExitCode;
 
-fn main(rt: HostRuntime) -> io::Result<()> {
-    println!(rt; "mkcheck")
+// The words behind the program's name.
+fn words<R: Env + AllocGlobal>(rt: &R) -> io::Result<Vec<String>> {
+    let mut args = env::args(rt)?;
+    let _ = args.next();
+    Ok(args.collect(rt.alloc())?)
+}
+
+fn main(rt: HostRuntime) -> ExitCode {
+    let mut err = rt.stderr();
+    let words = match words(&rt) {
+        Ok(words) => words,
+        Err(error) => {
+            let status = match error.kind() {
+                io::ErrorKind::OutOfMemory => end_without_memory(&mut err),
+                _ => end_without_words(&mut err),
+            };
+            return ExitCode::from(status);
+        }
+    };
+    let status = match run(rt.alloc(), &mut Disk::new(&rt), words.as_slice()) {
+        Ok(outcome) => end(&mut rt.stdout(), &mut err, &outcome),
+        Err(_) => end_without_memory(&mut err),
+    };
+    ExitCode::from(status)
 }
