@@ -1,5 +1,5 @@
 -- The command line as data.
-use Rattle.std.specs.Prelude.{ℕ, ◌-◌, ◌^◌, true, Some, codes}
+use Rattle.std.specs.Prelude.{true, Some, codes}
 use Rattle.clap.specs.Words.{App, Rule, new_app, new_rule, with_rule, with_subcommand}
 
 -- `-f F`, once at most
@@ -10,9 +10,13 @@ makefile_option = record (new_rule (codes "makefile")) { short = Some 102; value
 abbrev pub words_argument : Rule
 words_argument = record (new_rule (codes "words")) { range = Some (record { start_inclusive = 0; end_inclusive = 18446744073709551615 }); value_names = 1 }
 
+-- `graph`
+abbrev pub named_graph : App
+named_graph = new_app (codes "graph")
+
 -- `graph [-f F] [WORD..]`
 abbrev pub graph_command : App
-graph_command = with_rule (with_rule (new_app (codes "graph")) makefile_option) words_argument
+graph_command = with_rule (with_rule named_graph makefile_option) words_argument
 
 -- `mkcheck`, with a version
 abbrev pub named_program : App

@@ -6,15 +6,16 @@ mod disk;
 mod ending;
 mod run;
 mod slurp;
+#[cfg(test)]
+mod tests;
 
 use disk::Disk;
 use ending::{end, end_without_memory, end_without_words};
 use run::run;
 use std::alloc::Global;
-use std::env;
 use std::env::Env;
-use std::io;
 use std::process::ExitCode;
+use std::{env, io};
 
 // The words behind the program's name.
 fn words<R: Env + AllocGlobal>(rt: &R) -> io::Result<Vec<String>> {

@@ -38,7 +38,11 @@ fn shown(alloc: Global, answer: Result<Vec<u8>, Fault>) -> Result<Outcome, Alloc
 {
     let err = String::new(alloc);
     match answer {
-        Ok(out) => Ok(Outcome { out, err, status: 0 }),
+        Ok(out) => Ok(Outcome {
+            out,
+            err,
+            status: 0,
+        }),
         Err(fault) => {
             if is_want_of_memory(&fault) {
                 return Err(AllocError);
@@ -46,7 +50,11 @@ fn shown(alloc: Global, answer: Result<Vec<u8>, Fault>) -> Result<Outcome, Alloc
             let mut line = fault_text(alloc, &fault)?;
             line.push('\n')?;
             let out = line.into_bytes();
-            Ok(Outcome { out, err, status: 2 })
+            Ok(Outcome {
+                out,
+                err,
+                status: 2,
+            })
         }
     }
 }
