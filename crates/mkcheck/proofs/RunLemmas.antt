@@ -1,5 +1,5 @@
 -- What the parts of a run make together.
-use Rattle.std.proofs.Common.{◌≡◌, ◌⊎◌, ℕ, List, [], ◌∷◌, true, false, refl, subst, inl, inr, Result, Ok, Err, IfOk}
+use Rattle.std.proofs.Common.{◌≡◌, ◌⊎◌, true, refl, subst, inl, inr, Result, Ok, Err, IfOk}
 use Rattle.clap.specs.Words.{IsAmong, Kinds, is_simple_and_free}
 use Rattle.clap.specs.declared.error.ErrorKind.{ErrorKind}
 use Rattle.clap.specs.declared.error.ErrorKind.TheVariants.{OutOfMemory}

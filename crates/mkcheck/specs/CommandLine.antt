@@ -1,5 +1,5 @@
 -- The command line as data.
-use Rattle.std.specs.Prelude.{true, Some, codes}
+use Rattle.std.specs.Prelude.{ℕ, ◌==◌, Bool, true, false, List, [], ◌∷◌, Some, codes}
 use Rattle.clap.specs.Words.{App, Rule, new_app, new_rule, with_rule, with_subcommand}
 
 -- `-f F`, once at most
@@ -29,3 +29,9 @@ program = record named_program { top = record (named_program.top) { no_binary_na
 -- `mkcheck graph [-f F] [WORD..]`
 abbrev pub command_line : App
 command_line = with_subcommand program graph_command.top
+
+-- a word of `-` and more is read as an option, or as `--`
+abbrev pub is_option : List ℕ → Bool
+is_option [] = false
+is_option (b ∷ []) = false
+is_option (b ∷ c ∷ rest) = b == 45

@@ -8,12 +8,19 @@ ghost use Rattle.mk_core.specs.Outcome.{seen};
 ghost use Rattle.mkcheck.specs.Run.{Explains, IsAnswered, IsRefused, Shows, faults_of, is_want_of_memory, request_of, requested, written};
 
 use crate::command::command_line;
+use crate::ending::FAULT;
 use clap::error::ErrorKind;
 use clap::{ArgMatches, Error};
 use mk_core::{Fault, Files, Name, Names, Request, fault_text, graph_text, split_words};
 use mk_graph::GraphFault;
 use std::alloc::{AllocError, Global};
 use std::convert::AsStr;
+
+/// The exit status of an answer, and of help.
+pub const DONE: u8 = 0;
+
+/// The exit status of a refusal.
+pub const REFUSED: u8 = 2;
 
 /// What a run of the program writes, and its exit status.
 #[derive(Debug, Drop)]
@@ -41,7 +48,7 @@ fn shown(alloc: Global, answer: Result<Vec<u8>, Fault>) -> Result<Outcome, Alloc
         Ok(out) => Ok(Outcome {
             out,
             err,
-            status: 0,
+            status: DONE,
         }),
         Err(fault) => {
             if is_want_of_memory(&fault) {
@@ -53,7 +60,7 @@ fn shown(alloc: Global, answer: Result<Vec<u8>, Fault>) -> Result<Outcome, Alloc
             Ok(Outcome {
                 out,
                 err,
-                status: 2,
+                status: REFUSED,
             })
         }
     }
@@ -68,12 +75,12 @@ fn explained(alloc: Global, error: &Error) -> Result<Outcome, AllocError>
         ErrorKind::DisplayHelp | ErrorKind::DisplayVersion => Ok(Outcome {
             out: error.to_string(alloc)?.into_bytes(),
             err: String::new(alloc),
-            status: 0,
+            status: DONE,
         }),
         _ => Ok(Outcome {
             out: Vec::new(alloc),
             err: error.to_string(alloc)?,
-            status: 2,
+            status: FAULT,
         }),
     }
 }

@@ -1,7 +1,6 @@
 use Rattle.std.proofs.Common.{◌≡◌, ◌∙◌, [], ap, subst, map, refl}
 use Rattle.std.proofs.lemmas.Result.{IfOk-weaker}
 use Rattle.clap.specs.Words.{App, HasKind, IsAmong, fault_of, is_simple_and_free, kind_of}
-use Rattle.mkcheck.specs.Run.{written}
 use Rattle.mkcheck.proofs.RunLemmas.{IfOk-each, explained_kind, is_simple_line}
 use Rattle.mkcheck.proofs.run.run.Goals as goal
 

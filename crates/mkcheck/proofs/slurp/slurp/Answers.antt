@@ -1,4 +1,4 @@
-use Rattle.std.proofs.Common.{◌≡◌, ◌≤◌, ◌+◌, ℕ, List, ◌++◌, ◌∙◌, length, rules, arith, ap, length-append, length-take, length-drop, drop}
+use Rattle.std.proofs.Common.{◌≡◌, ◌++◌, ◌∙◌, length, rules, arith, ap, length-append, length-take, length-drop, drop}
 use Rattle.mkcheck.proofs.ReaderLemmas.{grown_text, kept_text, taken_more}
 use Rattle.mkcheck.proofs.slurp.slurp.Goals as goal
 use Rattle.mkcheck.proofs.slurp.slurp.Goals.{in-Ok+in_ok-extend_from_slice-in-Ok+else-len-gt-MAX_FILE, in-Err+else-ne}
