@@ -35,11 +35,13 @@ faults_of words = fault_of command_line words
 abbrev pub rows_of_graph : List Text → List Row
 rows_of_graph words = option_map_or (λ met. met.1) (subcommand_of command_line words) []
 
+-- the request for this makefile, with macro operands and goals
+abbrev pub asking : Option (List ℕ) → List Text → Request
+asking makefile words = record { makefile = makefile; operands = operands_of words; goals = goals_of words }
+
 -- the request that they make
 abbrev pub requested : List Row → Request
-requested rows =
-    let words = unwrap_or (all_of (codes "words") rows) [] in
-    record { makefile = first_of (codes "makefile") rows; operands = operands_of words; goals = goals_of words }
+requested rows = asking (first_of (codes "makefile") rows) (unwrap_or (all_of (codes "words") rows) [])
 
 abbrev pub request_of : List Text → Request
 request_of words = requested (rows_of_graph words)
