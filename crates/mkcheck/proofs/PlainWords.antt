@@ -15,7 +15,7 @@ use Rattle.std.specs.Option.{option_map_or}
 use Rattle.clap.proofs.OnLiterals.{clap_on_literals}
 use Rattle.clap.proofs.WalkLemmas.{walk_stopped}
 use Rattle.std.specs.Prelude.{slice_index_or}
-use Rattle.mkcheck.specs.CommandLine.{command_line, is_option}
+use Rattle.mkcheck.specs.CommandLine.{HasNoOption, command_line, graph_words, is_option}
 use Rattle.mkcheck.specs.Run.{asking, faults_of, request_of, requested}
 
 -- a word that is no option is no flag and not `--`
@@ -67,7 +67,7 @@ neither true b h = (h, absurd (true≢false h))
 neither false b h = (refl, h)
 
 -- no word is an option
-abbrev pub AreWords : List Text → Type 0
+abbrev AreWords : List Text → Type 0
 AreWords words = list_any is_option words ≡ false
 
 walk_on : (rows : List Row) (seen words : List Text) → AreWords words → fold (walked graph_shape.rules []) (at rows seen) words ≡ at rows (seen ++ words)
@@ -190,14 +190,14 @@ graph_taken rest h =
     ap₂ top_from (walk_of_top rest) (fault_of_top rest) ∙ (top_stopped rest ∙ ap (λ (k : Kinds). or_else k []) h)
 
 -- words that are no options are taken
-pub words_taken : (words : List Text) → AreWords words → length words ≤ 18446744073709551615 → faults_of (codes "graph" ∷ words) ≡ []
+words_taken : (words : List Text) → AreWords words → length words ≤ 18446744073709551615 → faults_of (codes "graph" ∷ words) ≡ []
 words_taken words h fits = graph_taken words (level_of_graph words h fits)
 
 -- the request that they make
 request_by : (rest : List Text) → request_of (codes "graph" ∷ rest) ≡ requested (rows_after graph_shape.rules [] rest)
 request_by rest = ap (λ (w : Walk). requested (option_map_or (λ met. met.1) (entered (built command_line) w.stopped) [])) (walk_of_top rest)
 
-pub words_asked : (words : List Text) → AreWords words → request_of (codes "graph" ∷ words) ≡ asking None words
+words_asked : (words : List Text) → AreWords words → request_of (codes "graph" ∷ words) ≡ asking None words
 words_asked [] h = request_by []
 words_asked (word ∷ words) h = request_by (word ∷ words) ∙ ap (λ (w : Walk). requested (finished graph_shape.rules w.held)) (walk_all start [] start_begins word words h)
 
@@ -243,7 +243,7 @@ level_named name [] h fits = refl
 level_named name (word ∷ words) h fits = level_all (named name) (makefile_row name ∷ []) (named_begins name) word words h fits
 
 -- a makefile that is named, and words that are no options, are taken
-pub named_taken : (name : Text) (words : List Text) → is_option name ≡ false → AreWords words → length words ≤ 18446744073709551615
+named_taken : (name : Text) (words : List Text) → is_option name ≡ false → AreWords words → length words ≤ 18446744073709551615
     → faults_of (codes "graph" ∷ codes "-f" ∷ name ∷ words) ≡ []
 named_taken name words plain h fits =
     let p = plain_word name plain in
@@ -253,7 +253,17 @@ rows_named : (name : Text) (words : List Text) → AreWords words → requested 
 rows_named name [] h = refl
 rows_named name (word ∷ words) h = ap (λ (w : Walk). requested (finished graph_shape.rules w.held)) (walk_all (named name) (makefile_row name ∷ []) (named_begins name) word words h)
 
-pub named_asked : (name : Text) (words : List Text) → is_option name ≡ false → AreWords words
+named_asked : (name : Text) (words : List Text) → is_option name ≡ false → AreWords words
     → request_of (codes "graph" ∷ codes "-f" ∷ name ∷ words) ≡ asking (Some name) words
 named_asked name words plain h =
     request_by (codes "-f" ∷ name ∷ words) ∙ (ap (λ (w : Walk). requested (finished graph_shape.rules w.held)) (walk_named name words (plain_word name plain)) ∙ rows_named name words h)
+
+-- ---- both
+
+pub plain_taken : (makefile : Option Text) (words : List Text) → HasNoOption makefile words → length words < 2 ^ 64 → faults_of (graph_words makefile words) ≡ []
+plain_taken None words plain fits = words_taken words plain.words (omega arith)
+plain_taken (Some name) words plain fits = named_taken name words plain.name plain.words (omega arith)
+
+pub plain_asked : (makefile : Option Text) (words : List Text) → HasNoOption makefile words → request_of (graph_words makefile words) ≡ asking makefile words
+plain_asked None words plain = words_asked words plain.words
+plain_asked (Some name) words plain = named_asked name words plain.name plain.words

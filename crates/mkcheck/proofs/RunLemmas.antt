@@ -1,6 +1,6 @@
 -- What the parts of a run make together.
 use Rattle.std.proofs.Common.{◌≡◌, ◌⊎◌, true, refl, subst, inl, inr, Result, Ok, Err, IfOk}
-use Rattle.clap.specs.Words.{IsAmong, Kinds, is_simple_and_free}
+use Rattle.clap.specs.Words.{IsAmong, Kinds, is_simple, is_simple_and_free}
 use Rattle.clap.specs.declared.error.ErrorKind.{ErrorKind}
 use Rattle.clap.specs.declared.error.ErrorKind.TheVariants.{OutOfMemory}
 use Rattle.clap.proofs.OnLiterals.{clap_on_literals}
@@ -21,3 +21,7 @@ explained_kind kind kinds w h (inr among) = among
 pub IfOk-each : {X E : Type 0} (r : Result X E) (P : X → Type 0) → ((x : X) → P x) → IfOk r P
 IfOk-each (Ok x) P h = h x
 IfOk-each (Err e) P h = tt
+
+pub is_simple_command : is_simple command_line ≡ true
+unfolding clap_on_literals
+is_simple_command = refl

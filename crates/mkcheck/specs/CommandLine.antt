@@ -1,5 +1,7 @@
 -- The command line as data.
-use Rattle.std.specs.Prelude.{ℕ, ◌==◌, Bool, true, false, List, [], ◌∷◌, Some, codes}
+use Rattle.std.specs.Prelude.{◌≡◌, ℕ, ◌==◌, Bool, true, false, List, [], ◌∷◌, Option, None, Some, codes}
+use Rattle.std.specs.List.{list_any}
+use Rattle.std.specs.Option.{option_map_or}
 use Rattle.clap.specs.Words.{App, Rule, new_app, new_rule, with_rule, with_subcommand}
 
 -- `-f F`, once at most
@@ -35,3 +37,13 @@ abbrev pub is_option : List ℕ → Bool
 is_option [] = false
 is_option (b ∷ []) = false
 is_option (b ∷ c ∷ rest) = b == 45
+
+-- the words `graph [-f F] WORD..`
+abbrev pub graph_words : Option (List ℕ) → List (List ℕ) → List (List ℕ)
+graph_words None words = codes "graph" ∷ words
+graph_words (Some name) words = codes "graph" ∷ codes "-f" ∷ name ∷ words
+
+-- neither the makefile's name nor one of the words is read as an option
+pub record HasNoOption (makefile : Option (List ℕ)) (given : List (List ℕ)) : Type 0 where
+  pub name : option_map_or is_option makefile false ≡ false
+  pub words : list_any is_option given ≡ false

@@ -1,11 +1,12 @@
 //! A run of the program, from the words of its command line to what it writes.
 
-ghost use Rattle.std.specs.Prelude.{◌≡◌, ◌≢◌, ◌<◌, ◌^◌, ◌-◌, [], true, codes, map, unwrap_or, IfOk};
+ghost use Rattle.std.specs.Prelude.{ℕ, List, Option, length, ◌≡◌, ◌≢◌, ◌<◌, ◌^◌, ◌-◌, [], true, codes, map, unwrap_or, IfOk};
 ghost use Rattle.std.specs.Option.{option_map_or};
 ghost use Rattle.clap.specs.Words.{all_of, first_of, found_of, has_subcommand, kind_of, rows_of, subcommand_rows_of};
 ghost use Rattle.mk_core.specs.Words.{goals_of, operands_of};
 ghost use Rattle.mk_core.specs.Outcome.{seen};
-ghost use Rattle.mkcheck.specs.Run.{Explains, IsAnswered, IsRefused, Shows, faults_of, is_want_of_memory, request_of, requested, written};
+ghost use Rattle.mkcheck.specs.CommandLine.{HasNoOption, graph_words};
+ghost use Rattle.mkcheck.specs.Run.{Explains, IsAnswered, IsRefused, Shows, asking, faults_of, is_want_of_memory, request_of, requested, written};
 
 use crate::command::command_line;
 use crate::ending::FAULT;
@@ -150,6 +151,13 @@ pub fn run<F: Files, S: AsStr>(
     ensures taken { IfOk result (λ outcome. faults_of (map S.text words.now) ≡ [] →
         IsAnswered (F.told files.old) (F.failed files.old) (F.failed files.new)
         (request_of (map S.text words.now)) (written outcome)) }
+
+    // In plain words: `graph [-f F] WORD..` asks what it says.
+    ensures plain { IfOk result (λ outcome. (makefile : Option (List ℕ)) (asked : List (List ℕ)) →
+        map S.text words.now ≡ graph_words makefile asked → HasNoOption makefile asked →
+        length asked < 2 ^ 64 →
+        IsAnswered (F.told files.old) (F.failed files.old) (F.failed files.new)
+        (asking makefile asked) (written outcome)) }
 
     // Others are refused, and nothing is read.
     ensures refused { IfOk result (λ outcome. faults_of (map S.text words.now) ≢ [] →
