@@ -1,10 +1,10 @@
 -- What the command line makes of words that are no options.
-use Rattle.std.proofs.Common.{◌≡◌, ◌∙◌, ℕ, ◌+◌, ◌<◌, ◌≤◌, ◌^◌, Bool, true, false, List, [], ◌∷◌, ◌++◌, length, codes, refl, sym, ap, ap₂, subst, append_assoc, arith, Option, Some, None, ◌||◌, nat_lt, ◌==◌, true≢false, append-nil, le-ltb, is_some}
+use Rattle.std.proofs.Common.{◌≡◌, ◌∙◌, ◌<◌, ◌≤◌, ◌^◌, Bool, true, false, List, [], ◌∷◌, ◌++◌, length, codes, refl, sym, ap, ap₂, append_assoc, arith, Option, Some, None, ◌||◌, nat_lt, ◌==◌, true≢false, append-nil, le-ltb, is_some}
 use Rattle.std.specs.Prelude.{fold}
 use Rattle.std.specs.List.{list_any}
 use Rattle.std.specs.Str.{bytes_eq}
 use Rattle.clap.specs.Lexer.{long_of, short_of}
-use Rattle.clap.specs.Walk.{Held, Names, Row, Rule, Text, Walk, idle, positional, finished, nothing_held, rows_after, settled, walk, walk_from, walked}
+use Rattle.clap.specs.Walk.{Held, Names, Row, Text, Walk, positional, finished, nothing_held, rows_after, settled, walk, walk_from, walked}
 use Rattle.clap.specs.Simple.{Shape, built, entered, names_of, new_shape}
 use Rattle.clap.specs.Faults.{check_fault, defaults_fault, entered_fault, level_fault, settle_fault, turn_fault, walk_fault}
 use Rattle.clap.specs.Kinds.{Kinds, or_else, values_kinds}

@@ -1,8 +1,8 @@
 -- What two reads consume, one after the other.
 use Rattle.std.proofs.Common.{◌≡◌, ℕ, ◌+◌, ◌≤◌, List, ◌++◌, Option, length, take, arith, length-append, length-take, subst, sym, ap, ◌∙◌}
 use Rattle.std.proofs.lemmas.List.{take-append-le}
-use Rattle.std.specs.Io.KnownBytes.{Consumes, Keeps}
-use Rattle.std.proofs.KnownBytes.{Consumes-trans, Consumes-kept}
+use Rattle.std.specs.Io.KnownBytes.{Consumes}
+use Rattle.std.proofs.KnownBytes.{Consumes-trans}
 
 -- a reader that gave a text, and then n bytes of a buffer, gave so many bytes in all
 pub taken_more : (a b c : Option (List ℕ)) (text buf : List ℕ) (n most : ℕ) → Consumes a b text → Consumes b c (take n buf) → length text + n ≤ most
@@ -18,7 +18,3 @@ pub grown_text : (a b c : Option (List ℕ)) (text buf rest grown : List ℕ) (n
     → grown ≡ text ++ take n (buf ++ rest) → Consumes a c grown
 grown_text a b c text buf rest grown n before read fits is =
     subst (Consumes a c) (sym (is ∙ ap (λ bs. text ++ bs) (take-append-le n buf rest fits))) (Consumes-trans a b c text (take n buf) before read)
-
--- a text that stays, over a read that gave nothing
-pub kept_text : (a b c : Option (List ℕ)) (text kept : List ℕ) → Consumes a b text → Keeps b c → kept ≡ text → Consumes a c kept
-kept_text a b c text kept before read is = subst (Consumes a c) (sym is) (Consumes-kept a b c text before read)

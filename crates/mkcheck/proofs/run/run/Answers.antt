@@ -36,8 +36,8 @@ returns-in-Ok-clause-plain g c =
     let met = (c.in-Ok.ensures.matches (ap is_simple app ∙ is_simple_command)).1 ∙ ap (λ (a : App). subcommand_of a words) app in
     let request = ap (λ (rows : Option (Text × List Row)). requested (option_map_or (λ p. p.1) rows [])) met in
     IfOk-weaker c.answered.result _ _ (λ outcome h makefile asked is plain few.
-        subst (λ (r : Request). IsAnswered (g.F.Files.told c.args.files.now) (g.F.Files.failed c.args.files.now) (g.F.Files.failed c.answered.new.files) r (written outcome))
-        (request ∙ (ap request_of is ∙ plain_asked makefile asked plain)) h) c.answered.ensures.answered
+    subst (λ (r : Request). IsAnswered (g.F.Files.told c.args.files.now) (g.F.Files.failed c.args.files.now) (g.F.Files.failed c.answered.new.files) r (written outcome))
+    (request ∙ (ap request_of is ∙ plain_asked makefile asked plain)) h) c.answered.ensures.answered
 
 pub returns-in-Err-clause-plain : goal.returns-in-Err-clause-plain
 returns-in-Err-clause-plain g c =
@@ -45,4 +45,4 @@ returns-in-Err-clause-plain g c =
     let words = map g.S.AsStr.text c.args.words.now in
     let kinds = subst (λ (a : App). HasKind (fault_of a words) c.in-Err.error) app (c.in-Err.ensures.kinds (ap is_simple_and_free app ∙ is_simple_line)) in
     IfOk-weaker c.explained.result _ _ (λ outcome h makefile asked is plain few.
-        absurd (subst (IsAmong (kind_of c.in-Err.error)) (ap faults_of is ∙ plain_taken makefile asked plain few) (explained_kind _ _ _ h kinds))) c.explained.ensures
+    absurd (subst (IsAmong (kind_of c.in-Err.error)) (ap faults_of is ∙ plain_taken makefile asked plain few) (explained_kind _ _ _ h kinds))) c.explained.ensures

@@ -1,5 +1,6 @@
-use Rattle.std.proofs.Common.{◌≡◌, ◌++◌, ◌∙◌, length, rules, arith, ap, length-append, length-take, length-drop, drop}
-use Rattle.mkcheck.proofs.ReaderLemmas.{grown_text, kept_text, taken_more}
+use Rattle.std.proofs.Common.{◌≡◌, ◌++◌, length, rules, arith, length-append, length-take, length-drop, drop}
+use Rattle.mkcheck.proofs.ReaderLemmas.{grown_text, taken_more}
+use Rattle.std.proofs.KnownBytes.{Consumes-kept}
 use Rattle.mkcheck.proofs.slurp.slurp.Goals as goal
 use Rattle.mkcheck.proofs.slurp.slurp.Goals.{in-Ok+in_ok-extend_from_slice-in-Ok+else-len-gt-MAX_FILE, in-Err+else-ne}
 
@@ -20,11 +21,11 @@ loop-preserved g c =
       | in-Ok+in_ok-extend_from_slice-in-Ok+else-len-gt-MAX_FILE w ↦ (
         search rules,
         window,
-        grown_text _ _ _ c.loop.text.items c.read.new.buf _ _ w.in-Ok.n c.loop.invariant.2 w.in-Ok.ensures.bytes.0 w.in-Ok.ensures.bound.0 (ap (λ v. v.items) w.text-is ∙ w.in_ok-extend_from_slice-in-Ok.ensures.items),
+        rw w.text-is (grown_text _ _ _ c.loop.text.items c.read.new.buf (drop c.min-room.result c.loop.window) w.extend_from_slice.new.self.items w.in-Ok.n c.loop.invariant.2 w.in-Ok.ensures.bytes.0 w.in-Ok.ensures.bound.0 w.in_ok-extend_from_slice-in-Ok.ensures.items),
       )
       | in-Err+else-ne w ↦ (
         search rules,
         window,
-        kept_text _ _ _ c.loop.text.items _ c.loop.invariant.2 w.in-Err.ensures.bytes (ap (λ v. v.items) w.text-is),
+        rw w.text-is (Consumes-kept _ _ _ c.loop.text.items c.loop.invariant.2 w.in-Err.ensures.bytes),
       )
     ]
