@@ -1,0 +1,3 @@
+mod ReaderLemmas
+mod RunLemmas
+mod PlainWords

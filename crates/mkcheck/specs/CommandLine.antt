@@ -1,0 +1,49 @@
+-- The command line as data.
+use Rattle.std.specs.Prelude.{◌≡◌, ℕ, ◌==◌, Bool, true, false, List, [], ◌∷◌, Option, None, Some, codes}
+use Rattle.std.specs.List.{list_any}
+use Rattle.std.specs.Option.{option_map_or}
+use Rattle.clap.specs.Words.{App, Rule, new_app, new_rule, with_rule, with_subcommand}
+
+-- `-f F`, once at most
+abbrev pub makefile_option : Rule
+makefile_option = record (new_rule (codes "makefile")) { short = Some 102; value_names = 1 }
+
+-- `[WORD..]`
+abbrev pub words_argument : Rule
+words_argument = record (new_rule (codes "words")) { range = Some (record { start_inclusive = 0; end_inclusive = 18446744073709551615 }); value_names = 1 }
+
+-- `graph`
+abbrev pub named_graph : App
+named_graph = new_app (codes "graph")
+
+-- `graph [-f F] [WORD..]`
+abbrev pub graph_command : App
+graph_command = with_rule (with_rule named_graph makefile_option) words_argument
+
+-- `mkcheck`, with a version
+abbrev pub named_program : App
+named_program = let app = new_app (codes "mkcheck") in record app { top = record (app.top) { has_version = true } }
+
+-- the words stand behind the program's name, and one of them is the name of a subcommand
+abbrev pub program : App
+program = record named_program { top = record (named_program.top) { no_binary_name = true; subcommand_required = true; disable_help_subcommand = true } }
+
+-- `mkcheck graph [-f F] [WORD..]`
+abbrev pub command_line : App
+command_line = with_subcommand program graph_command.top
+
+-- a word of `-` and more is read as an option, or as `--`
+abbrev pub is_option : List ℕ → Bool
+is_option [] = false
+is_option (b ∷ []) = false
+is_option (b ∷ c ∷ rest) = b == 45
+
+-- the words `graph [-f F] WORD..`
+abbrev pub graph_words : Option (List ℕ) → List (List ℕ) → List (List ℕ)
+graph_words None words = codes "graph" ∷ words
+graph_words (Some name) words = codes "graph" ∷ codes "-f" ∷ name ∷ words
+
+-- neither the makefile's name nor one of the words is read as an option
+pub record HasNoOption (makefile : Option (List ℕ)) (given : List (List ℕ)) : Type 0 where
+  pub name : option_map_or is_option makefile false ≡ false
+  pub words : list_any is_option given ≡ false

@@ -1,0 +1,80 @@
+-- What a run of the program writes.
+use Rattle.std.specs.Prelude.{◌≡◌, ℕ, Bool, true, false, List, [], ◌∷◌, ◌++◌, Option, Result, Ok, Err, IfSome, codes, unwrap_or}
+use Rattle.std.specs.Option.{option_map_or}
+use Rattle.std.specs.String.{string_bytes}
+use Rattle.clap.specs.Words.{IsAmong, Kinds, Row, Text, all_of, fault_of, first_of, subcommand_of}
+use Rattle.clap.specs.declared.error.ErrorKind.{ErrorKind}
+use Rattle.clap.specs.declared.error.ErrorKind.TheVariants.{DisplayHelp, DisplayVersion, OutOfMemory}
+use Rattle.mk_graph.specs.declared.fault.GraphFault.TheVariants as graph
+use Rattle.mk_core.specs.declared.fault.Fault.{Fault}
+use Rattle.mk_core.specs.declared.fault.Fault.TheVariants.{Graph, Memory}
+use Rattle.mk_core.specs.declared.request.Request.{Request}
+use Rattle.mk_core.specs.Answer.{Answers, Counts}
+use Rattle.mk_core.specs.FaultText.{fault_text}
+use Rattle.mk_core.specs.Files.{Told}
+use Rattle.mk_core.specs.Words.{goals_of, operands_of}
+use Rattle.mkcheck.specs.declared.run.Outcome.{Outcome}
+use Rattle.mkcheck.specs.CommandLine.{command_line}
+
+-- what goes to standard output and to standard error, and the exit status
+pub record Written : Type 0 where
+  pub out : List ℕ
+  pub err : List ℕ
+  pub status : ℕ
+
+abbrev pub written : Outcome → Written
+written outcome = record { out = outcome.out.items; err = string_bytes outcome.err; status = outcome.status }
+
+-- ---- what the words ask
+
+-- the kinds of fault that the command line finds in the words: none where it takes them
+abbrev pub faults_of : List Text → Kinds
+faults_of words = fault_of command_line words
+
+-- the values of `-f` and `WORD..` that the words give to `graph`
+abbrev pub rows_of_graph : List Text → List Row
+rows_of_graph words = option_map_or (λ met. met.1) (subcommand_of command_line words) []
+
+-- the request for this makefile, with macro operands and goals
+abbrev pub asking : Option (List ℕ) → List Text → Request
+asking makefile words = record { makefile = makefile; operands = operands_of words; goals = goals_of words }
+
+-- the request that they make
+abbrev pub requested : List Row → Request
+requested rows = asking (first_of (codes "makefile") rows) (unwrap_or (all_of (codes "words") rows) [])
+
+abbrev pub request_of : List Text → Request
+request_of words = requested (rows_of_graph words)
+
+-- ---- what is written
+
+abbrev pub is_want_of_memory : Fault → Bool
+is_want_of_memory Memory = true
+is_want_of_memory (Graph graph.Memory) = true
+is_want_of_memory fault = false
+
+-- An answer is written to standard output: the text, and status 0; or a refusal on a line, and status 2.
+-- Want of memory is not written here.
+abbrev pub Shows : Result (List ℕ) Fault → Written → Type 0
+Shows (Ok text) w = w ≡ record { out = text; err = []; status = 0 }
+Shows (Err fault) w = (is_want_of_memory fault ≡ false) × (w ≡ record { out = fault_text fault ++ 10 ∷ []; err = []; status = 2 })
+
+-- There is an answer to the request, which is written. Over files that are told, it is that of the definitions,
+-- and it is a failed read only where the count of failures rose.
+pub record IsAnswered (told : Option Told) (old new : ℕ) (request : Request) (w : Written) : Type 0 where
+  pub answer : Result (List ℕ) Fault
+  pub answers : IfSome told (λ files. Answers files request answer)
+  pub counts : Counts old new answer
+  pub shows : Shows answer w
+
+-- Help and the version are written to standard output, with status 0; what is wrong with the words to standard
+-- error, with status 2; and nothing to the other.
+abbrev pub Explains : ErrorKind → Written → Type 0
+Explains DisplayHelp w = (w.err ≡ []) × (w.status ≡ 0)
+Explains DisplayVersion w = (w.err ≡ []) × (w.status ≡ 0)
+Explains OutOfMemory w = ⊥
+Explains kind w = (w.out ≡ []) × (w.status ≡ 2)
+
+-- one of the faults of the words is explained
+abbrev pub IsRefused : Kinds → Written → Type 0
+IsRefused kinds w = (kind : ErrorKind) × IsAmong kind kinds × Explains kind w

@@ -1,0 +1,79 @@
+//! The command line.
+
+ghost use Rattle.std.specs.Prelude.{◌≡◌, IfOk, false};
+ghost use Rattle.clap.specs.Words.{app_of, rule_of};
+ghost use Rattle.clap.specs.declared.builder.command.Command.TheViews.{out-Command as fields_of};
+ghost use Rattle.mkcheck.specs.CommandLine.{command_line, graph_command, makefile_option, named_graph, named_program, program, words_argument};
+
+use clap::{Arg, Command};
+use std::alloc::{AllocError, Global};
+
+const STATUSES: &str = "Status: 0 done, 2 refused or a fault of the command line, 3 want of memory";
+
+fn makefile_option<'a>(alloc: Global) -> Arg<'a>
+    ensures rule { rule_of result ≡ makefile_option }
+    ensures local { result.global ≡ false }
+{
+    Arg::new(alloc, "makefile")
+        .short('f')
+        .value_name("F")
+        .help("The makefile; without it makefile, else Makefile")
+}
+
+fn words_argument<'a>(alloc: Global) -> Arg<'a>
+    ensures rule { rule_of result ≡ words_argument }
+    ensures local { result.global ≡ false }
+{
+    Arg::new(alloc, "words")
+        .num_args(0..)
+        .value_name("WORD")
+        .help("A goal; without one the first target is the goal")
+}
+
+fn named_graph<'a>(alloc: Global) -> Command<'a>
+    ensures app { app_of result ≡ named_graph }
+    ensures local { (fields_of result).has_globals ≡ false }
+{
+    Command::new(alloc, "graph")
+        .about("Prints the goals, then a line for each target in serial order")
+        .override_usage("mkcheck graph [-f F] [WORD]...")
+        .after_help(STATUSES)
+}
+
+fn graph_command<'a>(alloc: Global) -> Result<Command<'a>, AllocError>
+    ensures app { IfOk result (λ c. app_of c ≡ graph_command) }
+    ensures local { IfOk result (λ c. (fields_of c).has_globals ≡ false) }
+{
+    named_graph(alloc)
+        .arg(makefile_option(alloc))?
+        .arg(words_argument(alloc))
+}
+
+fn named_program<'a>(alloc: Global) -> Command<'a>
+    ensures app { app_of result ≡ named_program }
+    ensures local { (fields_of result).has_globals ≡ false }
+{
+    Command::new(alloc, "mkcheck")
+        .version("0.1.0")
+        .about("A checker of makefiles")
+        .after_help(STATUSES)
+}
+
+fn program<'a>(alloc: Global) -> Command<'a>
+    ensures app { app_of result ≡ program }
+    ensures local { (fields_of result).has_globals ≡ false }
+{
+    named_program(alloc)
+        .no_binary_name(true)
+        .subcommand_required(true)
+        .disable_help_subcommand(true)
+}
+
+/// The command line of the program: `graph [-f F] [WORD..]`, `--help` and `--version`. It reads
+/// the words behind the program's name.
+pub fn command_line<'a>(alloc: Global) -> Result<Command<'a>, AllocError>
+    ensures app { IfOk result (λ c. app_of c ≡ command_line) }
+    ensures local { IfOk result (λ c. (fields_of c).has_globals ≡ false) }
+{
+    program(alloc).subcommand(graph_command(alloc)?)
+}

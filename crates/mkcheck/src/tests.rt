@@ -1,0 +1,202 @@
+//! Worked rows of `run`, and what no clause says of `slurp` and `Disk`.
+
+ghost use Rattle.std.specs.Prelude.{◌≡◌, IfOk};
+ghost use Rattle.mk_core.specs.MemFiles.{failures_of};
+
+use crate::disk::Disk;
+use crate::ending::{end, end_without_memory, end_without_words};
+use crate::run::{Outcome, run};
+use crate::slurp::slurp;
+use mk_core::{Files, FilesError, MemFiles};
+use std::alloc::{AllocError, Global};
+use std::io;
+use std::io::{ErrorKind, Read};
+use std::process::Abort;
+use std::test::Fail;
+
+const PROGRAM: &str = "p: a.o\n\tcc -o p a.o\na.o: a.c\n\tcc -c a.c\n";
+
+fn holding(alloc: Global, text: &str) -> Result<MemFiles, AllocError>
+    ensures { IfOk result (λ files. failures_of files ≡ 0) }
+{
+    let mut files = MemFiles::new(alloc);
+    files.add(alloc, "makefile", text.as_bytes())?;
+    Ok(files)
+}
+
+fn ran(alloc: Global, text: &str, words: &[&str]) -> Result<Outcome, AllocError> {
+    run(alloc, &mut holding(alloc, text)?, words)
+}
+
+fn expect(rt: &impl Abort, outcome: Outcome, out: &str, status: u8) {
+    assert_eq!(rt; outcome.out.as_slice(), out.as_bytes());
+    assert!(rt; outcome.err.is_empty());
+    assert_eq!(rt; outcome.status, status);
+}
+
+#[test]
+fn prints_the_graph(rt: HostRuntime) -> Result<(), Fail> {
+    let outcome = ran(rt.alloc(), PROGRAM, &["graph"])?;
+    let out = "goals p\na.c:\na.o recipe: a.c\np recipe: a.o\n";
+    expect(&rt, outcome, out, 0);
+    let outcome = ran(rt.alloc(), PROGRAM, &["graph", "zzz"])?;
+    expect(&rt, outcome, "goals zzz\nzzz:\n", 0);
+    let outcome = ran(
+        rt.alloc(),
+        PROGRAM,
+        &["graph", "-f", "makefile", "--", "a.o"],
+    )?;
+    expect(&rt, outcome, "goals a.o\na.c:\na.o recipe: a.c\n", 0);
+    Ok(())
+}
+
+#[test]
+fn prints_refusals(rt: HostRuntime) -> Result<(), Fail> {
+    let outcome = ran(rt.alloc(), "a: b c\nc: d\nd: c a\n", &["graph"])?;
+    expect(&rt, outcome, "refused 42 c d c\n", 2);
+    let outcome = ran(rt.alloc(), "", &["graph"])?;
+    expect(&rt, outcome, "refused 44\n", 2);
+    let outcome = ran(rt.alloc(), PROGRAM, &["graph", "CC=cc"])?;
+    expect(&rt, outcome, "refused 11 operand:1\n", 2);
+    let outcome = ran(rt.alloc(), PROGRAM, &["graph", "-f", "-"])?;
+    expect(&rt, outcome, "refused 27 -\n", 2);
+    Ok(())
+}
+
+#[test]
+fn prints_that_there_is_no_makefile(rt: HostRuntime) -> Result<(), Fail> {
+    let mut none = MemFiles::new(rt.alloc());
+    let outcome = run(rt.alloc(), &mut none, &["graph"])?;
+    expect(&rt, outcome, "refused 37\n", 2);
+    let outcome = ran(rt.alloc(), PROGRAM, &["graph", "-f", "x.mk"])?;
+    expect(&rt, outcome, "refused 37 x.mk\n", 2);
+    Ok(())
+}
+
+#[test]
+fn prints_that_a_read_failed(rt: HostRuntime) -> Result<(), Fail> {
+    let mut files = holding(rt.alloc(), PROGRAM)?;
+    files.fail_at(1);
+    let outcome = run(rt.alloc(), &mut files, &["graph"])?;
+    expect(&rt, outcome, "refused 35 makefile\n", 2);
+    Ok(())
+}
+
+fn expect_fault(rt: &impl Abort, outcome: Outcome) {
+    assert!(rt; outcome.out.is_empty());
+    assert!(rt; !outcome.err.is_empty());
+    assert_eq!(rt; outcome.status, 2);
+}
+
+#[test]
+fn refuses_other_words(rt: HostRuntime) -> Result<(), Fail> {
+    expect_fault(&rt, ran(rt.alloc(), PROGRAM, &[])?);
+    expect_fault(&rt, ran(rt.alloc(), PROGRAM, &["check"])?);
+    expect_fault(&rt, ran(rt.alloc(), PROGRAM, &["help"])?);
+    expect_fault(&rt, ran(rt.alloc(), PROGRAM, &["graph", "-x"])?);
+    expect_fault(
+        &rt,
+        ran(rt.alloc(), PROGRAM, &["graph", "--file", "makefile"])?,
+    );
+    expect_fault(&rt, ran(rt.alloc(), PROGRAM, &["graph", "-f"])?);
+    expect_fault(
+        &rt,
+        ran(rt.alloc(), PROGRAM, &["graph", "-f", "a", "-f", "b"])?,
+    );
+    Ok(())
+}
+
+#[test]
+fn prints_help_and_version(rt: HostRuntime) -> Result<(), Fail> {
+    let outcome = ran(rt.alloc(), PROGRAM, &["--version"])?;
+    expect(&rt, outcome, "mkcheck 0.1.0\n", 0);
+    let outcome = ran(rt.alloc(), PROGRAM, &["--help"])?;
+    assert!(rt; !outcome.out.is_empty() && outcome.err.is_empty() && outcome.status == 0);
+    let outcome = ran(rt.alloc(), PROGRAM, &["graph", "--help"])?;
+    assert!(rt; !outcome.out.is_empty() && outcome.err.is_empty() && outcome.status == 0);
+    Ok(())
+}
+
+// A reader that gives a byte, is interrupted, and then gives another byte or fails.
+#[derive(Drop)]
+struct Uneven {
+    reads: u8,
+    fails: bool,
+}
+
+impl Read for Uneven {
+    fn read(&mut self, buf: &mut [u8]) -> io::Result<usize> {
+        self.reads = self.reads.saturating_add(1);
+        match self.reads {
+            2 => Err(io::Error::from(ErrorKind::Interrupted)),
+            3 if self.fails => Err(io::Error::from(ErrorKind::Other)),
+            1 | 3 => match buf.first_mut() {
+                Some(first) => {
+                    *first = b'a';
+                    Ok(1)
+                }
+                None => Ok(0),
+            },
+            _ => Ok(0),
+        }
+    }
+}
+
+#[test]
+fn reads_to_the_end(rt: HostRuntime) -> Result<(), Fail> {
+    let mut bytes: &[u8] = b"a: b\n";
+    assert!(rt; slurp(rt.alloc(), &mut bytes)?.as_slice() == b"a: b\n".as_slice());
+    let mut uneven = Uneven {
+        reads: 0,
+        fails: false,
+    };
+    assert!(rt; slurp(rt.alloc(), &mut uneven)?.as_slice() == b"aa".as_slice());
+    let mut failing = Uneven {
+        reads: 0,
+        fails: true,
+    };
+    assert!(rt; matches!(slurp(rt.alloc(), &mut failing), Err(FilesError::ReadFailed)));
+    Ok(())
+}
+
+#[test]
+fn reads_up_to_the_limit(rt: HostRuntime) -> Result<(), Fail> {
+    let mut longest = io::repeat(b'a').take(16_777_216);
+    assert_eq!(rt; slurp(rt.alloc(), &mut longest)?.len(), 16_777_216);
+    let mut longer = io::repeat(b'a').take(16_777_217);
+    assert!(rt; matches!(slurp(rt.alloc(), &mut longer), Err(FilesError::ReadFailed)));
+    Ok(())
+}
+
+#[test]
+fn reads_the_disk(rt: HostRuntime) -> Result<(), Fail> {
+    let text = Disk::new(&rt).read(rt.alloc(), "/dev/null")?;
+    assert!(rt; matches!(&text, Some(text) if text.is_empty()));
+    let text = Disk::new(&rt).read(rt.alloc(), "/dev/none")?;
+    assert!(rt; text.is_none());
+    for name in ["/", "/dev/zero"] {
+        let mut disk = Disk::new(&rt);
+        let text = disk.read(rt.alloc(), name);
+        assert!(rt; matches!(&text, Err(FilesError::ReadFailed)));
+        assert_eq!(rt; disk.failures(), 1);
+    }
+    Ok(())
+}
+
+#[test]
+fn ends_with_a_status(rt: HostRuntime) -> Result<(), Fail> {
+    let alloc = rt.alloc();
+    let (mut out, mut err) = (Vec::new(alloc), Vec::new(alloc));
+    let outcome = Outcome {
+        out: Vec::from_slice(alloc, b"out")?,
+        err: String::from_str(alloc, "err")?,
+        status: 0,
+    };
+    assert_eq!(rt; end(&mut out, &mut err, &outcome), 0);
+    assert_eq!(rt; out.as_slice(), b"out".as_slice());
+    assert_eq!(rt; err.as_slice(), b"err".as_slice());
+    assert_eq!(rt; end_without_memory(&mut out), 3);
+    assert_eq!(rt; end_without_words(&mut err), 2);
+    assert_eq!(rt; out.as_slice(), b"outwant of memory\n".as_slice());
+    Ok(())
+}
