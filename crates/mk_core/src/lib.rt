@@ -13,6 +13,8 @@ mod parts;
 mod request;
 mod rules;
 mod selection;
+#[cfg(test)]
+mod tests;
 mod wording;
 
 pub use answer::graph_text;
