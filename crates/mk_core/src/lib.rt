@@ -14,6 +14,8 @@ mod printing;
 mod request;
 mod rules;
 mod selection;
+#[cfg(test)]
+mod tests;
 mod wording;
 
 pub use answer::graph_text;

@@ -1,7 +1,7 @@
 //! What is asked.
 
 ghost use Rattle.std.specs.Prelude.{◌≡◌, map, IfOk};
-ghost use Rattle.mk_core.specs.Words.{operands_of, goals_of};
+ghost use Rattle.mk_core.specs.Words.{is_operand, operands_of, goals_of};
 
 use mk_graph::{Name, Names};
 use std::alloc::{AllocError, Global};
@@ -17,12 +17,28 @@ pub struct Request {
     pub goals: Names,
 }
 
+/// Whether a word is a macro operand: it holds `=`.
+fn is_operand(word: &str) -> bool
+    ensures { result ≡ is_operand word.now }
+{
+    word.as_bytes().contains(&b'=')
+}
+
 /// The macro operands among the words of a command line, which hold `=`, and the goals, each in
 /// their order.
 pub fn split_words(alloc: Global, words: &[&str]) -> Result<(Names, Names), AllocError>
     ensures operands { IfOk result (λ r. r.0 ≡ operands_of (map (λ word. word.now) words.now)) }
     ensures goals { IfOk result (λ r. r.1 ≡ goals_of (map (λ word. word.now) words.now)) }
 {
-    let _ = (alloc, words.len());
-    Err(AllocError)
+    let mut operands = Vec::new(alloc);
+    let mut goals = Vec::new(alloc);
+    for word in words {
+        let name = Name::new(alloc, word)?;
+        if is_operand(word) {
+            operands.push(name)?;
+        } else {
+            goals.push(name)?;
+        }
+    }
+    Ok((Names::new(operands), Names::new(goals)))
 }
