@@ -1,5 +1,6 @@
 -- What the code hands to the graph's maker is the graph of the definitions.
-use Rattle.std.proofs.Common.{◌≡◌, ℕ, Bool, false, List, [], ◌∷◌, map, Result, Ok, Err, refl, sym, ap, subst, ◌∙◌}
+use Rattle.std.proofs.Common.{◌≡◌, ℕ, Bool, false, List, [], ◌∷◌, map, length, ◌<◌, Result, Ok, Err, refl, sym, ap, subst, ◌∙◌}
+use Rattle.std.proofs.lemmas.List.{length-map}
 use Rattle.std.specs.Prelude.{filter, Vec}
 use Rattle.std.specs.Borrow.{Bor}
 use Rattle.std.specs.List.{flat_map, list_any}
@@ -53,3 +54,7 @@ selected rules goals handed (Ok g) h b = (handed, h, b)
 selected rules goals handed (Err (Cycle names)) h b = (handed, h, b)
 selected rules goals handed (Err TooManyNodes) h b = (handed, h, b)
 selected rules goals handed (Err Memory) h b = tt
+
+-- more names than a graph may have nodes
+pub too_many_met : (rules : List Rule) (goals all : List (List ℕ)) → Meets (prerequisites_of rules) [] goals all → 4096 < length all → Selects rules goals (Err TooManyNodes)
+too_many_met rules goals all m lt = (graph_of rules goals all, (all, m, refl), subst (λ n. 4096 < n) (sym (length-map all (node_of rules all))) lt)

@@ -13,7 +13,7 @@ ghost use Rattle.mk_core.specs.Selection.{Meets, Selects, one_group};
 use crate::name_set::NameSet;
 use crate::rules::Rule;
 use indexmap::IndexMap;
-use mk_graph::{Graph, GraphFault, Groups, Name, Node};
+use mk_graph::{Graph, GraphFault, Groups, Name, Node, MAX_NODES};
 use std::alloc::{AllocError, Global};
 
 /// For each target the places of the rule lines that name it, in their order.
@@ -210,6 +210,9 @@ pub fn select<'a>(
 {
     let table = table_of(alloc, rules)?;
     let met = met_names(alloc, rules, &table, goals)?;
+    if met.as_slice().len() > MAX_NODES {
+        return Err(GraphFault::TooManyNodes);
+    }
     let nodes = nodes_of(alloc, rules, &table, &met)?;
     let goals = numbers(alloc, &met, goals)?;
     Graph::build(alloc, nodes, goals)
