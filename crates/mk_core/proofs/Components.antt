@@ -1,6 +1,6 @@
 -- The components of a path.
-use Rattle.std.proofs.Common.{◌≡◌, ℕ, ◌+◌, false, List, [], ◌∷◌, length, ap, refl, ◌∙◌, arith, rules}
-use Rattle.std.specs.List.{slice_split, list_all, count_by}
+use Rattle.std.proofs.Common.{◌≡◌, ℕ, List, [], ◌∷◌, length, ap, refl, ◌∙◌, arith}
+use Rattle.std.specs.List.{slice_split, list_all}
 use Rattle.std.proofs.lemmas.Bool.{ne_eqb}
 use Rattle.std.proofs.lemmas.List.Splits.{length-slice_split}
 use Rattle.mk_core.specs.Parts.{is_byte}

@@ -9,14 +9,13 @@ use Rattle.indexmap.specs.IndexMap.{IndexMap}
 use Rattle.mk_graph.specs.declared.node.Node.{Node}
 use Rattle.mk_graph.specs.declared.fault.GraphFault.{GraphFault}
 use Rattle.mk_graph.specs.declared.fault.GraphFault.TheVariants.{Cycle, TooManyNodes, Memory}
-use Rattle.mk_graph.specs.Graph.{Graph, IsSound}
+use Rattle.mk_graph.specs.Graph.{Graph}
 use Rattle.mk_graph.specs.Build.{Builds}
 use Rattle.mk_core.specs.Names.{has_name, number_of}
 use Rattle.mk_core.specs.Rules.{Rule}
 use Rattle.mk_core.specs.Selection.{Meets, Selects, IsGraphOf, prerequisites_of, one_group, node_of, graph_of}
 use Rattle.mk_core.specs.Table.{places_at, lines_at, needs_in, node_in}
 use Rattle.mk_core.proofs.TableLemmas.{commands_of_lines}
-use Rattle.mk_core.proofs.Soundness.{is_sound}
 
 -- two functions that agree give the same list
 map_agree : {A B : Type 0} (f g : A → B) (xs : List A) → ((x : A) → f x ≡ g x) → map f xs ≡ map g xs

@@ -1,8 +1,8 @@
 -- Sets of names that are parts of a text.
-use Rattle.std.proofs.Common.{◌≡◌, ℕ, Bool, true, false, suc, not, ltb, ◌+◌, ◌≤◌, length, arith, cond, List, [], ◌∷◌, ◌++◌, map, refl, sym, ap, ◌∙◌, subst}
+use Rattle.std.proofs.Common.{◌≡◌, ℕ, Bool, true, false, suc, not, ltb, ◌+◌, ◌≤◌, length, arith, cond, List, [], ◌∷◌, ◌++◌, refl, sym, ap, ◌∙◌}
 use Rattle.std.specs.Borrow.{Bor}
 use Rattle.std.specs.Str.{bytes_eq}
-use Rattle.std.specs.Prelude.{position, Option, Some, None}
+use Rattle.std.specs.Prelude.{position, Some, None}
 use Rattle.std.specs.List.{list_any, position_or_len}
 use Rattle.std.proofs.lemmas.Bool.{ltb-false}
 use Rattle.std.proofs.lemmas.Option.{cond_some}

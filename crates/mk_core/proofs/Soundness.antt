@@ -1,13 +1,13 @@
 -- The graph of the names that goals reach is what the maker of a graph owes.
 use Rattle.std.proofs.Common.{◌≡◌, ℕ, zero, suc, ◌+◌, ◌<◌, ◌≤◌, Bool, true, false, not, cond, List, [], ◌∷◌, ◌++◌, map, length, get_or, inl, inr, ◌⊎◌, refl, sym, ap, subst, ◌∙◌, ⊎_elim, arith, append-nil}
 use Rattle.std.specs.Str.{bytes_eq}
-use Rattle.std.specs.List.{flat_map, position_or_len}
+use Rattle.std.specs.List.{flat_map}
 use Rattle.std.proofs.Math.Numerals.{one-add}
 use Rattle.std.proofs.lemmas.Bool.{cases_lt, both_ways, false_from_ne_true}
 use Rattle.std.proofs.lemmas.List.{get_or-map, get_or_past, length-map}
 use Rattle.std.proofs.lemmas.Slice.Eq.{bytes_eq-Decides}
 use Rattle.mk_graph.specs.declared.node.Node.{Node}
-use Rattle.mk_graph.specs.Graph.{Graph, IsSound, Reached, goal, onward, node, no_node, prerequisites}
+use Rattle.mk_graph.specs.Graph.{IsSound, Reached, goal, onward, node, no_node, prerequisites}
 use Rattle.mk_graph.specs.Membership.{Has, IsDistinct}
 use Rattle.mk_core.specs.Names.{number_of}
 use Rattle.mk_core.specs.Rules.{Rule}
@@ -158,7 +158,7 @@ module _ (rules : List Rule) (goals all : List Name) where
   edge : (name word : Name) → Has all name → Has (prerequisites_of rules name) word → Has (prerequisites (graph_of rules goals all) (number_of all name)) (number_of all word)
   edge name word h k =
       let at : prerequisites (graph_of rules goals all) (number_of all name) ≡ map (number_of all) (prerequisites_of rules name) =
-          prerequisites_are (number_of all name) (number_below all name h) ∙ ap (λ n. map (number_of all) (prerequisites_of rules n)) (get_number all name [] h) in
+      prerequisites_are (number_of all name) (number_below all name h) ∙ ap (λ n. map (number_of all) (prerequisites_of rules n)) (get_number all name [] h) in
       subst (λ (ns : List ℕ). Has ns (number_of all word)) (sym at) (map_Has (number_of all) (prerequisites_of rules name) word k)
 
   -- the maker owes nothing more
@@ -168,7 +168,7 @@ module _ (rules : List Rule) (goals all : List Name) where
       let distinct : IsDistinct all = stay_distinct needs m tt in
       let closed : (n : Name) → Has all n → (w : Name) → Has (needs n) w → Has all w = stay_closed needs m (λ n h. absurd h) in
       let reach : (a : Name) → Has all a → Reached (graph_of rules goals all) (number_of all a) =
-          goes_along needs (λ a. Reached (graph_of rules goals all) (number_of all a)) (λ n w h r k. onward r (edge n w h k)) m (λ x h. absurd h) (λ t h. goal (map_Has (number_of all) goals t h)) in
+      goes_along needs (λ a. Reached (graph_of rules goals all) (number_of all a)) (λ n w h r k. onward r (edge n w h k)) m (λ x h. absurd h) (λ t h. goal (map_Has (number_of all) goals t h)) in
       record {
         names = subst IsDistinct (sym (names_of_nodes rules all all)) distinct;
         goals = λ n h. let k = Has_map (number_of all) goals n h in

@@ -1,9 +1,9 @@
 -- Tables of rule lines.
-use Rattle.std.proofs.Common.{◌≡◌, ℕ, ◌+◌, ◌<◌, Bool, true, false, not, ◌||◌, ◌&&◌, cond, List, [], ◌∷◌, ◌++◌, map, length, get_or, take, drop, Option, Some, None, refl, sym, ap, ◌∙◌, append-nil, append_assoc}
+use Rattle.std.proofs.Common.{◌≡◌, ℕ, ◌+◌, ◌<◌, Bool, true, false, not, ◌||◌, ◌&&◌, cond, List, [], ◌∷◌, ◌++◌, length, get_or, take, drop, Some, None, refl, sym, ap, ◌∙◌, append-nil, append_assoc}
 use Rattle.std.specs.Prelude.{filter, slice_get}
 use Rattle.std.specs.Borrow.{Bor}
 use Rattle.std.specs.Str.{bytes_eq}
-use Rattle.std.specs.List.{filter_map, cons_option, list_any, flat_map}
+use Rattle.std.specs.List.{cons_option, list_any, flat_map}
 use Rattle.std.proofs.lemmas.Bool.{not-false, not-true}
 use Rattle.std.proofs.lemmas.List.{drop_more}
 use Rattle.std.proofs.lemmas.List.Elements.{filter_map-append, filter_more}
@@ -11,7 +11,6 @@ use Rattle.std.proofs.lemmas.Option.{slice_get-get_or}
 use Rattle.std.proofs.lemmas.Slice.Eq.{bytes_eq-Decides}
 use Rattle.mk_core.specs.Names.{has_name}
 use Rattle.mk_core.specs.Rules.{Rule, has_commands}
-use Rattle.mk_core.specs.Selection.{prerequisites_of}
 use Rattle.mk_core.specs.Table.{lines_at}
 use Rattle.mk_core.proofs.NameLists.{texts}
 use Rattle.mk_core.proofs.Commands.{one_added, has_name_push}
@@ -57,6 +56,7 @@ lines_more rules i d name before after e h lt =
   where
     last : lines_at rules (i ∷ []) ≡ get_or rules i d ∷ []
     last = rw (slice_get-get_or rules i d lt) refl
+
     at : (b : Bool) → lines_at rules (cond b (before ++ i ∷ []) before) ≡ lines_at rules before ++ cond b (get_or rules i d ∷ []) []
     at true = filter_map-append (λ place. slice_get rules place) before (i ∷ []) ∙ ap (λ ls. lines_at rules before ++ ls) last
     at false = sym (append-nil (lines_at rules before))
@@ -68,12 +68,15 @@ commands_of_lines (rule ∷ rules) name = at (has_name rule.targets name) ∙ ap
   where
     rest : List Rule
     rest = filter (λ (r : Rule). has_name r.targets name) rules
+
     and_true : (b c : Bool) → (b || c) ≡ ((b && true) || c)
     and_true true c = refl
     and_true false c = refl
+
     and_false : (b c : Bool) → c ≡ ((b && false) || c)
     and_false true c = refl
     and_false false c = refl
+
     at : (b : Bool) → list_any (λ (r : Rule). r.recipe) (cond b (rule ∷ filter (λ (r : Rule). has_name r.targets name) rules) (filter (λ (r : Rule). has_name r.targets name) rules)) ≡ ((rule.recipe && b) || list_any (λ (r : Rule). r.recipe) (filter (λ (r : Rule). has_name r.targets name) rules))
     at true = and_true rule.recipe _
     at false = and_false rule.recipe _

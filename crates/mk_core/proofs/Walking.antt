@@ -1,5 +1,5 @@
 -- The walk of names: what is left to do falls, and what is met from here is met in all.
-use Rattle.std.proofs.Common.{◌≡◌, ℕ, suc, ◌+◌, ◌<◌, ◌≤◌, Bool, true, false, not, ◌||◌, cond, List, [], ◌∷◌, ◌++◌, map, reverse, length, Option, Some, None, inl, inr, refl, sym, ap, subst, ◌∙◌, arith}
+use Rattle.std.proofs.Common.{◌≡◌, ℕ, ◌+◌, ◌<◌, ◌≤◌, Bool, true, false, ◌||◌, cond, List, [], ◌∷◌, ◌++◌, reverse, length, Some, inl, inr, refl, sym, ap, subst, ◌∙◌, arith}
 use Rattle.std.specs.Prelude.{Vec}
 use Rattle.std.specs.Option.{option_map_or}
 use Rattle.std.specs.Borrow.{Bor}
@@ -50,6 +50,7 @@ weight_falls rules met name (e ∷ es) h = by_key (bytes_eq name e.0.now) refl (
   where
     n : ℕ
     n = length (words_of (lines_at rules e.1.items))
+
     by_key : (b : Bool) → bytes_eq name e.0.now ≡ b → weight rules (met ++ name ∷ []) es + length (words_of (lines_at rules (at_name es name))) ≤ weight rules met es
         → weight rules (met ++ name ∷ []) (e ∷ es) + length (words_of (lines_at rules (option_map_or (λ (places : Vec ℕ Global). places.items) (cond b (Some e.1) (lookup (λ (k : Bor (List ℕ)). bytes_eq name k.now) es)) []))) ≤ weight rules met (e ∷ es)
     by_key true t ih =
@@ -103,7 +104,7 @@ pub walk_new : (needs : List ℕ → List (List ℕ)) (met after goals : List (L
     → texts words ≡ needs name.now → more ≡ rest ++ reverse words → Continues needs met todo goals → Continues needs after more goals
 walk_new needs met after goals todo rest words more name e h grown are pushed k = λ all m.
     let left : texts (reverse more) ≡ needs name.now ++ texts (reverse rest) =
-        ap (λ ns. texts (reverse ns)) pushed ∙ (ap texts (reverse-append rest (reverse words) ∙ ap (λ ws. ws ++ reverse rest) (reverse-reverse words)) ∙ (map-append (λ (n : Bor (List ℕ)). n.now) words (reverse rest) ∙ ap (λ ws. ws ++ texts (reverse rest)) are)) in
+    ap (λ ns. texts (reverse ns)) pushed ∙ (ap texts (reverse-append rest (reverse words) ∙ ap (λ ws. ws ++ reverse rest) (reverse-reverse words)) ∙ (map-append (λ (n : Bor (List ℕ)). n.now) words (reverse rest) ∙ ap (λ ws. ws ++ texts (reverse rest)) are)) in
     let unmet : ¬ (Has met name.now) = λ there. both_ways (has_name met name.now) h (has_name_Has met name.now there) in
     k all (subst (λ (ns : List (List ℕ)). Meets needs met ns all) (sym (reverse_last todo rest name e))
     (new unmet (subst (λ (ns : List (List ℕ)). Meets needs (met ++ name.now ∷ []) ns all) left (subst (λ (ms : List (List ℕ)). Meets needs ms (texts (reverse more)) all) grown m))))

@@ -86,10 +86,7 @@ fn named_makefile<F: Files>(
 }
 
 /// The makefile under the first usual name that is there. Fault 37 where neither is.
-fn usual_makefile<F: Files>(
-    alloc: Global,
-    files: &mut F,
-) -> Result<(Name, Vec<u8>), Fault>
+fn usual_makefile<F: Files>(alloc: Global, files: &mut F) -> Result<(Name, Vec<u8>), Fault>
     requires { F.failed files.old < 2 ^ 64 - 1 }
     ensures map { F.told files.new ≡ F.told files.old }
     ensures found { IfSome (F.told files.old) (λ told. FindsUnder told None (seen (λ f. (f.0, f.1.items)) result)) }
@@ -124,12 +121,7 @@ fn makefile_for<F: Files>(
 }
 
 /// What is printed over the text of a makefile.
-fn printed(
-    alloc: Global,
-    file: &Name,
-    text: &[u8],
-    goals: &[Name],
-) -> Result<Vec<u8>, Fault>
+fn printed(alloc: Global, file: &Name, text: &[u8], goals: &[Name]) -> Result<Vec<u8>, Fault>
     ensures { PrintsFor file.now text.now goals.now (seen (λ text. text.items) result) }
 {
     let rules = rules_of(alloc, file, text)?;

@@ -76,11 +76,7 @@ fn test_line(alloc: Global, file: &Name, before: usize, line: &Line) -> Result<(
 
 /// The lines of the text of a file, or the first fault of the first faulty one.
 #[tactic(auto, unfolding(crate::specs::Lines::logical_lines))]
-pub fn logical_lines<'a>(
-    alloc: Global,
-    file: &Name,
-    text: &'a [u8],
-) -> Result<Vec<Line<'a>>, Fault>
+pub fn logical_lines<'a>(alloc: Global, file: &Name, text: &'a [u8]) -> Result<Vec<Line<'a>>, Fault>
     ensures exact { Gives (λ lines. map line_view lines.items) result (logical_lines file.now text.now) }
     ensures own { IfErr result IsOfText }
 {

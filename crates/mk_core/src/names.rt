@@ -166,7 +166,12 @@ fn make_name(word: &[u8]) -> Option<&str>
 
 /// A word as a name. Fault 28 where it holds a bracket, else 27 where it is no name.
 #[tactic(auto, unfolding(crate::specs::Names::name_of))]
-pub fn name_of<'a>(alloc: Global, file: &Name, line: usize, word: &'a [u8]) -> Result<&'a str, Fault>
+pub fn name_of<'a>(
+    alloc: Global,
+    file: &Name,
+    line: usize,
+    word: &'a [u8],
+) -> Result<&'a str, Fault>
     ensures exact { Gives (λ name. name.now) result (name_of (record { file = file.now; line = line }) word.now) }
     ensures own { IfErr result IsOfText }
 {

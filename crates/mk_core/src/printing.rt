@@ -36,11 +36,7 @@ fn push_names(out: &mut Vec<u8>, graph: &Graph, numbers: &[usize]) -> Result<(),
 }
 
 /// Adds `.WAIT` and the names, for each group.
-fn push_waits(
-    out: &mut Vec<u8>,
-    graph: &Graph,
-    groups: &[Vec<usize>],
-) -> Result<(), AllocError>
+fn push_waits(out: &mut Vec<u8>, graph: &Graph, groups: &[Vec<usize>]) -> Result<(), AllocError>
     ensures { OnOk result (out.new.items ≡ out.old.items ++ waits_text graph.now (map (λ group. group.items) groups.now)) }
 {
     for group in groups {
@@ -51,11 +47,7 @@ fn push_waits(
 }
 
 /// Adds the names of the groups, with `.WAIT` between groups.
-fn push_groups(
-    out: &mut Vec<u8>,
-    graph: &Graph,
-    groups: &[Vec<usize>],
-) -> Result<(), AllocError>
+fn push_groups(out: &mut Vec<u8>, graph: &Graph, groups: &[Vec<usize>]) -> Result<(), AllocError>
     ensures { OnOk result (out.new.items ≡ out.old.items ++ groups_text graph.now (map (λ group. group.items) groups.now)) }
 {
     let Some((first, others)) = groups.split_first() else {
@@ -74,8 +66,16 @@ fn push_node(out: &mut Vec<u8>, graph: &Graph, number: usize) -> Result<(), Allo
         return Ok(());
     };
     out.extend_from_slice(node.name.as_str().as_bytes())?;
-    out.extend_from_slice(if node.recipe { b" recipe".as_slice() } else { b"".as_slice() })?;
-    out.extend_from_slice(if node.phony { b" phony".as_slice() } else { b"".as_slice() })?;
+    out.extend_from_slice(if node.recipe {
+        b" recipe".as_slice()
+    } else {
+        b"".as_slice()
+    })?;
+    out.extend_from_slice(if node.phony {
+        b" phony".as_slice()
+    } else {
+        b"".as_slice()
+    })?;
     out.push(b':')?;
     push_groups(out, graph, node.groups.as_slice())?;
     out.push(b'\n')?;

@@ -131,12 +131,7 @@ fn has_name(names: &[&str], name: &str) -> bool
 
 /// A rule line, without commands as yet.
 #[tactic(auto, unfolding(crate::specs::Rules::rule_line))]
-fn rule_line<'a>(
-    alloc: Global,
-    file: &Name,
-    line: usize,
-    text: &'a [u8],
-) -> Result<Rule<'a>, Fault>
+fn rule_line<'a>(alloc: Global, file: &Name, line: usize, text: &'a [u8]) -> Result<Rule<'a>, Fault>
     ensures bare { IfOk result (λ rule. rule.recipe ≡ false) }
     ensures exact { Gives rule_view result (rule_line (record { file = file.now; line = line }) text.now) }
     ensures own { IfErr result IsOfText }
@@ -314,12 +309,7 @@ impl<'a> Reader<'a> {
 
     /// One more line of the file.
     #[tactic(auto, unfolding(crate::specs::Rules::with_line))]
-    fn with_line(
-        self,
-        alloc: Global,
-        file: &Name,
-        line: &Line<'a>,
-    ) -> Result<Reader<'a>, Fault>
+    fn with_line(self, alloc: Global, file: &Name, line: &Line<'a>) -> Result<Reader<'a>, Fault>
         ensures exact { Gives (λ read. read) result (with_line file.now self.entry (line_view line.now)) }
         ensures own { IfErr result IsOfText }
     {
@@ -343,11 +333,7 @@ impl<'a> Reader<'a> {
 }
 
 /// What is read after the lines of the file.
-fn with_lines<'a>(
-    alloc: Global,
-    file: &Name,
-    lines: &[Line<'a>],
-) -> Result<Reader<'a>, Fault>
+fn with_lines<'a>(alloc: Global, file: &Name, lines: &[Line<'a>]) -> Result<Reader<'a>, Fault>
     ensures exact { Gives (λ read. read) result (with_lines file.now nothing_read (map line_view lines.now)) }
     ensures own { IfErr result IsOfText }
 {

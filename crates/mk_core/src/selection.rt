@@ -13,7 +13,7 @@ ghost use Rattle.mk_core.specs.Selection.{Meets, Selects, one_group};
 use crate::name_set::NameSet;
 use crate::rules::Rule;
 use indexmap::IndexMap;
-use mk_graph::{Graph, GraphFault, Groups, Name, Node, MAX_NODES};
+use mk_graph::{Graph, GraphFault, Groups, MAX_NODES, Name, Node};
 use std::alloc::{AllocError, Global};
 
 /// For each target the places of the rule lines that name it, in their order.
@@ -201,11 +201,7 @@ fn nodes_of<'a>(
 
 /// The graph of what the goals reach. Fault 43 where over 4,096 names are reached, else 42 where
 /// prerequisites form a cycle.
-pub fn select<'a>(
-    alloc: Global,
-    rules: &[Rule<'a>],
-    goals: &[&'a str],
-) -> Result<Graph, GraphFault>
+pub fn select<'a>(alloc: Global, rules: &[Rule<'a>], goals: &[&'a str]) -> Result<Graph, GraphFault>
     ensures { Selects (map rule_view rules.now) (map (λ goal. goal.now) goals.now) result }
 {
     let table = table_of(alloc, rules)?;

@@ -1,6 +1,5 @@
-use Rattle.std.proofs.Common.{◌≡◌, map, sym, ap, subst, Ok, Err}
+use Rattle.std.proofs.Common.{◌≡◌, map, sym, subst, Ok, Err}
 use Rattle.std.proofs.lemmas.Result.{err_from_is_err_and}
-use Rattle.mk_graph.specs.declared.fault.GraphFault.{GraphFault}
 use Rattle.mk_core.specs.Rules.{rule_view}
 use Rattle.mk_core.specs.Goals.{goal_names}
 use Rattle.mk_core.specs.Selection.{Selects}

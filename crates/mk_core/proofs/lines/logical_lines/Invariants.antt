@@ -1,4 +1,4 @@
-use Rattle.std.proofs.Common.{◌≡◌, ◌+◌, ◌≤◌, ◌++◌, map, length, ℕ, List, Option, None, Some}
+use Rattle.std.proofs.Common.{◌≡◌, ◌+◌, ◌≤◌, ◌++◌, map, length}
 use Rattle.std.specs.List.{enumerate_from}
 use Rattle.mk_core.specs.Lines.{lines_of, pieces, first_fault, line_view}
 use Rattle.mk_core.specs.Parts.{parts_left}

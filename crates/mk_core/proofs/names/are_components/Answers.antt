@@ -1,4 +1,4 @@
-use Rattle.std.proofs.Common.{◌≡◌, ◌∷◌, [], ◌∙◌, sym, arith, rules}
+use Rattle.std.proofs.Common.{◌≡◌, ◌∷◌, [], ◌∙◌, sym, arith}
 use Rattle.std.specs.List.{slice_split}
 use Rattle.std.proofs.lemmas.List.{nil_from_length}
 use Rattle.mk_core.specs.Parts.{is_byte}

@@ -1,4 +1,4 @@
-use Rattle.std.proofs.Common.{◌<◌, length, get_or, arith}
+use Rattle.std.proofs.Common.{◌<◌, length, arith}
 use Rattle.mk_core.specs.Table.{places_at}
 use Rattle.mk_core.proofs.TableLemmas.{seen_more, noted_same, noted_more}
 use Rattle.mk_core.proofs.selection.add_targets.Goals as goal

@@ -1,4 +1,4 @@
-use Rattle.std.proofs.Common.{map, length, ◌<◌, arith, sym, ap, subst, ◌∙◌}
+use Rattle.std.proofs.Common.{map, length, ◌<◌, sym, ap, subst, ◌∙◌}
 use Rattle.std.proofs.lemmas.List.{length-map}
 use Rattle.mk_graph.specs.Graph.{IsSound}
 use Rattle.mk_core.specs.Rules.{rule_view}

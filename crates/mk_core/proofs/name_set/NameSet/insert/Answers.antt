@@ -1,4 +1,4 @@
-use Rattle.std.proofs.Common.{◌≡◌, List, [], ◌∷◌, ◌++◌, ℕ, Bool, not, cond, map, sym, ap, ◌∙◌, subst}
+use Rattle.std.proofs.Common.{List, ℕ, not, sym, ap, ◌∙◌}
 use Rattle.std.specs.Str.{bytes_eq}
 use Rattle.mk_core.specs.Names.{has_name}
 use Rattle.mk_core.proofs.ListTests.{list_any_map}

@@ -1,4 +1,4 @@
-use Rattle.std.proofs.Common.{List, ℕ, sym, ap, ◌∙◌}
+use Rattle.std.proofs.Common.{sym, ap, ◌∙◌}
 use Rattle.mk_core.specs.Names.{number_of}
 use Rattle.mk_core.proofs.NameSets.{number_found, number_missing}
 use Rattle.mk_core.proofs.name_set.NameSet.number_of.Goals as goal
