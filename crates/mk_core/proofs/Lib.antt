@@ -15,3 +15,4 @@ pub mod Walking
 pub mod Soundness
 pub mod Handed
 pub mod Answering
+pub mod OneAnswer

@@ -93,20 +93,20 @@ module _ (needs : Name → List Name) where
   stays_met {met} (new {name = other} u m) name h = stays_met m name (Has_left met (other ∷ []) name h)
 
   -- what is to do is met
-  gets_met : {met todo all : List Name} → Meets needs met todo all → (name : Name) → Has todo name → Has all name
+  pub gets_met : {met todo all : List Name} → Meets needs met todo all → (name : Name) → Has todo name → Has all name
   gets_met ends name h = absurd h
   gets_met (known k m) name (inl e) = subst (Has _) e (stays_met m _ k)
   gets_met (known k m) name (inr h) = gets_met m name h
   gets_met {met} (new {name = other} u m) name (inl e) = stays_met m name (Has_right met (other ∷ []) name (inl e))
   gets_met (new {todo} {name = other} u m) name (inr h) = gets_met m name (Has_right (needs other) todo name h)
 
-  stay_distinct : {met todo all : List Name} → Meets needs met todo all → IsDistinct met → IsDistinct all
+  pub stay_distinct : {met todo all : List Name} → Meets needs met todo all → IsDistinct met → IsDistinct all
   stay_distinct ends d = d
   stay_distinct (known k m) d = stay_distinct m d
   stay_distinct {met} (new {name} u m) d = stay_distinct m (push_distinct met name d u)
 
   -- a fact that goes from a name to its prerequisites
-  goes_along : {met todo all : List Name} (P : Name → Type 0) → ((n w : Name) → Has all n → P n → Has (needs n) w → P w) → Meets needs met todo all
+  pub goes_along : {met todo all : List Name} (P : Name → Type 0) → ((n w : Name) → Has all n → P n → Has (needs n) w → P w) → Meets needs met todo all
       → ((m : Name) → Has met m → P m) → ((t : Name) → Has todo t → P t) → (a : Name) → Has all a → P a
   goes_along P step ends of_met of_todo a h = of_met a h
   goes_along P step (known k m) of_met of_todo a h = goes_along P step m of_met (λ t k2. of_todo t (inr k2)) a h
@@ -117,7 +117,7 @@ module _ (needs : Name → List Name) where
       a h
 
   -- prerequisites of what is met are met
-  stay_closed : {met todo all : List Name} → Meets needs met todo all → ((n : Name) → Has met n → (w : Name) → Has (needs n) w → Has met w ⊎ Has todo w) → (n : Name) → Has all n → (w : Name) → Has (needs n) w → Has all w
+  pub stay_closed : {met todo all : List Name} → Meets needs met todo all → ((n : Name) → Has met n → (w : Name) → Has (needs n) w → Has met w ⊎ Has todo w) → (n : Name) → Has all n → (w : Name) → Has (needs n) w → Has all w
   stay_closed ends closed n h w k = ⊎_elim (λ x. x) (λ x. absurd x) (closed n h w k)
   stay_closed {met} (known {todo} {name} there m) closed n h w k =
       stay_closed m (λ n2 h2 w2 k2. ⊎_elim inl (λ x. ⊎_elim (λ e. inl (subst (Has met) e there)) inr x) (closed n2 h2 w2 k2)) n h w k

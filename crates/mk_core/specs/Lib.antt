@@ -16,3 +16,4 @@ pub mod Table
 pub mod GraphText
 pub mod FaultText
 pub mod Answer
+pub mod Laws

@@ -5,6 +5,7 @@ mod answer;
 mod fault;
 mod files;
 mod goals;
+pub mod laws;
 mod lines;
 mod mem_files;
 mod name_set;

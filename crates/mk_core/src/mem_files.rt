@@ -85,11 +85,7 @@ impl MemFiles {
 
     /// Reads, as a `Files` does. The read that is to fail fails, and no other does; failures are
     /// counted, and reads are, up to the greatest number and then no further.
-    pub fn read_next(
-        &mut self,
-        alloc: Global,
-        name: &str,
-    ) -> Result<Option<Vec<u8>>, FilesError>
+    pub fn read_next(&mut self, alloc: Global, name: &str) -> Result<Option<Vec<u8>>, FilesError>
         requires { failures_of self.old < 2 ^ 64 - 1 }
         ensures files { told_by self.new ≡ told_by self.old }
         ensures failing { failing_of self.new ≡ failing_of self.old }

@@ -1,0 +1,25 @@
+//! Laws of what goals reach, and of the answer. Each is the contract of a function that does
+//! nothing: who calls it has the law.
+
+ghost use Rattle.mk_core.specs.Laws.{MeetsWhatIsReached, GraphIsOne, AnswerIsOne};
+
+use mk_graph::laws::walk_has_one_end;
+
+/// The names that the graph is made of are those that paths of prerequisites join to a goal, each
+/// once.
+pub fn meets_what_is_reached()
+    ensures { MeetsWhatIsReached }
+{}
+
+/// Rule lines and goals have at most one graph.
+pub fn graph_is_one()
+    ensures { GraphIsOne }
+{}
+
+/// A request over files that are told has at most one answer, beside want of memory and failed
+/// reads: so `graph_text` answers exactly that.
+pub fn answer_is_one()
+    ensures { AnswerIsOne }
+{
+    walk_has_one_end();
+}
