@@ -159,7 +159,7 @@ pub fn run<F: Files, S: AsStr>(
         IsAnswered (F.told files.old) (F.failed files.old) (F.failed files.new)
         (asking makefile asked) (written outcome)) }
 
-    // Others are refused, and nothing is read.
+    // Others are refused, and no failed read is counted.
     ensures refused { IfOk result (λ outcome. faults_of (map S.text words.now) ≢ [] →
         IsRefused (faults_of (map S.text words.now)) (written outcome)
         × (F.failed files.new ≡ F.failed files.old)) }
