@@ -1,8 +1,8 @@
 -- What goals reach, their graph and the answer are one.
-use Rattle.std.proofs.Common.{◌≡◌, ℕ, ◌<◌, ◌≤◌, List, [], ◌∷◌, ◌++◌, map, length, Result, Ok, Err, ◌⊎◌, inl, inr, refl, sym, ap, subst, ◌∙◌, arith}
-use Rattle.mk_graph.specs.Membership.{Has, IsDistinct}
+use Rattle.std.proofs.Common.{◌≡◌, ℕ, List, [], map, Result, Ok, Err, ◌⊎◌, inl, inr, refl, sym, ap, subst, ◌∙◌, arith}
+use Rattle.mk_graph.specs.Membership.{Has}
 use Rattle.mk_graph.specs.Graph as value
-use Rattle.mk_graph.specs.Build.{Builds, WalksAll}
+use Rattle.mk_graph.specs.Build.{Builds}
 use Rattle.mk_graph.specs.Walk.{Outcome, Through, Closes}
 use Rattle.mk_graph.specs.Laws.{WalkHasOneEnd}
 use Rattle.mk_graph.specs.declared.fault.GraphFault.{GraphFault}
@@ -13,8 +13,8 @@ use Rattle.mk_core.specs.declared.request.Request.{Request}
 use Rattle.mk_core.specs.Files.{Told}
 use Rattle.mk_core.specs.Rules.{Rule}
 use Rattle.mk_core.specs.GraphText.{graph_text}
-use Rattle.mk_core.specs.Selection.{Meets, ends, known, new, IsGraphOf, graph_of, prerequisites_of}
-use Rattle.mk_core.specs.Answer.{Says, SaysOf, Prints, Draws, Answers, IsAsked, read_for}
+use Rattle.mk_core.specs.Selection.{Meets, ends, known, new, graph_of, prerequisites_of}
+use Rattle.mk_core.specs.Answer.{Prints, Draws, Answers, read_for}
 use Rattle.mk_core.specs.Laws.{Reaches, goal, onward, MeetsWhatIsReached, GraphIsOne, IsSettled, AnswerIsOne}
 use Rattle.mk_core.proofs.Soundness.{stay_distinct, gets_met, stay_closed, goes_along}
 

@@ -1,5 +1,5 @@
 -- Laws of what goals reach, and of the answer.
-use Rattle.std.specs.Prelude.{◌≡◌, List, ℕ, [], ◌↔◌, Result, Ok, Err}
+use Rattle.std.specs.Prelude.{◌≡◌, List, ℕ, [], ◌↔◌, Result, Err}
 use Rattle.mk_graph.specs.Membership.{Has, IsDistinct}
 use Rattle.mk_graph.specs.Graph as value
 use Rattle.mk_graph.specs.declared.fault.GraphFault.TheVariants as graph

@@ -58,13 +58,14 @@ impl MemFiles {
     }
 
     /// Adds a file behind the others.
-    pub fn add(&mut self, alloc: Global, name: &str, text: &[u8]) -> Result<(), AllocError>
+    pub fn add(&mut self, name: &str, text: &[u8]) -> Result<(), AllocError>
         ensures ok { OnOk result (told_by self.new ≡ told_by self.old ++ (name.now, text.now) ∷ []) }
         ensures err { OnErr result (told_by self.new ≡ told_by self.old) }
         ensures failures { failures_of self.new ≡ failures_of self.old }
         ensures failing { failing_of self.new ≡ failing_of self.old }
         ensures reads { reads_of self.new ≡ reads_of self.old }
     {
+        let alloc = *self.files.allocator();
         let file = MemFile {
             name: Name::new(alloc, name)?,
             text: Vec::from_slice(alloc, text)?,

@@ -101,7 +101,7 @@ pub fn text_of(alloc: Global, graph: &Graph) -> Result<Vec<u8>, AllocError>
     out.extend_from_slice(b"goals")?;
     push_names(&mut out, graph, graph.goals())?;
     out.push(b'\n')?;
-    let order = graph.serial(alloc)?;
+    let order = graph.serial()?;
     push_nodes(&mut out, graph, &order)?;
     Ok(out)
 }

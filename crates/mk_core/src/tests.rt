@@ -39,7 +39,7 @@ fn answer(alloc: Global, files: &mut MemFiles, request: &Request) -> Result<Stri
 /// What is printed over a `makefile` of this text.
 fn over(alloc: Global, text: &[u8], words: &str) -> Result<String, Fail> {
     let mut files = MemFiles::new(alloc);
-    files.add(alloc, "makefile", text)?;
+    files.add("makefile", text)?;
     answer(alloc, &mut files, &request(alloc, None, words)?)
 }
 
@@ -197,7 +197,7 @@ fn chooses_makefiles(rt: HostRuntime) -> Result<(), Fail> {
     ];
     for (name, makefile, fails_at, printed) in rows {
         let mut files = MemFiles::new(rt.alloc());
-        files.add(rt.alloc(), name, b"a:")?;
+        files.add(name, b"a:")?;
         files.fail_at(fails_at);
         let got = answer(rt.alloc(), &mut files, &request(rt.alloc(), makefile, "")?)?;
         assert_eq!(rt;
@@ -207,9 +207,9 @@ fn chooses_makefiles(rt: HostRuntime) -> Result<(), Fail> {
         );
     }
     let mut files = MemFiles::new(rt.alloc());
-    files.add(rt.alloc(), "Makefile", b"b:")?;
-    files.add(rt.alloc(), "makefile", b"a:")?;
-    files.add(rt.alloc(), "makefile", b"c:")?;
+    files.add("Makefile", b"b:")?;
+    files.add("makefile", b"a:")?;
+    files.add("makefile", b"c:")?;
     let got = answer(rt.alloc(), &mut files, &request(rt.alloc(), None, "")?)?;
     assert_eq!(rt; got.as_str(), "goals a\na:\n");
     Ok(())
@@ -341,7 +341,7 @@ fn parts_words(rt: HostRuntime) -> Result<(), Fail> {
 #[test]
 fn counts_failed_reads(rt: HostRuntime) -> Result<(), Fail> {
     let mut files = MemFiles::new(rt.alloc());
-    files.add(rt.alloc(), "a", b"x")?;
+    files.add("a", b"x")?;
     files.fail_at(2);
     assert_eq!(rt;
         files.read(rt.alloc(), "a")?.as_deref(),

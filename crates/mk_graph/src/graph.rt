@@ -83,10 +83,10 @@ impl Graph {
     /// Rules"). `laws` says what this order keeps.
     ///
     /// It fails for want of memory alone.
-    pub fn serial(&self, alloc: Global) -> Result<Vec<usize>, AllocError>
+    pub fn serial(&self) -> Result<Vec<usize>, AllocError>
         ensures { IfOk result (λ order. order.items ≡ serial_order self.now) }
     {
-        Vec::from_slice(alloc, &self.order)
+        self.order.clone()
     }
 }
 

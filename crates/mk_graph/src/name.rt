@@ -38,6 +38,14 @@ impl Name {
         Name { text }
     }
 
+    /// The text that the name spells, without a copy.
+    pub fn into_string(self) -> String
+        ensures { string_bytes result ≡ self }
+    {
+        let Name { text } = self;
+        text
+    }
+
     /// The name as text.
     pub fn as_str(&self) -> &str
         ensures { result.now ≡ self.now }
@@ -78,6 +86,14 @@ impl Names {
         Names { names }
     }
 
+    /// The list of the names, without a copy.
+    pub fn into_vec(self) -> Vec<Name>
+        ensures { result.items ≡ self }
+    {
+        let Names { names } = self;
+        names
+    }
+
     /// The names as a slice.
     pub fn as_slice(&self) -> &[Name]
         ensures { result.now ≡ self.now }
@@ -106,6 +122,14 @@ impl Groups {
         ensures { result ≡ map (λ group. group.items) groups.items }
     {
         Groups { groups }
+    }
+
+    /// The list of the groups, without a copy.
+    pub fn into_vec(self) -> Vec<Vec<usize>>
+        ensures { map (λ group. group.items) result.items ≡ self }
+    {
+        let Groups { groups } = self;
+        groups
     }
 
     /// The groups as a slice.

@@ -157,7 +157,7 @@ fn chain(alloc: Global, count: usize) -> Result<Vec<Node>, AllocError>
 /// The names in the serial order, each followed by a blank.
 fn serial_names(alloc: Global, graph: &Graph) -> Result<String, AllocError> {
     let mut text = String::new(alloc);
-    for number in &graph.serial(alloc)? {
+    for number in &graph.serial()? {
         if let Some(node) = graph.nodes().get(*number) {
             text.push_str(node.name.as_str())?;
             text.push(' ')?;
@@ -225,7 +225,7 @@ fn nothing(rt: HostRuntime) -> Result<(), Fail> {
     let graph = built(&rt, alloc, Vec::new(alloc), &[])?;
     assert!(rt; graph.nodes().is_empty());
     assert!(rt; graph.goals().is_empty());
-    assert!(rt; graph.serial(alloc)?.is_empty());
+    assert!(rt; graph.serial()?.is_empty());
     Ok(())
 }
 
@@ -233,7 +233,7 @@ fn nothing(rt: HostRuntime) -> Result<(), Fail> {
 fn greatest_chain(rt: HostRuntime) -> Result<(), Fail> {
     let alloc = rt.alloc();
     let graph = built(&rt, alloc, chain(alloc, 4096)?, &[0])?;
-    let order = graph.serial(alloc)?;
+    let order = graph.serial()?;
     assert_eq!(rt; order.len(), 4096);
     assert_eq!(rt; order.first().copied(), Some(4095));
     assert_eq!(rt; order.last().copied(), Some(0));

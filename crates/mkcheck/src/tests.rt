@@ -20,7 +20,7 @@ fn holding(alloc: Global, text: &str) -> Result<MemFiles, AllocError>
     ensures { IfOk result (λ files. failures_of files ≡ 0) }
 {
     let mut files = MemFiles::new(alloc);
-    files.add(alloc, "makefile", text.as_bytes())?;
+    files.add("makefile", text.as_bytes())?;
     Ok(files)
 }
 
