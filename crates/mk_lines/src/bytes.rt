@@ -1,0 +1,44 @@
+//! Parts of a text between separators, and blanks.
+
+ghost use Rattle.std.specs.Prelude.{◌≡◌, ◌∷◌, ◌<◌, length, drop, IfSome};
+ghost use Rattle.std.specs.Option.{option_map};
+ghost use Rattle.std.specs.List.{slice_split, prefix_len};
+ghost use Rattle.mk_lines.specs.Bytes.{is_byte, is_blank, is_blank_alone, trimmed, parts_left};
+
+use bstr::ByteSlice;
+
+/// The part up to the first separator, and what follows that separator.
+pub fn cut(text: &[u8], separator: u8) -> (&[u8], Option<&[u8]>)
+    ensures shorter { IfSome result.1 (λ rest. length rest.now < length text.now) }
+    ensures parts { slice_split (is_byte separator) text.now ≡ result.0.now ∷ parts_left separator (option_map (λ rest. rest.now) result.1) }
+{
+    match text.find_byte(separator) {
+        Some(at) => (&text[..at], Some(&text[at + 1..])),
+        None => (text, None),
+    }
+}
+
+/// Whether a byte is a space or a tab.
+pub fn is_blank(byte: u8) -> bool
+    ensures { result ≡ is_blank byte }
+{
+    byte == b' ' || byte == b'\t'
+}
+
+/// Whether a text has nothing but spaces and tabs.
+pub fn is_blank_alone(text: &[u8]) -> bool
+    ensures { result ≡ is_blank_alone text.now }
+{
+    text.iter().all(|b| is_blank(*b))
+}
+
+/// The text behind the blanks that lead it.
+pub fn trimmed(text: &[u8]) -> &[u8]
+    ensures { result.now ≡ trimmed text.now }
+{
+    let mut rest = text;
+    while let [b' ' | b'\t', after @ ..] = rest {
+        rest = after;
+    }
+    rest
+}

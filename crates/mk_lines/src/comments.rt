@@ -1,0 +1,82 @@
+//! Comments of plain lines.
+
+ghost use Rattle.std.specs.Prelude.{◌≡◌, ◌≤◌, length, true, false, IfOk};
+ghost use Rattle.std.specs.Cow.{cow_slice_items};
+ghost use Rattle.mk_lines.specs.Borrowed.{is_borrowed};
+ghost use Rattle.mk_lines.specs.Comments.{spared_at, comment_at, unescaped, has_escaped_hash, before_comment, uncomment};
+
+use crate::references::first_outside;
+use crate::rule_lines::is_rule_line;
+use std::alloc::{AllocError, Global};
+use std::borrow::CowSlice;
+
+/// Where the part of a plain line begins that stays as it is: at the first `;` outside references
+/// of a rule line, else at its end.
+fn spared_at(alloc: Global, text: &[u8]) -> Result<usize, AllocError>
+    ensures exact { IfOk result (λ at. at ≡ spared_at text.now) }
+    ensures within { IfOk result (λ at. at ≤ length text.now) }
+{
+    if !is_rule_line(alloc, text)? {
+        return Ok(text.len());
+    }
+    Ok(first_outside(alloc, b";", text)?.unwrap_or(text.len()))
+}
+
+/// Where the first `#` stands that isn't directly behind a backslash.
+fn comment_at(text: &[u8]) -> Option<usize>
+    ensures { result ≡ comment_at text.now }
+{
+    let mut behind_backslash = false;
+    for (at, byte) in text.iter().enumerate() {
+        if *byte == b'#' && !behind_backslash {
+            return Some(at);
+        }
+        behind_backslash = *byte == b'\\';
+    }
+    None
+}
+
+/// Whether a text holds `\#`.
+fn has_escaped_hash(text: &[u8]) -> bool
+    ensures { result ≡ has_escaped_hash text.now }
+{
+    text.windows(2).any(|pair| pair == b"\\#".as_slice())
+}
+
+/// Adds a text with `#` for each `\#`.
+fn push_unescaped(into: &mut Vec<u8>, text: &[u8]) -> Result<(), AllocError>
+{
+    let mut rest = text;
+    while let [byte, after @ ..] = rest {
+        rest = after;
+        if *byte != b'\\' || !matches!(after, [b'#', ..]) {
+            into.push(*byte)?;
+        }
+    }
+    Ok(())
+}
+
+/// A plain line without its comment, and with `#` for each `\#` before it.
+///
+/// A comment begins at the first `#` that isn't directly behind a backslash and goes to the end of
+/// the line. On a rule line no comment begins behind the first `;` outside references, and the text
+/// from there on stays as it is (the standard's `make`, "Makefile Syntax"). Blanks that lead the
+/// line stay. The answer is a slice of the text where no `\#` was changed. The error is want of
+/// memory alone.
+pub fn uncomment<'a>(alloc: Global, text: &'a [u8]) -> Result<CowSlice<'a, u8>, AllocError>
+    ensures exact { IfOk result (λ line. cow_slice_items line ≡ uncomment text.now) }
+    ensures lends { IfOk result (λ line. has_escaped_hash (before_comment text.now) ≡ false → is_borrowed line ≡ true) }
+{
+    let (read, spared) = text.split_at(spared_at(alloc, text)?);
+    let comment = comment_at(read);
+    let kept = &read[..comment.unwrap_or(read.len())];
+    if !has_escaped_hash(kept) {
+        return Ok(CowSlice::Borrowed(if comment.is_some() { kept } else { text }));
+    }
+    let mut line = Vec::new(alloc);
+    push_unescaped(&mut line, kept)?;
+    if comment.is_none() {
+        line.extend_from_slice(spared)?;
+    }
+    Ok(CowSlice::Owned(line))
+}

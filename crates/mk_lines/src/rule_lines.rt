@@ -1,0 +1,54 @@
+//! Which plain lines are rule lines.
+
+ghost use Rattle.std.specs.Prelude.{◌≡◌, IfOk};
+ghost use Rattle.mk_lines.specs.RuleLines.{first_word, is_include, is_rule_line, begins_with_rule_colon};
+
+use crate::bytes::{is_blank, trimmed};
+use crate::references::first_outside;
+use std::alloc::{AllocError, Global};
+
+/// The bytes before the first blank, behind the blanks that lead the text.
+fn first_word(text: &[u8]) -> &[u8]
+    ensures { result.now ≡ first_word text.now }
+{
+    let text = trimmed(text);
+    match text.iter().position(|b| is_blank(*b)) {
+        Some(at) => &text[..at],
+        None => text,
+    }
+}
+
+/// Whether the first word of a plain line is `include` or `-include`.
+pub fn is_include(text: &[u8]) -> bool
+    ensures { result ≡ is_include text.now }
+{
+    let word = first_word(text);
+    word == b"include".as_slice() || word == b"-include".as_slice()
+}
+
+/// Whether a text begins with a colon that has neither `:` nor `=` behind it.
+fn begins_with_rule_colon(text: &[u8]) -> bool
+    ensures { result ≡ begins_with_rule_colon text.now }
+{
+    match text {
+        [b':', b':' | b'=', ..] => false,
+        [b':', ..] => true,
+        _ => false,
+    }
+}
+
+/// Whether a plain line is a rule line: it is no include line, and the first of `=`, `:`, `;`
+/// outside references is a colon with neither `:` nor `=` behind it. The error is want of memory
+/// alone.
+#[tactic(auto, unfolding(crate::specs::RuleLines::is_rule_line))]
+pub fn is_rule_line(alloc: Global, text: &[u8]) -> Result<bool, AllocError>
+    ensures { IfOk result (λ is_rule. is_rule ≡ is_rule_line text.now) }
+{
+    if is_include(text) {
+        return Ok(false);
+    }
+    let Some(at) = first_outside(alloc, b"=:;", text)? else {
+        return Ok(false);
+    };
+    Ok(begins_with_rule_colon(&text[at..]))
+}
