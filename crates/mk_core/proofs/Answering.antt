@@ -7,12 +7,12 @@ use Rattle.mk_graph.specs.Graph as value
 use Rattle.mk_graph.specs.declared.fault.GraphFault.{GraphFault}
 use Rattle.mk_graph.specs.declared.fault.GraphFault.TheVariants as graph
 use Rattle.mk_core.specs.declared.fault.Fault.{Fault}
-use Rattle.mk_core.specs.declared.fault.Fault.TheVariants.{NulByte, LineTooLong, TooManyLines, BadMacroName, DoubleColon, NotALine, StrayCommand, BadName, BadMakefileName, ArchiveMember, UnknownSpecial, TwoRecipes, ReadFailed, NoMakefile, NoGoal, Graph, Memory}
+use Rattle.mk_core.specs.declared.fault.Fault.TheVariants.{Line, BadMacroName, DoubleColon, NotALine, StrayCommand, BadName, BadMakefileName, ArchiveMember, UnknownSpecial, TwoRecipes, ReadFailed, NoMakefile, NoGoal, Graph, Memory}
 use Rattle.mk_core.specs.Rules.{Rule}
 use Rattle.mk_core.specs.Goals.{goal_names}
 use Rattle.mk_core.specs.Selection.{Selects}
 use Rattle.mk_core.specs.GraphText.{graph_text}
-use Rattle.mk_core.specs.Outcome.{◌>>=◌, IsMemory, IsOfText, Fails}
+use Rattle.mk_core.specs.Steps.{◌>>=◌, IsMemory, IsOfText, Fails}
 use Rattle.mk_core.specs.declared.request.Request.{Request}
 use Rattle.mk_core.specs.Files.{Told, text_at}
 use Rattle.mk_core.specs.Answer.{SaysOf, Rises, Draws, Answers, Finds, FindsUnder, IsAsked, IsLookedFor, PrintsFor, tested_name, no_operands, named, text_or, makefile_of, makefile_for, read_for, rules_of, rules_and_goals}
@@ -23,9 +23,7 @@ right (inr e) = e
 
 -- a fault of the text or the words is answered as it is defined
 pub of_text : (asked : List ℕ → Type 0) (exact : Type 0) (fault : Fault) → IsOfText fault → (IsMemory fault ⊎ exact) → SaysOf asked exact fault
-of_text asked exact (NulByte p) own e = right e
-of_text asked exact (LineTooLong p) own e = right e
-of_text asked exact (TooManyLines p) own e = right e
+of_text asked exact (Line p fault) own e = right e
 of_text asked exact (BadMacroName p) own e = right e
 of_text asked exact (DoubleColon p) own e = right e
 of_text asked exact (NotALine p) own e = right e
@@ -50,9 +48,7 @@ NotRead fault = (name : List ℕ) → fault ≡ ReadFailed name → ⊥
 
 -- a count stays where no failed read is answered
 pub stays : (old new : ℕ) (fault : Fault) → NotRead fault → new ≡ old → Rises old new fault
-stays old new (NulByte p) other e = e
-stays old new (LineTooLong p) other e = e
-stays old new (TooManyLines p) other e = e
+stays old new (Line p fault) other e = e
 stays old new (BadMacroName p) other e = e
 stays old new (DoubleColon p) other e = e
 stays old new (NotALine p) other e = e
@@ -76,9 +72,7 @@ printed_not_read fault exact s name e = subst (λ f. SaysOf (λ name. ⊥) exact
 
 -- what is said of a fault, where other names may be asked for and another statement follows
 pub says_map : (asked more : List ℕ → Type 0) (exact other : Type 0) (fault : Fault) → ((name : List ℕ) → asked name → more name) → (exact → other) → SaysOf asked exact fault → SaysOf more other fault
-says_map asked more exact other (NulByte p) f g s = g s
-says_map asked more exact other (LineTooLong p) f g s = g s
-says_map asked more exact other (TooManyLines p) f g s = g s
+says_map asked more exact other (Line p fault) f g s = g s
 says_map asked more exact other (BadMacroName p) f g s = g s
 says_map asked more exact other (DoubleColon p) f g s = g s
 says_map asked more exact other (NotALine p) f g s = g s
@@ -101,6 +95,14 @@ module _ (file text : List ℕ) (words : List (List ℕ)) where
   unfolding rules_and_goals
   rules_fail fault own h =
       of_text (λ name. ⊥) _ fault own (⊎_map (λ m. m) (λ e. draws_fault fault _ (ap (λ r. r >>= (λ rules. goal_names rules words >>= (λ goals. Ok (rules, goals)))) e)) h)
+
+  pub lines_fail : (fault : Fault) → IsOfText fault → Fails fault (lines_of file text) → PrintsFor file text words (Err fault)
+  unfolding rules_of
+  lines_fail fault own h = rules_fail fault own (⊎_map (λ m. m) (ap (λ r. r >>= rules_among file)) h)
+
+  pub behind_lines : (lines : List Line) → lines_of file text ≡ Ok lines → rules_of file text ≡ rules_among file lines
+  unfolding rules_of
+  behind_lines lines e = ap (λ r. r >>= rules_among file) e
 
   pub goals_fail : (rules : List Rule) (fault : Fault) → IsOfText fault → rules_of file text ≡ Ok rules → Fails fault (goal_names rules words) → PrintsFor file text words (Err fault)
   unfolding rules_and_goals

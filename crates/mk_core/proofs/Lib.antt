@@ -1,7 +1,5 @@
 pub mod FirstByte
-pub mod TextLeft
 pub mod Utf8
-pub mod Components
 pub mod ListTests
 pub mod WithFront
 pub mod NameSets

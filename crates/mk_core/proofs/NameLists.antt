@@ -4,7 +4,7 @@ use Rattle.std.specs.Borrow.{Bor}
 use Rattle.std.proofs.lemmas.List.{drop_more, drop_all, take_more, map_push}
 use Rattle.mk_core.specs.declared.fault.Fault.{Fault}
 use Rattle.mk_core.specs.declared.fault.Place.{Place}
-use Rattle.mk_core.specs.Outcome.{◌>>=◌, Fails}
+use Rattle.mk_core.specs.Steps.{◌>>=◌, Fails}
 use Rattle.mk_core.specs.Names.{name_of, names_of}
 use Rattle.mk_core.proofs.WithFront.{with_front, with_front_more}
 

@@ -8,7 +8,7 @@ use Rattle.mk_graph.specs.Laws.{WalkHasOneEnd}
 use Rattle.mk_graph.specs.declared.fault.GraphFault.{GraphFault}
 use Rattle.mk_graph.specs.declared.fault.GraphFault.TheVariants as graph
 use Rattle.mk_core.specs.declared.fault.Fault.{Fault}
-use Rattle.mk_core.specs.declared.fault.Fault.TheVariants.{NulByte, LineTooLong, TooManyLines, BadMacroName, DoubleColon, NotALine, StrayCommand, BadName, BadMakefileName, ArchiveMember, UnknownSpecial, TwoRecipes, ReadFailed, NoMakefile, NoGoal, Graph, Memory}
+use Rattle.mk_core.specs.declared.fault.Fault.TheVariants.{Line, BadMacroName, DoubleColon, NotALine, StrayCommand, BadName, BadMakefileName, ArchiveMember, UnknownSpecial, TwoRecipes, ReadFailed, NoMakefile, NoGoal, Graph, Memory}
 use Rattle.mk_core.specs.declared.request.Request.{Request}
 use Rattle.mk_core.specs.Files.{Told}
 use Rattle.mk_core.specs.Rules.{Rule}
@@ -46,9 +46,7 @@ graph_is_one rules goals one other (all, m, e) (same, n, f) = e ∙ (ap (graph_o
 by_graph : (handed : value.Graph) (answer : Result (List ℕ) Fault) → Prints handed answer → ((text : List ℕ) × (answer ≡ Ok text) × Prints handed (Ok text)) ⊎ ((fault : GraphFault) × (answer ≡ Err (Graph fault)) × Builds handed (Err fault))
 by_graph handed (Ok text) p = inl (text, refl, p)
 by_graph handed (Err (Graph fault)) p = inr (fault, refl, p)
-by_graph handed (Err (NulByte x)) p = absurd p
-by_graph handed (Err (LineTooLong x)) p = absurd p
-by_graph handed (Err (TooManyLines x)) p = absurd p
+by_graph handed (Err (Line x fault)) p = absurd p
 by_graph handed (Err (BadMacroName x)) p = absurd p
 by_graph handed (Err (DoubleColon x)) p = absurd p
 by_graph handed (Err (NotALine x)) p = absurd p
@@ -69,9 +67,7 @@ drawn files request (Ok text) s a = a
 drawn files request (Err (Graph graph.TooManyNodes)) s a = a
 drawn files request (Err (Graph (graph.Cycle names))) s a = a
 drawn files request (Err (Graph graph.Memory)) s a = absurd s
-drawn files request (Err (NulByte x)) s a = a
-drawn files request (Err (LineTooLong x)) s a = a
-drawn files request (Err (TooManyLines x)) s a = a
+drawn files request (Err (Line x fault)) s a = a
 drawn files request (Err (BadMacroName x)) s a = a
 drawn files request (Err (DoubleColon x)) s a = a
 drawn files request (Err (NotALine x)) s a = a

@@ -2,9 +2,9 @@
 use Rattle.std.proofs.Common.{◌≡◌, ℕ, ◌+◌, ◌<◌, ◌≤◌, List, map, length, get_or, drop, Result, Ok, Err, inl, inr, refl, sym, ap, ◌∙◌}
 use Rattle.std.proofs.lemmas.List.{drop_more, drop_all}
 use Rattle.mk_core.specs.declared.fault.Fault.{Fault}
-use Rattle.mk_core.specs.declared.lines.Line.{Line}
-use Rattle.mk_core.specs.Lines.{line_view}
-use Rattle.mk_core.specs.Outcome.{Fails}
+use Rattle.mk_lines.specs.declared.lines.Line.{Line}
+use Rattle.mk_lines.specs.Lines.{line_view}
+use Rattle.mk_core.specs.Steps.{Fails}
 use Rattle.mk_core.specs.Rules.{Read, with_line, with_lines}
 
 -- a line that is read

@@ -8,13 +8,14 @@ use Rattle.mk_core.specs.declared.fault.Fault.{Fault}
 use Rattle.mk_core.specs.declared.fault.Fault.TheVariants.{BadMacroName, BadMakefileName, ReadFailed, NoMakefile, Graph, Memory}
 use Rattle.mk_core.specs.declared.request.Request.{Request}
 use Rattle.mk_core.specs.Files.{Told, text_at}
-use Rattle.mk_core.specs.Names.{is_plain_path}
-use Rattle.mk_core.specs.Lines.{logical_lines}
+use Rattle.mk_lines.specs.Paths.{is_plain_path}
+use Rattle.mk_lines.specs.Lines.{Line}
+use Rattle.mk_core.specs.Lines.{lines_of}
 use Rattle.mk_core.specs.Rules.{Rule, with_lines, nothing_read, all_rules}
 use Rattle.mk_core.specs.Goals.{goal_names}
 use Rattle.mk_core.specs.Selection.{IsGraphOf}
 use Rattle.mk_core.specs.GraphText.{graph_text}
-use Rattle.mk_core.specs.Outcome.{◌>>=◌}
+use Rattle.mk_core.specs.Steps.{◌>>=◌}
 
 -- a makefile that is named has a plain path as its name, other than `-`
 abbrev pub tested_name : Option (List ℕ) → Result (Option (List ℕ)) Fault
@@ -52,12 +53,15 @@ IsLookedFor files None name = (name ≡ codes "makefile") ⊎ ((text_at files (c
 abbrev pub IsAsked : Told → Request → List ℕ → Type 0
 IsAsked files request name = (tested_name request.makefile ≡ Ok request.makefile) × (no_operands request.operands ≡ Ok true) × IsLookedFor files request.makefile name
 
--- the rule lines of a text, in their order
-unfoldable pub rules_of : List ℕ → List ℕ → Result (List Rule) Fault
-rules_of file text = do
-  lines ← logical_lines file text
+-- the rule lines among lines, in their order
+unfoldable pub rules_among : List ℕ → List Line → Result (List Rule) Fault
+rules_among file lines = do
   read ← with_lines file nothing_read lines
   Ok (all_rules read)
+
+-- the rule lines of a text, in their order
+unfoldable pub rules_of : List ℕ → List ℕ → Result (List Rule) Fault
+rules_of file text = lines_of file text >>= rules_among file
 
 -- the rule lines of a text, and the goals over them
 unfoldable pub rules_and_goals : List ℕ → List ℕ → List (List ℕ) → Result (List Rule × List (List ℕ)) Fault

@@ -4,8 +4,10 @@ use Rattle.std.specs.List.{flat_map}
 use Rattle.std.specs.Fmt.{decimal}
 use Rattle.mk_graph.specs.declared.fault.GraphFault.{GraphFault}
 use Rattle.mk_graph.specs.declared.fault.GraphFault.TheVariants as graph
+use Rattle.mk_lines.specs.declared.fault.LineFault.{LineFault}
+use Rattle.mk_lines.specs.declared.fault.LineFault.TheVariants as line
 use Rattle.mk_core.specs.declared.fault.Fault.{Fault}
-use Rattle.mk_core.specs.declared.fault.Fault.TheVariants.{NulByte, LineTooLong, TooManyLines, BadMacroName, DoubleColon, NotALine, StrayCommand, BadName, BadMakefileName, ArchiveMember, UnknownSpecial, TwoRecipes, ReadFailed, NoMakefile, NoGoal, Graph, Memory}
+use Rattle.mk_core.specs.declared.fault.Fault.TheVariants.{Line, BadMacroName, DoubleColon, NotALine, StrayCommand, BadName, BadMakefileName, ArchiveMember, UnknownSpecial, TwoRecipes, ReadFailed, NoMakefile, NoGoal, Graph, Memory}
 use Rattle.mk_core.specs.declared.fault.Place.{Place}
 
 -- FILE:LINE
@@ -19,6 +21,15 @@ refusal number words = codes "refused " ++ (decimal number ++ flat_map (λ word.
 abbrev pub no_memory : List ℕ
 no_memory = codes "want of memory"
 
+abbrev pub place_in : List ℕ → ℕ → List ℕ
+place_in file number = place_text (record { file = file; line = number })
+
+abbrev pub line_fault_text : List ℕ → LineFault → List ℕ
+line_fault_text file (line.NulByte number) = refusal 1 (place_in file number ∷ [])
+line_fault_text file (line.LineTooLong number) = refusal 2 (place_in file number ∷ [])
+line_fault_text file (line.TooManyLines number) = refusal 3 (place_in file number ∷ [])
+line_fault_text file line.Memory = no_memory
+
 abbrev pub graph_fault_text : GraphFault → List ℕ
 graph_fault_text (graph.Cycle names) = refusal 42 names
 graph_fault_text graph.TooManyNodes = refusal 43 []
@@ -29,9 +40,7 @@ optional_name None = []
 optional_name (Some name) = name ∷ []
 
 unfoldable pub fault_text : Fault → List ℕ
-fault_text (NulByte place) = refusal 1 (place_text place ∷ [])
-fault_text (LineTooLong place) = refusal 2 (place_text place ∷ [])
-fault_text (TooManyLines place) = refusal 3 (place_text place ∷ [])
+fault_text (Line file fault) = line_fault_text file fault
 fault_text (BadMacroName place) = refusal 11 (place_text place ∷ [])
 fault_text (DoubleColon place) = refusal 23 (place_text place ∷ [])
 fault_text (NotALine place) = refusal 25 (place_text place ∷ [])

@@ -6,7 +6,7 @@ use Rattle.mk_core.specs.declared.fault.Fault.TheVariants.{BadName, NoGoal}
 use Rattle.mk_core.specs.declared.fault.Place.{Place}
 use Rattle.mk_core.specs.Names.{name_of, wait_word}
 use Rattle.mk_core.specs.Rules.{Rule}
-use Rattle.mk_core.specs.Outcome.{◌>>=◌}
+use Rattle.mk_core.specs.Steps.{◌>>=◌}
 
 -- a goal's name: `.WAIT` and `-` are none
 unfoldable pub goal_of : Place → List ℕ → Result (List ℕ) Fault

@@ -5,8 +5,7 @@ pub use Rattle.mk_graph.specs.Serial
 pub mod Files
 pub mod MemFiles
 pub mod Words
-pub mod Outcome
-pub mod Parts
+pub mod Steps
 pub mod Lines
 pub mod Names
 pub mod Rules

@@ -1,15 +1,17 @@
 -- The rule lines of a makefile.
-use Rattle.std.specs.Prelude.{◌≡◌, ℕ, ◌-◌, ◌==◌, Bool, true, false, not, ◌&&◌, ◌||◌, List, [], ◌∷◌, ◌++◌, map, option_to_list, length, drop, codes, find, slice_index, Option, None, Some, Result, Ok, Err, if◌then◌else◌}
-use Rattle.std.specs.List.{list_all, list_any, before_first, after_first, prefix_len}
+use Rattle.std.specs.Prelude.{◌≡◌, ℕ, ◌==◌, Bool, true, false, not, ◌&&◌, ◌||◌, List, [], ◌∷◌, ◌++◌, map, option_to_list, find, slice_index, Option, None, Some, Result, Ok, Err, if◌then◌else◌}
+use Rattle.std.specs.List.{list_all, list_any, before_first, after_first}
 use Rattle.std.specs.Str.{bytes_eq}
 use Rattle.mk_core.specs.declared.fault.Fault.{Fault}
 use Rattle.mk_core.specs.declared.fault.Fault.TheVariants.{DoubleColon, NotALine, StrayCommand, UnknownSpecial, TwoRecipes}
 use Rattle.mk_core.specs.declared.fault.Place.{Place}
 use Rattle.mk_core.specs.declared.rules.Rule as code
-use Rattle.mk_core.specs.Parts.{is_byte}
-use Rattle.mk_core.specs.Lines.{Line, is_blank}
-use Rattle.mk_core.specs.Names.{words, has_name, names_of, is_special, wait_word}
-use Rattle.mk_core.specs.Outcome.{◌>>=◌}
+use Rattle.mk_lines.specs.Bytes.{is_byte, is_blank, is_blank_alone, trimmed}
+use Rattle.mk_lines.specs.Lines.{Line}
+use Rattle.mk_lines.specs.RuleLines.{is_include}
+use Rattle.mk_lines.specs.Words.{words}
+use Rattle.mk_core.specs.Names.{has_name, names_of, is_special, wait_word}
+use Rattle.mk_core.specs.Steps.{◌>>=◌}
 
 -- a rule line: its targets, its prerequisites, whether commands follow it, and the number of its line
 pub record Rule : Type 0 where
@@ -18,23 +20,9 @@ pub record Rule : Type 0 where
   pub recipe : Bool
   pub line : ℕ
 
--- the text behind the blanks that lead it
-abbrev pub trimmed : List ℕ → List ℕ
-trimmed text = drop (prefix_len is_blank text) text
-
-abbrev pub first_word : List ℕ → List ℕ
-first_word text = before_first is_blank (trimmed text)
-
--- The line is not read yet: it goes on in the next one, or holds `#`, `$`, `=` or `;`, or its first word is
--- `include` or `-include`.
-abbrev pub goes_on : List ℕ → Bool
-goes_on text = slice_index text (length text - 1) == 92
-
+-- What isn't read yet: `$`, `=` and `;`.
 abbrev pub is_unread : ℕ → Bool
-is_unread b = b == 35 || (b == 36 || (b == 61 || b == 59))
-
-abbrev pub is_include : List ℕ → Bool
-is_include text = bytes_eq (first_word text) (codes "include") || bytes_eq (first_word text) (codes "-include")
+is_unread b = b == 36 || (b == 61 || b == 59)
 
 abbrev pub is_colon : ℕ → Bool
 is_colon b = is_byte 58 b
@@ -46,7 +34,7 @@ begins_with_colon (b ∷ text) = is_colon b
 -- the text of the targets and that of the prerequisites, at the first colon
 unfoldable pub rule_parts : Place → List ℕ → Result (List ℕ × List ℕ) Fault
 rule_parts place text =
-    if goes_on text || (list_any is_unread text || is_include text) then Err (NotALine place)
+    if list_any is_unread text || is_include text then Err (NotALine place)
     else (if not (list_any is_colon text) then Err (NotALine place)
     else (if begins_with_colon (after_first is_colon text) then Err (DoubleColon place)
     else (if list_all is_blank (before_first is_colon text) then Err (NotALine place)
@@ -87,12 +75,13 @@ command_line file place text earlier (Some rule) =
     if rule.recipe then Ok (record { earlier = earlier; last = Some rule })
     else given_commands file earlier rule (find (has_commands earlier) rule.targets)
 
--- what is read after one more line
+-- what is read after one more line; one of which a comment alone stood there changes nothing
 unfoldable pub with_line : List ℕ → Read → Line → Result Read Fault
 with_line file read line =
     let place : Place = record { file = file; line = line.first } in
-    if line.command then (if goes_on line.text then Err (NotALine place) else command_line file place line.text read.earlier read.last)
-    else rule_line place line.text >>= λ rule. Ok (record { earlier = all_rules read; last = Some rule })
+    if line.command then command_line file place line.text read.earlier read.last
+    else (if is_blank_alone line.text then Ok read
+    else rule_line place line.text >>= λ rule. Ok (record { earlier = all_rules read; last = Some rule }))
 
 -- what is read after these lines
 unfoldable pub with_lines : List ℕ → Read → List Line → Result Read Fault

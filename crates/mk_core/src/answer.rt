@@ -3,19 +3,20 @@
 ghost use Rattle.std.specs.Prelude.{◌≡◌, ◌<◌, ◌-◌, ◌^◌, ◌⊎◌, true, Option, Some, None, IfOk, IfErr, IfSome};
 ghost use Rattle.std.specs.Option.{option_map};
 ghost use Rattle.mk_core.specs.Files.{text_at};
-ghost use Rattle.mk_core.specs.Outcome.{Gives, IsOfText, seen};
+ghost use Rattle.mk_core.specs.Steps.{Gives, IsOfText, seen};
 ghost use Rattle.mk_core.specs.Answer.{Answers, Counts, Finds, FindsUnder, PrintsFor, named, tested_name, no_operands};
 ghost use Rattle.mk_core.specs.declared.fault.Fault.TheVariants.{ReadFailed, Memory};
 
 use crate::fault::{Fault, Place};
 use crate::files::{Files, FilesError};
 use crate::goals::goal_names;
-use crate::names::plain_path;
+use crate::lines::lines_of;
 use crate::printing::text_of;
 use crate::request::Request;
-use crate::rules::rules_of;
+use crate::rules::rules_among;
 use crate::selection::select;
 use mk_graph::Name;
+use mk_lines::is_plain_path;
 use std::alloc::Global;
 
 /// Tests the name that is given for the makefile. Fault 27 where it is no plain path, or `-`.
@@ -25,7 +26,7 @@ fn test_name(alloc: Global, name: &Option<Name>) -> Result<(), Fault>
 {
     let Some(name) = name else { return Ok(()) };
     let text = name.as_str();
-    if text != "-" && plain_path(text.as_bytes()).is_some() {
+    if text != "-" && is_plain_path(text.as_bytes()) {
         return Ok(());
     }
     Err(Fault::BadMakefileName(Name::new(alloc, text)?))
@@ -124,7 +125,8 @@ fn makefile_for<F: Files>(
 fn printed(alloc: Global, file: &Name, text: &[u8], goals: &[Name]) -> Result<Vec<u8>, Fault>
     ensures { PrintsFor file.now text.now goals.now (seen (λ text. text.items) result) }
 {
-    let rules = rules_of(alloc, file, text)?;
+    let lines = lines_of(alloc, file, text)?;
+    let rules = rules_among(alloc, file, &lines)?;
     let goals = goal_names(alloc, &rules, goals)?;
     let graph = select(alloc, &rules, goals.as_slice())?;
     Ok(text_of(alloc, &graph)?)

@@ -1,9 +1,11 @@
 //! Why a request is refused.
 
 ghost use Rattle.std.specs.Prelude.{◌≡◌};
+ghost use Rattle.mk_core.specs.Steps.{is_want_of_memory};
 ghost use Rattle.mk_core.specs.declared.fault.Fault.TheVariants.{Graph, Memory};
 
 use mk_graph::{GraphFault, Name};
+use mk_lines::LineFault;
 use std::alloc::{AllocError, AllocFailed};
 use thiserror::Error;
 
@@ -20,15 +22,9 @@ pub struct Place {
 /// Why a request is refused: the first fault in the order in which texts are read.
 #[derive(Debug, Drop, Error)]
 pub enum Fault {
-    /// A line holds byte 0 (fault 1).
-    #[error("a line holds byte 0")]
-    NulByte(Place),
-    /// A line is over 65,536 bytes (fault 2).
-    #[error("a line is over 65,536 bytes")]
-    LineTooLong(Place),
-    /// A text has a 65,537th line that isn't of blanks alone (fault 3).
-    #[error("a text has over 65,536 lines")]
-    TooManyLines(Place),
+    /// The text of this file has a faulty line (faults 1 to 3).
+    #[error("{1}")]
+    Line(Name, LineFault),
     /// A macro operand was given, which isn't supported yet (fault 11).
     #[error("a bad macro name")]
     BadMacroName(Place),
@@ -71,6 +67,18 @@ pub enum Fault {
     /// A growth was refused, which may come in place of any answer.
     #[error("want of memory")]
     Memory,
+}
+
+impl Fault {
+    /// Whether a growth was refused, which may come in place of any answer.
+    pub fn is_want_of_memory(&self) -> bool
+        ensures { result ≡ is_want_of_memory self.now }
+    {
+        matches!(
+            self,
+            Fault::Memory | Fault::Line(_, LineFault::Memory) | Fault::Graph(GraphFault::Memory)
+        )
+    }
 }
 
 impl From<GraphFault> for Fault {

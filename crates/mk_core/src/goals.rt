@@ -3,7 +3,7 @@
 ghost use Rattle.std.specs.Prelude.{◌≡◌, map, codes, IfOk, IfErr};
 ghost use Rattle.std.specs.Option.{option_map};
 ghost use Rattle.mk_core.specs.Goals.{goal_of, goals_from, goal_names, first_target, once};
-ghost use Rattle.mk_core.specs.Outcome.{Gives, IsOfText};
+ghost use Rattle.mk_core.specs.Steps.{Gives, IsOfText};
 ghost use Rattle.mk_core.specs.Rules.{rule_view};
 
 use crate::fault::{Fault, Place};

@@ -1,97 +1,74 @@
-//! The lines of a text.
+//! The lines of a makefile, without comments.
 
-ghost use Rattle.std.specs.Prelude.{◌≡◌, map, IfErr};
-ghost use Rattle.std.specs.List.{list_all};
-ghost use Rattle.mk_core.specs.Lines.{is_blank, line_of, line_view, line_fault, unless, logical_lines};
-ghost use Rattle.mk_core.specs.Outcome.{Gives, IsOfText};
+ghost use Rattle.std.specs.Prelude.{◌≡◌, ◌⊎◌, map, IfOk, IfErr};
+ghost use Rattle.mk_lines.specs.Lines.{line_view};
+ghost use Rattle.mk_core.specs.declared.fault.Fault.TheVariants.{Line as LineRefused, Memory};
+ghost use Rattle.mk_core.specs.Lines.{bare, lines_of};
+ghost use Rattle.mk_core.specs.Steps.{Gives, IsOfText};
 
-use crate::fault::{Fault, Place};
-use crate::parts::cut;
+use crate::fault::Fault;
 use mk_graph::Name;
+use mk_lines::{Line, LineFault, logical_lines, uncomment};
 use std::alloc::{AllocError, Global};
+use std::borrow::CowSlice;
 
-/// The longest line, in bytes.
-const MAX_LINE: usize = 65_536;
-
-/// How many lines a text may have, those of blanks alone aside.
-const MAX_LINES: usize = 65_536;
-
-/// A line of a text that isn't of blanks alone.
-#[derive(Debug, Drop)]
-pub struct Line<'a> {
-    /// The number of its first physical line, counted from 1.
-    pub first: usize,
-    /// Whether it is a command line.
-    pub command: bool,
-    /// Its text, of a command line without the tab.
-    pub text: &'a [u8],
-}
-
-/// Whether a piece has spaces and tabs alone.
-pub fn is_blank_alone(piece: &[u8]) -> bool
-    ensures { result ≡ list_all is_blank piece.now }
+/// The fault of a line of this file.
+fn fault_in(alloc: Global, file: &Name, fault: LineFault) -> Fault
+    ensures { (result ≡ Memory) ⊎ (result ≡ LineRefused file.now fault) }
 {
-    piece.iter().all(|b| *b == b' ' || *b == b'\t')
-}
-
-/// The line that is this piece.
-fn line_from(first: usize, piece: &[u8]) -> Line<'_>
-    ensures { line_view result ≡ line_of (first, piece.now) }
-{
-    match piece {
-        [b'\t', text @ ..] => Line {
-            first,
-            command: true,
-            text,
-        },
-        text => Line {
-            first,
-            command: false,
-            text,
-        },
+    if matches!(fault, LineFault::Memory) {
+        return Fault::Memory;
+    }
+    match Name::new(alloc, file.as_str()) {
+        Ok(file) => Fault::Line(file, fault),
+        Err(_) => Fault::Memory,
     }
 }
 
-/// The first fault of a line, before which so many stand in its text.
-fn test_line(alloc: Global, file: &Name, before: usize, line: &Line) -> Result<(), Fault>
-    ensures exact { Gives (λ x. x) result (unless (line_fault file.now before (line_view line.now)) tt) }
-    ensures own { IfErr result IsOfText }
+/// A line without its comment.
+fn bare<'a>(alloc: Global, line: Line<'a>) -> Result<Line<'a>, AllocError>
+    ensures { IfOk result (λ found. line_view found ≡ bare (line_view line.entry)) }
 {
-    let is_nul = line.text.contains(&0);
-    if !is_nul && line.text.len() <= MAX_LINE && before < MAX_LINES {
-        return Ok(());
+    if line.command {
+        return Ok(line);
     }
-    let place = Place {
-        file: Name::new(alloc, file.as_str())?,
-        line: line.first,
+    let Line {
+        first,
+        command,
+        text,
+    } = line;
+    let text = match text {
+        CowSlice::Borrowed(text) => uncomment(alloc, text)?,
+        CowSlice::Owned(text) => CowSlice::Owned(uncomment(alloc, &text)?.into_owned(alloc)?),
     };
-    if is_nul {
-        return Err(Fault::NulByte(place));
-    }
-    if line.text.len() > MAX_LINE {
-        return Err(Fault::LineTooLong(place));
-    }
-    Err(Fault::TooManyLines(place))
+    Ok(Line {
+        first,
+        command,
+        text,
+    })
 }
 
-/// The lines of the text of a file, or the first fault of the first faulty one.
-#[tactic(auto, unfolding(crate::specs::Lines::logical_lines))]
-pub fn logical_lines<'a>(alloc: Global, file: &Name, text: &'a [u8]) -> Result<Vec<Line<'a>>, Fault>
-    ensures exact { Gives (λ lines. map line_view lines.items) result (logical_lines file.now text.now) }
+/// These lines, each without its comment.
+fn bare_lines<'a>(alloc: Global, lines: Vec<Line<'a>>) -> Result<Vec<Line<'a>>, AllocError>
+    ensures { IfOk result (λ found. map line_view found.items ≡ map bare (map line_view lines.entry.items)) }
+{
+    let mut found = Vec::new(alloc);
+    for line in lines {
+        found.push(bare(alloc, line)?)?;
+    }
+    Ok(found)
+}
+
+/// The lines of the text of a file, each without its comment, or the first fault of the first
+/// faulty line.
+#[tactic(auto, unfolding(crate::specs::Lines::lines_of))]
+pub fn lines_of<'a>(alloc: Global, file: &Name, text: &'a [u8]) -> Result<Vec<Line<'a>>, Fault>
+    ensures exact { Gives (λ lines. map line_view lines.items) result (lines_of file.now text.now) }
     ensures own { IfErr result IsOfText }
 {
-    let mut lines = Vec::new(alloc);
-    let mut rest = Some(text);
-    let mut number = 0;
-    while let Some(text) = rest {
-        let (piece, after) = cut(text, b'\n');
-        rest = after;
-        number += 1;
-        if !is_blank_alone(piece) {
-            let line = line_from(number, piece);
-            test_line(alloc, file, lines.len(), &line)?;
-            lines.push(line)?;
-        }
-    }
-    Ok(lines)
+    let lines = match logical_lines(alloc, text) {
+        Ok(lines) => lines,
+        Err(fault) => return Err(fault_in(alloc, file, fault)),
+    };
+    Ok(bare_lines(alloc, lines)?)
 }

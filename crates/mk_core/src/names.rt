@@ -1,20 +1,17 @@
 //! Words and names.
 
 ghost use Rattle.std.specs.Prelude.{◌≡◌, true, false, map, IfOk, IfErr, MatchOption};
-ghost use Rattle.std.specs.List.{slice_split, list_all, list_any};
+ghost use Rattle.std.specs.List.{list_all, list_any};
 ghost use Rattle.std.specs.Str.{is_utf8};
-ghost use Rattle.mk_core.specs.Parts.{is_byte};
-ghost use Rattle.mk_core.specs.Names.{words, is_proper, goes_up_first, are_components, is_visible, has_path_shape, is_plain_path, is_make_name, is_reserved, is_bracket, is_special, is_capital, name_of, names_of};
-ghost use Rattle.mk_core.specs.Outcome.{Gives, IsOfText};
+ghost use Rattle.mk_lines.specs.Words.{words};
+ghost use Rattle.mk_core.specs.Names.{is_make_name, is_reserved, is_bracket, is_special, is_capital, name_of, names_of};
+ghost use Rattle.mk_core.specs.Steps.{Gives, IsOfText};
 
 use crate::fault::{Fault, Place};
-use crate::parts::cut;
 use mk_graph::Name;
+use mk_lines::is_plain_path;
 use std::alloc::{AllocError, Global};
 use std::str;
-
-/// The longest name, in bytes.
-const MAX_NAME: usize = 4096;
 
 /// The longest parts without spaces and tabs, in their order.
 pub fn words<'a>(alloc: Global, text: &'a [u8]) -> Result<Vec<&'a [u8]>, AllocError>
@@ -25,90 +22,11 @@ pub fn words<'a>(alloc: Global, text: &'a [u8]) -> Result<Vec<&'a [u8]>, AllocEr
         .collect(alloc)
 }
 
-/// Whether a component is none of the empty one, `.` and `..`.
-fn is_proper(part: &[u8]) -> bool
-    ensures { result ≡ is_proper part.now }
-{
-    !part.is_empty() && part != b".".as_slice() && part != b"..".as_slice()
-}
-
-/// Whether each component is none of these.
-fn are_proper(name: &[u8]) -> bool
-    ensures { result ≡ list_all is_proper (slice_split (is_byte 47) name.now) }
-{
-    let mut rest = Some(name);
-    while let Some(text) = rest {
-        let (part, after) = cut(text, b'/');
-        if !is_proper(part) {
-            return false;
-        }
-        rest = after;
-    }
-    true
-}
-
-/// Whether components are proper, behind nothing but `..`.
-fn goes_up_first(name: &[u8]) -> bool
-    ensures { result ≡ goes_up_first (slice_split (is_byte 47) name.now) }
-{
-    let mut rest = name;
-    loop {
-        let (part, after) = cut(rest, b'/');
-        if part != b"..".as_slice() {
-            return are_proper(rest);
-        }
-        let Some(after) = after else { return true };
-        rest = after;
-    }
-}
-
-/// Whether the components of a path are proper, with an empty one before a leading slash alone and
-/// `..` at the front of a relative path alone.
-fn are_components(name: &[u8]) -> bool
-    ensures { result ≡ are_components (slice_split (is_byte 47) name.now) }
-{
-    match cut(name, b'/') {
-        ([], Some(rest)) => are_proper(rest),
-        ([], None) => false,
-        _ => goes_up_first(name),
-    }
-}
-
 /// Bytes as text.
 fn utf8(bytes: &[u8]) -> Option<&str>
     ensures { MatchOption result (is_utf8 bytes.now ≡ false) (λ text. (text.now ≡ bytes.now) × (is_utf8 bytes.now ≡ true)) }
 {
     str::from_utf8(bytes).ok()
-}
-
-/// Whether a name holds no spaces and no control bytes.
-fn is_visible_throughout(name: &[u8]) -> bool
-    ensures { result ≡ list_all is_visible name.now }
-{
-    name.iter().all(|b| *b > b' ' && *b != 127)
-}
-
-/// Whether a name is of 1 to 4,096 bytes without spaces and control bytes, and without a second
-/// spelling of one place.
-fn has_path_shape(name: &[u8]) -> bool
-    ensures { result ≡ has_path_shape name.now }
-{
-    if name.is_empty() || name.len() > MAX_NAME {
-        return false;
-    }
-    is_visible_throughout(name) && are_components(name)
-}
-
-/// A name that is a plain path: the same, and UTF-8.
-#[tactic(auto, unfolding(crate::specs::Names::is_plain_path))]
-pub fn plain_path(name: &[u8]) -> Option<&str>
-    ensures { MatchOption result (is_plain_path name.now ≡ false) (λ text. (text.now ≡ name.now) × (is_plain_path name.now ≡ true)) }
-{
-    if has_path_shape(name) {
-        utf8(name)
-    } else {
-        None
-    }
 }
 
 /// Whether a word holds a byte that paths may hold, and names in a makefile may not.
@@ -157,11 +75,10 @@ fn has_bracket(word: &[u8]) -> bool
 fn make_name(word: &[u8]) -> Option<&str>
     ensures { MatchOption result (is_make_name word.now ≡ false) (λ name. (name.now ≡ word.now) × (is_make_name word.now ≡ true)) }
 {
-    if has_reserved(word) {
-        None
-    } else {
-        plain_path(word)
+    if has_reserved(word) || !is_plain_path(word) {
+        return None;
     }
+    utf8(word)
 }
 
 /// A word as a name. Fault 28 where it holds a bracket, else 27 where it is no name.

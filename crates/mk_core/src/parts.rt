@@ -1,22 +1,16 @@
 //! The parts of a text between separators.
 
-ghost use Rattle.std.specs.Prelude.{◌≡◌, ◌∷◌, ◌<◌, ◌==◌, true, false, drop, length, position, IfSome, MatchOption};
-ghost use Rattle.std.specs.Option.{option_map};
-ghost use Rattle.std.specs.List.{slice_split, list_any, before_first, after_first, prefix_len};
-ghost use Rattle.mk_core.specs.Parts.{is_byte, parts_left};
-ghost use Rattle.mk_core.specs.Lines.{is_blank};
+ghost use Rattle.std.specs.Prelude.{◌≡◌, true, false, position, MatchOption};
+ghost use Rattle.std.specs.List.{list_any, before_first, after_first};
+ghost use Rattle.mk_lines.specs.Bytes.{is_blank, is_blank_alone, is_byte, trimmed};
 
 use bstr::ByteSlice;
 
-/// The part up to the first separator, and what follows that separator.
-pub fn cut(text: &[u8], separator: u8) -> (&[u8], Option<&[u8]>)
-    ensures shorter { IfSome result.1 (λ rest. length rest.now < length text.now) }
-    ensures parts { slice_split (is_byte separator) text.now ≡ result.0.now ∷ parts_left separator (option_map (λ rest. rest.now) result.1) }
+/// Whether a text has spaces and tabs alone.
+pub fn is_blank_alone(text: &[u8]) -> bool
+    ensures { result ≡ is_blank_alone text.now }
 {
-    match text.find_byte(separator) {
-        Some(at) => (&text[..at], Some(&text[at + 1..])),
-        None => (text, None),
-    }
+    text.iter().all(|b| *b == b' ' || *b == b'\t')
 }
 
 /// What stands before and after the first separator, or nothing where there is none.
@@ -32,7 +26,7 @@ pub fn cut_once(text: &[u8], separator: u8) -> Option<(&[u8], &[u8])>
 
 /// The text behind the blanks that lead it.
 pub fn trimmed(text: &[u8]) -> &[u8]
-    ensures { result.now ≡ drop (prefix_len is_blank text.now) text.now }
+    ensures { result.now ≡ trimmed text.now }
 {
     let mut rest = text;
     while let [b' ' | b'\t', after @ ..] = rest {

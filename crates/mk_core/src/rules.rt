@@ -2,24 +2,26 @@
 
 ghost use Rattle.std.specs.Prelude.{◌≡◌, ◌==◌, ◌-◌, ◌&&◌, ◌||◌, ◌++◌, false, find, option_to_list, MatchOption, None, map, length, slice_index, IfOk, IfErr, List, ℕ, Ok};
 ghost use Rattle.std.specs.List.{list_any};
-ghost use Rattle.mk_core.specs.Names.{names_of, words};
-ghost use Rattle.mk_core.specs.Rules.{goes_on, is_unread, is_include, is_comment, rule_parts, rule_line, rule_view, has_commands, given_commands, with_lines, nothing_read, KnowsCommands};
+ghost use Rattle.mk_core.specs.Names.{names_of};
+ghost use Rattle.mk_lines.specs.RuleLines.{is_include};
+ghost use Rattle.mk_lines.specs.Words.{words};
+ghost use Rattle.mk_core.specs.Rules.{is_unread, is_comment, rule_parts, rule_line, rule_view, has_commands, given_commands, with_lines, nothing_read, KnowsCommands};
 ghost use Rattle.mk_core.specs.Names.{has_name, is_special};
 ghost use Rattle.std.specs.Option.{option_map};
-ghost use Rattle.mk_core.specs.Lines.{line_view};
-ghost use Rattle.mk_core.specs.Answer.{rules_of};
-ghost use Rattle.mk_core.specs.Outcome.{Gives, IsOfText};
+ghost use Rattle.mk_lines.specs.Lines.{line_view};
+ghost use Rattle.mk_core.specs.Answer.{rules_among};
+ghost use Rattle.mk_core.specs.Steps.{Gives, IsOfText};
 
 use crate::fault::{Fault, Place};
-use crate::lines::{Line, is_blank_alone, logical_lines};
 use crate::name_set::NameSet;
 use crate::names::{is_special, name_of, words};
-use crate::parts::{before_blank, cut_once, trimmed};
+use crate::parts::{before_blank, cut_once, is_blank_alone, trimmed};
 use mk_graph::Name;
+use mk_lines::Line;
 use std::alloc::{AllocError, Global};
 use std::marker::Model;
 
-/// A rule line: names are parts of the makefile's text.
+/// A rule line: names are parts of its text.
 #[derive(Debug, Drop)]
 pub struct Rule<'a> {
     /// Its targets.
@@ -32,19 +34,11 @@ pub struct Rule<'a> {
     pub line: usize,
 }
 
-/// Whether a line ends in a backslash, and so goes on in the next one.
-fn goes_on(text: &[u8]) -> bool
-    ensures { result ≡ goes_on text.now }
-{
-    text.last() == Some(&b'\\')
-}
-
-/// Whether a line holds one of `#`, `$`, `=` and `;`.
+/// Whether a line holds one of `$`, `=` and `;`.
 fn has_unread(text: &[u8]) -> bool
     ensures { result ≡ list_any is_unread text.now }
 {
-    text.iter()
-        .any(|b| *b == b'#' || *b == b'$' || *b == b'=' || *b == b';')
+    text.iter().any(|b| *b == b'$' || *b == b'=' || *b == b';')
 }
 
 /// Whether the first word of a line is `include` or `-include`.
@@ -100,7 +94,7 @@ fn rule_parts<'a>(
     ensures exact { Gives (λ parts. (parts.0.now, parts.1.now)) result (rule_parts (record { file = file.now; line = line }) text.now) }
     ensures own { IfErr result IsOfText }
 {
-    if goes_on(text) || has_unread(text) || is_include(text) {
+    if has_unread(text) || is_include(text) {
         return Err(Fault::NotALine(place_of(alloc, file, line)?));
     }
     let Some((targets, words)) = cut_once(text, b':') else {
@@ -241,7 +235,7 @@ fn with_first_command<'a>(
 }
 
 impl<'a> Reader<'a> {
-    ghost use Rattle.mk_core.specs.Lines.{line_view};
+    ghost use Rattle.mk_lines.specs.Lines.{line_view};
     ghost use Rattle.mk_core.specs.Rules.{Read, nothing_read, all_rules, command_line, with_line, rule_view};
 
     /// Nothing read.
@@ -309,18 +303,23 @@ impl<'a> Reader<'a> {
 
     /// One more line of the file.
     #[tactic(auto, unfolding(crate::specs::Rules::with_line))]
-    fn with_line(self, alloc: Global, file: &Name, line: &Line<'a>) -> Result<Reader<'a>, Fault>
+    fn with_line(
+        self,
+        alloc: Global,
+        file: &Name,
+        line: &'a Line<'_>,
+    ) -> Result<Reader<'a>, Fault>
         ensures exact { Gives (λ read. read) result (with_line file.now self.entry (line_view line.now)) }
         ensures own { IfErr result IsOfText }
     {
-        if !line.command {
-            let rule = rule_line(alloc, file, line.first, line.text)?;
-            return Ok(self.with_rule(rule)?);
+        if line.command {
+            return self.with_command(alloc, file, line.first, &line.text);
         }
-        if goes_on(line.text) {
-            return Err(Fault::NotALine(place_of(alloc, file, line.first)?));
+        if is_blank_alone(&line.text) {
+            return Ok(self);
         }
-        self.with_command(alloc, file, line.first, line.text)
+        let rule = rule_line(alloc, file, line.first, &line.text)?;
+        Ok(self.with_rule(rule)?)
     }
 
     /// The rule lines in their order.
@@ -333,7 +332,11 @@ impl<'a> Reader<'a> {
 }
 
 /// What is read after the lines of the file.
-fn with_lines<'a>(alloc: Global, file: &Name, lines: &[Line<'a>]) -> Result<Reader<'a>, Fault>
+fn with_lines<'a>(
+    alloc: Global,
+    file: &Name,
+    lines: &'a [Line<'_>],
+) -> Result<Reader<'a>, Fault>
     ensures exact { Gives (λ read. read) result (with_lines file.now nothing_read (map line_view lines.now)) }
     ensures own { IfErr result IsOfText }
 {
@@ -344,14 +347,16 @@ fn with_lines<'a>(alloc: Global, file: &Name, lines: &[Line<'a>]) -> Result<Read
     Ok(reader)
 }
 
-/// The rule lines of the text of a file, in their order, or the first fault: first those of lines,
-/// then line by line.
-#[tactic(auto, unfolding(crate::specs::Answer::rules_of))]
-pub fn rules_of<'a>(alloc: Global, file: &Name, text: &'a [u8]) -> Result<Vec<Rule<'a>>, Fault>
-    ensures exact { Gives (λ rules. map rule_view rules.items) result (rules_of file.now text.now) }
+/// The rule lines among the lines of a file, in their order, or the first fault line by line.
+#[tactic(auto, unfolding(crate::specs::Answer::rules_among))]
+pub fn rules_among<'a>(
+    alloc: Global,
+    file: &Name,
+    lines: &'a [Line<'_>],
+) -> Result<Vec<Rule<'a>>, Fault>
+    ensures exact { Gives (λ rules. map rule_view rules.items) result (rules_among file.now (map line_view lines.now)) }
     ensures own { IfErr result IsOfText }
 {
-    let lines = logical_lines(alloc, file, text)?;
-    let reader = with_lines(alloc, file, &lines)?;
+    let reader = with_lines(alloc, file, lines)?;
     Ok(reader.into_rules()?)
 }

@@ -2,10 +2,11 @@
 
 ghost use Rattle.std.specs.Prelude.{◌≡◌, ◌∷◌, [], map, IfOk};
 ghost use Rattle.std.specs.String.{string_bytes};
-ghost use Rattle.mk_core.specs.FaultText.{fault_text, graph_fault_text, no_memory, place_text, refusal};
+ghost use Rattle.mk_core.specs.FaultText.{fault_text, graph_fault_text, line_fault_text, no_memory, place_in, place_text, refusal};
 
 use crate::fault::{Fault, Place};
 use mk_graph::{GraphFault, Name};
+use mk_lines::LineFault;
 use std::alloc::{AllocError, Global};
 
 /// The file and the line.
@@ -51,6 +52,27 @@ fn spellings<'a>(alloc: Global, names: &'a [Name]) -> Result<Vec<&'a str>, Alloc
     names.iter().map(Name::as_str).collect(alloc)
 }
 
+/// A refusal whose one word is a line of a file.
+fn refusal_in(alloc: Global, number: usize, file: &Name, line: usize) -> Result<String, AllocError>
+    ensures { IfOk result (λ text. string_bytes text ≡ refusal number (place_in file.now line ∷ [])) }
+{
+    let file = file.as_str();
+    let place = format!(in alloc; "{file}:{line}")?;
+    refusal(alloc, number, &[place.as_str()])
+}
+
+/// The line that is printed of the fault of a line.
+fn line_fault_text(alloc: Global, file: &Name, fault: &LineFault) -> Result<String, AllocError>
+    ensures { IfOk result (λ text. string_bytes text ≡ line_fault_text file.now fault.now) }
+{
+    match fault {
+        LineFault::NulByte(line) => refusal_in(alloc, 1, file, *line),
+        LineFault::LineTooLong(line) => refusal_in(alloc, 2, file, *line),
+        LineFault::TooManyLines(line) => refusal_in(alloc, 3, file, *line),
+        LineFault::Memory => no_memory(alloc),
+    }
+}
+
 /// The line that is printed of a graph's fault.
 fn graph_fault_text(alloc: Global, fault: &GraphFault) -> Result<String, AllocError>
     ensures { IfOk result (λ text. string_bytes text ≡ graph_fault_text fault.now) }
@@ -72,9 +94,7 @@ pub fn fault_text(alloc: Global, fault: &Fault) -> Result<String, AllocError>
     ensures { IfOk result (λ text. string_bytes text ≡ fault_text fault.now) }
 {
     match fault {
-        Fault::NulByte(place) => refusal_at(alloc, 1, place),
-        Fault::LineTooLong(place) => refusal_at(alloc, 2, place),
-        Fault::TooManyLines(place) => refusal_at(alloc, 3, place),
+        Fault::Line(file, fault) => line_fault_text(alloc, file, fault),
         Fault::BadMacroName(place) => refusal_at(alloc, 11, place),
         Fault::DoubleColon(place) => refusal_at(alloc, 23, place),
         Fault::NotALine(place) => refusal_at(alloc, 25, place),

@@ -5,12 +5,11 @@ use Rattle.std.specs.String.{string_bytes}
 use Rattle.clap.specs.Words.{IsAmong, Kinds, Row, Text, all_of, fault_of, first_of, subcommand_of}
 use Rattle.clap.specs.declared.error.ErrorKind.{ErrorKind}
 use Rattle.clap.specs.declared.error.ErrorKind.TheVariants.{DisplayHelp, DisplayVersion, OutOfMemory}
-use Rattle.mk_graph.specs.declared.fault.GraphFault.TheVariants as graph
 use Rattle.mk_core.specs.declared.fault.Fault.{Fault}
-use Rattle.mk_core.specs.declared.fault.Fault.TheVariants.{Graph, Memory}
 use Rattle.mk_core.specs.declared.request.Request.{Request}
 use Rattle.mk_core.specs.Answer.{Answers, Counts}
 use Rattle.mk_core.specs.FaultText.{fault_text}
+use Rattle.mk_core.specs.Steps.{is_want_of_memory}
 use Rattle.mk_core.specs.Files.{Told}
 use Rattle.mk_core.specs.Words.{goals_of, operands_of}
 use Rattle.mkcheck.specs.declared.run.Outcome.{Outcome}
@@ -47,11 +46,6 @@ abbrev pub request_of : List Text → Request
 request_of words = requested (rows_of_graph words)
 
 -- ---- what is written
-
-abbrev pub is_want_of_memory : Fault → Bool
-is_want_of_memory Memory = true
-is_want_of_memory (Graph graph.Memory) = true
-is_want_of_memory fault = false
 
 -- An answer is written to standard output: the text, and status 0; or a refusal on a line, and status 2.
 -- Want of memory is not written here.

@@ -4,16 +4,15 @@ ghost use Rattle.std.specs.Prelude.{ℕ, List, Option, length, ◌≡◌, ◌≢
 ghost use Rattle.std.specs.Option.{option_map_or};
 ghost use Rattle.clap.specs.Words.{all_of, first_of, found_of, has_subcommand, kind_of, rows_of, subcommand_rows_of};
 ghost use Rattle.mk_core.specs.Words.{goals_of, operands_of};
-ghost use Rattle.mk_core.specs.Outcome.{seen};
+ghost use Rattle.mk_core.specs.Steps.{seen};
 ghost use Rattle.mkcheck.specs.CommandLine.{HasNoOption, graph_words};
-ghost use Rattle.mkcheck.specs.Run.{Explains, IsAnswered, IsRefused, Shows, asking, faults_of, is_want_of_memory, request_of, requested, written};
+ghost use Rattle.mkcheck.specs.Run.{Explains, IsAnswered, IsRefused, Shows, asking, faults_of, request_of, requested, written};
 
 use crate::command::command_line;
 use crate::ending::FAULT;
 use clap::error::ErrorKind;
 use clap::{ArgMatches, Error};
 use mk_core::{Fault, Files, Name, Names, Request, fault_text, graph_text, split_words};
-use mk_graph::GraphFault;
 use std::alloc::{AllocError, Global};
 use std::convert::AsStr;
 
@@ -34,12 +33,6 @@ pub struct Outcome {
     pub status: u8,
 }
 
-fn is_want_of_memory(fault: &Fault) -> bool
-    ensures { result ≡ is_want_of_memory fault.now }
-{
-    matches!(fault, Fault::Memory | Fault::Graph(GraphFault::Memory))
-}
-
 // What shows an answer.
 fn shown(alloc: Global, answer: Result<Vec<u8>, Fault>) -> Result<Outcome, AllocError>
     ensures { IfOk result (λ outcome. Shows (seen (λ text. text.items) answer) (written outcome)) }
@@ -52,7 +45,7 @@ fn shown(alloc: Global, answer: Result<Vec<u8>, Fault>) -> Result<Outcome, Alloc
             status: DONE,
         }),
         Err(fault) => {
-            if is_want_of_memory(&fault) {
+            if fault.is_want_of_memory() {
                 return Err(AllocError);
             }
             let mut line = fault_text(alloc, &fault)?;

@@ -1,7 +1,7 @@
 use Rattle.std.proofs.Common.{subst, sym, ap, ◌∙◌, Some, None}
 use Rattle.std.proofs.lemmas.Option.{IfSome_then}
 use Rattle.std.proofs.lemmas.Result.{err_from_is_err_and}
-use Rattle.mk_core.specs.Outcome.{Fails}
+use Rattle.mk_core.specs.Steps.{Fails}
 use Rattle.mk_core.specs.Answer.{no_operands}
 use Rattle.mk_core.proofs.Answering.{of_some, name_fails, operands_fail, found_under}
 use Rattle.mk_core.proofs.answer.makefile_for.Goals as goal

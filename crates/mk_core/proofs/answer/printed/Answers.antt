@@ -7,10 +7,17 @@ use Rattle.mk_core.proofs.NameLists.{texts}
 use Rattle.mk_core.proofs.Answering.{rules_fail, goals_fail, graph_fail, both_read, all_printed}
 use Rattle.mk_core.proofs.answer.printed.Goals as goal
 
+pub returns-in_err-lines : goal.returns-in_err-lines
+returns-in_err-lines c =
+    let p = err_from_is_err_and c.from_residual.result c.from_residual.ensures.1 in
+    rw (p.1, p.2) (lines_fail c.args.file.now c.args.text.now c.args.goals.now _ c.in_err-lines.ensures.own c.in_err-lines.ensures.exact)
+
 pub returns-in_err-rules : goal.returns-in_err-rules
 returns-in_err-rules c =
-    let p = err_from_is_err_and c.from_residual.result c.from_residual.ensures.1 in
-    rw (p.1, p.2) (rules_fail c.args.file.now c.args.text.now c.args.goals.now _ c.in_err-rules.ensures.own c.in_err-rules.ensures.exact)
+    let p = err_from_is_err_and c.from_residual-in_err-rules.result c.from_residual-in_err-rules.ensures.1 in
+    let file = c.args.file.now in
+    let among = subst (λ lines. Fails c.in_err-rules.field-0.0 (rules_among file (map line_view lines))) c.deref.ensures.value c.in_err-rules.ensures.exact in
+    rw (p.1, p.2) (rules_fail file c.args.text.now c.args.goals.now _ c.in_err-rules.ensures.own (subst (Fails c.in_err-rules.field-0.0) (sym (behind_lines file c.args.text.now c.args.goals.now _ c.in_ok-lines.ensures.exact)) among))
 
 pub returns-in_err-goals : goal.returns-in_err-goals
 returns-in_err-goals c =

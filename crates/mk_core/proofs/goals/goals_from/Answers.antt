@@ -1,7 +1,7 @@
 use Rattle.std.proofs.Common.{◌<◌, ◌≤◌, ◌+◌, length, ap, sym, subst, ◌∙◌, List, ℕ, arith}
 use Rattle.std.proofs.lemmas.List.{map_push}
 use Rattle.std.proofs.lemmas.Result.{err_from_is_err_and}
-use Rattle.mk_core.specs.Outcome.{Fails}
+use Rattle.mk_core.specs.Steps.{Fails}
 use Rattle.mk_core.specs.Goals.{goal_of}
 use Rattle.mk_core.proofs.NameLists.{texts}
 use Rattle.mk_core.proofs.GoalLists.{goal_place, goals_more, goals_fail, goals_end}

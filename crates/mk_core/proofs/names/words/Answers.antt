@@ -1,7 +1,7 @@
 use Rattle.std.proofs.Common.{ℕ, List, not, eqb, length, rules, tests}
 use Rattle.std.proofs.lemmas.Iterator.Consumers.{map_from_collect, YieldsList-at, YieldsList-from_filter}
 use Rattle.std.proofs.lemmas.Iterator.Splits.{YieldsList-from_slice_split}
-use Rattle.mk_core.specs.Lines.{is_blank}
+use Rattle.mk_lines.specs.Bytes.{is_blank}
 use Rattle.mk_core.proofs.names.words.Goals as goal
 
 pub returns : goal.returns

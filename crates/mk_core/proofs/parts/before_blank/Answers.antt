@@ -1,6 +1,6 @@
 use Rattle.std.proofs.Common.{ap, sym, take}
 use Rattle.std.proofs.lemmas.List.{take_all}
-use Rattle.mk_core.specs.Lines.{is_blank}
+use Rattle.mk_lines.specs.Bytes.{is_blank}
 use Rattle.mk_core.proofs.ListTests.{position_some, position_none}
 use Rattle.mk_core.proofs.parts.before_blank.Goals as goal
 

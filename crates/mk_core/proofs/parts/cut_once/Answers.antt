@@ -1,4 +1,4 @@
-use Rattle.mk_core.specs.Parts.{is_byte}
+use Rattle.mk_lines.specs.Bytes.{is_byte}
 use Rattle.mk_core.proofs.ListTests.{none_passes, round_found}
 use Rattle.mk_core.proofs.parts.cut_once.Goals as goal
 

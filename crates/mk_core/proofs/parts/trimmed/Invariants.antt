@@ -1,6 +1,6 @@
 use Rattle.std.proofs.Common.{◌≡◌, length, drop}
 use Rattle.std.specs.List.{prefix_len}
-use Rattle.mk_core.specs.Lines.{is_blank}
+use Rattle.mk_lines.specs.Bytes.{is_blank}
 use Rattle.mk_core.proofs.parts.trimmed.Given as goal
 
 -- the blanks that are left lead to the same place

@@ -1,5 +1,6 @@
 use Rattle.std.proofs.Common.{◌≡◌, map, drop}
-use Rattle.mk_core.specs.Names.{names_of, words}
+use Rattle.mk_core.specs.Names.{names_of}
+use Rattle.mk_lines.specs.Words.{words}
 use Rattle.mk_core.proofs.WithFront.{with_front}
 use Rattle.mk_core.proofs.rules.names_of.Given as goal
 

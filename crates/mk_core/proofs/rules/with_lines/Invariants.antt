@@ -1,5 +1,5 @@
 use Rattle.std.proofs.Common.{◌≡◌, map, drop}
-use Rattle.mk_core.specs.Lines.{line_view}
+use Rattle.mk_lines.specs.Lines.{line_view}
 use Rattle.mk_core.specs.Rules.{with_lines, nothing_read}
 use Rattle.mk_core.proofs.rules.with_lines.Given as goal
 

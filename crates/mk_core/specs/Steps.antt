@@ -1,8 +1,9 @@
 -- Results in steps: the first fault is the result.
-use Rattle.std.specs.Prelude.{◌≡◌, ◌⊎◌, Result, Ok, Err}
+use Rattle.std.specs.Prelude.{◌≡◌, ◌⊎◌, Bool, true, false, Result, Ok, Err}
 use Rattle.mk_graph.specs.declared.fault.GraphFault.TheVariants as graph
+use Rattle.mk_lines.specs.declared.fault.LineFault.TheVariants as line
 use Rattle.mk_core.specs.declared.fault.Fault.{Fault}
-use Rattle.mk_core.specs.declared.fault.Fault.TheVariants.{Graph, Memory, ReadFailed}
+use Rattle.mk_core.specs.declared.fault.Fault.TheVariants.{Line, Graph, Memory, ReadFailed}
 
 infixl 10 ◌>>=◌
 abbrev pub ◌>>=◌ : {A B : Type 0} → Result A Fault → (A → Result B Fault) → Result B Fault
@@ -19,6 +20,13 @@ abbrev pub IsMemory : Fault → Type 0
 IsMemory Memory = Unit {0}
 IsMemory (Graph graph.Memory) = Unit {0}
 IsMemory fault = ⊥
+
+-- the same as a test, of the faults of lines too
+abbrev pub is_want_of_memory : Fault → Bool
+is_want_of_memory Memory = true
+is_want_of_memory (Line file line.Memory) = true
+is_want_of_memory (Graph graph.Memory) = true
+is_want_of_memory fault = false
 
 -- A fault is the one that is defined, or want of memory, of which nothing is said.
 abbrev pub Fails : {Y : Type 0} → Fault → Result Y Fault → Type 0
