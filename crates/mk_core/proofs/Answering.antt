@@ -15,7 +15,9 @@ use Rattle.mk_core.specs.GraphText.{graph_text}
 use Rattle.mk_core.specs.Steps.{◌>>=◌, IsMemory, IsOfText, Fails}
 use Rattle.mk_core.specs.declared.request.Request.{Request}
 use Rattle.mk_core.specs.Files.{Told, text_at}
-use Rattle.mk_core.specs.Answer.{SaysOf, Rises, Draws, Answers, Finds, FindsUnder, IsAsked, IsLookedFor, PrintsFor, tested_name, no_operands, named, text_or, makefile_of, makefile_for, read_for, rules_of, rules_and_goals}
+use Rattle.mk_lines.specs.Lines.{Line}
+use Rattle.mk_core.specs.Lines.{lines_of}
+use Rattle.mk_core.specs.Answer.{SaysOf, Rises, Draws, Answers, Finds, FindsUnder, IsAsked, IsLookedFor, PrintsFor, tested_name, no_operands, named, text_or, makefile_of, makefile_for, read_for, rules_of, rules_among, rules_and_goals}
 
 right : {E : Type 0} → ⊥ ⊎ E → E
 right (inl b) = absurd b

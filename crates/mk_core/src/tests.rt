@@ -8,6 +8,7 @@ use crate::{
     split_words,
 };
 use mk_graph::GraphFault;
+use mk_lines::LineFault;
 use std::alloc::Global;
 use std::test::Fail;
 
@@ -85,6 +86,18 @@ const GRAPHS: &[(&str, &str, &str)] = &[
         "goals includes\ninclude:\nincludes: include\n",
     ),
     ("-include: b\n", "", "goals -include\nb:\n-include: b\n"),
+    (
+        "a: b \\\n   c # d \\\ne\n",
+        "",
+        "goals a\nb:\nc:\na: b c\n",
+    ),
+    ("a: b # x\n", "", "goals a\nb:\na: b\n"),
+    ("a: b#c=d;$(e)\n", "", "goals a\nb:\na: b\n"),
+    ("a: b \\\n", "", "goals a\nb:\na: b\n"),
+    ("a:\\\n\\\nb\n", "", "goals a\nb:\na: b\n"),
+    ("a:\n\tx \\\n\ty\n", "", "goals a\na recipe:\n"),
+    ("a:\n# x\n\ty\n", "", "goals a\na recipe:\n"),
+    ("# x \\\na:\nb:\n", "", "goals b\nb:\n"),
 ];
 
 #[test]
@@ -103,18 +116,21 @@ const REFUSALS: &[(&str, &str)] = &[
     ("a: $\nb\0:\n", "refused 1 makefile:2"),
     ("a:: b\n", "refused 23 makefile:1"),
     ("a :: b\n", "refused 23 makefile:1"),
-    ("\n\n \t\n# x\n", "refused 25 makefile:4"),
-    ("a: b # x\n", "refused 25 makefile:1"),
+    ("\n\n \t\n# x\n", "refused 44"),
+    ("\n\n \t\nx\n", "refused 25 makefile:4"),
+    ("a: b\\#c\n", "refused 27 makefile:1"),
+    ("a: b \\\n %\n", "refused 27 makefile:1"),
+    ("a: b \\\n c\nd: %\n", "refused 27 makefile:3"),
+    ("a: b \\\\\n c\n", "refused 27 makefile:1"),
     ("a: $(b)\n", "refused 25 makefile:1"),
     ("a = b\n", "refused 25 makefile:1"),
     ("a: b; c\n", "refused 25 makefile:1"),
     ("include x\n", "refused 25 makefile:1"),
     (" include :\n", "refused 25 makefile:1"),
     ("-include\n", "refused 25 makefile:1"),
-    ("a: b \\\n", "refused 25 makefile:1"),
-    ("a: b\\", "refused 25 makefile:1"),
-    ("a:\n\tx \\\n\ty\n", "refused 25 makefile:2"),
-    ("\t# x\\\n", "refused 25 makefile:1"),
+    ("a: b; c # d\n", "refused 25 makefile:1"),
+    ("a: b\\", "refused 27 makefile:1"),
+    ("\t# x\\\n", "refused 44"),
     ("a b\n", "refused 25 makefile:1"),
     ("\r\n", "refused 25 makefile:1"),
     (" : b\n", "refused 25 makefile:1"),
@@ -291,9 +307,22 @@ fn writes_faults(rt: HostRuntime) -> Result<(), Fail> {
         })
     };
     let rows = [
-        (Fault::NulByte(place()?), "refused 1 f:65537"),
-        (Fault::LineTooLong(place()?), "refused 2 f:65537"),
-        (Fault::TooManyLines(place()?), "refused 3 f:65537"),
+        (
+            Fault::Line(Name::new(alloc, "f")?, LineFault::NulByte(65_537)),
+            "refused 1 f:65537",
+        ),
+        (
+            Fault::Line(Name::new(alloc, "f")?, LineFault::LineTooLong(65_537)),
+            "refused 2 f:65537",
+        ),
+        (
+            Fault::Line(Name::new(alloc, "f")?, LineFault::TooManyLines(65_537)),
+            "refused 3 f:65537",
+        ),
+        (
+            Fault::Line(Name::new(alloc, "f")?, LineFault::Memory),
+            "want of memory",
+        ),
         (Fault::BadMacroName(place()?), "refused 11 f:65537"),
         (
             Fault::TwoRecipes(place()?, Name::new(alloc, "a b")?),

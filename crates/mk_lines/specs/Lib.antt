@@ -5,4 +5,5 @@ pub mod RuleLines
 pub mod Comments
 pub mod Paths
 pub mod Words
+pub mod Lines
 pub mod Gives

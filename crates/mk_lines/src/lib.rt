@@ -5,6 +5,7 @@
 mod bytes;
 mod comments;
 mod fault;
+mod lines;
 mod paths;
 mod references;
 mod rule_lines;
@@ -12,6 +13,7 @@ mod spans;
 
 pub use comments::uncomment;
 pub use fault::LineFault;
+pub use lines::{Line, logical_lines};
 pub use paths::is_plain_path;
 pub use references::first_outside;
 pub use rule_lines::is_rule_line;
