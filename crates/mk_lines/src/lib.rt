@@ -5,13 +5,17 @@
 mod bytes;
 mod comments;
 mod fault;
+mod joins;
+mod lines;
 mod paths;
 mod references;
 mod rule_lines;
+mod runs;
 mod spans;
 
 pub use comments::uncomment;
 pub use fault::LineFault;
+pub use lines::{Line, logical_lines};
 pub use paths::is_plain_path;
 pub use references::first_outside;
 pub use rule_lines::is_rule_line;
