@@ -1,8 +1,8 @@
 -- What stands before and after the first byte that a search finds.
-use Rattle.std.proofs.Common.{◌≡◌, ℕ, ◌+◌, ◌-◌, ◌<◌, Bool, false, List, [], ◌∷◌, length, take, drop, refl, ◌∙◌, arith, zero-le}
-use Rattle.std.specs.List.{slice_split, position_or_len}
-use Rattle.std.proofs.lemmas.Bool.{false_from_ne_true}
-use Rattle.std.proofs.lemmas.List.{take_rest}
+use Rattle.std.proofs.Common.{◌≡◌, ℕ, ◌+◌, ◌-◌, ◌<◌, Bool, false, eqb, List, [], ◌∷◌, ◌++◌, length, get_or, take, drop, refl, sym, ap, ◌∙◌, arith, zero-le}
+use Rattle.std.specs.List.{slice_split, position_or_len, All}
+use Rattle.std.proofs.lemmas.Bool.{false_from_ne_true, eqb-true}
+use Rattle.std.proofs.lemmas.List.{take_rest, take-append-drop, at_drop_more, length-take, get_or-take}
 use Rattle.std.proofs.lemmas.List.Sums.{position_or_len_is}
 use Rattle.std.proofs.lemmas.List.Splits.{slice_split_first, slice_split_none}
 use Rattle.std.proofs.lemmas.List.Elements.{All-from_get_or}
@@ -26,3 +26,20 @@ split_found p xs i h =
 -- without such a byte the list is the one part
 pub split_not_found : (p : ℕ → Bool) (xs : List ℕ) → Nowhere (Passes p xs) 0 (length xs) → slice_split p xs ≡ xs ∷ []
 split_not_found p xs h = slice_split_none p xs (All-from_get_or (λ x. p x ≡ false) xs 0 (λ i lt. false_from_ne_true _ (h i zero-le lt)))
+
+-- no byte passes before the first one that does, and none at all where there is none
+pub clean_before : (p : ℕ → Bool) (xs : List ℕ) (i : ℕ) → NoneBefore (Passes p xs) 0 (length xs) i × Passes p xs i → All (λ x. p x ≡ false) (take i xs)
+clean_before p xs i h =
+    All-from_get_or (λ x. p x ≡ false) (take i xs) 0 (λ k lt.
+    let low : k < i = omega (arith, length-take i xs) in
+    rw get_or-take (false_from_ne_true _ (h.0.before k zero-le low)))
+
+pub clean_all : (p : ℕ → Bool) (xs : List ℕ) → Nowhere (Passes p xs) 0 (length xs) → All (λ x. p x ≡ false) xs
+clean_all p xs h = All-from_get_or (λ x. p x ≡ false) xs 0 (λ i lt. false_from_ne_true _ (h i zero-le lt))
+
+-- the text round its first such byte
+pub round_byte : (c : ℕ) (xs : List ℕ) (i : ℕ) → NoneBefore (Passes (λ b. eqb b c) xs) 0 (length xs) i × Passes (λ b. eqb b c) xs i → xs ≡ take i xs ++ c ∷ take (length xs - (i + 1)) (drop (i + 1) xs)
+round_byte c xs i h =
+    let low : i < length xs = h.0.high in
+    let here : get_or xs i 0 ≡ c = eqb-true (get_or xs i 0) c h.1 in
+    sym (take-append-drop i xs) ∙ ap (λ rest. take i xs ++ rest) (at_drop_more (λ rest. rest) xs i 0 low ∙ (ap (λ b. b ∷ drop (i + 1) xs) here ∙ ap (λ rest. c ∷ rest) (sym (take_rest xs (i + 1)))))

@@ -8,3 +8,6 @@ pub mod Uncommenting
 pub mod WordSpans
 pub mod Components
 pub mod Utf8
+pub mod Pieces
+pub mod RunsFound
+pub mod RunsLeft

@@ -1,8 +1,8 @@
 //! Parts of a text between separators, and blanks.
 
-ghost use Rattle.std.specs.Prelude.{◌≡◌, ◌∷◌, ◌<◌, length, drop, IfSome};
+ghost use Rattle.std.specs.Prelude.{◌≡◌, ◌∷◌, ◌<◌, ◌++◌, false, length, drop, IfSome, MatchOption};
 ghost use Rattle.std.specs.Option.{option_map};
-ghost use Rattle.std.specs.List.{slice_split, prefix_len};
+ghost use Rattle.std.specs.List.{slice_split, prefix_len, All};
 ghost use Rattle.mk_lines.specs.Bytes.{is_byte, is_blank, is_blank_alone, trimmed, parts_left};
 
 use bstr::ByteSlice;
@@ -10,6 +10,8 @@ use bstr::ByteSlice;
 /// The part up to the first separator, and what follows that separator.
 pub fn cut(text: &[u8], separator: u8) -> (&[u8], Option<&[u8]>)
     ensures shorter { IfSome result.1 (λ rest. length rest.now < length text.now) }
+    ensures whole { MatchOption result.1 (result.0.now ≡ text.now) (λ rest. text.now ≡ result.0.now ++ separator ∷ rest.now) }
+    ensures clean { All (λ b. is_byte separator b ≡ false) result.0.now }
     ensures parts { slice_split (is_byte separator) text.now ≡ result.0.now ∷ parts_left separator (option_map (λ rest. rest.now) result.1) }
 {
     match text.find_byte(separator) {

@@ -5,10 +5,12 @@
 mod bytes;
 mod comments;
 mod fault;
+mod joins;
 mod lines;
 mod paths;
 mod references;
 mod rule_lines;
+mod runs;
 mod spans;
 
 pub use comments::uncomment;

@@ -1,12 +1,25 @@
 //! The logical lines of a text.
 
-ghost use Rattle.std.specs.Prelude.{◌≡◌, map, IfOk};
-ghost use Rattle.mk_lines.specs.Lines.{line_view, logical_lines, is_lent, is_whole, runs_of};
+ghost use Rattle.std.specs.Prelude.{◌≡◌, ◌==◌, length, map, IfOk};
+ghost use Rattle.std.specs.List.{slice_split};
+ghost use Rattle.std.specs.Cow.{cow_slice_items};
+ghost use Rattle.mk_lines.specs.Borrowed.{is_borrowed};
+ghost use Rattle.mk_lines.specs.Bytes.{is_byte};
+ghost use Rattle.mk_lines.specs.Lines.{is_command, joined, line_view, line_fault, unless, logical_lines, is_lent, is_whole, runs_of};
 ghost use Rattle.mk_lines.specs.Gives.{Gives};
 
+use crate::bytes::is_blank_alone;
 use crate::fault::LineFault;
-use std::alloc::Global;
+use crate::joins::{joined, without_tab};
+use crate::runs::take_run;
+use std::alloc::{AllocError, Global};
 use std::borrow::CowSlice;
+
+/// The longest line, in bytes.
+const MAX_LINE: usize = 65_536;
+
+/// How many lines a text may have, those of blanks alone aside.
+const MAX_LINES: usize = 65_536;
 
 /// A logical line of a text that isn't of blanks alone.
 #[derive(Debug, Drop)]
@@ -18,6 +31,43 @@ pub struct Line<'a> {
     /// Its text, of a command line without the tab: a slice of the text that it was read from where
     /// the line is a single physical line.
     pub text: CowSlice<'a, u8>,
+}
+
+/// Whether a run is a command line's, which begins with a tab.
+fn is_command(run: &[u8]) -> bool
+    ensures { result ≡ is_command run.now }
+{
+    matches!(run, [b'\t', ..])
+}
+
+/// The line of a run of pieces that escaped newlines join.
+fn line_from(alloc: Global, first: usize, run: &[u8]) -> Result<Line<'_>, AllocError>
+    ensures exact { IfOk result (λ line. line_view line ≡ joined first (slice_split (is_byte 10) run.now)) }
+    ensures lends { IfOk result (λ line. is_lent line ≡ (length (slice_split (is_byte 10) run.now) == 1)) }
+{
+    let command = is_command(run);
+    let text = joined(alloc, command, without_tab(run))?;
+    Ok(Line {
+        first,
+        command,
+        text,
+    })
+}
+
+/// The first fault of a line, before which so many stand in its text.
+fn test_line(before: usize, line: &Line) -> Result<(), LineFault>
+    ensures exact { result ≡ unless (line_fault before (line_view line.now)) tt }
+{
+    if line.text.contains(&0) {
+        return Err(LineFault::NulByte(line.first));
+    }
+    if line.text.len() > MAX_LINE {
+        return Err(LineFault::LineTooLong(line.first));
+    }
+    if before >= MAX_LINES {
+        return Err(LineFault::TooManyLines(line.first));
+    }
+    Ok(())
 }
 
 /// The logical lines of a text, in order, or the lowest fault of the first faulty one.
@@ -32,5 +82,18 @@ pub fn logical_lines<'a>(alloc: Global, text: &'a [u8]) -> Result<Vec<Line<'a>>,
     ensures exact { Gives (λ lines. map line_view lines.items) result (logical_lines text.now) }
     ensures lends { IfOk result (λ lines. map is_lent lines.items ≡ map is_whole (runs_of text.now)) }
 {
-    Err(LineFault::Memory)
+    let mut lines = Vec::new(alloc);
+    let mut rest = Some(text);
+    let mut first = 1;
+    while let Some(text) = rest {
+        let (run, after, count) = take_run(text);
+        rest = after;
+        let line = line_from(alloc, first, run)?;
+        if !is_blank_alone(&line.text) {
+            test_line(lines.len(), &line)?;
+            lines.push(line)?;
+        }
+        first += count;
+    }
+    Ok(lines)
 }
