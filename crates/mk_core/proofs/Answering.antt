@@ -15,7 +15,7 @@ use Rattle.mk_core.specs.GraphText.{graph_text}
 use Rattle.mk_core.specs.Steps.{◌>>=◌, IsMemory, IsOfText, Fails}
 use Rattle.mk_core.specs.declared.request.Request.{Request}
 use Rattle.mk_core.specs.Files.{Told, text_at}
-use Rattle.mk_lines.specs.Lines.{Line}
+use Rattle.mk_lines.specs.Lines as reading
 use Rattle.mk_core.specs.Lines.{lines_of}
 use Rattle.mk_core.specs.Answer.{SaysOf, Rises, Draws, Answers, Finds, FindsUnder, IsAsked, IsLookedFor, PrintsFor, tested_name, no_operands, named, text_or, makefile_of, makefile_for, read_for, rules_of, rules_among, rules_and_goals}
 
@@ -102,7 +102,7 @@ module _ (file text : List ℕ) (words : List (List ℕ)) where
   unfolding rules_of
   lines_fail fault own h = rules_fail fault own (⊎_map (λ m. m) (ap (λ r. r >>= rules_among file)) h)
 
-  pub behind_lines : (lines : List Line) → lines_of file text ≡ Ok lines → rules_of file text ≡ rules_among file lines
+  pub behind_lines : (lines : List reading.Line) → lines_of file text ≡ Ok lines → rules_of file text ≡ rules_among file lines
   unfolding rules_of
   behind_lines lines e = ap (λ r. r >>= rules_among file) e
 

@@ -1,5 +1,6 @@
 pub mod FirstByte
 pub mod Utf8
+pub mod FaultyLines
 pub mod ListTests
 pub mod WithFront
 pub mod NameSets

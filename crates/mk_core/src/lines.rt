@@ -4,6 +4,7 @@ ghost use Rattle.std.specs.Prelude.{◌≡◌, ◌⊎◌, map, IfOk, IfErr};
 ghost use Rattle.mk_lines.specs.Lines.{line_view};
 ghost use Rattle.mk_core.specs.declared.fault.Fault.TheVariants.{Line as LineRefused, Memory};
 ghost use Rattle.mk_core.specs.Lines.{bare, lines_of};
+ghost use Rattle.mk_lines.specs.declared.fault.LineFault.TheVariants.{Memory as NoMemory};
 ghost use Rattle.mk_core.specs.Steps.{Gives, IsOfText};
 
 use crate::fault::Fault;
@@ -14,7 +15,8 @@ use std::borrow::CowSlice;
 
 /// The fault of a line of this file.
 fn fault_in(alloc: Global, file: &Name, fault: LineFault) -> Fault
-    ensures { (result ≡ Memory) ⊎ (result ≡ LineRefused file.now fault) }
+    ensures fault { (result ≡ Memory) ⊎ (result ≡ LineRefused file.now fault) }
+    ensures memory { fault ≡ NoMemory → result ≡ Memory }
 {
     if matches!(fault, LineFault::Memory) {
         return Fault::Memory;

@@ -3,6 +3,7 @@
 ghost use Rattle.std.specs.Prelude.{◌≡◌, true, false, map, IfOk, IfErr, MatchOption};
 ghost use Rattle.std.specs.List.{list_all, list_any};
 ghost use Rattle.std.specs.Str.{is_utf8};
+ghost use Rattle.mk_lines.specs.Paths.{is_plain_path};
 ghost use Rattle.mk_lines.specs.Words.{words};
 ghost use Rattle.mk_core.specs.Names.{is_make_name, is_reserved, is_bracket, is_special, is_capital, name_of, names_of};
 ghost use Rattle.mk_core.specs.Steps.{Gives, IsOfText};
@@ -27,6 +28,17 @@ fn utf8(bytes: &[u8]) -> Option<&str>
     ensures { MatchOption result (is_utf8 bytes.now ≡ false) (λ text. (text.now ≡ bytes.now) × (is_utf8 bytes.now ≡ true)) }
 {
     str::from_utf8(bytes).ok()
+}
+
+/// Bytes as a plain path.
+fn plain_path(name: &[u8]) -> Option<&str>
+    ensures { MatchOption result (is_plain_path name.now ≡ false) (λ text. (text.now ≡ name.now) × (is_plain_path name.now ≡ true)) }
+{
+    if is_plain_path(name) {
+        utf8(name)
+    } else {
+        None
+    }
 }
 
 /// Whether a word holds a byte that paths may hold, and names in a makefile may not.
@@ -75,10 +87,11 @@ fn has_bracket(word: &[u8]) -> bool
 fn make_name(word: &[u8]) -> Option<&str>
     ensures { MatchOption result (is_make_name word.now ≡ false) (λ name. (name.now ≡ word.now) × (is_make_name word.now ≡ true)) }
 {
-    if has_reserved(word) || !is_plain_path(word) {
-        return None;
+    if has_reserved(word) {
+        None
+    } else {
+        plain_path(word)
     }
-    utf8(word)
 }
 
 /// A word as a name. Fault 28 where it holds a bracket, else 27 where it is no name.

@@ -6,5 +6,4 @@ pub mod Comments
 pub mod Lines
 pub mod Paths
 pub mod Words
-pub mod Lines
 pub mod Gives

@@ -1,16 +1,9 @@
 -- The logical lines of a text.
 use Rattle.std.specs.Prelude.{ℕ, ◌+◌, ◌-◌, ◌==◌, Bool, true, false, not, List, [], ◌∷◌, ◌++◌, length, map, filter, take, drop, reverse, Option, None, Some, Result, Ok, Err, nat_lt, nat_le, ◌%◌, if◌then◌else◌}
-<<<<<<< HEAD
-use Rattle.std.specs.List.{slice_split, list_any, list_all, prefix_len}
-use Rattle.std.specs.Cow.{cow_slice_items}
-use Rattle.mk_lines.specs.Borrowed.{is_borrowed}
-use Rattle.mk_lines.specs.Bytes.{is_byte, is_blank, is_blank_alone, trimmed}
-=======
 use Rattle.std.specs.List.{slice_split, list_any, prefix_len}
 use Rattle.std.specs.Cow.{cow_slice_items}
 use Rattle.mk_lines.specs.Borrowed.{is_borrowed}
 use Rattle.mk_lines.specs.Bytes.{is_byte, is_blank_alone, trimmed}
->>>>>>> add5b0f
 use Rattle.mk_lines.specs.declared.fault.LineFault.{LineFault}
 use Rattle.mk_lines.specs.declared.fault.LineFault.TheVariants.{NulByte, LineTooLong, TooManyLines}
 use Rattle.mk_lines.specs.declared.lines.Line as code
@@ -61,8 +54,6 @@ unfoldable pub command_text : List ℕ → List (List ℕ) → List ℕ
 command_text piece [] = piece
 command_text piece (next ∷ pieces) = piece ++ 10 ∷ command_text (without_tab next) pieces
 
-<<<<<<< HEAD
-=======
 -- the text of pieces of a plain line, of a command line without its tab, and of either
 abbrev pub plain_of : List (List ℕ) → List ℕ
 plain_of [] = []
@@ -75,7 +66,6 @@ command_of (piece ∷ pieces) = command_text piece pieces
 abbrev pub text_of : Bool → List (List ℕ) → List ℕ
 text_of command pieces = if command then command_of pieces else plain_of pieces
 
->>>>>>> add5b0f
 -- a run, with the number of its first piece, counted from 1
 pub record Run : Type 0 where
   pub first : ℕ
