@@ -12,6 +12,8 @@ mod references;
 mod rule_lines;
 mod runs;
 mod spans;
+#[cfg(test)]
+mod tests;
 
 pub use comments::uncomment;
 pub use fault::LineFault;
