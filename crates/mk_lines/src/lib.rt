@@ -6,6 +6,7 @@ mod bytes;
 mod comments;
 mod fault;
 mod joins;
+pub mod laws;
 mod lines;
 mod paths;
 mod references;

@@ -1,0 +1,25 @@
+//! Laws of lines, comments, words and references. Each is the contract of a function that does
+//! nothing: who calls it has the law.
+
+ghost use Rattle.mk_lines.specs.Laws.{PlainTextsAreTheirPieces, FirstLinesGrow, WordsComeInOrder, NothingToUncomment};
+
+/// Without backslashes, tabs and pieces of blanks alone, the lines of a text are its pieces between
+/// newlines, numbered from 1.
+pub fn plain_texts_are_their_pieces()
+    ensures { PlainTextsAreTheirPieces }
+{}
+
+/// The first physical lines of the lines of a text grow strictly, from 1 on.
+pub fn first_lines_grow()
+    ensures { FirstLinesGrow }
+{}
+
+/// The words of a text come in order, and don't overlap.
+pub fn words_come_in_order()
+    ensures { WordsComeInOrder }
+{}
+
+/// A plain line without `#` has no comment to lose.
+pub fn nothing_to_uncomment()
+    ensures { NothingToUncomment }
+{}
