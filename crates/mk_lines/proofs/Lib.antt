@@ -15,3 +15,4 @@ pub mod NoComment
 pub mod LineNumbers
 pub mod PlainTexts
 pub mod WordOrder
+pub mod TwoTexts

@@ -1,7 +1,7 @@
 //! Laws of lines, comments, words and references. Each is the contract of a function that does
 //! nothing: who calls it has the law.
 
-ghost use Rattle.mk_lines.specs.Laws.{PlainTextsAreTheirPieces, FirstLinesGrow, WordsComeInOrder, NothingToUncomment};
+ghost use Rattle.mk_lines.specs.Laws.{PlainTextsAreTheirPieces, FirstLinesGrow, LinesOfTwoTexts, WordsComeInOrder, NothingToUncomment};
 
 /// Without backslashes, tabs and pieces of blanks alone, the lines of a text are its pieces between
 /// newlines, numbered from 1.
@@ -12,6 +12,12 @@ pub fn plain_texts_are_their_pieces()
 /// The first physical lines of the lines of a text grow strictly, from 1 on.
 pub fn first_lines_grow()
     ensures { FirstLinesGrow }
+{}
+
+/// Where a text ends at a newline that isn't escaped, the lines of it followed by another text are
+/// its lines, then the other's, with their numbers moved on by its physical lines.
+pub fn lines_of_two_texts()
+    ensures { LinesOfTwoTexts }
 {}
 
 /// The words of a text come in order, and don't overlap.
