@@ -16,3 +16,4 @@ pub mod LineNumbers
 pub mod PlainTexts
 pub mod WordOrder
 pub mod TwoTexts
+pub mod LongestParts

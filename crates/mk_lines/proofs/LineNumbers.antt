@@ -1,6 +1,6 @@
 -- The numbers of lines.
-use Rattle.std.proofs.Common.{◌≡◌, ℕ, ◌+◌, ◌<◌, Bool, true, false, cond, List, [], ◌∷◌, length, drop, map, filter, refl, sym, arith}
-use Rattle.mk_lines.specs.Lines.{Line, Run, escapes, goes_on_in, runs, numbered, is_command, plain_text, command_text, joined, line_of, is_kept, runs_of, lines_of}
+use Rattle.std.proofs.Common.{◌≡◌, ℕ, ◌+◌, ◌<◌, Bool, true, false, cond, List, [], ◌∷◌, length, drop, map, filter, refl, arith}
+use Rattle.mk_lines.specs.Lines.{Line, Run, escapes, goes_on_in, runs, numbered, is_command, plain_text, command_text, joined, line_of, is_kept, runs_of}
 use Rattle.mk_lines.specs.Laws.{Grow, FirstLinesGrow}
 use Rattle.mk_lines.proofs.Pieces.{pieces}
 

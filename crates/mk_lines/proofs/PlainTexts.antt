@@ -1,10 +1,10 @@
 -- Texts without backslashes, tabs and pieces of blanks alone.
-use Rattle.std.proofs.Common.{◌≡◌, ℕ, ◌+◌, ◌%◌, Bool, true, false, not, ◌||◌, cond, eqb, List, [], ◌∷◌, ◌++◌, length, drop, map, filter, reverse, refl, sym, ap, ◌∙◌}
-use Rattle.std.specs.List.{slice_split, onto_first, list_any, prefix_len, enumerate_from}
+use Rattle.std.proofs.Common.{◌≡◌, ℕ, ◌+◌, ◌%◌, Bool, true, false, not, ◌||◌, cond, eqb, List, [], ◌∷◌, drop, map, filter, reverse, refl, ap, ◌∙◌}
+use Rattle.std.specs.List.{onto_first, list_any, prefix_len, enumerate_from}
 use Rattle.std.proofs.lemmas.List.{reverse-append}
 use Rattle.std.proofs.lemmas.List.Folds.{list_any-append}
 use Rattle.mk_lines.specs.Bytes.{is_byte, is_blank_alone}
-use Rattle.mk_lines.specs.Lines.{Line, Run, escapes, goes_on_in, runs, numbered, is_command, plain_text, command_text, joined, line_of, is_kept, runs_of, lines_of}
+use Rattle.mk_lines.specs.Lines.{Line, Run, escapes, goes_on_in, runs, numbered, is_command, plain_text, command_text, joined, line_of, is_kept, runs_of}
 use Rattle.mk_lines.specs.Laws.{plain, PlainTextsAreTheirPieces}
 use Rattle.mk_lines.proofs.Pieces.{pieces}
 use Rattle.mk_lines.proofs.NoComment.{neither_left, neither_right}

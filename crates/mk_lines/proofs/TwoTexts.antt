@@ -1,8 +1,8 @@
 -- The lines of two texts, one behind the other.
-use Rattle.std.proofs.Common.{◌≡◌, ℕ, ◌+◌, ◌<◌, ◌%◌, Bool, true, false, not, cond, eqb, List, [], ◌∷◌, ◌++◌, length, drop, map, filter, reverse, refl, sym, ap, ◌∙◌, subst, arith, append_assoc, append-nil}
-use Rattle.std.specs.List.{slice_split, onto_first, prefix_len}
+use Rattle.std.proofs.Common.{◌≡◌, ℕ, ◌+◌, ◌<◌, ◌%◌, Bool, true, false, not, cond, eqb, List, [], ◌∷◌, ◌++◌, length, drop, map, filter, reverse, refl, sym, ap, ◌∙◌, arith, append_assoc, append-nil}
+use Rattle.std.specs.List.{onto_first, prefix_len}
 use Rattle.std.proofs.lemmas.Bool.{eqb-true}
-use Rattle.std.proofs.lemmas.List.{reverse-append, length-append, map-append}
+use Rattle.std.proofs.lemmas.List.{reverse-append, map-append}
 use Rattle.std.proofs.lemmas.List.Elements.{filter-append}
 use Rattle.mk_lines.specs.Bytes.{is_byte, is_blank_alone}
 use Rattle.mk_lines.specs.Lines.{Line, Run, escapes, goes_on_in, runs, numbered, is_command, plain_text, command_text, joined, line_of, is_kept, runs_of, lines_of}
@@ -170,7 +170,7 @@ pub lines_of_two_texts : LinesOfTwoTexts
 lines_of_two_texts front other e =
     let by = length (pieces front) in
     let first : lines_of (front ++ 10 ∷ []) ≡ kept_lines 1 (runs (pieces front)) =
-        lines_round front [] e ∙ (ap (λ xs. kept_lines 1 (runs (pieces front)) ++ xs) (last_empty (1 + by)) ∙ append-nil (kept_lines 1 (runs (pieces front)))) in
+    lines_round front [] e ∙ (ap (λ xs. kept_lines 1 (runs (pieces front)) ++ xs) (last_empty (1 + by)) ∙ append-nil (kept_lines 1 (runs (pieces front)))) in
     let second : kept_lines (1 + by) (runs (pieces other)) ≡ map (moved_on by) (lines_of other) =
-        ap (λ n. kept_lines n (runs (pieces other))) (let s : 1 + by ≡ by + 1 = omega arith in s) ∙ (kept_moved by 1 (runs (pieces other)) ∙ ap (map (moved_on by)) (sym (lines_are other))) in
+    ap (λ n. kept_lines n (runs (pieces other))) (let s : 1 + by ≡ by + 1 = omega arith in s) ∙ (kept_moved by 1 (runs (pieces other)) ∙ ap (map (moved_on by)) (sym (lines_are other))) in
     ap lines_of (append_assoc front (10 ∷ []) other) ∙ (lines_round front other e ∙ (ap (λ xs. xs ++ kept_lines (1 + by) (runs (pieces other))) (sym first) ∙ ap (λ xs. lines_of (front ++ 10 ∷ []) ++ xs) second))

@@ -1,11 +1,11 @@
 -- Words, in their order.
-use Rattle.std.proofs.Common.{◌≡◌, ℕ, zero, suc, ◌+◌, ◌-◌, ◌<◌, ◌≤◌, Bool, true, false, not, cond, eqb, ltb, List, [], ◌∷◌, ◌++◌, length, take, drop, map, filter, refl, sym, ap, ◌∙◌, subst, arith, append_assoc, append-nil}
+use Rattle.std.proofs.Common.{◌≡◌, ℕ, suc, ◌+◌, ◌-◌, ◌≤◌, Bool, true, false, not, cond, eqb, ltb, List, [], ◌∷◌, ◌++◌, length, take, drop, map, filter, refl, sym, ap, ◌∙◌, arith, append_assoc, append-nil}
 use Rattle.std.specs.List.{slice_split, onto_first}
 use Rattle.std.proofs.lemmas.Bool.{lt-ltb, le-ltb, ltb-true, ne_eqb}
 use Rattle.std.proofs.lemmas.List.{drop_at, take_all, take-append-le, length-append}
 use Rattle.mk_lines.specs.declared.spans.Span.{Span}
 use Rattle.mk_lines.specs.Bytes.{is_blank}
-use Rattle.mk_lines.specs.Words.{is_word, words, has_bytes, spans_from, word_spans, bytes_at}
+use Rattle.mk_lines.specs.Words.{is_word, has_bytes, spans_from, word_spans, bytes_at}
 use Rattle.mk_lines.specs.Laws.{Rise, WordsComeInOrder}
 
 -- spans that rise behind a place rise behind an earlier one

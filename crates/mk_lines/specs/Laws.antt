@@ -1,6 +1,6 @@
 -- Laws of lines, references, words and comments.
-use Rattle.std.specs.Prelude.{◌≡◌, ◌<◌, ◌≤◌, ◌↔◌, ℕ, suc, ◌+◌, Bool, true, false, List, [], ◌∷◌, ◌++◌, length, map, filter, Option, None, Some, slice_index}
-use Rattle.std.specs.List.{slice_split, list_any, list_all, enumerate_from, Contains}
+use Rattle.std.specs.Prelude.{◌≡◌, ◌<◌, ◌≤◌, ◌↔◌, ℕ, suc, ◌+◌, Bool, true, false, List, [], ◌∷◌, ◌++◌, length, map, Some}
+use Rattle.std.specs.List.{slice_split, list_any, enumerate_from, Contains}
 use Rattle.mk_lines.specs.Bytes.{is_byte, is_blank_alone}
 use Rattle.mk_lines.specs.References.{first_outside, FirstOutside, is_drawn}
 use Rattle.mk_lines.specs.Lines.{Line, lines_of, escapes}

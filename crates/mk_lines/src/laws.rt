@@ -1,7 +1,7 @@
 //! Laws of lines, comments, words and references. Each is the contract of a function that does
 //! nothing: who calls it has the law.
 
-ghost use Rattle.mk_lines.specs.Laws.{PlainTextsAreTheirPieces, FirstLinesGrow, LinesOfTwoTexts, WordsComeInOrder, NothingToUncomment};
+ghost use Rattle.mk_lines.specs.Laws.{PlainTextsAreTheirPieces, FirstLinesGrow, LinesOfTwoTexts, WordsAreLongestParts, WordsComeInOrder, NothingToUncomment};
 
 /// Without backslashes, tabs and pieces of blanks alone, the lines of a text are its pieces between
 /// newlines, numbered from 1.
@@ -18,6 +18,11 @@ pub fn first_lines_grow()
 /// its lines, then the other's, with their numbers moved on by its physical lines.
 pub fn lines_of_two_texts()
     ensures { LinesOfTwoTexts }
+{}
+
+/// The words of a text are its longest parts without blanks.
+pub fn words_are_longest_parts()
+    ensures { WordsAreLongestParts }
 {}
 
 /// The words of a text come in order, and don't overlap.
