@@ -17,3 +17,4 @@ pub mod PlainTexts
 pub mod WordOrder
 pub mod TwoTexts
 pub mod LongestParts
+pub mod Outside

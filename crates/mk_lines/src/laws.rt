@@ -1,7 +1,7 @@
 //! Laws of lines, comments, words and references. Each is the contract of a function that does
 //! nothing: who calls it has the law.
 
-ghost use Rattle.mk_lines.specs.Laws.{PlainTextsAreTheirPieces, FirstLinesGrow, LinesOfTwoTexts, WordsAreLongestParts, WordsComeInOrder, NothingToUncomment};
+ghost use Rattle.mk_lines.specs.Laws.{PlainTextsAreTheirPieces, FirstLinesGrow, LinesOfTwoTexts, SearchFindsFirstOutside, WordsAreLongestParts, WordsComeInOrder, NothingToUncomment};
 
 /// Without backslashes, tabs and pieces of blanks alone, the lines of a text are its pieces between
 /// newlines, numbered from 1.
@@ -18,6 +18,13 @@ pub fn first_lines_grow()
 /// its lines, then the other's, with their numbers moved on by its physical lines.
 pub fn lines_of_two_texts()
     ensures { LinesOfTwoTexts }
+{}
+
+/// The search outside references finds the first byte that is wanted and stands outside them. This
+/// is said without brackets that are counted: what stands before the byte is made of bytes that
+/// aren't wanted, of `$$`, of single dollars, and of whole references.
+pub fn search_finds_first_outside()
+    ensures { SearchFindsFirstOutside }
 {}
 
 /// The words of a text are its longest parts without blanks.
