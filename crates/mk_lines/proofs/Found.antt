@@ -18,7 +18,7 @@ moved_suc n None = refl
 moved_suc n (Some k) = ap (λ (n : ℕ). Some n) (omega arith)
 
 -- the search finds the first byte of what is left
-found_first : (wanted : ℕ → Bool) (place : Place) (b : ℕ) (text : List ℕ) → ((eqb (length place.ends) 0) && wanted b) ≡ true → first_from wanted place (b ∷ text) ≡ Some 0
+pub found_first : (wanted : ℕ → Bool) (place : Place) (b : ℕ) (text : List ℕ) → ((eqb (length place.ends) 0) && wanted b) ≡ true → first_from wanted place (b ∷ text) ≡ Some 0
 unfolding first_from
 found_first wanted place b text e = rw e refl
 
@@ -27,7 +27,7 @@ found_here wanted place text at lt e =
     ap (λ rest. moved at (first_from wanted place rest)) (drop-cons text at 0 lt) ∙ (ap (moved at) (found_first wanted place (get_or text at 0) (drop (suc at) text) e) ∙ ap (λ (n : ℕ). Some n) (omega arith))
 
 -- it passes over the first byte of what is left
-passes_first : (wanted : ℕ → Bool) (place : Place) (b : ℕ) (text : List ℕ) → ((eqb (length place.ends) 0) && wanted b) ≡ false → first_from wanted place (b ∷ text) ≡ option_map suc (first_from wanted (next_place place b) text)
+pub passes_first : (wanted : ℕ → Bool) (place : Place) (b : ℕ) (text : List ℕ) → ((eqb (length place.ends) 0) && wanted b) ≡ false → first_from wanted place (b ∷ text) ≡ option_map suc (first_from wanted (next_place place b) text)
 unfolding first_from
 passes_first wanted place b text e = rw e refl
 
@@ -36,7 +36,7 @@ found_more wanted place text at lt e =
     ap (λ rest. moved at (first_from wanted place rest)) (drop-cons text at 0 lt) ∙ (ap (moved at) (passes_first wanted place (get_or text at 0) (drop (suc at) text) e) ∙ (moved_suc at (first_from wanted (next_place place (get_or text at 0)) (drop (suc at) text)) ∙ ap (λ n. moved (at + 1) (first_from wanted (next_place place (get_or text at 0)) (drop n text))) (let e : suc at ≡ at + 1 = omega arith in e)))
 
 -- nothing is left
-found_nil : (wanted : ℕ → Bool) (place : Place) → first_from wanted place [] ≡ None
+pub found_nil : (wanted : ℕ → Bool) (place : Place) → first_from wanted place [] ≡ None
 unfolding first_from
 found_nil wanted place = refl
 

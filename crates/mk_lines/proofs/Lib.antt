@@ -11,3 +11,10 @@ pub mod Utf8
 pub mod Pieces
 pub mod RunsFound
 pub mod RunsLeft
+pub mod NoComment
+pub mod LineNumbers
+pub mod PlainTexts
+pub mod WordOrder
+pub mod TwoTexts
+pub mod LongestParts
+pub mod Outside

@@ -7,3 +7,4 @@ pub mod Lines
 pub mod Paths
 pub mod Words
 pub mod Gives
+pub mod Laws

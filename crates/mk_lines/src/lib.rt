@@ -6,12 +6,15 @@ mod bytes;
 mod comments;
 mod fault;
 mod joins;
+pub mod laws;
 mod lines;
 mod paths;
 mod references;
 mod rule_lines;
 mod runs;
 mod spans;
+#[cfg(test)]
+mod tests;
 
 pub use comments::uncomment;
 pub use fault::LineFault;
