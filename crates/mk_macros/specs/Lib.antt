@@ -1,0 +1,9 @@
+pub mod Names
+pub mod Forms
+pub mod Substitution
+pub mod Locals
+pub mod Table
+pub mod Steps
+pub mod Expansion
+pub mod Definitions
+pub mod Laws
