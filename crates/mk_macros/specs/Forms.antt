@@ -8,7 +8,7 @@ use Rattle.mk_macros.specs.Names.{is_name_byte}
 
 -- a plain byte; `$$`; a reference, `$(..)`, `${..}` or `$c`, with what stands inside it; a reference without an end; a `$`
 -- that begins none of these
-data pub Form : Type 0 where
+pub data Form : Type 0 where
   Byte : ℕ → Form
   Dollars : Form
   Reference : List ℕ → Form
