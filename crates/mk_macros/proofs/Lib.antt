@@ -1,1 +1,4 @@
 pub mod Tables
+pub mod Places
+pub mod Joined
+pub mod Turns
