@@ -4,3 +4,6 @@ pub mod Joined
 pub mod LastSlash
 pub mod Distinct
 pub mod Turns
+pub mod DefinitionLaws
+pub mod Blanks
+pub mod Operands
