@@ -1,0 +1,10 @@
+pub mod FirstByte
+pub mod ListTests
+pub mod TextLeft
+pub mod Found
+pub mod Hashes
+pub mod Rules
+pub mod Uncommenting
+pub mod WordSpans
+pub mod Components
+pub mod Utf8

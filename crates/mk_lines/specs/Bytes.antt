@@ -1,5 +1,5 @@
 -- Bytes, and texts cut at a byte.
-use Rattle.std.specs.Prelude.{ℕ, ◌==◌, Bool, ◌||◌, List, [], ◌∷◌, drop, Option, None, Some}
+use Rattle.std.specs.Prelude.{ℕ, ◌==◌, Bool, ◌||◌, List, [], drop, Option, None, Some}
 use Rattle.std.specs.List.{slice_split, list_all, prefix_len}
 
 abbrev pub is_byte : ℕ → ℕ → Bool

@@ -3,8 +3,6 @@ pub mod Borrowed
 pub mod References
 pub mod RuleLines
 pub mod Comments
-pub mod Lines
 pub mod Paths
 pub mod Words
 pub mod Gives
-pub mod Laws

@@ -2,10 +2,11 @@
 --
 -- A reference is `$(` up to the first `)` outside an inner reference, or `${` up to the first `}` outside one; one
 -- without an end reaches to the end of the text. `$$` is passed over as two bytes. Any other `$` is one byte.
-use Rattle.std.specs.Prelude.{◌≡◌, ℕ, suc, ◌==◌, Bool, true, false, not, ◌&&◌, ◌||◌, List, [], ◌∷◌, ◌++◌, length, drop, Option, None, Some, if◌then◌else◌}
+use Rattle.std.specs.Prelude.{◌≡◌, ℕ, suc, ◌==◌, Bool, true, false, ◌&&◌, ◌||◌, List, [], ◌∷◌, ◌++◌, length, drop, reverse, Option, None, Some, if◌then◌else◌}
 use Rattle.std.specs.List.{list_any}
 use Rattle.std.specs.Option.{option_map}
 use Rattle.mk_lines.specs.Bytes.{is_byte}
+use Rattle.mk_lines.specs.declared.references.Place as code
 
 -- a place between the bytes of a text: the closing bytes of the references that are open there, innermost first, and
 -- whether a `$` stands just before it that isn't the second of `$$`
@@ -17,6 +18,10 @@ pub record Place : Type 0 where
 abbrev pub closes : List ℕ → ℕ → Bool
 closes [] b = false
 closes (close ∷ ends) b = b == close
+
+-- the references that are open behind a byte that ends none but the innermost
+abbrev pub closed : List ℕ → ℕ → List ℕ
+closed ends b = if closes ends b then drop 1 ends else ends
 
 -- the place behind a byte that no `$` stands before
 abbrev pub behind : List ℕ → ℕ → Place
@@ -35,6 +40,10 @@ behind_dollar ends b =
 
 abbrev pub next_place : Place → ℕ → Place
 next_place place b = if place.dollar then behind_dollar place.ends b else behind place.ends b
+
+-- a place of the code, which holds the closing bytes innermost last
+abbrev pub place_view : code.Place → Place
+place_view place = record { ends = reverse place.ends.items; dollar = place.dollar }
 
 -- where the first wanted byte outside references stands, in a text that follows this place
 unfoldable pub first_from : (ℕ → Bool) → Place → List ℕ → Option ℕ
@@ -61,7 +70,7 @@ StandsAlone [] = Unit {0}
 StandsAlone (b ∷ text) = is_drawn b ≡ false
 
 -- A text, said without a place: it has no wanted byte outside references, and each reference in it has an end.
-data pub HasNoneOutside : (ℕ → Bool) → List ℕ → Type 0 where
+pub data HasNoneOutside : (ℕ → Bool) → List ℕ → Type 0 where
   Nothing : (wanted : ℕ → Bool) → HasNoneOutside wanted []
   Byte : (wanted : ℕ → Bool) → (b : ℕ) → (text : List ℕ) → wanted b ≡ false → (b == 36) ≡ false → HasNoneOutside wanted text → HasNoneOutside wanted (b ∷ text)
   Dollars : (wanted : ℕ → Bool) → (text : List ℕ) → HasNoneOutside wanted text → HasNoneOutside wanted (36 ∷ 36 ∷ text)

@@ -1,8 +1,8 @@
 -- Which plain lines are rule lines.
-use Rattle.std.specs.Prelude.{ℕ, ◌==◌, Bool, true, false, not, ◌&&◌, ◌||◌, List, [], ◌∷◌, codes, drop, suc, Option, None, Some, slice_index}
+use Rattle.std.specs.Prelude.{ℕ, ◌==◌, Bool, false, not, ◌&&◌, ◌||◌, List, [], ◌∷◌, codes, drop, Option, None, Some, slice_index}
 use Rattle.std.specs.List.{before_first}
 use Rattle.std.specs.Str.{bytes_eq}
-use Rattle.mk_lines.specs.Bytes.{is_blank, is_byte, trimmed}
+use Rattle.mk_lines.specs.Bytes.{is_blank, trimmed}
 use Rattle.mk_lines.specs.References.{first_outside}
 
 abbrev pub first_word : List ℕ → List ℕ

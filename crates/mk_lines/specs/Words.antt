@@ -1,5 +1,5 @@
 -- The words of a text: its longest parts without blanks.
-use Rattle.std.specs.Prelude.{◌≡◌, ◌⊎◌, ◌<◌, ◌≤◌, ℕ, ◌+◌, ◌-◌, suc, ◌==◌, Bool, true, false, not, nat_lt, List, [], ◌∷◌, length, filter, map, take, drop, slice_index}
+use Rattle.std.specs.Prelude.{◌≡◌, ◌⊎◌, ◌<◌, ◌≤◌, ℕ, ◌+◌, ◌-◌, suc, ◌==◌, Bool, true, false, not, nat_lt, List, [], ◌∷◌, length, filter, take, drop, slice_index}
 use Rattle.std.specs.List.{slice_split, list_any}
 use Rattle.mk_lines.specs.Bytes.{is_blank}
 use Rattle.mk_lines.specs.declared.spans.Span.{Span}

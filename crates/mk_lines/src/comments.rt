@@ -1,9 +1,9 @@
 //! Comments of plain lines.
 
-ghost use Rattle.std.specs.Prelude.{◌≡◌, ◌≤◌, length, true, false, IfOk};
+ghost use Rattle.std.specs.Prelude.{◌≡◌, ◌<◌, ◌≤◌, ◌++◌, length, true, false, IfOk, IfSome};
 ghost use Rattle.std.specs.Cow.{cow_slice_items};
 ghost use Rattle.mk_lines.specs.Borrowed.{is_borrowed};
-ghost use Rattle.mk_lines.specs.Comments.{spared_at, comment_at, unescaped, has_escaped_hash, before_comment, uncomment};
+ghost use Rattle.mk_lines.specs.Comments.{begins_with_hash, spared_at, comment_at, unescaped, has_escaped_hash, before_comment, uncomment};
 
 use crate::references::first_outside;
 use crate::rule_lines::is_rule_line;
@@ -24,7 +24,8 @@ fn spared_at(alloc: Global, text: &[u8]) -> Result<usize, AllocError>
 
 /// Where the first `#` stands that isn't directly behind a backslash.
 fn comment_at(text: &[u8]) -> Option<usize>
-    ensures { result ≡ comment_at text.now }
+    ensures exact { result ≡ comment_at text.now }
+    ensures within { IfSome result (λ at. at < length text.now) }
 {
     let mut behind_backslash = false;
     for (at, byte) in text.iter().enumerate() {
@@ -36,22 +37,37 @@ fn comment_at(text: &[u8]) -> Option<usize>
     None
 }
 
+/// Whether a text begins with `#`.
+fn begins_with_hash(text: &[u8]) -> bool
+    ensures { result ≡ begins_with_hash text.now }
+{
+    matches!(text, [b'#', ..])
+}
+
 /// Whether a text holds `\#`.
 fn has_escaped_hash(text: &[u8]) -> bool
     ensures { result ≡ has_escaped_hash text.now }
 {
-    text.windows(2).any(|pair| pair == b"\\#".as_slice())
+    let mut rest = text;
+    while let [byte, after @ ..] = rest {
+        if *byte == b'\\' && begins_with_hash(after) {
+            return true;
+        }
+        rest = after;
+    }
+    false
 }
 
 /// Adds a text with `#` for each `\#`.
 fn push_unescaped(into: &mut Vec<u8>, text: &[u8]) -> Result<(), AllocError>
+    ensures { IfOk result (λ _. into.new.items ≡ into.old.items ++ unescaped text.now) }
 {
     let mut rest = text;
     while let [byte, after @ ..] = rest {
-        rest = after;
-        if *byte != b'\\' || !matches!(after, [b'#', ..]) {
+        if *byte != b'\\' || !begins_with_hash(after) {
             into.push(*byte)?;
         }
+        rest = after;
     }
     Ok(())
 }

@@ -5,19 +5,13 @@
 mod bytes;
 mod comments;
 mod fault;
-pub mod laws;
-mod lines;
 mod paths;
 mod references;
 mod rule_lines;
 mod spans;
-#[cfg(test)]
-mod tests;
-
 
 pub use comments::uncomment;
 pub use fault::LineFault;
-pub use lines::{Line, logical_lines};
 pub use paths::is_plain_path;
 pub use references::first_outside;
 pub use rule_lines::is_rule_line;

@@ -1,7 +1,7 @@
 //! What stands outside references: `$(..)` and `${..}`.
 
-ghost use Rattle.std.specs.Prelude.{◌≡◌, IfOk};
-ghost use Rattle.mk_lines.specs.References.{first_outside, is_one_of};
+ghost use Rattle.std.specs.Prelude.{◌≡◌, ◌<◌, ◌==◌, length, IfOk, IfSome};
+ghost use Rattle.mk_lines.specs.References.{closed, place_view, next_place, first_outside, is_one_of};
 
 use std::alloc::{AllocError, Global};
 
@@ -9,34 +9,41 @@ use std::alloc::{AllocError, Global};
 #[derive(Drop)]
 struct Place {
     /// The closing bytes of the references that are open there, the innermost last.
-    open: Vec<u8>,
+    ends: Vec<u8>,
     /// Whether a `$` stands just before it that isn't the second of `$$`.
     dollar: bool,
 }
 
 impl Place {
     /// Whether no reference is open.
-    fn is_outside(&self) -> bool {
-        self.open.is_empty()
+    fn is_outside(&self) -> bool
+        ensures { result ≡ (length (place_view self.now).ends == 0) }
+    {
+        self.ends.is_empty()
     }
 
     /// Goes over a byte.
-    fn pass(&mut self, byte: u8) -> Result<(), AllocError> {
+    fn pass(&mut self, byte: u8) -> Result<(), AllocError>
+        ensures { IfOk result (λ _. place_view self.new ≡ next_place (place_view self.old) byte) }
+    {
         let after_dollar = self.dollar;
         self.dollar = false;
         match byte {
             b'$' => self.dollar = !after_dollar,
-            b'(' if after_dollar => self.open.push(b')')?,
-            b'{' if after_dollar => self.open.push(b'}')?,
+            b'(' if after_dollar => self.ends.push(b')')?,
+            b'{' if after_dollar => self.ends.push(b'}')?,
             _ => self.close(byte),
         }
         Ok(())
     }
 
     /// Ends the innermost reference where this is its closing byte.
-    fn close(&mut self, byte: u8) {
-        if self.open.last() == Some(&byte) {
-            self.open.pop();
+    fn close(&mut self, byte: u8)
+        ensures ends { (place_view self.new).ends ≡ closed (place_view self.old).ends byte }
+        ensures dollar { self.new.dollar ≡ self.old.dollar }
+    {
+        if self.ends.last() == Some(&byte) {
+            self.ends.pop();
         }
     }
 }
@@ -48,10 +55,11 @@ impl Place {
 /// bytes, and any other `$` is one byte (the standard's macros: `make`, "Macros"). The error is
 /// want of memory alone.
 pub fn first_outside(alloc: Global, wanted: &[u8], text: &[u8]) -> Result<Option<usize>, AllocError>
-    ensures { IfOk result (λ at. at ≡ first_outside (is_one_of wanted.now) text.now) }
+    ensures exact { IfOk result (λ at. at ≡ first_outside (is_one_of wanted.now) text.now) }
+    ensures within { IfOk result (λ at. IfSome at (λ k. k < length text.now)) }
 {
     let mut place = Place {
-        open: Vec::new(alloc),
+        ends: Vec::new(alloc),
         dollar: false,
     };
     for (at, byte) in text.iter().enumerate() {

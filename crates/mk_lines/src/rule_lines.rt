@@ -1,18 +1,26 @@
 //! Which plain lines are rule lines.
 
-ghost use Rattle.std.specs.Prelude.{◌≡◌, IfOk};
+ghost use Rattle.std.specs.Prelude.{◌≡◌, position, IfOk};
+ghost use Rattle.mk_lines.specs.Bytes.{is_blank};
 ghost use Rattle.mk_lines.specs.RuleLines.{first_word, is_include, is_rule_line, begins_with_rule_colon};
 
 use crate::bytes::{is_blank, trimmed};
 use crate::references::first_outside;
 use std::alloc::{AllocError, Global};
 
+/// Where the first blank stands.
+fn blank_at(text: &[u8]) -> Option<usize>
+    ensures { result ≡ position is_blank text.now }
+{
+    text.iter().position(|b| is_blank(*b))
+}
+
 /// The bytes before the first blank, behind the blanks that lead the text.
 fn first_word(text: &[u8]) -> &[u8]
     ensures { result.now ≡ first_word text.now }
 {
     let text = trimmed(text);
-    match text.iter().position(|b| is_blank(*b)) {
+    match blank_at(text) {
         Some(at) => &text[..at],
         None => text,
     }

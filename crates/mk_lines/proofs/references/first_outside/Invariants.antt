@@ -1,0 +1,8 @@
+use Rattle.std.proofs.Common.{◌≡◌, drop}
+use Rattle.mk_lines.specs.References.{place_view, first_from, first_outside, is_one_of}
+use Rattle.mk_lines.proofs.Found.{moved}
+use Rattle.mk_lines.proofs.references.first_outside.Given as goal
+
+-- the rest of the text decides
+abbrev pub invariant-loop-at : goal.invariant-loop-at
+invariant-loop-at l = moved l.at (first_from (is_one_of l.wanted) (place_view l.place) (drop l.at l.text)) ≡ first_outside (is_one_of l.wanted) l.text
