@@ -4,3 +4,9 @@ pub mod FormLists
 pub mod InOrder
 pub mod Continuing
 pub mod Plain
+pub mod Tables
+pub mod Places
+pub mod Joined
+pub mod LastSlash
+pub mod Distinct
+pub mod Turns

@@ -1,5 +1,5 @@
 -- Texts without `$`.
-use Rattle.std.proofs.Common.{◌≡◌, ℕ, true, false, ◌<◌, ◌≤◌, ◌||◌, List, [], ◌∷◌, ◌++◌, length, Option, Result, Ok, Err, refl, sym, ap, ◌∙◌, zero-le}
+use Rattle.std.proofs.Common.{◌≡◌, ℕ, true, false, ◌<◌, ◌≤◌, ◌||◌, List, [], ◌∷◌, ◌++◌, length, Option, Result, Ok, Err, refl, sym, ap, ◌∙◌, zero-le, arith}
 use Rattle.std.proofs.lemmas.List.{append-nil}
 use Rattle.std.proofs.lemmas.List.Folds.{list_any-append}
 use Rattle.std.proofs.Math.Bool.{or-true}
@@ -20,7 +20,7 @@ unfolding start
 plain_stays levels scope going references text plain le =
     expanded_is levels scope going references text
     ∙ (ap (λ t. in_order (given scope (below levels scope) going) (start references) (forms t)) (sym (append-nil text))
-    ∙ (run_done scope (below levels scope) going (start references) text [] plain le
+    ∙ (run_done scope (below levels scope) going (start references) text [] plain (omega arith)
     ∙ in_order_nil (given scope (below levels scope) going) (record { text = text; references = references; varying = false })))
 
 pub plain_over : (levels : ℕ) (scope : Scope) (going : List (List ℕ)) (references : ℕ) (text : List ℕ) → IsPlain text → 1048576 < length text
@@ -29,7 +29,7 @@ unfolding start
 plain_over levels scope going references text plain lt =
     expanded_is levels scope going references text
     ∙ (ap (λ t. in_order (given scope (below levels scope) going) (start references) (forms t)) (sym (append-nil text))
-    ∙ run_over scope (below levels scope) going (start references) text [] plain zero-le lt)
+    ∙ run_over scope (below levels scope) going (start references) text [] plain zero-le (omega arith))
 
 -- a text with a `$`
 pub has_dollar : (text run behind : List ℕ) → text ≡ run ++ 36 ∷ behind → list_any (is_byte 36) text ≡ true

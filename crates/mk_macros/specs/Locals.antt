@@ -4,6 +4,9 @@ use Rattle.std.specs.Option.{option_map}
 use Rattle.std.specs.List.{slice_split, join_with_byte}
 use Rattle.std.specs.Str.{bytes_eq}
 use Rattle.mk_lines.specs.Bytes.{is_byte}
+-- which part of a name is meant
+pub use Rattle.mk_macros.specs.declared.locals.Part.{Part}
+use Rattle.mk_macros.specs.declared.locals.Part.TheVariants.{Whole, Directory, File}
 use Rattle.mk_macros.specs.declared.locals.Locals as code
 use Rattle.mk_macros.specs.declared.locals.Locals.TheVariants as variant
 use Rattle.mk_macros.specs.Forms.{is_internal}
@@ -34,12 +37,6 @@ named_in b recipe =
 abbrev pub named : Option Recipe → ℕ → List (List ℕ)
 named None b = []
 named (Some recipe) b = named_in b recipe
-
--- which part of a name is meant
-data pub Part : Type 0 where
-  Whole : Part
-  Directory : Part
-  File : Part
 
 abbrev pub last_of : List (List ℕ) → List ℕ
 last_of components = slice_index_or components (length components - 1) []

@@ -1,5 +1,5 @@
 -- Macro tables.
-use Rattle.std.specs.Prelude.{ℕ, Bool, true, false, List, [], ◌∷◌, Vec, Option, None, Some, find, if◌then◌else◌}
+use Rattle.std.specs.Prelude.{ℕ, Bool, true, false, List, [], ◌∷◌, ◌++◌, Vec, Option, None, Some, find, if◌then◌else◌}
 use Rattle.std.specs.Str.{bytes_eq}
 use Rattle.std.specs.declared.alloc.Global.{Global}
 use Rattle.mk_macros.specs.declared.table.Macro as code
@@ -23,6 +23,11 @@ macro_named table name = find (is_called name) table
 unfoldable pub with_macro : List Macro → Macro → List Macro
 with_macro [] macro = macro ∷ []
 with_macro (other ∷ table) macro = if is_called macro.name other then macro ∷ table else other ∷ with_macro table macro
+
+-- the table with a space and more text behind the text of this macro, if there is one
+abbrev pub with_text_behind : List Macro → List ℕ → Option Macro → List Macro
+with_text_behind table more None = table
+with_text_behind table more (Some macro) = with_macro table (record macro { text = macro.text ++ 32 ∷ more })
 
 -- a macro of the code, of this name
 abbrev pub macro_of : List ℕ → code.Macro → Macro

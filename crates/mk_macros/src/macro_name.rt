@@ -1,6 +1,7 @@
 //! Names of macros.
 
-ghost use Rattle.std.specs.Prelude.{◌≡◌, IfOk, Bool};
+ghost use Rattle.std.specs.Prelude.{◌≡◌, IfOk};
+ghost use Rattle.std.specs.List.{list_all};
 ghost use Rattle.mk_macros.specs.Names.{is_name_byte, is_macro_name};
 
 use std::alloc::{AllocError, Global};
@@ -42,7 +43,14 @@ impl MacroName {
 pub fn is_macro_name(name: &[u8]) -> bool
     ensures { result ≡ is_macro_name name.now }
 {
-    !name.is_empty() && name.iter().all(|b| is_name_byte(*b))
+    !name.is_empty() && has_name_bytes(name)
+}
+
+/// Whether each byte may stand in the name of a macro.
+fn has_name_bytes(name: &[u8]) -> bool
+    ensures { result ≡ list_all is_name_byte name.now }
+{
+    name.iter().all(|b| is_name_byte(*b))
 }
 
 /// Whether a byte may stand in the name of a macro.

@@ -2,7 +2,7 @@
 
 ghost use Rattle.std.specs.Prelude.{◌≡◌, [], OnOk, OnErr};
 ghost use Rattle.std.specs.Option.{option_map};
-ghost use Rattle.mk_macros.specs.Table.{macro_named, with_macro, macro_of};
+ghost use Rattle.mk_macros.specs.Table.{macro_named, with_macro, with_text_behind, macro_of};
 
 use indexmap::IndexMap;
 use std::alloc::{AllocError, Global};
@@ -66,6 +66,21 @@ impl MacroTable {
     {
         let key = Vec::from_slice(self.alloc, name)?;
         self.macros.insert(key, entry)?;
+        Ok(())
+    }
+
+    /// Puts a space and more text behind the text of the macro of a name, where it is defined. The
+    /// text grows in place, so that many appends cost no more than the text they make.
+    pub fn append(&mut self, name: &[u8], more: &[u8]) -> Result<(), AllocError>
+        ensures ok { OnOk result (self.new ≡ with_text_behind self.old more.now (macro_named self.old name.now)) }
+        ensures err { OnErr result (self.new ≡ self.old) }
+    {
+        let Some(entry) = self.macros.get_mut(name) else {
+            return Ok(());
+        };
+        entry.text.reserve(1 + more.len())?;
+        entry.text.push(b' ')?;
+        entry.text.extend_from_slice(more)?;
         Ok(())
     }
 }
