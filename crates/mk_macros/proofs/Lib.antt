@@ -1,3 +1,9 @@
+pub mod Outside
+pub mod Cuts
+pub mod FormLists
+pub mod InOrder
+pub mod Continuing
+pub mod Plain
 pub mod Tables
 pub mod Places
 pub mod Joined

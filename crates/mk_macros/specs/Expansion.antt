@@ -4,10 +4,11 @@ use Rattle.std.specs.Cow.{cow_slice_items}
 use Rattle.mk_macros.specs.declared.expansion.Expansion as code
 use Rattle.mk_macros.specs.declared.fault.MacroFault.{MacroFault}
 use Rattle.mk_macros.specs.declared.fault.MacroFault.TheVariants.{BadMacroName, Recursive, Unclosed, TooManyReferences, ValueTooLong, LoneDollar, MemberMacro}
+use Rattle.mk_macros.specs.declared.locals.Part.{Part}
 use Rattle.mk_macros.specs.Names.{is_macro_name, is_among}
 use Rattle.mk_macros.specs.Forms.{Form, Byte, Dollars, Reference, Endless, Lone, Parts, parts_of, forms}
 use Rattle.mk_macros.specs.Substitution.{substituted}
-use Rattle.mk_macros.specs.Locals.{Recipe, Part, internal_of, internal_value}
+use Rattle.mk_macros.specs.Locals.{Recipe, internal_of, internal_value}
 use Rattle.mk_macros.specs.Table.{Macro, macro_named}
 use Rattle.mk_macros.specs.Steps.{◌>>=◌}
 

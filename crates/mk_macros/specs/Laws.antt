@@ -1,21 +1,18 @@
 -- Laws of expansion and of definitions.
-use Rattle.std.specs.Prelude.{◌≡◌, ◌≤◌, ◌<◌, ◌↔◌, ℕ, ◌+◌, ◌==◌, Bool, true, false, List, [], ◌∷◌, ◌++◌, length, Option, None, Some, Result, Ok, Err, fold_left}
+use Rattle.std.specs.Prelude.{◌≡◌, ◌≤◌, ◌<◌, ◌↔◌, ℕ, ◌+◌, ◌==◌, Bool, true, false, List, [], ◌∷◌, ◌++◌, length, Option, None, Some, Result, Ok, Err}
 use Rattle.std.specs.List.{list_any, list_all}
 use Rattle.mk_lines.specs.Bytes.{is_byte}
 use Rattle.mk_macros.specs.declared.fault.MacroFault.{MacroFault}
 use Rattle.mk_macros.specs.declared.op.Op.{Op}
 use Rattle.mk_macros.specs.declared.op.Op.TheVariants.{Delay, Append}
 use Rattle.mk_macros.specs.Names.{is_macro_name}
+use Rattle.mk_macros.specs.Forms.{IsPlain}
 use Rattle.mk_macros.specs.Table.{Macro, macro_named, with_macro}
 use Rattle.mk_macros.specs.Locals.{Recipe}
 use Rattle.mk_macros.specs.Substitution.{substituted}
 use Rattle.mk_macros.specs.Expansion.{Expanded, Scope, expanded, expansion}
 use Rattle.mk_macros.specs.Definitions.{defined, with_operand, doubled}
 use Rattle.mk_macros.specs.Steps.{◌>>=◌}
-
--- no `$` stands in the text
-abbrev pub IsPlain : List ℕ → Type 0
-IsPlain text = list_any (is_byte 36) text ≡ false
 
 -- A text without `$` expands to itself and counts nothing, where it is of at most 1,048,576 bytes.
 abbrev pub PlainTextsStay : Type 0

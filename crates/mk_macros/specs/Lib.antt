@@ -5,5 +5,6 @@ pub mod Locals
 pub mod Table
 pub mod Steps
 pub mod Expansion
+pub mod Appending
 pub mod Definitions
 pub mod Laws

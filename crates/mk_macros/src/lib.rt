@@ -1,14 +1,17 @@
 //! Macros: the table of their definitions, and the expansion of a text.
 #![tactic(auto)]
 
+mod appending;
 mod definitions;
 mod expansion;
 mod fault;
 mod forms;
+mod going;
 pub mod laws;
 mod locals;
 mod macro_name;
 mod op;
+mod room;
 mod substitution;
 mod table;
 #[cfg(test)]
