@@ -11,5 +11,5 @@ pub mod LastSlash
 pub mod Distinct
 pub mod Turns
 pub mod DefinitionLaws
-pub mod Blanks
+pub mod EndBlanks
 pub mod Operands

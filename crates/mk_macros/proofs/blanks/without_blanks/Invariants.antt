@@ -1,6 +1,6 @@
 use Rattle.std.proofs.Common.{◌≡◌, ◌≤◌, length, take}
 use Rattle.mk_lines.specs.Bytes.{trimmed}
-use Rattle.mk_macros.proofs.Blanks.{ended}
+use Rattle.mk_macros.proofs.EndBlanks.{ended}
 use Rattle.mk_macros.proofs.blanks.without_blanks.Given as goal
 
 -- what is left ends in the same place
