@@ -2,6 +2,7 @@
 #![tactic(auto)]
 
 mod appending;
+mod bytes;
 mod definitions;
 mod expansion;
 mod fault;
