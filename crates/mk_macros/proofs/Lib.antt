@@ -13,3 +13,6 @@ pub mod Joined
 pub mod LastSlash
 pub mod Distinct
 pub mod Turns
+pub mod DefinitionLaws
+pub mod EndBlanks
+pub mod Operands

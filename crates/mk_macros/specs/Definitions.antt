@@ -9,7 +9,7 @@ use Rattle.mk_macros.specs.declared.op.Op.TheVariants.{Delay, Now, Double, IfUns
 use Rattle.mk_macros.specs.Names.{is_macro_name}
 use Rattle.mk_macros.specs.Substitution.{ends_with, without_end}
 use Rattle.mk_macros.specs.Table.{Macro, macro_named, with_macro}
-use Rattle.mk_macros.specs.Expansion.{expansion}
+use Rattle.mk_macros.specs.Expansion.{Expanded, expansion}
 use Rattle.mk_macros.specs.Steps.{◌>>=◌}
 
 -- each `$` doubled
@@ -23,9 +23,18 @@ doubled text = flat_map doubled_byte text
 abbrev pub stored : List Macro → Macro → Result (List Macro) MacroFault
 stored table macro = if nat_lt 1048576 (length macro.text) then Err ValueTooLong else Ok (with_macro table macro)
 
+-- the text that an expansion gives
+abbrev pub value_text : Result Expanded MacroFault → Result (List ℕ) MacroFault
+value_text result = result >>= λ expanded. Ok expanded.text
+
 -- the value with a space and more text behind it
 abbrev pub appended : Macro → List ℕ → Macro
 appended macro text = record macro { text = macro.text ++ 32 ∷ text }
+
+-- the table with more text behind that of this macro, if there is one
+abbrev pub more_stored : List Macro → List ℕ → Option Macro → Result (List Macro) MacroFault
+more_stored table more None = Ok table
+more_stored table more (Some macro) = stored table (appended macro more)
 
 -- `+=`: as `=` where the name is undefined; on an immediate macro the new text is expanded at once
 abbrev pub with_more : List Macro → List ℕ → List ℕ → Option Macro → Result (List Macro) MacroFault

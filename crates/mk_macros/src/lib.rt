@@ -2,7 +2,11 @@
 #![tactic(auto)]
 
 mod appending;
+mod blanks;
 mod bytes;
+pub mod definition_laws;
+#[cfg(test)]
+mod definition_tests;
 mod definitions;
 mod expansion;
 mod fault;
