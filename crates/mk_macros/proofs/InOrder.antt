@@ -66,7 +66,7 @@ within_err room value fault e =
     fault_same : {x y : MacroFault} → ◌≡◌ {A = Result Expanded MacroFault} (Err x) (Err y) → y ≡ x
     fault_same e = cc
 
-abbrev Gives : Type 0
+abbrev pub Gives : Type 0
 Gives = ℕ → Form → Result Expanded MacroFault
 
 -- nothing is left
@@ -75,27 +75,24 @@ unfolding in_order
 in_order_nil gives before = ap (in_order gives before) forms_nil
 
 -- what follows a form, from what the form gives
-follow : (gives : Gives) (before : Expanded) (rest : List Form) → Result Expanded MacroFault → Result Expanded MacroFault
+abbrev pub follow : (gives : Gives) (before : Expanded) (rest : List Form) → Result Expanded MacroFault → Result Expanded MacroFault
 follow gives before rest given = given >>= (λ after. fitting (joined before after) >>= (λ whole. in_order gives whole rest))
 
-in_order_cons : (gives : Gives) (before : Expanded) (form : Form) (rest : List Form) → in_order gives before (form ∷ rest) ≡ follow gives before rest (gives before.references form)
-unfolding in_order follow
+pub in_order_cons : (gives : Gives) (before : Expanded) (form : Form) (rest : List Form) → in_order gives before (form ∷ rest) ≡ follow gives before rest (gives before.references form)
+unfolding in_order
 in_order_cons gives before form rest = refl
 
-follow_ok : (gives : Gives) (before after : Expanded) (rest : List Form) → length before.text + length after.text ≤ 1048576 → follow gives before rest (Ok after) ≡ in_order gives (joined before after) rest
-unfolding follow
+pub follow_ok : (gives : Gives) (before after : Expanded) (rest : List Form) → length before.text + length after.text ≤ 1048576 → follow gives before rest (Ok after) ≡ in_order gives (joined before after) rest
 follow_ok gives before after rest h =
     let le : length (joined before after).text ≤ 1048576 = omega (arith, length-append before.text after.text) in
     ap (λ (r : Result Expanded MacroFault). r >>= (λ whole. in_order gives whole rest)) (fits (joined before after) le)
 
 follow_over : (gives : Gives) (before after : Expanded) (rest : List Form) → 1048576 < length before.text + length after.text → follow gives before rest (Ok after) ≡ Err ValueTooLong
-unfolding follow
 follow_over gives before after rest h =
     let lt : 1048576 < length (joined before after).text = omega (arith, length-append before.text after.text) in
     ap (λ (r : Result Expanded MacroFault). r >>= (λ whole. in_order gives whole rest)) (fits_not (joined before after) lt)
 
 follow_err : (gives : Gives) (before : Expanded) (rest : List Form) (fault : MacroFault) → follow gives before rest (Err fault) ≡ Err fault
-unfolding follow
 follow_err gives before rest fault = refl
 
 -- a form that gives a value for which there is room
@@ -140,7 +137,7 @@ module _ (scope : Scope) (deeper : Deeper) (going : List (List ℕ)) where
   byte_order : (before : Expanded) (b : ℕ) (text : List ℕ) → eqb b 36 ≡ false → in_order (given scope deeper going) before (forms (b ∷ text)) ≡ follow (given scope deeper going) before (forms text) (Ok (record { text = b ∷ []; references = before.references; varying = false }))
   byte_order before b text e = ap (in_order (given scope deeper going) before) (forms_byte b text e) ∙ in_order_cons (given scope deeper going) before (Byte b) (forms text)
 
-  byte_done : (before : Expanded) (b : ℕ) (text : List ℕ) → eqb b 36 ≡ false → length before.text + 1 ≤ 1048576 → in_order (given scope deeper going) before (forms (b ∷ text)) ≡ in_order (given scope deeper going) (longer before (b ∷ [])) (forms text)
+  pub byte_done : (before : Expanded) (b : ℕ) (text : List ℕ) → eqb b 36 ≡ false → length before.text + 1 ≤ 1048576 → in_order (given scope deeper going) before (forms (b ∷ text)) ≡ in_order (given scope deeper going) (longer before (b ∷ [])) (forms text)
   byte_done before b text e h =
       byte_order before b text e ∙ (follow_ok (given scope deeper going) before (record { text = b ∷ []; references = before.references; varying = false }) (forms text) h
       ∙ ap (λ (v : Expanded). in_order (given scope deeper going) v (forms text)) (byte_joined before b))

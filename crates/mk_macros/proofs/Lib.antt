@@ -1,9 +1,12 @@
-pub mod Outside
+pub mod ByteTests
 pub mod Cuts
 pub mod FormLists
 pub mod InOrder
 pub mod Continuing
+pub mod Splits
 pub mod Plain
+pub mod Counts
+pub mod Rounds
 pub mod Tables
 pub mod Places
 pub mod Joined

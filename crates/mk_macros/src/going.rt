@@ -5,7 +5,7 @@ ghost use Rattle.mk_macros.specs.Names.{is_among};
 ghost use Rattle.mk_macros.specs.Appending.{names_in};
 
 /// The names of the macros whose values are being expanded, the innermost first.
-#[derive(Debug, Clone, Copy)]
+#[derive(Clone, Copy)]
 pub enum Going<'a> {
     /// None.
     Nothing,

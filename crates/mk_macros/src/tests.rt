@@ -1,7 +1,6 @@
 //! Rows on expansions. The expected texts were worked out by hand.
 
-use crate::table::Macro;
-use crate::{Locals, MacroFault, MacroTable};
+use crate::{Locals, MacroFault, MacroTable, Op};
 use std::alloc::Global;
 use std::borrow::CowSlice;
 use std::test::Fail;
@@ -10,19 +9,14 @@ use std::test::Fail;
 fn table_of(alloc: Global, macros: &[(&str, &str)]) -> Result<MacroTable, Fail> {
     let mut table = MacroTable::new(alloc);
     for (name, text) in macros {
-        put(alloc, &mut table, name.as_bytes(), text.as_bytes())?;
+        put(&mut table, name.as_bytes(), text.as_bytes())?;
     }
     Ok(table)
 }
 
 /// One more delayed macro.
-fn put(alloc: Global, table: &mut MacroTable, name: &[u8], text: &[u8]) -> Result<(), Fail> {
-    let entry = Macro {
-        text: Vec::from_slice(alloc, text)?,
-        immediate: false,
-        fixed: false,
-    };
-    table.put(name, entry)?;
+fn put(table: &mut MacroTable, name: &[u8], text: &[u8]) -> Result<(), Fail> {
+    table.define(name, Op::Delay, text)?;
     Ok(())
 }
 
@@ -173,17 +167,19 @@ fn in_a_command(rt: HostRuntime) -> Result<(), Fail> {
 }
 
 #[test]
-fn an_immediate_value_stays(rt: HostRuntime) -> Result<(), Fail> {
+fn values_that_were_stored(rt: HostRuntime) -> Result<(), Fail> {
     let alloc = rt.alloc();
     let mut table = MacroTable::new(alloc);
-    let entry = Macro {
-        text: Vec::from_slice(alloc, b"$$ $(A) $")?,
-        immediate: true,
-        fixed: false,
-    };
-    table.put(b"A", entry)?;
-    let line = shown(alloc, &table, b"<$(A)>", &Locals::Empty)?;
-    assert_eq!(rt; line.as_slice(), b"<$$ $(A) $>".as_slice());
+    table.define(b"X", Op::Delay, b"$$v")?;
+    table.define(b"Y", Op::Now, b"$(X)")?;
+    table.define(b"Z", Op::Double, b"$(X)")?;
+    let line = shown(alloc, &table, b"$(Y)|$(Z)|$(X)", &Locals::Empty)?;
+    assert_eq!(rt; line.as_slice(), b"$v|$v|$v".as_slice());
+    table.define(b"Z", Op::Append, b"$(X)")?;
+    table.define(b"Y", Op::Append, b"$(X)")?;
+    table.define(b"X", Op::Delay, b"w")?;
+    let line = shown(alloc, &table, b"$(Z)|$(Y)", &Locals::Empty)?;
+    assert_eq!(rt; line.as_slice(), b"$v w|$v $v".as_slice());
     Ok(())
 }
 
@@ -195,7 +191,7 @@ fn most_references(rt: HostRuntime) -> Result<(), Fail> {
         let name = format!(in alloc; "A{n}")?;
         let below = n - 1;
         let text = format!(in alloc; "$(A{below})$(A{below})")?;
-        put(alloc, &mut table, name.as_bytes(), text.as_bytes())?;
+        put(&mut table, name.as_bytes(), text.as_bytes())?;
     }
     let line = shown(alloc, &table, b"$(A15)$(A0)", &Locals::Empty)?;
     assert_eq!(rt; line.as_slice(), b"".as_slice());
@@ -212,10 +208,10 @@ fn chained(alloc: Global, count: usize) -> Result<Vec<u8>, Fail> {
         let name = format!(in alloc; "A{n}")?;
         let next = n + 1;
         let text = format!(in alloc; "$(A{next})")?;
-        put(alloc, &mut table, name.as_bytes(), text.as_bytes())?;
+        put(&mut table, name.as_bytes(), text.as_bytes())?;
     }
     let last = format!(in alloc; "A{count}")?;
-    put(alloc, &mut table, last.as_bytes(), b"")?;
+    put(&mut table, last.as_bytes(), b"")?;
     shown(alloc, &table, b"$(A1)", &Locals::Empty)
 }
 
@@ -288,7 +284,7 @@ fn too_long_before_other_faults(rt: HostRuntime) -> Result<(), Fail> {
     let alloc = rt.alloc();
     let mut table = MacroTable::new(alloc);
     let text = bytes(alloc, 1_048_576)?;
-    put(alloc, &mut table, b"L", &text)?;
+    put(&mut table, b"L", &text)?;
     for (text, want) in [
         ("$(L)$", "lone"),
         ("$(L)x$", "too long"),
