@@ -1,0 +1,131 @@
+-- Laws of definitions.
+use Rattle.std.proofs.Common.{◌≡◌, ℕ, ◌+◌, ◌≤◌, Bool, true, false, not, ltb, cond, List, [], ◌∷◌, ◌++◌, length, Option, Some, None, Result, Ok, Err, inl, inr, refl, sym, ap, ◌∙◌, subst, arith, length-append}
+use Rattle.std.specs.Str.{bytes_eq}
+use Rattle.std.proofs.lemmas.Bool.{cases_Bool, le-ltb}
+use Rattle.std.proofs.lemmas.Slice.Eq.{bytes_eq-Decides}
+use Rattle.mk_macros.specs.declared.fault.MacroFault.{MacroFault}
+use Rattle.mk_macros.specs.declared.fault.MacroFault.TheVariants.{BadMacroName, ValueTooLong}
+use Rattle.mk_macros.specs.declared.op.Op.{Op}
+use Rattle.mk_macros.specs.declared.op.Op.TheVariants.{Delay, Now, Double, IfUnset, Append}
+use Rattle.mk_macros.specs.Names.{is_macro_name}
+use Rattle.mk_macros.specs.Table.{Macro, is_called, macro_named, with_macro}
+use Rattle.mk_macros.specs.Expansion.{Expanded, expansion}
+use Rattle.mk_macros.specs.Steps.{◌>>=◌}
+use Rattle.mk_macros.specs.Definitions.{doubled, stored, appended, with_more, if_unset, set, is_fixed, defined}
+use Rattle.mk_macros.specs.Laws.{Definition, after_definitions, OperandsWin, AppendingToNothing, AppendingToDelayed, AppendingToImmediate}
+
+-- what a name means stays
+abbrev Keeps : List Macro → List ℕ → Result (List Macro) MacroFault → Type 0
+Keeps table name result = (after : List Macro) → result ≡ Ok after → macro_named after name ≡ macro_named table name
+
+-- another macro leaves it
+other_macro : (table : List Macro) (macro : Macro) (name : List ℕ) → bytes_eq name macro.name ≡ false → macro_named (with_macro table macro) name ≡ macro_named table name
+unfolding with_macro
+other_macro [] macro name other = ap (λ b. cond b (Some macro) None) other
+other_macro (first ∷ table) macro name other = at (is_called macro.name first) refl (other_macro table macro name other)
+  where
+    at : (b : Bool) → is_called macro.name first ≡ b → macro_named (with_macro table macro) name ≡ macro_named table name
+        → macro_named (cond b (macro ∷ table) (first ∷ with_macro table macro)) name ≡ macro_named (first ∷ table) name
+    at true t ih =
+        let same : macro.name ≡ first.name = (bytes_eq-Decides macro.name first.name).0 t in
+        ap (λ b. cond b (Some macro) (macro_named table name)) other ∙ ap (λ b. cond b (Some first) (macro_named table name)) (sym (ap (bytes_eq name) (sym same) ∙ other))
+    at false f ih = ap (λ (o : Option Macro). cond (is_called name first) (Some first) o) ih
+
+keeps_stored : (table : List Macro) (macro : Macro) (name : List ℕ) → bytes_eq name macro.name ≡ false → Keeps table name (stored table macro)
+keeps_stored table macro name other = at (ltb 1048576 (length macro.text))
+  where
+    at : (b : Bool) → Keeps table name (cond b (Err ValueTooLong) (Ok (with_macro table macro)))
+    at true after e = absurd cc
+    at false after e = let same : with_macro table macro ≡ after = cc in ap (λ (ms : List Macro). macro_named ms name) (sym same) ∙ other_macro table macro name other
+
+keeps_step : {A : Type 0} (table : List Macro) (name : List ℕ) (r : Result A MacroFault) (f : A → Result (List Macro) MacroFault) → ((x : A) → Keeps table name (f x)) → Keeps table name (r >>= f)
+keeps_step table name (Ok x) f keeps = keeps x
+keeps_step table name (Err fault) f keeps = λ after e. absurd cc
+
+keeps_same : (table : List Macro) (name : List ℕ) → Keeps table name (Ok table)
+keeps_same table name after e = let same : table ≡ after = cc in ap (λ (ms : List Macro). macro_named ms name) (sym same)
+
+keeps_unset : (table : List Macro) (changed text name : List ℕ) (found : Option Macro) → bytes_eq name changed ≡ false → Keeps table name (if_unset table changed text found)
+keeps_unset table changed text name None other = keeps_stored table _ name other
+keeps_unset table changed text name (Some macro) other = keeps_same table name
+
+-- a macro that is found has the name
+named_so : (table : List Macro) (name : List ℕ) (macro : Macro) → macro_named table name ≡ Some macro → macro.name ≡ name
+named_so [] name macro e = absurd cc
+named_so (first ∷ table) name macro e = at (is_called name first) refl e (named_so table name macro)
+  where
+    at : (b : Bool) → is_called name first ≡ b → cond b (Some first) (macro_named table name) ≡ Some macro → (macro_named table name ≡ Some macro → macro.name ≡ name) → macro.name ≡ name
+    at true t k ih = let same : first ≡ macro = cc in ap (λ (m : Macro). m.name) (sym same) ∙ sym ((bytes_eq-Decides name first.name).0 t)
+    at false f k ih = ih k
+
+keeps_more : (table : List Macro) (changed text name : List ℕ) (found : Option Macro) → macro_named table changed ≡ found → bytes_eq name changed ≡ false → Keeps table name (with_more table changed text found)
+keeps_more table changed text name None is other = keeps_stored table _ name other
+keeps_more table changed text name (Some macro) is other = at macro.immediate
+  where
+    apart : bytes_eq name macro.name ≡ false
+    apart = ap (bytes_eq name) (named_so table changed macro is) ∙ other
+
+    at : (b : Bool) → Keeps table name (cond b (expansion table None text >>= λ (more : Expanded). stored table (appended macro more.text)) (stored table (appended macro text)))
+    at true = keeps_step table name (expansion table None text) (λ (more : Expanded). stored table (appended macro more.text)) (λ more. keeps_stored table (appended macro more.text) name apart)
+    at false = keeps_stored table (appended macro text) name apart
+
+keeps_set : (table : List Macro) (changed text name : List ℕ) (by_operand : Bool) (op : Op) → bytes_eq name changed ≡ false → Keeps table name (set table changed by_operand op text)
+keeps_set table changed text name by_operand Delay other = keeps_stored table _ name other
+keeps_set table changed text name by_operand Now other = keeps_step table name (expansion table None text) _ (λ value. keeps_stored table _ name other)
+keeps_set table changed text name by_operand Double other = keeps_step table name (expansion table None text) _ (λ value. keeps_stored table _ name other)
+keeps_set table changed text name by_operand IfUnset other = keeps_unset table changed text name (macro_named table changed) other
+keeps_set table changed text name by_operand Append other = keeps_more table changed text name (macro_named table changed) refl other
+
+-- a definition leaves what an operand has fixed
+keeps_fixed : (table : List Macro) (changed text name : List ℕ) (op : Op) (macro : Macro) → macro_named table name ≡ Some macro → macro.fixed ≡ true → Keeps table name (defined table changed op text)
+unfolding defined
+keeps_fixed table changed text name op macro is fixed = at (not (is_macro_name changed)) (bytes_eq name changed) refl (is_fixed (macro_named table changed)) refl
+  where
+    at : (bad same : Bool) → bytes_eq name changed ≡ same → (held : Bool) → is_fixed (macro_named table changed) ≡ held → Keeps table name (cond bad (Err BadMacroName) (cond held (Ok table) (set table changed false op text)))
+    at true same t held h = λ after e. absurd cc
+    at false same t true h = keeps_same table name
+    at false false f false h = keeps_set table changed text name false op f
+    at false true t false h =
+        let equal : name ≡ changed = (bytes_eq-Decides name changed).0 t in
+        let fixed_too : is_fixed (macro_named table changed) ≡ true = ap (λ n. is_fixed (macro_named table n)) (sym equal) ∙ (ap is_fixed is ∙ fixed) in
+        absurd (let clash : false ≡ true = sym h ∙ fixed_too in cc)
+
+pub operands_win : OperandsWin
+unfolding after_definitions
+operands_win table after [] name macro is fixed e = let same : table ≡ after = cc in ap (λ (ms : List Macro). macro_named ms name) (sym same) ∙ is
+operands_win table after (definition ∷ definitions) name macro is fixed e =
+    next (defined table definition.name definition.op definition.text) (keeps_fixed table definition.name definition.text name definition.op macro is fixed) e (λ middle. operands_win middle after definitions name macro)
+  where
+    next : (r : Result (List Macro) MacroFault) → Keeps table name r → (r >>= λ middle. after_definitions middle definitions) ≡ Ok after
+        → ((middle : List Macro) → macro_named middle name ≡ Some macro → macro.fixed ≡ true → after_definitions middle definitions ≡ Ok after → macro_named after name ≡ Some macro) → macro_named after name ≡ Some macro
+    next (Ok middle) keeps k ih = ih middle (keeps middle refl ∙ is) fixed k
+    next (Err fault) keeps k ih = absurd cc
+
+-- `+=` of a name, by whether it is good and what it means
+abbrev more_defined : List Macro → List ℕ → List ℕ → Bool → Option Macro → Result (List Macro) MacroFault
+more_defined table name text good found = cond (not good) (Err BadMacroName) (cond (is_fixed found) (Ok table) (with_more table name text found))
+
+pub appending_to_nothing : AppendingToNothing
+unfolding defined
+appending_to_nothing table name text none = ap (λ (o : Option Macro). cond (not (is_macro_name name)) (Err BadMacroName) (cond (is_fixed (macro_named table name)) (Ok table) (with_more table name text o))) none
+
+-- what isn't too long is stored
+fits : (table : List Macro) (macro : Macro) (more : List ℕ) → length macro.text + (1 + length more) ≤ 1048576 → stored table (appended macro more) ≡ Ok (with_macro table (appended macro more))
+fits table macro more le = ap (λ b. cond b (Err ValueTooLong) (Ok (with_macro table (appended macro more)))) (le-ltb 1048576 (length (macro.text ++ 32 ∷ more)) (omega (arith, length-append macro.text (32 ∷ more))))
+
+pub appending_to_delayed : AppendingToDelayed
+unfolding defined
+appending_to_delayed table name text macro good is unfixed delayed le =
+    ap (λ g. more_defined table name text g (macro_named table name)) good
+    ∙ (ap (more_defined table name text true) is
+    ∙ (ap (λ b. cond b (Ok table) (with_more table name text (Some macro))) unfixed
+    ∙ (ap (λ b. cond b (expansion table None text >>= λ (more : Expanded). stored table (appended macro more.text)) (stored table (appended macro text))) delayed ∙ fits table macro text le)))
+
+pub appending_to_immediate : AppendingToImmediate
+unfolding defined
+appending_to_immediate table name text macro more good is unfixed immediate found le =
+    ap (λ g. more_defined table name text g (macro_named table name)) good
+    ∙ (ap (more_defined table name text true) is
+    ∙ (ap (λ b. cond b (Ok table) (with_more table name text (Some macro))) unfixed
+    ∙ (ap (λ b. cond b (expansion table None text >>= λ (more : Expanded). stored table (appended macro more.text)) (stored table (appended macro text))) immediate
+    ∙ (ap (λ (r : Result Expanded MacroFault). r >>= λ (more : Expanded). stored table (appended macro more.text)) found ∙ fits table macro more.text le))))

@@ -1,0 +1,83 @@
+-- Where bytes stand, and what texts begin and end with.
+use Rattle.std.proofs.Common.{◌≡◌, ℕ, suc, ◌+◌, ◌-◌, ◌<◌, ◌≤◌, Bool, true, false, not, ◌&&◌, ◌||◌, cond, ltb, leb, List, [], ◌∷◌, ◌++◌, length, take, drop, Option, Some, None, inl, inr, refl, sym, ap, ◌∙◌, subst, arith}
+use Rattle.std.specs.List.{position_or_len, before_first, after_first, list_any}
+use Rattle.std.proofs.lemmas.List.{take_all, drop_all, length-drop}
+use Rattle.std.specs.Str.{bytes_eq}
+use Rattle.std.proofs.lemmas.Bool.{ltb-false, leb-true, leb-false, cases_Bool, false_from_ne_true, both_ways}
+use Rattle.std.proofs.lemmas.Option.{cond_some}
+use Rattle.std.proofs.lemmas.Slice.Eq.{bytes_eq-Decides}
+use Rattle.mk_macros.specs.Substitution.{begins_with, ends_with}
+
+-- a place lies within the list, or at its end
+pub place_within : {A : Type 0} (p : A → Bool) (xs : List A) → position_or_len p xs ≤ length xs
+place_within p [] = omega arith
+place_within p (x ∷ xs) = at (not (p x)) (place_within p xs)
+  where
+    at : (b : Bool) → position_or_len p xs ≤ length xs → cond b (1 + position_or_len p xs) 0 ≤ suc (length xs)
+    at true h = omega arith
+    at false h = omega arith
+
+-- what a search answers, where it finds a place
+pub place_found : {A : Type 0} (p : A → Bool) (xs : List A) (r : Option ℕ) (at : ℕ) → r ≡ cond (ltb (position_or_len p xs) (length xs)) (Some (position_or_len p xs)) None → r ≡ Some at → at ≡ position_or_len p xs
+place_found p xs r at e is = sym (cond_some (ltb (position_or_len p xs) (length xs)) (position_or_len p xs) at (sym e ∙ is)).1
+
+-- and where it finds none
+pub place_missing : {A : Type 0} (p : A → Bool) (xs : List A) (r : Option ℕ) → r ≡ cond (ltb (position_or_len p xs) (length xs)) (Some (position_or_len p xs)) None → r ≡ None → length xs ≡ position_or_len p xs
+place_missing p xs r e is = not_below (ltb (position_or_len p xs) (length xs)) refl (sym e ∙ is)
+  where
+    not_below : (b : Bool) → ltb (position_or_len p xs) (length xs) ≡ b → cond b (Some (position_or_len p xs)) None ≡ None → length xs ≡ position_or_len p xs
+    not_below true t h = absurd cc
+    not_below false t h = omega (arith, ltb-false _ _ t, place_within p xs)
+
+-- equal either way
+pub bytes_eq_sym : (a b : List ℕ) → bytes_eq a b ≡ bytes_eq b a
+bytes_eq_sym a b =
+    elim (cases_Bool (bytes_eq a b)) [
+      | inl t ↦ t ∙ sym ((bytes_eq-Decides b a).1 (sym ((bytes_eq-Decides a b).0 t)))
+      | inr f ↦ f ∙ sym (false_from_ne_true _ (λ t. both_ways _ f ((bytes_eq-Decides a b).1 (sym ((bytes_eq-Decides b a).0 t)))))
+    ]
+
+-- a text of std's test ends so
+pub ends_as : (back text : List ℕ) → bytes_eq back (drop (length text - length back) text) ≡ ends_with back text
+ends_as back text = by_length (leb (length back) (length text)) refl
+  where
+    by_length : (b : Bool) → leb (length back) (length text) ≡ b → bytes_eq back (drop (length text - length back) text) ≡ (b && bytes_eq (drop (length text - length back) text) back)
+    by_length true t = bytes_eq_sym back (drop (length text - length back) text)
+    by_length false f =
+        let longer : length text < length back = leb-false _ _ f in
+        let all : length text - length back ≡ 0 = omega arith in
+        false_from_ne_true _ (λ t. let same : length back ≡ length (drop (length text - length back) text) = ap length ((bytes_eq-Decides back (drop (length text - length back) text)).0 t) in
+        let short : length (drop (length text - length back) text) ≡ length text = ap (λ n. length (drop n text)) all in
+        absurd (omega arith))
+
+-- at the end nothing was found
+pub none_placed : {A : Type 0} (p : A → Bool) (xs : List A) → position_or_len p xs ≡ length xs → list_any p xs ≡ false
+none_placed p [] h = refl
+none_placed p (x ∷ xs) h = at (p x) h (none_placed p xs)
+  where
+    at : (b : Bool) → cond (not b) (1 + position_or_len p xs) 0 ≡ suc (length xs) → (position_or_len p xs ≡ length xs → list_any p xs ≡ false) → (b || list_any p xs) ≡ false
+    at true k ih = absurd (omega arith)
+    at false k ih = ih (omega arith)
+
+-- before it something was
+pub some_placed : {A : Type 0} (p : A → Bool) (xs : List A) → position_or_len p xs < length xs → list_any p xs ≡ true
+some_placed p [] h = absurd (omega arith)
+some_placed p (x ∷ xs) h = at (p x) h (some_placed p xs)
+  where
+    at : (b : Bool) → cond (not b) (1 + position_or_len p xs) 0 < suc (length xs) → (position_or_len p xs < length xs → list_any p xs ≡ true) → (b || list_any p xs) ≡ true
+    at true k ih = refl
+    at false k ih = ih (omega arith)
+
+-- the parts of a text that has none
+pub whole_cut : {A : Type 0} (p : A → Bool) (xs : List A) (at : ℕ) → at ≡ position_or_len p xs → at ≡ length xs → (false ≡ list_any p xs) × (xs ≡ before_first p xs) × ([] ≡ after_first p xs)
+whole_cut p xs at e l =
+    let end : position_or_len p xs ≡ length xs = sym e ∙ l in
+    (sym (none_placed p xs end), sym (take_all (position_or_len p xs) xs (omega arith)), sym (drop_all (position_or_len p xs + 1) xs (omega arith)))
+
+-- the parts of one that has some
+pub parted_cut : {A : Type 0} (p : A → Bool) (xs : List A) (at : ℕ) → at ≡ position_or_len p xs → at < length xs → (true ≡ list_any p xs) × (take at xs ≡ before_first p xs) × (take (length xs - (at + 1)) (drop (at + 1) xs) ≡ after_first p xs)
+parted_cut p xs at e l = (
+  sym (some_placed p xs (subst (λ n. n < length xs) e l)),
+  ap (λ n. take n xs) e,
+  take_all (length xs - (at + 1)) (drop (at + 1) xs) (omega (arith, length-drop (at + 1) xs)) ∙ ap (λ n. drop (n + 1) xs) e,
+)

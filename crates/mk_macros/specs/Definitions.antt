@@ -1,0 +1,90 @@
+-- Definitions of macros, by the lines of a makefile and by operands.
+use Rattle.std.specs.Prelude.{ℕ, ◌-◌, ◌==◌, Bool, true, false, not, List, [], ◌∷◌, ◌++◌, length, take, drop, reverse, nat_lt, Option, None, Some, Result, Ok, Err, if◌then◌else◌}
+use Rattle.std.specs.List.{flat_map, list_any, before_first, after_first, prefix_len}
+use Rattle.mk_lines.specs.Bytes.{is_byte, is_blank, trimmed}
+use Rattle.mk_macros.specs.declared.fault.MacroFault.{MacroFault}
+use Rattle.mk_macros.specs.declared.fault.MacroFault.TheVariants.{BadMacroName, ValueTooLong}
+use Rattle.mk_macros.specs.declared.op.Op.{Op}
+use Rattle.mk_macros.specs.declared.op.Op.TheVariants.{Delay, Now, Double, IfUnset, Append}
+use Rattle.mk_macros.specs.Names.{is_macro_name}
+use Rattle.mk_macros.specs.Substitution.{ends_with, without_end}
+use Rattle.mk_macros.specs.Table.{Macro, macro_named, with_macro}
+use Rattle.mk_macros.specs.Expansion.{Expanded, expansion}
+use Rattle.mk_macros.specs.Steps.{◌>>=◌}
+
+-- each `$` doubled
+abbrev pub doubled_byte : ℕ → List ℕ
+doubled_byte b = if b == 36 then 36 ∷ 36 ∷ [] else b ∷ []
+
+abbrev pub doubled : List ℕ → List ℕ
+doubled text = flat_map doubled_byte text
+
+-- the table with a macro of at most 1,048,576 bytes
+abbrev pub stored : List Macro → Macro → Result (List Macro) MacroFault
+stored table macro = if nat_lt 1048576 (length macro.text) then Err ValueTooLong else Ok (with_macro table macro)
+
+-- the text that an expansion gives
+abbrev pub value_text : Result Expanded MacroFault → Result (List ℕ) MacroFault
+value_text result = result >>= λ expanded. Ok expanded.text
+
+-- the value with a space and more text behind it
+abbrev pub appended : Macro → List ℕ → Macro
+appended macro text = record macro { text = macro.text ++ 32 ∷ text }
+
+-- the table with more text behind that of this macro, if there is one
+abbrev pub more_stored : List Macro → List ℕ → Option Macro → Result (List Macro) MacroFault
+more_stored table more None = Ok table
+more_stored table more (Some macro) = stored table (appended macro more)
+
+-- `+=`: as `=` where the name is undefined; on an immediate macro the new text is expanded at once
+abbrev pub with_more : List Macro → List ℕ → List ℕ → Option Macro → Result (List Macro) MacroFault
+with_more table name text None = stored table (record { name = name; text = text; immediate = false; fixed = false })
+with_more table name text (Some macro) =
+    if macro.immediate then (expansion table None text >>= λ more. stored table (appended macro more.text))
+    else stored table (appended macro text)
+
+-- `?=`: as `=` where the name is undefined
+abbrev pub if_unset : List Macro → List ℕ → List ℕ → Option Macro → Result (List Macro) MacroFault
+if_unset table name text None = stored table (record { name = name; text = text; immediate = false; fixed = false })
+if_unset table name text (Some macro) = Ok table
+
+-- the table after a definition of this name, by a line of the makefile or by an operand, which fixes it
+abbrev pub set : List Macro → List ℕ → Bool → Op → List ℕ → Result (List Macro) MacroFault
+set table name by_operand Delay text = stored table (record { name = name; text = text; immediate = false; fixed = by_operand })
+set table name by_operand Now text = expansion table None text >>= λ value. stored table (record { name = name; text = value.text; immediate = true; fixed = by_operand })
+set table name by_operand Double text = expansion table None text >>= λ value. stored table (record { name = name; text = doubled value.text; immediate = false; fixed = by_operand })
+set table name by_operand IfUnset text = if_unset table name text (macro_named table name)
+set table name by_operand Append text = with_more table name text (macro_named table name)
+
+abbrev pub is_fixed : Option Macro → Bool
+is_fixed None = false
+is_fixed (Some macro) = macro.fixed
+
+-- A definition of the makefile: a bad name is refused first, and one that an operand has fixed is passed over.
+unfoldable pub defined : List Macro → List ℕ → Op → List ℕ → Result (List Macro) MacroFault
+defined table name op text =
+    if not (is_macro_name name) then Err BadMacroName
+    else (if is_fixed (macro_named table name) then Ok table
+    else set table name false op text)
+
+-- the text without the blanks at its ends
+abbrev pub without_blanks : List ℕ → List ℕ
+without_blanks text = reverse (trimmed (reverse (trimmed text)))
+
+-- the operator of an operand, and what stands before it: `:::=` and `::=` by the colons before the first `=`
+abbrev pub operator_of : List ℕ → Op × List ℕ
+operator_of before =
+    if ends_with (58 ∷ 58 ∷ 58 ∷ []) before then (Double, without_end 3 before)
+    else (if ends_with (58 ∷ 58 ∷ []) before then (Now, without_end 2 before)
+    else (Delay, before))
+
+abbrev pub operand_set : List Macro → Op × List ℕ → List ℕ → Result (List Macro) MacroFault
+operand_set table operator text =
+    if not (is_macro_name (without_blanks operator.1)) then Err BadMacroName
+    else set table (without_blanks operator.1) true operator.0 text
+
+-- A macro operand: its first `=` decides, and a later one of the same name replaces an earlier one.
+unfoldable pub with_operand : List Macro → List ℕ → Result (List Macro) MacroFault
+with_operand table operand =
+    if not (list_any (is_byte 61) operand) then Err BadMacroName
+    else operand_set table (operator_of (before_first (is_byte 61) operand)) (trimmed (after_first (is_byte 61) operand))

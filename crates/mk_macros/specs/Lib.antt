@@ -1,0 +1,10 @@
+pub mod Names
+pub mod Forms
+pub mod Substitution
+pub mod Locals
+pub mod Table
+pub mod Steps
+pub mod Expansion
+pub mod Appending
+pub mod Definitions
+pub mod Laws

@@ -1,0 +1,46 @@
+-- `$(N:s1=s2)`: the words of a value, each with its end replaced, or by a pattern with `%`.
+use Rattle.std.specs.Prelude.{ℕ, ◌+◌, ◌-◌, Bool, ◌&&◌, List, [], ◌∷◌, ◌++◌, length, map, take, drop, nat_le, if◌then◌else◌}
+use Rattle.std.specs.List.{list_any, before_first, after_first, join_with_byte}
+use Rattle.std.specs.Str.{bytes_eq}
+use Rattle.mk_lines.specs.Bytes.{is_byte}
+use Rattle.mk_lines.specs.Words.{words}
+
+abbrev pub is_percent : ℕ → Bool
+is_percent b = is_byte 37 b
+
+abbrev pub begins_with : List ℕ → List ℕ → Bool
+begins_with front text = bytes_eq (take (length front) text) front
+
+-- the text without so many bytes of its end
+abbrev pub without_end : ℕ → List ℕ → List ℕ
+without_end n text = take (length text - n) text
+
+abbrev pub ends_with : List ℕ → List ℕ → Bool
+ends_with back text = nat_le (length back) (length text) && bytes_eq (drop (length text - length back) text) back
+
+-- A text without `%`: where a word ends in it, that end is replaced.
+abbrev pub with_end_replaced : List ℕ → List ℕ → List ℕ → List ℕ
+with_end_replaced old new word = if ends_with old word then without_end (length old) word ++ new else word
+
+-- the text with its first `%` replaced by a stem
+abbrev pub with_stem : List ℕ → List ℕ → List ℕ
+with_stem stem new = if list_any is_percent new then before_first is_percent new ++ stem ++ after_first is_percent new else new
+
+-- the word begins and ends so, without overlap
+abbrev pub is_between : List ℕ → List ℕ → List ℕ → Bool
+is_between front back word = nat_le (length front + length back) (length word) && (begins_with front word && ends_with back word)
+
+-- Round a `%`: where a word has both ends without overlap, it becomes the new text, with what stands between them as
+-- its stem.
+abbrev pub with_pattern_replaced : List ℕ → List ℕ → List ℕ → List ℕ → List ℕ
+with_pattern_replaced front back new word =
+    if is_between front back word then with_stem (drop (length front) (without_end (length back) word)) new else word
+
+abbrev pub replaced : List ℕ → List ℕ → List ℕ → List ℕ
+replaced old new word =
+    if list_any is_percent old then with_pattern_replaced (before_first is_percent old) (after_first is_percent old) new word
+    else with_end_replaced old new word
+
+-- the words of a value, each replaced or kept, joined by one space
+unfoldable pub substituted : List ℕ → List ℕ → List ℕ → List ℕ
+substituted old new value = join_with_byte 32 (map (replaced old new) (words value))

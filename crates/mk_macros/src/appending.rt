@@ -1,0 +1,287 @@
+//! Expansions that are put behind what stands in a buffer.
+
+ghost use Rattle.std.specs.Prelude.{[], None, Some};
+ghost use Rattle.mk_macros.specs.Appending.{Appends, below, names_in, piece_view, scope_view, form_within, reference_within, behind_name};
+ghost use Rattle.mk_macros.specs.Expansion.{expanded, value_of, macro_value, refused};
+ghost use Rattle.mk_macros.specs.Locals.{internal_of};
+ghost use Rattle.mk_macros.specs.Table.{macro_named};
+ghost use Rattle.mk_macros.specs.Forms.{form_view, ends_view};
+ghost use Rattle.mk_macros.specs.Steps.{Gives};
+
+use crate::fault::MacroFault;
+use crate::forms::{Ends, Form, cut_at_dollar, dollar_form, parts_of};
+use crate::going::Going;
+use crate::locals::{Locals, Part, internal_of, internal_value};
+use crate::macro_name::{MacroName, is_macro_name};
+use crate::room::{MAX_LENGTH, append_run, counted};
+use crate::substitution::push_substituted;
+use crate::table::MacroTable;
+use std::alloc::Global;
+
+/// What names mean.
+#[derive(Clone, Copy)]
+pub struct Scope<'a> {
+    /// The allocator of all that is expanded.
+    pub alloc: Global,
+    /// The macros.
+    pub table: &'a MacroTable,
+    /// What the internal macros speak of.
+    pub locals: &'a Locals<'a>,
+}
+
+/// What an expansion used.
+#[derive(Clone, Copy, Debug)]
+pub struct Used {
+    /// The references that were counted up to its end.
+    pub references: usize,
+    /// Whether `$?` was among them.
+    pub varying: bool,
+}
+
+/// A text that was expanded for itself.
+#[derive(Drop)]
+struct Piece {
+    text: Vec<u8>,
+    used: Used,
+}
+
+/// The expansion of a text with so many levels below it.
+#[cycle(append)]
+pub fn append_text(
+    scope: &Scope<'_>,
+    deep: usize,
+    going: &Going<'_>,
+    references: usize,
+    text: &[u8],
+    into: &mut Vec<u8>,
+) -> Result<Used, MacroFault>
+    ensures { Appends into.old.items into.new.items result (expanded deep (scope_view scope.now) (names_in going.now) references text.now) }
+{
+    let start = into.len();
+    let mut used = Used {
+        references,
+        varying: false,
+    };
+    let mut rest = text;
+    'forms: loop {
+        let (run, behind) = cut_at_dollar(rest);
+        append_run(MAX_LENGTH - (into.len() - start), run, into)?;
+        let Some(behind) = behind else {
+            return Ok(used);
+        };
+        let (form, left) = dollar_form(scope.alloc, behind)?;
+        let room = MAX_LENGTH - (into.len() - start);
+        let given = append_form(scope, deep, going, used.references, room, form, into)?;
+        used.references = given.references;
+        used.varying |= given.varying;
+        rest = left;
+    }
+}
+
+/// What a form gives, where there is room for it.
+#[cycle(append)]
+fn append_form(
+    scope: &Scope<'_>,
+    deep: usize,
+    going: &Going<'_>,
+    references: usize,
+    room: usize,
+    form: Form<'_>,
+    into: &mut Vec<u8>,
+) -> Result<Used, MacroFault>
+    ensures { Appends into.old.items into.new.items result (form_within (scope_view scope.now) (below deep (scope_view scope.now)) (names_in going.now) references room (form_view form.entry)) }
+{
+    match form {
+        Form::Dollars => {
+            append_run(room, b"$", into)?;
+            Ok(Used {
+                references,
+                varying: false,
+            })
+        }
+        Form::Reference(inside) => {
+            append_reference(scope, deep, going, references, room, inside, into)
+        }
+        Form::Endless => Err(MacroFault::Unclosed),
+        Form::Lone => Err(MacroFault::LoneDollar),
+    }
+}
+
+/// What a reference gives, where there is room for it.
+#[cycle(append)]
+#[tactic(auto, unfolding(crate::specs::Expansion::reference))]
+fn append_reference(
+    scope: &Scope<'_>,
+    deep: usize,
+    going: &Going<'_>,
+    references: usize,
+    room: usize,
+    inside: &[u8],
+    into: &mut Vec<u8>,
+) -> Result<Used, MacroFault>
+    ensures { Appends into.old.items into.new.items result (reference_within (scope_view scope.now) (below deep (scope_view scope.now)) (names_in going.now) references room inside.now) }
+{
+    let parts = parts_of(scope.alloc, inside)?;
+    let name = expanded_piece(scope, deep, going, references, parts.name)?;
+    let Some(ends) = parts.ends else {
+        return append_named(scope, deep, going, room, &name, into);
+    };
+    append_replaced(scope, deep, going, room, &name, ends, into)
+}
+
+/// The value of a name, where there is room for it.
+#[cycle(append)]
+fn append_named(
+    scope: &Scope<'_>,
+    deep: usize,
+    going: &Going<'_>,
+    room: usize,
+    name: &Piece,
+    into: &mut Vec<u8>,
+) -> Result<Used, MacroFault>
+    ensures { Appends into.old.items into.new.items result (behind_name (scope_view scope.now) (below deep (scope_view scope.now)) (names_in going.now) room (piece_view name.now) None) }
+{
+    let start = into.len();
+    let value = append_value(scope, deep, going, name.used.references, &name.text, into)?;
+    if into.len() - start > room {
+        return Err(MacroFault::ValueTooLong);
+    }
+    Ok(Used {
+        references: value.references,
+        varying: name.used.varying || value.varying,
+    })
+}
+
+/// The value of a name with its words replaced, where there is room for it.
+#[cycle(append)]
+fn append_replaced(
+    scope: &Scope<'_>,
+    deep: usize,
+    going: &Going<'_>,
+    room: usize,
+    name: &Piece,
+    ends: Ends<'_>,
+    into: &mut Vec<u8>,
+) -> Result<Used, MacroFault>
+    ensures { Appends into.old.items into.new.items result (behind_name (scope_view scope.now) (below deep (scope_view scope.now)) (names_in going.now) room (piece_view name.now) (Some (ends_view ends.entry))) }
+{
+    let old = expanded_piece(scope, deep, going, name.used.references, ends.old)?;
+    let new = expanded_piece(scope, deep, going, old.used.references, ends.new)?;
+    let mut value = Vec::new(scope.alloc);
+    let used = append_value(scope, deep, going, new.used.references, &name.text, &mut value)?;
+    push_substituted(into, room, &old.text, &new.text, &value)?;
+    Ok(Used {
+        references: used.references,
+        varying: name.used.varying || old.used.varying || new.used.varying || used.varying,
+    })
+}
+
+/// The value of a name.
+#[cycle(append)]
+fn append_value(
+    scope: &Scope<'_>,
+    deep: usize,
+    going: &Going<'_>,
+    references: usize,
+    name: &[u8],
+    into: &mut Vec<u8>,
+) -> Result<Used, MacroFault>
+    ensures { Appends into.old.items into.new.items result (value_of (scope_view scope.now) (below deep (scope_view scope.now)) (names_in going.now) references name.now (internal_of name.now)) }
+{
+    if let Some((byte, part)) = internal_of(name) {
+        return append_internal(scope, references, byte, part, into);
+    }
+    if !is_macro_name(name) {
+        return Err(MacroFault::BadMacroName);
+    }
+    let references = counted(references)?;
+    if going.has(name) {
+        return Err(MacroFault::Recursive(MacroName::new(scope.alloc, name)?));
+    }
+    append_macro(scope, deep, going, references, name, into)
+}
+
+/// The value of an internal macro.
+fn append_internal(
+    scope: &Scope<'_>,
+    references: usize,
+    byte: u8,
+    part: Part,
+    into: &mut Vec<u8>,
+) -> Result<Used, MacroFault>
+    ensures { Appends into.old.items into.new.items result (value_of (scope_view scope.now) refused [] references [] (Some (byte, part))) }
+{
+    if byte == b'%' {
+        return Err(MacroFault::MemberMacro);
+    }
+    let references = counted(references)?;
+    let value = internal_value(scope.alloc, scope.locals, byte, part)?;
+    into.extend_from_slice(&value)?;
+    Ok(Used {
+        references,
+        varying: byte == b'?',
+    })
+}
+
+/// The value of a macro whose name isn't in progress.
+#[cycle(append)]
+fn append_macro(
+    scope: &Scope<'_>,
+    deep: usize,
+    going: &Going<'_>,
+    references: usize,
+    name: &[u8],
+    into: &mut Vec<u8>,
+) -> Result<Used, MacroFault>
+    ensures { Appends into.old.items into.new.items result (macro_value (below deep (scope_view scope.now)) (names_in going.now) references name.now (macro_named (scope_view scope.now).table name.now)) }
+{
+    let Some(found) = scope.table.get(name) else {
+        return Ok(Used {
+            references,
+            varying: false,
+        });
+    };
+    if found.immediate {
+        into.extend_from_slice(&found.text)?;
+        return Ok(Used {
+            references,
+            varying: false,
+        });
+    }
+    let under = Going::Under(&*name, &*going);
+    append_deeper(scope, deep, &under, references, &found.text, into)
+}
+
+/// The expansion of a text one level deeper, for itself.
+#[cycle(append)]
+fn expanded_piece(
+    scope: &Scope<'_>,
+    deep: usize,
+    going: &Going<'_>,
+    references: usize,
+    text: &[u8],
+) -> Result<Piece, MacroFault>
+    ensures { Gives piece_view result (below deep (scope_view scope.now) (names_in going.now) references text.now) }
+{
+    let mut bytes = Vec::new(scope.alloc);
+    let used = append_deeper(scope, deep, going, references, text, &mut bytes)?;
+    Ok(Piece { text: bytes, used })
+}
+
+/// The expansion of a text one level deeper.
+#[cycle(append)]
+fn append_deeper(
+    scope: &Scope<'_>,
+    deep: usize,
+    going: &Going<'_>,
+    references: usize,
+    text: &[u8],
+    into: &mut Vec<u8>,
+) -> Result<Used, MacroFault>
+    ensures { Appends into.old.items into.new.items result (below deep (scope_view scope.now) (names_in going.now) references text.now) }
+{
+    if deep == 0 {
+        return Err(MacroFault::TooManyReferences);
+    }
+    append_text(scope, deep - 1, going, references, text, into)
+}

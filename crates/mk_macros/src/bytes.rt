@@ -1,0 +1,31 @@
+//! Where bytes stand in a text, and what it begins and ends with.
+
+ghost use Rattle.std.specs.Prelude.{◌≡◌, ◌≤◌, length};
+ghost use Rattle.std.specs.List.{position_or_len};
+ghost use Rattle.mk_lines.specs.Bytes.{is_byte};
+ghost use Rattle.mk_macros.specs.Substitution.{begins_with, ends_with};
+
+/// Where a byte first stands in a text, or the text's length where it doesn't.
+pub fn first_place(byte: u8, text: &[u8]) -> usize
+    ensures within { result ≤ length text.now }
+    ensures place { result ≡ position_or_len (is_byte byte) text.now }
+{
+    match text.iter().position(|b| *b == byte) {
+        Some(at) => at,
+        None => text.len(),
+    }
+}
+
+/// Whether a text begins with another.
+pub fn begins_with(front: &[u8], text: &[u8]) -> bool
+    ensures { result ≡ begins_with front.now text.now }
+{
+    text.starts_with(front)
+}
+
+/// Whether a text ends with another.
+pub fn ends_with(back: &[u8], text: &[u8]) -> bool
+    ensures { result ≡ ends_with back.now text.now }
+{
+    text.ends_with(back)
+}

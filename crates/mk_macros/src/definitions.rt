@@ -1,0 +1,233 @@
+//! Definitions of macros, by the lines of a makefile and by operands.
+
+ghost use Rattle.std.specs.Prelude.{◌≡◌, false, None, IfOk, OnErr};
+ghost use Rattle.mk_macros.specs.declared.op.Op.TheVariants.{Now, Double};
+ghost use Rattle.mk_macros.specs.Definitions.{doubled, stored, with_more, if_unset, set, is_fixed, defined, operator_of, with_operand, value_text, more_stored};
+ghost use Rattle.mk_macros.specs.Expansion.{expansion};
+ghost use Rattle.mk_macros.specs.Steps.{Gives};
+ghost use Rattle.mk_macros.specs.Table.{macro_named, macro_of};
+
+use crate::blanks::{trimmed, without_blanks};
+use crate::bytes::{ends_with, first_place};
+use crate::fault::MacroFault;
+use crate::locals::Locals;
+use crate::macro_name::is_macro_name;
+use crate::op::Op;
+use crate::table::{Macro, MacroTable};
+use std::alloc::{AllocError, Global};
+
+/// The longest text of a macro, in bytes.
+const MAX_VALUE: usize = 1_048_576;
+
+/// A text with each `$` doubled.
+fn doubled(alloc: Global, text: &[u8]) -> Result<Vec<u8>, AllocError>
+    ensures { IfOk result (λ made. made.items ≡ doubled text.now) }
+{
+    let mut made = Vec::new(alloc);
+    for byte in text {
+        if *byte == b'$' {
+            made.push(b'$')?;
+        }
+        made.push(*byte)?;
+    }
+    Ok(made)
+}
+
+/// The operator of an operand, and what stands before it: `:::=` and `::=` by the colons before the
+/// `=`.
+fn operator_of(before: &[u8]) -> (Op, &[u8])
+    ensures op { result.0 ≡ (operator_of before.now).0 }
+    ensures name { result.1.now ≡ (operator_of before.now).1 }
+{
+    if ends_with(b":::", before) {
+        return (Op::Double, &before[..before.len() - 3]);
+    }
+    if ends_with(b"::", before) {
+        return (Op::Now, &before[..before.len() - 2]);
+    }
+    (Op::Delay, before)
+}
+
+impl MacroTable {
+    /// The value of a text that is no command.
+    fn value_of(&self, text: &[u8]) -> Result<Vec<u8>, MacroFault>
+        ensures { Gives (λ value. value.items) result (value_text (expansion self.now None text.now)) }
+    {
+        let found = self.expand(self.alloc(), text, &Locals::Empty)?;
+        Ok(found.text.into_owned(self.alloc())?)
+    }
+
+    /// Puts a macro of at most 1,048,576 bytes into the table.
+    fn store(&mut self, name: &[u8], entry: Macro) -> Result<(), MacroFault>
+        ensures exact { Gives (λ _. self.new) result (stored self.old (macro_of name.now entry)) }
+        ensures unchanged { OnErr result (self.new ≡ self.old) }
+    {
+        if entry.text.len() > MAX_VALUE {
+            return Err(MacroFault::ValueTooLong);
+        }
+        self.put(name, entry)?;
+        Ok(())
+    }
+
+    /// Stores a copy of a text that is expanded at each use.
+    fn delay(&mut self, name: &[u8], text: &[u8], fixed: bool) -> Result<(), MacroFault>
+        ensures exact { Gives (λ _. self.new) result (stored self.old (record { name = name.now; text = text.now; immediate = false; fixed = fixed })) }
+        ensures unchanged { OnErr result (self.new ≡ self.old) }
+    {
+        if text.len() > MAX_VALUE {
+            return Err(MacroFault::ValueTooLong);
+        }
+        let text = Vec::from_slice(self.alloc(), text)?;
+        self.store(
+            name,
+            Macro {
+                text,
+                immediate: false,
+                fixed,
+            },
+        )
+    }
+}
+
+impl MacroTable {
+    /// Whether an operand has fixed the macro of a name.
+    fn is_fixed(&self, name: &[u8]) -> bool
+        ensures { result ≡ is_fixed (macro_named self.now name.now) }
+    {
+        match self.get(name) {
+            Some(entry) => entry.fixed,
+            None => false,
+        }
+    }
+
+    /// Puts a space and more text behind the text of a macro, where it is defined and both are of at
+    /// most 1,048,576 bytes.
+    fn store_more(&mut self, name: &[u8], more: &[u8]) -> Result<(), MacroFault>
+        ensures exact { Gives (λ _. self.new) result (more_stored self.old more.now (macro_named self.old name.now)) }
+        ensures unchanged { OnErr result (self.new ≡ self.old) }
+    {
+        let Some(entry) = self.get(name) else {
+            return Ok(());
+        };
+        if entry.text.len() + (1 + more.len()) > MAX_VALUE {
+            return Err(MacroFault::ValueTooLong);
+        }
+        self.append(name, more)?;
+        Ok(())
+    }
+
+    /// Takes a text with `+=`.
+    fn set_more(&mut self, name: &[u8], text: &[u8]) -> Result<(), MacroFault>
+        ensures exact { Gives (λ _. self.new) result (with_more self.old name.now text.now (macro_named self.old name.now)) }
+        ensures unchanged { OnErr result (self.new ≡ self.old) }
+    {
+        let Some(entry) = self.get(name) else {
+            return self.delay(name, text, false);
+        };
+        if !entry.immediate {
+            return self.store_more(name, text);
+        }
+        let value = self.value_of(text)?;
+        self.store_more(name, &value)
+    }
+
+    /// Takes a text with `?=`.
+    fn set_if_unset(&mut self, name: &[u8], text: &[u8]) -> Result<(), MacroFault>
+        ensures exact { Gives (λ _. self.new) result (if_unset self.old name.now text.now (macro_named self.old name.now)) }
+        ensures unchanged { OnErr result (self.new ≡ self.old) }
+    {
+        if self.get(name).is_some() {
+            return Ok(());
+        }
+        self.delay(name, text, false)
+    }
+
+    /// Takes a text with `::=`.
+    fn set_now(&mut self, name: &[u8], text: &[u8], fixed: bool) -> Result<(), MacroFault>
+        ensures exact { Gives (λ _. self.new) result (set self.old name.now fixed Now text.now) }
+        ensures unchanged { OnErr result (self.new ≡ self.old) }
+    {
+        let text = self.value_of(text)?;
+        self.store(
+            name,
+            Macro {
+                text,
+                immediate: true,
+                fixed,
+            },
+        )
+    }
+
+    /// Takes a text with `:::=`.
+    fn set_doubled(&mut self, name: &[u8], text: &[u8], fixed: bool) -> Result<(), MacroFault>
+        ensures exact { Gives (λ _. self.new) result (set self.old name.now fixed Double text.now) }
+        ensures unchanged { OnErr result (self.new ≡ self.old) }
+    {
+        let value = self.value_of(text)?;
+        let text = doubled(self.alloc(), &value)?;
+        self.store(
+            name,
+            Macro {
+                text,
+                immediate: false,
+                fixed,
+            },
+        )
+    }
+
+    /// Takes a definition of a good name that isn't fixed, or that a later operand sets.
+    fn set(&mut self, name: &[u8], by_operand: bool, op: Op, text: &[u8]) -> Result<(), MacroFault>
+        ensures exact { Gives (λ _. self.new) result (set self.old name.now by_operand op text.now) }
+        ensures unchanged { OnErr result (self.new ≡ self.old) }
+    {
+        match op {
+            Op::Delay => self.delay(name, text, by_operand),
+            Op::Now => self.set_now(name, text, by_operand),
+            Op::Double => self.set_doubled(name, text, by_operand),
+            Op::IfUnset => self.set_if_unset(name, text),
+            Op::Append => self.set_more(name, text),
+        }
+    }
+
+    /// Takes a definition of the makefile.
+    ///
+    /// `BadMacroName` where the name isn't one or more of `A-Z a-z 0-9 . _ -`. A definition of a name
+    /// that an operand has fixed is passed over, whatever its text. Then the first fault of the text,
+    /// where the operator has it expanded at once, and `ValueTooLong` where more than 1,048,576 bytes
+    /// would be stored. The table stays as it was after any fault, want of memory too.
+    #[tactic(auto, unfolding(crate::specs::Definitions::defined))]
+    pub fn define(&mut self, name: &[u8], op: Op, text: &[u8]) -> Result<(), MacroFault>
+        ensures exact { Gives (λ _. self.new) result (defined self.old name.now op text.now) }
+        ensures unchanged { OnErr result (self.new ≡ self.old) }
+    {
+        if !is_macro_name(name) {
+            return Err(MacroFault::BadMacroName);
+        }
+        if self.is_fixed(name) {
+            return Ok(());
+        }
+        self.set(name, false, op, text)
+    }
+
+    /// Takes a macro operand, which no later definition of the makefile overrides: a name, `=`, `::=`
+    /// or `:::=`, and a text, whose leading blanks are dropped.
+    ///
+    /// `BadMacroName` where the operand has no `=`, or what stands before the operator, without the
+    /// blanks at its ends, is no macro name. Then as `define`.
+    #[tactic(auto, unfolding(crate::specs::Definitions::with_operand))]
+    pub fn fix(&mut self, operand: &[u8]) -> Result<(), MacroFault>
+        ensures exact { Gives (λ _. self.new) result (with_operand self.old operand.now) }
+        ensures unchanged { OnErr result (self.new ≡ self.old) }
+    {
+        let at = first_place(b'=', operand);
+        if at == operand.len() {
+            return Err(MacroFault::BadMacroName);
+        }
+        let (op, before) = operator_of(&operand[..at]);
+        let name = without_blanks(before);
+        if !is_macro_name(name) {
+            return Err(MacroFault::BadMacroName);
+        }
+        self.set(name, true, op, trimmed(&operand[at + 1..]))
+    }
+}

@@ -1,0 +1,26 @@
+//! The names of the macros whose values are being expanded.
+
+ghost use Rattle.std.specs.Prelude.{◌≡◌};
+ghost use Rattle.mk_macros.specs.Names.{is_among};
+ghost use Rattle.mk_macros.specs.Appending.{names_in};
+
+/// The names of the macros whose values are being expanded, the innermost first.
+#[derive(Clone, Copy)]
+pub enum Going<'a> {
+    /// None.
+    Nothing,
+    /// A name inside the value of others.
+    Under(&'a [u8], &'a Going<'a>),
+}
+
+impl<'a> Going<'a> {
+    /// Whether a name is in progress.
+    pub fn has(&self, name: &[u8]) -> bool
+        ensures { result ≡ is_among (names_in self.now) name.now }
+    {
+        match self {
+            Going::Nothing => false,
+            Going::Under(other, others) => name == *other || others.has(name),
+        }
+    }
+}

@@ -1,0 +1,30 @@
+//! Macros: the table of their definitions, and the expansion of a text.
+#![tactic(auto)]
+
+mod appending;
+mod blanks;
+mod bytes;
+pub mod definition_laws;
+#[cfg(test)]
+mod definition_tests;
+mod definitions;
+mod expansion;
+mod fault;
+mod forms;
+mod going;
+pub mod laws;
+mod locals;
+mod macro_name;
+mod op;
+mod room;
+mod substitution;
+mod table;
+#[cfg(test)]
+mod tests;
+
+pub use expansion::Expansion;
+pub use fault::MacroFault;
+pub use locals::Locals;
+pub use macro_name::MacroName;
+pub use op::Op;
+pub use table::MacroTable;

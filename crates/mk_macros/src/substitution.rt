@@ -1,0 +1,198 @@
+//! The words of a value, replaced.
+
+ghost use Rattle.std.specs.Prelude.{◌≡◌, ◌⊎◌, ◌<◌, ◌≤◌, ◌∷◌, ◌++◌, length, OnOk, IfErr, if◌then◌else◌};
+ghost use Rattle.std.specs.List.{list_any, before_first, after_first};
+ghost use Rattle.mk_macros.specs.declared.fault.MacroFault.TheVariants.{ValueTooLong, Memory};
+ghost use Rattle.mk_macros.specs.Substitution.{is_percent, is_between, with_stem, with_pattern_replaced, with_end_replaced, replaced, substituted};
+
+use crate::bytes::{begins_with, ends_with, first_place};
+use crate::fault::MacroFault;
+use std::alloc::AllocError;
+use std::marker::Model;
+
+/// A text with its parts round the first `%`. A contract sees the text.
+#[derive(Drop)]
+struct Cut<'a> {
+    text: &'a [u8],
+    has_percent: bool,
+    before: &'a [u8],
+    after: &'a [u8],
+}
+
+impl<'a> Model for Cut<'a> {
+    ghost use Rattle.std.specs.Prelude.{◌≡◌, List, ℕ};
+    ghost use Rattle.std.specs.List.{list_any, before_first, after_first};
+    ghost use Rattle.mk_macros.specs.Substitution.{is_percent};
+
+    ghost Value = { List ℕ };
+
+    ghost view = { λ cut. cut.text.now };
+
+    ghost invariant = { λ cut. (cut.has_percent ≡ list_any is_percent cut.text.now) × (cut.before.now ≡ before_first is_percent cut.text.now) × (cut.after.now ≡ after_first is_percent cut.text.now) };
+}
+
+impl<'a> Cut<'a> {
+    /// A text, cut at its first `%`.
+    fn new(text: &'a [u8]) -> Cut<'a>
+        ensures { result ≡ text.entry.now }
+    {
+        let at = first_place(b'%', text);
+        if at == text.len() {
+            return Cut {
+                text,
+                has_percent: false,
+                before: text,
+                after: &[],
+            };
+        }
+        Cut {
+            text,
+            has_percent: true,
+            before: &text[..at],
+            after: &text[at + 1..],
+        }
+    }
+
+    /// Whether the text has a `%`.
+    fn has_percent(&self) -> bool
+        ensures { result ≡ list_any is_percent self.now }
+    {
+        self.has_percent
+    }
+
+    /// What stands before the first `%`.
+    fn before(&self) -> &[u8]
+        ensures { result.now ≡ before_first is_percent self.now }
+    {
+        self.before
+    }
+
+    /// What stands behind the first `%`.
+    fn after(&self) -> &[u8]
+        ensures { result.now ≡ after_first is_percent self.now }
+    {
+        self.after
+    }
+
+    /// The text.
+    fn text(&self) -> &[u8]
+        ensures { result.now ≡ self.now }
+    {
+        self.text
+    }
+}
+
+/// Appends the new text, with the stem in place of its first `%`.
+fn push_with_stem(into: &mut Vec<u8>, stem: &[u8], new: &Cut) -> Result<(), AllocError>
+    ensures { OnOk result (into.new.items ≡ into.old.items ++ with_stem stem.now new.now) }
+{
+    if !new.has_percent() {
+        into.extend_from_slice(new.text())?;
+        return Ok(());
+    }
+    into.extend_from_slice(new.before())?;
+    into.extend_from_slice(stem)?;
+    into.extend_from_slice(new.after())?;
+    Ok(())
+}
+
+/// Whether a word begins with the front and ends with the back, without overlap.
+fn is_between(front: &[u8], back: &[u8], word: &[u8]) -> bool
+    ensures { result ≡ is_between front.now back.now word.now }
+{
+    front.len() + back.len() <= word.len() && begins_with(front, word) && ends_with(back, word)
+}
+
+/// Appends a word by a pattern: where it has both ends, the new text with what stands between them.
+fn push_by_pattern(
+    into: &mut Vec<u8>,
+    front: &[u8],
+    back: &[u8],
+    new: &Cut,
+    word: &[u8],
+) -> Result<(), AllocError>
+    ensures { OnOk result (into.new.items ≡ into.old.items ++ with_pattern_replaced front.now back.now new.now word.now) }
+{
+    if !is_between(front, back, word) {
+        into.extend_from_slice(word)?;
+        return Ok(());
+    }
+    let without_back = &word[..word.len() - back.len()];
+    push_with_stem(into, &without_back[front.len()..], new)?;
+    Ok(())
+}
+
+/// Appends a word, with its end replaced where it ends in the old text.
+fn push_by_end(into: &mut Vec<u8>, old: &[u8], new: &[u8], word: &[u8]) -> Result<(), AllocError>
+    ensures { OnOk result (into.new.items ≡ into.old.items ++ with_end_replaced old.now new.now word.now) }
+{
+    if !ends_with(old, word) {
+        into.extend_from_slice(word)?;
+        return Ok(());
+    }
+    into.extend_from_slice(&word[..word.len() - old.len()])?;
+    into.extend_from_slice(new)?;
+    Ok(())
+}
+
+/// Appends a word, replaced or kept.
+fn push_replaced(into: &mut Vec<u8>, old: &Cut, new: &Cut, word: &[u8]) -> Result<(), AllocError>
+    ensures { OnOk result (into.new.items ≡ into.old.items ++ replaced old.now new.now word.now) }
+{
+    if old.has_percent() {
+        push_by_pattern(into, old.before(), old.after(), new, word)?;
+        return Ok(());
+    }
+    push_by_end(into, old.text(), new.text(), word)?;
+    Ok(())
+}
+
+/// Appends a word, replaced or kept, with a space before it where it isn't the first.
+fn push_next(
+    into: &mut Vec<u8>,
+    is_first: bool,
+    old: &Cut,
+    new: &Cut,
+    word: &[u8],
+) -> Result<(), AllocError>
+    ensures { OnOk result (into.new.items ≡ into.old.items ++ (if is_first then replaced old.now new.now word.now else 32 ∷ replaced old.now new.now word.now)) }
+{
+    if !is_first {
+        into.push(b' ')?;
+    }
+    push_replaced(into, old, new, word)?;
+    Ok(())
+}
+
+/// Appends the words of a value, each with its end `old` replaced by `new`, or by a pattern with `%`,
+/// joined by one space: `$(N:old=new)`. Words that don't end so stay.
+///
+/// The fault is `ValueTooLong` exactly where that text is over `room` bytes, found no later than a
+/// word behind it, or want of memory. What `into` holds after a fault isn't said.
+pub fn push_substituted(
+    into: &mut Vec<u8>,
+    room: usize,
+    old: &[u8],
+    new: &[u8],
+    value: &[u8],
+) -> Result<(), MacroFault>
+    ensures ok { OnOk result (into.new.items ≡ into.old.items ++ substituted old.now new.now value.now) }
+    ensures fits { OnOk result (length (substituted old.now new.now value.now) ≤ room) }
+    ensures err { IfErr result (λ fault. (fault ≡ Memory) ⊎ ((fault ≡ ValueTooLong) × (room < length (substituted old.now new.now value.now)))) }
+{
+    let old_cut = Cut::new(old);
+    let new_cut = Cut::new(new);
+    let start = into.len();
+    let mut is_first = true;
+    for word in value.split(|b| *b == b' ' || *b == b'\t') {
+        if word.is_empty() {
+            continue;
+        }
+        push_next(into, is_first, &old_cut, &new_cut, word)?;
+        is_first = false;
+        if into.len() - start > room {
+            return Err(MacroFault::ValueTooLong);
+        }
+    }
+    Ok(())
+}

@@ -1,0 +1,86 @@
+//! The table of macros.
+
+ghost use Rattle.std.specs.Prelude.{◌≡◌, [], OnOk, OnErr};
+ghost use Rattle.std.specs.Option.{option_map};
+ghost use Rattle.mk_macros.specs.Table.{macro_named, with_macro, with_text_behind, macro_of};
+
+use indexmap::IndexMap;
+use std::alloc::{AllocError, Global};
+use std::marker::Model;
+
+/// A macro without its name.
+#[derive(Debug, Drop)]
+pub struct Macro {
+    /// The text that was stored.
+    pub text: Vec<u8>,
+    /// Whether the text is the value as it stands. Else it is expanded at each use.
+    pub immediate: bool,
+    /// Whether an operand has fixed it.
+    pub fixed: bool,
+}
+
+/// The macros that are defined, in the order of their first definitions. A contract sees the list
+/// of them.
+#[derive(Drop)]
+pub struct MacroTable {
+    alloc: Global,
+    macros: IndexMap<Vec<u8>, Macro>,
+}
+
+impl Model for MacroTable {
+    ghost use Rattle.std.specs.Prelude.{List, map};
+    ghost use Rattle.mk_macros.specs.Table.{Macro, entry_view};
+
+    ghost Value = { List Macro };
+
+    ghost view = { λ table. map entry_view table.macros.entries };
+}
+
+impl MacroTable {
+    /// A table without macros.
+    pub fn new(alloc: Global) -> MacroTable
+        ensures { result ≡ [] }
+    {
+        MacroTable {
+            alloc,
+            macros: IndexMap::new(alloc),
+        }
+    }
+
+    /// The allocator that the table was made with.
+    pub fn alloc(&self) -> Global {
+        self.alloc
+    }
+
+    /// The macro of a name, where it is defined.
+    pub fn get(&self, name: &[u8]) -> Option<&Macro>
+        ensures { option_map (λ found. macro_of name.now found.now) result ≡ macro_named self.now name.now }
+    {
+        self.macros.get(name)
+    }
+
+    /// Puts a macro in place of the one of its name, or behind all others.
+    pub fn put(&mut self, name: &[u8], entry: Macro) -> Result<(), AllocError>
+        ensures ok { OnOk result (self.new ≡ with_macro self.old (macro_of name.now entry)) }
+        ensures err { OnErr result (self.new ≡ self.old) }
+    {
+        let key = Vec::from_slice(self.alloc, name)?;
+        self.macros.insert(key, entry)?;
+        Ok(())
+    }
+
+    /// Puts a space and more text behind the text of the macro of a name, where it is defined. The
+    /// text grows in place, so that many appends cost no more than the text they make.
+    pub fn append(&mut self, name: &[u8], more: &[u8]) -> Result<(), AllocError>
+        ensures ok { OnOk result (self.new ≡ with_text_behind self.old more.now (macro_named self.old name.now)) }
+        ensures err { OnErr result (self.new ≡ self.old) }
+    {
+        let Some(entry) = self.macros.get_mut(name) else {
+            return Ok(());
+        };
+        entry.text.reserve(1 + more.len())?;
+        entry.text.push(b' ')?;
+        entry.text.extend_from_slice(more)?;
+        Ok(())
+    }
+}
