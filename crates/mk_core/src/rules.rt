@@ -303,12 +303,7 @@ impl<'a> Reader<'a> {
 
     /// One more line of the file.
     #[tactic(auto, unfolding(crate::specs::Rules::with_line))]
-    fn with_line(
-        self,
-        alloc: Global,
-        file: &Name,
-        line: &'a Line<'_>,
-    ) -> Result<Reader<'a>, Fault>
+    fn with_line(self, alloc: Global, file: &Name, line: &'a Line<'_>) -> Result<Reader<'a>, Fault>
         ensures exact { Gives (λ read. read) result (with_line file.now self.entry (line_view line.now)) }
         ensures own { IfErr result IsOfText }
     {
@@ -332,11 +327,7 @@ impl<'a> Reader<'a> {
 }
 
 /// What is read after the lines of the file.
-fn with_lines<'a>(
-    alloc: Global,
-    file: &Name,
-    lines: &'a [Line<'_>],
-) -> Result<Reader<'a>, Fault>
+fn with_lines<'a>(alloc: Global, file: &Name, lines: &'a [Line<'_>]) -> Result<Reader<'a>, Fault>
     ensures exact { Gives (λ read. read) result (with_lines file.now nothing_read (map line_view lines.now)) }
     ensures own { IfErr result IsOfText }
 {

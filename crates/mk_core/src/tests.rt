@@ -86,11 +86,7 @@ const GRAPHS: &[(&str, &str, &str)] = &[
         "goals includes\ninclude:\nincludes: include\n",
     ),
     ("-include: b\n", "", "goals -include\nb:\n-include: b\n"),
-    (
-        "a: b \\\n   c # d \\\ne\n",
-        "",
-        "goals a\nb:\nc:\na: b c\n",
-    ),
+    ("a: b \\\n   c # d \\\ne\n", "", "goals a\nb:\nc:\na: b c\n"),
     ("a: b # x\n", "", "goals a\nb:\na: b\n"),
     ("a: b#c=d;$(e)\n", "", "goals a\nb:\na: b\n"),
     ("a: b \\\n", "", "goals a\nb:\na: b\n"),

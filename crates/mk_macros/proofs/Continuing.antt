@@ -46,11 +46,12 @@ module _ (scope : Scope) (deeper : Deeper) (going : List (List ℕ)) (old into :
   pub after_run : (run behind after : List ℕ) → rest ≡ run ++ behind → IsPlain run → length run ≤ 1048576 - (length into - length old) → after ≡ into ++ run → Continues scope deeper going old after used behind whole
   after_run run behind after cut plain room grown =
       let g = gap in
-      let fits : length so.0 + length run ≤ 1048576 = omega (arith, so.2) in
-      (so.0 ++ run,
-      grown ∙ (ap (λ t. t ++ run) so.1 ∙ append_assoc old so.0 run),
-      omega (arith, length-append so.0 run),
-      sym (run_done scope deeper going (so_far used so.0) run behind plain fits) ∙ (ap (λ t. in_order (given scope deeper going) (so_far used so.0) (forms t)) (sym cut) ∙ so.3))
+      let fits : length so.0 + length run ≤ 1048576 = omega (arith, so.2) in (
+        so.0 ++ run,
+        grown ∙ (ap (λ t. t ++ run) so.1 ∙ append_assoc old so.0 run),
+        omega (arith, length-append so.0 run),
+        sym (run_done scope deeper going (so_far used so.0) run behind plain fits) ∙ (ap (λ t. in_order (given scope deeper going) (so_far used so.0) (forms t)) (sym cut) ∙ so.3),
+      )
 
   -- one for which there was none
   pub over_run : (run behind : List ℕ) → rest ≡ run ++ behind → IsPlain run → 1048576 - (length into - length old) < length run → whole ≡ Err ValueTooLong
@@ -71,12 +72,13 @@ module _ (scope : Scope) (deeper : Deeper) (going : List (List ℕ)) (old into :
       let g = gap in
       let r : room ≡ 1048576 - length so.0 = omega (arith, space, g) in
       let fits = subst (λ n. form_within scope deeper going used.references n (dollar_form behind).0 ≡ Ok (so_far used_then appended.0)) r appended.2 in
-      let done = form_done (given scope deeper going) (so_far used so.0) (so_far used_then appended.0) behind so.2 fits in
-      (so.0 ++ appended.0,
-      appended.1 ∙ (ap (λ t. t ++ appended.0) so.1 ∙ append_assoc old so.0 appended.0),
-      omega (arith, length-append so.0 appended.0, done.1),
-      ap (λ t. in_order (given scope deeper going) (joined (so_far used so.0) (so_far used_then appended.0)) (forms t)) leaves
-      ∙ (sym done.0 ∙ (ap (λ t. in_order (given scope deeper going) (so_far used so.0) (forms t)) (sym cut) ∙ so.3)))
+      let done = form_done (given scope deeper going) (so_far used so.0) (so_far used_then appended.0) behind so.2 fits in (
+        so.0 ++ appended.0,
+        appended.1 ∙ (ap (λ t. t ++ appended.0) so.1 ∙ append_assoc old so.0 appended.0),
+        omega (arith, length-append so.0 appended.0, done.1),
+        ap (λ t. in_order (given scope deeper going) (joined (so_far used so.0) (so_far used_then appended.0)) (forms t)) leaves
+            ∙ (sym done.0 ∙ (ap (λ t. in_order (given scope deeper going) (so_far used so.0) (forms t)) (sym cut) ∙ so.3)),
+      )
 
   -- a form that gives a fault, or a value for which there was none
   pub fault_form : (behind : List ℕ) (room : ℕ) (fault : MacroFault) → rest ≡ 36 ∷ behind → room ≡ 1048576 - (length into - length old)

@@ -23,11 +23,11 @@ second false fault r x e = e
 counted_low : (references count : ℕ) → counted references ≡ Ok count → count ≤ 65536
 counted_low references count e =
     elim (cases_Bool (ltb references 65536)) [
-      inl t ↦
-        let s : references + 1 ≡ count = ok_same (sym (cond-true (ltb references 65536) (Ok (references + 1)) (Err TooManyReferences) t) ∙ e) in
-        let lt = below_of references 65536 t in
-        omega arith
-    | inr f ↦ absurd (err_not_ok (sym (cond-false (ltb references 65536) (Ok (references + 1)) (Err TooManyReferences) f) ∙ e))
+      | inl t ↦
+          let s : references + 1 ≡ count = ok_same (sym (cond-true (ltb references 65536) (Ok (references + 1)) (Err TooManyReferences) t) ∙ e) in
+          let lt = below_of references 65536 t in
+          omega arith
+      | inr f ↦ absurd (err_not_ok (sym (cond-false (ltb references 65536) (Ok (references + 1)) (Err TooManyReferences) f) ∙ e))
     ]
   where
     below_of : (m n : ℕ) → ltb m n ≡ true → m < n
@@ -67,11 +67,11 @@ module _ (scope : Scope) (deeper : Deeper) (going : List (List ℕ)) (low : (goi
   unfolding reference
   reference_low references parts found h e =
       let a = step_of (deeper going references parts.name) (λ name. ends_of deeper going name.references parts.ends >>= (λ ends. value_of scope deeper going ends.references name.text (internal_of name.text)
-          >>= (λ value. Ok (record { text = with_ends ends.texts value.text; references = value.references; varying = name.varying || (ends.varying || value.varying) })))) found e in
+      >>= (λ value. Ok (record { text = with_ends ends.texts value.text; references = value.references; varying = name.varying || (ends.varying || value.varying) })))) found e in
       let b = step_of (ends_of deeper going a.0.references parts.ends) (λ ends. value_of scope deeper going ends.references a.0.text (internal_of a.0.text)
-          >>= (λ value. Ok (record { text = with_ends ends.texts value.text; references = value.references; varying = a.0.varying || (ends.varying || value.varying) }))) found a.2 in
+      >>= (λ value. Ok (record { text = with_ends ends.texts value.text; references = value.references; varying = a.0.varying || (ends.varying || value.varying) }))) found a.2 in
       let d = step_of (value_of scope deeper going b.0.references a.0.text (internal_of a.0.text))
-          (λ value. Ok (record { text = with_ends b.0.texts value.text; references = value.references; varying = a.0.varying || (b.0.varying || value.varying) })) found b.2 in
+      (λ value. Ok (record { text = with_ends b.0.texts value.text; references = value.references; varying = a.0.varying || (b.0.varying || value.varying) })) found b.2 in
       same_count d.0.references _ found refl (value_low b.0.references a.0.text (internal_of a.0.text) d.0 d.1) d.2
 
   given_low : (references : ℕ) (form : Form) (found : Expanded) → references ≤ 65536 → given scope deeper going references form ≡ Ok found → found.references ≤ 65536

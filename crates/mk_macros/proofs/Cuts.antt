@@ -26,13 +26,13 @@ first_passes : (p : ℕ → Bool) (xs : List ℕ) → position_or_len p xs < len
 first_passes p [] lt = absurd (omega arith)
 first_passes p (x ∷ xs) lt =
     elim (cases_Bool (p x)) [
-      inl e ↦
-        let n : position_or_len p (x ∷ xs) ≡ 0 = ap (λ b. cond (not b) (1 + position_or_len p xs) 0) e in
-        subst (λ m. p (get_or (x ∷ xs) m 0) ≡ true) (sym n) e
-    | inr e ↦
-        let n : position_or_len p (x ∷ xs) ≡ 1 + position_or_len p xs = ap (λ b. cond (not b) (1 + position_or_len p xs) 0) e in
-        let m : 1 + position_or_len p xs ≡ suc (position_or_len p xs) = omega arith in
-        subst (λ m. p (get_or (x ∷ xs) m 0) ≡ true) (sym (n ∙ m)) (first_passes p xs (omega arith))
+      | inl e ↦
+          let n : position_or_len p (x ∷ xs) ≡ 0 = ap (λ b. cond (not b) (1 + position_or_len p xs) 0) e in
+          subst (λ m. p (get_or (x ∷ xs) m 0) ≡ true) (sym n) e
+      | inr e ↦
+          let n : position_or_len p (x ∷ xs) ≡ 1 + position_or_len p xs = ap (λ b. cond (not b) (1 + position_or_len p xs) 0) e in
+          let m : 1 + position_or_len p xs ≡ suc (position_or_len p xs) = omega arith in
+          subst (λ m. p (get_or (x ∷ xs) m 0) ≡ true) (sym (n ∙ m)) (first_passes p xs (omega arith))
     ]
 
 -- without a `$`

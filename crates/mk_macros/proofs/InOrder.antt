@@ -40,8 +40,8 @@ within_not room value h = cond-true (ltb room (length value.text)) (Err ValueToo
 pub within_ok : (room : ℕ) (value found : Expanded) → within room value ≡ Ok found → (value ≡ found) × (length value.text ≤ room)
 within_ok room value found e =
     elim (cases_Bool (ltb room (length value.text))) [
-      inl t ↦ absurd (err_is_not_ok (sym (cond-true (ltb room (length value.text)) (Err ValueTooLong) (Ok value) t) ∙ e))
-    | inr f ↦ (ok_same (sym (cond-false (ltb room (length value.text)) (Err ValueTooLong) (Ok value) f) ∙ e), under room (length value.text) f)
+      | inl t ↦ absurd (err_is_not_ok (sym (cond-true (ltb room (length value.text)) (Err ValueTooLong) (Ok value) t) ∙ e))
+      | inr f ↦ (ok_same (sym (cond-false (ltb room (length value.text)) (Err ValueTooLong) (Ok value) f) ∙ e), under room (length value.text) f)
     ]
   where
     err_is_not_ok : {A : Type 0} {fault : MacroFault} {x : A} → Err fault ≡ Ok x → ⊥
@@ -53,8 +53,8 @@ within_ok room value found e =
 pub within_err : (room : ℕ) (value : Expanded) (fault : MacroFault) → within room value ≡ Err fault → (room < length value.text) × (fault ≡ ValueTooLong)
 within_err room value fault e =
     elim (cases_Bool (ltb room (length value.text))) [
-      inl t ↦ (is_over room (length value.text) t, fault_same (sym (cond-true (ltb room (length value.text)) (Err ValueTooLong) (Ok value) t) ∙ e))
-    | inr f ↦ absurd (ok_is_not_err (sym (cond-false (ltb room (length value.text)) (Err ValueTooLong) (Ok value) f) ∙ e))
+      | inl t ↦ (is_over room (length value.text) t, fault_same (sym (cond-true (ltb room (length value.text)) (Err ValueTooLong) (Ok value) t) ∙ e))
+      | inr f ↦ absurd (ok_is_not_err (sym (cond-false (ltb room (length value.text)) (Err ValueTooLong) (Ok value) f) ∙ e))
     ]
   where
     is_over : (m n : ℕ) → ltb m n ≡ true → m < n
@@ -166,10 +166,10 @@ module _ (scope : Scope) (deeper : Deeper) (going : List (List ℕ)) where
       let split = or_apart (eqb b 36) (list_any (is_byte 36) run) plain in
       let more : 1048576 < length (longer before (b ∷ [])).text + length run = omega (arith, length-append before.text (b ∷ [])) in
       elim (cases_lt 1048576 (length before.text + 1)) [
-        inl gt ↦ byte_over before b (run ++ behind) split.0 gt
-      | inr le ↦
-          let low2 : length (longer before (b ∷ [])).text ≤ 1048576 = omega (arith, length-append before.text (b ∷ [])) in
-          byte_done before b (run ++ behind) split.0 le ∙ run_over (longer before (b ∷ [])) run behind split.1 low2 more
+        | inl gt ↦ byte_over before b (run ++ behind) split.0 gt
+        | inr le ↦
+            let low2 : length (longer before (b ∷ [])).text ≤ 1048576 = omega (arith, length-append before.text (b ∷ [])) in
+            byte_done before b (run ++ behind) split.0 le ∙ run_over (longer before (b ∷ [])) run behind split.1 low2 more
       ]
     where
       or_apart : (x y : Bool) → (x || y) ≡ false → (x ≡ false) × (y ≡ false)

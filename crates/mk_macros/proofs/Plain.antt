@@ -74,16 +74,16 @@ module _ (scope : Scope) (deeper : Deeper) (going : List (List ℕ)) where
       let rest = doubled_done (longer before (b ∷ [])) text next in
       let joins : longer (longer before (b ∷ [])) text ≡ longer before (b ∷ text) = ap (λ t. record before { text = t }) (append_assoc before.text (b ∷ []) text) in
       elim (cases_Bool (eqb b 36)) [
-        inl t ↦
-          let is : b ≡ 36 = eqb-true b 36 t in
-          ap (λ (c : Bool). in_order (given scope deeper going) before (forms (cond c (36 ∷ 36 ∷ []) (b ∷ []) ++ doubled text))) t
-          ∙ (two_done before (doubled text) low
-          ∙ (ap (λ n. in_order (given scope deeper going) (longer before (n ∷ [])) (forms (doubled text))) (sym is)
-          ∙ (rest ∙ ap (λ (v : Expanded). Ok v) joins)))
-      | inr f ↦
-          ap (λ (c : Bool). in_order (given scope deeper going) before (forms (cond c (36 ∷ 36 ∷ []) (b ∷ []) ++ doubled text))) f
-          ∙ (byte_done scope deeper going before b (doubled text) f low
-          ∙ (rest ∙ ap (λ (v : Expanded). Ok v) joins))
+        | inl t ↦
+            let is : b ≡ 36 = eqb-true b 36 t in
+            ap (λ (c : Bool). in_order (given scope deeper going) before (forms (cond c (36 ∷ 36 ∷ []) (b ∷ []) ++ doubled text))) t
+            ∙ (two_done before (doubled text) low
+            ∙ (ap (λ n. in_order (given scope deeper going) (longer before (n ∷ [])) (forms (doubled text))) (sym is)
+            ∙ (rest ∙ ap (λ (v : Expanded). Ok v) joins)))
+        | inr f ↦
+            ap (λ (c : Bool). in_order (given scope deeper going) before (forms (cond c (36 ∷ 36 ∷ []) (b ∷ []) ++ doubled text))) f
+            ∙ (byte_done scope deeper going before b (doubled text) f low
+            ∙ (rest ∙ ap (λ (v : Expanded). Ok v) joins))
       ]
 
 -- what `:::=` stored

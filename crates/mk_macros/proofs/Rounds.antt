@@ -112,15 +112,15 @@ round_given levels scope inside found h e =
 other_byte : (k : ℕ) → is_name_byte k ≡ false → (b : ℕ) → is_name_byte b ≡ true → eqb b k ≡ false
 other_byte k n b h =
     elim (cases_Bool (eqb b k)) [
-      inl t ↦ absurd (false≢true (sym n ∙ subst (λ x. is_name_byte x ≡ true) (eqb-true b k t) h))
-    | inr f ↦ f
+      | inl t ↦ absurd (false≢true (sym n ∙ subst (λ x. is_name_byte x ≡ true) (eqb-true b k t) h))
+      | inr f ↦ f
     ]
 
 other_turned : (k : ℕ) → is_name_byte k ≡ false → (b : ℕ) → is_name_byte b ≡ true → eqb k b ≡ false
 other_turned k n b h =
     elim (cases_Bool (eqb k b)) [
-      inl t ↦ absurd (false≢true (sym n ∙ subst (λ x. is_name_byte x ≡ true) (sym (eqb-true k b t)) h))
-    | inr f ↦ f
+      | inl t ↦ absurd (false≢true (sym n ∙ subst (λ x. is_name_byte x ≡ true) (sym (eqb-true k b t)) h))
+      | inr f ↦ f
     ]
 
 not_internal : (b : ℕ) → is_name_byte b ≡ true → is_internal b ≡ false
@@ -153,7 +153,7 @@ module _ (levels : ℕ) (scope : Scope) where
   named_value name n le =
       ap (λ o. parts_behind name o >>= reference scope (expanded levels scope) [] 0) (clean_none (is_byte 58) name (clean_name 58 refl name n))
       ∙ ap (λ (r : Result Expanded MacroFault). r >>= (λ found. value_of scope (expanded levels scope) [] found.references found.text (internal_of found.text)
-          >>= (λ value. Ok (record { text = value.text; references = value.references; varying = found.varying || (false || value.varying) })))) (plain_stays levels scope [] 0 name (plain_name name n) le)
+      >>= (λ value. Ok (record { text = value.text; references = value.references; varying = found.varying || (false || value.varying) })))) (plain_stays levels scope [] 0 name (plain_name name n) le)
 
   -- the value of an immediate macro
   immediate_value : (name : List ℕ) (macro : Macro) → is_macro_name name ≡ true → macro_named scope.table name ≡ Some macro → macro.immediate ≡ true
@@ -234,11 +234,11 @@ module _ (levels : ℕ) (scope : Scope) where
   unfolding reference
   replaced_value name old new value n o w ln lo lw e =
       ap (λ (r : Result Expanded MacroFault). r >>= (λ found. ends_of (expanded levels scope) [] found.references (Some (old, new)) >>= (λ ends. value_of scope (expanded levels scope) [] ends.references found.text (internal_of found.text)
-          >>= (λ value. Ok (given_made found ends value))))) (plain_stays levels scope [] 0 name (plain_name name n) ln)
+      >>= (λ value. Ok (given_made found ends value))))) (plain_stays levels scope [] 0 name (plain_name name n) ln)
       ∙ (ap (λ (r : Result Expanded MacroFault). (r >>= (λ one. expanded levels scope [] one.references new >>= (λ two. Ok (ends_made one two))))
-          >>= (λ ends. value_of scope (expanded levels scope) [] ends.references name (internal_of name) >>= (λ value. Ok (given_made (alone name) ends value)))) (plain_stays levels scope [] 0 old (plain_inert old o) lo)
+      >>= (λ ends. value_of scope (expanded levels scope) [] ends.references name (internal_of name) >>= (λ value. Ok (given_made (alone name) ends value)))) (plain_stays levels scope [] 0 old (plain_inert old o) lo)
       ∙ (ap (λ (r : Result Expanded MacroFault). (r >>= (λ two. Ok (ends_made (alone old) two)))
-          >>= (λ ends. value_of scope (expanded levels scope) [] ends.references name (internal_of name) >>= (λ value. Ok (given_made (alone name) ends value)))) (plain_stays levels scope [] 0 new (plain_inert new w) lw)
+      >>= (λ ends. value_of scope (expanded levels scope) [] ends.references name (internal_of name) >>= (λ value. Ok (given_made (alone name) ends value)))) (plain_stays levels scope [] 0 new (plain_inert new w) lw)
       ∙ ap (λ (r : Result Expanded MacroFault). r >>= (λ value. Ok (replaced_in old new value))) e))
 
   pub replaced_round : (name old new : List ℕ) (value : Expanded) → is_macro_name name ≡ true → list_all is_inert old ≡ true → list_all is_inert new ≡ true
@@ -250,7 +250,7 @@ module _ (levels : ℕ) (scope : Scope) where
       let b = step_of (value_of scope (expanded levels scope) [] 0 name (internal_of name)) (λ value. Ok value) value (sym (named_value levels scope name n ln) ∙ found) in
       let is : value_of scope (expanded levels scope) [] 0 name (internal_of name) ≡ Ok value = b.1 ∙ b.2 in
       let clean : IsClean (is_byte 41) (inside_of name old new) = clean_append (is_byte 41) name (58 ∷ (old ++ (61 ∷ new))) (clean_name 41 refl name n)
-          (refl, refl, clean_append (is_byte 41) old (61 ∷ new) (clean_inert 41 inert_41 old o) (refl, refl, clean_inert 41 inert_41 new w)) in
+      (refl, refl, clean_append (is_byte 41) old (61 ∷ new) (clean_inert 41 inert_41 old o) (refl, refl, clean_inert 41 inert_41 new w)) in
       ap (λ t. expanded (suc levels) scope [] 0 (round t)) (append_assoc name (58 ∷ old) (61 ∷ new))
       ∙ round_gives (suc levels) scope (inside_of name old new) (replaced_in old new value) clean low
       (ap (λ (r : Result Parts MacroFault). r >>= reference scope (expanded levels scope) [] 0) (inside_parts name old new n o) ∙ replaced_value name old new value n o w ln lo lw is)

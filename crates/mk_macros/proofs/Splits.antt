@@ -23,8 +23,8 @@ step_of (Err e) f y h = absurd (err_not_ok h)
 pub fitting_of : (value found : Expanded) → fitting value ≡ Ok found → (value ≡ found) × (length value.text ≤ 1048576)
 fitting_of value found e =
     elim (cases_Bool (ltb 1048576 (length value.text))) [
-      inl t ↦ absurd (err_not_ok (sym (cond-true (ltb 1048576 (length value.text)) (Err ValueTooLong) (Ok value) t) ∙ e))
-    | inr f ↦ (ok_same (sym (cond-false (ltb 1048576 (length value.text)) (Err ValueTooLong) (Ok value) f) ∙ e), under 1048576 (length value.text) f)
+      | inl t ↦ absurd (err_not_ok (sym (cond-true (ltb 1048576 (length value.text)) (Err ValueTooLong) (Ok value) t) ∙ e))
+      | inr f ↦ (ok_same (sym (cond-false (ltb 1048576 (length value.text)) (Err ValueTooLong) (Ok value) f) ∙ e), under 1048576 (length value.text) f)
     ]
 
 -- what a form gave, on the way to a value

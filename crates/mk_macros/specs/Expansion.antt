@@ -44,12 +44,12 @@ abbrev pub value_of : Scope → Deeper → List (List ℕ) → ℕ → List ℕ 
 value_of scope deeper going references name None =
     if not (is_macro_name name) then Err BadMacroName
     else (counted references >>= λ count.
-        if is_among going name then Err (Recursive name)
-        else macro_value deeper going count name (macro_named scope.table name))
+    if is_among going name then Err (Recursive name)
+    else macro_value deeper going count name (macro_named scope.table name))
 value_of scope deeper going references name (Some internal) =
     if internal.0 == 37 then Err MemberMacro
     else (counted references >>= λ count.
-        Ok (record { text = internal_value scope.recipe internal.0 internal.1; references = count; varying = internal.0 == 63 }))
+    Ok (record { text = internal_value scope.recipe internal.0 internal.1; references = count; varying = internal.0 == 63 }))
 
 -- the two texts of a substitution, expanded, where there are any
 pub record Ends : Type 0 where

@@ -168,7 +168,14 @@ fn append_replaced(
     let old = expanded_piece(scope, deep, going, name.used.references, ends.old)?;
     let new = expanded_piece(scope, deep, going, old.used.references, ends.new)?;
     let mut value = Vec::new(scope.alloc);
-    let used = append_value(scope, deep, going, new.used.references, &name.text, &mut value)?;
+    let used = append_value(
+        scope,
+        deep,
+        going,
+        new.used.references,
+        &name.text,
+        &mut value,
+    )?;
     push_substituted(into, room, &old.text, &new.text, &value)?;
     Ok(Used {
         references: used.references,

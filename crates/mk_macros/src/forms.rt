@@ -66,11 +66,7 @@ fn closed_at(alloc: Global, close: u8, text: &[u8]) -> Result<(Form<'_>, &[u8]),
 }
 
 /// What stands before a byte and behind it, where it first stands outside references.
-fn cut_outside(
-    alloc: Global,
-    byte: u8,
-    text: &[u8],
-) -> Result<Option<(&[u8], &[u8])>, AllocError>
+fn cut_outside(alloc: Global, byte: u8, text: &[u8]) -> Result<Option<(&[u8], &[u8])>, AllocError>
     ensures { IfOk result (λ found. option_map pair_view found ≡ round text.now (first_outside (is_byte byte) text.now)) }
 {
     let Some(at) = first_outside(alloc, &[byte], text)? else {

@@ -48,7 +48,7 @@ append_text-returns-in_err-given t c =
     let run = c.in_ok-append_run.ensures in
     let room : length c.cut_at_dollar.result.0.now ≤ 1048576 - (length c.forms.into.items - length c.args.into.now.items) = omega (arith, run.0, c.len.ensures, c.len-start.ensures, c.forms.into.ok.0, c.args.into.now.ok.0) in
     let so = after_run scope (below c.args.deep scope) going c.args.into.now.items c.forms.into.items c.forms.used c.forms.rest.now whole c.forms.invariant
-        c.cut_at_dollar.result.0.now (36 ∷ c.in-Some.behind.now) c.append_run.new.into.items cut.0 cut.1 room run.1 in
+    c.cut_at_dollar.result.0.now (36 ∷ c.in-Some.behind.now) c.append_run.new.into.items cut.0 cut.1 room run.1 in
     let left : 1048576 - (c.len-in-forms.result - c.len-start.result) ≡ 1048576 - (length c.append_run.new.into.items - length c.args.into.now.items) = omega (arith, c.len-in-forms.ensures, c.len-start.ensures, c.append_run.new.into.ok.0, c.args.into.now.ok.0) in
     let form : form_view c.in_ok-form.form ≡ (dollar_form c.in-Some.behind.now).0 = ap (λ (q : Form × List ℕ). q.0) c.in_ok-form.ensures in
     subst (λ (r : Result Used MacroFault). Appends c.args.into.now.items c.append_form.new.into.items r whole) (sym e)
@@ -73,7 +73,7 @@ append_text-forms-preserved t c =
     let run = c.in_ok-append_run.ensures in
     let room : length c.cut_at_dollar.result.0.now ≤ 1048576 - (length c.forms.into.items - length c.args.into.now.items) = omega (arith, run.0, c.len.ensures, c.len-start.ensures, c.forms.into.ok.0, c.args.into.now.ok.0) in
     let so = after_run scope (below c.args.deep scope) going c.args.into.now.items c.forms.into.items c.forms.used c.forms.rest.now whole c.forms.invariant
-        c.cut_at_dollar.result.0.now (36 ∷ c.in-Some.behind.now) c.append_run.new.into.items cut.0 cut.1 room run.1 in
+    c.cut_at_dollar.result.0.now (36 ∷ c.in-Some.behind.now) c.append_run.new.into.items cut.0 cut.1 room run.1 in
     let space : 1048576 - (c.len-in-forms.result - c.len-start.result) ≡ 1048576 - (length c.append_run.new.into.items - length c.args.into.now.items) = omega (arith, c.len-in-forms.ensures, c.len-start.ensures, c.append_run.new.into.ok.0, c.args.into.now.ok.0) in
     let form : form_view c.in_ok-form.form ≡ (dollar_form c.in-Some.behind.now).0 = ap (λ (q : Form × List ℕ). q.0) c.in_ok-form.ensures in
     let left : c.in_ok-form.left.now ≡ (dollar_form c.in-Some.behind.now).1 = ap (λ (q : Form × List ℕ). q.1) c.in_ok-form.ensures in
