@@ -28,6 +28,7 @@ check:
 
 bench: all
 	@python3 bench/run.py
+	@python3 bench/reading.py
 
 install: all
 	mkdir -p $(DESTDIR)$(PREFIX)/bin

@@ -1,6 +1,9 @@
 -- Laws of definitions.
 use Rattle.std.proofs.Common.{◌≡◌, ℕ, ◌+◌, ◌≤◌, Bool, true, false, not, ltb, cond, List, [], ◌∷◌, ◌++◌, length, Option, Some, None, Result, Ok, Err, inl, inr, refl, sym, ap, ◌∙◌, subst, arith, length-append}
 use Rattle.std.specs.Str.{bytes_eq}
+use Rattle.std.specs.List.{list_any, before_first, after_first}
+use Rattle.mk_lines.specs.Bytes.{is_byte, trimmed}
+use Rattle.mk_macros.specs.Substitution.{ends_with, without_end}
 use Rattle.std.proofs.lemmas.Bool.{cases_Bool, le-ltb}
 use Rattle.std.proofs.lemmas.Slice.Eq.{bytes_eq-Decides}
 use Rattle.mk_macros.specs.declared.fault.MacroFault.{MacroFault}
@@ -11,8 +14,8 @@ use Rattle.mk_macros.specs.Names.{is_macro_name}
 use Rattle.mk_macros.specs.Table.{Macro, is_called, macro_named, with_macro}
 use Rattle.mk_macros.specs.Expansion.{Expanded, expansion}
 use Rattle.mk_macros.specs.Steps.{◌>>=◌}
-use Rattle.mk_macros.specs.Definitions.{doubled, stored, appended, with_more, if_unset, set, is_fixed, defined}
-use Rattle.mk_macros.specs.Laws.{Definition, after_definitions, OperandsWin, AppendingToNothing, AppendingToDelayed, AppendingToImmediate}
+use Rattle.mk_macros.specs.Definitions.{doubled, stored, appended, with_more, if_unset, set, is_fixed, defined, operator_of, operand_set, with_operand, without_blanks}
+use Rattle.mk_macros.specs.Laws.{Definition, after_definitions, OperandsWin, AppendingToNothing, AppendingToDelayed, AppendingToImmediate, OperandsFix, IsFixed, operand_name}
 
 -- what a name means stays
 abbrev Keeps : List Macro → List ℕ → Result (List Macro) MacroFault → Type 0
@@ -75,6 +78,54 @@ keeps_set table changed text name by_operand Now other = keeps_step table name (
 keeps_set table changed text name by_operand Double other = keeps_step table name (expansion table None text) _ (λ value. keeps_stored table _ name other)
 keeps_set table changed text name by_operand IfUnset other = keeps_unset table changed text name (macro_named table changed) other
 keeps_set table changed text name by_operand Append other = keeps_more table changed text name (macro_named table changed) refl other
+
+-- the macro that is put into a table is that of its name
+stands : (table : List Macro) (macro : Macro) → macro_named (with_macro table macro) macro.name ≡ Some macro
+unfolding with_macro
+stands [] macro = ap (λ b. cond b (Some macro) None) ((bytes_eq-Decides macro.name macro.name).1 refl)
+stands (first ∷ table) macro = at (is_called macro.name first) refl (stands table macro)
+  where
+    at : (b : Bool) → is_called macro.name first ≡ b → macro_named (with_macro table macro) macro.name ≡ Some macro → macro_named (cond b (macro ∷ table) (first ∷ with_macro table macro)) macro.name ≡ Some macro
+    at true t rest = ap (λ b. cond b (Some macro) (macro_named table macro.name)) ((bytes_eq-Decides macro.name macro.name).1 refl)
+    at false f rest = ap (λ b. cond b (Some first) (macro_named (with_macro table macro) macro.name)) f ∙ rest
+
+-- where a table comes out, the name is fixed in it
+abbrev Fixes : List ℕ → Result (List Macro) MacroFault → Type 0
+Fixes name result = (after : List Macro) → result ≡ Ok after → IsFixed after name
+
+fixes_stored : (table : List Macro) (macro : Macro) → macro.fixed ≡ true → Fixes macro.name (stored table macro)
+fixes_stored table macro fixed = at (ltb 1048576 (length macro.text))
+  where
+    at : (b : Bool) → Fixes macro.name (cond b (Err ValueTooLong) (Ok (with_macro table macro)))
+    at true after e = absurd cc
+    at false after e = let same : with_macro table macro ≡ after = cc in (macro, ap (λ (ms : List Macro). macro_named ms macro.name) (sym same) ∙ stands table macro, fixed)
+
+fixes_step : {A : Type 0} (name : List ℕ) (r : Result A MacroFault) (f : A → Result (List Macro) MacroFault) → ((x : A) → Fixes name (f x)) → Fixes name (r >>= f)
+fixes_step name (Ok x) f fixes = fixes x
+fixes_step name (Err fault) f fixes = λ after e. absurd cc
+
+fixes_good : (name : List ℕ) (good : Bool) (r : Result (List Macro) MacroFault) → Fixes name r → Fixes name (cond (not good) (Err BadMacroName) r)
+fixes_good name true r fixes = fixes
+fixes_good name false r fixes = λ after e. absurd cc
+
+fixes_operator : (table : List Macro) (before text : List ℕ) → Fixes (without_blanks (operator_of before).1) (operand_set table (operator_of before) text)
+fixes_operator table before text = at (ends_with (58 ∷ 58 ∷ 58 ∷ []) before) (ends_with (58 ∷ 58 ∷ []) before)
+  where
+    operator : Bool → Bool → Op × List ℕ
+    operator three two = cond three (Double, without_end 3 before) (cond two (Now, without_end 2 before) (Delay, before))
+
+    at : (three two : Bool) → Fixes (without_blanks (operator three two).1) (operand_set table (operator three two) text)
+    at true two = fixes_good _ (is_macro_name (without_blanks (without_end 3 before))) _ (fixes_step _ (expansion table None text) _ (λ value. fixes_stored table _ refl))
+    at false true = fixes_good _ (is_macro_name (without_blanks (without_end 2 before))) _ (fixes_step _ (expansion table None text) _ (λ value. fixes_stored table _ refl))
+    at false false = fixes_good _ (is_macro_name (without_blanks before)) _ (fixes_stored table _ refl)
+
+pub operands_fix : OperandsFix
+unfolding with_operand
+operands_fix table operand = at (list_any (is_byte 61) operand)
+  where
+    at : (b : Bool) → Fixes (operand_name operand) (cond (not b) (Err BadMacroName) (operand_set table (operator_of (before_first (is_byte 61) operand)) (trimmed (after_first (is_byte 61) operand))))
+    at true after e = fixes_operator table (before_first (is_byte 61) operand) (trimmed (after_first (is_byte 61) operand)) after e
+    at false after e = absurd cc
 
 -- a definition leaves what an operand has fixed
 keeps_fixed : (table : List Macro) (changed text name : List ℕ) (op : Op) (macro : Macro) → macro_named table name ≡ Some macro → macro.fixed ≡ true → Keeps table name (defined table changed op text)

@@ -1,6 +1,6 @@
 -- Laws of expansion and of definitions.
 use Rattle.std.specs.Prelude.{◌≡◌, ◌≤◌, ◌<◌, ◌↔◌, ℕ, ◌+◌, ◌==◌, Bool, true, false, not, List, [], ◌∷◌, ◌++◌, length, Option, None, Some, Result, Ok, Err}
-use Rattle.std.specs.List.{list_any, list_all}
+use Rattle.std.specs.List.{list_any, list_all, before_first}
 use Rattle.mk_lines.specs.Bytes.{is_byte}
 use Rattle.mk_macros.specs.declared.fault.MacroFault.{MacroFault}
 use Rattle.mk_macros.specs.declared.op.Op.{Op}
@@ -11,7 +11,7 @@ use Rattle.mk_macros.specs.Table.{Macro, macro_named, with_macro}
 use Rattle.mk_macros.specs.Locals.{Recipe}
 use Rattle.mk_macros.specs.Substitution.{substituted}
 use Rattle.mk_macros.specs.Expansion.{Expanded, Scope, expanded, expansion}
-use Rattle.mk_macros.specs.Definitions.{defined, with_operand, doubled}
+use Rattle.mk_macros.specs.Definitions.{defined, with_operand, operator_of, without_blanks, doubled}
 use Rattle.mk_macros.specs.Steps.{◌>>=◌}
 
 -- A text without `$` expands to itself and counts nothing, where it is of at most 1,048,576 bytes.
@@ -76,7 +76,19 @@ after_definitions table (definition ∷ definitions) = do
   next ← defined table definition.name definition.op definition.text
   after_definitions next definitions
 
--- An operand wins over every later definition of its name: what it gave its name stays.
+-- the name that an operand sets: what stands before its operator, without the blanks at its ends
+abbrev pub operand_name : List ℕ → List ℕ
+operand_name operand = without_blanks (operator_of (before_first (is_byte 61) operand)).1
+
+-- the name is that of a macro that an operand has fixed
+abbrev pub IsFixed : List Macro → List ℕ → Type 0
+IsFixed table name = (macro : Macro) × (macro_named table name ≡ Some macro) × (macro.fixed ≡ true)
+
+-- What an operand sets is fixed.
+abbrev pub OperandsFix : Type 0
+OperandsFix = (table : List Macro) → (operand : List ℕ) → (after : List Macro) → with_operand table operand ≡ Ok after → IsFixed after (operand_name operand)
+
+-- What is fixed wins over every later definition of its name: it stays as it is.
 abbrev pub OperandsWin : Type 0
 OperandsWin = (table after : List Macro) → (definitions : List Definition) → (name : List ℕ) → (macro : Macro) → macro_named table name ≡ Some macro → macro.fixed ≡ true
     → after_definitions table definitions ≡ Ok after → macro_named after name ≡ Some macro

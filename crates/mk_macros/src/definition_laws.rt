@@ -1,8 +1,13 @@
 //! Laws of definitions.
 
-ghost use Rattle.mk_macros.specs.Laws.{OperandsWin, AppendingToNothing, AppendingToDelayed, AppendingToImmediate};
+ghost use Rattle.mk_macros.specs.Laws.{OperandsFix, OperandsWin, AppendingToNothing, AppendingToDelayed, AppendingToImmediate};
 
-/// An operand wins over every later definition of its name: what it gave its name stays.
+/// What an operand sets is fixed.
+pub fn operands_fix()
+    ensures { OperandsFix }
+{}
+
+/// What an operand has fixed wins over every later definition of its name: it stays as it is.
 pub fn operands_win()
     ensures { OperandsWin }
 {}
