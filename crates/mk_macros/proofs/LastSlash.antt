@@ -87,7 +87,7 @@ standing name parts f e = subst (λ (ps : List (List ℕ)). Standing name ps) (s
           none = λ h. refl;
           root = λ h. absurd (omega arith);
           some = λ start is above. absurd (omega arith);
-          shorter = omega arith
+          shorter = omega arith;
         }
     at x (y ∷ ys) k =
         let before = join_with_byte 47 (but_last (x ∷ y ∷ ys)) in
@@ -100,8 +100,8 @@ standing name parts f e = subst (λ (ps : List (List ℕ)). Standing name ps) (s
           none = λ h. absurd (omega arith);
           root = λ h. let empty : length before ≡ 0 = omega arith in at_root before empty ∙ made;
           some = λ start is above. let more : start - 1 ≡ length before = omega arith in let filled : 0 < length before = omega arith in
-            ap (λ n. take n name) more ∙ (ap (take (length before)) whole ∙ (take-append-le (length before) before (47 ∷ last) (omega arith) ∙ (take_all (length before) before (omega arith) ∙ (at_some before filled ∙ made))));
-          shorter = omega arith
+              ap (λ n. take n name) more ∙ (ap (take (length before)) whole ∙ (take-append-le (length before) before (47 ∷ last) (omega arith) ∙ (take_all (length before) before (omega arith) ∙ (at_some before filled ∙ made))));
+          shorter = omega arith;
         }
       where
         at_root : (t : List ℕ) → length t ≡ 0 → 47 ∷ [] ≡ cond (bytes_eq t []) (47 ∷ []) t

@@ -76,6 +76,8 @@ whole_cut p xs at e l =
 
 -- the parts of one that has some
 pub parted_cut : {A : Type 0} (p : A → Bool) (xs : List A) (at : ℕ) → at ≡ position_or_len p xs → at < length xs → (true ≡ list_any p xs) × (take at xs ≡ before_first p xs) × (take (length xs - (at + 1)) (drop (at + 1) xs) ≡ after_first p xs)
-parted_cut p xs at e l =
-    (sym (some_placed p xs (subst (λ n. n < length xs) e l)), ap (λ n. take n xs) e,
-    take_all (length xs - (at + 1)) (drop (at + 1) xs) (omega (arith, length-drop (at + 1) xs)) ∙ ap (λ n. drop (n + 1) xs) e)
+parted_cut p xs at e l = (
+  sym (some_placed p xs (subst (λ n. n < length xs) e l)),
+  ap (λ n. take n xs) e,
+  take_all (length xs - (at + 1)) (drop (at + 1) xs) (omega (arith, length-drop (at + 1) xs)) ∙ ap (λ n. drop (n + 1) xs) e,
+)

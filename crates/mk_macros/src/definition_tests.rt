@@ -47,17 +47,28 @@ const DEFINITIONS: &[(&[(&str, Op, &str)], &str)] = &[
     (&[("N", Op::Delay, "x"), ("N", Op::Delay, "$(y)")], "$(y)"),
     (&[("N", Op::IfUnset, "x"), ("N", Op::IfUnset, "y")], "x"),
     (&[("N", Op::Append, "x")], "x"),
-    (&[("N", Op::Delay, "x"), ("N", Op::Append, "$(y)")], "x $(y)"),
+    (
+        &[("N", Op::Delay, "x"), ("N", Op::Append, "$(y)")],
+        "x $(y)",
+    ),
     (&[("N", Op::Delay, ""), ("N", Op::Append, "")], " "),
     (&[("N", Op::Now, "a"), ("N", Op::Delay, "x")], "x"),
     (&[("N", Op::Now, "a$$b")], "a$b|immediate"),
     (&[("N", Op::Delay, "x"), ("N", Op::Now, "a")], "a|immediate"),
-    (&[("N", Op::Now, "a"), ("N", Op::IfUnset, "x")], "a|immediate"),
+    (
+        &[("N", Op::Now, "a"), ("N", Op::IfUnset, "x")],
+        "a|immediate",
+    ),
     (&[("N", Op::Double, "a$$b")], "a$$b"),
     (&[("N", Op::Now, "a"), ("N", Op::Double, "b")], "b"),
     (&[("N", Op::Double, "a"), ("N", Op::Append, "$$")], "a $$"),
     (
-        &[("M", Op::Delay, "b"), ("N", Op::Now, "a"), ("N", Op::Append, "$(M)"), ("M", Op::Delay, "c")],
+        &[
+            ("M", Op::Delay, "b"),
+            ("N", Op::Now, "a"),
+            ("N", Op::Append, "$(M)"),
+            ("M", Op::Delay, "c"),
+        ],
         "a b|immediate",
     ),
     (&[("M", Op::Delay, "x")], "none"),
@@ -69,7 +80,10 @@ fn definitions_set_macros(rt: HostRuntime) -> Result<(), Fail> {
     for (definitions, want) in DEFINITIONS {
         let mut table = MacroTable::new(alloc);
         for (name, op, text) in *definitions {
-            assert_eq!(rt; told(alloc, table.define(name.as_bytes(), *op, text.as_bytes()))?.as_str(), "taken");
+            assert_eq!(rt;
+                told(alloc, table.define(name.as_bytes(), *op, text.as_bytes()))?.as_str(),
+                "taken"
+            );
         }
         assert_eq!(rt; held(alloc, &table, "N")?.as_str(), *want);
     }
@@ -98,8 +112,14 @@ fn names_are_tested_first(rt: HostRuntime) -> Result<(), Fail> {
     }
     let mut table = MacroTable::new(alloc);
     let long = Vec::from_elem(alloc, b'x', MAX_VALUE + 1)?;
-    assert_eq!(rt; told(alloc, table.define(b"a b", Op::Delay, &long))?.as_str(), "a bad macro name");
-    assert_eq!(rt; told(alloc, table.define(b"a b", Op::Now, b"$"))?.as_str(), "a bad macro name");
+    assert_eq!(rt;
+        told(alloc, table.define(b"a b", Op::Delay, &long))?.as_str(),
+        "a bad macro name"
+    );
+    assert_eq!(rt;
+        told(alloc, table.define(b"a b", Op::Now, b"$"))?.as_str(),
+        "a bad macro name"
+    );
     Ok(())
 }
 
@@ -108,16 +128,34 @@ fn texts_have_a_limit(rt: HostRuntime) -> Result<(), Fail> {
     let alloc = rt.alloc();
     let mut table = MacroTable::new(alloc);
     let mut text = Vec::from_elem(alloc, b'x', MAX_VALUE)?;
-    assert_eq!(rt; told(alloc, table.define(b"A", Op::Delay, &text))?.as_str(), "taken");
-    assert_eq!(rt; told(alloc, table.define(b"A", Op::Append, b""))?.as_str(), "a value is over 1,048,576 bytes");
+    assert_eq!(rt;
+        told(alloc, table.define(b"A", Op::Delay, &text))?.as_str(),
+        "taken"
+    );
+    assert_eq!(rt;
+        told(alloc, table.define(b"A", Op::Append, b""))?.as_str(),
+        "a value is over 1,048,576 bytes"
+    );
     text.push(b'x')?;
-    assert_eq!(rt; told(alloc, table.define(b"B", Op::Delay, &text))?.as_str(), "a value is over 1,048,576 bytes");
+    assert_eq!(rt;
+        told(alloc, table.define(b"B", Op::Delay, &text))?.as_str(),
+        "a value is over 1,048,576 bytes"
+    );
     assert_eq!(rt; held(alloc, &table, "B")?.as_str(), "none");
     text.pop();
     text.pop();
-    assert_eq!(rt; told(alloc, table.define(b"B", Op::Delay, &text))?.as_str(), "taken");
-    assert_eq!(rt; told(alloc, table.define(b"B", Op::Append, b"y"))?.as_str(), "a value is over 1,048,576 bytes");
-    assert_eq!(rt; told(alloc, table.define(b"B", Op::Append, b""))?.as_str(), "taken");
+    assert_eq!(rt;
+        told(alloc, table.define(b"B", Op::Delay, &text))?.as_str(),
+        "taken"
+    );
+    assert_eq!(rt;
+        told(alloc, table.define(b"B", Op::Append, b"y"))?.as_str(),
+        "a value is over 1,048,576 bytes"
+    );
+    assert_eq!(rt;
+        told(alloc, table.define(b"B", Op::Append, b""))?.as_str(),
+        "taken"
+    );
     Ok(())
 }
 
@@ -150,7 +188,11 @@ fn operands_fix_macros(rt: HostRuntime) -> Result<(), Fail> {
     let alloc = rt.alloc();
     for (operand, want, name, left) in OPERANDS {
         let mut table = MacroTable::new(alloc);
-        assert_eq!(rt; told(alloc, table.fix(operand.as_bytes()))?.as_str(), *want, "{operand}");
+        assert_eq!(rt;
+            told(alloc, table.fix(operand.as_bytes()))?.as_str(),
+            *want,
+            "{operand}"
+        );
         assert_eq!(rt; held(alloc, &table, name)?.as_str(), *left, "{operand}");
     }
     Ok(())
@@ -187,7 +229,10 @@ fn values_follow_definitions(rt: HostRuntime) -> Result<(), Fail> {
     table.define(b"N", Op::Append, b"$(M)")?;
     table.define(b"M", Op::Delay, b"c")?;
     assert_eq!(rt; expanded(alloc, &table, "$(N)")?.as_str(), "a b");
-    assert_eq!(rt; told(alloc, table.define(b"N", Op::Append, b"$("))?.as_str(), "a reference has no end");
+    assert_eq!(rt;
+        told(alloc, table.define(b"N", Op::Append, b"$("))?.as_str(),
+        "a reference has no end"
+    );
     assert_eq!(rt; expanded(alloc, &table, "$(N)")?.as_str(), "a b");
     Ok(())
 }
@@ -200,7 +245,11 @@ fn many_appends_are_quick(rt: HostRuntime) -> Result<(), Fail> {
     for _ in 0..60_000 {
         table.define(b"A", Op::Append, text)?;
     }
-    assert!(rt; table.get(b"A").is_some_and(|found| found.text.len() == 1_019_999));
+    assert!(rt;
+        table
+            .get(b"A")
+            .is_some_and(|found| found.text.len() == 1_019_999)
+    );
     Ok(())
 }
 
@@ -232,12 +281,31 @@ fn words_are_replaced(rt: HostRuntime) -> Result<(), Fail> {
     for (value, old, new, want) in SUBSTITUTIONS {
         let mut into = Vec::from_slice(alloc, b"<")?;
         let room = want.len();
-        push_substituted(&mut into, room, old.as_bytes(), new.as_bytes(), value.as_bytes())?;
-        assert_eq!(rt; String::from_utf8(into)?, format!(in alloc; "<{want}")?, "{value} {old} {new}");
+        push_substituted(
+            &mut into,
+            room,
+            old.as_bytes(),
+            new.as_bytes(),
+            value.as_bytes(),
+        )?;
+        assert_eq!(rt;
+            String::from_utf8(into)?,
+            format!(in alloc; "<{want}")?,
+            "{value} {old} {new}"
+        );
         if room > 0 {
             let mut into = Vec::new(alloc);
-            let short = push_substituted(&mut into, room - 1, old.as_bytes(), new.as_bytes(), value.as_bytes());
-            assert_eq!(rt; told(alloc, short)?.as_str(), "a value is over 1,048,576 bytes");
+            let short = push_substituted(
+                &mut into,
+                room - 1,
+                old.as_bytes(),
+                new.as_bytes(),
+                value.as_bytes(),
+            );
+            assert_eq!(rt;
+                told(alloc, short)?.as_str(),
+                "a value is over 1,048,576 bytes"
+            );
         }
     }
     Ok(())

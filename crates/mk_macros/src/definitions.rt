@@ -78,7 +78,14 @@ impl MacroTable {
             return Err(MacroFault::ValueTooLong);
         }
         let text = Vec::from_slice(self.alloc(), text)?;
-        self.store(name, Macro { text, immediate: false, fixed })
+        self.store(
+            name,
+            Macro {
+                text,
+                immediate: false,
+                fixed,
+            },
+        )
     }
 }
 
@@ -141,7 +148,14 @@ impl MacroTable {
         ensures unchanged { OnErr result (self.new ≡ self.old) }
     {
         let text = self.value_of(text)?;
-        self.store(name, Macro { text, immediate: true, fixed })
+        self.store(
+            name,
+            Macro {
+                text,
+                immediate: true,
+                fixed,
+            },
+        )
     }
 
     /// Takes a text with `:::=`.
@@ -151,7 +165,14 @@ impl MacroTable {
     {
         let value = self.value_of(text)?;
         let text = doubled(self.alloc(), &value)?;
-        self.store(name, Macro { text, immediate: false, fixed })
+        self.store(
+            name,
+            Macro {
+                text,
+                immediate: false,
+                fixed,
+            },
+        )
     }
 
     /// Takes a definition of a good name that isn't fixed, or that a later operand sets.

@@ -138,10 +138,21 @@ fn distinct<'a>(alloc: Global, names: &[&'a str]) -> Result<IndexSet<&'a str>, A
 /// The value of an internal macro: the parts of the names that it stands for, joined by one space.
 /// It is empty outside commands, and for `$?` and `$%`, which stand for no names. The error is want
 /// of memory alone.
-pub fn internal_value(alloc: Global, locals: &Locals, byte: u8, part: Part) -> Result<Vec<u8>, AllocError>
+pub fn internal_value(
+    alloc: Global,
+    locals: &Locals,
+    byte: u8,
+    part: Part,
+) -> Result<Vec<u8>, AllocError>
     ensures { IfOk result (λ value. value.items ≡ internal_value (recipe_of locals.now) byte part) }
 {
-    let Locals::Recipe { target, stem, first, all } = locals else {
+    let Locals::Recipe {
+        target,
+        stem,
+        first,
+        all,
+    } = locals
+    else {
         return Ok(Vec::new(alloc));
     };
     match byte {

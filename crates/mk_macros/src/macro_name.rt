@@ -57,5 +57,10 @@ fn has_name_bytes(name: &[u8]) -> bool
 pub fn is_name_byte(byte: u8) -> bool
     ensures { result ≡ is_name_byte byte }
 {
-    byte.is_ascii_uppercase() || byte.is_ascii_lowercase() || byte.is_ascii_digit() || byte == b'.' || byte == b'_' || byte == b'-'
+    byte.is_ascii_uppercase()
+        || byte.is_ascii_lowercase()
+        || byte.is_ascii_digit()
+        || byte == b'.'
+        || byte == b'_'
+        || byte == b'-'
 }

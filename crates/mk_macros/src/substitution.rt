@@ -38,9 +38,19 @@ impl<'a> Cut<'a> {
     {
         let at = first_place(b'%', text);
         if at == text.len() {
-            return Cut { text, has_percent: false, before: text, after: &[] };
+            return Cut {
+                text,
+                has_percent: false,
+                before: text,
+                after: &[],
+            };
         }
-        Cut { text, has_percent: true, before: &text[..at], after: &text[at + 1..] }
+        Cut {
+            text,
+            has_percent: true,
+            before: &text[..at],
+            after: &text[at + 1..],
+        }
     }
 
     /// Whether the text has a `%`.

@@ -18,5 +18,5 @@ loop-rest-preserved c =
     let below : at < length rest = omega arith in
     record {
       same = ap file (behind rest at) ∙ file_step c.args.name.now rest at c.first_place-at.ensures.place below c.loop-rest.invariant.same;
-      within = omega (arith, ap length (behind rest at), length-drop (at + 1) rest)
+      within = omega (arith, ap length (behind rest at), length-drop (at + 1) rest);
     }

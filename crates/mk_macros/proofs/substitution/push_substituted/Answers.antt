@@ -45,7 +45,7 @@ loop-word-preserved-then-is_empty c =
       starts = c.loop-word.invariant.starts;
       made = c.loop-word.invariant.made ∙ ap (λ (s : List ℕ). c.args.into.now.items ++ s) (sym same);
       first = c.loop-word.invariant.first ∙ sym (ap is_nil (ap (λ k. filter is_word (take k parts)) more ∙ skip));
-      fits = subst (λ (s : List ℕ). length s ≤ c.args.room) (sym same) c.loop-word.invariant.fits
+      fits = subst (λ (s : List ℕ). length s ≤ c.args.room) (sym same) c.loop-word.invariant.fits;
     }
 
 pub returns-then-len-start-clause-err : goal.returns-then-len-start-clause-err
@@ -57,8 +57,11 @@ returns-then-len-start-clause-err c =
     (YieldsList-at c.into_iter-word-iterator.ensures.into_iter_gives (YieldsList-from_slice_split _ is_blank c.args.value.now c.split-word-items.ensures.rest c.split-word-items.ensures.done c.split-word-items.ensures.closure (λ x r q k. search (rules, tests)))) in
     let made : c.push_next.new.into.items ≡ c.args.into.now.items ++ so_far f parts (n + 1) = so_far_next f parts n c.in-Some.word.now c.in-Some.word.now c.loop-word.is_first c.args.into.now.items c.loop-word.into.items c.push_next.new.into.items t.0 t.1 (sym c.is_empty.ensures ∙ c.if-is_empty.false) c.loop-word.invariant.first c.loop-word.invariant.made c.in_ok-push_next.ensures in
     let long : c.args.room < length c.push_next.new.into.items - c.len-start.result = omega (arith, c.push_next.new.into.ok.0) in
-    inr (refl, too_long f parts (n + 1) c.args.room c.len-start.result c.args.into.now.items c.push_next.new.into.items (substituted c.args.old.now c.args.new.now c.args.value.now) c.loop-word.invariant.starts made
-    (whole c.args.old.now c.new-old_cut.result c.args.new.now c.new-new_cut.result c.args.value.now c.new-old_cut.ensures c.new-new_cut.ensures) long)
+    inr (
+      refl,
+      too_long f parts (n + 1) c.args.room c.len-start.result c.args.into.now.items c.push_next.new.into.items (substituted c.args.old.now c.args.new.now c.args.value.now) c.loop-word.invariant.starts made
+          (whole c.args.old.now c.new-old_cut.result c.args.new.now c.new-new_cut.result c.args.value.now c.new-old_cut.ensures c.new-new_cut.ensures) long,
+    )
 
 pub loop-word-preserved : goal.loop-word-preserved
 loop-word-preserved c =
@@ -76,7 +79,7 @@ loop-word-preserved c =
       starts = c.loop-word.invariant.starts;
       made = made ∙ ap (λ k. c.args.into.now.items ++ so_far f parts k) (sym more);
       first = some_next parts n c.in-Some.word.now c.in-Some.word.now t.0 t.1 (sym c.is_empty.ensures ∙ c.if-is_empty.false) ∙ ap (none_so_far parts) (sym more);
-      fits = subst (λ k. length (so_far f parts k) ≤ c.args.room) (sym more) (short_enough f parts (n + 1) c.args.room c.len-start.result c.args.into.now.items c.push_next.new.into.items c.loop-word.invariant.starts made short)
+      fits = subst (λ k. length (so_far f parts k) ≤ c.args.room) (sym more) (short_enough f parts (n + 1) c.args.room c.len-start.result c.args.into.now.items c.push_next.new.into.items c.loop-word.invariant.starts made short);
     }
 
 pub returns-clause-ok : goal.returns-clause-ok

@@ -14,5 +14,5 @@ invariant-loop-word l =
       starts : l.start ≡ length l.initial.into.items;
       made : l.into.items ≡ l.initial.into.items ++ so_far (replaced l.old_cut l.new_cut) (slice_split is_blank l.value) (length l.yielded);
       first : l.is_first ≡ none_so_far (slice_split is_blank l.value) (length l.yielded);
-      fits : length (so_far (replaced l.old_cut l.new_cut) (slice_split is_blank l.value) (length l.yielded)) ≤ l.room
+      fits : length (so_far (replaced l.old_cut l.new_cut) (slice_split is_blank l.value) (length l.yielded)) ≤ l.room;
     }
