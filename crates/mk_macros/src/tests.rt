@@ -258,18 +258,25 @@ fn bytes(alloc: Global, count: usize) -> Result<Vec<u8>, Fail> {
     Ok(text)
 }
 
+/// Whether a text was lent.
+fn is_lent(text: &CowSlice<'_, u8>) -> bool {
+    matches!(text, CowSlice::Borrowed(_))
+}
+
+/// How long the expansion of a text is, and whether it was lent.
+fn measured(alloc: Global, table: &MacroTable, text: &[u8]) -> Result<(usize, bool), Fail> {
+    let found = table.expand(alloc, text, &Locals::Empty)?;
+    Ok((found.text.as_slice().len(), is_lent(&found.text)))
+}
+
 #[test]
 fn longest_texts(rt: HostRuntime) -> Result<(), Fail> {
     let alloc = rt.alloc();
     let table = table_of(alloc, &[("E", "")])?;
     let mut text = bytes(alloc, 1_048_576)?;
-    let found = table.expand(alloc, &text, &Locals::Empty)?;
-    assert!(rt; matches!(found.text, CowSlice::Borrowed(_)));
-    assert_eq!(rt; found.text.as_slice().len(), 1_048_576);
+    assert_eq!(rt; measured(alloc, &table, &text)?, (1_048_576, true));
     text.extend_from_slice(b"$(E)")?;
-    let found = table.expand(alloc, &text, &Locals::Empty)?;
-    assert!(rt; matches!(found.text, CowSlice::Owned(_)));
-    assert_eq!(rt; found.text.as_slice().len(), 1_048_576);
+    assert_eq!(rt; measured(alloc, &table, &text)?, (1_048_576, false));
     text.extend_from_slice(b"x$")?;
     let line = shown(alloc, &table, &text, &Locals::Empty)?;
     assert_eq!(rt; line.as_slice(), b"too long".as_slice());
@@ -279,22 +286,25 @@ fn longest_texts(rt: HostRuntime) -> Result<(), Fail> {
     Ok(())
 }
 
+/// Texts round a macro of the most bytes, and what they expand to.
+const TOO_LONG: &[(&str, &str)] = &[
+    ("$(L)$", "lone"),
+    ("$(L)x$", "too long"),
+    ("x$(L)$", "too long"),
+    ("$(L)$$$", "too long"),
+    ("$$$(L)$", "too long"),
+    ("$(L:=x)$", "too long"),
+    ("$(L:%=)$", "lone"),
+    ("$(L:x=yx)$", "too long"),
+];
+
 #[test]
 fn too_long_before_other_faults(rt: HostRuntime) -> Result<(), Fail> {
     let alloc = rt.alloc();
     let mut table = MacroTable::new(alloc);
     let text = bytes(alloc, 1_048_576)?;
     put(&mut table, b"L", &text)?;
-    for (text, want) in [
-        ("$(L)$", "lone"),
-        ("$(L)x$", "too long"),
-        ("x$(L)$", "too long"),
-        ("$(L)$$$", "too long"),
-        ("$$$(L)$", "too long"),
-        ("$(L:=x)$", "too long"),
-        ("$(L:%=)$", "lone"),
-        ("$(L:x=yx)$", "too long"),
-    ] {
+    for (text, want) in TOO_LONG {
         let line = shown(alloc, &table, text.as_bytes(), &Locals::Empty)?;
         assert_eq!(rt; line.as_slice(), want.as_bytes(), "at {text}");
     }
