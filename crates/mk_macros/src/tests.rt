@@ -187,9 +187,9 @@ fn values_that_were_stored(rt: HostRuntime) -> Result<(), Fail> {
 fn most_references(rt: HostRuntime) -> Result<(), Fail> {
     let alloc = rt.alloc();
     let mut table = table_of(alloc, &[("A0", "")])?;
-    for n in 1..16 {
+    for n in 1..16usize {
         let name = format!(in alloc; "A{n}")?;
-        let below = n - 1;
+        let below = n.saturating_sub(1);
         let text = format!(in alloc; "$(A{below})$(A{below})")?;
         put(&mut table, name.as_bytes(), text.as_bytes())?;
     }
