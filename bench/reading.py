@@ -63,7 +63,7 @@ def built() -> Path:
     shutil.rmtree(repository, ignore_errors=True)
     crates = repository / "crates"
     (crates / "reading" / "src").mkdir(parents=True)
-    shutil.copy(HERE / "reading" / "main.rt", crates / "reading" / "src" / "main.rt")
+    shutil.copy(HERE / "reading" / "main.rt.in", crates / "reading" / "src" / "main.rt")
     shutil.copy(HERE.parent / "HANDLES", repository / "HANDLES")
     for name in ("mk_lines", "mk_macros"):
         # With what earlier checks left in out/, so that little is proved again.
