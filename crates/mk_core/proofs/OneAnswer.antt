@@ -3,7 +3,7 @@ use Rattle.std.proofs.Common.{◌≡◌, ℕ, List, [], map, Result, Ok, Err, �
 use Rattle.mk_graph.specs.Membership.{Has}
 use Rattle.mk_graph.specs.Graph as value
 use Rattle.mk_graph.specs.Build.{Builds}
-use Rattle.mk_graph.specs.Walk.{Outcome, Through, Closes}
+use Rattle.mk_graph.specs.Walk.{WalkEnd, Through, Closes}
 use Rattle.mk_graph.specs.Laws.{WalkHasOneEnd}
 use Rattle.mk_graph.specs.declared.fault.GraphFault.{GraphFault}
 use Rattle.mk_graph.specs.declared.fault.GraphFault.TheVariants as graph
@@ -84,11 +84,11 @@ drawn files request (Err Memory) s a = absurd s
 
 -- ---- the graph's fate
 
-path_of : Outcome → List ℕ
+path_of : WalkEnd → List ℕ
 path_of (Through finished) = []
 path_of (Closes path) = path
 
-CameThrough : Outcome → Type 0
+CameThrough : WalkEnd → Type 0
 CameThrough (Through finished) = Unit {0}
 CameThrough (Closes path) = ⊥
 

@@ -7,9 +7,9 @@ use mathlib.Core.Path.{fun_ext}
 use Rattle.mk_graph.specs.declared.node.Node.{Node}
 use Rattle.mk_graph.specs.Membership.{Has}
 use Rattle.mk_graph.specs.Graph.{Graph, no_node, prerequisites, IsSound, IsGraph}
-use Rattle.mk_graph.specs.Walk.{Outcome, Through, Closes, Walks}
+use Rattle.mk_graph.specs.Walk.{WalkEnd, Through, Closes, Walks}
 use Rattle.mk_graph.specs.declared.walk.End.{End}
-use Rattle.mk_graph.specs.Progress.{row, AreRows, outcome}
+use Rattle.mk_graph.specs.Progress.{row, AreRows, walk_end}
 use Rattle.mk_graph.specs.Build.{WalksAll}
 use Rattle.mk_graph.specs.Serial.{serial_order}
 use Rattle.mk_graph.proofs.Members.{All-from_Has}
@@ -44,7 +44,7 @@ module _ (g : Graph) (rows : List (Vec ℕ Global)) (are : map (λ (r : Vec ℕ 
       omega arith
 
   -- a walk over the rows is one of the graph
-  pub walks_graph : (end : Outcome) → Walks (row rows) [] [] g.goals end → WalksAll g end
+  pub walks_graph : (end : WalkEnd) → Walks (row rows) [] [] g.goals end → WalksAll g end
   walks_graph end w = subst (λ (f : ℕ → List ℕ). Walks f [] [] g.goals end) rows_are w
 
 -- a sound graph of few nodes that is walked through is one, and the walk's order is its serial order
@@ -58,9 +58,9 @@ pub path_within : (g : Graph) (path : List ℕ) → IsSound g → WalksAll g (Cl
 path_within g path sound w = All-from_Has (λ n. n < length g.nodes) path (holds_closes (prerequisites g) (λ n. n < length g.nodes) (λ n p low need. sound.edges n p need) w (λ n u. absurd u) sound.goals)
 
 -- what the walk over the rows says of the graph
-pub walked : (g : Graph) (rows now : List (Vec ℕ Global)) (nodes : List Node) (goals : List ℕ) (end : End) (it : End) → now ≡ rows → map (λ (r : Vec ℕ Global). r.items) rows ≡ map joined_groups nodes → nodes ≡ g.nodes → goals ≡ g.goals → it ≡ end → Walks (row now) [] [] goals (outcome it) → WalksAll g (outcome end)
+pub walked : (g : Graph) (rows now : List (Vec ℕ Global)) (nodes : List Node) (goals : List ℕ) (end : End) (it : End) → now ≡ rows → map (λ (r : Vec ℕ Global). r.items) rows ≡ map joined_groups nodes → nodes ≡ g.nodes → goals ≡ g.goals → it ≡ end → Walks (row now) [] [] goals (walk_end it) → WalksAll g (walk_end end)
 walked g rows now nodes goals end it now_is are nodes_are goals_are it_is w =
-    let w1 : Walks (row now) [] [] goals (outcome end) = subst (λ (e : End). Walks (row now) [] [] goals (outcome e)) it_is w in
-    let w2 : Walks (row rows) [] [] goals (outcome end) = subst (λ (l : List (Vec ℕ Global)). Walks (row l) [] [] goals (outcome end)) now_is w1 in
-    let w3 : Walks (row rows) [] [] g.goals (outcome end) = subst (λ (l : List ℕ). Walks (row rows) [] [] l (outcome end)) goals_are w2 in
-    walks_graph g rows (are ∙ ap (λ (l : List Node). map joined_groups l) nodes_are) (outcome end) w3
+    let w1 : Walks (row now) [] [] goals (walk_end end) = subst (λ (e : End). Walks (row now) [] [] goals (walk_end e)) it_is w in
+    let w2 : Walks (row rows) [] [] goals (walk_end end) = subst (λ (l : List (Vec ℕ Global)). Walks (row l) [] [] goals (walk_end end)) now_is w1 in
+    let w3 : Walks (row rows) [] [] g.goals (walk_end end) = subst (λ (l : List ℕ). Walks (row rows) [] [] l (walk_end end)) goals_are w2 in
+    walks_graph g rows (are ∙ ap (λ (l : List Node). map joined_groups l) nodes_are) (walk_end end) w3

@@ -6,7 +6,7 @@ use Rattle.mk_graph.specs.declared.walk.Frame.{Frame}
 use Rattle.mk_graph.specs.declared.walk.Mark.{Mark}
 use Rattle.mk_graph.specs.declared.walk.Mark.TheVariants.{New, UnderWay, Finished}
 use Rattle.mk_graph.specs.Membership.{Has}
-use Rattle.mk_graph.specs.Walk.{Outcome, Through, Closes, closed_path, Walks, ends, passes, closes, breaks, finishes}
+use Rattle.mk_graph.specs.Walk.{WalkEnd, Through, Closes, closed_path, Walks, ends, passes, closes, breaks, finishes}
 use Rattle.mk_graph.specs.Progress.{row, IsMark, AreMarks}
 
 -- the nodes of frames
@@ -27,21 +27,21 @@ module _ (needs : ℕ → List ℕ) where
   left_of frame = drop frame.walked (needs frame.node)
 
   -- With these frames, the innermost first, and these nodes finished, the rest of the walk ends so.
-  abbrev pub Resumes : List Frame → List ℕ → Outcome → Type 0
+  abbrev pub Resumes : List Frame → List ℕ → WalkEnd → Type 0
   Resumes [] finished end = Through finished ≡ end
   Resumes (frame ∷ frames) finished end = ((path : List ℕ) × Walks needs (frame.node ∷ nodes_of frames) finished (left_of frame) (Closes path) × (Closes path ≡ end)) ⊎ ((middle : List ℕ) × Walks needs (frame.node ∷ nodes_of frames) finished (left_of frame) (Through middle) × Resumes frames (frame.node ∷ middle) end)
 
   -- a walk of one node begins with its frame
-  pub begins : (n : ℕ) (finished : List ℕ) (end : Outcome) → ¬ (Has finished n) → Resumes (begun n ∷ []) finished end → Walks needs [] finished (n ∷ []) end
+  pub begins : (n : ℕ) (finished : List ℕ) (end : WalkEnd) → ¬ (Has finished n) → Resumes (begun n ∷ []) finished end → Walks needs [] finished (n ∷ []) end
   begins n finished end unfinished (inl r) = subst (λ e. Walks needs [] finished (n ∷ []) e) r.2 (breaks (λ h. h) unfinished r.1)
   begins n finished end unfinished (inr r) = subst (λ e. Walks needs [] finished (n ∷ []) e) r.2 (finishes (λ h. h) unfinished r.1 ends)
 
   -- a frame with nothing left is finished
-  pub finishes_frame : (frame : Frame) (frames : List Frame) (finished : List ℕ) (end : Outcome) → left_of frame ≡ [] → Resumes frames (frame.node ∷ finished) end → Resumes (frame ∷ frames) finished end
+  pub finishes_frame : (frame : Frame) (frames : List Frame) (finished : List ℕ) (end : WalkEnd) → left_of frame ≡ [] → Resumes frames (frame.node ∷ finished) end → Resumes (frame ∷ frames) finished end
   finishes_frame frame frames finished end none r = inr (finished, subst (λ l. Walks needs (frame.node ∷ nodes_of frames) finished l (Through finished)) (sym none) ends, r)
 
   -- a finished prerequisite is passed over
-  pub passes_over : (frame : Frame) (frames : List Frame) (finished : List ℕ) (p : ℕ) (end : Outcome) → left_of frame ≡ p ∷ left_of (advanced frame) → Has finished p → Resumes (advanced frame ∷ frames) finished end → Resumes (frame ∷ frames) finished end
+  pub passes_over : (frame : Frame) (frames : List Frame) (finished : List ℕ) (p : ℕ) (end : WalkEnd) → left_of frame ≡ p ∷ left_of (advanced frame) → Has finished p → Resumes (advanced frame ∷ frames) finished end → Resumes (frame ∷ frames) finished end
   passes_over frame frames finished p end next there (inl r) =
       inl (r.0, subst (λ l. Walks needs (frame.node ∷ nodes_of frames) finished l (Closes r.0)) (sym next) (passes there r.1), r.2)
   passes_over frame frames finished p end next there (inr r) =
@@ -54,7 +54,7 @@ module _ (needs : ℕ → List ℕ) where
       inl (path, subst (λ l. Walks needs (frame.node ∷ nodes_of frames) finished l (Closes path)) (sym next) (closes there), refl)
 
   -- a new prerequisite begins
-  pub goes_down : (frame : Frame) (frames : List Frame) (finished : List ℕ) (p : ℕ) (end : Outcome) → left_of frame ≡ p ∷ left_of (advanced frame) → ¬ (Has (frame.node ∷ nodes_of frames) p) → ¬ (Has finished p) → Resumes (begun p ∷ advanced frame ∷ frames) finished end → Resumes (frame ∷ frames) finished end
+  pub goes_down : (frame : Frame) (frames : List Frame) (finished : List ℕ) (p : ℕ) (end : WalkEnd) → left_of frame ≡ p ∷ left_of (advanced frame) → ¬ (Has (frame.node ∷ nodes_of frames) p) → ¬ (Has finished p) → Resumes (begun p ∷ advanced frame ∷ frames) finished end → Resumes (frame ∷ frames) finished end
   goes_down frame frames finished p end next new unfinished (inl r) =
       inl (r.0, subst (λ l. Walks needs (frame.node ∷ nodes_of frames) finished l (Closes r.0)) (sym next) (breaks new unfinished r.1), r.2)
   goes_down frame frames finished p end next new unfinished (inr (middle, w, inl r)) =

@@ -4,12 +4,12 @@ use Rattle.std.specs.declared.alloc.Global.{Global}
 use Rattle.std.proofs.lemmas.List.{drop_more, drop_all, get_or-replicate, length-replicate}
 use Rattle.mk_graph.specs.declared.walk.Mark.{Mark}
 use Rattle.mk_graph.specs.declared.walk.Mark.TheVariants.{New}
-use Rattle.mk_graph.specs.Walk.{Outcome, Through, Closes, Walks, ends, passes, closes, breaks, finishes}
+use Rattle.mk_graph.specs.Walk.{WalkEnd, Through, Closes, Walks, ends, passes, closes, breaks, finishes}
 use Rattle.mk_graph.specs.Progress.{row, IsMark, AreMarks}
 
 module _ (needs : ℕ → List ℕ) where
   -- one node, and then the others
-  then_walks : {under finished todo middle : List ℕ} {n : ℕ} {end : Outcome} → Walks needs under finished (n ∷ []) (Through middle) → Walks needs under middle todo end → Walks needs under finished (n ∷ todo) end
+  then_walks : {under finished todo middle : List ℕ} {n : ℕ} {end : WalkEnd} → Walks needs under finished (n ∷ []) (Through middle) → Walks needs under middle todo end → Walks needs under finished (n ∷ todo) end
   then_walks (passes in_it ends) v = passes in_it v
   then_walks (finishes new unfinished w ends) v = finishes new unfinished w v
 
@@ -22,7 +22,7 @@ module _ (needs : ℕ → List ℕ) where
 
 -- Marks and an order agree, and whatever end the walk of the goals from this place on has, the whole walk has.
 pub record HasWalked (rows : List (Vec ℕ Global)) (goals : List ℕ) (place : ℕ) (marks : List Mark) (order : List ℕ) : Type 0 where
-  pub resumes : (end : Outcome) → Walks (row rows) [] (reverse order) (drop place goals) end → Walks (row rows) [] [] goals end
+  pub resumes : (end : WalkEnd) → Walks (row rows) [] (reverse order) (drop place goals) end → Walks (row rows) [] [] goals end
   pub marked : AreMarks marks [] (reverse order)
   pub sizes : length marks ≡ length rows
 

@@ -8,7 +8,7 @@ use Rattle.mk_graph.specs.declared.walk.Frame.{Frame}
 use Rattle.mk_graph.specs.declared.walk.Mark.{Mark}
 use Rattle.mk_graph.specs.declared.walk.Mark.TheVariants.{New, UnderWay, Finished}
 use Rattle.mk_graph.specs.Membership.{Has}
-use Rattle.mk_graph.specs.Walk.{Outcome, Through, Closes, closed_path, Walks}
+use Rattle.mk_graph.specs.Walk.{WalkEnd, Through, Closes, closed_path, Walks}
 use Rattle.mk_graph.specs.Progress.{row, AreRows, IsMark, AreMarks}
 use Rattle.mk_graph.proofs.Members.{Has-get_or}
 use Rattle.mk_graph.proofs.Frames.{nodes_of, advanced, begun, left_of, Resumes, begins, finishes_frame, passes_over, closes_path, goes_down, marks_begin, marks_finish, weight, weight_of, weight-set, frames_weight}
@@ -16,7 +16,7 @@ use Rattle.mk_graph.proofs.Frames.{nodes_of, advanced, begun, left_of, Resumes, 
 -- Frames, outermost first, marks and an order agree, and whatever end the rest of the walk has from there,
 -- the walk of the goal from the start has.
 pub record IsUnderWay (rows : List (Vec ℕ Global)) (start : List ℕ) (goal : ℕ) (marks : List Mark) (frames : List Frame) (order : List ℕ) : Type 0 where
-  pub resumes : (end : Outcome) → Resumes (row rows) (reverse frames) (reverse order) end → Walks (row rows) [] (reverse start) (goal ∷ []) end
+  pub resumes : (end : WalkEnd) → Resumes (row rows) (reverse frames) (reverse order) end → Walks (row rows) [] (reverse start) (goal ∷ []) end
   pub marked : AreMarks marks (nodes_of (reverse frames)) (reverse order)
   pub within : All (λ (frame : Frame). frame.node < length rows) frames
 
@@ -60,7 +60,7 @@ module _ (rows : List (Vec ℕ Global)) where
     within = subst (λ (l : List Frame). All (λ (f : Frame). f.node < length rows) l) popped is.within
 
     -- what is left goes on from it
-    resumes : (end : Outcome) → Resumes (row rows) (frame ∷ reverse frames) (reverse order) end → Walks (row rows) [] (reverse start) (goal ∷ []) end
+    resumes : (end : WalkEnd) → Resumes (row rows) (frame ∷ reverse frames) (reverse order) end → Walks (row rows) [] (reverse start) (goal ∷ []) end
     resumes end r = is.resumes end (subst (λ (l : List Frame). Resumes (row rows) l (reverse order) end) (sym inner) r)
 
     -- the innermost frame's node is one

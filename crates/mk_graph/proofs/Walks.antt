@@ -2,7 +2,7 @@
 use Rattle.std.proofs.Common.{◌≡◌, ℕ, eqb, List, [], ◌∷◌, ◌++◌, ◌⊎◌, inl, inr, refl, sym, subst}
 use Rattle.std.proofs.lemmas.Bool.{cond_both}
 use Rattle.mk_graph.specs.Membership.{Has, IsDistinct}
-use Rattle.mk_graph.specs.Walk.{Outcome, Through, Closes, path_from, Walks, ends, passes, closes, breaks, finishes}
+use Rattle.mk_graph.specs.Walk.{WalkEnd, Through, Closes, path_from, Walks, ends, passes, closes, breaks, finishes}
 use Rattle.mk_graph.proofs.Members.{Has-append_cases}
 
 module _ (needs : ℕ → List ℕ) where
@@ -78,7 +78,7 @@ module _ (needs : ℕ → List ℕ) where
   same_finished a b e = cc
 
   -- a walk has one end
-  pub one_end : {under finished todo : List ℕ} {a b : Outcome} → AreApart under finished → Walks needs under finished todo a → Walks needs under finished todo b → a ≡ b
+  pub one_end : {under finished todo : List ℕ} {a b : WalkEnd} → AreApart under finished → Walks needs under finished todo a → Walks needs under finished todo b → a ≡ b
   one_end apart ends ends = refl
   one_end apart (passes in_it w) (passes in_it' w') = one_end apart w w'
   one_end apart (passes {n} in_it w) (closes u) = absurd (apart n u in_it)

@@ -3,10 +3,10 @@ use Rattle.std.specs.Prelude.{◌≡◌, ℕ, ◌<◌, ◌≤◌, List, [], leng
 use Rattle.mk_graph.specs.declared.fault.GraphFault.{GraphFault}
 use Rattle.mk_graph.specs.declared.fault.GraphFault.TheVariants.{Cycle, TooManyNodes, Memory}
 use Rattle.mk_graph.specs.Graph.{Graph, node, prerequisites}
-use Rattle.mk_graph.specs.Walk.{Outcome, Through, Closes, Walks}
+use Rattle.mk_graph.specs.Walk.{WalkEnd, Through, Closes, Walks}
 
 -- a walk of the whole graph from its goals ends so
-abbrev pub WalksAll : Graph → Outcome → Type 0
+abbrev pub WalksAll : Graph → WalkEnd → Type 0
 WalksAll g end = Walks (prerequisites g) [] [] g.goals end
 
 -- Over 4,096 nodes are too many. Else the walk closes a path, whose names the fault has, or it comes through,

@@ -2,7 +2,7 @@
 use Rattle.std.specs.Prelude.{◌≡◌, ℕ, List, [], ◌∷◌, ◌++◌, not, filter, ◌↔◌}
 use Rattle.mk_graph.specs.Membership.{Has, has, IsDistinct}
 use Rattle.mk_graph.specs.Graph.{Graph, prerequisites, Reached, Leads, HasNoCycle, IsSound}
-use Rattle.mk_graph.specs.Walk.{Outcome, Through, Closes}
+use Rattle.mk_graph.specs.Walk.{WalkEnd, Through, Closes}
 use Rattle.mk_graph.specs.Build.{WalksAll}
 use Rattle.mk_graph.specs.Serial.{serial_from, serial_order}
 
@@ -29,11 +29,11 @@ GoalsDecideWhatComesFirst = (g : Graph) → HasNoCycle g → (first others : Lis
 
 -- A walk of a sound graph has an end.
 abbrev pub WalkHasAnEnd : Type 0
-WalkHasAnEnd = (g : Graph) → IsSound g → (end : Outcome) × WalksAll g end
+WalkHasAnEnd = (g : Graph) → IsSound g → (end : WalkEnd) × WalksAll g end
 
 -- It has no other.
 abbrev pub WalkHasOneEnd : Type 0
-WalkHasOneEnd = (g : Graph) (one other : Outcome) → WalksAll g one → WalksAll g other → one ≡ other
+WalkHasOneEnd = (g : Graph) (one other : WalkEnd) → WalksAll g one → WalksAll g other → one ≡ other
 
 -- the path goes from the first node to the second, each of its nodes but the first a direct prerequisite of the one before
 pub data GoesAlong (g : Graph) : ℕ → ℕ → List ℕ → Type 0 where

@@ -5,3 +5,11 @@ pub mod Walk
 pub mod Build
 pub mod Progress
 pub mod Laws
+pub mod Setting
+pub mod World
+pub mod Turns
+pub mod Schedule
+pub mod Clean
+pub mod Ways
+pub mod Right
+pub mod BuildLaws

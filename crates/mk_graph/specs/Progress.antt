@@ -6,7 +6,7 @@ use Rattle.mk_graph.specs.declared.walk.Mark.TheVariants.{New, UnderWay, Finishe
 use Rattle.mk_graph.specs.declared.walk.End.{End}
 use Rattle.mk_graph.specs.declared.walk.End.TheVariants.{Order, Cycle}
 use Rattle.mk_graph.specs.Membership.{Has}
-use Rattle.mk_graph.specs.Walk.{Outcome, Through, Closes}
+use Rattle.mk_graph.specs.Walk.{WalkEnd, Through, Closes}
 
 -- the row of a node, and no row for what is no node
 abbrev pub row : List (Vec ℕ Global) → ℕ → List ℕ
@@ -27,11 +27,11 @@ abbrev pub AreMarks : List Mark → (under finished : List ℕ) → Type 0
 AreMarks marks under finished = (n : ℕ) → n < length marks → IsMark (slice_index_or marks n New) under finished n
 
 -- how a walk ended that found this path, or else has finished these nodes, the last one first
-abbrev pub ending : Option (Vec ℕ Global) → List ℕ → Outcome
+abbrev pub ending : Option (Vec ℕ Global) → List ℕ → WalkEnd
 ending None finished = Through finished
 ending (Some path) finished = Closes path.items
 
--- the outcome that an end stands for
-abbrev pub outcome : End → Outcome
-outcome (Order order) = Through (reverse order.items)
-outcome (Cycle path) = Closes path.items
+-- the walk_end that an end stands for
+abbrev pub walk_end : End → WalkEnd
+walk_end (Order order) = Through (reverse order.items)
+walk_end (Cycle path) = Closes path.items

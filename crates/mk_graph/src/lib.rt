@@ -3,6 +3,7 @@
 
 mod fault;
 mod graph;
+pub mod build_laws;
 pub mod laws;
 mod name;
 mod node;

@@ -4,7 +4,7 @@
 ghost use Rattle.std.specs.Prelude.{◌≡◌, ℕ, ◌<◌, ◌++◌, [], ◌∷◌, length, reverse, map, IfOk, IfNone, slice_set};
 ghost use Rattle.mk_graph.specs.Membership.{Has};
 ghost use Rattle.mk_graph.specs.Walk.{Walks, closed_path};
-ghost use Rattle.mk_graph.specs.Progress.{row, AreRows, AreMarks, ending, outcome};
+ghost use Rattle.mk_graph.specs.Progress.{row, AreRows, AreMarks, ending, walk_end};
 
 use std::alloc::{AllocError, Global};
 
@@ -39,7 +39,7 @@ pub enum End {
 pub fn walk(alloc: Global, rows: &[Vec<usize>], goals: &[usize]) -> Result<End, AllocError>
     requires rows { AreRows rows.now }
     requires goals { (n : ℕ) → Has goals.now n → n < length rows.now }
-    ensures { IfOk result (λ end. Walks (row rows.now) [] [] goals.now (outcome end)) }
+    ensures { IfOk result (λ end. Walks (row rows.now) [] [] goals.now (walk_end end)) }
 {
     let mut marks = vec![in alloc; Mark::New; rows.len()]?;
     let mut order = Vec::with_capacity(alloc, rows.len())?;
