@@ -10,3 +10,5 @@ pub mod Building
 pub mod Orders
 pub mod Cycles
 pub mod Fixtures
+pub mod Turning
+pub mod Changes
