@@ -12,3 +12,4 @@ pub mod Cycles
 pub mod Fixtures
 pub mod Turning
 pub mod Changes
+pub mod InOrder
