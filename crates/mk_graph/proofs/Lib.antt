@@ -13,3 +13,6 @@ pub mod Fixtures
 pub mod Turning
 pub mod Changes
 pub mod InOrder
+pub mod Invariant
+pub mod Sound
+pub mod Writing

@@ -1,0 +1,101 @@
+-- The invariant over a writing of a file that none but a running recipe writes.
+use Rattle.std.proofs.Common.{◌≡◌, ℕ, ◌+◌, ◌<◌, ◌≤◌, List, [], ◌∷◌, true, false, Option, Some, None, map, ◌⊎◌, inl, inr, ⊎_elim, refl, sym, ◌∙◌, ap, subst, arith}
+use Rattle.std.specs.Option.{option_map}
+use Rattle.mk_graph.specs.Membership.{Has}
+use Rattle.mk_graph.specs.Graph.{Graph, node, prerequisites}
+use Rattle.mk_graph.specs.Setting.{FileName, Setting, name, reads, writes}
+use Rattle.mk_graph.specs.World.{File, Disk, content, HasStamp, written}
+use Rattle.mk_graph.specs.Turns.{Before}
+use Rattle.mk_graph.specs.Schedule.{MustRun}
+use Rattle.mk_graph.specs.Ways.{CanChange}
+use Rattle.mk_graph.proofs.Changes.{cases_name, changed_here, changed_there}
+use Rattle.mk_graph.proofs.Invariant.{Past, IsLater, HasRunWhole, IsUntouched, WasThrough, Fits}
+
+-- two lists of what is found at names are equal where it is equal at each
+pub map_same : {A : Type 0} (one other : FileName → A) (files : List FileName) → ((f : FileName) → Has files f → one f ≡ other f) → map one files ≡ map other files
+map_same one other [] same = refl
+map_same one other (f ∷ files) same = let here = same f (inl refl) in let rest = map_same one other files (λ h there. same h (inr there)) in cc
+
+-- two stamps of one file are equal
+pub one_stamp : (d : Disk) (f : FileName) (a b : ℕ) → HasStamp d f a → HasStamp d f b → a ≡ b
+one_stamp d f a b at_a at_b = let both : Some a ≡ Some b = sym at_a ∙ at_b in cc
+
+module _ (d : Disk) (f : FileName) (c : ℕ) where
+  -- the file that is written holds what was written
+  pub content_here : (h : FileName) → f ≡ h → content (written d f c) h ≡ Some c
+  content_here h same = ap (λ o. option_map (λ (file : File). file.content) o) (changed_here d.files f h (Some (record { content = c; stamp = d.clock + 1 })) same)
+
+  -- another one holds what it held
+  pub content_there : (h : FileName) → ¬ (f ≡ h) → content (written d f c) h ≡ content d h
+  content_there h differ = ap (λ o. option_map (λ (file : File). file.content) o) (changed_there d.files f h (Some (record { content = c; stamp = d.clock + 1 })) differ)
+
+  -- the file that is written has the next stamp
+  pub stamp_here : (h : FileName) → f ≡ h → HasStamp (written d f c) h (d.clock + 1)
+  stamp_here h same = ap (λ o. option_map (λ (file : File). file.stamp) o) (changed_here d.files f h (Some (record { content = c; stamp = d.clock + 1 })) same)
+
+  -- and no other
+  pub stamp_is : (h : FileName) (stamp : ℕ) → f ≡ h → HasStamp (written d f c) h stamp → stamp ≡ d.clock + 1
+  stamp_is h stamp same has = one_stamp (written d f c) h stamp (d.clock + 1) has (stamp_here h same)
+
+  -- another file has the stamp that it had
+  pub stamp_there : (h : FileName) (stamp : ℕ) → ¬ (f ≡ h) → HasStamp (written d f c) h stamp → HasStamp d h stamp
+  stamp_there h stamp differ has = sym (ap (λ o. option_map (λ (file : File). file.stamp) o) (changed_there d.files f h (Some (record { content = c; stamp = d.clock + 1 })) differ)) ∙ has
+
+  -- and keeps it
+  pub stamp_kept : (h : FileName) (stamp : ℕ) → ¬ (f ≡ h) → HasStamp d h stamp → HasStamp (written d f c) h stamp
+  stamp_kept h stamp differ has = ap (λ o. option_map (λ (file : File). file.stamp) o) (changed_there d.files f h (Some (record { content = c; stamp = d.clock + 1 })) differ) ∙ has
+
+module _ (g : Graph) (s : Setting) (p : Past) (running : List ℕ) (d : Disk) (fits : Fits g s p running d) (f : FileName) (c : ℕ) (can : CanChange s f) (only : (t : ℕ) → Has (writes g s t) f → Has running t) where
+  -- what isn't running doesn't write the file
+  not_here : (t : ℕ) (h : FileName) → ¬ (Has running t) → Has (writes g s t) h → ¬ (f ≡ h)
+  not_here t h stopped wrote same = stopped (only t (subst (λ (k : FileName). Has (writes g s t) k) (sym same) wrote))
+
+  -- the stamps of what it writes stay
+  own_stamp : (t : ℕ) (h : FileName) (stamp : ℕ) → ¬ (Has running t) → Has (writes g s t) h → HasStamp (written d f c) h stamp → HasStamp d h stamp
+  own_stamp t h stamp stopped wrote has = stamp_there d f c h stamp (not_here t h stopped wrote) has
+
+  -- a file that is written now is later than all of it
+  later_here : (t : ℕ) (h : FileName) → ¬ (Has running t) → f ≡ h → IsLater g s (written d f c) t h
+  later_here t h stopped same = record {
+    stamp = d.clock + 1;
+    has = stamp_here d f c h same;
+    later = λ k old wrote has. let came = fits.stamped k old (own_stamp t k old stopped wrote has) in omega arith;
+  }
+
+  -- a file that was later stays so
+  later_there : (t : ℕ) (h : FileName) → ¬ (Has running t) → ¬ (f ≡ h) → IsLater g s d t h → IsLater g s (written d f c) t h
+  later_there t h stopped differ is = record {
+    stamp = is.stamp;
+    has = stamp_kept d f c h is.stamp differ is.has;
+    later = λ k old wrote has. is.later k old wrote (own_stamp t k old stopped wrote has);
+  }
+
+  -- what has run whole has run whole
+  pub whole_written : (t : ℕ) → ¬ (Has running t) → HasRunWhole g s p d t → HasRunWhole g s p (written d f c) t
+  whole_written t stopped is = record {
+    written = is.written;
+    known = is.known;
+    holds = map_same (content (written d f c)) (content d) (writes g s t) (λ h wrote. content_there d f c h (not_here t h stopped wrote)) ∙ is.holds;
+    reads = λ h read. ⊎_elim (λ same. inr (subst (λ (k : FileName). CanChange s k) same can, later_here t h stopped same)) (λ differ. ⊎_elim (λ sees. inl (content_there d f c h differ ∙ sees)) (λ late. inr (late.0, later_there t h stopped differ late.1)) (is.reads h read)) (cases_name f h);
+  }
+
+  -- what was through was through
+  through_written : (t clock : ℕ) → WasThrough g s running d t clock → WasThrough g s running (written d f c) t clock
+  through_written t clock is = record { stopped = is.stopped; early = λ h stamp wrote has. is.early h stamp wrote (own_stamp t h stamp is.stopped wrote has) }
+
+  -- the disk fits the past after the writing
+  pub fits_written : Fits g s p running (written d f c)
+  fits_written = record {
+    stamped = λ h stamp has. ⊎_elim (λ same. let new = stamp_is d f c h stamp same has in omega arith) (λ differ. let came = fits.stamped h stamp (stamp_there d f c h stamp differ has) in omega arith) (cases_name f h);
+    began = λ t. let came = fits.began t in omega arith;
+    after_begin = λ t h stamp stopped wrote has. fits.after_begin t h stamp stopped wrote (own_stamp t h stamp stopped wrote has);
+    whole = λ t stopped. ⊎_elim (λ none. inl (λ h wrote. changed_there d.files f h (Some (record { content = c; stamp = d.clock + 1 })) (not_here t h stopped wrote) ∙ none h wrote)) (λ is. inr (whole_written t stopped is)) (fits.whole t stopped);
+    apart = λ o t before. ⊎_elim (λ one. inl (through_written o (p.began t) one)) (λ other. inr (through_written t (p.began o) other)) (fits.apart o t before);
+  }
+
+  -- a recipe that must run after the writing had to run before it, if the file is neither its target nor one of its
+  -- direct prerequisites
+  pub must_written : (t : ℕ) → ¬ (f ≡ name g t) → ((q : ℕ) → Has (prerequisites g t) q → ¬ (f ≡ name g q)) → MustRun g (written d f c) t → MustRun g d t
+  must_written t own needs (inl always) = inl always
+  must_written t own needs (inr (inl absent)) = inr (inl (sym (changed_there d.files f (name g t) (Some (record { content = c; stamp = d.clock + 1 })) own) ∙ absent))
+  must_written t own needs (inr (inr (q, stamp, late, need, has, has_late, less))) = inr (inr (q, stamp, late, need, stamp_there d f c (name g t) stamp own has, stamp_there d f c (name g q) late (needs q need) has_late, less))
