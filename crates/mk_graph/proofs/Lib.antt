@@ -16,3 +16,6 @@ pub mod InOrder
 pub mod Invariant
 pub mod Sound
 pub mod Writing
+pub mod Putting
+pub mod Passing
+pub mod Beginning

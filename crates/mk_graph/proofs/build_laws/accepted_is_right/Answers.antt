@@ -1,6 +1,6 @@
-use Rattle.mk_graph.proofs.Invariant.{IsInvariant}
-use Rattle.mk_graph.proofs.Sound.{carried_is_before}
-use Rattle.mk_graph.proofs.Writing.{must_written}
+use Rattle.mk_graph.proofs.Putting.{put_holds, look_holds}
+use Rattle.mk_graph.proofs.Passing.{passed_is_up_to_date}
+use Rattle.mk_graph.proofs.Beginning.{begin_holds}
 use Rattle.mk_graph.proofs.build_laws.accepted_is_right.Goals as goal
 
 pub returns : goal.returns

@@ -1,0 +1,108 @@
+-- The invariant over the begin of a recipe, its end, and the passing of a node.
+use Rattle.std.proofs.Common.{◌≡◌, ℕ, ◌+◌, ◌<◌, ◌≤◌, List, [], ◌∷◌, true, false, Bool, Option, Some, None, map, filter, ◌⊎◌, inl, inr, ⊎_elim, refl, sym, ◌∙◌, ap, subst, arith}
+use Rattle.std.specs.Prelude.{cond, not, nat_eq, is_some, ◌&&◌, unwrap_or, IfSome}
+use Rattle.std.specs.Option.{option_eq, option_flatten}
+use Rattle.std.specs.Bool.{Decides}
+use lib.Pointwise.{pointwise}
+use Rattle.std.proofs.lemmas.Bool.{cases_Bool, cases_eq, cond-true, cond-false, eqb-true, and_parts, false≢true}
+use Rattle.std.proofs.lemmas.Bool.Decides.{Decides-eqb}
+use Rattle.std.proofs.lemmas.Slice.Eq.{slice_eq-Decides}
+use Rattle.mk_graph.specs.Membership.{Has}
+use Rattle.mk_graph.specs.Graph.{Graph, node, IsGraph}
+use Rattle.mk_graph.specs.Setting.{FileName, Setting, reads, writes}
+use Rattle.mk_graph.specs.World.{Outcome, Disk, Making, content, HasStamp, outcome, same_seen}
+use Rattle.mk_graph.specs.Turns.{Before, MayTurn}
+use Rattle.mk_graph.specs.Schedule.{MustRun, Ready, MayEnd, begun, finished, noted, changed_at, seen_by, put_by}
+use Rattle.mk_graph.proofs.Changes.{changed_at_here, changed_at_there}
+use Rattle.mk_graph.proofs.InOrder.{InOrder, runs_not_done, begun_in_order, finished_in_order, Has-without, Has-from_without}
+use Rattle.mk_graph.proofs.Invariant.{Past, HasRunWhole, IsUntouched, WasThrough, Fits, InMake, IsUpToDate, Holds}
+use Rattle.mk_graph.proofs.Writing.{map_same}
+
+-- the past after a recipe began
+pub past_begun : Past → ℕ → ℕ → Past
+past_begun p x clock = record { began = changed_at p.began x clock; saw = p.saw }
+
+module _ (g : Graph) (s : Setting) (p : Past) (start : ℕ) (m : Making) (d : Disk) (fits : Fits g s p m.running d) (is : InMake g s p start m d) (x : ℕ) (ready : Ready g m x) (recipe : (node g x).recipe ≡ true) where
+  -- the begin of another recipe stays
+  began_there : (t : ℕ) → ¬ (x ≡ t) → changed_at p.began x d.clock t ≡ p.began t
+  began_there t differ = changed_at_there p.began x t d.clock differ
+
+  -- its own is now
+  began_here : (t : ℕ) → x ≡ t → changed_at p.began x d.clock t ≡ d.clock
+  began_here t same = changed_at_here p.began x t d.clock same
+
+  -- what doesn't run now is another one, and didn't run before
+  other : (t : ℕ) → ¬ (Has (x ∷ m.running) t) → ¬ (x ≡ t)
+  other t stopped same = stopped (inl same)
+
+  -- a recipe that was through is through, unless it began now
+  through_there : (t clock : ℕ) → ¬ (x ≡ t) → WasThrough g s m.running d t clock → WasThrough g s (x ∷ m.running) d t clock
+  through_there t clock differ was = record { stopped = λ h. ⊎_elim differ was.stopped h; early = was.early }
+
+  -- at this clock all is through that doesn't run
+  through_now : (t clock : ℕ) → ¬ (x ≡ t) → ¬ (Has m.running t) → clock ≡ d.clock → WasThrough g s (x ∷ m.running) d t clock
+  through_now t clock differ stopped now = record { stopped = λ h. ⊎_elim differ stopped h; early = λ f stamp wrote has. let came = fits.stamped f stamp has in omega arith }
+
+  -- of two of which one is before the other, one was through when the other last began
+  apart_begun : (o t : ℕ) → Before g o t → WasThrough g s (x ∷ m.running) d o (changed_at p.began x d.clock t) ⊎ WasThrough g s (x ∷ m.running) d t (changed_at p.began x d.clock o)
+  apart_begun o t before =
+      ⊎_elim (λ same. let o_done : Has m.done o = subst (λ (k : ℕ). Before g o k) (sym same) before recipe m.goals m.done is.order.part is.order.turns ready.0 in inl (through_now o (changed_at p.began x d.clock t) (λ here. ready.0.not_done (subst (λ (k : ℕ). Has m.done k) (sym here) o_done)) (λ runs. runs_not_done g m is.order o runs o_done) (began_here t same))) (λ differ. ⊎_elim (λ same. inr (through_now t (changed_at p.began x d.clock o) differ (λ runs. ready.0.not_done (subst (λ (k : ℕ). Has m.done k) (sym same) (before (is.order.recipes t runs) m.goals m.done is.order.part is.order.turns (is.order.running t runs)))) (began_here o same))) (λ apart. ⊎_elim (λ one. inl (subst (λ (k : ℕ). WasThrough g s (x ∷ m.running) d o k) (sym (began_there t differ)) (through_there o (p.began t) apart one))) (λ two. inr (subst (λ (k : ℕ). WasThrough g s (x ∷ m.running) d t k) (sym (began_there o apart)) (through_there t (p.began o) differ two))) (fits.apart o t before)) (cases_eq x o)) (cases_eq x t)
+
+  -- the disk fits the past after the begin
+  fits_begun : Fits g s (past_begun p x d.clock) (x ∷ m.running) d
+  unfolding past_begun
+  fits_begun = record {
+    stamped = fits.stamped;
+    began = λ t. ⊎_elim (λ same. let now = began_here t same in omega arith) (λ differ. let same = began_there t differ in let came = fits.began t in omega arith) (cases_eq x t);
+    after_begin = λ t f stamp stopped wrote has. let same = began_there t (other t stopped) in let late = fits.after_begin t f stamp (λ runs. stopped (inr runs)) wrote has in omega arith;
+    whole = λ t stopped. ⊎_elim (λ none. inl none) (λ whole. inr (record { written = whole.written; known = whole.known; holds = whole.holds; reads = whole.reads })) (fits.whole t (λ runs. stopped (inr runs)));
+    apart = apart_begun;
+  }
+
+  -- a recipe that has seen something after this runs from before
+  seen_before : (t : ℕ) (f : FileName) (v : Option ℕ) → (begun m x).seen t f ≡ Some v → (¬ (x ≡ t)) × (m.seen t f ≡ Some v)
+  seen_before t f v e =
+      ⊎_elim (λ same. let none : None ≡ Some v = sym (ap (λ (at : FileName → Option (Option ℕ)). at f) (changed_at_here m.seen x t (λ h. None) same)) ∙ e in absurd (cc)) (λ differ. (differ, sym (ap (λ (at : FileName → Option (Option ℕ)). at f) (changed_at_there m.seen x t (λ h. None) differ)) ∙ e)) (cases_eq x t)
+
+  -- nor has it put anything
+  put_before : (t : ℕ) (f : FileName) (c : ℕ) → (begun m x).put t f ≡ Some c → (¬ (x ≡ t)) × (m.put t f ≡ Some c)
+  put_before t f c e =
+      ⊎_elim (λ same. let none : None ≡ Some c = sym (ap (λ (at : FileName → Option ℕ). at f) (changed_at_here m.put x t (λ h. None) same)) ∙ e in absurd (cc)) (λ differ. (differ, sym (ap (λ (at : FileName → Option ℕ). at f) (changed_at_there m.put x t (λ h. None) differ)) ∙ e)) (cases_eq x t)
+
+  -- what runs and isn't the one that began ran before
+  ran : (t : ℕ) → ¬ (x ≡ t) → Has (x ∷ m.running) t → Has m.running t
+  ran t differ h = ⊎_elim (λ here. absurd (differ here)) (λ there. there) h
+
+  -- a done recipe is another one
+  done_differs : (t : ℕ) → Has m.done t → ¬ (x ≡ t)
+  done_differs t done same = ready.0.not_done (subst (λ (k : ℕ). Has m.done k) (sym same) done)
+
+  -- and stays up to date
+  done_begun : (t : ℕ) → Has m.done t → (node g t).recipe ≡ true → IsUpToDate g s (past_begun p x d.clock) start d t
+  unfolding past_begun
+  done_begun t t_done t_recipe =
+      let up = is.done t t_done t_recipe in
+      record {
+        whole = record { written = up.whole.written; known = up.whole.known; holds = up.whole.holds; reads = up.whole.reads };
+        sees = up.sees;
+        settled = ⊎_elim (λ need_not. inl need_not) (λ late. inr (let same = began_there t (done_differs t t_done) in omega arith)) up.settled;
+      }
+
+  -- the invariant after the begin of a recipe
+  pub begin_holds : Holds g s (begun m x) d
+  unfolding past_begun
+  begin_holds = record {
+    past = past_begun p x d.clock;
+    start = start;
+    fits = fits_begun;
+    make = record {
+      order = begun_in_order g m is.order x ready recipe;
+      start_came = is.start_came;
+      seen = λ t f v runs read e. let old = seen_before t f v e in is.seen t f v (ran t old.0 runs) read old.1;
+      put = λ t f c runs wrote e. let old = put_before t f c e in is.put t f c (ran t old.0 runs) wrote old.1;
+      put_late = λ t f c stamp runs wrote e has. let old = put_before t f c e in let same = began_there t old.0 in let late = is.put_late t f c stamp (ran t old.0 runs) wrote old.1 has in omega arith;
+      waits = λ t not_done stopped. let same = began_there t (other t stopped) in let early = is.waits t not_done (λ runs. stopped (inr runs)) in omega arith;
+      runs = λ t runs. ⊎_elim (λ same. let now = began_here t same in let came = is.start_came in omega arith) (λ differ. let same = began_there t differ in let late = is.runs t (ran t differ runs) in omega arith) (cases_eq x t);
+      done = done_begun;
+    };
+  }
