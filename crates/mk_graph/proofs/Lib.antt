@@ -19,3 +19,5 @@ pub mod Writing
 pub mod Putting
 pub mod Passing
 pub mod Beginning
+pub mod Outcomes
+pub mod Ending
