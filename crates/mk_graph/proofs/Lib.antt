@@ -21,3 +21,5 @@ pub mod Passing
 pub mod Beginning
 pub mod Outcomes
 pub mod Ending
+pub mod SerialTurns
+pub mod CleanEnd
