@@ -23,3 +23,5 @@ pub mod Outcomes
 pub mod Ending
 pub mod SerialTurns
 pub mod CleanEnd
+pub mod Histories
+pub mod OneBuild
