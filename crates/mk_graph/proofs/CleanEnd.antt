@@ -37,15 +37,16 @@ open_is_needed [] done n h = absurd h
 open_is_needed (group ∷ groups) done n (inl here) = Has-append_left group (flat_map (λ group. group) groups) n here
 open_is_needed (group ∷ groups) done n (inr there) = Has-append_right group (flat_map (λ group. group) groups) n (open_is_needed groups done n there.1)
 
--- contents that were put agree with what a disk holds, where they are what it holds
-pub put_all_agrees : (d : Disk) (files : List FileName) (cs : List ℕ) (at : Contents) (f : FileName) → map (content d) files ≡ map (λ c. Some c) cs → (at f ≡ content d f) ⊎ Has files f → put_all at files cs f ≡ content d f
-put_all_agrees d [] cs at f e (inl same) = same
-put_all_agrees d [] cs at f e (inr h) = absurd h
-put_all_agrees d (k ∷ files) [] at f e here = absurd (cc)
-put_all_agrees d (k ∷ files) (c ∷ cs) at f e here =
+-- what files hold can be put into them, and then agrees with the disk where it did or where it was put
+pub put_all_agrees : (d : Disk) (files : List FileName) (cs : List ℕ) (at : Contents) → map (content d) files ≡ map (λ c. Some c) cs → (end : Contents) × (put_all at files cs ≡ Some end) × ((f : FileName) → (at f ≡ content d f) ⊎ Has files f → end f ≡ content d f)
+put_all_agrees d [] [] at e = (at, refl, λ f why. ⊎_elim (λ same. same) (λ h. absurd h) why)
+put_all_agrees d [] (c ∷ cs) at e = absurd (cc)
+put_all_agrees d (k ∷ files) [] at e = absurd (cc)
+put_all_agrees d (k ∷ files) (c ∷ cs) at e =
     let at_k : content d k ≡ Some c = cc in
     let rest : map (content d) files ≡ map (λ c. Some c) cs = cc in
-    put_all_agrees d files cs (changed at k (Some c)) f rest (⊎_elim (λ same. inl (changed_here at k f (Some c) same ∙ (sym at_k ∙ ap (content d) same))) (λ differ. ⊎_elim (λ before. inl (changed_there at k f (Some c) differ ∙ before)) (λ among. ⊎_elim (λ same. absurd (differ same)) (λ later. inr later) among) here) (cases_name k f))
+    let more = put_all_agrees d files cs (changed at k (Some c)) rest in
+    (more.0, more.1, λ f why. more.2 f (⊎_elim (λ same. inl (changed_here at k f (Some c) same ∙ (sym at_k ∙ ap (content d) same))) (λ differ. ⊎_elim (λ before. inl (changed_there at k f (Some c) differ ∙ before)) (λ among. ⊎_elim (λ same. absurd (differ same)) (λ later. inr later) among) why) (cases_name k f)))
 
 -- the recipe's files hold the outcome of what its reads hold
 pub record IsFresh (g : Graph) (s : Setting) (d : Disk) (t : ℕ) : Type 0 where
@@ -86,8 +87,9 @@ module _ (g : Graph) (s : Setting) (graph : IsGraph g) (sound : AreSound g s) (d
     agrees_with : (node g n).recipe ≡ true → IsFresh g s d n → BuildAgrees (n ∷ ns)
     unfolding Agrees
     agrees_with e fresh =
-        let ran : run_clean g s d.known before.0 n ≡ Some (put_all before.0 (writes g s n) fresh.written) = ap (λ (l : List (Option ℕ)). option_map (put_all before.0 (writes g s n)) (outcome d.known n l)) sees_disk ∙ ap (λ (o : Option (List ℕ)). option_map (put_all before.0 (writes g s n)) o) fresh.known in
-        (put_all before.0 (writes g s n) fresh.written, one_more ∙ (cond-true (node g n).recipe (run_clean g s d.known before.0 n) (Some before.0) e ∙ ran), λ f why. put_all_agrees d (writes g s n) fresh.written before.0 f fresh.holds (⊎_elim (λ among. inr among) (λ out. inl (before.2 f (⊎_elim (λ given. inl given) (λ wrote. ⊎_elim (λ here. absurd (out (subst (λ (k : ℕ). Has (writes g s k) f) (sym here) wrote.2))) (λ there. inr (wrote.0, there, wrote.2)) wrote.1) why))) (cases_among (writes g s n) f)))
+        let put = put_all_agrees d (writes g s n) fresh.written before.0 fresh.holds in
+        let ran : run_clean g s d.known before.0 n ≡ Some put.0 = ap (λ (l : List (Option ℕ)). option_and_then (put_all before.0 (writes g s n)) (outcome d.known n l)) sees_disk ∙ (ap (λ (o : Option (List ℕ)). option_and_then (put_all before.0 (writes g s n)) o) fresh.known ∙ put.1) in
+        (put.0, one_more ∙ (cond-true (node g n).recipe (run_clean g s d.known before.0 n) (Some before.0) e ∙ ran), λ f why. put.2 f (⊎_elim (λ among. inr among) (λ out. inl (before.2 f (⊎_elim (λ given. inl given) (λ wrote. ⊎_elim (λ here. absurd (out (subst (λ (k : ℕ). Has (writes g s k) f) (sym here) wrote.2))) (λ there. inr (wrote.0, there, wrote.2)) wrote.1) why))) (cases_among (writes g s n) f)))
 
   -- the clean build of a turn list whose recipes are fresh
   build_agrees : (ns : List ℕ) → Turns g goals ns → ((n : ℕ) → Has ns n → (node g n).recipe ≡ true → IsFresh g s d n) → BuildAgrees ns

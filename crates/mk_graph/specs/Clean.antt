@@ -1,5 +1,5 @@
 -- Clean builds: what files hold where all recipes that some goals reach are run from nothing but given files.
-use Rattle.std.specs.Prelude.{◌≡◌, ℕ, List, [], ◌∷◌, Option, Some, None, option_map, option_and_then, filter, map, fold, if◌then◌else◌, true}
+use Rattle.std.specs.Prelude.{◌≡◌, ℕ, List, [], ◌∷◌, Option, Some, None, option_and_then, filter, map, fold, if◌then◌else◌, true}
 use Rattle.mk_graph.specs.Membership.{Has, has}
 use Rattle.mk_graph.specs.Graph.{Graph, node, Reached}
 use Rattle.mk_graph.specs.Serial.{serial_from}
@@ -14,14 +14,15 @@ Contents = FileName → Option ℕ
 abbrev pub given_contents : Setting → Disk → Contents
 given_contents s d f = if is_given s f then content d f else None
 
--- the contents after these were written into these files, one after another
-abbrev pub put_all : Contents → List FileName → List ℕ → Contents
+-- the contents after these were written into these files, one after another, where they are as many
+abbrev pub put_all : Contents → List FileName → List ℕ → Option Contents
+put_all at [] [] = Some at
 put_all at (f ∷ files) (c ∷ cs) = put_all (changed at f (Some c)) files cs
-put_all at files cs = at
+put_all at files cs = None
 
 -- the contents after a whole run of a recipe, if its outcome is among these
 abbrev pub run_clean : Graph → Setting → List Outcome → Contents → ℕ → Option Contents
-run_clean g s outcomes at t = option_map (put_all at (writes g s t)) (outcome outcomes t (map at (reads g s t)))
+run_clean g s outcomes at t = option_and_then (put_all at (writes g s t)) (outcome outcomes t (map at (reads g s t)))
 
 -- the contents after a node was made: its recipe is run, if it has one
 abbrev pub make_clean : Graph → Setting → List Outcome → Contents → ℕ → Option Contents
