@@ -25,3 +25,4 @@ pub mod SerialTurns
 pub mod CleanEnd
 pub mod Histories
 pub mod OneBuild
+pub mod Numbered

@@ -1,17 +1,28 @@
 -- Laws of builds: of turn lists, of legal histories, and of what is accepted.
-use Rattle.std.specs.Prelude.{◌≡◌, ℕ, List, [], ◌∷◌, reverse, true, ◌↔◌}
+use Rattle.std.specs.Prelude.{◌≡◌, ℕ, ◌+◌, ◌≤◌, List, [], ◌∷◌, ◌++◌, length, sum_by, reverse, true, Option, Some}
 use Rattle.mk_graph.specs.Membership.{Has}
 use Rattle.mk_graph.specs.Graph.{Graph, node, HasNoCycle, IsGraph}
-use Rattle.mk_graph.specs.Setting.{Setting}
-use Rattle.mk_graph.specs.World.{Disk, World, Idle, Busy, IsStart}
+use Rattle.mk_graph.specs.Setting.{FileName, Setting, writes}
+use Rattle.mk_graph.specs.World.{Outcome, Disk, World, Idle, Busy, IsStart, IsFirst, content, disk_of, last_stamp}
 use Rattle.mk_graph.specs.Turns.{MayTurn, Turns, IsPart, Before}
 use Rattle.mk_graph.specs.Schedule.{Step, Edit, Make, Begin, Look, Put, End, Pass, Stop, EndMake, Ready, IsLegal, after_all}
-use Rattle.mk_graph.specs.Clean.{order_of}
+use Rattle.mk_graph.specs.Clean.{Contents, given_contents, order_of, clean_build}
+use Rattle.mk_graph.specs.SerialMake.{RunsSerially}
 use Rattle.mk_graph.specs.Right.{AreSound, HaveWays, IsRightAt, IsRight}
+
+-- The first disk of a world is a start.
+abbrev pub FirstIsAStart : Type 0
+FirstIsAStart = (g : Graph) (s : Setting) (d : Disk) → IsFirst g s d → IsStart s d
 
 -- In a graph without cycles the serial order of any part of the goals is a turn list for this part.
 abbrev pub SerialOrderIsATurnList : Type 0
 SerialOrderIsATurnList = (g : Graph) → HasNoCycle g → (goals : List ℕ) → IsPart goals g.goals → Turns g goals (reverse (order_of g goals))
+
+-- Where the clean build of a part of the goals has a value, the history is legal that makes them with one job, runs
+-- each recipe of their serial order whole, passes the other nodes and ends, if there are stamps for all its writings;
+-- and it leaves what the clean build gives.
+abbrev pub SerialMakeIsLegal : Type 0
+SerialMakeIsLegal = (g : Graph) (s : Setting) (outcomes : List Outcome) (d : Disk) (goals : List ℕ) (clean : Contents) → HasNoCycle g → IsPart goals g.goals → IsStart s d → clean_build g s outcomes (given_contents s d) goals ≡ Some clean → d.clock + sum_by (λ t. length (writes g s t)) (order_of g goals) ≤ last_stamp → (steps : List Step) × RunsSerially g s outcomes (given_contents s d) (order_of g goals) steps clean × IsLegal g s (Idle d) (Make 1 goals ∷ (steps ++ EndMake ∷ [])) × ((f : FileName) → content (disk_of (after_all g s (Idle d) (Make 1 goals ∷ (steps ++ EndMake ∷ [])))) f ≡ clean f)
 
 -- Whether a node is before another one, makes of all goals tell.
 abbrev pub AllGoalsSuffice : Type 0

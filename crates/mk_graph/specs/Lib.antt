@@ -10,6 +10,7 @@ pub mod World
 pub mod Turns
 pub mod Schedule
 pub mod Clean
+pub mod SerialMake
 pub mod Ways
 pub mod Right
 pub mod BuildLaws

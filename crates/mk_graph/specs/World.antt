@@ -1,8 +1,13 @@
 -- Worlds: what files hold and how old they are, what recipes are known to give, and the make in progress.
-use Rattle.std.specs.Prelude.{◌≡◌, ℕ, ◌+◌, ◌<◌, ◌≤◌, List, [], ◌∷◌, Bool, true, ◌&&◌, ◌==◌, Option, Some, None, option_map, if◌then◌else◌, bytes_eq, nat_eq}
+use Rattle.std.specs.Prelude.{◌≡◌, ℕ, ◌+◌, ◌<◌, ◌≤◌, List, [], ◌∷◌, Bool, true, ◌&&◌, ◌==◌, Option, Some, None, option_map, if◌then◌else◌, bytes_eq, nat_eq, length, ◌⊎◌, ◌↔◌}
 use Rattle.std.specs.Option.{option_eq}
+use Rattle.std.specs.declared.cmp.Ordering.TheVariants.{Less}
+use Rattle.std.specs.Ordering.{nat_cmp}
+use Rattle.std.specs.Cmp.Lexicographic.{slice_cmp}
 use lib.Pointwise.{pointwise}
-use Rattle.mk_graph.specs.Setting.{FileName, Setting, is_given}
+use Rattle.mk_graph.specs.Membership.{Has}
+use Rattle.mk_graph.specs.Graph.{Graph}
+use Rattle.mk_graph.specs.Setting.{FileName, Setting, is_given, name, reads, writes}
 
 -- What a file holds, as a number, and the stamp of its last writing. Of two stamps the greater is the later.
 pub record File : Type 0 where
@@ -36,6 +41,11 @@ pub record Making : Type 0 where
 pub data World : Type 0 where
   Idle : (disk : Disk) → World
   Busy : (making : Making) (disk : Disk) → World
+
+-- the disk of a world
+abbrev pub disk_of : World → Disk
+disk_of (Idle d) = d
+disk_of (Busy m d) = d
 
 -- what the file holds, and nothing where it is absent
 abbrev pub content : Disk → FileName → Option ℕ
@@ -71,3 +81,30 @@ pub record IsStart (s : Setting) (d : Disk) : Type 0 where
   pub nothing_known : d.known ≡ []
   pub given : (f : FileName) (file : File) → d.files f ≡ Some file → is_given s f ≡ true
   pub stamped : (f : FileName) (file : File) → d.files f ≡ Some file → file.stamp ≤ d.clock
+
+-- the place of a name in a list, counted from 1
+abbrev pub place_of : List FileName → FileName → Option ℕ
+place_of [] f = None
+place_of (h ∷ names) f = if bytes_eq h f then Some 1 else option_map (λ place. place + 1) (place_of names f)
+
+-- the disk on which each of these names has its place as content and stamp, and nothing else is there or known
+abbrev pub numbered : List FileName → Disk
+numbered names = record { files = λ f. option_map (λ place. record { content = place; stamp = place }) (place_of names f); clock = length names; known = [] }
+
+-- the names stand in the order of their bytes, each once
+abbrev pub AreAscending : List FileName → Type 0
+AreAscending [] = Unit {0}
+AreAscending (f ∷ []) = Unit {0}
+AreAscending (f ∷ h ∷ names) = (slice_cmp nat_cmp f h ≡ Less) × AreAscending (h ∷ names)
+
+-- A name of the world is that of a node or of a source, or one that a recipe reads or writes.
+abbrev pub IsOfWorld : Graph → Setting → FileName → Type 0
+IsOfWorld g s f = ((n : ℕ) × (n < length g.nodes) × (name g n ≡ f)) ⊎ Has s.sources f ⊎ ((t : ℕ) × (Has (reads g s t) f ⊎ Has (writes g s t) f))
+
+-- On the first disk of a world its given names have the contents and stamps 1, 2, 3 and so on, in the order of their
+-- bytes.
+pub record IsFirst (g : Graph) (s : Setting) (d : Disk) : Type 0 where
+  pub names : List FileName
+  pub ascending : AreAscending names
+  pub given : (f : FileName) → Has names f ↔ (IsOfWorld g s f × (is_given s f ≡ true))
+  pub disk : d ≡ numbered names

@@ -1,11 +1,24 @@
 //! Laws of builds. Each is the contract of a function that does nothing: who calls it has the law.
 
-ghost use Rattle.mk_graph.specs.BuildLaws.{SerialOrderIsATurnList, AllGoalsSuffice, BeforeHoldsInHistories, OneBuildIsRight, AcceptedIsRight};
+ghost use Rattle.mk_graph.specs.BuildLaws.{FirstIsAStart, SerialOrderIsATurnList, SerialMakeIsLegal, AllGoalsSuffice, BeforeHoldsInHistories, OneBuildIsRight, AcceptedIsRight};
+
+/// The first disk of a world, on which just its given names are there, numbered in the order of
+/// their bytes, is a start in the sense of the other laws.
+pub fn first_is_a_start()
+    ensures { FirstIsAStart }
+{}
 
 /// In a graph without cycles the serial order of any part of the goals is a turn list: each node's
 /// turn may come when those before it are done.
 pub fn serial_order_is_a_turn_list()
     ensures { SerialOrderIsATurnList }
+{}
+
+/// Where the clean build of a part of the goals has a value, the history is legal that makes them
+/// with one job, runs each recipe of their serial order whole, passes the other nodes and ends, if
+/// there are stamps for all its writings; and it leaves what the clean build gives.
+pub fn serial_make_is_legal()
+    ensures { SerialMakeIsLegal }
 {}
 
 /// Whether a node is before another one, makes of all goals tell.
