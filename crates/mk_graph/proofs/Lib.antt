@@ -26,3 +26,5 @@ pub mod CleanEnd
 pub mod Histories
 pub mod OneBuild
 pub mod Numbered
+pub mod WholeRuns
+pub mod SerialHistory

@@ -39,7 +39,7 @@ module _ (d : Disk) (o : Outcome) where
   noted_known w e = cond-true (is_some (outcome d.known o.recipe o.seen)) d.known (o ∷ d.known) (ap (λ (x : Option (List ℕ)). is_some x) e)
 
   -- else the outcome is
-  noted_unknown : outcome d.known o.recipe o.seen ≡ None → (noted d o).known ≡ o ∷ d.known
+  pub noted_unknown : outcome d.known o.recipe o.seen ≡ None → (noted d o).known ≡ o ∷ d.known
   noted_unknown e = cond-false (is_some (outcome d.known o.recipe o.seen)) d.known (o ∷ d.known) (ap (λ (x : Option (List ℕ)). is_some x) e)
 
   -- an outcome is known or isn't

@@ -1,0 +1,158 @@
+-- A make with one job that runs each recipe of the serial order whole is legal, and leaves what the clean build gives.
+use Rattle.std.proofs.Common.{append-nil, ◌≡◌, ℕ, zero, suc, ◌+◌, ◌<◌, ◌≤◌, List, [], ◌∷◌, ◌++◌, length, reverse, true, false, Option, Some, None, map, filter, fold, ◌⊎◌, inl, inr, ⊎_elim, refl, sym, ◌∙◌, ap, subst, arith}
+use Rattle.std.specs.Prelude.{cond, nat_eq, not, sum_by}
+use Rattle.std.specs.Option.{option_and_then, option_map}
+use Rattle.std.proofs.lemmas.Bool.{cases_Bool, cond-true, cond-false, true≢false}
+use Rattle.std.proofs.lemmas.List.{append_assoc, reverse-reverse}
+use Rattle.std.proofs.lemmas.List.Sums.{sum_by-cons}
+use mathlib.Core.List.{reverse-cons}
+use Rattle.mk_graph.specs.Membership.{Has, has}
+use Rattle.mk_graph.specs.Graph.{Graph, node, HasNoCycle}
+use Rattle.mk_graph.specs.Serial.{visits}
+use Rattle.mk_graph.specs.Setting.{FileName, Setting, is_given, reads, writes}
+use Rattle.mk_graph.specs.World.{File, Outcome, Disk, Making, World, Idle, Busy, IsStart, content, last_stamp, outcome, disk_of}
+use Rattle.mk_graph.specs.Turns.{HasAll, MayTurn, Turns, IsPart}
+use Rattle.mk_graph.specs.Schedule.{Step, Make, Pass, EndMake, after, make_of, IsLegal, after_all}
+use Rattle.mk_graph.specs.Clean.{Contents, given_contents, put_all, run_clean, make_clean, make_all_clean, order_of, clean_build}
+use Rattle.mk_graph.specs.SerialMake.{puts, whole_run, RunsSerially, ends, passes, runs}
+use Rattle.mk_graph.proofs.Members.{Has-reverse}
+use Rattle.mk_graph.proofs.Turning.{HasAll-has, HasAll-from}
+use Rattle.mk_graph.proofs.SerialTurns.{serial_turns, order_is, order_back, goal_is_chosen}
+use Rattle.mk_graph.proofs.Passing.{cases_file}
+use Rattle.mk_graph.proofs.WholeRuns.{legal_append, after_append, quiet, Arrives, whole_run_legal}
+
+-- what the recipes of these nodes write, in number
+abbrev pub writes_of : Graph → Setting → List ℕ → ℕ
+writes_of g s ns = sum_by (λ t. length (writes g s t)) ns
+
+-- each node's turn may come when the nodes before it in the list are done, behind these
+abbrev pub TurnOn : Graph → (goals done : List ℕ) → List ℕ → Type 0
+TurnOn g goals done [] = Unit {0}
+TurnOn g goals done (n ∷ ns) = MayTurn g goals done n × TurnOn g goals (n ∷ done) ns
+
+-- the end of a turn list is one
+turns_end : (g : Graph) (goals front back : List ℕ) → Turns g goals (front ++ back) → Turns g goals back
+turns_end g goals [] back turns = turns
+turns_end g goals (n ∷ front) back turns = turns_end g goals front back turns.1
+
+-- a turn list, the first node first
+turn_on : (g : Graph) (goals ns done : List ℕ) → Turns g goals (reverse ns ++ done) → TurnOn g goals done ns
+turn_on g goals [] done turns = tt
+turn_on g goals (n ∷ ns) done turns =
+    let split : reverse (n ∷ ns) ++ done ≡ reverse ns ++ (n ∷ done) = ap (λ (l : List ℕ). l ++ done) (reverse-cons n ns) ∙ append_assoc (reverse ns) (n ∷ []) done in
+    let there = subst (λ (l : List ℕ). Turns g goals l) split turns in
+    ((turns_end g goals (reverse ns) (n ∷ done) there).0, turn_on g goals ns (n ∷ done) there)
+
+module _ (g : Graph) (s : Setting) (outcomes : List Outcome) where
+  -- no clean build goes on without a value
+  none_stays : (ns : List ℕ) → make_all_clean g s outcomes None ns ≡ None
+  none_stays [] = refl
+  none_stays (n ∷ ns) = none_stays ns
+
+  module _ (n : ℕ) (ns : List ℕ) (at clean : Contents) (more : (new : Contents) → make_all_clean g s outcomes (Some new) ns ≡ Some clean → (steps : List Step) × RunsSerially g s outcomes new ns steps clean) where
+    -- where the contents can be put
+    with_contents : (node g n).recipe ≡ true → (cs : List ℕ) → outcome outcomes n (map at (reads g s n)) ≡ Some cs → (o : Option Contents) → put_all at (writes g s n) cs ≡ o → make_all_clean g s outcomes o ns ≡ Some clean → (steps : List Step) × RunsSerially g s outcomes at (n ∷ ns) steps clean
+    with_contents recipe cs found None put e = let none : None ≡ Some clean = sym (none_stays ns) ∙ e in absurd (cc)
+    with_contents recipe cs found (Some new) put e = let rest = more new e in (whole_run g s n cs ++ rest.0, runs cs new recipe found put rest.1)
+
+    -- where the node has a recipe
+    with_recipe : (node g n).recipe ≡ true → (o : Option (List ℕ)) → outcome outcomes n (map at (reads g s n)) ≡ o → make_all_clean g s outcomes (option_and_then (put_all at (writes g s n)) o) ns ≡ Some clean → (steps : List Step) × RunsSerially g s outcomes at (n ∷ ns) steps clean
+    with_recipe recipe None found e = let none : None ≡ Some clean = sym (none_stays ns) ∙ e in absurd (cc)
+    with_recipe recipe (Some cs) found e = with_contents recipe cs found (put_all at (writes g s n) cs) refl e
+
+    -- where it has or hasn't
+    with_node : make_all_clean g s outcomes (make_clean g s outcomes at n) ns ≡ Some clean → (steps : List Step) × RunsSerially g s outcomes at (n ∷ ns) steps clean
+    with_node e =
+        ⊎_elim (λ recipe. with_recipe recipe (outcome outcomes n (map at (reads g s n))) refl (subst (λ (o : Option Contents). make_all_clean g s outcomes o ns ≡ Some clean) (cond-true (node g n).recipe (run_clean g s outcomes at n) (Some at) recipe) e)) (λ none. let rest = more at (subst (λ (o : Option Contents). make_all_clean g s outcomes o ns ≡ Some clean) (cond-false (node g n).recipe (run_clean g s outcomes at n) (Some at) none) e) in (Pass n ∷ rest.0, passes none rest.1)) (cases_Bool (node g n).recipe)
+
+  -- a clean build that has a value is a serial run
+  pub runs_from : (ns : List ℕ) (at clean : Contents) → make_all_clean g s outcomes (Some at) ns ≡ Some clean → (steps : List Step) × RunsSerially g s outcomes at ns steps clean
+  runs_from [] at clean e = let same : at ≡ clean = cc in ([], subst (λ (k : Contents). RunsSerially g s outcomes at [] [] k) same ends)
+  runs_from (n ∷ ns) at clean e = with_node n ns at clean (λ new rest. runs_from ns new clean rest) e
+
+module _ (g : Graph) (s : Setting) (outcomes : List Outcome) (goals : List ℕ) where
+  -- a serial run from a quiet make is legal, and arrives at its end
+  abbrev IsLegalRun : (ns done : List ℕ) → (steps : List Step) → (w : World) → Contents → (clock : ℕ) → Type 0
+  IsLegalRun ns done steps w end clock = IsLegal g s w steps × Arrives g s goals (reverse ns ++ done) end (clock + writes_of g s ns) (after_all g s w steps)
+
+  -- the nodes done behind one more
+  done_behind : (n : ℕ) (ns done : List ℕ) → reverse ns ++ (n ∷ done) ≡ reverse (n ∷ ns) ++ done
+  done_behind n ns done = sym (append_assoc (reverse ns) (n ∷ []) done) ∙ sym (ap (λ (l : List ℕ). l ++ done) (reverse-cons n ns))
+
+  -- the clock behind one more
+  clock_behind : (clock n : ℕ) (ns : List ℕ) → (clock + length (writes g s n)) + writes_of g s ns ≡ clock + writes_of g s (n ∷ ns)
+  clock_behind clock n ns = let more = sum_by-cons (λ (t : ℕ). length (writes g s t)) n ns in omega arith
+
+  -- no file is written by what has no recipe
+  writes_none : (n : ℕ) → (node g n).recipe ≡ false → length (writes g s n) ≡ 0
+  writes_none n none = ap (λ (l : List FileName). length l) (cond-false (node g n).recipe (s.writes (node g n).name) [] none)
+
+  -- a pass from a quiet make
+  passed : (n : ℕ) (done : List ℕ) (at : Contents) (clock : ℕ) (w : World) → Arrives g s goals done at clock w → (node g n).recipe ≡ false → MayTurn g goals done n → IsLegal g s w (Pass n ∷ []) × Arrives g s goals (n ∷ done) at (clock + length (writes g s n)) (after g s w (Pass n))
+  passed n done at clock w arrived none may =
+      subst (λ (k : World). IsLegal g s k (Pass n ∷ []) × Arrives g s goals (n ∷ done) at (clock + length (writes g s n)) (after g s k (Pass n))) (sym arrived.is) ((((may, λ h. h), inl none), tt), record { seen = arrived.seen; put = arrived.put; disk = arrived.disk; is = refl; holds = arrived.holds; unknown = λ t saw out. arrived.unknown t saw (λ h. out (inr h)); clock_is = let same = arrived.clock_is in let zero_writes = writes_none n none in omega arith })
+
+  -- a whole run from a quiet make
+  ran : (t : ℕ) (done cs : List ℕ) (at new : Contents) (clock : ℕ) (w : World) → Arrives g s goals done at clock w → (node g t).recipe ≡ true → MayTurn g goals done t → put_all at (writes g s t) cs ≡ Some new → clock + length (writes g s t) ≤ last_stamp → IsLegal g s w (whole_run g s t cs) × Arrives g s goals (t ∷ done) new (clock + length (writes g s t)) (after_all g s w (whole_run g s t cs))
+  ran t done cs at new clock w arrived recipe may puts_all room =
+      let now = whole_run_legal g s goals t done at new cs arrived.seen arrived.put arrived.disk arrived.holds (let same = arrived.clock_is in omega arith) puts_all may recipe arrived.unknown in
+      subst (λ (k : World). IsLegal g s k (whole_run g s t cs) × Arrives g s goals (t ∷ done) new (clock + length (writes g s t)) (after_all g s k (whole_run g s t cs))) (sym arrived.is) (now.0, subst (λ (k : ℕ). Arrives g s goals (t ∷ done) new (k + length (writes g s t)) (after_all g s (Busy (quiet g s goals done arrived.seen arrived.put) arrived.disk) (whole_run g s t cs))) arrived.clock_is now.1)
+
+  -- then the rest
+  joined : (n : ℕ) (ns done : List ℕ) (first rest : List Step) (w : World) (end : Contents) (clock : ℕ) → IsLegal g s w first → IsLegalRun ns (n ∷ done) rest (after_all g s w first) end (clock + length (writes g s n)) → IsLegalRun (n ∷ ns) done (first ++ rest) w end clock
+  joined n ns done first rest w end clock legal more =
+      (legal_append g s w first rest legal more.0, subst (λ (k : World). Arrives g s goals (reverse (n ∷ ns) ++ done) end (clock + writes_of g s (n ∷ ns)) k) (sym (after_append g s w first rest)) (subst (λ (l : List ℕ). Arrives g s goals l end (clock + writes_of g s (n ∷ ns)) (after_all g s (after_all g s w first) rest)) (done_behind n ns done) (subst (λ (k : ℕ). Arrives g s goals (reverse ns ++ (n ∷ done)) end k (after_all g s (after_all g s w first) rest)) (clock_behind clock n ns) more.1)))
+
+  -- each serial run is legal
+  pub serial_legal : {at end : Contents} {ns : List ℕ} {steps : List Step} → RunsSerially g s outcomes at ns steps end → (done : List ℕ) (clock : ℕ) (w : World) → TurnOn g goals done ns → clock + writes_of g s ns ≤ last_stamp → Arrives g s goals done at clock w → IsLegalRun ns done steps w end clock
+  serial_legal ends done clock w turns room arrived = (tt, record { seen = arrived.seen; put = arrived.put; disk = arrived.disk; is = arrived.is; holds = arrived.holds; unknown = arrived.unknown; clock_is = let same = arrived.clock_is in omega arith })
+  serial_legal (passes {at = at} {end = end} {n = n} {ns = ns} {steps = steps} none more) done clock w turns room arrived =
+      let now = passed n done at clock w arrived none turns.0 in
+      let after_room = clock_behind clock n ns in
+      joined n ns done (Pass n ∷ []) steps w end clock now.0 (serial_legal more (n ∷ done) (clock + length (writes g s n)) (after g s w (Pass n)) turns.1 (omega arith) now.1)
+  serial_legal (runs {at = at} {end = end} {t = t} {ns = ns} {steps = steps} cs new recipe found puts_all more) done clock w turns room arrived =
+      let after_room = clock_behind clock t ns in
+      let now = ran t done cs at new clock w arrived recipe turns.0 puts_all (omega arith) in
+      joined t ns done (whole_run g s t cs) steps w end clock now.0 (serial_legal more (t ∷ done) (clock + length (writes g s t)) (after_all g s w (whole_run g s t cs)) turns.1 (omega arith) now.1)
+
+-- at a start just the contents of given files are there
+given_at_start : (s : Setting) (d : Disk) → IsStart s d → (f : FileName) → content d f ≡ given_contents s d f
+given_at_start s d start f = ⊎_elim (λ given. sym (cond-true (is_given s f) (content d f) None given)) (λ not_given. cases (d.files f) refl not_given) (cases_Bool (is_given s f)) where
+  cases : (o : Option File) → d.files f ≡ o → is_given s f ≡ false → content d f ≡ given_contents s d f
+  cases None e not_given = ap (λ (x : Option File). option_map (λ (y : File). y.content) x) e ∙ sym (cond-false (is_given s f) (content d f) None not_given)
+  cases (Some file) e not_given = absurd (true≢false (sym (start.given f file e) ∙ not_given))
+
+module _ (g : Graph) (s : Setting) (outcomes : List Outcome) (d : Disk) (goals : List ℕ) (clean : Contents) (is : HasNoCycle g) (part : IsPart goals g.goals) (start : IsStart s d) (has_value : clean_build g s outcomes (given_contents s d) goals ≡ Some clean) (room : d.clock + writes_of g s (order_of g goals) ≤ last_stamp) where
+  -- the serial run of the clean build
+  run : (steps : List Step) × RunsSerially g s outcomes (given_contents s d) (order_of g goals) steps clean
+  run = runs_from g s outcomes (order_of g goals) (given_contents s d) clean has_value
+
+  -- the make at its begin
+  at_begin : Arrives g s goals [] (given_contents s d) d.clock (Busy (make_of 1 goals) d)
+  at_begin = record { seen = λ t f. None; put = λ t f. None; disk = d; is = refl; holds = given_at_start s d start; unknown = λ t saw out. subst (λ (l : List Outcome). outcome l t saw ≡ None) (sym start.nothing_known) refl; clock_is = refl }
+
+  -- the nodes of the order may turn one after another
+  turns : TurnOn g goals [] (order_of g goals)
+  turns = turn_on g goals (order_of g goals) [] (subst (λ (l : List ℕ). Turns g goals l) (sym (append-nil (reverse (order_of g goals)) ∙ order_is g is goals)) (serial_turns g is goals).0)
+
+  -- the run is legal
+  legal_run : IsLegalRun g s outcomes goals (order_of g goals) [] run.0 (Busy (make_of 1 goals) d) clean d.clock
+  legal_run = serial_legal g s outcomes goals run.1 [] d.clock (Busy (make_of 1 goals) d) turns room at_begin
+
+  -- then all goals are done
+  goals_are_done : HasAll (reverse (order_of g goals) ++ []) goals
+  goals_are_done =
+      let serial = serial_turns g is goals in
+      subst (λ (l : List ℕ). HasAll l goals) (sym (append-nil (reverse (order_of g goals)) ∙ order_is g is goals)) (HasAll-from (visits g [] (filter (has goals) g.goals)) goals (λ n h. HasAll-has (visits g [] (filter (has goals) g.goals)) (filter (has goals) g.goals) n serial.1 (goal_is_chosen g is goals g.goals n (HasAll-has g.goals goals n part.within h) h)))
+
+  -- the make may end, and leaves what the clean build gives
+  ends_there : IsLegal g s (after_all g s (Busy (make_of 1 goals) d) run.0) (EndMake ∷ []) × ((f : FileName) → content (disk_of (after_all g s (after_all g s (Busy (make_of 1 goals) d) run.0) (EndMake ∷ []))) f ≡ clean f)
+  ends_there =
+      let arrived = legal_run.1 in
+      subst (λ (w : World). IsLegal g s w (EndMake ∷ []) × ((f : FileName) → content (disk_of (after_all g s w (EndMake ∷ []))) f ≡ clean f)) (sym arrived.is) (((goals_are_done, refl), tt), arrived.holds)
+
+  -- the serial make
+  pub serial_make : (steps : List Step) × RunsSerially g s outcomes (given_contents s d) (order_of g goals) steps clean × IsLegal g s (Idle d) (Make 1 goals ∷ (steps ++ EndMake ∷ [])) × ((f : FileName) → content (disk_of (after_all g s (Idle d) (Make 1 goals ∷ (steps ++ EndMake ∷ [])))) f ≡ clean f)
+  serial_make =
+      let begin = Busy (make_of 1 goals) d in
+      (run.0, run.1, ((omega arith, part), legal_append g s begin run.0 (EndMake ∷ []) legal_run.0 ends_there.0), λ f. ap (λ (w : World). content (disk_of w) f) (after_append g s begin run.0 (EndMake ∷ [])) ∙ ends_there.1 f)
