@@ -1,9 +1,9 @@
 -- Laws of builds: of turn lists, of legal histories, and of what is accepted.
-use Rattle.std.specs.Prelude.{◌≡◌, ℕ, ◌+◌, ◌≤◌, List, [], ◌∷◌, ◌++◌, length, sum_by, reverse, true, Option, Some}
+use Rattle.std.specs.Prelude.{◌≡◌, ℕ, suc, ◌+◌, ◌<◌, ◌≤◌, List, [], ◌∷◌, ◌++◌, length, sum_by, reverse, true, Option, Some}
 use Rattle.mk_graph.specs.Membership.{Has}
 use Rattle.mk_graph.specs.Graph.{Graph, node, HasNoCycle, IsGraph}
 use Rattle.mk_graph.specs.Setting.{FileName, Setting, writes}
-use Rattle.mk_graph.specs.World.{Outcome, Disk, World, Idle, Busy, IsStart, IsFirst, content, disk_of, last_stamp}
+use Rattle.mk_graph.specs.World.{Outcome, Disk, Making, World, Idle, Busy, IsStart, IsFirst, content, disk_of, last_stamp}
 use Rattle.mk_graph.specs.Turns.{MayTurn, Turns, IsPart, Before}
 use Rattle.mk_graph.specs.Schedule.{Step, Edit, Make, Begin, Look, Put, End, Pass, Stop, EndMake, Ready, IsLegal, after_all}
 use Rattle.mk_graph.specs.Clean.{Contents, given_contents, order_of, clean_build}
@@ -36,6 +36,10 @@ IsDoneWhenReady g o t (Busy m d) = Ready g m t → Has m.done o
 -- Where o is before t, which has a recipe, o is done whenever t is ready, in each legal history of each setting.
 abbrev pub BeforeHoldsInHistories : Type 0
 BeforeHoldsInHistories = (g : Graph) (o t : ℕ) → (node g t).recipe ≡ true → Before g o t → (s : Setting) (d : Disk) (steps : List Step) → IsStart s d → IsLegal g s (Idle d) steps → IsDoneWhenReady g o t (after_all g s (Idle d) steps)
+
+-- Recipes run together: two that are ready may begin one behind the other, whatever else runs, if there are jobs for both.
+abbrev pub ReadyRecipesRunTogether : Type 0
+ReadyRecipesRunTogether = (g : Graph) (s : Setting) (m : Making) (d : Disk) (a b : ℕ) → Ready g m a → Ready g m b → ¬ (a ≡ b) → (node g a).recipe ≡ true → (node g b).recipe ≡ true → suc (length m.running) < m.jobs → IsLegal g s (Busy m d) (Begin a ∷ Begin b ∷ [])
 
 -- the step is taken inside a make
 abbrev pub IsInside : Step → Type 0

@@ -1,6 +1,6 @@
 //! Laws of builds. Each is the contract of a function that does nothing: who calls it has the law.
 
-ghost use Rattle.mk_graph.specs.BuildLaws.{FirstIsAStart, SerialOrderIsATurnList, SerialMakeIsLegal, AllGoalsSuffice, BeforeHoldsInHistories, OneBuildIsRight, AcceptedIsRight};
+ghost use Rattle.mk_graph.specs.BuildLaws.{FirstIsAStart, SerialOrderIsATurnList, SerialMakeIsLegal, AllGoalsSuffice, BeforeHoldsInHistories, ReadyRecipesRunTogether, OneBuildIsRight, AcceptedIsRight};
 
 /// The first disk of a world, on which just its given names are there, numbered in the order of
 /// their bytes, is a start in the sense of the other laws.
@@ -30,6 +30,12 @@ pub fn all_goals_suffice()
 /// legal history of each setting.
 pub fn before_holds_in_histories()
     ensures { BeforeHoldsInHistories }
+{}
+
+/// Two recipes that are ready may begin one behind the other, whatever else runs, if there are jobs
+/// for both.
+pub fn ready_recipes_run_together()
+    ensures { ReadyRecipesRunTogether }
 {}
 
 /// Where footprints are sound and races are none, one make of any part of the goals from a start
