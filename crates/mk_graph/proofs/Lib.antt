@@ -10,3 +10,4 @@ pub mod Building
 pub mod Orders
 pub mod Cycles
 pub mod Fixtures
+pub mod Parts

@@ -33,7 +33,7 @@ IsInside (Look t f) = Unit {0}
 IsInside (Put t f c) = Unit {0}
 IsInside (End t) = Unit {0}
 IsInside (Pass n) = Unit {0}
-IsInside step = ⊥
+IsInside other = ⊥
 
 -- all of them are
 abbrev pub AreInside : List Step → Type 0

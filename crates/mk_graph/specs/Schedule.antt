@@ -34,7 +34,7 @@ seen_by g s m t = map (λ f. option_flatten (m.seen t f)) (reads g s t)
 
 -- what it has put, in the order of its writes
 abbrev pub put_by : Graph → Setting → Making → ℕ → List ℕ
-put_by g s m t = map (λ f. unwrap_or 0 (m.put t f)) (writes g s t)
+put_by g s m t = map (λ f. unwrap_or (m.put t f) 0) (writes g s t)
 
 -- A recipe that runs has come to its end: it has seen all its reads and put all its writes, and has put what is known
 -- of a run that saw the same.
@@ -55,7 +55,7 @@ Allowed g s (Busy m d) (End t) = MayEnd g s m d t
 Allowed g s (Busy m d) (Pass n) = Ready g m n × (((node g n).recipe ≡ false) ⊎ (¬ (MustRun g d n)))
 Allowed g s (Busy m d) Stop = m.running ≡ []
 Allowed g s (Busy m d) EndMake = HasAll m.done m.goals × (m.running ≡ [])
-Allowed g s world step = ⊥
+Allowed g s world other = ⊥
 
 -- what was known of recipes, changed at one
 abbrev pub changed_at : {A : Type 0} → (ℕ → A) → ℕ → A → ℕ → A
@@ -96,7 +96,7 @@ after g s (Busy m d) (End t) = Busy (finished m t) (noted d (record { recipe = t
 after g s (Busy m d) (Pass n) = Busy (finished m n) d
 after g s (Busy m d) Stop = Idle d
 after g s (Busy m d) EndMake = Idle d
-after g s world step = world
+after g s world other = world
 
 -- A legal history: the first step is allowed in this world, and each next one in the world that those before it leave.
 abbrev pub IsLegal : Graph → Setting → World → List Step → Type 0

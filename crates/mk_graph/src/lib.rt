@@ -1,9 +1,9 @@
 //! Graphs of makefile targets: nodes, cycles and the serial order.
 #![tactic(auto)]
 
+pub mod build_laws;
 mod fault;
 mod graph;
-pub mod build_laws;
 pub mod laws;
 mod name;
 mod node;
