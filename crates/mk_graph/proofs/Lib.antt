@@ -11,3 +11,5 @@ pub mod Orders
 pub mod Cycles
 pub mod Fixtures
 pub mod Parts
+pub mod Sets
+pub mod Loops

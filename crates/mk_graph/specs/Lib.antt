@@ -13,3 +13,5 @@ pub mod Clean
 pub mod Ways
 pub mod Right
 pub mod BuildLaws
+pub mod Bits
+pub mod Without

@@ -4,16 +4,21 @@
 pub mod build_laws;
 mod fault;
 mod graph;
+mod greedy;
 pub mod laws;
 mod name;
 mod node;
+mod node_set;
+mod order;
 mod prerequisites;
 mod walk;
 
 pub use fault::GraphFault;
 pub use graph::{Graph, MAX_NODES};
+pub use greedy::Greedy;
 pub use name::{Groups, Name, Names};
 pub use node::Node;
+pub use order::Order;
 
 #[cfg(test)]
 mod tests;
