@@ -13,3 +13,5 @@ pub mod Fixtures
 pub mod Parts
 pub mod Sets
 pub mod Loops
+pub mod AllButOne
+pub mod Rounds

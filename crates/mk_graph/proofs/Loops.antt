@@ -1,5 +1,5 @@
 -- Loops over numbers and over groups: what holds of the rest decides what holds of all.
-use Rattle.std.proofs.Common.{◌≡◌, ℕ, ◌+◌, ◌<◌, List, [], ◌∷◌, ◌++◌, length, get_or, drop, map, Vec, inl, inr, ⊎_elim, ◌⊎◌, sym, ap, subst, ◌∙◌}
+use Rattle.std.proofs.Common.{◌≡◌, ℕ, zero, suc, ◌+◌, ◌<◌, List, [], ◌∷◌, ◌++◌, length, get_or, drop, map, Vec, inl, inr, ⊎_elim, ◌⊎◌, sym, ap, subst, ◌∙◌, arith}
 use Rattle.std.specs.Prelude.{◌↔◌}
 use Rattle.std.specs.declared.alloc.Global.{Global}
 use Rattle.std.proofs.lemmas.List.{drop_more}
@@ -39,7 +39,17 @@ HasAll-append ns ms ks = (
 abbrev pub lists : List (Vec ℕ Global) → List (List ℕ)
 lists groups = map (λ (r : Vec ℕ Global). r.items) groups
 
+-- what stands in the group at a place stands in all groups
+Has-joined : (groups : List (Vec ℕ Global)) (i : ℕ) (d : Vec ℕ Global) (n : ℕ) → i < length groups → Has (get_or groups i d).items n → Has (joined (lists groups)) n
+Has-joined [] i d n low h = absurd (omega arith)
+Has-joined (group ∷ groups) zero d n low h = Has-append_left group.items (joined (lists groups)) n h
+Has-joined (group ∷ groups) (suc i) d n low h = Has-append_right group.items (joined (lists groups)) n (Has-joined groups i d n (omega arith) h)
+
 module _ (groups : List (Vec ℕ Global)) (i : ℕ) (group : Vec ℕ Global) (numbers : List ℕ) (low : i < length groups) (is : group ≡ get_or groups i group) (value : numbers ≡ group.items) where
+  -- its members are members of all groups
+  pub group_within : (n : ℕ) → Has numbers n → Has (joined (lists groups)) n
+  group_within n h = Has-joined groups i group n low (subst (λ (v : Vec ℕ Global). Has v.items n) is (subst (λ (l : List ℕ). Has l n) value h))
+
   -- the group at this place comes first of the rest
   pub lists_more : lists (drop i groups) ≡ numbers ∷ lists (drop (i + 1) groups)
   lists_more =

@@ -49,7 +49,10 @@ impl<'a> Order for Greedy<'a> {
         }
         let free = free_of(graph, o);
         let wanted = wanted_with(graph, &free);
-        !(wanted.has(t) && free.has_groups(node.groups.as_slice()))
+        if !wanted.has(t) {
+            return true;
+        }
+        !free.has_groups(node.groups.as_slice())
     }
 }
 
@@ -60,7 +63,10 @@ fn free_of(graph: &Graph, o: usize) -> NodeSet
     let nodes = graph.nodes();
     let mut free = NodeSet::new();
     for n in graph.order() {
-        if *n != o && free.has_groups(nodes[*n].groups.as_slice()) {
+        if *n == o {
+            continue;
+        }
+        if free.has_groups(nodes[*n].groups.as_slice()) {
             free.insert(*n);
         }
     }
