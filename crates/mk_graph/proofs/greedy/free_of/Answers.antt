@@ -1,9 +1,8 @@
 -- The nodes are met in the serial order, and each is kept where it is free.
-use Rattle.std.proofs.Common.{◌≡◌, ℕ, ◌<◌, List, length, get_or, subst, sym, refl, ap, arith, ◌∙◌, false}
+use Rattle.std.proofs.Common.{◌≡◌, ℕ, ◌<◌, List, length, get_or, subst, sym, refl, arith}
 use Rattle.std.proofs.lemmas.Bool.{false≢true}
-use Rattle.mk_graph.specs.declared.node.Node.{Node}
 use Rattle.mk_graph.specs.Turns.{HasAll}
-use Rattle.mk_graph.specs.Graph.{node, prerequisites}
+use Rattle.mk_graph.specs.Graph.{node}
 use Rattle.mk_graph.specs.Without.{joined}
 use Rattle.mk_graph.proofs.Loops.{lists}
 use Rattle.mk_graph.proofs.Rounds.{at_place, free_joins, free_stays, all_free, groups_are}

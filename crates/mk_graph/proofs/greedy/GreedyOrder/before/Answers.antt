@@ -1,11 +1,11 @@
 -- What the two rounds found tells.
-use Rattle.std.proofs.Common.{◌≡◌, ℕ, ◌<◌, List, length, get_or, true, refl, sym, ap, subst, ◌∙◌}
+use Rattle.std.proofs.Common.{◌≡◌, List, get_or, true, refl, sym, ap, ◌∙◌}
 use Rattle.std.proofs.lemmas.Bool.{false≢true}
 use Rattle.mk_graph.specs.declared.node.Node.{Node}
 use Rattle.mk_graph.specs.Graph.{no_node, node}
 use Rattle.mk_graph.proofs.Loops.{lists}
 use Rattle.mk_graph.proofs.AllButOne.{is_before}
-use Rattle.mk_graph.proofs.Rounds.{tells, groups_are}
+use Rattle.mk_graph.proofs.Rounds.{tells}
 use Rattle.mk_graph.proofs.greedy.GreedyOrder.before.Goals as goal
 
 pub returns-then-not-has : goal.returns-then-not-has
