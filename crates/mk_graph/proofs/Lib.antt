@@ -28,3 +28,8 @@ pub mod OneBuild
 pub mod Numbered
 pub mod WholeRuns
 pub mod SerialHistory
+pub mod Parts
+pub mod Sets
+pub mod Loops
+pub mod AllButOne
+pub mod Rounds

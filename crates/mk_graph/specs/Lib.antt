@@ -14,3 +14,5 @@ pub mod SerialMake
 pub mod Ways
 pub mod Right
 pub mod BuildLaws
+pub mod Bits
+pub mod Without

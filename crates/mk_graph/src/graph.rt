@@ -77,6 +77,14 @@ impl Graph {
         self.goals.as_slice()
     }
 
+    /// The serial order, without a copy.
+    pub(crate) fn order(&self) -> &[usize]
+        ensures value { result.now ≡ serial_order self.now }
+        ensures graph { IsGraph self.now }
+    {
+        self.order.as_slice()
+    }
+
     /// The numbers of all nodes in the order in which a make with one job makes them: depth first,
     /// left to right, each node after its prerequisites, once. The prerequisites of a target are
     /// made before it, in the order in which they appear (IEEE Std 1003.1-2024, XCU make, "Target

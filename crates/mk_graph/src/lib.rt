@@ -1,19 +1,24 @@
 //! Graphs of makefile targets: nodes, cycles and the serial order.
 #![tactic(auto)]
 
+pub mod build_laws;
 mod fault;
 mod graph;
-pub mod build_laws;
+mod greedy;
 pub mod laws;
 mod name;
 mod node;
+mod node_set;
+mod order;
 mod prerequisites;
 mod walk;
 
 pub use fault::GraphFault;
 pub use graph::{Graph, MAX_NODES};
+pub use greedy::Greedy;
 pub use name::{Groups, Name, Names};
 pub use node::Node;
+pub use order::Order;
 
 #[cfg(test)]
 mod tests;

@@ -1,0 +1,106 @@
+//! An order that is looked up in the graph anew for each two nodes.
+
+ghost use Rattle.std.specs.Prelude.{◌≡◌, ℕ, ◌<◌, ◌⊎◌, ◌↔◌, length, map};
+ghost use Rattle.mk_graph.specs.Membership.{Has};
+ghost use Rattle.mk_graph.specs.Turns.{InOpenGroup, Wanted};
+ghost use Rattle.mk_graph.specs.Without.{AreFree, joined};
+
+use crate::graph::Graph;
+use crate::node_set::NodeSet;
+use crate::order::Order;
+use std::marker::Model;
+
+/// The order of a graph. It finishes all that can be done without one node, as a make of all goals
+/// would, and sees whether the other one's turn comes.
+#[derive(Drop)]
+pub struct Greedy<'a> {
+    graph: &'a Graph,
+}
+
+impl<'a> Model for Greedy<'a> {
+    ghost use Rattle.mk_graph.specs.Graph as value;
+
+    ghost Value = { value.Graph };
+
+    ghost view = { λ it. it.graph.now };
+}
+
+impl<'a> Greedy<'a> {
+    /// The order of this graph. It takes no time.
+    pub fn new(graph: &'a Graph) -> Greedy<'a>
+        ensures { result ≡ graph.now }
+    {
+        Greedy { graph }
+    }
+}
+
+impl<'a> Order for Greedy<'a> {
+    ghost graph_of = { λ it. it };
+
+    /// The time is linear in nodes and prerequisites. It takes no memory beside 1,024 bytes of the
+    /// machine's stack.
+    fn before(&self, o: usize, t: usize) -> bool {
+        let graph = self.graph;
+        let Some(node) = graph.nodes().get(t) else {
+            return true;
+        };
+        if !node.recipe {
+            return true;
+        }
+        let free = free_of(graph, o);
+        let wanted = wanted_with(graph, &free);
+        if !wanted.has(t) {
+            return true;
+        }
+        !free.has_groups(node.groups.as_slice())
+    }
+}
+
+/// The nodes that can be done without `o`.
+fn free_of(graph: &Graph, o: usize) -> NodeSet
+    ensures { AreFree graph.now o result }
+{
+    let nodes = graph.nodes();
+    let mut free = NodeSet::new();
+    for n in graph.order() {
+        if *n == o {
+            continue;
+        }
+        if free.has_groups(nodes[*n].groups.as_slice()) {
+            free.insert(*n);
+        }
+    }
+    free
+}
+
+/// The nodes that a make of all goals wants once these are done.
+fn wanted_with(graph: &Graph, done: &NodeSet) -> NodeSet
+    ensures { (n : ℕ) → Has result n ↔ Wanted graph.now graph.now.goals done.now n }
+{
+    let nodes = graph.nodes();
+    let order = graph.order();
+    let mut wanted = NodeSet::new();
+    wanted.insert_all(graph.goals());
+    let mut place = order.len();
+    while place > 0 {
+        place -= 1;
+        let n = order[place];
+        if wanted.has(n) {
+            want_open(&mut wanted, done, nodes[n].groups.as_slice());
+        }
+    }
+    wanted
+}
+
+/// Adds what stands in open groups.
+fn want_open(wanted: &mut NodeSet, done: &NodeSet, groups: &[Vec<usize>])
+    requires { (n : ℕ) → Has (joined (map (λ group. group.items) groups.now)) n → n < 4096 }
+    ensures { (n : ℕ) → Has wanted.new n ↔ InOpenGroup done.now (map (λ group. group.items) groups.now) n ⊎ Has wanted.old n }
+{
+    for group in groups {
+        wanted.insert_all(group);
+        if !done.has_all(group) {
+            return;
+        }
+    }
+}
