@@ -7,6 +7,7 @@ use Rattle.mk_graph.specs.World.{Disk, World, Idle, Busy, IsStart}
 use Rattle.mk_graph.specs.Turns.{MayTurn, Turns, IsPart, Before}
 use Rattle.mk_graph.specs.Schedule.{Step, Edit, Make, Begin, Look, Put, End, Pass, Stop, EndMake, Ready, IsLegal, after_all}
 use Rattle.mk_graph.specs.Clean.{order_of}
+use Rattle.mk_graph.specs.Bare.{ShowsNotBefore}
 use Rattle.mk_graph.specs.Right.{AreSound, HaveWays, IsRightAt, IsRight}
 
 -- In a graph without cycles the serial order of any part of the goals is a turn list for this part.
@@ -50,3 +51,8 @@ OneBuildIsRight = (g : Graph) (s : Setting) → IsGraph g → AreSound g s → (
 -- are built.
 abbrev pub AcceptedIsRight : Type 0
 AcceptedIsRight = (g : Graph) (s : Setting) → IsGraph g → AreSound g s → HaveWays g s → IsRight g s
+
+-- Where o isn't before t, a legal history shows it: a make with one job in the setting without files begins t, and o
+-- isn't done in it.
+abbrev pub NotBeforeIsShown : Type 0
+NotBeforeIsShown = (g : Graph) (o t : ℕ) → IsGraph g → ¬ (Before g o t) → (goals ns : List ℕ) × ShowsNotBefore g o t goals ns

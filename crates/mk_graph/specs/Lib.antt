@@ -12,6 +12,7 @@ pub mod Schedule
 pub mod Clean
 pub mod Ways
 pub mod Right
+pub mod Bare
 pub mod BuildLaws
 pub mod Bits
 pub mod Without

@@ -1,6 +1,6 @@
 //! Laws of builds. Each is the contract of a function that does nothing: who calls it has the law.
 
-ghost use Rattle.mk_graph.specs.BuildLaws.{SerialOrderIsATurnList, AllGoalsSuffice, BeforeHoldsInHistories, OneBuildIsRight, AcceptedIsRight};
+ghost use Rattle.mk_graph.specs.BuildLaws.{SerialOrderIsATurnList, AllGoalsSuffice, BeforeHoldsInHistories, NotBeforeIsShown, OneBuildIsRight, AcceptedIsRight};
 
 /// In a graph without cycles the serial order of any part of the goals is a turn list: each node's
 /// turn may come when those before it are done.
@@ -17,6 +17,12 @@ pub fn all_goals_suffice()
 /// legal history of each setting.
 pub fn before_holds_in_histories()
     ensures { BeforeHoldsInHistories }
+{}
+
+/// Where a node isn't before another one, a legal history shows it: a make with one job in which the
+/// other one begins, and the node isn't done.
+pub fn not_before_is_shown()
+    ensures { NotBeforeIsShown }
 {}
 
 /// Where footprints are sound and races are none, one make of any part of the goals from a start
