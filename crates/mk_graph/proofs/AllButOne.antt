@@ -46,7 +46,7 @@ reached_is_node g n sound (goal h) = sound.goals n h
 reached_is_node g n sound (onward {n = m} r h) = sound.edges m n h
 
 -- where anything is wanted, there are goals
-wanted_part : (g : Graph) (goals done : List ℕ) (n : ℕ) → Wanted g goals done n → IsPart goals goals
+pub wanted_part : (g : Graph) (goals done : List ℕ) (n : ℕ) → Wanted g goals done n → IsPart goals goals
 wanted_part g [] done n (wanted_goal h) = absurd h
 wanted_part g (m ∷ goals) done n (wanted_goal h) = record { not_empty = λ e. absurd (cc); within = HasAll-from_Has (m ∷ goals) (m ∷ goals) (λ k t. t) }
 wanted_part g goals done n (wanted_onward {p} w stands) = wanted_part g goals done p w

@@ -33,3 +33,5 @@ pub mod Sets
 pub mod Loops
 pub mod AllButOne
 pub mod Rounds
+pub mod BareBuilds
+pub mod Deciding

@@ -8,6 +8,7 @@ use Rattle.mk_graph.specs.Turns.{MayTurn, Turns, IsPart, Before}
 use Rattle.mk_graph.specs.Schedule.{Step, Edit, Make, Begin, Look, Put, End, Pass, Stop, EndMake, Ready, IsLegal, after_all}
 use Rattle.mk_graph.specs.Clean.{Contents, given_contents, order_of, clean_build}
 use Rattle.mk_graph.specs.SerialMake.{RunsSerially}
+use Rattle.mk_graph.specs.Bare.{ShowsNotBefore}
 use Rattle.mk_graph.specs.Right.{AreSound, HaveWays, IsRightAt, IsRight}
 
 -- The first disk of a world is a start.
@@ -65,3 +66,8 @@ OneBuildIsRight = (g : Graph) (s : Setting) → IsGraph g → AreSound g s → (
 -- are built.
 abbrev pub AcceptedIsRight : Type 0
 AcceptedIsRight = (g : Graph) (s : Setting) → IsGraph g → AreSound g s → HaveWays g s → IsRight g s
+
+-- Where o isn't before t, a legal history shows it: a make with one job in the setting without files begins t, and o
+-- isn't done in it.
+abbrev pub NotBeforeIsShown : Type 0
+NotBeforeIsShown = (g : Graph) (o t : ℕ) → IsGraph g → ¬ (Before g o t) → (goals ns : List ℕ) × ShowsNotBefore g o t goals ns

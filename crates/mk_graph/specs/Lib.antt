@@ -13,6 +13,7 @@ pub mod Clean
 pub mod SerialMake
 pub mod Ways
 pub mod Right
+pub mod Bare
 pub mod BuildLaws
 pub mod Bits
 pub mod Without

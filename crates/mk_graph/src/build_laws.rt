@@ -1,6 +1,6 @@
 //! Laws of builds. Each is the contract of a function that does nothing: who calls it has the law.
 
-ghost use Rattle.mk_graph.specs.BuildLaws.{FirstIsAStart, SerialOrderIsATurnList, SerialMakeIsLegal, AllGoalsSuffice, BeforeHoldsInHistories, ReadyRecipesRunTogether, OneBuildIsRight, AcceptedIsRight};
+ghost use Rattle.mk_graph.specs.BuildLaws.{FirstIsAStart, SerialOrderIsATurnList, SerialMakeIsLegal, AllGoalsSuffice, BeforeHoldsInHistories, NotBeforeIsShown, ReadyRecipesRunTogether, OneBuildIsRight, AcceptedIsRight};
 
 /// The first disk of a world, on which just its given names are there, numbered in the order of
 /// their bytes, is a start in the sense of the other laws.
@@ -36,6 +36,12 @@ pub fn before_holds_in_histories()
 /// for both.
 pub fn ready_recipes_run_together()
     ensures { ReadyRecipesRunTogether }
+{}
+
+/// Where a node isn't before another one, a legal history shows it: a make with one job in which the
+/// other one begins, and the node isn't done.
+pub fn not_before_is_shown()
+    ensures { NotBeforeIsShown }
 {}
 
 /// Where footprints are sound and races are none, one make of any part of the goals from a start
