@@ -116,7 +116,7 @@ fn is_sound(alloc: Global, nodes: &[Node], goals: &[usize]) -> Result<bool, Allo
 }
 
 /// A node with prerequisites in groups.
-fn node(alloc: Global, name: &str, groups: &[&[usize]]) -> Result<Node, AllocError> {
+pub fn node(alloc: Global, name: &str, groups: &[&[usize]]) -> Result<Node, AllocError> {
     let mut all = Vec::new(alloc);
     for group in groups {
         all.push(Vec::from_slice(alloc, group)?)?;
@@ -130,7 +130,7 @@ fn node(alloc: Global, name: &str, groups: &[&[usize]]) -> Result<Node, AllocErr
 }
 
 /// What becomes of nodes and goals.
-fn built(
+pub fn built(
     rt: &impl Abort,
     alloc: Global,
     nodes: Vec<Node>,
