@@ -1,14 +1,14 @@
 -- What the functions that expand put into their buffers.
-use Rattle.std.specs.Prelude.{◌≡◌, ◌⊎◌, ◌≤◌, ◌<◌, ℕ, zero, suc, ◌||◌, List, [], ◌∷◌, ◌++◌, length, nat_lt, Option, None, Some, Result, Ok, Err, if◌then◌else◌}
+use Rattle.std.specs.Prelude.{◌≡◌, ◌⊎◌, ◌≤◌, ◌<◌, ℕ, zero, suc, ◌||◌, List, [], ◌∷◌, ◌++◌, length, nat_lt, Option, Result, Ok, Err, if◌then◌else◌}
 use Rattle.mk_macros.specs.declared.fault.MacroFault.{MacroFault}
 use Rattle.mk_macros.specs.declared.fault.MacroFault.TheVariants.{ValueTooLong, Memory}
 use Rattle.mk_macros.specs.declared.appending.Used.{Used}
 use Rattle.mk_macros.specs.declared.appending.Piece.{Piece}
 use Rattle.mk_macros.specs.declared.appending.Scope as code
 use Rattle.mk_macros.specs.declared.going.Going as going
-use Rattle.mk_macros.specs.Forms.{Form, Reference, parts_of}
+use Rattle.mk_macros.specs.Forms.{Form, Reference}
 use Rattle.mk_macros.specs.Locals.{recipe_of, internal_of}
-use Rattle.mk_macros.specs.Expansion.{Expanded, Scope, Deeper, Ends, ends_of, value_of, with_ends, given, refused, expanded}
+use Rattle.mk_macros.specs.Expansion.{Expanded, Scope, Deeper, ends_of, value_of, with_ends, given, refused, expanded}
 use Rattle.mk_macros.specs.Steps.{◌>>=◌}
 
 -- what names mean to the code
