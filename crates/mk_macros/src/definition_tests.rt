@@ -5,6 +5,7 @@ use crate::locals::{Locals, Part, internal_of, internal_value};
 use crate::op::Op;
 use crate::substitution::push_substituted;
 use crate::table::MacroTable;
+use crate::tests::same;
 use std::alloc::Global;
 use std::process::Abort;
 use std::test::Fail;
@@ -27,11 +28,19 @@ fn held(alloc: Global, table: &MacroTable, name: &str) -> Result<String, Fail> {
     Ok(told)
 }
 
+/// The words of a fault; want of memory ends the test.
+fn words_of(alloc: Global, fault: MacroFault) -> Result<String, Fail> {
+    match fault {
+        MacroFault::Memory => Err(MacroFault::Memory.into()),
+        other => Ok(format!(in alloc; "{other}")?),
+    }
+}
+
 /// The words of a fault, or of none.
 fn told(alloc: Global, outcome: Result<(), MacroFault>) -> Result<String, Fail> {
     match outcome {
         Ok(()) => Ok(String::from_str(alloc, "taken")?),
-        Err(fault) => Ok(format!(in alloc; "{fault}")?),
+        Err(fault) => words_of(alloc, fault),
     }
 }
 
@@ -39,7 +48,7 @@ fn told(alloc: Global, outcome: Result<(), MacroFault>) -> Result<String, Fail> 
 fn expanded(alloc: Global, table: &MacroTable, text: &str) -> Result<String, Fail> {
     match table.expand(alloc, text.as_bytes(), &Locals::Empty) {
         Ok(found) => Ok(String::from_utf8(found.text.into_owned(alloc)?)?),
-        Err(fault) => Ok(format!(in alloc; "{fault}")?),
+        Err(fault) => words_of(alloc, fault),
     }
 }
 
@@ -48,12 +57,20 @@ fn expanded(alloc: Global, table: &MacroTable, text: &str) -> Result<String, Fai
 enum Step<'a> {
     /// A definition by a name, an operator and a text.
     Define(&'a str, Op, &'a str, &'a str),
+    /// A definition by a name, `=` and so many bytes.
+    Long(&'a str, usize, &'a str),
     /// An operand.
     Fix(&'a str, &'a str),
     /// What the table holds of a name.
     Holds(&'a str, &'a str),
     /// What a text expands to.
     Gives(&'a str, &'a str),
+}
+
+/// What is said of a definition by so many bytes.
+fn told_of_long(table: &mut MacroTable, name: &str, count: usize) -> Result<String, Fail> {
+    let text = Vec::from_elem(table.alloc, b'x', count)?;
+    told(table.alloc, table.define(name.as_bytes(), Op::Delay, &text))
 }
 
 /// What is said of a step, and what should be.
@@ -64,6 +81,7 @@ fn outcome<'a>(table: &mut MacroTable, step: Step<'a>) -> Result<(String, &'a st
             let taken = table.define(name.as_bytes(), op, text.as_bytes());
             Ok((told(alloc, taken)?, want))
         }
+        Step::Long(name, count, want) => Ok((told_of_long(table, name, count)?, want)),
         Step::Fix(operand, want) => Ok((told(alloc, table.fix(operand.as_bytes()))?, want)),
         Step::Holds(name, want) => Ok((held(alloc, table, name)?, want)),
         Step::Gives(text, want) => Ok((expanded(alloc, table, text)?, want)),
@@ -77,6 +95,11 @@ fn follow(rt: &impl Abort, table: &mut MacroTable, steps: &[Step<'_>]) -> Result
         assert_eq!(rt; said.as_str(), want, "at {count}");
     }
     Ok(())
+}
+
+/// Follows steps over a new table.
+fn follow_anew(rt: &impl Abort, alloc: Global, steps: &[Step<'_>]) -> Result<(), Fail> {
+    follow(rt, &mut MacroTable::new(alloc), steps)
 }
 
 /// Definitions as names, operators and texts, and what the table holds of `N` then.
@@ -111,24 +134,24 @@ const DEFINITIONS: &[(&[(&str, Op, &str)], &str)] = &[
     (&[("M", Op::Delay, "x")], "none"),
 ];
 
-/// A table with definitions, all of which were taken.
-fn defined(
+/// Sees that definitions are taken, and what a new table then holds of `N`.
+fn expect_set(
     rt: &impl Abort,
     alloc: Global,
     definitions: &[(&str, Op, &str)],
-) -> Result<MacroTable, Fail> {
+    want: &str,
+) -> Result<(), Fail> {
     let mut table = MacroTable::new(alloc);
     for (name, op, text) in definitions {
         follow(rt, &mut table, &[Step::Define(name, *op, text, "taken")])?;
     }
-    Ok(table)
+    follow(rt, &mut table, &[Step::Holds("N", want)])
 }
 
 #[test]
 fn definitions_set_macros(rt: HostRuntime) -> Result<(), Fail> {
     for (definitions, want) in DEFINITIONS {
-        let mut table = defined(&rt, rt.alloc(), definitions)?;
-        follow(&rt, &mut table, &[Step::Holds("N", want)])?;
+        expect_set(&rt, rt.alloc(), definitions, want)?;
     }
     Ok(())
 }
@@ -148,54 +171,36 @@ const NAMES: &[(&str, &str)] = &[
 #[test]
 fn names_are_tested(rt: HostRuntime) -> Result<(), Fail> {
     for (name, want) in NAMES {
-        let mut table = MacroTable::new(rt.alloc());
-        follow(&rt, &mut table, &[Step::Define(name, Op::Delay, "x", want)])?;
+        follow_anew(&rt, rt.alloc(), &[Step::Define(name, Op::Delay, "x", want)])?;
     }
     Ok(())
 }
 
-/// So many bytes.
-fn long(alloc: Global, count: usize) -> Result<String, Fail> {
-    Ok(String::from_utf8(Vec::from_elem(alloc, b'x', count)?)?)
-}
+/// Definitions with a fault in the name and one in the text.
+const BAD_NAMES: &[Step<'static>] = &[
+    Step::Long("a b", MAX_VALUE + 1, "a bad macro name"),
+    Step::Define("a b", Op::Now, "$", "a bad macro name"),
+];
 
 #[test]
 fn names_are_tested_first(rt: HostRuntime) -> Result<(), Fail> {
-    let over = long(rt.alloc(), MAX_VALUE + 1)?;
-    let steps = [
-        Step::Define("a b", Op::Delay, over.as_str(), "a bad macro name"),
-        Step::Define("a b", Op::Now, "$", "a bad macro name"),
-    ];
-    follow(&rt, &mut MacroTable::new(rt.alloc()), &steps)
+    follow_anew(&rt, rt.alloc(), BAD_NAMES)
 }
+
+/// Definitions by texts of about the most bytes.
+const LONG: &[Step<'static>] = &[
+    Step::Long("A", MAX_VALUE, "taken"),
+    Step::Define("A", Op::Append, "", "a value is over 1,048,576 bytes"),
+    Step::Long("B", MAX_VALUE + 1, "a value is over 1,048,576 bytes"),
+    Step::Holds("B", "none"),
+    Step::Long("B", MAX_VALUE - 1, "taken"),
+    Step::Define("B", Op::Append, "y", "a value is over 1,048,576 bytes"),
+    Step::Define("B", Op::Append, "", "taken"),
+];
 
 #[test]
 fn texts_have_a_limit(rt: HostRuntime) -> Result<(), Fail> {
-    let mut table = MacroTable::new(rt.alloc());
-    let most = long(rt.alloc(), MAX_VALUE)?;
-    let steps = [
-        Step::Define("A", Op::Delay, most.as_str(), "taken"),
-        Step::Define("A", Op::Append, "", "a value is over 1,048,576 bytes"),
-    ];
-    follow(&rt, &mut table, &steps)?;
-    let over = long(rt.alloc(), MAX_VALUE + 1)?;
-    let steps = [
-        Step::Define(
-            "B",
-            Op::Delay,
-            over.as_str(),
-            "a value is over 1,048,576 bytes",
-        ),
-        Step::Holds("B", "none"),
-    ];
-    follow(&rt, &mut table, &steps)?;
-    let less = long(rt.alloc(), MAX_VALUE - 1)?;
-    let steps = [
-        Step::Define("B", Op::Delay, less.as_str(), "taken"),
-        Step::Define("B", Op::Append, "y", "a value is over 1,048,576 bytes"),
-        Step::Define("B", Op::Append, "", "taken"),
-    ];
-    follow(&rt, &mut table, &steps)
+    follow_anew(&rt, rt.alloc(), LONG)
 }
 
 /// Operands, what is said of them, a name, and what the table holds of it then.
@@ -225,23 +230,33 @@ const OPERANDS: &[(&str, &str, &str, &str)] = &[
 #[test]
 fn operands_fix_macros(rt: HostRuntime) -> Result<(), Fail> {
     for (operand, want, name, left) in OPERANDS {
-        let mut table = MacroTable::new(rt.alloc());
         let steps = [Step::Fix(operand, want), Step::Holds(name, left)];
-        follow(&rt, &mut table, &steps)?;
+        follow_anew(&rt, rt.alloc(), &steps)?;
     }
     Ok(())
 }
 
-/// Operands of a name that was defined before.
+/// Definitions before and behind operands of the same name, and one of another name.
 const FIXED: &[Step<'static>] = &[
     Step::Define("A", Op::Delay, "0", "taken"),
     Step::Fix("A=1", "taken"),
     Step::Fix("A = 2", "taken"),
     Step::Holds("A", "2|fixed"),
-];
-
-/// Another macro, whose value names it.
-const BESIDE: &[Step<'static>] = &[
+    Step::Define("A", Op::Delay, "3", "taken"),
+    Step::Define("A", Op::Delay, "$", "taken"),
+    Step::Holds("A", "2|fixed"),
+    Step::Define("A", Op::Now, "3", "taken"),
+    Step::Define("A", Op::Now, "$", "taken"),
+    Step::Holds("A", "2|fixed"),
+    Step::Define("A", Op::Double, "3", "taken"),
+    Step::Define("A", Op::Double, "$", "taken"),
+    Step::Holds("A", "2|fixed"),
+    Step::Define("A", Op::IfUnset, "3", "taken"),
+    Step::Define("A", Op::IfUnset, "$", "taken"),
+    Step::Holds("A", "2|fixed"),
+    Step::Define("A", Op::Append, "3", "taken"),
+    Step::Define("A", Op::Append, "$", "taken"),
+    Step::Holds("A", "2|fixed"),
     Step::Define("B", Op::Delay, "$(A)3", "taken"),
     Step::Holds("B", "$(A)3"),
     Step::Gives("$(B)", "23"),
@@ -249,17 +264,7 @@ const BESIDE: &[Step<'static>] = &[
 
 #[test]
 fn operands_win(rt: HostRuntime) -> Result<(), Fail> {
-    let mut table = MacroTable::new(rt.alloc());
-    follow(&rt, &mut table, FIXED)?;
-    for op in [Op::Delay, Op::Now, Op::Double, Op::IfUnset, Op::Append] {
-        let steps = [
-            Step::Define("A", op, "3", "taken"),
-            Step::Define("A", op, "$", "taken"),
-            Step::Holds("A", "2|fixed"),
-        ];
-        follow(&rt, &mut table, &steps)?;
-    }
-    follow(&rt, &mut table, BESIDE)
+    follow_anew(&rt, rt.alloc(), FIXED)
 }
 
 /// Definitions in their order, and what they make of values.
@@ -278,7 +283,7 @@ const IN_ORDER: &[Step<'static>] = &[
 
 #[test]
 fn values_follow_definitions(rt: HostRuntime) -> Result<(), Fail> {
-    follow(&rt, &mut MacroTable::new(rt.alloc()), IN_ORDER)
+    follow_anew(&rt, rt.alloc(), IN_ORDER)
 }
 
 #[test]
@@ -331,32 +336,26 @@ fn replaced(alloc: Global, room: usize, value: &str, old: &str, new: &str) -> Re
     );
     match done {
         Ok(()) => Ok(String::from_utf8(into)?),
-        Err(fault) => Ok(format!(in alloc; "{fault}")?),
+        Err(fault) => words_of(alloc, fault),
     }
 }
 
 #[test]
 fn words_are_replaced(rt: HostRuntime) -> Result<(), Fail> {
-    let alloc = rt.alloc();
     for (value, old, new, want) in SUBSTITUTIONS {
-        let text = replaced(alloc, want.len(), value, old, new)?;
-        let behind = text.strip_prefix('<');
-        assert_eq!(rt; behind, Some(*want), "{value} {old} {new}");
+        let text = replaced(rt.alloc(), want.len(), value, old, new)?;
+        let behind = text.strip_prefix('<').unwrap_or("no text");
+        same(&rt, behind, want, value);
     }
     Ok(())
 }
 
 #[test]
 fn words_have_a_limit(rt: HostRuntime) -> Result<(), Fail> {
-    let alloc = rt.alloc();
     for (value, old, new, want) in SUBSTITUTIONS {
         if let Some(room) = want.len().checked_sub(1) {
-            let text = replaced(alloc, room, value, old, new)?;
-            assert_eq!(rt;
-                text.as_str(),
-                "a value is over 1,048,576 bytes",
-                "{value} {old} {new}"
-            );
+            let text = replaced(rt.alloc(), room, value, old, new)?;
+            same(&rt, text.as_str(), "a value is over 1,048,576 bytes", value);
         }
     }
     Ok(())
@@ -402,7 +401,7 @@ fn expect_internal(rt: &impl Abort, alloc: Global, locals: &Locals<'_>) -> Resul
     for (name, want) in INTERNAL {
         let value = internal(alloc, locals, name)?;
         let told = value.as_deref().unwrap_or("no internal macro");
-        assert_eq!(rt; told, *want, "{name}");
+        same(rt, told, want, name);
     }
     Ok(())
 }

@@ -60,6 +60,12 @@ fn shown(
     Ok(line)
 }
 
+/// Sees that two texts are the same.
+pub fn same(rt: &impl Abort, got: &str, want: &str, at: &str) {
+    let front = at.get(..80).unwrap_or(at);
+    assert_eq!(rt; got, want, "at {front}");
+}
+
 /// Sees that a text expands so.
 fn expect(
     rt: &impl Abort,
@@ -69,8 +75,7 @@ fn expect(
     want: &str,
 ) -> Result<(), Fail> {
     let line = shown(table.alloc, table, text.as_bytes(), locals)?;
-    let front = text.get(..80).unwrap_or(text);
-    assert_eq!(rt; line.as_slice(), want.as_bytes(), "at {front}");
+    same(rt, String::from_utf8(line)?.as_str(), want, text);
     Ok(())
 }
 
@@ -183,12 +188,18 @@ fn in_a_command(rt: HostRuntime) -> Result<(), Fail> {
     expect_all(&rt, &table, &locals, IN_COMMAND)
 }
 
-/// Takes definitions in their order.
-fn define_all(table: &mut MacroTable, definitions: &[(&str, Op, &str)]) -> Result<(), Fail> {
+/// Takes definitions in their order, and sees that a text expands so then.
+fn expect_after(
+    rt: &impl Abort,
+    table: &mut MacroTable,
+    definitions: &[(&str, Op, &str)],
+    text: &str,
+    want: &str,
+) -> Result<(), Fail> {
     for (name, op, text) in definitions {
         table.define(name.as_bytes(), *op, text.as_bytes())?;
     }
-    Ok(())
+    expect(rt, table, &Locals::Empty, text, want)
 }
 
 /// Definitions by each operator that expands or appends.
@@ -208,20 +219,22 @@ const STORED_LATER: &[(&str, Op, &str)] = &[
 #[test]
 fn values_that_were_stored(rt: HostRuntime) -> Result<(), Fail> {
     let mut table = MacroTable::new(rt.alloc());
-    define_all(&mut table, STORED)?;
-    expect(&rt, &table, &Locals::Empty, "$(Y)|$(Z)|$(X)", "$v|$v|$v")?;
-    define_all(&mut table, STORED_LATER)?;
-    expect(&rt, &table, &Locals::Empty, "$(Z)|$(Y)", "$v w|$v $v")
+    expect_after(&rt, &mut table, STORED, "$(Y)|$(Z)|$(X)", "$v|$v|$v")?;
+    expect_after(&rt, &mut table, STORED_LATER, "$(Z)|$(Y)", "$v w|$v $v")
+}
+
+/// A macro that stands for another twice.
+fn put_twice(table: &mut MacroTable, number: usize, other: usize) -> Result<(), Fail> {
+    let name = format!(in table.alloc; "A{number}")?;
+    let text = format!(in table.alloc; "$(A{other})$(A{other})")?;
+    put(table, name.as_str(), text.as_str())
 }
 
 /// Macros of which each stands for the one below it twice, and the lowest for nothing.
 fn doubling(alloc: Global, count: usize) -> Result<MacroTable, Fail> {
     let mut table = table_of(alloc, &[("A0", "")])?;
     for n in 1..count {
-        let name = format!(in alloc; "A{n}")?;
-        let below = n.saturating_sub(1);
-        let text = format!(in alloc; "$(A{below})$(A{below})")?;
-        put(&mut table, name.as_str(), text.as_str())?;
+        put_twice(&mut table, n, n.saturating_sub(1))?;
     }
     Ok(table)
 }
@@ -233,17 +246,26 @@ fn most_references(rt: HostRuntime) -> Result<(), Fail> {
     expect_all(&rt, &table, &Locals::Empty, &rows)
 }
 
+/// A macro that stands for another.
+fn put_once(table: &mut MacroTable, number: usize, other: usize) -> Result<(), Fail> {
+    let name = format!(in table.alloc; "A{number}")?;
+    let text = format!(in table.alloc; "$(A{other})")?;
+    put(table, name.as_str(), text.as_str())
+}
+
+/// A macro that stands for nothing.
+fn put_empty(table: &mut MacroTable, number: usize) -> Result<(), Fail> {
+    let name = format!(in table.alloc; "A{number}")?;
+    put(table, name.as_str(), "")
+}
+
 /// So many macros of which each stands for the next, and the last for nothing.
 fn chained(alloc: Global, count: usize) -> Result<MacroTable, Fail> {
     let mut table = MacroTable::new(alloc);
     for n in 1..count {
-        let name = format!(in alloc; "A{n}")?;
-        let next = n + 1;
-        let text = format!(in alloc; "$(A{next})")?;
-        put(&mut table, name.as_str(), text.as_str())?;
+        put_once(&mut table, n, n + 1)?;
     }
-    let last = format!(in alloc; "A{count}")?;
-    put(&mut table, last.as_str(), "")?;
+    put_empty(&mut table, count)?;
     Ok(table)
 }
 
@@ -294,36 +316,42 @@ fn is_lent(text: &CowSlice<'_, u8>) -> bool {
     matches!(text, CowSlice::Borrowed(_))
 }
 
-/// Sees how long the expansion of a text is, and whether it is lent.
+/// Sees how long the expansion of so many bytes and a text behind them is, and whether it is lent.
 fn expect_measured(
     rt: &impl Abort,
-    table: &MacroTable,
-    text: &str,
+    alloc: Global,
+    text: (usize, &str),
     want: (usize, bool),
 ) -> Result<(), Fail> {
-    let found = table.expand(table.alloc, text.as_bytes(), &Locals::Empty)?;
+    let table = table_of(alloc, &[("E", "")])?;
+    let text = long(alloc, text.0, text.1)?;
+    let found = table.expand(alloc, text.as_bytes(), &Locals::Empty)?;
     assert_eq!(rt; (found.text.as_slice().len(), is_lent(&found.text)), want);
     Ok(())
 }
 
 #[test]
 fn longest_texts(rt: HostRuntime) -> Result<(), Fail> {
-    let alloc = rt.alloc();
+    expect_measured(&rt, rt.alloc(), (1_048_576, ""), (1_048_576, true))?;
+    expect_measured(&rt, rt.alloc(), (1_048_576, "$(E)"), (1_048_576, false))
+}
+
+/// Sees that so many bytes and a text behind them expand so.
+fn expect_long(
+    rt: &impl Abort,
+    alloc: Global,
+    text: (usize, &str),
+    want: &str,
+) -> Result<(), Fail> {
     let table = table_of(alloc, &[("E", "")])?;
-    let plain = long(alloc, 1_048_576, "")?;
-    expect_measured(&rt, &table, plain.as_str(), (1_048_576, true))?;
-    let dollar = long(alloc, 1_048_576, "$(E)")?;
-    expect_measured(&rt, &table, dollar.as_str(), (1_048_576, false))
+    let text = long(alloc, text.0, text.1)?;
+    expect(rt, &table, &Locals::Empty, text.as_str(), want)
 }
 
 #[test]
 fn too_long_texts(rt: HostRuntime) -> Result<(), Fail> {
-    let alloc = rt.alloc();
-    let table = table_of(alloc, &[("E", "")])?;
-    let over = long(alloc, 1_048_576, "$(E)x$")?;
-    let plain = long(alloc, 1_048_577, "")?;
-    let rows = [(over.as_str(), "too long"), (plain.as_str(), "too long")];
-    expect_all(&rt, &table, &Locals::Empty, &rows)
+    expect_long(&rt, rt.alloc(), (1_048_576, "$(E)x$"), "too long")?;
+    expect_long(&rt, rt.alloc(), (1_048_577, ""), "too long")
 }
 
 /// Texts round a macro of the most bytes, and what they expand to.
