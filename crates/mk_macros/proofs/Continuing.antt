@@ -1,13 +1,13 @@
 -- A text that is expanded form by form into a buffer.
-use Rattle.std.proofs.Common.{◌≡◌, ◌⊎◌, ℕ, false, ◌+◌, ◌-◌, ◌<◌, ◌≤◌, List, [], ◌∷◌, ◌++◌, ◌||◌, length, Bor, Option, None, Some, Result, Ok, Err, refl, sym, ap, subst, ◌∙◌, inl, inr, arith, append_assoc, length-append}
+use Rattle.std.proofs.Common.{◌≡◌, ◌⊎◌, ℕ, false, ◌+◌, ◌-◌, ◌<◌, ◌≤◌, List, [], ◌∷◌, ◌++◌, ◌||◌, length, Bor, Option, None, Some, Result, Ok, Err, sym, ap, subst, ◌∙◌, inl, inr, arith, append_assoc, length-append}
 use Rattle.std.proofs.lemmas.List.{append-nil}
 use Rattle.mk_macros.specs.declared.fault.MacroFault.{MacroFault}
 use Rattle.mk_macros.specs.declared.fault.MacroFault.TheVariants.{ValueTooLong, Memory}
 use Rattle.mk_macros.specs.declared.appending.Used.{Used}
 use Rattle.mk_macros.specs.Forms.{IsCut, IsPlain, texts_of, forms, dollar_form}
 use Rattle.mk_macros.specs.Expansion.{Expanded, Scope, Deeper, given, joined, in_order, expanded}
-use Rattle.mk_macros.specs.Appending.{Appends, below, within, form_within}
-use Rattle.mk_macros.proofs.InOrder.{longer, run_done, run_over, form_done, form_failed, in_order_nil, expanded_is}
+use Rattle.mk_macros.specs.Appending.{Appends, below, form_within}
+use Rattle.mk_macros.proofs.InOrder.{run_done, run_over, form_done, form_failed, in_order_nil, expanded_is}
 
 -- how a text was cut
 pub cut_none : (text run : List ℕ) (o : Option (Bor (List ℕ))) → o ≡ None → IsCut text run (texts_of o) → (text ≡ run) × IsPlain run

@@ -1,5 +1,5 @@
 -- No more than 65,536 references are counted.
-use Rattle.std.proofs.Common.{◌≡◌, ℕ, zero, suc, ◌+◌, ◌<◌, ◌≤◌, Bool, true, false, cond, ltb, eqb, not, ◌||◌, List, [], ◌∷◌, length, Option, None, Some, Result, Ok, Err, refl, sym, ap, subst, ◌∙◌, inl, inr, arith, zero-le}
+use Rattle.std.proofs.Common.{◌≡◌, ℕ, zero, suc, ◌+◌, ◌<◌, ◌≤◌, Bool, true, false, cond, ltb, eqb, not, ◌||◌, List, [], ◌∷◌, Option, None, Some, Result, Ok, Err, refl, sym, ap, ◌∙◌, inl, inr, arith}
 use Rattle.std.proofs.lemmas.Bool.{cases_Bool, cond-true, cond-false}
 use Rattle.std.proofs.lemmas.Bool.Decides.{nat_tests}
 use Rattle.mk_macros.specs.declared.fault.MacroFault.{MacroFault}
@@ -10,9 +10,8 @@ use Rattle.mk_macros.specs.Forms.{Form, Byte, Dollars, Reference, Endless, Lone,
 use Rattle.mk_macros.specs.Table.{Macro, macro_named}
 use Rattle.mk_macros.specs.Locals.{internal_of, internal_value}
 use Rattle.mk_macros.specs.Expansion.{Expanded, Scope, Deeper, Ends, counted, macro_value, value_of, ends_of, with_ends, reference, given, joined, in_order, refused, expanded}
-use Rattle.mk_macros.specs.Appending.{below}
 use Rattle.mk_macros.specs.Steps.{◌>>=◌}
-use Rattle.mk_macros.proofs.InOrder.{Gives, expanded_is}
+use Rattle.mk_macros.proofs.InOrder.{expanded_is}
 use Rattle.mk_macros.proofs.Splits.{err_not_ok, ok_same, step_of, follow_of}
 
 -- an `if` that came to a value on its second branch

@@ -11,7 +11,7 @@ use Rattle.std.specs.List.{list_any, position_or_len}
 use Rattle.mk_lines.specs.Bytes.{is_byte}
 use Rattle.mk_lines.specs.References.{first_outside}
 use Rattle.mk_macros.specs.declared.fault.MacroFault.TheVariants.{BadMacroName}
-use Rattle.mk_macros.specs.Forms.{Parts, IsCut, IsPlain, parts_behind, parts_round, round}
+use Rattle.mk_macros.specs.Forms.{IsCut, parts_behind, parts_round, round}
 
 -- no byte before the first that passes does
 none_before : (p : ℕ → Bool) (xs : List ℕ) → list_any p (take (position_or_len p xs) xs) ≡ false

@@ -1,10 +1,10 @@
 -- Laws of definitions.
-use Rattle.std.proofs.Common.{◌≡◌, ℕ, ◌+◌, ◌≤◌, Bool, true, false, not, ltb, cond, List, [], ◌∷◌, ◌++◌, length, Option, Some, None, Result, Ok, Err, inl, inr, refl, sym, ap, ◌∙◌, subst, arith, length-append}
+use Rattle.std.proofs.Common.{◌≡◌, ℕ, ◌+◌, ◌≤◌, Bool, true, false, not, ltb, cond, List, [], ◌∷◌, ◌++◌, length, Option, Some, None, Result, Ok, Err, refl, sym, ap, ◌∙◌, arith, length-append}
 use Rattle.std.specs.Str.{bytes_eq}
 use Rattle.std.specs.List.{list_any, before_first, after_first}
 use Rattle.mk_lines.specs.Bytes.{is_byte, trimmed}
 use Rattle.mk_macros.specs.Substitution.{ends_with, without_end}
-use Rattle.std.proofs.lemmas.Bool.{cases_Bool, le-ltb}
+use Rattle.std.proofs.lemmas.Bool.{le-ltb}
 use Rattle.std.proofs.lemmas.Slice.Eq.{bytes_eq-Decides}
 use Rattle.mk_macros.specs.declared.fault.MacroFault.{MacroFault}
 use Rattle.mk_macros.specs.declared.fault.MacroFault.TheVariants.{BadMacroName, ValueTooLong}
@@ -14,8 +14,8 @@ use Rattle.mk_macros.specs.Names.{is_macro_name}
 use Rattle.mk_macros.specs.Table.{Macro, is_called, macro_named, with_macro}
 use Rattle.mk_macros.specs.Expansion.{Expanded, expansion}
 use Rattle.mk_macros.specs.Steps.{◌>>=◌}
-use Rattle.mk_macros.specs.Definitions.{doubled, stored, appended, with_more, if_unset, set, is_fixed, defined, operator_of, operand_set, with_operand, without_blanks}
-use Rattle.mk_macros.specs.Laws.{Definition, after_definitions, OperandsWin, AppendingToNothing, AppendingToDelayed, AppendingToImmediate, OperandsFix, IsFixed, operand_name}
+use Rattle.mk_macros.specs.Definitions.{stored, appended, with_more, if_unset, set, is_fixed, defined, operator_of, operand_set, with_operand, without_blanks}
+use Rattle.mk_macros.specs.Laws.{after_definitions, OperandsWin, AppendingToNothing, AppendingToDelayed, AppendingToImmediate, OperandsFix, IsFixed, operand_name}
 
 -- what a name means stays
 abbrev Keeps : List Macro → List ℕ → Result (List Macro) MacroFault → Type 0

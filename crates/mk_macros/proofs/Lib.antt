@@ -16,3 +16,4 @@ pub mod Turns
 pub mod DefinitionLaws
 pub mod EndBlanks
 pub mod Operands
+pub mod Outside

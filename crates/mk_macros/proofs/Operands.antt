@@ -1,13 +1,11 @@
 -- Macro operands, as the code takes them apart.
-use Rattle.std.proofs.Common.{◌≡◌, ℕ, ◌+◌, ◌-◌, ◌<◌, Bool, true, false, not, cond, List, [], ◌∷◌, length, take, drop, Result, Ok, Err, inl, inr, refl, sym, ap, subst, ◌∙◌}
-use Rattle.std.specs.List.{list_any, position_or_len, before_first, after_first}
+use Rattle.std.proofs.Common.{◌≡◌, ℕ, ◌+◌, ◌-◌, ◌<◌, true, not, cond, List, length, take, drop, Err, sym, ap, ◌∙◌}
+use Rattle.std.specs.List.{position_or_len, before_first, after_first}
 use Rattle.mk_lines.specs.Bytes.{is_byte, trimmed}
-use Rattle.mk_macros.specs.declared.fault.MacroFault.{MacroFault}
 use Rattle.mk_macros.specs.declared.fault.MacroFault.TheVariants.{BadMacroName}
 use Rattle.mk_macros.specs.declared.op.Op.{Op}
 use Rattle.mk_macros.specs.Names.{is_macro_name}
 use Rattle.mk_macros.specs.Table.{Macro}
-use Rattle.mk_macros.specs.Steps.{Gives}
 use Rattle.mk_macros.specs.Definitions.{set, without_blanks, operator_of, operand_set, with_operand}
 use Rattle.mk_macros.proofs.Places.{none_placed, parted_cut}
 

@@ -1,5 +1,5 @@
 -- Texts without `$`.
-use Rattle.std.proofs.Common.{◌≡◌, ℕ, Bool, true, false, ◌+◌, ◌-◌, cond, eqb, inl, inr, ◌<◌, ◌≤◌, ◌||◌, List, [], ◌∷◌, ◌++◌, length, Option, Result, Ok, Err, refl, sym, ap, subst, append_assoc, ◌∙◌, zero-le, arith}
+use Rattle.std.proofs.Common.{◌≡◌, ℕ, Bool, true, false, ◌+◌, ◌-◌, cond, eqb, inl, inr, ◌<◌, ◌≤◌, List, [], ◌∷◌, ◌++◌, length, Ok, Err, sym, ap, append_assoc, ◌∙◌, zero-le, arith}
 use Rattle.std.proofs.lemmas.List.{append-nil, length-append}
 use Rattle.std.proofs.lemmas.List.Folds.{list_any-append}
 use Rattle.std.proofs.Math.Bool.{or-true, or-false}
@@ -7,10 +7,10 @@ use Rattle.std.proofs.lemmas.Bool.{cases_Bool, eqb-true}
 use Rattle.std.specs.List.{list_any}
 use Rattle.mk_lines.specs.Bytes.{is_byte}
 use Rattle.mk_macros.specs.declared.fault.MacroFault.TheVariants.{ValueTooLong}
-use Rattle.mk_macros.specs.Forms.{Dollars, IsPlain, forms}
-use Rattle.mk_macros.specs.Expansion.{Expanded, Scope, Deeper, given, joined, in_order, expanded}
-use Rattle.mk_macros.specs.Appending.{below, within}
-use Rattle.mk_macros.specs.Definitions.{doubled, doubled_byte}
+use Rattle.mk_macros.specs.Forms.{IsPlain, forms}
+use Rattle.mk_macros.specs.Expansion.{Expanded, Scope, Deeper, given, in_order, expanded}
+use Rattle.mk_macros.specs.Appending.{below}
+use Rattle.mk_macros.specs.Definitions.{doubled}
 use Rattle.mk_macros.specs.Laws.{in_front}
 use Rattle.mk_macros.proofs.InOrder.{longer, run_done, run_over, form_done, byte_done, within_fits, in_order_nil, expanded_is}
 use Rattle.mk_macros.proofs.Splits.{stays_low, behind_more}

@@ -1,22 +1,20 @@
 -- One reference `$(..)`, whose parts hold no references.
-use Rattle.std.proofs.Common.{◌≡◌, ℕ, zero, suc, ◌+◌, ◌-◌, ◌<◌, ◌≤◌, Bool, true, false, not, ◌&&◌, ◌||◌, cond, eqb, List, [], ◌∷◌, ◌++◌, length, take, drop, Option, None, Some, Result, Ok, Err, refl, sym, ap, subst, ◌∙◌, inl, inr, arith, append_assoc, length-append, zero-le}
-use Rattle.std.proofs.Math.Seq.{take-append_seam, drop-append_seam}
-use Rattle.std.proofs.lemmas.List.{append-nil}
+use Rattle.std.proofs.Common.{◌≡◌, ℕ, suc, ◌≤◌, Bool, true, false, not, ◌&&◌, ◌||◌, cond, eqb, List, [], ◌∷◌, ◌++◌, length, drop, None, Some, Result, Ok, Err, refl, sym, ap, subst, ◌∙◌, inl, inr, arith, append_assoc}
+use Rattle.std.proofs.Math.Seq.{take-append_seam}
 use Rattle.std.proofs.lemmas.Bool.{cases_Bool, false≢true, eqb-true}
 use Rattle.std.specs.List.{list_all, list_any}
 use Rattle.std.specs.Option.{option_map}
 use Rattle.mk_lines.specs.Bytes.{is_byte}
-use Rattle.mk_lines.specs.References.{Place, next_place, first_from, first_outside}
+use Rattle.mk_lines.specs.References.{next_place, first_from, first_outside}
 use Rattle.mk_macros.specs.declared.fault.MacroFault.{MacroFault}
 use Rattle.mk_macros.specs.declared.fault.MacroFault.TheVariants.{BadMacroName}
-use Rattle.mk_macros.specs.declared.locals.Part.{Part}
 use Rattle.mk_macros.specs.declared.locals.Part.TheVariants.{Whole}
 use Rattle.mk_macros.specs.Names.{is_name_byte, is_macro_name}
 use Rattle.mk_macros.specs.Forms.{Form, Reference, IsPlain, Parts, is_internal, closed_at, dollar_form, parts_behind, parts_round, parts_of, forms}
-use Rattle.mk_macros.specs.Locals.{Recipe, internal_of}
+use Rattle.mk_macros.specs.Locals.{internal_of}
 use Rattle.mk_macros.specs.Table.{Macro, macro_named}
 use Rattle.mk_macros.specs.Substitution.{substituted}
-use Rattle.mk_macros.specs.Expansion.{Expanded, Scope, Deeper, Ends, ends_of, with_ends, given, joined, in_order, reference, value_of, macro_value, expanded}
+use Rattle.mk_macros.specs.Expansion.{Expanded, Scope, Ends, ends_of, with_ends, given, in_order, reference, value_of, macro_value, expanded}
 use Rattle.mk_macros.specs.Appending.{below}
 use Rattle.mk_macros.specs.Laws.{round, is_inert}
 use Rattle.mk_macros.specs.Steps.{◌>>=◌}

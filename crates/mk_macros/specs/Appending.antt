@@ -1,14 +1,15 @@
 -- What the functions that expand put into their buffers.
-use Rattle.std.specs.Prelude.{◌≡◌, ◌⊎◌, ◌≤◌, ◌<◌, ℕ, zero, suc, ◌||◌, List, [], ◌∷◌, ◌++◌, length, nat_lt, Option, None, Some, Result, Ok, Err, if◌then◌else◌}
+use Rattle.std.specs.Prelude.{◌≡◌, ◌⊎◌, ◌≤◌, ◌<◌, ℕ, zero, suc, ◌||◌, List, [], ◌∷◌, ◌++◌, length, nat_lt, Option, Result, Ok, Err, if◌then◌else◌}
+use Rattle.std.specs.Cow.{cow_slice_items}
 use Rattle.mk_macros.specs.declared.fault.MacroFault.{MacroFault}
 use Rattle.mk_macros.specs.declared.fault.MacroFault.TheVariants.{ValueTooLong, Memory}
 use Rattle.mk_macros.specs.declared.appending.Used.{Used}
-use Rattle.mk_macros.specs.declared.appending.Piece.{Piece}
+use Rattle.mk_macros.specs.declared.piece.Piece.{Piece}
 use Rattle.mk_macros.specs.declared.appending.Scope as code
 use Rattle.mk_macros.specs.declared.going.Going as going
-use Rattle.mk_macros.specs.Forms.{Form, Reference, parts_of}
+use Rattle.mk_macros.specs.Forms.{Form, Reference}
 use Rattle.mk_macros.specs.Locals.{recipe_of, internal_of}
-use Rattle.mk_macros.specs.Expansion.{Expanded, Scope, Deeper, Ends, ends_of, value_of, with_ends, given, refused, expanded}
+use Rattle.mk_macros.specs.Expansion.{Expanded, Scope, Deeper, ends_of, value_of, with_ends, given, refused, expanded}
 use Rattle.mk_macros.specs.Steps.{◌>>=◌}
 
 -- what names mean to the code
@@ -22,7 +23,7 @@ names_in (going.Under' name p others) = name.now ∷ names_in others
 
 -- a text that was expanded for itself
 abbrev pub piece_view : Piece → Expanded
-piece_view piece = record { text = piece.text.items; references = piece.used.references; varying = piece.used.varying }
+piece_view piece = record { text = cow_slice_items piece.text; references = piece.used.references; varying = piece.used.varying }
 
 -- How the text of a reference is expanded, with so many levels below that in which the reference stands.
 abbrev pub below : ℕ → Scope → Deeper

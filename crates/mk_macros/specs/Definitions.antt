@@ -1,7 +1,7 @@
 -- Definitions of macros, by the lines of a makefile and by operands.
-use Rattle.std.specs.Prelude.{ℕ, ◌-◌, ◌==◌, Bool, true, false, not, List, [], ◌∷◌, ◌++◌, length, take, drop, reverse, nat_lt, Option, None, Some, Result, Ok, Err, if◌then◌else◌}
-use Rattle.std.specs.List.{flat_map, list_any, before_first, after_first, prefix_len}
-use Rattle.mk_lines.specs.Bytes.{is_byte, is_blank, trimmed}
+use Rattle.std.specs.Prelude.{ℕ, ◌==◌, Bool, true, false, not, List, [], ◌∷◌, ◌++◌, length, reverse, nat_lt, Option, None, Some, Result, Ok, Err, if◌then◌else◌}
+use Rattle.std.specs.List.{flat_map, list_any, before_first, after_first}
+use Rattle.mk_lines.specs.Bytes.{is_byte, trimmed}
 use Rattle.mk_macros.specs.declared.fault.MacroFault.{MacroFault}
 use Rattle.mk_macros.specs.declared.fault.MacroFault.TheVariants.{BadMacroName, ValueTooLong}
 use Rattle.mk_macros.specs.declared.op.Op.{Op}

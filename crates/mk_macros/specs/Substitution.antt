@@ -1,5 +1,5 @@
 -- `$(N:s1=s2)`: the words of a value, each with its end replaced, or by a pattern with `%`.
-use Rattle.std.specs.Prelude.{ℕ, ◌+◌, ◌-◌, Bool, ◌&&◌, List, [], ◌∷◌, ◌++◌, length, map, take, drop, nat_le, if◌then◌else◌}
+use Rattle.std.specs.Prelude.{ℕ, ◌+◌, ◌-◌, Bool, ◌&&◌, List, ◌++◌, length, map, take, drop, nat_le, if◌then◌else◌}
 use Rattle.std.specs.List.{list_any, before_first, after_first, join_with_byte}
 use Rattle.std.specs.Str.{bytes_eq}
 use Rattle.mk_lines.specs.Bytes.{is_byte}

@@ -13,10 +13,12 @@ use crate::forms::{Ends, Form, cut_at_dollar, dollar_form, parts_of};
 use crate::going::Going;
 use crate::locals::{Locals, Part, internal_of, internal_value};
 use crate::macro_name::{MacroName, is_macro_name};
+use crate::piece::{Piece, lent};
 use crate::room::{MAX_LENGTH, append_run, counted};
 use crate::substitution::push_substituted;
 use crate::table::MacroTable;
 use std::alloc::Global;
+use std::borrow::CowSlice;
 
 /// What names mean.
 #[derive(Clone, Copy)]
@@ -36,13 +38,6 @@ pub struct Used {
     pub references: usize,
     /// Whether `$?` was among them.
     pub varying: bool,
-}
-
-/// A text that was expanded for itself.
-#[derive(Drop)]
-struct Piece {
-    text: Vec<u8>,
-    used: Used,
 }
 
 /// The expansion of a text with so many levels below it.
@@ -136,13 +131,20 @@ fn append_named(
     deep: usize,
     going: &Going<'_>,
     room: usize,
-    name: &Piece,
+    name: &Piece<'_>,
     into: &mut Vec<u8>,
 ) -> Result<Used, MacroFault>
     ensures { Appends into.old.items into.new.items result (behind_name (scope_view scope.now) (below deep (scope_view scope.now)) (names_in going.now) room (piece_view name.now) None) }
 {
     let start = into.len();
-    let value = append_value(scope, deep, going, name.used.references, &name.text, into)?;
+    let value = append_value(
+        scope,
+        deep,
+        going,
+        name.used.references,
+        name.text.as_slice(),
+        into,
+    )?;
     if into.len() - start > room {
         return Err(MacroFault::ValueTooLong);
     }
@@ -159,7 +161,7 @@ fn append_replaced(
     deep: usize,
     going: &Going<'_>,
     room: usize,
-    name: &Piece,
+    name: &Piece<'_>,
     ends: Ends<'_>,
     into: &mut Vec<u8>,
 ) -> Result<Used, MacroFault>
@@ -173,10 +175,10 @@ fn append_replaced(
         deep,
         going,
         new.used.references,
-        &name.text,
+        name.text.as_slice(),
         &mut value,
     )?;
-    push_substituted(into, room, &old.text, &new.text, &value)?;
+    push_substituted(into, room, old.text.as_slice(), new.text.as_slice(), &value)?;
     Ok(Used {
         references: used.references,
         varying: name.used.varying || old.used.varying || new.used.varying || used.varying,
@@ -261,18 +263,25 @@ fn append_macro(
 
 /// The expansion of a text one level deeper, for itself.
 #[cycle(append)]
-fn expanded_piece(
+fn expanded_piece<'a>(
     scope: &Scope<'_>,
     deep: usize,
     going: &Going<'_>,
     references: usize,
-    text: &[u8],
-) -> Result<Piece, MacroFault>
+    text: &'a [u8],
+) -> Result<Piece<'a>, MacroFault>
     ensures { Gives piece_view result (below deep (scope_view scope.now) (names_in going.now) references text.now) }
 {
+    let (_run, behind) = cut_at_dollar(text);
+    if deep > 0 && behind.is_none() {
+        return lent(references, text);
+    }
     let mut bytes = Vec::new(scope.alloc);
     let used = append_deeper(scope, deep, going, references, text, &mut bytes)?;
-    Ok(Piece { text: bytes, used })
+    Ok(Piece {
+        text: CowSlice::Owned(bytes),
+        used,
+    })
 }
 
 /// The expansion of a text one level deeper.

@@ -13,11 +13,9 @@ use crate::fault::MacroFault;
 use crate::locals::Locals;
 use crate::macro_name::is_macro_name;
 use crate::op::Op;
+use crate::room::MAX_LENGTH;
 use crate::table::{Macro, MacroTable};
 use std::alloc::{AllocError, Global};
-
-/// The longest text of a macro, in bytes.
-const MAX_VALUE: usize = 1_048_576;
 
 /// A text with each `$` doubled.
 fn doubled(alloc: Global, text: &[u8]) -> Result<Vec<u8>, AllocError>
@@ -53,8 +51,8 @@ impl MacroTable {
     fn value_of(&self, text: &[u8]) -> Result<Vec<u8>, MacroFault>
         ensures { Gives (λ value. value.items) result (value_text (expansion self.now None text.now)) }
     {
-        let found = self.expand(self.alloc(), text, &Locals::Empty)?;
-        Ok(found.text.into_owned(self.alloc())?)
+        let found = self.expand(self.alloc, text, &Locals::Empty)?;
+        Ok(found.text.into_owned(self.alloc)?)
     }
 
     /// Puts a macro of at most 1,048,576 bytes into the table.
@@ -62,7 +60,7 @@ impl MacroTable {
         ensures exact { Gives (λ _. self.new) result (stored self.old (macro_of name.now entry)) }
         ensures unchanged { OnErr result (self.new ≡ self.old) }
     {
-        if entry.text.len() > MAX_VALUE {
+        if entry.text.len() > MAX_LENGTH {
             return Err(MacroFault::ValueTooLong);
         }
         self.put(name, entry)?;
@@ -74,10 +72,10 @@ impl MacroTable {
         ensures exact { Gives (λ _. self.new) result (stored self.old (record { name = name.now; text = text.now; immediate = false; fixed = fixed })) }
         ensures unchanged { OnErr result (self.new ≡ self.old) }
     {
-        if text.len() > MAX_VALUE {
+        if text.len() > MAX_LENGTH {
             return Err(MacroFault::ValueTooLong);
         }
-        let text = Vec::from_slice(self.alloc(), text)?;
+        let text = Vec::from_slice(self.alloc, text)?;
         self.store(
             name,
             Macro {
@@ -109,7 +107,7 @@ impl MacroTable {
         let Some(entry) = self.get(name) else {
             return Ok(());
         };
-        if entry.text.len() + (1 + more.len()) > MAX_VALUE {
+        if entry.text.len() + (1 + more.len()) > MAX_LENGTH {
             return Err(MacroFault::ValueTooLong);
         }
         self.append(name, more)?;
@@ -164,7 +162,7 @@ impl MacroTable {
         ensures unchanged { OnErr result (self.new ≡ self.old) }
     {
         let value = self.value_of(text)?;
-        let text = doubled(self.alloc(), &value)?;
+        let text = doubled(self.alloc, &value)?;
         self.store(
             name,
             Macro {

@@ -1,6 +1,6 @@
 //! The forms of a text.
 
-ghost use Rattle.std.specs.Prelude.{◌≡◌, ◌<◌, length, take, drop, suc, IfOk};
+ghost use Rattle.std.specs.Prelude.{◌≡◌, ◌<◌, length, take, drop, suc, IfOk, IfSome};
 ghost use Rattle.std.specs.Option.{option_map};
 ghost use Rattle.mk_lines.specs.Bytes.{is_byte};
 ghost use Rattle.mk_lines.specs.References.{first_outside};
@@ -69,10 +69,26 @@ fn closed_at(alloc: Global, close: u8, text: &[u8]) -> Result<(Form<'_>, &[u8]),
 fn cut_outside(alloc: Global, byte: u8, text: &[u8]) -> Result<Option<(&[u8], &[u8])>, AllocError>
     ensures { IfOk result (λ found. option_map pair_view found ≡ round text.now (first_outside (is_byte byte) text.now)) }
 {
-    let Some(at) = first_outside(alloc, &[byte], text)? else {
+    let Some(at) = place_outside(alloc, byte, text)? else {
         return Ok(None);
     };
     Ok(Some(halves(text, at)))
+}
+
+/// Where a byte first stands outside references. Where no `$` stands before its first place, that is
+/// the one.
+fn place_outside(alloc: Global, byte: u8, text: &[u8]) -> Result<Option<usize>, AllocError>
+    ensures exact { IfOk result (λ at. at ≡ first_outside (is_byte byte) text.now) }
+    ensures within { IfOk result (λ at. IfSome at (λ k. k < length text.now)) }
+{
+    let at = first_place(byte, text);
+    if first_place(b'$', &text[..at]) < at {
+        return first_outside(alloc, &[byte], text);
+    }
+    if at == text.len() {
+        return Ok(None);
+    }
+    Ok(Some(at))
 }
 
 /// What stands before a place of a text, and behind it.

@@ -16,6 +16,7 @@ pub mod laws;
 mod locals;
 mod macro_name;
 mod op;
+mod piece;
 mod room;
 mod substitution;
 mod table;

@@ -6,7 +6,7 @@ ghost use Rattle.mk_macros.specs.Expansion.{counted};
 
 use crate::fault::MacroFault;
 
-/// The most bytes that a text may have that is expanded on the way.
+/// The most bytes of a macro's text, and of a text that is expanded on the way.
 pub const MAX_LENGTH: usize = 1_048_576;
 
 /// The most references that an expansion may count.

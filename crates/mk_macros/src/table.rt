@@ -10,20 +10,21 @@ use std::marker::Model;
 
 /// A macro without its name.
 #[derive(Debug, Drop)]
-pub struct Macro {
+pub(crate) struct Macro {
     /// The text that was stored.
-    pub text: Vec<u8>,
+    pub(crate) text: Vec<u8>,
     /// Whether the text is the value as it stands. Else it is expanded at each use.
-    pub immediate: bool,
+    pub(crate) immediate: bool,
     /// Whether an operand has fixed it.
-    pub fixed: bool,
+    pub(crate) fixed: bool,
 }
 
 /// The macros that are defined, in the order of their first definitions. A contract sees the list
 /// of them.
 #[derive(Drop)]
 pub struct MacroTable {
-    alloc: Global,
+    /// The allocator of all that is stored.
+    pub(crate) alloc: Global,
     macros: IndexMap<Vec<u8>, Macro>,
 }
 
@@ -47,20 +48,15 @@ impl MacroTable {
         }
     }
 
-    /// The allocator that the table was made with.
-    pub fn alloc(&self) -> Global {
-        self.alloc
-    }
-
     /// The macro of a name, where it is defined.
-    pub fn get(&self, name: &[u8]) -> Option<&Macro>
+    pub(crate) fn get(&self, name: &[u8]) -> Option<&Macro>
         ensures { option_map (λ found. macro_of name.now found.now) result ≡ macro_named self.now name.now }
     {
         self.macros.get(name)
     }
 
     /// Puts a macro in place of the one of its name, or behind all others.
-    pub fn put(&mut self, name: &[u8], entry: Macro) -> Result<(), AllocError>
+    pub(crate) fn put(&mut self, name: &[u8], entry: Macro) -> Result<(), AllocError>
         ensures ok { OnOk result (self.new ≡ with_macro self.old (macro_of name.now entry)) }
         ensures err { OnErr result (self.new ≡ self.old) }
     {
@@ -71,7 +67,7 @@ impl MacroTable {
 
     /// Puts a space and more text behind the text of the macro of a name, where it is defined. The
     /// text grows in place, so that many appends cost no more than the text they make.
-    pub fn append(&mut self, name: &[u8], more: &[u8]) -> Result<(), AllocError>
+    pub(crate) fn append(&mut self, name: &[u8], more: &[u8]) -> Result<(), AllocError>
         ensures ok { OnOk result (self.new ≡ with_text_behind self.old more.now (macro_named self.old name.now)) }
         ensures err { OnErr result (self.new ≡ self.old) }
     {

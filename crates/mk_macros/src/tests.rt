@@ -3,20 +3,21 @@
 use crate::{Locals, MacroFault, MacroTable, Op};
 use std::alloc::Global;
 use std::borrow::CowSlice;
+use std::process::Abort;
 use std::test::Fail;
 
 /// A table of delayed macros.
 fn table_of(alloc: Global, macros: &[(&str, &str)]) -> Result<MacroTable, Fail> {
     let mut table = MacroTable::new(alloc);
     for (name, text) in macros {
-        put(&mut table, name.as_bytes(), text.as_bytes())?;
+        put(&mut table, name, text)?;
     }
     Ok(table)
 }
 
 /// One more delayed macro.
-fn put(table: &mut MacroTable, name: &[u8], text: &[u8]) -> Result<(), Fail> {
-    table.define(name, Op::Delay, text)?;
+fn put(table: &mut MacroTable, name: &str, text: &str) -> Result<(), Fail> {
+    table.define(name.as_bytes(), Op::Delay, text.as_bytes())?;
     Ok(())
 }
 
@@ -57,6 +58,38 @@ fn shown(
     }
     line.extend_from_slice(found.text.as_slice())?;
     Ok(line)
+}
+
+/// Sees that two texts are the same.
+pub fn same(rt: &impl Abort, got: &str, want: &str, at: &str) {
+    let front = at.get(..80).unwrap_or(at);
+    assert_eq!(rt; got, want, "at {front}");
+}
+
+/// Sees that a text expands so.
+fn expect(
+    rt: &impl Abort,
+    table: &MacroTable,
+    locals: &Locals<'_>,
+    text: &str,
+    want: &str,
+) -> Result<(), Fail> {
+    let line = shown(table.alloc, table, text.as_bytes(), locals)?;
+    same(rt, String::from_utf8(line)?.as_str(), want, text);
+    Ok(())
+}
+
+/// Sees that each text expands to what stands beside it.
+fn expect_all(
+    rt: &impl Abort,
+    table: &MacroTable,
+    locals: &Locals<'_>,
+    rows: &[(&str, &str)],
+) -> Result<(), Fail> {
+    for (text, want) in rows {
+        expect(rt, table, locals, text, want)?;
+    }
+    Ok(())
 }
 
 /// Macros of the rows below.
@@ -120,13 +153,8 @@ const ROWS: &[(&str, &str)] = &[
 
 #[test]
 fn outside_commands(rt: HostRuntime) -> Result<(), Fail> {
-    let alloc = rt.alloc();
-    let table = table_of(alloc, MACROS)?;
-    for (text, want) in ROWS {
-        let line = shown(alloc, &table, text.as_bytes(), &Locals::Empty)?;
-        assert_eq!(rt; line.as_slice(), want.as_bytes(), "at {text}");
-    }
-    Ok(())
+    let table = table_of(rt.alloc(), MACROS)?;
+    expect_all(&rt, &table, &Locals::Empty, ROWS)
 }
 
 /// Texts, and what they expand to in a command.
@@ -150,111 +178,136 @@ const IN_COMMAND: &[(&str, &str)] = &[
 
 #[test]
 fn in_a_command(rt: HostRuntime) -> Result<(), Fail> {
-    let alloc = rt.alloc();
-    let table = table_of(alloc, MACROS)?;
-    let all = ["src/a.c", "b.h", "src/a.c"];
+    let table = table_of(rt.alloc(), MACROS)?;
     let locals = Locals::Recipe {
         target: "obj/a.o",
         stem: "obj/a",
         first: Some("src/a.c"),
-        all: &all,
+        all: &["src/a.c", "b.h", "src/a.c"],
     };
-    for (text, want) in IN_COMMAND {
-        let line = shown(alloc, &table, text.as_bytes(), &locals)?;
-        assert_eq!(rt; line.as_slice(), want.as_bytes(), "at {text}");
-    }
-    Ok(())
+    expect_all(&rt, &table, &locals, IN_COMMAND)
 }
+
+/// Takes definitions in their order, and sees that a text expands so then.
+fn expect_after(
+    rt: &impl Abort,
+    table: &mut MacroTable,
+    definitions: &[(&str, Op, &str)],
+    text: &str,
+    want: &str,
+) -> Result<(), Fail> {
+    for (name, op, text) in definitions {
+        table.define(name.as_bytes(), *op, text.as_bytes())?;
+    }
+    expect(rt, table, &Locals::Empty, text, want)
+}
+
+/// Definitions by each operator that expands or appends.
+const STORED: &[(&str, Op, &str)] = &[
+    ("X", Op::Delay, "$$v"),
+    ("Y", Op::Now, "$(X)"),
+    ("Z", Op::Double, "$(X)"),
+];
+
+/// More of them.
+const STORED_LATER: &[(&str, Op, &str)] = &[
+    ("Z", Op::Append, "$(X)"),
+    ("Y", Op::Append, "$(X)"),
+    ("X", Op::Delay, "w"),
+];
 
 #[test]
 fn values_that_were_stored(rt: HostRuntime) -> Result<(), Fail> {
-    let alloc = rt.alloc();
-    let mut table = MacroTable::new(alloc);
-    table.define(b"X", Op::Delay, b"$$v")?;
-    table.define(b"Y", Op::Now, b"$(X)")?;
-    table.define(b"Z", Op::Double, b"$(X)")?;
-    let line = shown(alloc, &table, b"$(Y)|$(Z)|$(X)", &Locals::Empty)?;
-    assert_eq!(rt; line.as_slice(), b"$v|$v|$v".as_slice());
-    table.define(b"Z", Op::Append, b"$(X)")?;
-    table.define(b"Y", Op::Append, b"$(X)")?;
-    table.define(b"X", Op::Delay, b"w")?;
-    let line = shown(alloc, &table, b"$(Z)|$(Y)", &Locals::Empty)?;
-    assert_eq!(rt; line.as_slice(), b"$v w|$v $v".as_slice());
-    Ok(())
+    let mut table = MacroTable::new(rt.alloc());
+    expect_after(&rt, &mut table, STORED, "$(Y)|$(Z)|$(X)", "$v|$v|$v")?;
+    expect_after(&rt, &mut table, STORED_LATER, "$(Z)|$(Y)", "$v w|$v $v")
+}
+
+/// A macro that stands for another twice.
+fn put_twice(table: &mut MacroTable, number: usize, other: usize) -> Result<(), Fail> {
+    let name = format!(in table.alloc; "A{number}")?;
+    let text = format!(in table.alloc; "$(A{other})$(A{other})")?;
+    put(table, name.as_str(), text.as_str())
+}
+
+/// Macros of which each stands for the one below it twice, and the lowest for nothing.
+fn doubling(alloc: Global, count: usize) -> Result<MacroTable, Fail> {
+    let mut table = table_of(alloc, &[("A0", "")])?;
+    for n in 1..count {
+        put_twice(&mut table, n, n.saturating_sub(1))?;
+    }
+    Ok(table)
 }
 
 #[test]
 fn most_references(rt: HostRuntime) -> Result<(), Fail> {
-    let alloc = rt.alloc();
-    let mut table = table_of(alloc, &[("A0", "")])?;
-    for n in 1..16usize {
-        let name = format!(in alloc; "A{n}")?;
-        let below = n.saturating_sub(1);
-        let text = format!(in alloc; "$(A{below})$(A{below})")?;
-        put(&mut table, name.as_bytes(), text.as_bytes())?;
-    }
-    let line = shown(alloc, &table, b"$(A15)$(A0)", &Locals::Empty)?;
-    assert_eq!(rt; line.as_slice(), b"".as_slice());
-    let line = shown(alloc, &table, b"$(A15)$(A0)$(A0)", &Locals::Empty)?;
-    assert_eq!(rt; line.as_slice(), b"too many".as_slice());
-    Ok(())
+    let table = doubling(rt.alloc(), 16)?;
+    let rows = [("$(A15)$(A0)", ""), ("$(A15)$(A0)$(A0)", "too many")];
+    expect_all(&rt, &table, &Locals::Empty, &rows)
 }
 
-/// What `$(A1)` expands to where each of so many macros stands for the next, and the last for
-/// nothing.
-fn chained(alloc: Global, count: usize) -> Result<Vec<u8>, Fail> {
+/// A macro that stands for another.
+fn put_once(table: &mut MacroTable, number: usize, other: usize) -> Result<(), Fail> {
+    let name = format!(in table.alloc; "A{number}")?;
+    let text = format!(in table.alloc; "$(A{other})")?;
+    put(table, name.as_str(), text.as_str())
+}
+
+/// A macro that stands for nothing.
+fn put_empty(table: &mut MacroTable, number: usize) -> Result<(), Fail> {
+    let name = format!(in table.alloc; "A{number}")?;
+    put(table, name.as_str(), "")
+}
+
+/// So many macros of which each stands for the next, and the last for nothing.
+fn chained(alloc: Global, count: usize) -> Result<MacroTable, Fail> {
     let mut table = MacroTable::new(alloc);
     for n in 1..count {
-        let name = format!(in alloc; "A{n}")?;
-        let next = n + 1;
-        let text = format!(in alloc; "$(A{next})")?;
-        put(&mut table, name.as_bytes(), text.as_bytes())?;
+        put_once(&mut table, n, n + 1)?;
     }
-    let last = format!(in alloc; "A{count}")?;
-    put(&mut table, last.as_bytes(), b"")?;
-    shown(alloc, &table, b"$(A1)", &Locals::Empty)
+    put_empty(&mut table, count)?;
+    Ok(table)
 }
 
 #[test]
 fn deepest_values(rt: HostRuntime) -> Result<(), Fail> {
-    let alloc = rt.alloc();
-    let line = chained(alloc, 256)?;
-    assert_eq!(rt; line.as_slice(), b"".as_slice());
-    let line = chained(alloc, 257)?;
-    assert_eq!(rt; line.as_slice(), b"too many".as_slice());
-    Ok(())
+    let table = chained(rt.alloc(), 256)?;
+    expect(&rt, &table, &Locals::Empty, "$(A1)", "")
 }
 
-/// What one name in so many references round one another expands to.
-fn nested(alloc: Global, table: &MacroTable, count: usize) -> Result<Vec<u8>, Fail> {
-    let mut text = Vec::new(alloc);
+#[test]
+fn too_deep_values(rt: HostRuntime) -> Result<(), Fail> {
+    let table = chained(rt.alloc(), 257)?;
+    expect(&rt, &table, &Locals::Empty, "$(A1)", "too many")
+}
+
+/// One name in so many references round one another.
+fn nested(alloc: Global, count: usize) -> Result<String, Fail> {
+    let mut text = String::new(alloc);
     for _ in 0..count {
-        text.extend_from_slice(b"$(")?;
+        text.push_str("$(")?;
     }
-    text.push(b'X')?;
+    text.push('X')?;
     for _ in 0..count {
-        text.push(b')')?;
+        text.push(')')?;
     }
-    shown(alloc, table, &text, &Locals::Empty)
+    Ok(text)
 }
 
 #[test]
 fn deepest_names(rt: HostRuntime) -> Result<(), Fail> {
     let alloc = rt.alloc();
     let table = table_of(alloc, &[("X", "X")])?;
-    let line = nested(alloc, &table, 256)?;
-    assert_eq!(rt; line.as_slice(), b"X".as_slice());
-    let line = nested(alloc, &table, 257)?;
-    assert_eq!(rt; line.as_slice(), b"too many".as_slice());
-    Ok(())
+    let deepest = nested(alloc, 256)?;
+    let deeper = nested(alloc, 257)?;
+    let rows = [(deepest.as_str(), "X"), (deeper.as_str(), "too many")];
+    expect_all(&rt, &table, &Locals::Empty, &rows)
 }
 
-/// So many bytes.
-fn bytes(alloc: Global, count: usize) -> Result<Vec<u8>, Fail> {
-    let mut text = Vec::new(alloc);
-    for _ in 0..count {
-        text.push(b'x')?;
-    }
+/// So many bytes, and a text behind them.
+fn long(alloc: Global, count: usize, behind: &str) -> Result<String, Fail> {
+    let mut text = String::from_utf8(Vec::from_elem(alloc, b'x', count)?)?;
+    text.push_str(behind)?;
     Ok(text)
 }
 
@@ -263,27 +316,42 @@ fn is_lent(text: &CowSlice<'_, u8>) -> bool {
     matches!(text, CowSlice::Borrowed(_))
 }
 
-/// How long the expansion of a text is, and whether it was lent.
-fn measured(alloc: Global, table: &MacroTable, text: &[u8]) -> Result<(usize, bool), Fail> {
-    let found = table.expand(alloc, text, &Locals::Empty)?;
-    Ok((found.text.as_slice().len(), is_lent(&found.text)))
+/// Sees how long the expansion of so many bytes and a text behind them is, and whether it is lent.
+fn expect_measured(
+    rt: &impl Abort,
+    alloc: Global,
+    text: (usize, &str),
+    want: (usize, bool),
+) -> Result<(), Fail> {
+    let table = table_of(alloc, &[("E", "")])?;
+    let text = long(alloc, text.0, text.1)?;
+    let found = table.expand(alloc, text.as_bytes(), &Locals::Empty)?;
+    assert_eq!(rt; (found.text.as_slice().len(), is_lent(&found.text)), want);
+    Ok(())
 }
 
 #[test]
 fn longest_texts(rt: HostRuntime) -> Result<(), Fail> {
-    let alloc = rt.alloc();
+    expect_measured(&rt, rt.alloc(), (1_048_576, ""), (1_048_576, true))?;
+    expect_measured(&rt, rt.alloc(), (1_048_576, "$(E)"), (1_048_576, false))
+}
+
+/// Sees that so many bytes and a text behind them expand so.
+fn expect_long(
+    rt: &impl Abort,
+    alloc: Global,
+    text: (usize, &str),
+    want: &str,
+) -> Result<(), Fail> {
     let table = table_of(alloc, &[("E", "")])?;
-    let mut text = bytes(alloc, 1_048_576)?;
-    assert_eq!(rt; measured(alloc, &table, &text)?, (1_048_576, true));
-    text.extend_from_slice(b"$(E)")?;
-    assert_eq!(rt; measured(alloc, &table, &text)?, (1_048_576, false));
-    text.extend_from_slice(b"x$")?;
-    let line = shown(alloc, &table, &text, &Locals::Empty)?;
-    assert_eq!(rt; line.as_slice(), b"too long".as_slice());
-    let text = bytes(alloc, 1_048_577)?;
-    let line = shown(alloc, &table, &text, &Locals::Empty)?;
-    assert_eq!(rt; line.as_slice(), b"too long".as_slice());
-    Ok(())
+    let text = long(alloc, text.0, text.1)?;
+    expect(rt, &table, &Locals::Empty, text.as_str(), want)
+}
+
+#[test]
+fn too_long_texts(rt: HostRuntime) -> Result<(), Fail> {
+    expect_long(&rt, rt.alloc(), (1_048_576, "$(E)x$"), "too long")?;
+    expect_long(&rt, rt.alloc(), (1_048_577, ""), "too long")
 }
 
 /// Texts round a macro of the most bytes, and what they expand to.
@@ -300,13 +368,7 @@ const TOO_LONG: &[(&str, &str)] = &[
 
 #[test]
 fn too_long_before_other_faults(rt: HostRuntime) -> Result<(), Fail> {
-    let alloc = rt.alloc();
-    let mut table = MacroTable::new(alloc);
-    let text = bytes(alloc, 1_048_576)?;
-    put(&mut table, b"L", &text)?;
-    for (text, want) in TOO_LONG {
-        let line = shown(alloc, &table, text.as_bytes(), &Locals::Empty)?;
-        assert_eq!(rt; line.as_slice(), want.as_bytes(), "at {text}");
-    }
-    Ok(())
+    let text = long(rt.alloc(), 1_048_576, "")?;
+    let table = table_of(rt.alloc(), &[("L", text.as_str())])?;
+    expect_all(&rt, &table, &Locals::Empty, TOO_LONG)
 }

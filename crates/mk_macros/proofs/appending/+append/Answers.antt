@@ -1,13 +1,13 @@
-use Rattle.std.proofs.Common.{◌≡◌, ◌+◌, ◌-◌, ◌<◌, ◌≤◌, ◌∷◌, ◌++◌, [], length, List, ℕ, Result, Ok, Err, refl, sym, ap, subst, ◌∙◌, arith}
+use Rattle.std.proofs.Common.{◌≡◌, ◌+◌, ◌-◌, ◌<◌, ◌≤◌, ◌∷◌, [], length, List, ℕ, Result, Err, refl, sym, ap, subst, ◌∙◌, arith}
 use Rattle.std.proofs.Common.{length-append}
 use Rattle.std.proofs.lemmas.Result.{err_from_is_err_and}
 use Rattle.mk_macros.specs.declared.fault.MacroFault.{MacroFault}
 use Rattle.mk_macros.specs.declared.appending.Used.{Used}
 use Rattle.mk_macros.specs.Forms.{Form, form_view, dollar_form}
-use Rattle.mk_macros.specs.Appending.{Appends, AppendsRun, below, names_in, scope_view, form_within}
+use Rattle.mk_macros.specs.Appending.{Appends, below, names_in, scope_view}
 use Rattle.mk_macros.specs.Expansion.{expanded}
 use Rattle.mk_macros.proofs.FormLists.{dollar_le}
-use Rattle.mk_macros.proofs.Continuing.{Continues, continues_first, cut_none, cut_some, last_run, after_run, finished, after_form, failed_run, failed_form}
+use Rattle.mk_macros.proofs.Continuing.{continues_first, cut_none, cut_some, last_run, after_run, finished, after_form, failed_run, failed_form}
 use Rattle.mk_macros.proofs.appending.+append.Goals as goal
 
 pub append_text-forms-init : goal.append_text-forms-init

@@ -1,9 +1,8 @@
-use Rattle.std.proofs.Common.{◌≡◌, ◌≤◌, ℕ, length, eqb, refl, sym, ap, ◌∙◌, subst, rules, tests}
-use Rattle.std.specs.List.{position_or_len}
+use Rattle.std.proofs.Common.{rules, tests}
 use Rattle.std.proofs.lemmas.Iterator.{YieldsList-from_slice}
 use Rattle.std.proofs.lemmas.Iterator.Search.{position_from_yields_List}
 use Rattle.mk_lines.specs.Bytes.{is_byte}
-use Rattle.mk_macros.proofs.Places.{place_found, place_missing, place_within}
+use Rattle.mk_macros.proofs.Places.{place_found, place_missing}
 use Rattle.mk_macros.proofs.bytes.first_place.Goals as goal
 
 pub returns-in-Some-clause-place : goal.returns-in-Some-clause-place

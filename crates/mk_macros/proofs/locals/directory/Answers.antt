@@ -1,5 +1,4 @@
-use Rattle.std.proofs.Common.{◌≡◌, ◌-◌, ◌<◌, ◌≤◌, length, sym, ap, ◌∙◌, arith}
-use Rattle.mk_macros.specs.Locals.{file}
+use Rattle.std.proofs.Common.{◌-◌, ◌<◌, length, ap, arith}
 use Rattle.mk_macros.proofs.LastSlash.{no_directory, root_directory, some_directory, file_shorter}
 use Rattle.mk_macros.proofs.locals.directory.Goals as goal
 

@@ -2,7 +2,7 @@ use Rattle.std.proofs.Common.{◌≡◌, ◌<◌, true, List, ℕ, length, Resul
 use Rattle.mk_macros.specs.declared.fault.MacroFault.{MacroFault}
 use Rattle.mk_macros.specs.Names.{is_macro_name}
 use Rattle.mk_macros.specs.Table.{Macro}
-use Rattle.mk_macros.specs.Definitions.{set, with_operand}
+use Rattle.mk_macros.specs.Definitions.{set}
 use Rattle.mk_macros.specs.Steps.{Gives}
 use Rattle.mk_macros.proofs.Operands.{no_operator, operand_is}
 use Rattle.mk_macros.proofs.table.MacroTable.fix.Goals as goal
