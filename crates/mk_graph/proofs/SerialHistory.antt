@@ -1,8 +1,8 @@
 -- A make with one job that runs each recipe of the serial order whole is legal, and leaves what the clean build gives.
 use Rattle.std.proofs.Common.{append-nil, ◌≡◌, ℕ, zero, suc, ◌+◌, ◌<◌, ◌≤◌, List, [], ◌∷◌, ◌++◌, length, reverse, true, false, Option, Some, None, map, filter, fold, ◌⊎◌, inl, inr, ⊎_elim, refl, sym, ◌∙◌, ap, subst, arith}
-use Rattle.std.specs.Prelude.{cond, nat_eq, not, sum_by}
+use Rattle.std.specs.Prelude.{cond, nat_eq, not, sum_by, ◌&&◌}
 use Rattle.std.specs.Option.{option_and_then, option_map}
-use Rattle.std.proofs.lemmas.Bool.{cases_Bool, cond-true, cond-false, true≢false}
+use Rattle.std.proofs.lemmas.Bool.{cases_Bool, cond-true, cond-false, true≢false, ne_eqb, and_left}
 use Rattle.std.proofs.lemmas.List.{append_assoc, reverse-reverse}
 use Rattle.std.proofs.lemmas.List.Sums.{sum_by-cons}
 use mathlib.Core.List.{reverse-cons}
@@ -10,16 +10,17 @@ use Rattle.mk_graph.specs.Membership.{Has, has}
 use Rattle.mk_graph.specs.Graph.{Graph, node, HasNoCycle}
 use Rattle.mk_graph.specs.Serial.{visits}
 use Rattle.mk_graph.specs.Setting.{FileName, Setting, is_given, reads, writes}
-use Rattle.mk_graph.specs.World.{File, Outcome, Disk, Making, World, Idle, Busy, IsStart, content, last_stamp, outcome, disk_of}
+use Rattle.mk_graph.specs.World.{File, Outcome, Disk, Making, World, Idle, Busy, IsStart, content, changed, last_stamp, outcome, same_seen, disk_of}
 use Rattle.mk_graph.specs.Turns.{HasAll, MayTurn, Turns, IsPart}
-use Rattle.mk_graph.specs.Schedule.{Step, Make, Pass, EndMake, after, make_of, IsLegal, after_all}
+use Rattle.mk_graph.specs.Schedule.{Step, Make, Pass, EndMake, after, noted, make_of, IsLegal, after_all}
 use Rattle.mk_graph.specs.Clean.{Contents, given_contents, put_all, run_clean, make_clean, make_all_clean, order_of, clean_build}
 use Rattle.mk_graph.specs.SerialMake.{puts, whole_run, RunsSerially, ends, passes, runs}
 use Rattle.mk_graph.proofs.Members.{Has-reverse}
 use Rattle.mk_graph.proofs.Turning.{HasAll-has, HasAll-from}
 use Rattle.mk_graph.proofs.SerialTurns.{serial_turns, order_is, order_back, goal_is_chosen}
 use Rattle.mk_graph.proofs.Passing.{cases_file}
-use Rattle.mk_graph.proofs.WholeRuns.{legal_append, after_append, quiet, Arrives, whole_run_legal}
+use Rattle.mk_graph.proofs.WholeRuns.{legal_append, after_append, quiet, Ran, whole_run_legal}
+use Rattle.mk_graph.proofs.Outcomes.{noted_unknown}
 
 -- what the recipes of these nodes write, in number
 abbrev pub writes_of : Graph → Setting → List ℕ → ℕ
@@ -42,6 +43,27 @@ turn_on g goals (n ∷ ns) done turns =
     let split : reverse (n ∷ ns) ++ done ≡ reverse ns ++ (n ∷ done) = ap (λ (l : List ℕ). l ++ done) (reverse-cons n ns) ∙ append_assoc (reverse ns) (n ∷ []) done in
     let there = subst (λ (l : List ℕ). Turns g goals l) split turns in
     ((turns_end g goals (reverse ns) (n ∷ done) there).0, turn_on g goals ns (n ∷ done) there)
+
+-- as many contents are put as there are files
+put_all_many : (at new : Contents) (files : List FileName) (cs : List ℕ) → put_all at files cs ≡ Some new → length cs ≡ length files
+put_all_many at new [] [] e = refl
+put_all_many at new [] (c ∷ cs) e = absurd (cc)
+put_all_many at new (f ∷ files) [] e = absurd (cc)
+put_all_many at new (f ∷ files) (c ∷ cs) e = let rest = put_all_many (changed at f (Some c)) new files cs e in ap suc rest
+
+-- nothing is known of a recipe behind an outcome of another one
+skips : (o : Outcome) (known : List Outcome) (t : ℕ) (saw : List (Option ℕ)) → ¬ (o.recipe ≡ t) → outcome known t saw ≡ None → outcome (o ∷ known) t saw ≡ None
+skips o known t saw differ none = cond-false (nat_eq o.recipe t && same_seen o.seen saw) (Some o.written) (outcome known t saw) (and_left (nat_eq o.recipe t) (same_seen o.seen saw) (ne_eqb o.recipe t differ)) ∙ none
+
+-- The serial make has come so far: these nodes are done, the files hold this, and of other nodes nothing is known.
+pub record Arrives (g : Graph) (s : Setting) (goals done : List ℕ) (at : Contents) (clock : ℕ) (w : World) : Type 0 where
+  pub seen : ℕ → FileName → Option (Option ℕ)
+  pub put : ℕ → FileName → Option ℕ
+  pub disk : Disk
+  pub is : w ≡ Busy (quiet g s goals done seen put) disk
+  pub holds : (f : FileName) → content disk f ≡ at f
+  pub unknown : (t : ℕ) (saw : List (Option ℕ)) → ¬ (Has done t) → outcome disk.known t saw ≡ None
+  pub clock_is : disk.clock ≡ clock
 
 module _ (g : Graph) (s : Setting) (outcomes : List Outcome) where
   -- no clean build goes on without a value
@@ -92,11 +114,25 @@ module _ (g : Graph) (s : Setting) (outcomes : List Outcome) (goals : List ℕ) 
   passed n done at clock w arrived none may =
       subst (λ (k : World). IsLegal g s k (Pass n ∷ []) × Arrives g s goals (n ∷ done) at (clock + length (writes g s n)) (after g s k (Pass n))) (sym arrived.is) ((((may, λ h. h), inl none), tt), record { seen = arrived.seen; put = arrived.put; disk = arrived.disk; is = refl; holds = arrived.holds; unknown = λ t saw out. arrived.unknown t saw (λ h. out (inr h)); clock_is = let same = arrived.clock_is in let zero_writes = writes_none n none in omega arith })
 
+  -- where a whole run arrives
+  ran_there : (t : ℕ) (done cs : List ℕ) (at new : Contents) (clock : ℕ) (d : Disk) (w : World) → ((f : FileName) → content d f ≡ at f) → ((x : ℕ) (saw : List (Option ℕ)) → ¬ (Has done x) → outcome d.known x saw ≡ None) → ¬ (Has done t) → d.clock ≡ clock → put_all at (writes g s t) cs ≡ Some new → Ran g s goals done t cs d w → Arrives g s goals (t ∷ done) new (clock + length (writes g s t)) w
+  ran_there t done cs at new clock d w held unknown new_one now puts_all is =
+      let nothing : outcome is.disk.known is.result.recipe is.result.seen ≡ None = subst (λ (l : List Outcome). outcome l is.result.recipe is.result.seen ≡ None) (sym is.known) (unknown is.result.recipe is.result.seen (subst (λ (k : ℕ). ¬ (Has done k)) (sym is.result_recipe) new_one)) in
+      record {
+        seen = is.seen;
+        put = is.put;
+        disk = noted is.disk is.result;
+        is = is.is;
+        holds = is.holds at new puts_all held;
+        unknown = λ x saw out. subst (λ (l : List Outcome). outcome l x saw ≡ None) (sym (noted_unknown is.disk is.result nothing)) (skips is.result is.disk.known x saw (λ same. out (inl (sym is.result_recipe ∙ same))) (subst (λ (l : List Outcome). outcome l x saw ≡ None) (sym is.known) (unknown x saw (λ h. out (inr h)))));
+        clock_is = let last = is.clock in omega arith;
+      }
+
   -- a whole run from a quiet make
   ran : (t : ℕ) (done cs : List ℕ) (at new : Contents) (clock : ℕ) (w : World) → Arrives g s goals done at clock w → (node g t).recipe ≡ true → MayTurn g goals done t → put_all at (writes g s t) cs ≡ Some new → clock + length (writes g s t) ≤ last_stamp → IsLegal g s w (whole_run g s t cs) × Arrives g s goals (t ∷ done) new (clock + length (writes g s t)) (after_all g s w (whole_run g s t cs))
   ran t done cs at new clock w arrived recipe may puts_all room =
-      let now = whole_run_legal g s goals t done at new cs arrived.seen arrived.put arrived.disk arrived.holds (let same = arrived.clock_is in omega arith) puts_all may recipe arrived.unknown in
-      subst (λ (k : World). IsLegal g s k (whole_run g s t cs) × Arrives g s goals (t ∷ done) new (clock + length (writes g s t)) (after_all g s k (whole_run g s t cs))) (sym arrived.is) (now.0, subst (λ (k : ℕ). Arrives g s goals (t ∷ done) new (k + length (writes g s t)) (after_all g s (Busy (quiet g s goals done arrived.seen arrived.put) arrived.disk) (whole_run g s t cs))) arrived.clock_is now.1)
+      let now = whole_run_legal g s goals t done cs arrived.seen arrived.put arrived.disk (put_all_many at new (writes g s t) cs puts_all) (let same = arrived.clock_is in omega arith) may recipe (inl (arrived.unknown t (map (content arrived.disk) (reads g s t)) may.not_done)) in
+      subst (λ (k : World). IsLegal g s k (whole_run g s t cs) × Arrives g s goals (t ∷ done) new (clock + length (writes g s t)) (after_all g s k (whole_run g s t cs))) (sym arrived.is) (now.0, ran_there t done cs at new clock arrived.disk (after_all g s (Busy (quiet g s goals done arrived.seen arrived.put) arrived.disk) (whole_run g s t cs)) arrived.holds arrived.unknown may.not_done arrived.clock_is puts_all now.1)
 
   -- then the rest
   joined : (n : ℕ) (ns done : List ℕ) (first rest : List Step) (w : World) (end : Contents) (clock : ℕ) → IsLegal g s w first → IsLegalRun ns (n ∷ done) rest (after_all g s w first) end (clock + length (writes g s n)) → IsLegalRun (n ∷ ns) done (first ++ rest) w end clock
