@@ -35,3 +35,5 @@ pub mod AllButOne
 pub mod Rounds
 pub mod BareBuilds
 pub mod Deciding
+pub mod MakesBut
+pub mod StaleHistory

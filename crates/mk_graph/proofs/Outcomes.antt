@@ -21,7 +21,7 @@ pub same_seen-Decides : (a b : List (Option ℕ)) → Decides (same_seen a b) (a
 same_seen-Decides a b = slice_eq-Decides option_Decides a b (same_seen a b) refl
 
 -- the test by which an outcome is found
-finds : Outcome → ℕ → List (Option ℕ) → Bool
+abbrev finds : Outcome → ℕ → List (Option ℕ) → Bool
 finds o t seen = nat_eq o.recipe t && same_seen o.seen seen
 
 -- an outcome is found where its recipe saw this
@@ -58,3 +58,8 @@ module _ (d : Disk) (o : Outcome) where
   pub noted_old : (t : ℕ) (seen : List (Option ℕ)) (written : List ℕ) → outcome d.known t seen ≡ Some written → outcome (noted d o).known t seen ≡ Some written
   noted_old t seen written e =
       ⊎_elim (λ none. subst (λ (l : List Outcome). outcome l t seen ≡ Some written) (sym (noted_unknown none)) (stays o d.known t seen written none e)) (λ some. subst (λ (l : List Outcome). outcome l t seen ≡ Some written) (sym (noted_known some.0 some.1)) e) (cases_outcome o.recipe o.seen)
+
+  -- what is known after an outcome was noted is that outcome, or was known
+  pub noted_cases : (t : ℕ) (seen : List (Option ℕ)) (written : List ℕ) → outcome (noted d o).known t seen ≡ Some written → ((o.recipe ≡ t) × (o.written ≡ written)) ⊎ (outcome d.known t seen ≡ Some written)
+  noted_cases t seen written e =
+      ⊎_elim (λ none. let e1 : outcome (o ∷ d.known) t seen ≡ Some written = subst (λ (l : List Outcome). outcome l t seen ≡ Some written) (noted_unknown none) e in ⊎_elim (λ yes. let same : Some o.written ≡ Some written = sym (cond-true (finds o t seen) (Some o.written) (outcome d.known t seen) yes) ∙ e1 in inl ((Decides-eqb o.recipe t).0 (and_parts (nat_eq o.recipe t) (same_seen o.seen seen) yes).0, cc)) (λ no. inr (sym (cond-false (finds o t seen) (Some o.written) (outcome d.known t seen) no) ∙ e1)) (cases_Bool (finds o t seen))) (λ some. inr (subst (λ (l : List Outcome). outcome l t seen ≡ Some written) (noted_known some.0 some.1) e)) (cases_outcome o.recipe o.seen)

@@ -37,7 +37,7 @@ turns_end g goals [] back turns = turns
 turns_end g goals (n ∷ front) back turns = turns_end g goals front back turns.1
 
 -- a turn list, the first node first
-turn_on : (g : Graph) (goals ns done : List ℕ) → Turns g goals (reverse ns ++ done) → TurnOn g goals done ns
+pub turn_on : (g : Graph) (goals ns done : List ℕ) → Turns g goals (reverse ns ++ done) → TurnOn g goals done ns
 turn_on g goals [] done turns = tt
 turn_on g goals (n ∷ ns) done turns =
     let split : reverse (n ∷ ns) ++ done ≡ reverse ns ++ (n ∷ done) = ap (λ (l : List ℕ). l ++ done) (reverse-cons n ns) ∙ append_assoc (reverse ns) (n ∷ []) done in
@@ -98,15 +98,15 @@ module _ (g : Graph) (s : Setting) (outcomes : List Outcome) (goals : List ℕ) 
   IsLegalRun ns done steps w end clock = IsLegal g s w steps × Arrives g s goals (reverse ns ++ done) end (clock + writes_of g s ns) (after_all g s w steps)
 
   -- the nodes done behind one more
-  done_behind : (n : ℕ) (ns done : List ℕ) → reverse ns ++ (n ∷ done) ≡ reverse (n ∷ ns) ++ done
+  pub done_behind : (n : ℕ) (ns done : List ℕ) → reverse ns ++ (n ∷ done) ≡ reverse (n ∷ ns) ++ done
   done_behind n ns done = sym (append_assoc (reverse ns) (n ∷ []) done) ∙ sym (ap (λ (l : List ℕ). l ++ done) (reverse-cons n ns))
 
   -- the clock behind one more
-  clock_behind : (clock n : ℕ) (ns : List ℕ) → (clock + length (writes g s n)) + writes_of g s ns ≡ clock + writes_of g s (n ∷ ns)
+  pub clock_behind : (clock n : ℕ) (ns : List ℕ) → (clock + length (writes g s n)) + writes_of g s ns ≡ clock + writes_of g s (n ∷ ns)
   clock_behind clock n ns = let more = sum_by-cons (λ (t : ℕ). length (writes g s t)) n ns in omega arith
 
   -- no file is written by what has no recipe
-  writes_none : (n : ℕ) → (node g n).recipe ≡ false → length (writes g s n) ≡ 0
+  pub writes_none : (n : ℕ) → (node g n).recipe ≡ false → length (writes g s n) ≡ 0
   writes_none n none = ap (λ (l : List FileName). length l) (cond-false (node g n).recipe (s.writes (node g n).name) [] none)
 
   -- a pass from a quiet make

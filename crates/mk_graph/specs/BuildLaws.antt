@@ -1,14 +1,16 @@
 -- Laws of builds: of turn lists, of legal histories, and of what is accepted.
-use Rattle.std.specs.Prelude.{◌≡◌, ℕ, suc, ◌+◌, ◌<◌, ◌≤◌, List, [], ◌∷◌, ◌++◌, length, sum_by, reverse, true, Option, Some}
+use Rattle.std.specs.Prelude.{◌≡◌, ℕ, suc, ◌+◌, ◌*◌, ◌<◌, ◌≤◌, List, [], ◌∷◌, ◌++◌, length, sum_by, reverse, true, Option, Some}
 use Rattle.mk_graph.specs.Membership.{Has}
 use Rattle.mk_graph.specs.Graph.{Graph, node, HasNoCycle, IsGraph}
-use Rattle.mk_graph.specs.Setting.{FileName, Setting, writes}
+use Rattle.mk_graph.specs.Setting.{FileName, Setting, reads, writes}
 use Rattle.mk_graph.specs.World.{Outcome, Disk, Making, World, Idle, Busy, IsStart, IsFirst, content, disk_of, last_stamp}
 use Rattle.mk_graph.specs.Turns.{MayTurn, Turns, IsPart, Before}
 use Rattle.mk_graph.specs.Schedule.{Step, Edit, Make, Begin, Look, Put, End, Pass, Stop, EndMake, Ready, IsLegal, after_all}
 use Rattle.mk_graph.specs.Clean.{Contents, given_contents, order_of, clean_build}
 use Rattle.mk_graph.specs.SerialMake.{RunsSerially}
 use Rattle.mk_graph.specs.Bare.{ShowsNotBefore}
+use Rattle.mk_graph.specs.Ways.{Way, CanChange}
+use Rattle.mk_graph.specs.Stale.{make_with, ShowsStale, IsLaterThanAll}
 use Rattle.mk_graph.specs.Right.{AreSound, HaveWays, IsRightAt, IsRight}
 
 -- The first disk of a world is a start.
@@ -71,3 +73,9 @@ AcceptedIsRight = (g : Graph) (s : Setting) → IsGraph g → AreSound g s → H
 -- isn't done in it.
 abbrev pub NotBeforeIsShown : Type 0
 NotBeforeIsShown = (g : Graph) (o t : ℕ) → IsGraph g → ¬ (Before g o t) → (goals ns : List ℕ) × ShowsNotBefore g o t goals ns
+
+-- Where footprints are sound and a read of a file that can change has no way, the history is legal that makes all, edits
+-- the file if it is editable, and makes all again but for the recipe and those that it reaches by carrying, if there are
+-- stamps enough; and at its end the file is later than all files of the recipe.
+abbrev pub StaleIsShown : Type 0
+StaleIsShown = (g : Graph) (s : Setting) → IsGraph g → AreSound g s → (t : ℕ) (f : FileName) → Has (reads g s t) f → CanChange s f → ¬ (Way g s f t) → (d : Disk) (first edit second : List Step) → IsStart s d → d.clock + 2 * sum_by (λ n. length (writes g s n)) (order_of g g.goals) + 1 ≤ last_stamp → ShowsStale g s t f d first edit second → IsLegal g s (Idle d) (make_with g first ++ (edit ++ make_with g second)) × IsLaterThanAll g s (disk_of (after_all g s (Idle d) (make_with g first ++ (edit ++ make_with g second)))) f t

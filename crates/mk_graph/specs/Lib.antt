@@ -12,6 +12,7 @@ pub mod Schedule
 pub mod Clean
 pub mod SerialMake
 pub mod Ways
+pub mod Stale
 pub mod Right
 pub mod Bare
 pub mod BuildLaws

@@ -1,6 +1,6 @@
 //! Laws of builds. Each is the contract of a function that does nothing: who calls it has the law.
 
-ghost use Rattle.mk_graph.specs.BuildLaws.{FirstIsAStart, SerialOrderIsATurnList, SerialMakeIsLegal, AllGoalsSuffice, BeforeHoldsInHistories, NotBeforeIsShown, ReadyRecipesRunTogether, OneBuildIsRight, AcceptedIsRight};
+ghost use Rattle.mk_graph.specs.BuildLaws.{FirstIsAStart, SerialOrderIsATurnList, SerialMakeIsLegal, AllGoalsSuffice, BeforeHoldsInHistories, NotBeforeIsShown, ReadyRecipesRunTogether, OneBuildIsRight, AcceptedIsRight, StaleIsShown};
 
 /// The first disk of a world, on which just its given names are there, numbered in the order of
 /// their bytes, is a start in the sense of the other laws.
@@ -53,4 +53,11 @@ pub fn one_build_is_right()
 /// Where, beside this, each read of a file that can change has a way, every legal history is right.
 pub fn accepted_is_right()
     ensures { AcceptedIsRight }
+{}
+
+/// Where footprints are sound and a read of a file that can change has no way, a legal history shows
+/// it: all is made, the file is edited if it is editable, and all is made again but for the recipe
+/// and those that it reaches by carrying. At its end the file is later than all that the recipe wrote.
+pub fn stale_is_shown()
+    ensures { StaleIsShown }
 {}
