@@ -21,4 +21,6 @@ pub use node::Node;
 pub use order::Order;
 
 #[cfg(test)]
+mod order_tests;
+#[cfg(test)]
 mod tests;

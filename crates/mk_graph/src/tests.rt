@@ -99,7 +99,7 @@ fn have_parents(rows: &[Vec<usize>], goals: &[usize]) -> bool
 }
 
 /// Whether `build` takes these, where nodes are numbered as a walk meets them.
-fn is_sound(alloc: Global, nodes: &[Node], goals: &[usize]) -> Result<bool, AllocError>
+pub fn is_sound(alloc: Global, nodes: &[Node], goals: &[usize]) -> Result<bool, AllocError>
     ensures { IfOk result (λ sound. IsTrue sound → IsSound (record { nodes = nodes.now; goals = goals.now })) }
 {
     let rows = rows_of(alloc, nodes)?;
@@ -116,7 +116,7 @@ fn is_sound(alloc: Global, nodes: &[Node], goals: &[usize]) -> Result<bool, Allo
 }
 
 /// A node with prerequisites in groups.
-fn node(alloc: Global, name: &str, groups: &[&[usize]]) -> Result<Node, AllocError> {
+pub fn node(alloc: Global, name: &str, groups: &[&[usize]]) -> Result<Node, AllocError> {
     let mut all = Vec::new(alloc);
     for group in groups {
         all.push(Vec::from_slice(alloc, group)?)?;
@@ -130,7 +130,7 @@ fn node(alloc: Global, name: &str, groups: &[&[usize]]) -> Result<Node, AllocErr
 }
 
 /// What becomes of nodes and goals.
-fn built(
+pub fn built(
     rt: &impl Abort,
     alloc: Global,
     nodes: Vec<Node>,
@@ -141,7 +141,7 @@ fn built(
 }
 
 /// Nodes of which each has the next one for its prerequisite.
-fn chain(alloc: Global, count: usize) -> Result<Vec<Node>, AllocError>
+pub fn chain(alloc: Global, count: usize) -> Result<Vec<Node>, AllocError>
     requires { count < 10000 }
 {
     let mut nodes = Vec::new(alloc);
