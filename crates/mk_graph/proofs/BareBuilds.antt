@@ -1,15 +1,15 @@
 -- A turn list is the history of a make in which recipes neither read nor write.
-use Rattle.std.proofs.Common.{Bool, true, false, ◌≡◌, ℕ, zero, suc, ◌+◌, ◌<◌, ◌≤◌, List, [], ◌∷◌, ◌++◌, length, map, filter, not, eqb, ◌⊎◌, inl, inr, ⊎_elim, refl, sym, ap, subst, ◌∙◌, arith, eq-eqb}
-use Rattle.std.specs.Prelude.{Option, Some, None, IfSome, is_some, unwrap_or, nat_eq, fold, if◌then◌else◌, ◌&&◌}
-use Rattle.std.proofs.lemmas.Bool.{cases_Bool, cond-true, cond-false, false≢true}
+use Rattle.std.proofs.Common.{Bool, true, false, ◌≡◌, ℕ, List, [], ◌∷◌, ◌++◌, map, filter, not, inl, inr, ⊎_elim, refl, sym, ap, subst, ◌∙◌, arith, eq-eqb}
+use Rattle.std.specs.Prelude.{Option, Some, None, IfSome, is_some, unwrap_or, nat_eq, if◌then◌else◌, ◌&&◌}
+use Rattle.std.proofs.lemmas.Bool.{cases_Bool, cond-true, cond-false}
 use Rattle.std.proofs.lemmas.List.Sums.{fold-append}
 use Rattle.mk_graph.specs.Membership.{Has}
-use Rattle.mk_graph.specs.Graph.{Graph, node, prerequisites}
+use Rattle.mk_graph.specs.Graph.{Graph, node}
 use Rattle.mk_graph.specs.Setting.{FileName, Setting, reads, writes}
-use Rattle.mk_graph.specs.World.{Outcome, Disk, Making, World, Idle, Busy, IsStart, outcome, same_seen}
+use Rattle.mk_graph.specs.World.{Outcome, Disk, Making, World, Idle, Busy, outcome, same_seen}
 use Rattle.mk_graph.specs.Turns.{MayTurn, Turns, IsPart}
-use Rattle.mk_graph.specs.Schedule.{Step, Make, Begin, End, Pass, MayEnd, Allowed, begun, finished, noted, seen_by, put_by, after, IsLegal, after_all}
-use Rattle.mk_graph.specs.Bare.{empty_setting, empty_disk, turn_steps, steps_of, steps_until, IsUndone, ShowsNotBefore}
+use Rattle.mk_graph.specs.Schedule.{Step, Make, Begin, End, Pass, MayEnd, begun, noted, seen_by, put_by, after, IsLegal, after_all}
+use Rattle.mk_graph.specs.Bare.{empty_setting, empty_disk, turn_steps, steps_of, IsUndone, ShowsNotBefore}
 
 -- a legal history goes on where its end allows
 legal-append : (g : Graph) (s : Setting) (w : World) (front back : List Step) → IsLegal g s w front → IsLegal g s (after_all g s w front) back → IsLegal g s w (front ++ back)

@@ -1,11 +1,11 @@
 -- Whether one node is before another is decided by lists, as the code decides it by sets.
-use Rattle.std.proofs.Common.{true, false, ◌≡◌, ℕ, zero, suc, ◌+◌, ◌<◌, ◌≤◌, List, [], ◌∷◌, ◌++◌, length, get_or, ◌⊎◌, inl, inr, ⊎_elim, refl, sym, ap, subst, ◌∙◌, arith, add-one}
+use Rattle.std.proofs.Common.{true, ◌≡◌, ℕ, zero, suc, ◌+◌, ◌<◌, ◌≤◌, List, [], ◌∷◌, ◌++◌, length, get_or, ◌⊎◌, inl, inr, ⊎_elim, refl, sym, subst, ◌∙◌, arith, add-one}
 use Rattle.std.specs.Prelude.{◌↔◌}
 use Rattle.std.proofs.lemmas.Bool.{cases_Bool, cases_eq, false≢true}
 use Rattle.mk_graph.specs.Membership.{Has}
 use Rattle.mk_graph.specs.Graph.{Graph, node, prerequisites, IsGraph}
 use Rattle.mk_graph.specs.Serial.{serial_order}
-use Rattle.mk_graph.specs.Turns.{HasAll, InOpenGroup, Wanted, MayTurn, Turns, IsPart, Before}
+use Rattle.mk_graph.specs.Turns.{HasAll, InOpenGroup, Wanted, MayTurn, Turns, Before}
 use Rattle.mk_graph.specs.Without.{AreFree}
 use Rattle.mk_graph.specs.BuildLaws.{NotBeforeIsShown}
 use Rattle.mk_graph.proofs.Members.{cases_Has, Has-append_left, Has-append_right, Has-append_cases}

@@ -1,7 +1,7 @@
 -- What is wanted grows with the goals and with what is done, so a turn list of a part of the goals is one of all.
 use Rattle.std.proofs.Common.{ℕ, List, [], ◌∷◌, inl, inr, refl, subst}
 use Rattle.mk_graph.specs.Membership.{Has}
-use Rattle.mk_graph.specs.Graph.{Graph, node, prerequisites}
+use Rattle.mk_graph.specs.Graph.{Graph, node}
 use Rattle.mk_graph.specs.Turns.{HasAll, InOpenGroup, Wanted, goal, onward, MayTurn, Turns, IsPart}
 use Rattle.mk_graph.specs.BuildLaws.{AllGoalsSuffice}
 

@@ -1,4 +1,8 @@
 //! An order that is looked up in the graph anew for each two nodes.
+//!
+//! A node can be done without another one just where no path of prerequisites leads from it to that
+//! one. One round over the serial order finds these nodes, and a round backwards finds what a make
+//! wants once they are done.
 
 ghost use Rattle.std.specs.Prelude.{◌≡◌, ℕ, ◌<◌, ◌⊎◌, ◌↔◌, length, map};
 ghost use Rattle.mk_graph.specs.Membership.{Has};

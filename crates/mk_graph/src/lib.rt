@@ -23,4 +23,6 @@ pub use order::Order;
 #[cfg(test)]
 mod clean_tests;
 #[cfg(test)]
+mod order_tests;
+#[cfg(test)]
 mod tests;

@@ -99,7 +99,7 @@ fn have_parents(rows: &[Vec<usize>], goals: &[usize]) -> bool
 }
 
 /// Whether `build` takes these, where nodes are numbered as a walk meets them.
-fn is_sound(alloc: Global, nodes: &[Node], goals: &[usize]) -> Result<bool, AllocError>
+pub fn is_sound(alloc: Global, nodes: &[Node], goals: &[usize]) -> Result<bool, AllocError>
     ensures { IfOk result (λ sound. IsTrue sound → IsSound (record { nodes = nodes.now; goals = goals.now })) }
 {
     let rows = rows_of(alloc, nodes)?;
@@ -141,7 +141,7 @@ pub fn built(
 }
 
 /// Nodes of which each has the next one for its prerequisite.
-fn chain(alloc: Global, count: usize) -> Result<Vec<Node>, AllocError>
+pub fn chain(alloc: Global, count: usize) -> Result<Vec<Node>, AllocError>
     requires { count < 10000 }
 {
     let mut nodes = Vec::new(alloc);
