@@ -1,22 +1,15 @@
 -- The invariant over the begin of a recipe, its end, and the passing of a node.
-use Rattle.std.proofs.Common.{◌≡◌, ℕ, ◌+◌, ◌<◌, ◌≤◌, List, [], ◌∷◌, true, false, Bool, Option, Some, None, map, filter, ◌⊎◌, inl, inr, ⊎_elim, refl, sym, ◌∙◌, ap, subst, arith}
-use Rattle.std.specs.Prelude.{cond, not, nat_eq, is_some, ◌&&◌, unwrap_or, IfSome}
-use Rattle.std.specs.Option.{option_eq, option_flatten}
-use Rattle.std.specs.Bool.{Decides}
-use lib.Pointwise.{pointwise}
-use Rattle.std.proofs.lemmas.Bool.{cases_Bool, cases_eq, cond-true, cond-false, eqb-true, and_parts, false≢true}
-use Rattle.std.proofs.lemmas.Bool.Decides.{Decides-eqb}
-use Rattle.std.proofs.lemmas.Slice.Eq.{slice_eq-Decides}
+use Rattle.std.proofs.Common.{◌≡◌, ℕ, ◌∷◌, true, Option, Some, None, ◌⊎◌, inl, inr, ⊎_elim, sym, ◌∙◌, ap, subst, arith}
+use Rattle.std.proofs.lemmas.Bool.{cases_eq}
 use Rattle.mk_graph.specs.Membership.{Has}
-use Rattle.mk_graph.specs.Graph.{Graph, node, IsGraph}
-use Rattle.mk_graph.specs.Setting.{FileName, Setting, reads, writes}
-use Rattle.mk_graph.specs.World.{Outcome, Disk, Making, content, HasStamp, outcome, same_seen}
-use Rattle.mk_graph.specs.Turns.{Before, MayTurn}
-use Rattle.mk_graph.specs.Schedule.{MustRun, Ready, MayEnd, begun, finished, noted, changed_at, seen_by, put_by}
+use Rattle.mk_graph.specs.Graph.{Graph, node}
+use Rattle.mk_graph.specs.Setting.{FileName, Setting}
+use Rattle.mk_graph.specs.World.{Disk, Making}
+use Rattle.mk_graph.specs.Turns.{Before}
+use Rattle.mk_graph.specs.Schedule.{Ready, begun, changed_at}
 use Rattle.mk_graph.proofs.Changes.{changed_at_here, changed_at_there}
-use Rattle.mk_graph.proofs.InOrder.{InOrder, runs_not_done, begun_in_order, finished_in_order, Has-without, Has-from_without}
-use Rattle.mk_graph.proofs.Invariant.{Past, HasRunWhole, IsUntouched, WasThrough, Fits, InMake, IsUpToDate, Holds}
-use Rattle.mk_graph.proofs.Writing.{map_same}
+use Rattle.mk_graph.proofs.InOrder.{runs_not_done, begun_in_order}
+use Rattle.mk_graph.proofs.Invariant.{Past, WasThrough, Fits, InMake, IsUpToDate, Holds}
 
 -- the past after a recipe began
 pub past_begun : Past → ℕ → ℕ → Past

@@ -1,7 +1,7 @@
 -- Files and recipes that a step changes, and those that it leaves.
-use Rattle.std.proofs.Common.{◌≡◌, ℕ, List, [], ◌∷◌, true, false, Option, Some, None, ◌⊎◌, inl, inr, ⊎_elim, refl, sym, ◌∙◌, ap, eqb-true, eq-eqb}
+use Rattle.std.proofs.Common.{◌≡◌, ℕ, false, ◌⊎◌, inl, inr, ⊎_elim, sym, ◌∙◌, eq-eqb}
 use Rattle.std.specs.Prelude.{bytes_eq, nat_eq}
-use Rattle.std.proofs.lemmas.Bool.{cases_Bool, cond-true, cond-false, false_from_ne_true, false≢true, ne_eqb, cases_eq}
+use Rattle.std.proofs.lemmas.Bool.{cases_Bool, cond-true, cond-false, false_from_ne_true, false≢true, ne_eqb}
 use Rattle.std.proofs.lemmas.Slice.Eq.{bytes_eq-Decides}
 use Rattle.mk_graph.specs.Setting.{FileName}
 use Rattle.mk_graph.specs.World.{changed}

@@ -1,17 +1,16 @@
 -- Where all that some goals reach is up to date, the clean build of these goals has a value, which the files hold.
 use Rattle.std.proofs.Common.{◌≡◌, ℕ, List, [], ◌∷◌, ◌++◌, true, false, Option, Some, None, map, fold, filter, reverse, ◌⊎◌, inl, inr, ⊎_elim, refl, sym, ◌∙◌, ap, subst}
 use Rattle.std.specs.List.{flat_map}
-use Rattle.std.specs.Prelude.{cond}
-use Rattle.std.specs.Option.{option_map, option_and_then}
+use Rattle.std.specs.Option.{option_and_then}
 use Rattle.std.proofs.lemmas.Bool.{cases_Bool, cond-true, cond-false, true≢false}
 use mathlib.Core.List.{reverse-cons}
 use Rattle.mk_graph.specs.Membership.{Has, has}
-use Rattle.mk_graph.specs.Graph.{Graph, node, prerequisites, Reached, goal, onward, IsGraph}
+use Rattle.mk_graph.specs.Graph.{Graph, node, goal, onward, IsGraph}
 use Rattle.mk_graph.specs.Serial.{visits}
 use Rattle.mk_graph.specs.Setting.{FileName, Setting, is_given, reads, writes}
-use Rattle.mk_graph.specs.World.{Disk, Outcome, content, changed, outcome}
+use Rattle.mk_graph.specs.World.{Disk, content, changed, outcome}
 use Rattle.mk_graph.specs.Turns.{HasAll, InOpenGroup, Wanted, goal as wanted_goal, onward as wanted_onward, MayTurn, Turns, IsPart}
-use Rattle.mk_graph.specs.Clean.{Contents, given_contents, put_all, run_clean, make_clean, make_all_clean, order_of, clean_build, ReachedFrom, IsBuilt}
+use Rattle.mk_graph.specs.Clean.{Contents, given_contents, put_all, run_clean, make_clean, make_all_clean, ReachedFrom, IsBuilt}
 use Rattle.mk_graph.specs.Right.{AreSound}
 use Rattle.mk_graph.proofs.Members.{Has-append_left, Has-append_right}
 use Rattle.mk_graph.proofs.Changes.{cases_name, changed_here, changed_there}

@@ -1,19 +1,17 @@
 -- The invariant over the end of a recipe and the passing of a node.
-use Rattle.std.proofs.Common.{◌≡◌, ℕ, ◌+◌, ◌<◌, ◌≤◌, List, [], ◌∷◌, true, false, Option, Some, None, map, ◌⊎◌, inl, inr, ⊎_elim, refl, sym, ◌∙◌, ap, subst, arith}
+use Rattle.std.proofs.Common.{◌≡◌, ℕ, ◌<◌, ◌≤◌, List, [], ◌∷◌, true, Option, Some, None, map, inl, inr, ⊎_elim, refl, sym, ◌∙◌, ap, subst}
 use Rattle.std.specs.Prelude.{unwrap_or}
 use Rattle.std.specs.Option.{option_flatten}
-use Rattle.std.proofs.lemmas.Bool.{cases_eq, true≢false}
+use Rattle.std.proofs.lemmas.Bool.{cases_eq}
 use Rattle.mk_graph.specs.Membership.{Has}
 use Rattle.mk_graph.specs.Graph.{Graph, node}
 use Rattle.mk_graph.specs.Setting.{FileName, Setting, reads, writes}
-use Rattle.mk_graph.specs.World.{Outcome, Disk, Making, content, HasStamp, outcome}
-use Rattle.mk_graph.specs.Turns.{Before, MayTurn}
-use Rattle.mk_graph.specs.Schedule.{MustRun, Ready, MayEnd, finished, noted, changed_at, seen_by, put_by}
+use Rattle.mk_graph.specs.World.{Outcome, Disk, Making, content, outcome}
+use Rattle.mk_graph.specs.Schedule.{Ready, MayEnd, finished, noted, changed_at, seen_by, put_by}
 use Rattle.mk_graph.proofs.Changes.{changed_at_here, changed_at_there}
-use Rattle.mk_graph.proofs.InOrder.{InOrder, runs_not_done, finished_in_order, Has-without, Has-from_without}
+use Rattle.mk_graph.proofs.InOrder.{runs_not_done, finished_in_order, Has-without, Has-from_without}
 use Rattle.mk_graph.proofs.Outcomes.{noted_new, noted_old}
-use Rattle.mk_graph.proofs.Invariant.{Past, IsLater, HasRunWhole, IsUntouched, WasThrough, Fits, InMake, IsUpToDate, Holds}
-use Rattle.mk_graph.proofs.Writing.{map_same}
+use Rattle.mk_graph.proofs.Invariant.{Past, HasRunWhole, WasThrough, Fits, InMake, IsUpToDate, Holds}
 
 -- what was put was put somewhere
 pub put_somewhere : (o : Option ℕ) → ¬ (o ≡ None) → o ≡ Some (unwrap_or o 0)

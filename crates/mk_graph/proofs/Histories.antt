@@ -1,18 +1,17 @@
 -- The invariant holds in each state of each legal history, and at the end of a make its goals are built.
-use Rattle.std.proofs.Common.{◌≡◌, ℕ, ◌<◌, ◌≤◌, List, [], ◌∷◌, true, false, Option, Some, None, map, ◌⊎◌, inl, inr, ⊎_elim, refl, sym, ◌∙◌, ap, subst, arith}
+use Rattle.std.proofs.Common.{◌≡◌, ℕ, List, [], true, Option, Some, None, inl, ⊎_elim, refl, sym, ◌∙◌, ap, subst, arith}
 use Rattle.std.specs.Option.{option_map}
 use Rattle.std.proofs.lemmas.Bool.{true≢false}
 use Rattle.mk_graph.specs.Membership.{Has}
 use Rattle.mk_graph.specs.Graph.{Graph, node, IsGraph}
-use Rattle.mk_graph.specs.Setting.{FileName, Setting, is_editable, is_given, reads, writes}
-use Rattle.mk_graph.specs.World.{File, Disk, Making, World, Idle, Busy, IsStart, content, HasStamp, written, last_stamp, outcome}
-use Rattle.mk_graph.specs.Turns.{HasAll, IsPart}
+use Rattle.mk_graph.specs.Setting.{FileName, Setting, is_editable, reads, writes}
+use Rattle.mk_graph.specs.World.{File, Disk, Making, World, Idle, Busy, IsStart, content, HasStamp, written, outcome}
+use Rattle.mk_graph.specs.Turns.{IsPart}
 use Rattle.mk_graph.specs.Schedule.{Step, Edit, Make, Begin, Look, Put, End, Pass, Stop, EndMake, MustRun, Ready, Allowed, after, make_of, IsLegal, after_all}
-use Rattle.mk_graph.specs.Clean.{IsBuilt}
 use Rattle.mk_graph.specs.Right.{AreSound, HaveWays, IsRightAt}
 use Rattle.mk_graph.proofs.InOrder.{kept}
-use Rattle.mk_graph.proofs.Sound.{editable_is_given, editable_is_not_written}
-use Rattle.mk_graph.proofs.Invariant.{Past, HasRunWhole, IsUntouched, Fits, InMake, IsUpToDate, Holds, Rests, IsInvariant}
+use Rattle.mk_graph.proofs.Sound.{editable_is_not_written}
+use Rattle.mk_graph.proofs.Invariant.{Past, IsUntouched, Fits, InMake, IsUpToDate, Holds, Rests, IsInvariant}
 use Rattle.mk_graph.proofs.Writing.{map_same, fits_written}
 use Rattle.mk_graph.proofs.Putting.{put_holds, look_holds}
 use Rattle.mk_graph.proofs.Passing.{cases_file, passed_is_up_to_date}

@@ -1,12 +1,12 @@
 -- In each legal history the nodes of the make in progress are done in the order of a turn list.
-use Rattle.std.proofs.Common.{◌≡◌, ℕ, List, [], ◌∷◌, Bool, true, false, ◌⊎◌, inl, inr, ⊎_elim, refl, sym, ◌∙◌, subst, fold, filter, eq-eqb, ap}
+use Rattle.std.proofs.Common.{◌≡◌, ℕ, List, [], ◌∷◌, true, inl, inr, ⊎_elim, sym, ◌∙◌, subst, filter, ap}
 use Rattle.std.specs.Prelude.{not, nat_eq, cond}
-use Rattle.std.proofs.lemmas.Bool.{cases_Bool, cond-true, cond-false, not-true, not-false, eqb-true, eqb-false, cases_eq, false≢true}
+use Rattle.std.proofs.lemmas.Bool.{cases_Bool, cond-true, cond-false, eqb-true, eqb-false}
 use Rattle.mk_graph.specs.Membership.{Has}
 use Rattle.mk_graph.specs.Graph.{Graph, node}
 use Rattle.mk_graph.specs.Setting.{Setting}
 use Rattle.mk_graph.specs.World.{Disk, Making, World, Idle, Busy}
-use Rattle.mk_graph.specs.Turns.{MayTurn, Turns, IsPart, Before}
+use Rattle.mk_graph.specs.Turns.{MayTurn, Turns, IsPart}
 use Rattle.mk_graph.specs.Schedule.{Step, Edit, Make, Begin, Look, Put, End, Pass, Stop, EndMake, Ready, Allowed, after, finished, begun, IsLegal, after_all}
 use Rattle.mk_graph.proofs.Turning.{MayTurn-grow}
 

@@ -1,24 +1,23 @@
 -- A make with one job in which each node is run whole or passed: what it leaves.
-use Rattle.std.proofs.Common.{append-nil, ◌≡◌, ℕ, zero, suc, ◌+◌, ◌<◌, ◌≤◌, List, [], ◌∷◌, ◌++◌, length, reverse, true, false, Option, Some, None, map, filter, ◌⊎◌, inl, inr, ⊎_elim, refl, sym, ◌∙◌, ap, subst, arith}
-use Rattle.std.specs.Prelude.{cond, nat_eq, sum_by, unwrap_or, ◌&&◌}
+use Rattle.std.proofs.Common.{◌≡◌, ℕ, zero, suc, ◌+◌, ◌<◌, ◌≤◌, List, [], ◌∷◌, ◌++◌, length, reverse, true, false, Option, Some, map, ◌⊎◌, inl, inr, ⊎_elim, refl, sym, ◌∙◌, ap, subst, arith}
+use Rattle.std.specs.Prelude.{unwrap_or}
 use Rattle.std.specs.Option.{option_map}
-use Rattle.std.proofs.lemmas.Bool.{cases_Bool, cases_eq, cond-true, cond-false, true≢false}
-use Rattle.std.proofs.lemmas.List.{append_assoc, length-map}
+use Rattle.std.proofs.lemmas.Bool.{cases_Bool, true≢false}
+use Rattle.std.proofs.lemmas.List.{length-map}
 use Rattle.mk_graph.specs.Membership.{Has, has}
-use Rattle.mk_graph.specs.Graph.{Graph, node, IsGraph}
+use Rattle.mk_graph.specs.Graph.{Graph, node}
 use Rattle.mk_graph.specs.Setting.{FileName, Setting, reads, writes}
-use Rattle.mk_graph.specs.World.{File, Outcome, Disk, Making, World, Idle, Busy, HasStamp, content, last_stamp, outcome, disk_of}
-use Rattle.mk_graph.specs.Turns.{HasAll, MayTurn, Turns, IsPart, Before}
-use Rattle.mk_graph.specs.Schedule.{Step, Make, Pass, EndMake, MustRun, after, noted, make_of, IsLegal, after_all}
-use Rattle.mk_graph.specs.Clean.{Contents, put_all, order_of}
+use Rattle.mk_graph.specs.World.{File, Outcome, Disk, World, Busy, HasStamp, content, last_stamp, outcome, disk_of}
+use Rattle.mk_graph.specs.Turns.{MayTurn}
+use Rattle.mk_graph.specs.Schedule.{Step, Pass, MustRun, after, noted, IsLegal, after_all}
 use Rattle.mk_graph.specs.SerialMake.{whole_run}
 use Rattle.mk_graph.specs.Right.{AreSound}
-use Rattle.mk_graph.specs.Stale.{next_stamps, to_put, MakesBut, ends, passes, runs, make_with}
+use Rattle.mk_graph.specs.Stale.{next_stamps, to_put, MakesBut, ends, passes, runs}
 use Rattle.mk_graph.proofs.Sound.{writer_has_recipe}
 use Rattle.mk_graph.proofs.Outcomes.{cases_outcome, noted_cases}
 use Rattle.mk_graph.proofs.Writing.{one_stamp}
 use Rattle.mk_graph.proofs.WholeRuns.{legal_append, after_append, quiet, Agree, Ran, whole_run_legal}
-use Rattle.mk_graph.proofs.SerialHistory.{writes_of, TurnOn, done_behind, clock_behind, writes_none}
+use Rattle.mk_graph.proofs.SerialHistory.{writes_of, TurnOn, done_behind, clock_behind}
 
 -- so many stamps are as many
 next_stamps_many : (clock many : ℕ) → length (next_stamps clock many) ≡ many

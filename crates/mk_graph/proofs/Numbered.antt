@@ -1,13 +1,13 @@
 -- What is there on a disk of numbered names.
-use Rattle.std.proofs.Common.{◌≡◌, ℕ, ◌+◌, ◌<◌, ◌≤◌, List, [], ◌∷◌, length, true, false, Option, Some, None, ◌⊎◌, inl, inr, ⊎_elim, refl, sym, ◌∙◌, ap, subst, arith}
+use Rattle.std.proofs.Common.{◌≡◌, ℕ, ◌+◌, ◌≤◌, List, [], ◌∷◌, length, Option, Some, None, inl, inr, ⊎_elim, refl, sym, ◌∙◌, ap, subst, arith}
 use Rattle.std.specs.Option.{option_map}
 use Rattle.std.specs.Prelude.{bytes_eq}
 use Rattle.std.proofs.lemmas.Bool.{cases_Bool, cond-true, cond-false}
 use Rattle.std.proofs.lemmas.Slice.Eq.{bytes_eq-Decides}
 use Rattle.mk_graph.specs.Membership.{Has}
-use Rattle.mk_graph.specs.Setting.{FileName, Setting, is_given}
+use Rattle.mk_graph.specs.Setting.{FileName, Setting}
 use Rattle.mk_graph.specs.Graph.{Graph}
-use Rattle.mk_graph.specs.World.{File, Disk, IsStart, IsFirst, place_of, numbered}
+use Rattle.mk_graph.specs.World.{File, Disk, IsStart, IsFirst, place_of}
 
 -- what is one more than a place comes from a place
 from_later : (o : Option ℕ) (i : ℕ) → option_map (λ place. place + 1) o ≡ Some i → (k : ℕ) × (o ≡ Some k) × (i ≡ k + 1)

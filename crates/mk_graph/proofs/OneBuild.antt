@@ -1,21 +1,20 @@
 -- One make from a start: what waits has no file yet, so that it must run.
-use Rattle.std.proofs.Common.{◌≡◌, ℕ, ◌+◌, List, [], ◌∷◌, true, false, Option, Some, None, ◌⊎◌, inl, inr, ⊎_elim, refl, sym, ◌∙◌, subst}
+use Rattle.std.proofs.Common.{◌≡◌, ℕ, ◌+◌, List, [], ◌∷◌, true, Some, inl, inr, ⊎_elim, ◌∙◌, subst}
 use Rattle.std.proofs.lemmas.Bool.{cases_Bool}
 use Rattle.mk_graph.specs.Membership.{Has}
 use Rattle.mk_graph.specs.Graph.{Graph, node, IsGraph}
 use Rattle.mk_graph.specs.Setting.{FileName, Setting, name, writes}
-use Rattle.mk_graph.specs.World.{File, Disk, Making, World, Idle, Busy, IsStart, written}
-use Rattle.mk_graph.specs.Turns.{IsPart}
+use Rattle.mk_graph.specs.World.{Disk, Making, World, Idle, Busy, IsStart}
 use Rattle.mk_graph.specs.Schedule.{Step, Edit, Make, Begin, Look, Put, End, Pass, Stop, EndMake, MustRun, Ready, Allowed, after, make_of, IsLegal, after_all}
 use Rattle.mk_graph.specs.Right.{AreSound, IsRightAt}
 use Rattle.mk_graph.specs.BuildLaws.{IsInside, AreInside}
 use Rattle.mk_graph.proofs.Changes.{cases_name, changed_there}
 use Rattle.mk_graph.proofs.InOrder.{Has-from_without}
-use Rattle.mk_graph.proofs.Invariant.{Past, IsUntouched, Fits, InMake, IsUpToDate, Holds, IsInvariant}
+use Rattle.mk_graph.proofs.Invariant.{IsUntouched, Holds}
 use Rattle.mk_graph.proofs.Beginning.{begin_holds}
 use Rattle.mk_graph.proofs.Putting.{put_holds, look_holds}
 use Rattle.mk_graph.proofs.Ending.{end_holds}
-use Rattle.mk_graph.proofs.Histories.{untouched_at_start, start_rests, make_holds, PassesUpToDate, pass_may, step_keeps, right_at}
+use Rattle.mk_graph.proofs.Histories.{untouched_at_start, start_rests, make_holds, PassesUpToDate, pass_may, right_at}
 
 module _ (g : Graph) (s : Setting) (graph : IsGraph g) (sound : AreSound g s) where
   -- no file of what waits is there

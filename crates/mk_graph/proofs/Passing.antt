@@ -1,20 +1,19 @@
 -- A recipe that need not run and whose turn has come is up to date.
-use Rattle.std.proofs.Common.{◌≡◌, ℕ, ◌+◌, ◌<◌, ◌≤◌, List, [], ◌∷◌, true, false, Option, Some, None, map, ◌⊎◌, inl, inr, ⊎_elim, refl, sym, ◌∙◌, ap, subst, arith}
+use Rattle.std.proofs.Common.{◌≡◌, ℕ, ◌<◌, ◌≤◌, List, [], ◌∷◌, true, false, Option, Some, None, map, ◌⊎◌, inl, inr, ⊎_elim, refl, sym, ◌∙◌, ap, subst, arith}
 use Rattle.std.specs.Option.{option_map}
 use Rattle.std.proofs.lemmas.Bool.{cases_Bool, cases_lt}
 use Rattle.mk_graph.specs.Membership.{Has}
 use Rattle.mk_graph.specs.Graph.{Graph, node, prerequisites, IsGraph}
-use Rattle.mk_graph.specs.Setting.{FileName, Setting, name, reads, writes, IsAlwaysMade}
+use Rattle.mk_graph.specs.Setting.{FileName, Setting, name, writes}
 use Rattle.mk_graph.specs.World.{File, Disk, Making, content, HasStamp}
 use Rattle.mk_graph.specs.Turns.{Before}
 use Rattle.mk_graph.specs.Schedule.{MustRun, Ready}
-use Rattle.mk_graph.specs.Ways.{Carries, Way, over, written, source, always, CanChange}
+use Rattle.mk_graph.specs.Ways.{Carries, Way, over, written, source, always}
 use Rattle.mk_graph.specs.Right.{AreSound, HaveWays}
 use Rattle.mk_graph.proofs.Turning.{turn_has_before}
-use Rattle.mk_graph.proofs.InOrder.{InOrder, runs_not_done}
+use Rattle.mk_graph.proofs.InOrder.{runs_not_done}
 use Rattle.mk_graph.proofs.Sound.{writer_has_recipe, carried_is_before}
-use Rattle.mk_graph.proofs.Invariant.{Past, IsLater, HasRunWhole, WasThrough, Fits, InMake, IsUpToDate}
-use Rattle.mk_graph.proofs.Writing.{one_stamp}
+use Rattle.mk_graph.proofs.Invariant.{Past, HasRunWhole, WasThrough, Fits, InMake, IsUpToDate}
 
 -- a file that is there has a stamp
 pub cases_file : (d : Disk) (f : FileName) → (d.files f ≡ None) ⊎ ((stamp : ℕ) × HasStamp d f stamp)

@@ -1,17 +1,17 @@
 -- The invariant over a writing and a look of a running recipe.
-use Rattle.std.proofs.Common.{◌≡◌, ℕ, ◌+◌, ◌<◌, ◌≤◌, List, [], ◌∷◌, true, false, Option, Some, None, ◌⊎◌, inl, inr, ⊎_elim, refl, sym, ◌∙◌, ap, subst, arith}
+use Rattle.std.proofs.Common.{◌≡◌, ℕ, true, Option, Some, ◌⊎◌, inl, inr, ⊎_elim, sym, ◌∙◌, ap, subst, arith}
 use Rattle.std.proofs.lemmas.Bool.{cases_eq}
 use Rattle.mk_graph.specs.Membership.{Has}
 use Rattle.mk_graph.specs.Graph.{Graph, node, prerequisites, IsGraph}
 use Rattle.mk_graph.specs.Setting.{FileName, Setting, name, reads, writes}
-use Rattle.mk_graph.specs.World.{Disk, Making, content, HasStamp, written, changed}
+use Rattle.mk_graph.specs.World.{Disk, Making, content, written, changed}
 use Rattle.mk_graph.specs.Turns.{Before}
-use Rattle.mk_graph.specs.Schedule.{MustRun, has_put, looked, changed_at}
+use Rattle.mk_graph.specs.Schedule.{has_put, looked}
 use Rattle.mk_graph.specs.Right.{AreSound}
 use Rattle.mk_graph.proofs.Changes.{cases_name, changed_here, changed_there, changed_at_here, changed_at_there}
 use Rattle.mk_graph.proofs.Turning.{turn_has_before}
 use Rattle.mk_graph.proofs.InOrder.{InOrder, runs_not_done}
-use Rattle.mk_graph.proofs.Sound.{writer_has_recipe, reader_has_recipe, carried_is_before, written_can_change}
+use Rattle.mk_graph.proofs.Sound.{reader_has_recipe, carried_is_before, written_can_change}
 use Rattle.mk_graph.proofs.Invariant.{Past, Fits, InMake, IsUpToDate, Holds}
 use Rattle.mk_graph.proofs.Writing.{content_here, content_there, stamp_is, stamp_there, whole_written, fits_written, must_written}
 

@@ -1,24 +1,22 @@
 -- A make with one job that runs each recipe of the serial order whole is legal, and leaves what the clean build gives.
-use Rattle.std.proofs.Common.{append-nil, ◌≡◌, ℕ, zero, suc, ◌+◌, ◌<◌, ◌≤◌, List, [], ◌∷◌, ◌++◌, length, reverse, true, false, Option, Some, None, map, filter, fold, ◌⊎◌, inl, inr, ⊎_elim, refl, sym, ◌∙◌, ap, subst, arith}
-use Rattle.std.specs.Prelude.{cond, nat_eq, not, sum_by, ◌&&◌}
+use Rattle.std.proofs.Common.{append-nil, ◌≡◌, ℕ, suc, ◌+◌, ◌≤◌, List, [], ◌∷◌, ◌++◌, length, reverse, true, false, Option, Some, None, map, filter, inl, inr, ⊎_elim, refl, sym, ◌∙◌, ap, subst, arith}
+use Rattle.std.specs.Prelude.{nat_eq, sum_by, ◌&&◌}
 use Rattle.std.specs.Option.{option_and_then, option_map}
 use Rattle.std.proofs.lemmas.Bool.{cases_Bool, cond-true, cond-false, true≢false, ne_eqb, and_left}
-use Rattle.std.proofs.lemmas.List.{append_assoc, reverse-reverse}
+use Rattle.std.proofs.lemmas.List.{append_assoc}
 use Rattle.std.proofs.lemmas.List.Sums.{sum_by-cons}
 use mathlib.Core.List.{reverse-cons}
 use Rattle.mk_graph.specs.Membership.{Has, has}
 use Rattle.mk_graph.specs.Graph.{Graph, node, HasNoCycle}
 use Rattle.mk_graph.specs.Serial.{visits}
 use Rattle.mk_graph.specs.Setting.{FileName, Setting, is_given, reads, writes}
-use Rattle.mk_graph.specs.World.{File, Outcome, Disk, Making, World, Idle, Busy, IsStart, content, changed, last_stamp, outcome, same_seen, disk_of}
+use Rattle.mk_graph.specs.World.{File, Outcome, Disk, World, Idle, Busy, IsStart, content, changed, last_stamp, outcome, same_seen, disk_of}
 use Rattle.mk_graph.specs.Turns.{HasAll, MayTurn, Turns, IsPart}
 use Rattle.mk_graph.specs.Schedule.{Step, Make, Pass, EndMake, after, noted, make_of, IsLegal, after_all}
 use Rattle.mk_graph.specs.Clean.{Contents, given_contents, put_all, run_clean, make_clean, make_all_clean, order_of, clean_build}
-use Rattle.mk_graph.specs.SerialMake.{puts, whole_run, RunsSerially, ends, passes, runs}
-use Rattle.mk_graph.proofs.Members.{Has-reverse}
+use Rattle.mk_graph.specs.SerialMake.{whole_run, RunsSerially, ends, passes, runs}
 use Rattle.mk_graph.proofs.Turning.{HasAll-has, HasAll-from}
-use Rattle.mk_graph.proofs.SerialTurns.{serial_turns, order_is, order_back, goal_is_chosen}
-use Rattle.mk_graph.proofs.Passing.{cases_file}
+use Rattle.mk_graph.proofs.SerialTurns.{serial_turns, order_is, goal_is_chosen}
 use Rattle.mk_graph.proofs.WholeRuns.{legal_append, after_append, quiet, Ran, whole_run_legal}
 use Rattle.mk_graph.proofs.Outcomes.{noted_unknown}
 

@@ -1,11 +1,11 @@
 -- What sound footprints say of the recipes that write what another one reads or needs.
-use Rattle.std.proofs.Common.{◌≡◌, ℕ, List, [], ◌∷◌, true, false, ◌⊎◌, inl, inr, ⊎_elim, refl, sym, ◌∙◌, subst, ◌&&◌}
-use Rattle.std.specs.Prelude.{cond, not, ◌||◌}
-use Rattle.std.proofs.lemmas.Bool.{cases_Bool, cond-true, cond-false, false≢true, true≢false, and_parts, or_left}
+use Rattle.std.proofs.Common.{◌≡◌, ℕ, List, [], true, inr, ⊎_elim, sym, ◌∙◌, subst}
+use Rattle.std.specs.Prelude.{not, ◌||◌}
+use Rattle.std.proofs.lemmas.Bool.{cases_Bool, cond-false, true≢false, and_parts, or_left}
 use Rattle.mk_graph.specs.Membership.{Has}
 use Rattle.mk_graph.specs.Graph.{Graph, node, prerequisites, IsGraph}
-use Rattle.mk_graph.specs.Setting.{FileName, Setting, is_given, is_editable, has_name, begins_with, name, reads, writes}
-use Rattle.mk_graph.specs.Turns.{MayTurn, Turns, Before}
+use Rattle.mk_graph.specs.Setting.{FileName, Setting, is_given, is_editable, has_name, name, reads, writes}
+use Rattle.mk_graph.specs.Turns.{Before}
 use Rattle.mk_graph.specs.Ways.{Carries, CanChange}
 use Rattle.mk_graph.specs.Right.{AreSound}
 use Rattle.mk_graph.proofs.Turning.{HasAll-has, turn_has_prerequisites}

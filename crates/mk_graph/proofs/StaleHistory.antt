@@ -1,32 +1,28 @@
 -- A read without a way is shown to be stale: what doesn't reach the file need not run when the file has changed.
-use Rattle.std.proofs.Common.{append-nil, ◌≡◌, ℕ, zero, suc, ◌+◌, ◌*◌, ◌<◌, ◌≤◌, List, [], ◌∷◌, ◌++◌, length, reverse, true, false, Option, Some, None, map, filter, ◌⊎◌, inl, inr, ⊎_elim, refl, sym, ◌∙◌, ap, subst, arith}
-use Rattle.std.specs.Prelude.{cond, sum_by, slice_index_or}
+use Rattle.std.proofs.Common.{append-nil, ◌≡◌, ℕ, zero, suc, ◌+◌, ◌*◌, ◌<◌, ◌≤◌, List, [], ◌∷◌, ◌++◌, length, reverse, true, false, Option, Some, None, filter, ◌⊎◌, inl, inr, ⊎_elim, refl, sym, ◌∙◌, ap, subst, arith}
 use Rattle.std.specs.Option.{option_map}
 use Rattle.std.proofs.lemmas.Bool.{cases_Bool, cases_lt, cases_eq, true≢false}
-use Rattle.std.proofs.lemmas.List.{append_assoc, get_or_past}
+use Rattle.std.proofs.lemmas.List.{get_or_past}
 use Rattle.mk_graph.specs.declared.node.Node.{Node}
 use Rattle.mk_graph.specs.Membership.{Has, has}
 use Rattle.mk_graph.specs.Graph.{Graph, node, no_node, prerequisites, Reached, goal, onward, IsGraph}
-use Rattle.mk_graph.specs.Serial.{visits}
-use Rattle.mk_graph.specs.Setting.{FileName, Setting, is_given, is_editable, name, reads, writes}
-use Rattle.mk_graph.specs.World.{File, Outcome, Disk, World, Idle, Busy, IsStart, HasStamp, content, written, last_stamp, outcome, disk_of}
+use Rattle.mk_graph.specs.Setting.{FileName, Setting, is_editable, name, reads, writes}
+use Rattle.mk_graph.specs.World.{File, Outcome, Disk, World, Idle, Busy, IsStart, HasStamp, written, last_stamp, outcome, disk_of}
 use Rattle.mk_graph.specs.Turns.{HasAll, MayTurn, Turns, IsPart, Before}
-use Rattle.mk_graph.specs.Schedule.{Step, Edit, Make, EndMake, MustRun, after, make_of, IsLegal, after_all}
+use Rattle.mk_graph.specs.Schedule.{Step, EndMake, MustRun, make_of, IsLegal, after_all}
 use Rattle.mk_graph.specs.Clean.{order_of}
 use Rattle.mk_graph.specs.Ways.{Carries, Way, over, written as written_way, source, always, CanChange}
 use Rattle.mk_graph.specs.Right.{AreSound}
 use Rattle.mk_graph.specs.Stale.{Chain, here, further, MakesBut, make_with, IsEditOf, ShowsStale, IsLaterThanAll}
-use Rattle.mk_graph.proofs.Members.{cases_Has}
 use Rattle.mk_graph.proofs.Changes.{cases_name, changed_there}
 use Rattle.mk_graph.proofs.Turning.{HasAll-has, HasAll-from, turn_has_prerequisites}
-use Rattle.mk_graph.proofs.Sound.{writer_has_recipe, reader_has_recipe, editable_is_given, editable_is_not_written, carried_is_before}
+use Rattle.mk_graph.proofs.Sound.{writer_has_recipe, reader_has_recipe, editable_is_not_written, carried_is_before}
 use Rattle.mk_graph.proofs.SerialTurns.{serial_turns, order_is, goal_is_chosen}
 use Rattle.mk_graph.proofs.Writing.{one_stamp, stamp_here, stamp_is, stamp_there}
-use Rattle.mk_graph.proofs.Passing.{cases_file}
-use Rattle.mk_graph.proofs.Histories.{stamped_file, untouched_at_start}
+use Rattle.mk_graph.proofs.Histories.{stamped_file}
 use Rattle.mk_graph.proofs.CleanEnd.{cases_among}
-use Rattle.mk_graph.proofs.WholeRuns.{legal_append, after_append, quiet}
-use Rattle.mk_graph.proofs.SerialHistory.{writes_of, TurnOn, turn_on}
+use Rattle.mk_graph.proofs.WholeRuns.{legal_append, after_append}
+use Rattle.mk_graph.proofs.SerialHistory.{writes_of, turn_on}
 use Rattle.mk_graph.proofs.MakesBut.{same_stamp, AreByName, Ascends, Keeps, Left, Goes, makes_legal}
 
 -- what has a recipe is a node
@@ -130,21 +126,25 @@ module _ (g : Graph) (s : Setting) (graph : IsGraph g) (sound : AreSound g s) wh
       reached_need_not n chain recipe (inr why) = on_disk why where
         not_phony : (node g n).phony ≡ false
         not_phony = ⊎_elim (λ e. absurd (no_way (way_back chain (always (inl e))))) (λ e. e) (cases_Bool (node g n).phony)
+
         own : Has (writes g s n) (name g n)
         own = sound.target n recipe not_phony
+
         target : (stamp : ℕ) × HasStamp first (name g n) stamp × (before.clock < stamp)
         target = made.fresh n (name g n) (recipe_among n recipe) (λ x. x) own
+
         later_one : (q stamp late : ℕ) → Has (prerequisites g n) q → HasStamp first (name g n) stamp → HasStamp now (name g q) late → stamp < late → ⊥
         later_one q stamp late need has has_late less =
             ⊎_elim (λ some. let carries : Carries g s n some.0 = (q, need, some.1) in let at_first = same_stamp now first (name g q) late (sym (reached_stays some.0 (name g q) (further n chain carries) some.1)) has_late in let up = ascends_at all_nodes first all_turns.0 made.ascends part some.0 n (name g n) (name g q) stamp late (carried_is_before g s graph sound n some.0 carries) recipe (recipe_among n recipe) own some.1 has at_first in omega arith) (λ none. ⊎_elim (λ same_name. ⊎_elim (λ editable. no_way (way_back chain (source editable (q, need, sym same_name)))) (λ fixed. given_one q stamp late none (inr fixed) has has_late less) (cases_Bool (is_editable s f))) (λ differ. given_one q stamp late none (inl differ) has has_late less) (cases_name f (name g q))) (cases_writer g s (name g q)) where
-          given_one : (q stamp late : ℕ) → ((o : ℕ) → ¬ (Has (writes g s o) (name g q))) → (¬ (f ≡ name g q)) ⊎ (is_editable s f ≡ false) → HasStamp first (name g n) stamp → HasStamp now (name g q) late → stamp < late → ⊥
-          given_one q stamp late none spare has has_late less =
-              let at_first = same_stamp now first (name g q) late (sym (keeps (name g q) (λ x wrote. absurd (none x wrote)) ∙ stays (name g q) spare)) has_late in
-              let at_begin = same_stamp first before (name g q) late (sym (made.keeps (name g q) (λ x wrote. none x wrote))) at_first in
-              let came = begin_stamped (name g q) late at_begin in
-              let fresh = target.2 in
-              let same = one_stamp first (name g n) stamp target.0 has target.1 in
-              omega arith
+              given_one : (q stamp late : ℕ) → ((o : ℕ) → ¬ (Has (writes g s o) (name g q))) → (¬ (f ≡ name g q)) ⊎ (is_editable s f ≡ false) → HasStamp first (name g n) stamp → HasStamp now (name g q) late → stamp < late → ⊥
+              given_one q stamp late none spare has has_late less =
+                  let at_first = same_stamp now first (name g q) late (sym (keeps (name g q) (λ x wrote. absurd (none x wrote)) ∙ stays (name g q) spare)) has_late in
+                  let at_begin = same_stamp first before (name g q) late (sym (made.keeps (name g q) (λ x wrote. none x wrote))) at_first in
+                  let came = begin_stamped (name g q) late at_begin in
+                  let fresh = target.2 in
+                  let same = one_stamp first (name g n) stamp target.0 has target.1 in
+                  omega arith
+
         on_disk : (now.files (name g n) ≡ None) ⊎ ((q stamp late : ℕ) × Has (prerequisites g n) q × HasStamp now (name g n) stamp × HasStamp now (name g q) late × (stamp < late)) → ⊥
         on_disk (inl absent) = let gone : None ≡ Some target.0 = sym (ap (λ (x : Option File). option_map (λ (y : File). y.stamp) x) (sym (reached_stays n (name g n) chain own) ∙ absent)) ∙ target.1 in cc
         on_disk (inr (q, stamp, late, need, has, has_late, less)) = later_one q stamp late need (same_stamp now first (name g n) stamp (sym (reached_stays n (name g n) chain own)) has) has_late less

@@ -1,27 +1,20 @@
 -- A whole run of a recipe, in a make with one job in which nothing else runs.
-use Rattle.std.proofs.Common.{◌≡◌, ℕ, zero, suc, ◌+◌, ◌<◌, ◌≤◌, List, [], ◌∷◌, ◌++◌, length, reverse, true, false, Bool, Option, Some, None, map, filter, fold, ◌⊎◌, inl, inr, ⊎_elim, refl, sym, ◌∙◌, ap, subst, arith}
-use Rattle.std.specs.Prelude.{cond, nat_eq, not, sum_by, IfSome, unwrap_or, ◌&&◌}
-use Rattle.std.specs.Option.{option_and_then, option_flatten}
-use Rattle.std.proofs.lemmas.Bool.{cases_Bool, cases_eq, cond-true, cond-false, true≢false, ne_eqb, and_left}
+use Rattle.std.proofs.Common.{◌≡◌, ℕ, ◌+◌, ◌<◌, ◌≤◌, List, [], ◌∷◌, ◌++◌, length, true, Option, Some, None, map, filter, ◌⊎◌, inl, inr, ⊎_elim, refl, sym, ◌∙◌, ap, subst, arith}
+use Rattle.std.specs.Prelude.{nat_eq, not, IfSome, unwrap_or}
+use Rattle.std.specs.Option.{option_flatten}
+use Rattle.std.proofs.lemmas.Bool.{cond-false}
 use Rattle.std.proofs.lemmas.Bool.Decides.{Decides-eqb}
-use Rattle.std.proofs.lemmas.List.{append_assoc, reverse-reverse}
-use Rattle.std.proofs.lemmas.List.Sums.{sum_by-cons, fold-append}
-use mathlib.Core.List.{reverse-cons}
+use Rattle.std.proofs.lemmas.List.Sums.{fold-append}
 use Rattle.mk_graph.specs.Membership.{Has, has}
-use Rattle.mk_graph.specs.Graph.{Graph, node, prerequisites, HasNoCycle}
-use Rattle.mk_graph.specs.Serial.{visits}
-use Rattle.mk_graph.specs.Setting.{FileName, Setting, is_given, reads, writes}
-use Rattle.mk_graph.specs.World.{File, Outcome, Disk, Making, World, Idle, Busy, IsStart, HasStamp, content, changed, written, last_stamp, outcome, disk_of, same_seen}
-use Rattle.mk_graph.specs.Turns.{HasAll, MayTurn, Turns, IsPart}
-use Rattle.mk_graph.specs.Schedule.{Step, Make, Begin, Look, Put, End, Pass, EndMake, Allowed, MayEnd, after, make_of, begun, looked, has_put, finished, noted, changed_at, seen_by, put_by, IsLegal, after_all}
-use Rattle.mk_graph.specs.Clean.{Contents, given_contents, put_all, run_clean, make_clean, make_all_clean, order_of, clean_build}
+use Rattle.mk_graph.specs.Graph.{Graph, node}
+use Rattle.mk_graph.specs.Setting.{FileName, Setting, reads, writes}
+use Rattle.mk_graph.specs.World.{Outcome, Disk, Making, World, Busy, HasStamp, content, changed, written, last_stamp, outcome}
+use Rattle.mk_graph.specs.Turns.{MayTurn}
+use Rattle.mk_graph.specs.Schedule.{Step, Look, End, MayEnd, after, begun, looked, has_put, noted, seen_by, put_by, IsLegal, after_all}
+use Rattle.mk_graph.specs.Clean.{Contents, put_all}
 use Rattle.mk_graph.specs.SerialMake.{puts, whole_run}
-use Rattle.mk_graph.proofs.Changes.{cases_name, changed_here, changed_there, changed_at_here, changed_at_there}
-use Rattle.mk_graph.proofs.Turning.{HasAll-has, HasAll-from}
-use Rattle.mk_graph.proofs.Outcomes.{noted_unknown}
+use Rattle.mk_graph.proofs.Changes.{cases_name, changed_here, changed_there, changed_at_here}
 use Rattle.mk_graph.proofs.Writing.{map_same, content_here, content_there, stamp_here, stamp_is, stamp_there, stamp_kept}
-use Rattle.mk_graph.proofs.Passing.{cases_file}
-use Rattle.mk_graph.proofs.CleanEnd.{fold_push}
 
 module _ (g : Graph) (s : Setting) where
   -- two legal histories, one behind the other

@@ -1,15 +1,14 @@
 -- The invariant over a writing of a file that none but a running recipe writes.
-use Rattle.std.proofs.Common.{◌≡◌, ℕ, ◌+◌, ◌<◌, ◌≤◌, List, [], ◌∷◌, true, false, Option, Some, None, map, ◌⊎◌, inl, inr, ⊎_elim, refl, sym, ◌∙◌, ap, subst, arith}
+use Rattle.std.proofs.Common.{◌≡◌, ℕ, ◌+◌, List, [], ◌∷◌, Some, map, inl, inr, ⊎_elim, refl, sym, ◌∙◌, ap, subst, arith}
 use Rattle.std.specs.Option.{option_map}
 use Rattle.mk_graph.specs.Membership.{Has}
-use Rattle.mk_graph.specs.Graph.{Graph, node, prerequisites}
-use Rattle.mk_graph.specs.Setting.{FileName, Setting, name, reads, writes}
+use Rattle.mk_graph.specs.Graph.{Graph, prerequisites}
+use Rattle.mk_graph.specs.Setting.{FileName, Setting, name, writes}
 use Rattle.mk_graph.specs.World.{File, Disk, content, HasStamp, written}
-use Rattle.mk_graph.specs.Turns.{Before}
 use Rattle.mk_graph.specs.Schedule.{MustRun}
 use Rattle.mk_graph.specs.Ways.{CanChange}
 use Rattle.mk_graph.proofs.Changes.{cases_name, changed_here, changed_there}
-use Rattle.mk_graph.proofs.Invariant.{Past, IsLater, HasRunWhole, IsUntouched, WasThrough, Fits}
+use Rattle.mk_graph.proofs.Invariant.{Past, IsLater, HasRunWhole, WasThrough, Fits}
 
 -- two lists of what is found at names are equal where it is equal at each
 pub map_same : {A : Type 0} (one other : FileName → A) (files : List FileName) → ((f : FileName) → Has files f → one f ≡ other f) → map one files ≡ map other files

@@ -1,11 +1,11 @@
 -- Laws of builds: of turn lists, of legal histories, and of what is accepted.
-use Rattle.std.specs.Prelude.{◌≡◌, ℕ, suc, ◌+◌, ◌*◌, ◌<◌, ◌≤◌, List, [], ◌∷◌, ◌++◌, length, sum_by, reverse, true, Option, Some}
+use Rattle.std.specs.Prelude.{◌≡◌, ℕ, suc, ◌+◌, ◌*◌, ◌<◌, ◌≤◌, List, [], ◌∷◌, ◌++◌, length, sum_by, reverse, true, Some}
 use Rattle.mk_graph.specs.Membership.{Has}
 use Rattle.mk_graph.specs.Graph.{Graph, node, HasNoCycle, IsGraph}
 use Rattle.mk_graph.specs.Setting.{FileName, Setting, reads, writes}
 use Rattle.mk_graph.specs.World.{Outcome, Disk, Making, World, Idle, Busy, IsStart, IsFirst, content, disk_of, last_stamp}
 use Rattle.mk_graph.specs.Turns.{MayTurn, Turns, IsPart, Before}
-use Rattle.mk_graph.specs.Schedule.{Step, Edit, Make, Begin, Look, Put, End, Pass, Stop, EndMake, Ready, IsLegal, after_all}
+use Rattle.mk_graph.specs.Schedule.{Step, Make, Begin, Look, Put, End, Pass, EndMake, Ready, IsLegal, after_all}
 use Rattle.mk_graph.specs.Clean.{Contents, given_contents, order_of, clean_build}
 use Rattle.mk_graph.specs.SerialMake.{RunsSerially}
 use Rattle.mk_graph.specs.Bare.{ShowsNotBefore}

@@ -1,9 +1,9 @@
 -- Clean builds: what files hold where all recipes that some goals reach are run from nothing but given files.
-use Rattle.std.specs.Prelude.{◌≡◌, ℕ, List, [], ◌∷◌, Option, Some, None, option_and_then, filter, map, fold, if◌then◌else◌, true}
+use Rattle.std.specs.Prelude.{◌≡◌, ℕ, List, [], ◌∷◌, Option, Some, None, option_and_then, filter, map, fold, if◌then◌else◌}
 use Rattle.mk_graph.specs.Membership.{Has, has}
 use Rattle.mk_graph.specs.Graph.{Graph, node, Reached}
 use Rattle.mk_graph.specs.Serial.{serial_from}
-use Rattle.mk_graph.specs.Setting.{FileName, Setting, is_given, name, reads, writes}
+use Rattle.mk_graph.specs.Setting.{FileName, Setting, is_given, reads, writes}
 use Rattle.mk_graph.specs.World.{Disk, Outcome, content, changed, outcome}
 
 -- what files hold, by their names

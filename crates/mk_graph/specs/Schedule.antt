@@ -1,11 +1,11 @@
 -- The steps of builds: which are allowed in a world, and what each leaves.
-use Rattle.std.specs.Prelude.{◌≡◌, ℕ, ◌+◌, ◌<◌, ◌≤◌, List, [], ◌∷◌, ◌++◌, length, map, filter, not, Bool, true, false, Option, Some, None, IfSome, is_some, unwrap_or, if◌then◌else◌, nat_eq, fold, ◌⊎◌}
+use Rattle.std.specs.Prelude.{◌≡◌, ℕ, ◌<◌, List, [], ◌∷◌, length, map, filter, not, true, false, Option, Some, None, IfSome, is_some, unwrap_or, if◌then◌else◌, nat_eq, fold, ◌⊎◌}
 use Rattle.std.specs.Option.{option_flatten}
 use Rattle.mk_graph.specs.Membership.{Has}
 use Rattle.mk_graph.specs.Graph.{Graph, node, prerequisites}
 use Rattle.mk_graph.specs.Setting.{FileName, Setting, is_editable, name, reads, writes, IsAlwaysMade}
-use Rattle.mk_graph.specs.World.{File, Outcome, Disk, Making, World, Idle, Busy, content, HasStamp, changed, last_stamp, written, outcome}
-use Rattle.mk_graph.specs.Turns.{HasAll, Wanted, MayTurn, IsPart}
+use Rattle.mk_graph.specs.World.{Outcome, Disk, Making, World, Idle, Busy, content, HasStamp, changed, last_stamp, written, outcome}
+use Rattle.mk_graph.specs.Turns.{HasAll, MayTurn, IsPart}
 
 -- What can happen: an edit of a file, the begin of a make, and in a make the begin of a recipe, its look at a file,
 -- its writing of a file, its end, the passing of a node, the stop and the end of the make.

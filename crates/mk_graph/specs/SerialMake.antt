@@ -1,8 +1,8 @@
 -- The history that makes some goals with one job, one recipe after another.
-use Rattle.std.specs.Prelude.{◌≡◌, ℕ, List, [], ◌∷◌, ◌++◌, map, true, false, Option, Some, None}
+use Rattle.std.specs.Prelude.{◌≡◌, ℕ, List, [], ◌∷◌, ◌++◌, map, true, false, Some}
 use Rattle.mk_graph.specs.Graph.{Graph, node}
 use Rattle.mk_graph.specs.Setting.{FileName, Setting, reads, writes}
-use Rattle.mk_graph.specs.World.{Disk, World, Idle, Busy, Outcome, outcome}
+use Rattle.mk_graph.specs.World.{Outcome, outcome}
 use Rattle.mk_graph.specs.Schedule.{Step, Begin, Look, Put, End, Pass}
 use Rattle.mk_graph.specs.Clean.{Contents, put_all}
 

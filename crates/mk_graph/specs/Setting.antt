@@ -1,5 +1,5 @@
 -- What is recorded of a build beside its graph: the files of each recipe, and which files are given.
-use Rattle.std.specs.Prelude.{◌≡◌, ℕ, List, [], Bool, true, false, not, ◌&&◌, ◌||◌, ◌⊎◌, if◌then◌else◌, bytes_eq, take, length}
+use Rattle.std.specs.Prelude.{◌≡◌, ℕ, List, [], Bool, true, not, ◌&&◌, ◌||◌, ◌⊎◌, if◌then◌else◌, bytes_eq, take, length}
 use Rattle.std.specs.List.{list_any}
 use Rattle.mk_graph.specs.Membership.{Has}
 use Rattle.mk_graph.specs.Graph.{Graph, node, prerequisites}

@@ -1,5 +1,5 @@
 -- Worlds: what files hold and how old they are, what recipes are known to give, and the make in progress.
-use Rattle.std.specs.Prelude.{◌≡◌, ℕ, ◌+◌, ◌<◌, ◌≤◌, List, [], ◌∷◌, Bool, true, ◌&&◌, ◌==◌, Option, Some, None, option_map, if◌then◌else◌, bytes_eq, nat_eq, length, ◌⊎◌, ◌↔◌}
+use Rattle.std.specs.Prelude.{◌≡◌, ℕ, ◌+◌, ◌<◌, ◌≤◌, List, [], ◌∷◌, Bool, true, ◌&&◌, Option, Some, None, option_map, if◌then◌else◌, bytes_eq, nat_eq, length, ◌⊎◌, ◌↔◌}
 use Rattle.std.specs.Option.{option_eq}
 use Rattle.std.specs.declared.cmp.Ordering.TheVariants.{Less}
 use Rattle.std.specs.Ordering.{nat_cmp}

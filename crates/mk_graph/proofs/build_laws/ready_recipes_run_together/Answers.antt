@@ -1,5 +1,5 @@
 -- What is ready stays so when another recipe begins.
-use Rattle.std.proofs.Common.{◌≡◌, ⊎_elim, arith}
+use Rattle.std.proofs.Common.{⊎_elim, arith}
 use Rattle.mk_graph.proofs.build_laws.ready_recipes_run_together.Goals as goal
 
 pub returns : goal.returns
