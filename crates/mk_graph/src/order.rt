@@ -11,13 +11,13 @@ pub trait Order {
     ghost graph_of: { Self → value.Graph };
 
     /// Whether `o` is done, in each make of some of the goals and with any number of jobs, whenever
-    /// the recipe of `t` may begin. It is so of each `t` without a recipe, and of each number that is
-    /// no node's. `build_laws` says what this means for histories.
+    /// the recipe of `t` may begin. It is so of each `t` that has no recipe or is no node.
+    /// `build_laws` says what this means for histories.
     ///
-    /// Targets may be made in parallel, so that one stands before another one in a list of
-    /// prerequisites doesn't put it before the other; a prerequisite is made before its target, and
-    /// what stands before a `.WAIT` before what stands behind it, where a make wants the target of
-    /// this list (IEEE Std 1003.1-2024, XCU make, "Target Rules", and the option `-j`).
+    /// Targets may be made in parallel, so the places of two names in a list of prerequisites put
+    /// neither before the other. A prerequisite is made before its target. What stands behind a
+    /// `.WAIT` isn't wanted by this list until what stands before it is made, but another list may
+    /// want it (IEEE Std 1003.1-2024, XCU make, "Target Rules", and the option `-j`).
     ///
     /// It doesn't fail.
     fn before(&self, o: usize, t: usize) -> bool
