@@ -1,0 +1,1 @@
+//! Laws of books and settings, about the definitions alone.
