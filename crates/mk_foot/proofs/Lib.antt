@@ -9,3 +9,7 @@ pub mod Same
 pub mod SharedLists
 pub mod Once
 pub mod Found
+pub mod GivenLaws
+pub mod OnceLaws
+pub mod NoJson
+pub mod Formats

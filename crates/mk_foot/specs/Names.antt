@@ -1,10 +1,15 @@
 -- Names in lists.
-use Rattle.std.specs.Prelude.{ℕ, ◌+◌, ◌-◌, ◌==◌, Bool, true, false, not, ◌&&◌, ◌||◌, List, [], ◌∷◌, ◌++◌, length, take, filter, slice_index, nat_eq, nat_lt, codes, Option, None, Some, if◌then◌else◌}
+use Rattle.std.specs.Prelude.{◌≡◌, ◌⊎◌, ℕ, ◌+◌, ◌-◌, ◌==◌, Bool, true, false, not, ◌&&◌, ◌||◌, List, [], ◌∷◌, ◌++◌, length, take, filter, slice_index, nat_eq, nat_lt, codes, Option, None, Some, if◌then◌else◌}
 use Rattle.std.specs.List.{list_any, starts_with}
 use Rattle.std.specs.Str.{bytes_eq}
 use Rattle.mk_lines.specs.Paths.{is_plain_path}
 
 -- the name stands among the names
+abbrev pub Has : List (List ℕ) → List ℕ → Type 0
+Has [] name = ⊥
+Has (other ∷ names) name = (other ≡ name) ⊎ Has names name
+
+-- the same as a test
 abbrev pub has_name : List (List ℕ) → List ℕ → Bool
 has_name names name = list_any (λ other. bytes_eq name other) names
 
