@@ -1,0 +1,24 @@
+-- The JSON value of bytes.
+use Rattle.std.proofs.Common.{◌≡◌, ℕ, true, List, Option, Some, None, Ok, Err, inl, inr, refl}
+use Rattle.std.specs.Str.{IsUtf8, is_utf8}
+use Rattle.std.proofs.lemmas.Bool.{cases_Bool}
+use Rattle.std.proofs.lemmas.Str.{IsUtf8-from_is_utf8, is_utf8-from_IsUtf8}
+use Rattle.serde_json.specs.Data.{Data}
+use Rattle.serde_json.specs.Read.{read}
+use Rattle.mk_foot.specs.declared.fault.FootFault.TheVariants.{NotJson}
+use Rattle.mk_foot.specs.Steps.{or_fault}
+use Rattle.mk_foot.specs.Reading.{json_of}
+
+-- a value is read
+pub json_found : (bytes : List ℕ) (d : Data) → IsUtf8 bytes → read bytes ≡ Some d → or_fault NotJson (json_of bytes) ≡ Ok d
+json_found bytes d text e =
+    let utf8 : is_utf8 bytes ≡ true = is_utf8-from_IsUtf8 bytes text in
+    rw (utf8, e) refl
+
+-- none is
+pub json_missing : (bytes : List ℕ) → (IsUtf8 bytes → read bytes ≡ None) → or_fault NotJson (json_of bytes) ≡ Err NotJson
+json_missing bytes none =
+    elim (cases_Bool (is_utf8 bytes)) [
+      | inl t ↦ (let e : read bytes ≡ None = none (IsUtf8-from_is_utf8 bytes t) in rw (t, e) refl)
+      | inr f ↦ rw f refl
+    ]

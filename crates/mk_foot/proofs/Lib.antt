@@ -1,0 +1,15 @@
+pub mod ListTests
+pub mod Steps
+pub mod Members
+pub mod Sets
+pub mod Places
+pub mod Json
+pub mod Targets
+pub mod Same
+pub mod SharedLists
+pub mod Once
+pub mod Found
+pub mod GivenLaws
+pub mod OnceLaws
+pub mod NoJson
+pub mod Formats

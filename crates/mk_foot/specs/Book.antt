@@ -1,0 +1,15 @@
+-- What a file of footprints says, in lists of bytes.
+use Rattle.std.specs.Prelude.{ℕ, List}
+
+-- what the recipe of a target was recorded to do
+pub record Record : Type 0 where
+  pub target : List ℕ
+  pub commands : List (List ℕ)
+  pub reads : List (List ℕ)
+  pub writes : List (List ℕ)
+
+-- the fronts of names of files that never change, the files that are there before a build, and what recipes do
+pub record Book : Type 0 where
+  pub fixed : List (List ℕ)
+  pub sources : List (List ℕ)
+  pub records : List Record

@@ -1,0 +1,11 @@
+pub mod Book
+pub mod Keys
+pub mod Steps
+pub mod Names
+pub mod Parts
+pub mod Kinds
+pub mod Footprints
+pub mod Checks
+pub mod Reading
+pub mod Setting
+pub mod Laws

@@ -1,0 +1,47 @@
+//! Books: what a file of footprints says for some goals.
+
+use std::marker::Model;
+
+/// What the recipe of a target was recorded to do. A contract sees lists of bytes.
+#[derive(Debug, Drop)]
+pub struct Record {
+    /// The target.
+    pub target: String,
+    /// The commands, expanded, with their repeats.
+    pub commands: Vec<String>,
+    /// The files that the recipe reads and has not written before in the same run, each once.
+    pub reads: Vec<String>,
+    /// The files that the recipe leaves written, each once.
+    pub writes: Vec<String>,
+}
+
+impl Model for Record {
+    ghost use Rattle.std.specs.Prelude.{map};
+    ghost use Rattle.std.specs.String.{string_bytes};
+    ghost use Rattle.mk_foot.specs.Book as value;
+
+    ghost Value = { value.Record };
+
+    ghost view = { λ r. record { target = string_bytes r.target; commands = map string_bytes r.commands.items; reads = map string_bytes r.reads.items; writes = map string_bytes r.writes.items } };
+}
+
+/// What a file of footprints says for some goals. A contract sees lists of bytes.
+#[derive(Debug, Drop)]
+pub struct Book {
+    /// The files whose names begin with one of these never change, each once.
+    pub fixed: Vec<String>,
+    /// The files that are there before a build, each once.
+    pub sources: Vec<String>,
+    /// What recipes were recorded to do, one record a target.
+    pub records: Vec<Record>,
+}
+
+impl Model for Book {
+    ghost use Rattle.std.specs.Prelude.{map};
+    ghost use Rattle.std.specs.String.{string_bytes};
+    ghost use Rattle.mk_foot.specs.Book as value;
+
+    ghost Value = { value.Book };
+
+    ghost view = { λ b. record { fixed = map string_bytes b.fixed.items; sources = map string_bytes b.sources.items; records = b.records.items } };
+}

@@ -1,0 +1,26 @@
+//! Recorded footprints: what a file of them says, and which files are given and editable.
+#![tactic(auto)]
+
+mod book;
+mod checks;
+mod fault;
+mod format;
+mod key;
+mod kinds;
+pub mod laws;
+mod name;
+mod name_set;
+mod name_table;
+mod parts;
+mod reading;
+mod setting;
+mod shapes;
+#[cfg(test)]
+mod tests;
+
+pub use book::{Book, Record};
+pub use fault::FootFault;
+pub use key::Key;
+pub use name::Name;
+pub use reading::read_book;
+pub use setting::Setting;

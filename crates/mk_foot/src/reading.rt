@@ -1,0 +1,184 @@
+//! The book of a file of footprints.
+
+ghost use Rattle.std.specs.Prelude.{◌≡◌, ◌++◌, map, IfOk, OnOk, fold};
+ghost use Rattle.std.specs.List.{flat_map};
+ghost use Rattle.std.specs.String.{string_bytes};
+ghost use Rattle.serde_json.specs.View.{view};
+ghost use Rattle.mk_foot.specs.declared.fault.FootFault.TheVariants.{NotJson};
+ghost use Rattle.mk_foot.specs.Names.{with_name};
+ghost use Rattle.mk_foot.specs.Checks.{list_names};
+ghost use Rattle.mk_foot.specs.Steps.{Gives, or_fault};
+ghost use Rattle.mk_foot.specs.Reading.{listed, record_of, book_of, book_in, json_of, book_from};
+
+use crate::book::{Book, Record};
+use crate::checks::{group_for, test_all};
+use crate::fault::FootFault;
+use crate::name_set::{NameSet, copied, insert_all, once};
+use crate::name_table::NameTable;
+use crate::parts::{Entry, Footprints, Group, SharedList};
+use crate::shapes::footprints_in;
+use serde_json::Value;
+use std::alloc::{AllocError, Global};
+
+/// The names of the shared lists.
+fn list_names(alloc: Global, lists: &[SharedList]) -> Result<NameTable, AllocError>
+    ensures { IfOk result (λ names. names ≡ map (λ list. list.name) lists.now) }
+{
+    let mut names = Vec::with_capacity(alloc, lists.len())?;
+    for list in lists {
+        names.push(String::from_str(alloc, list.name)?)?;
+    }
+    NameTable::new(alloc, names)
+}
+
+/// Adds the names of a shared list.
+fn insert_list<'a>(
+    set: &mut NameSet<'a>,
+    names: &NameTable,
+    lists: &[SharedList<'a>],
+    name: &str,
+) -> Result<(), AllocError>
+    requires { names.now ≡ map (λ list. list.name) lists.now }
+    ensures { OnOk result (set.new ≡ fold with_name set.old (listed lists.now name.now)) }
+{
+    match names.place(name) {
+        Some(place) => {
+            let list = &lists[place];
+            insert_all(set, &list.names)
+        }
+        None => Ok(()),
+    }
+}
+
+/// Adds the names of the shared lists of these names.
+fn insert_listed<'a>(
+    set: &mut NameSet<'a>,
+    names: &NameTable,
+    lists: &[SharedList<'a>],
+    shared: &[&str],
+) -> Result<(), AllocError>
+    requires { names.now ≡ map (λ list. list.name) lists.now }
+    ensures { OnOk result (set.new ≡ fold with_name set.old (flat_map (listed lists.now) (map (λ name. name.now) shared.now))) }
+{
+    for name in shared {
+        insert_list(set, names, lists, name)?;
+    }
+    Ok(())
+}
+
+/// The files that a record reads: its own, then those of the shared lists that it names.
+fn reads_of<'a>(
+    alloc: Global,
+    names: &NameTable,
+    lists: &[SharedList<'a>],
+    entry: &Entry<'a>,
+) -> Result<Vec<String>, AllocError>
+    requires { names.now ≡ map (λ list. list.name) lists.now }
+    ensures { IfOk result (λ reads. map string_bytes reads.items ≡ (record_of lists.now entry.now).reads) }
+{
+    let mut set = NameSet::with_capacity(alloc, entry.reads.len())?;
+    insert_all(&mut set, &entry.reads)?;
+    insert_listed(&mut set, names, lists, &entry.shared)?;
+    copied(alloc, set.as_slice())
+}
+
+/// A record of the book.
+fn record_of<'a>(
+    alloc: Global,
+    names: &NameTable,
+    lists: &[SharedList<'a>],
+    entry: &Entry<'a>,
+) -> Result<Record, AllocError>
+    requires { names.now ≡ map (λ list. list.name) lists.now }
+    ensures { IfOk result (λ made. made ≡ record_of lists.now entry.now) }
+{
+    Ok(Record {
+        target: String::from_str(alloc, entry.target)?,
+        commands: copied(alloc, &entry.commands)?,
+        reads: reads_of(alloc, names, lists, entry)?,
+        writes: once(alloc, &entry.writes)?,
+    })
+}
+
+/// The records of the book.
+fn records_of<'a>(
+    alloc: Global,
+    names: &NameTable,
+    lists: &[SharedList<'a>],
+    entries: &[Entry<'a>],
+) -> Result<Vec<Record>, AllocError>
+    requires { names.now ≡ map (λ list. list.name) lists.now }
+    ensures { IfOk result (λ records. records.items ≡ map (record_of lists.now) entries.now) }
+{
+    let mut records = Vec::with_capacity(alloc, entries.len())?;
+    for entry in entries {
+        records.push(record_of(alloc, names, lists, entry)?)?;
+    }
+    Ok(records)
+}
+
+/// The book of a group.
+fn book_of<'a>(
+    alloc: Global,
+    names: &NameTable,
+    file: &Footprints<'a>,
+    group: &Group<'a>,
+) -> Result<Book, AllocError>
+    requires { names.now ≡ list_names file.now }
+    ensures { IfOk result (λ book. book ≡ book_of file.now group.now) }
+{
+    Ok(Book {
+        fixed: once(alloc, &file.fixed)?,
+        sources: once(alloc, &file.sources)?,
+        records: records_of(alloc, names, &file.lists, &group.records)?,
+    })
+}
+
+/// The book of a JSON value.
+#[tactic(auto, unfolding(crate::specs::Reading::book_in))]
+fn book_in(alloc: Global, value: &Value, goals: &[String]) -> Result<Book, FootFault>
+    ensures { Gives (λ book. book) result (book_in (map string_bytes goals.now) (view value.now)) }
+{
+    let file = footprints_in(alloc, value)?;
+    let names = list_names(alloc, &file.lists)?;
+    test_all(alloc, &file, &names)?;
+    let group = group_for(goals, &file.groups)?;
+    Ok(book_of(alloc, &names, &file, group)?)
+}
+
+/// The JSON value of a text.
+fn json_of(alloc: Global, bytes: &[u8]) -> Result<Value, FootFault>
+    ensures { Gives (λ value. view value) result (or_fault NotJson (json_of bytes.now)) }
+{
+    match Value::from_slice(alloc, bytes) {
+        Ok(value) => Ok(value),
+        Err(error) => {
+            if error.is_memory() {
+                Err(FootFault::Memory)
+            } else {
+                Err(FootFault::NotJson)
+            }
+        }
+    }
+}
+
+/// The book of a file of footprints, for the goals of a build, or the first fault.
+///
+/// A file of format 1 is a JSON object with exactly `format` (1), `fixed`, `sources` and `records`.
+/// One of format 2 has `lists` and `groups` in place of `records`; its book has the records of the
+/// first group whose goals equal those handed in, and a record reads its own files, then those of
+/// the shared lists that it names. Lists keep their order. Repeats are dropped in `fixed`,
+/// `sources`, reads and writes, where a name first stands, and kept in commands.
+///
+/// The faults are tested in this order: 51 the value; 52 and 53 the format, then the keys of the
+/// object in the order of the format's description, then any other key, then record by record or
+/// group by group the same; 55 names, in the order fixed, sources, shared lists by the bytes of
+/// their names, then group by group goals, and record by record target, reads and writes; 54; 56;
+/// 58; 57. A key that comes twice has its last value.
+#[tactic(auto, unfolding(crate::specs::Reading::book_from))]
+pub fn read_book(alloc: Global, bytes: &[u8], goals: &[String]) -> Result<Book, FootFault>
+    ensures { Gives (λ book. book) result (book_from (map string_bytes goals.now) bytes.now) }
+{
+    let value = json_of(alloc, bytes)?;
+    book_in(alloc, &value, goals)
+}

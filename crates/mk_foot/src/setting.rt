@@ -1,0 +1,126 @@
+//! What a build starts from.
+
+ghost use Rattle.std.specs.Prelude.{◌≡◌, map, IfOk};
+ghost use Rattle.std.specs.Option.{option_copied};
+ghost use Rattle.std.specs.String.{string_bytes};
+ghost use Rattle.mk_foot.specs.Names.{has_name, is_under};
+ghost use Rattle.mk_foot.specs.Setting.{record_for, is_given, is_editable};
+
+use crate::book::{Book, Record};
+use crate::name_table::NameTable;
+use std::alloc::{AllocError, Global};
+use std::marker::Model;
+
+/// What a build starts from: a book, the makefile's texts, and the names that its reading passed
+/// over because they are missing. A contract sees lists of records and of names, from which
+/// `specs.Setting` gives what the recipe of a name reads and writes.
+#[derive(Drop)]
+pub struct Setting {
+    fixed: Vec<String>,
+    sources: NameTable,
+    texts: NameTable,
+    passed_over: NameTable,
+    targets: NameTable,
+    records: Vec<Record>,
+}
+
+impl Model for Setting {
+    ghost use Rattle.std.specs.Prelude.{◌≡◌, map};
+    ghost use Rattle.std.specs.String.{string_bytes};
+    ghost use Rattle.mk_foot.specs.Setting as value;
+
+    ghost Value = { value.Setting };
+
+    ghost view = { λ s. record { records = s.records.items; sources = s.sources; texts = s.texts; fixed = map string_bytes s.fixed.items; passed_over = s.passed_over } };
+
+    ghost invariant = { λ s. s.targets ≡ map (λ r. r.target) s.records.items };
+}
+
+/// The targets of records.
+fn targets_of(alloc: Global, records: &[Record]) -> Result<NameTable, AllocError>
+    ensures { IfOk result (λ targets. targets ≡ map (λ r. r.target) records.now) }
+{
+    let mut targets = Vec::with_capacity(alloc, records.len())?;
+    for record in records {
+        targets.push(record.target.clone()?)?;
+    }
+    NameTable::new(alloc, targets)
+}
+
+/// Whether a name begins with one of the prefixes.
+fn is_under(prefixes: &[String], name: &str) -> bool
+    ensures { result ≡ is_under (map string_bytes prefixes.now) name.now }
+{
+    let bytes = name.as_bytes();
+    prefixes
+        .iter()
+        .any(|prefix| bytes.starts_with(prefix.as_bytes()))
+}
+
+impl Setting {
+    /// The setting of a book, the names of the makefile's texts, and the names that its reading
+    /// passed over. It fails for want of memory alone.
+    pub fn new(
+        alloc: Global,
+        book: Book,
+        texts: Vec<String>,
+        passed_over: Vec<String>,
+    ) -> Result<Setting, AllocError>
+        ensures { IfOk result (λ setting. setting ≡ record { records = book.records; sources = book.sources; texts = map string_bytes texts.items; fixed = book.fixed; passed_over = map string_bytes passed_over.items }) }
+    {
+        let Book {
+            fixed,
+            sources,
+            records,
+        } = book;
+        let targets = targets_of(alloc, &records)?;
+        Ok(Setting {
+            fixed,
+            sources: NameTable::new(alloc, sources)?,
+            texts: NameTable::new(alloc, texts)?,
+            passed_over: NameTable::new(alloc, passed_over)?,
+            targets,
+            records,
+        })
+    }
+
+    /// Whether a file is given: a source, one under a fixed prefix, or a text of the makefile. It
+    /// takes no memory.
+    pub fn is_given(&self, name: &str) -> bool
+        ensures { result ≡ is_given self.now name.now }
+    {
+        self.sources.contains(name) || is_under(&self.fixed, name) || self.texts.contains(name)
+    }
+
+    /// Whether a file may be edited between makes: a source that is no text of the makefile. It
+    /// takes no memory.
+    pub fn is_editable(&self, name: &str) -> bool
+        ensures { result ≡ is_editable self.now name.now }
+    {
+        self.sources.contains(name) && !self.texts.contains(name)
+    }
+
+    /// The first record of a target. It takes no memory.
+    pub fn record_of(&self, name: &str) -> Option<&Record>
+        ensures { option_copied result ≡ record_for self.now.records name.now }
+    {
+        match self.targets.place(name) {
+            Some(place) => Some(&self.records[place]),
+            None => None,
+        }
+    }
+
+    /// The sources, in the order of the book.
+    pub fn sources(&self) -> &[String]
+        ensures { map string_bytes result.now ≡ self.now.sources }
+    {
+        self.sources.as_slice()
+    }
+
+    /// Whether the reading of the makefile passed over a name. It takes no memory.
+    pub fn is_passed_over(&self, name: &str) -> bool
+        ensures { result ≡ has_name self.now.passed_over name.now }
+    {
+        self.passed_over.contains(name)
+    }
+}
