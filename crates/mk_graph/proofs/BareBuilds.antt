@@ -1,5 +1,5 @@
 -- A turn list is the history of a make in which recipes neither read nor write.
-use Rattle.std.proofs.Common.{Bool, true, false, ◌≡◌, ℕ, List, [], ◌∷◌, ◌++◌, map, filter, not, inl, inr, ⊎_elim, refl, sym, ap, subst, ◌∙◌, arith, eq-eqb}
+use Rattle.std.proofs.Common.{None, Bool, true, false, ◌≡◌, ℕ, List, [], ◌∷◌, ◌++◌, map, filter, not, inl, inr, ⊎_elim, refl, sym, ap, subst, ◌∙◌, arith, eq-eqb}
 use Rattle.std.specs.Prelude.{Option, Some, None, IfSome, is_some, unwrap_or, nat_eq, if◌then◌else◌, ◌&&◌}
 use Rattle.std.proofs.lemmas.Bool.{cases_Bool, cond-true, cond-false}
 use Rattle.std.proofs.lemmas.List.Sums.{fold-append}
@@ -8,7 +8,7 @@ use Rattle.mk_graph.specs.Graph.{Graph, node}
 use Rattle.mk_graph.specs.Setting.{FileName, Setting, reads, writes}
 use Rattle.mk_graph.specs.World.{Outcome, Disk, Making, World, Idle, Busy, outcome, same_seen}
 use Rattle.mk_graph.specs.Turns.{MayTurn, Turns, IsPart}
-use Rattle.mk_graph.specs.Schedule.{Step, Make, Begin, End, Pass, MayEnd, begun, noted, seen_by, put_by, after, IsLegal, after_all}
+use Rattle.mk_graph.specs.Schedule.{changed_at, Step, Make, Begin, End, Pass, MayEnd, begun, noted, seen_by, put_by, after, IsLegal, after_all}
 use Rattle.mk_graph.specs.Bare.{empty_setting, empty_disk, turn_steps, steps_of, IsUndone, ShowsNotBefore}
 
 -- a legal history goes on where its end allows
@@ -69,7 +69,7 @@ module _ (g : Graph) (goals : List ℕ) where
   module _ (seen : ℕ → FileName → Option (Option ℕ)) (put : ℕ → FileName → Option ℕ) (disk : Disk) (nothing : WroteNothing disk.known) (ns : List ℕ) (n : ℕ) (may : MayTurn g goals ns n) where
     -- a node without a recipe is passed
     pass_turn : (node g n).recipe ≡ false → LeadsTo (Busy (quiet seen put ns) disk) (Pass n ∷ []) (n ∷ ns)
-    pass_turn e = record { seen = seen; put = put; disk = disk; world = refl; nothing = nothing; legal = (((may, λ h. h), inl e), tt) }
+    pass_turn e = record { seen = changed_at seen n (λ f. None); put = changed_at put n (λ f. None); disk = disk; world = refl; nothing = nothing; legal = (((may, λ h. h), inl e), tt) }
 
     -- a recipe is run
     run_turn : (node g n).recipe ≡ true → LeadsTo (Busy (quiet seen put ns) disk) (Begin n ∷ End n ∷ []) (n ∷ ns)
@@ -84,10 +84,10 @@ module _ (g : Graph) (goals : List ℕ) where
           agrees = subst (λ (l : List ℕ). IfSome (outcome disk.known n (seen_by g empty_setting m n)) (λ known. known ≡ l)) (sym wrote) (outcome_nothing disk.known n (seen_by g empty_setting m n) nothing);
         } in
         record {
-          seen = m.seen;
-          put = m.put;
+          seen = changed_at m.seen n (λ f. None);
+          put = changed_at m.put n (λ f. None);
           disk = noted disk o;
-          world = ap (λ (running : List ℕ). Busy (record { jobs = 1; goals = goals; done = n ∷ ns; running = running; seen = m.seen; put = m.put }) (noted disk o)) (ended n);
+          world = ap (λ (running : List ℕ). Busy (record { jobs = 1; goals = goals; done = n ∷ ns; running = running; seen = changed_at m.seen n (λ f. None); put = changed_at m.put n (λ f. None) }) (noted disk o)) (ended n);
           nothing = noted_nothing disk o nothing wrote;
           legal = (((may, λ h. h), e, omega arith), (may_end, tt));
         }

@@ -16,7 +16,7 @@ use Rattle.mk_graph.proofs.Members.{Has-append_left, Has-append_right}
 use Rattle.mk_graph.proofs.Changes.{cases_name, changed_here, changed_there}
 use Rattle.mk_graph.proofs.Turning.{HasAll-has, turn_has_prerequisites}
 use Rattle.mk_graph.proofs.SerialTurns.{serial_turns, order_back, goal_is_chosen}
-use Rattle.mk_graph.proofs.Sound.{writer_has_recipe, reader_has_recipe}
+use Rattle.mk_graph.proofs.Sound.{writer_has_recipe, reader_has_recipe, writer_is_before}
 use Rattle.mk_graph.proofs.Writing.{map_same}
 use Rattle.mk_graph.proofs.Passing.{is_there}
 
@@ -78,7 +78,7 @@ module _ (g : Graph) (s : Setting) (graph : IsGraph g) (sound : AreSound g s) (d
     -- its recipe sees what the disk holds
     sees_disk : map before.0 (reads g s n) ≡ map (content d) (reads g s n)
     unfolding Agrees
-    sees_disk = map_same before.0 (content d) (reads g s n) (λ f read. before.2 f (⊎_elim (λ given. inl given) (λ wrote. inr (wrote.0, sound.no_race n wrote.0 f read wrote.1 (reader n f read) goals ns part turns may, wrote.1)) (sound.known n f read))) where
+    sees_disk = map_same before.0 (content d) (reads g s n) (λ f read. before.2 f (⊎_elim (λ given. inl given) (λ wrote. inr (wrote.0, writer_is_before g s graph sound n wrote.0 f read wrote.1 (reader n f read) goals ns part turns may, wrote.1)) (sound.known n f read))) where
       reader : (t : ℕ) (f : FileName) → Has (reads g s t) f → (node g t).recipe ≡ true
       reader t f read = reader_has_recipe g s t f read
 

@@ -124,9 +124,9 @@ module _ (g : Graph) (s : Setting) (p : Past) (start : ℕ) (m : Making) (d : Di
       make = record {
         order = finished_in_order g m is.order x (is.order.running x may.runs);
         start_came = is.start_came;
-        seen = λ t f v runs read e. is.seen t f v (Has-without x t m.running runs).0 read e;
-        put = λ t f c runs wrote e. is.put t f c (Has-without x t m.running runs).0 wrote e;
-        put_late = λ t f c stamp runs wrote e has. is.put_late t f c stamp (Has-without x t m.running runs).0 wrote e has;
+        seen = λ t f v runs read e. let left = Has-without x t m.running runs in is.seen t f v left.0 read (sym (ap (λ (at : FileName → Option (Option ℕ)). at f) (changed_at_there m.seen x t (λ h. None) left.1)) ∙ e);
+        put = λ t f c runs wrote e. let left = Has-without x t m.running runs in is.put t f c left.0 wrote (sym (ap (λ (at : FileName → Option ℕ). at f) (changed_at_there m.put x t (λ h. None) left.1)) ∙ e);
+        put_late = λ t f c stamp runs wrote e has. let left = Has-without x t m.running runs in is.put_late t f c stamp left.0 wrote (sym (ap (λ (at : FileName → Option ℕ). at f) (changed_at_there m.put x t (λ h. None) left.1)) ∙ e) has;
         waits = waits_finished;
         runs = λ t runs. is.runs t (Has-without x t m.running runs).0;
         done = λ t t_done recipe. ⊎_elim (λ same. subst (λ (k : ℕ). IsUpToDate g s (past_ended p x saw) start (noted d result) k) same done_now) (λ before. done_still t before recipe) t_done;
@@ -153,9 +153,9 @@ module _ (g : Graph) (s : Setting) (p : Past) (start : ℕ) (m : Making) (d : Di
       make = record {
         order = finished_in_order g m is.order x ready.0;
         start_came = is.start_came;
-        seen = λ t f v runs read e. is.seen t f v (Has-without x t m.running runs).0 read e;
-        put = λ t f c runs wrote e. is.put t f c (Has-without x t m.running runs).0 wrote e;
-        put_late = λ t f c stamp runs wrote e has. is.put_late t f c stamp (Has-without x t m.running runs).0 wrote e has;
+        seen = λ t f v runs read e. let left = Has-without x t m.running runs in is.seen t f v left.0 read (sym (ap (λ (at : FileName → Option (Option ℕ)). at f) (changed_at_there m.seen x t (λ h. None) left.1)) ∙ e);
+        put = λ t f c runs wrote e. let left = Has-without x t m.running runs in is.put t f c left.0 wrote (sym (ap (λ (at : FileName → Option ℕ). at f) (changed_at_there m.put x t (λ h. None) left.1)) ∙ e);
+        put_late = λ t f c stamp runs wrote e has. let left = Has-without x t m.running runs in is.put_late t f c stamp left.0 wrote (sym (ap (λ (at : FileName → Option ℕ). at f) (changed_at_there m.put x t (λ h. None) left.1)) ∙ e) has;
         waits = waits_finished;
         runs = λ t runs. is.runs t (Has-without x t m.running runs).0;
         done = λ t t_done recipe. ⊎_elim (λ same. subst (λ (k : ℕ). IsUpToDate g s p start d k) same (up (subst (λ (k : ℕ). (node g k).recipe ≡ true) (sym same) recipe))) (λ before. is.done t before recipe) t_done;

@@ -1,5 +1,5 @@
 -- A make with one job in which each node is run whole or passed: what it leaves.
-use Rattle.std.proofs.Common.{◌≡◌, ℕ, zero, suc, ◌+◌, ◌<◌, ◌≤◌, List, [], ◌∷◌, ◌++◌, length, reverse, true, false, Option, Some, map, ◌⊎◌, inl, inr, ⊎_elim, refl, sym, ◌∙◌, ap, subst, arith}
+use Rattle.std.proofs.Common.{◌≡◌, ℕ, zero, suc, ◌+◌, ◌<◌, ◌≤◌, List, [], ◌∷◌, ◌++◌, length, reverse, true, false, Option, Some, None, map, ◌⊎◌, inl, inr, ⊎_elim, refl, sym, ◌∙◌, ap, subst, arith}
 use Rattle.std.specs.Prelude.{unwrap_or}
 use Rattle.std.specs.Option.{option_map}
 use Rattle.std.proofs.lemmas.Bool.{cases_Bool, true≢false}
@@ -9,7 +9,7 @@ use Rattle.mk_graph.specs.Graph.{Graph, node}
 use Rattle.mk_graph.specs.Setting.{FileName, Setting, reads, writes}
 use Rattle.mk_graph.specs.World.{File, Outcome, Disk, World, Busy, HasStamp, content, last_stamp, outcome, disk_of}
 use Rattle.mk_graph.specs.Turns.{MayTurn}
-use Rattle.mk_graph.specs.Schedule.{Step, Pass, MustRun, after, noted, IsLegal, after_all}
+use Rattle.mk_graph.specs.Schedule.{changed_at, Step, Pass, MustRun, after, noted, IsLegal, after_all}
 use Rattle.mk_graph.specs.SerialMake.{whole_run}
 use Rattle.mk_graph.specs.Right.{AreSound}
 use Rattle.mk_graph.specs.Stale.{next_stamps, to_put, MakesBut, ends, passes, runs}
@@ -128,7 +128,7 @@ module _ (g : Graph) (s : Setting) where
       one_pass : (n : ℕ) (done : List ℕ) (limit : ℕ) (w : World) → ((node g n).recipe ≡ false) ⊎ passed n → MayTurn g g.goals done n → Goes passed done before limit w → IsLegal g s w (Pass n ∷ []) × Goes passed (n ∷ done) before (limit + length (writes g s n)) (after g s w (Pass n))
       one_pass n done limit w why may goes =
           let may_pass : ((node g n).recipe ≡ false) ⊎ (¬ (MustRun g goes.disk n)) = ⊎_elim (λ no. inl no) (λ is. ⊎_elim (λ recipe. inr (need_not n goes.disk is recipe goes.left.keeps)) (λ no. inl no) (cases_Bool (node g n).recipe)) why in
-          subst (λ (k : World). IsLegal g s k (Pass n ∷ []) × Goes passed (n ∷ done) before (limit + length (writes g s n)) (after g s k (Pass n))) (sym goes.is) ((((may, λ h. h), may_pass), tt), record { seen = goes.seen; put = goes.put; disk = goes.disk; is = refl; left = left_passed n done limit goes.disk why goes.left })
+          subst (λ (k : World). IsLegal g s k (Pass n ∷ []) × Goes passed (n ∷ done) before (limit + length (writes g s n)) (after g s k (Pass n))) (sym goes.is) ((((may, λ h. h), may_pass), tt), record { seen = changed_at goes.seen n (λ f. None); put = changed_at goes.put n (λ f. None); disk = goes.disk; is = refl; left = left_passed n done limit goes.disk why goes.left })
 
       -- one node, and then others
       then_others : (n : ℕ) (ns done : List ℕ) (first rest : List Step) (w : World) (limit : ℕ) → IsLegal g s w first → IsLegal g s (after_all g s w first) rest × Goes passed (reverse ns ++ (n ∷ done)) before ((limit + length (writes g s n)) + writes_of g s ns) (after_all g s (after_all g s w first) rest) → IsLegal g s w (first ++ rest) × Goes passed (reverse (n ∷ ns) ++ done) before (limit + writes_of g s (n ∷ ns)) (after_all g s w (first ++ rest))

@@ -11,7 +11,7 @@ use Rattle.mk_graph.specs.Right.{AreSound}
 use Rattle.mk_graph.proofs.Changes.{cases_name, changed_here, changed_there, changed_at_here, changed_at_there}
 use Rattle.mk_graph.proofs.Turning.{turn_has_before}
 use Rattle.mk_graph.proofs.InOrder.{InOrder, runs_not_done}
-use Rattle.mk_graph.proofs.Sound.{reader_has_recipe, carried_is_before, written_can_change}
+use Rattle.mk_graph.proofs.Sound.{reader_has_recipe, carried_is_before, written_can_change, writer_is_before}
 use Rattle.mk_graph.proofs.Invariant.{Past, Fits, InMake, IsUpToDate, Holds}
 use Rattle.mk_graph.proofs.Writing.{content_here, content_there, stamp_is, stamp_there, whole_written, fits_written, must_written}
 
@@ -30,13 +30,13 @@ module _ (g : Graph) (s : Setting) (graph : IsGraph g) (sound : AreSound g s) (p
 
   -- no other running recipe reads it
   not_read : (t : ℕ) (h : FileName) → Has m.running t → Has (reads g s t) h → ¬ (f ≡ h)
-  not_read t h t_runs read same = before_running g m is.order x t (sound.no_race t x f (subst (λ (k : FileName). Has (reads g s t) k) (sym same) read) wrote) t_runs runs
+  not_read t h t_runs read same = before_running g m is.order x t (writer_is_before g s graph sound t x f (subst (λ (k : FileName). Has (reads g s t) k) (sym same) read) wrote) t_runs runs
 
   -- nor did one that is done
   not_read_by_done : (t : ℕ) (h : FileName) → Has m.done t → Has (reads g s t) h → ¬ (f ≡ h)
   not_read_by_done t h t_done read same =
       let same_read = subst (λ (k : FileName). Has (reads g s t) k) (sym same) read in
-      before_done g m is.order x t (sound.no_race t x f same_read wrote) (reader_has_recipe g s t f same_read) t_done runs
+      before_done g m is.order x t (writer_is_before g s graph sound t x f same_read wrote) (reader_has_recipe g s t f same_read) t_done runs
 
   -- it isn't the target of a done recipe
   not_target : (t : ℕ) → Has m.done t → (node g t).recipe ≡ true → ¬ (f ≡ name g t)

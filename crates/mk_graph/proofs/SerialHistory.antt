@@ -12,7 +12,7 @@ use Rattle.mk_graph.specs.Serial.{visits}
 use Rattle.mk_graph.specs.Setting.{FileName, Setting, is_given, reads, writes}
 use Rattle.mk_graph.specs.World.{File, Outcome, Disk, World, Idle, Busy, IsStart, content, changed, last_stamp, outcome, same_seen, disk_of}
 use Rattle.mk_graph.specs.Turns.{HasAll, MayTurn, Turns, IsPart}
-use Rattle.mk_graph.specs.Schedule.{Step, Make, Pass, EndMake, after, noted, make_of, IsLegal, after_all}
+use Rattle.mk_graph.specs.Schedule.{changed_at, Step, Make, Pass, EndMake, after, noted, make_of, IsLegal, after_all}
 use Rattle.mk_graph.specs.Clean.{Contents, given_contents, put_all, run_clean, make_clean, make_all_clean, order_of, clean_build}
 use Rattle.mk_graph.specs.SerialMake.{whole_run, RunsSerially, ends, passes, runs}
 use Rattle.mk_graph.proofs.Turning.{HasAll-has, HasAll-from}
@@ -110,7 +110,7 @@ module _ (g : Graph) (s : Setting) (outcomes : List Outcome) (goals : List ℕ) 
   -- a pass from a quiet make
   passed : (n : ℕ) (done : List ℕ) (at : Contents) (clock : ℕ) (w : World) → Arrives g s goals done at clock w → (node g n).recipe ≡ false → MayTurn g goals done n → IsLegal g s w (Pass n ∷ []) × Arrives g s goals (n ∷ done) at (clock + length (writes g s n)) (after g s w (Pass n))
   passed n done at clock w arrived none may =
-      subst (λ (k : World). IsLegal g s k (Pass n ∷ []) × Arrives g s goals (n ∷ done) at (clock + length (writes g s n)) (after g s k (Pass n))) (sym arrived.is) ((((may, λ h. h), inl none), tt), record { seen = arrived.seen; put = arrived.put; disk = arrived.disk; is = refl; holds = arrived.holds; unknown = λ t saw out. arrived.unknown t saw (λ h. out (inr h)); clock_is = let same = arrived.clock_is in let zero_writes = writes_none n none in omega arith })
+      subst (λ (k : World). IsLegal g s k (Pass n ∷ []) × Arrives g s goals (n ∷ done) at (clock + length (writes g s n)) (after g s k (Pass n))) (sym arrived.is) ((((may, λ h. h), inl none), tt), record { seen = changed_at arrived.seen n (λ f. None); put = changed_at arrived.put n (λ f. None); disk = arrived.disk; is = refl; holds = arrived.holds; unknown = λ t saw out. arrived.unknown t saw (λ h. out (inr h)); clock_is = let same = arrived.clock_is in let zero_writes = writes_none n none in omega arith })
 
   -- where a whole run arrives
   ran_there : (t : ℕ) (done cs : List ℕ) (at new : Contents) (clock : ℕ) (d : Disk) (w : World) → ((f : FileName) → content d f ≡ at f) → ((x : ℕ) (saw : List (Option ℕ)) → ¬ (Has done x) → outcome d.known x saw ≡ None) → ¬ (Has done t) → d.clock ≡ clock → put_all at (writes g s t) cs ≡ Some new → Ran g s goals done t cs d w → Arrives g s goals (t ∷ done) new (clock + length (writes g s t)) w

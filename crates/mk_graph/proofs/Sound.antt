@@ -38,3 +38,7 @@ module _ (g : Graph) (s : Setting) (graph : IsGraph g) (sound : AreSound g s) wh
   -- no recipe writes what is editable
   pub editable_is_not_written : (t : ℕ) (f : FileName) → is_editable s f ≡ true → ¬ (Has (writes g s t) f)
   editable_is_not_written t f e h = true≢false (sym (editable_is_given s f e) ∙ sound.not_given t f h)
+
+  -- who writes what a recipe reads is before it
+  pub writer_is_before : (t o : ℕ) (f : FileName) → Has (reads g s t) f → Has (writes g s o) f → Before g o t
+  writer_is_before t o f read wrote = sound.no_race t o f (λ same. sound.not_own t f read (subst (λ (k : ℕ). Has (writes g s k) f) same wrote)) read wrote

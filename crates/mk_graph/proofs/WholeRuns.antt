@@ -10,7 +10,7 @@ use Rattle.mk_graph.specs.Graph.{Graph, node}
 use Rattle.mk_graph.specs.Setting.{FileName, Setting, reads, writes}
 use Rattle.mk_graph.specs.World.{Outcome, Disk, Making, World, Busy, HasStamp, content, changed, written, last_stamp, outcome}
 use Rattle.mk_graph.specs.Turns.{MayTurn}
-use Rattle.mk_graph.specs.Schedule.{Step, Look, End, MayEnd, after, begun, looked, has_put, noted, seen_by, put_by, IsLegal, after_all}
+use Rattle.mk_graph.specs.Schedule.{changed_at, Step, Look, End, MayEnd, after, begun, looked, has_put, noted, seen_by, put_by, IsLegal, after_all}
 use Rattle.mk_graph.specs.Clean.{Contents, put_all}
 use Rattle.mk_graph.specs.SerialMake.{puts, whole_run}
 use Rattle.mk_graph.proofs.Changes.{cases_name, changed_here, changed_there, changed_at_here}
@@ -235,11 +235,11 @@ module _ (g : Graph) (s : Setting) where
       ended : Ran goals done t cs d (after g s (Busy full its_writes.disk) (End t))
       unfolding full running result
       ended = record {
-        seen = its_looks.seen;
-        put = its_writes.put;
+        seen = changed_at its_looks.seen t (λ f. None);
+        put = changed_at its_writes.put t (λ f. None);
         disk = its_writes.disk;
         result = result;
-        is = ap (λ (l : List ℕ). Busy (record { jobs = 1; goals = goals; done = t ∷ done; running = l; seen = its_looks.seen; put = its_writes.put }) (noted its_writes.disk result)) (none_left t);
+        is = ap (λ (l : List ℕ). Busy (record { jobs = 1; goals = goals; done = t ∷ done; running = l; seen = changed_at its_looks.seen t (λ f. None); put = changed_at its_writes.put t (λ f. None) }) (noted its_writes.disk result)) (none_left t);
         result_recipe = refl;
         result_saw = it_saw;
         result_is = (λ f. unwrap_or (its_writes.put t f) 0, refl);

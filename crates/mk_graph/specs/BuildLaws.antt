@@ -38,7 +38,7 @@ IsDoneWhenReady g o t (Busy m d) = Ready g m t → Has m.done o
 
 -- Where o is before t, which has a recipe, o is done whenever t is ready, in each legal history of each setting.
 abbrev pub BeforeHoldsInHistories : Type 0
-BeforeHoldsInHistories = (g : Graph) (o t : ℕ) → (node g t).recipe ≡ true → Before g o t → (s : Setting) (d : Disk) (steps : List Step) → IsStart s d → IsLegal g s (Idle d) steps → IsDoneWhenReady g o t (after_all g s (Idle d) steps)
+BeforeHoldsInHistories = (g : Graph) (o t : ℕ) → (node g t).recipe ≡ true → Before g o t → (s : Setting) (d : Disk) (steps : List Step) → IsLegal g s (Idle d) steps → IsDoneWhenReady g o t (after_all g s (Idle d) steps)
 
 -- Recipes run together: two that are ready may begin one behind the other, whatever else runs, if there are jobs for both.
 abbrev pub ReadyRecipesRunTogether : Type 0

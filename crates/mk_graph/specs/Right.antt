@@ -9,7 +9,7 @@ use Rattle.mk_graph.specs.Schedule.{Step, EndMake, Allowed, IsLegal, after_all}
 use Rattle.mk_graph.specs.Clean.{IsBuilt}
 use Rattle.mk_graph.specs.Ways.{Way, CanChange}
 
--- The footprints are sound: there is no finding on them, and no race.
+-- The footprints are sound: for nodes and their files none of the findings on footprints holds, and there is no race.
 pub record AreSound (g : Graph) (s : Setting) : Type 0 where
   -- a recipe that isn't phony writes its target
   pub target : (t : ℕ) → (node g t).recipe ≡ true → (node g t).phony ≡ false → Has (writes g s t) (name g t)
@@ -26,7 +26,7 @@ pub record AreSound (g : Graph) (s : Setting) : Type 0 where
   -- who writes a node without a recipe is its direct prerequisite
   pub not_loose : (n o : ℕ) → n < length g.nodes → (node g n).recipe ≡ false → Has (writes g s o) (name g n) → Has (prerequisites g n) o
   -- who writes what another recipe reads is before it
-  pub no_race : (t o : ℕ) (f : FileName) → Has (reads g s t) f → Has (writes g s o) f → Before g o t
+  pub no_race : (t o : ℕ) (f : FileName) → ¬ (o ≡ t) → Has (reads g s t) f → Has (writes g s o) f → Before g o t
 
 -- Each read of a file that can change has a way.
 abbrev pub HaveWays : Graph → Setting → Type 0

@@ -77,9 +77,9 @@ looked m t f c = record m { seen = changed_at m.seen t (changed (m.seen t) f (So
 abbrev pub has_put : Making → ℕ → FileName → ℕ → Making
 has_put m t f c = record m { put = changed_at m.put t (changed (m.put t) f (Some c)) }
 
--- after a node was done, which no longer runs if it ran
+-- after a node was done: if it ran, it no longer does, and what it has seen and put is forgotten
 abbrev pub finished : Making → ℕ → Making
-finished m t = record m { done = t ∷ m.done; running = filter (λ n. not (nat_eq t n)) m.running }
+finished m t = record m { done = t ∷ m.done; running = filter (λ n. not (nat_eq t n)) m.running; seen = changed_at m.seen t (λ f. None); put = changed_at m.put t (λ f. None) }
 
 -- the disk after an outcome was seen, which is noted if nothing was known
 abbrev pub noted : Disk → Outcome → Disk

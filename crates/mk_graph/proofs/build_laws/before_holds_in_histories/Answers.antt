@@ -14,4 +14,4 @@ done_when_ready g o t recipe before (Idle d) is = tt
 done_when_ready g o t recipe before (Busy m d) is = λ ready. before recipe m.goals m.done is.part is.turns ready.0
 
 pub returns : goal.returns
-returns c = λ g o t recipe before s d steps start legal. done_when_ready g o t recipe before (after_all g s (Idle d) steps) (goes_in_order g s d steps legal)
+returns c = λ g o t recipe before s d steps legal. done_when_ready g o t recipe before (after_all g s (Idle d) steps) (goes_in_order g s d steps legal)
