@@ -37,3 +37,4 @@ pub mod BareBuilds
 pub mod Deciding
 pub mod MakesBut
 pub mod StaleHistory
+pub mod StaleExists

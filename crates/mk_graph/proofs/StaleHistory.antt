@@ -26,7 +26,7 @@ use Rattle.mk_graph.proofs.SerialHistory.{writes_of, turn_on}
 use Rattle.mk_graph.proofs.MakesBut.{same_stamp, AreByName, Ascends, Keeps, Left, Goes, makes_legal}
 
 -- what has a recipe is a node
-recipe_is_node : (g : Graph) (n : ℕ) → (node g n).recipe ≡ true → n < length g.nodes
+pub recipe_is_node : (g : Graph) (n : ℕ) → (node g n).recipe ≡ true → n < length g.nodes
 recipe_is_node g n recipe =
     ⊎_elim (λ lt. lt) (λ past. let none : node g n ≡ no_node = get_or_past g.nodes n no_node past in absurd (true≢false (sym recipe ∙ ap (λ (v : Node). v.recipe) none))) (cases_lt n (length g.nodes))
 
@@ -47,15 +47,15 @@ cases_writer g s h = ⊎_elim (λ some. inl some) (λ none. inr (λ o wrote. non
 
 module _ (g : Graph) (s : Setting) (graph : IsGraph g) (sound : AreSound g s) where
   -- all goals are a part of the goals, where something is reached
-  all_goals : (n : ℕ) → n < length g.nodes → IsPart g.goals g.goals
+  pub all_goals : (n : ℕ) → n < length g.nodes → IsPart g.goals g.goals
   all_goals n lt = record { not_empty = some_goal g (graph.sound.reached n lt); within = HasAll-from g.goals g.goals (λ k h. h) }
 
   -- the nodes of a make of all, the last one first
-  abbrev all_nodes : List ℕ
+  abbrev pub all_nodes : List ℕ
   all_nodes = reverse (order_of g g.goals) ++ []
 
   -- they are a turn list that holds the goals
-  all_turns : Turns g g.goals all_nodes × HasAll all_nodes (filter (has g.goals) g.goals)
+  pub all_turns : Turns g g.goals all_nodes × HasAll all_nodes (filter (has g.goals) g.goals)
   all_turns = subst (λ (l : List ℕ). Turns g g.goals l × HasAll l (filter (has g.goals) g.goals)) (sym (append-nil (reverse (order_of g g.goals)) ∙ order_is g graph.no_cycle g.goals)) (serial_turns g graph.no_cycle g.goals)
 
   -- they hold the goals
@@ -68,7 +68,7 @@ module _ (g : Graph) (s : Setting) (graph : IsGraph g) (sound : AreSound g s) wh
   reached_among (onward {n = n} {p = p} r need) = turn_has_prerequisites g g.goals all_nodes n p all_turns.0 (reached_among r) need
 
   -- so all recipes
-  recipe_among : (n : ℕ) → (node g n).recipe ≡ true → Has all_nodes n
+  pub recipe_among : (n : ℕ) → (node g n).recipe ≡ true → Has all_nodes n
   recipe_among n recipe = reached_among (graph.sound.reached n (recipe_is_node g n recipe))
 
   -- what is before a recipe wrote before it, in a make in which all ran

@@ -79,3 +79,7 @@ NotBeforeIsShown = (g : Graph) (o t : ℕ) → IsGraph g → ¬ (Before g o t) �
 -- stamps enough; and at its end the file is later than all files of the recipe.
 abbrev pub StaleIsShown : Type 0
 StaleIsShown = (g : Graph) (s : Setting) → IsGraph g → AreSound g s → (t : ℕ) (f : FileName) → Has (reads g s t) f → CanChange s f → ¬ (Way g s f t) → (d : Disk) (first edit second : List Step) → IsStart s d → d.clock + 2 * sum_by (λ n. length (writes g s n)) (order_of g g.goals) + 1 ≤ last_stamp → ShowsStale g s t f d first edit second → IsLegal g s (Idle d) (make_with g first ++ (edit ++ make_with g second)) × IsLaterThanAll g s (disk_of (after_all g s (Idle d) (make_with g first ++ (edit ++ make_with g second)))) f t
+
+-- There is such a history for each read.
+abbrev pub StaleHistoryExists : Type 0
+StaleHistoryExists = (g : Graph) (s : Setting) → IsGraph g → AreSound g s → (t : ℕ) (f : FileName) → Has (reads g s t) f → (d : Disk) → (first edit second : List Step) × ShowsStale g s t f d first edit second

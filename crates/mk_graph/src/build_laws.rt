@@ -1,6 +1,6 @@
 //! Laws of builds. Each is the contract of a function that does nothing: who calls it has the law.
 
-ghost use Rattle.mk_graph.specs.BuildLaws.{FirstIsAStart, SerialOrderIsATurnList, SerialMakeIsLegal, AllGoalsSuffice, BeforeHoldsInHistories, NotBeforeIsShown, ReadyRecipesRunTogether, OneBuildIsRight, AcceptedIsRight, StaleIsShown};
+ghost use Rattle.mk_graph.specs.BuildLaws.{FirstIsAStart, SerialOrderIsATurnList, SerialMakeIsLegal, AllGoalsSuffice, BeforeHoldsInHistories, NotBeforeIsShown, ReadyRecipesRunTogether, OneBuildIsRight, AcceptedIsRight, StaleIsShown, StaleHistoryExists};
 
 /// The first disk of a world, on which just its given names are there, numbered in the order of
 /// their bytes, is a start in the sense of the other laws.
@@ -60,4 +60,9 @@ pub fn accepted_is_right()
 /// and those that it reaches by carrying. At its end the file is later than all that the recipe wrote.
 pub fn stale_is_shown()
     ensures { StaleIsShown }
+{}
+
+/// There is a history of the shape that `stale_is_shown` speaks of, for each read.
+pub fn stale_history_exists()
+    ensures { StaleHistoryExists }
 {}
