@@ -29,6 +29,7 @@ check:
 bench: all
 	@python3 bench/run.py
 	@python3 bench/reading.py
+	@python3 bench/footprint.py
 
 install: all
 	mkdir -p $(DESTDIR)$(PREFIX)/bin
