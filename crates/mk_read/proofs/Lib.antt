@@ -1,0 +1,3 @@
+mod EndBlanks
+mod FirstBytes
+mod Colons
