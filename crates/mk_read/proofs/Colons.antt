@@ -1,6 +1,5 @@
 -- Colons that make rule lines.
 use Rattle.std.proofs.Common.{◌≡◌, ◌<◌, ℕ, false, eqb, List, [], ◌∷◌, length, get_or, drop, refl, sym, subst, arith}
-use Rattle.std.proofs.lemmas.Bool.{false_from_ne_true}
 use Rattle.std.proofs.lemmas.Bool.Decides.{nat_tests}
 use Rattle.mk_read.specs.Kinds.{by_parts, rule_line}
 

@@ -1,3 +1,4 @@
 mod EndBlanks
 mod FirstBytes
 mod Colons
+mod CommentLines

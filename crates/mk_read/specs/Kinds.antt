@@ -1,5 +1,5 @@
 -- The kinds of plain lines.
-use Rattle.std.specs.Prelude.{◌≡◌, ◌⊎◌, ℕ, suc, ◌==◌, Bool, true, false, List, [], ◌∷◌, length, take, drop, codes, slice_index, ◌||◌, Option, None, Some, Result, Ok, Err, if◌then◌else◌}
+use Rattle.std.specs.Prelude.{◌≡◌, ◌⊎◌, ℕ, suc, ◌==◌, Bool, true, false, List, length, take, drop, codes, slice_index, ◌||◌, Option, None, Some, Result, Ok, Err, if◌then◌else◌}
 use Rattle.std.specs.List.{before_first, after_first}
 use Rattle.std.specs.Option.{option_map}
 use Rattle.std.specs.Str.{bytes_eq}
@@ -15,7 +15,6 @@ use Rattle.mk_read.specs.declared.fault.KindFault.TheVariants.{ShellAssign, Colo
 use Rattle.mk_read.specs.declared.kinds.Kind as code
 use Rattle.mk_read.specs.declared.kinds.Kind.TheVariants as kinds
 use Rattle.mk_read.specs.declared.kinds.IncludeLine as include
-use Rattle.mk_read.specs.declared.kinds.AssignmentLine as assignment
 use Rattle.mk_read.specs.declared.kinds.RuleLine as rule
 
 -- an include line: whether a file that isn't there is passed over, and the text with the names of the files

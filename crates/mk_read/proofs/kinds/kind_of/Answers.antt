@@ -1,4 +1,4 @@
-use Rattle.std.proofs.Common.{sym, subst}
+use Rattle.std.proofs.Common.{subst}
 use Rattle.mk_read.specs.Kinds.{kind_of, of_trimmed, kind_view, GivesKind}
 use Rattle.mk_read.proofs.kinds.kind_of.Goals as goal
 
