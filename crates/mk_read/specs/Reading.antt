@@ -18,7 +18,9 @@ use Rattle.mk_read.specs.declared.fault.ReadFault.{ReadFault}
 use Rattle.mk_read.specs.declared.fault.ReadFault.TheVariants.{StrayCommand, BadMakefileName, UnknownSpecial, SpecialShape, TwoRecipes, IncludeMissing, IncludeDepth, IncludeEmpty, TooManyFiles, NoMakefile}
 use Rattle.mk_read.specs.Kinds.{Kind, IncludeLine, AssignmentLine, RuleLine, Comment, Include, Assignment, Rule, kind_of}
 use Rattle.mk_read.specs.Names.{names_in, has_name, is_empty}
-use Rattle.mk_read.specs.Special.{Special, Suffixes, Phony, NotParallel, Wordless, Unread, special_among, is_unknown_special, is_suffix, listed, is_inference_name}
+use Rattle.mk_read.specs.declared.special.Special.{Special}
+use Rattle.mk_read.specs.declared.special.Special.TheVariants.{Suffixes, Phony, NotParallel, Wordless, Unread}
+use Rattle.mk_read.specs.Special.{special_among, is_unknown_special, is_suffix, listed, is_inference_name}
 use Rattle.mk_read.specs.Steps.{◌>>=◌, in_file, at_place, of_kind}
 
 -- the files: the text of each name that has one

@@ -1,18 +1,12 @@
 -- Special targets and suffixes.
-use Rattle.std.specs.Prelude.{ℕ, ◌==◌, Bool, true, false, not, ◌&&◌, ◌||◌, List, [], ◌∷◌, ◌++◌, codes, length, nat_le, nat_lt, Option, None, Some, if◌then◌else◌}
+use Rattle.std.specs.Prelude.{ℕ, ◌==◌, Bool, true, false, not, ◌&&◌, ◌||◌, List, [], ◌∷◌, ◌++◌, codes, length, nat_le, Option, None, Some, if◌then◌else◌}
 use Rattle.std.specs.List.{list_all, list_any}
 use Rattle.std.specs.Str.{bytes_eq}
+use Rattle.mk_read.specs.declared.special.Special.{Special}
+use Rattle.mk_read.specs.declared.special.Special.TheVariants.{Suffixes, Phony, NotParallel, Wordless, Unread}
 use Rattle.mk_read.specs.Names.{has_name, is_empty}
 
--- What a special target does: it lists suffixes, or phony names, or lets nothing run side by side; or it changes
--- nothing, and has no words or any words.
-pub data Special : Type 0 where
-  Suffixes : Special
-  Phony : Special
-  NotParallel : Special
-  Wordless : Special
-  Unread : Special
-
+-- what a name does as a special target, where it is a known one
 abbrev pub special_of : List ℕ → Option Special
 special_of name =
     if bytes_eq name (codes ".SUFFIXES") then Some Suffixes
@@ -47,10 +41,14 @@ is_unknown (Some special) = false
 abbrev pub is_unknown_special : List ℕ → Bool
 is_unknown_special name = is_special name && is_unknown (special_of name)
 
+-- neither `.` nor `/`
+abbrev pub is_suffix_byte : ℕ → Bool
+is_suffix_byte b = not (b == 46) && not (b == 47)
+
 -- a suffix: a dot and one or more bytes other than `.` and `/`
 abbrev pub is_suffix : List ℕ → Bool
 is_suffix [] = false
-is_suffix (b ∷ rest) = b == 46 && (nat_lt 0 (length rest) && not (list_any (λ c. c == 46 || c == 47) rest))
+is_suffix (b ∷ rest) = b == 46 && (not (is_empty rest) && list_all is_suffix_byte rest)
 
 -- the suffixes with those words behind them that aren't listed yet
 unfoldable pub with_suffixes : List (List ℕ) → List (List ℕ) → List (List ℕ)

@@ -1,5 +1,5 @@
 -- Results in steps: the first fault is the result.
-use Rattle.std.specs.Prelude.{Bool, true, false, ℕ, List, Result, Ok, Err}
+use Rattle.std.specs.Prelude.{◌≡◌, ◌⊎◌, Bool, true, false, ℕ, List, Result, Ok, Err}
 use Rattle.mk_lines.specs.declared.fault.LineFault.{LineFault}
 use Rattle.mk_lines.specs.declared.fault.LineFault.TheVariants as line
 use Rattle.mk_macros.specs.declared.fault.MacroFault.{MacroFault}
@@ -36,3 +36,12 @@ at_place place (Err fault) = Err (Macro place fault)
 abbrev pub of_kind : {A : Type 0} → Place → Result A KindFault → Result A ReadFault
 of_kind place (Ok x) = Ok x
 of_kind place (Err fault) = Err (Kind place fault)
+
+-- A fault is the one that is defined, or want of memory, of which nothing is said.
+abbrev pub Fails : {Y : Type 0} → ReadFault → Result Y ReadFault → Type 0
+Fails fault defined = (is_want_of_memory fault ≡ true) ⊎ (defined ≡ Err fault)
+
+-- What a call returned, seen by view, is what is defined, unless memory ran out.
+abbrev pub Gives : {X Y : Type 0} → (X → Y) → Result X ReadFault → Result Y ReadFault → Type 0
+Gives view (Ok x) defined = defined ≡ Ok (view x)
+Gives view (Err fault) defined = Fails fault defined

@@ -160,3 +160,100 @@ fn knows_rule_lines(rt: HostRuntime) -> Result<(), Fail> {
 fn refuses_other_lines(rt: HostRuntime) -> Result<(), Fail> {
     are(&rt, rt.alloc(), FAULTS)
 }
+
+/// Words, and the names that they are, or the words of the fault. The first bad word decides.
+const NAMES: &[(&str, &str)] = &[
+    ("", ""),
+    (" a  ../b\t.WAIT ", "[a][../b][.WAIT]"),
+    ("/a .c.o", "[/a][.c.o]"),
+    ("a%", "a word is no name"),
+    ("a ./x", "a word is no name"),
+    ("a | b", "a word is no name"),
+    ("a::b", "a word is no name"),
+    ("l.a(x.o)", "a word names an archive's member"),
+    ("a%(", "a word names an archive's member"),
+    ("a% l(x)", "a word is no name"),
+    ("l(x) a%", "a word names an archive's member"),
+];
+
+/// The names that words are, in brackets, or the words of the fault.
+fn shown_names(alloc: Global, text: &[u8]) -> Result<Vec<u8>, Fail> {
+    let file = Name::new(alloc, "makefile")?;
+    let mut shown = Vec::new(alloc);
+    match names_of(alloc, &file, 1, text) {
+        Ok(names) => {
+            for name in &names {
+                add(&mut shown, name.as_bytes())?;
+            }
+        }
+        Err(ReadFault::Memory) => return Err(ReadFault::Memory.into()),
+        Err(fault) => {
+            let words = format!(in alloc; "{fault}")?;
+            shown.extend_from_slice(words.as_str().as_bytes())?;
+        }
+    }
+    Ok(shown)
+}
+
+#[test]
+fn knows_names(rt: HostRuntime) -> Result<(), Fail> {
+    for &(text, wanted) in NAMES {
+        let found = shown_names(rt.alloc(), text.as_bytes())?;
+        assert_eq!(rt;
+            str::from_utf8(&found).unwrap_or("?"),
+            wanted,
+            "over {text:?}"
+        );
+    }
+    Ok(())
+}
+
+#[test]
+fn knows_places(rt: HostRuntime) -> Result<(), Fail> {
+    let file = Name::new(rt.alloc(), "f1")?;
+    if let Err(fault) = name_of(rt.alloc(), &file, 7, b"a*") {
+        let told = format!(in rt.alloc(); "{fault:?}")?;
+        assert!(rt;
+            told.as_str().contains("f1") && told.as_str().contains("line: 7"),
+            "{told}"
+        );
+    }
+    assert!(rt; !ReadFault::IncludeDepth(Place { file, line: 1 }).is_want_of_memory());
+    assert!(rt; ReadFault::Memory.is_want_of_memory());
+    Ok(())
+}
+
+#[test]
+fn knows_special_names(rt: HostRuntime) -> Result<(), Fail> {
+    for name in [".POSIX", ".WAIT", ".SCCS_GET", ".ABC", ".___"] {
+        assert!(rt; is_special(name), "{name:?}");
+    }
+    for name in [".AB", ".c.o", ".abc", "POSIX", "a.ABC", ".ABC1", "."] {
+        assert!(rt; !is_special(name), "{name:?}");
+    }
+    Ok(())
+}
+
+#[test]
+fn knows_special_targets(rt: HostRuntime) -> Result<(), Fail> {
+    assert!(rt; special_of(".SUFFIXES") == Some(Special::Suffixes));
+    assert!(rt; special_of(".PHONY") == Some(Special::Phony));
+    assert!(rt; special_of(".NOTPARALLEL") == Some(Special::NotParallel));
+    assert!(rt; special_of(".WAIT") == Some(Special::Wordless));
+    assert!(rt; special_of(".PRECIOUS") == Some(Special::Unread));
+    for name in [".DEFAULT", ".SCCS_GET", ".phony", "PHONY", ".c"] {
+        assert!(rt; special_of(name).is_none(), "{name:?}");
+    }
+    Ok(())
+}
+
+#[test]
+fn knows_suffixes(rt: HostRuntime) -> Result<(), Fail> {
+    for word in [".o", ".c~", ".WAIT"] {
+        assert!(rt; is_suffix(word), "{word:?}");
+    }
+    for word in ["", ".", "o", ".a.b", ".a/b", "..", "a.o"] {
+        assert!(rt; !is_suffix(word), "{word:?}");
+    }
+    Ok(())
+}
