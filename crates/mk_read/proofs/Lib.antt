@@ -1,0 +1,7 @@
+mod EndBlanks
+mod FirstBytes
+mod Colons
+mod CommentLines
+mod Utf8
+mod WithFront
+mod NameLists

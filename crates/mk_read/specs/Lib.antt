@@ -1,0 +1,6 @@
+pub mod Kinds
+pub mod Steps
+pub mod Names
+pub mod Special
+pub mod Reading
+pub mod Laws

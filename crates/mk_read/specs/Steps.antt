@@ -1,0 +1,47 @@
+-- Results in steps: the first fault is the result.
+use Rattle.std.specs.Prelude.{◌≡◌, ◌⊎◌, Bool, true, false, ℕ, List, Result, Ok, Err}
+use Rattle.mk_lines.specs.declared.fault.LineFault.{LineFault}
+use Rattle.mk_lines.specs.declared.fault.LineFault.TheVariants as line
+use Rattle.mk_macros.specs.declared.fault.MacroFault.{MacroFault}
+use Rattle.mk_macros.specs.declared.fault.MacroFault.TheVariants as macro
+use Rattle.mk_read.specs.declared.fault.KindFault.{KindFault}
+use Rattle.mk_read.specs.declared.fault.KindFault.TheVariants as kind
+use Rattle.mk_read.specs.declared.fault.Place.{Place}
+use Rattle.mk_read.specs.declared.fault.ReadFault.{ReadFault}
+use Rattle.mk_read.specs.declared.fault.ReadFault.TheVariants.{Line, Macro, Kind, Memory}
+
+infixl 10 ◌>>=◌
+abbrev pub ◌>>=◌ : {A B : Type 0} → Result A ReadFault → (A → Result B ReadFault) → Result B ReadFault
+(Ok x) >>= f = f x
+(Err e) >>= f = Err e
+
+-- want of memory, of each kind
+abbrev pub is_want_of_memory : ReadFault → Bool
+is_want_of_memory Memory = true
+is_want_of_memory (Line file line.Memory) = true
+is_want_of_memory (Macro place macro.Memory) = true
+is_want_of_memory (Kind place kind.Memory) = true
+is_want_of_memory fault = false
+
+-- the fault of a line is one in this file
+abbrev pub in_file : {A : Type 0} → List ℕ → Result A LineFault → Result A ReadFault
+in_file file (Ok x) = Ok x
+in_file file (Err fault) = Err (Line file fault)
+
+-- the fault of a macro, or of a line's kind, is one at this place
+abbrev pub at_place : {A : Type 0} → Place → Result A MacroFault → Result A ReadFault
+at_place place (Ok x) = Ok x
+at_place place (Err fault) = Err (Macro place fault)
+
+abbrev pub of_kind : {A : Type 0} → Place → Result A KindFault → Result A ReadFault
+of_kind place (Ok x) = Ok x
+of_kind place (Err fault) = Err (Kind place fault)
+
+-- A fault is the one that is defined, or want of memory, of which nothing is said.
+abbrev pub Fails : {Y : Type 0} → ReadFault → Result Y ReadFault → Type 0
+Fails fault defined = (is_want_of_memory fault ≡ true) ⊎ (defined ≡ Err fault)
+
+-- What a call returned, seen by view, is what is defined, unless memory ran out.
+abbrev pub Gives : {X Y : Type 0} → (X → Y) → Result X ReadFault → Result Y ReadFault → Type 0
+Gives view (Ok x) defined = defined ≡ Ok (view x)
+Gives view (Err fault) defined = Fails fault defined

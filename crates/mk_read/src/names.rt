@@ -1,0 +1,154 @@
+//! Words and names.
+
+ghost use Rattle.std.specs.Prelude.{◌≡◌, true, false, map, IfOk, MatchOption};
+ghost use Rattle.std.specs.List.{list_all, list_any};
+ghost use Rattle.std.specs.Str.{is_utf8};
+ghost use Rattle.mk_lines.specs.Paths.{is_plain_path};
+ghost use Rattle.mk_lines.specs.Words.{words};
+ghost use Rattle.mk_read.specs.Names.{is_make_name, is_reserved, is_bracket, name_of, names_of};
+ghost use Rattle.mk_read.specs.Special.{is_special, is_capital};
+ghost use Rattle.mk_read.specs.Steps.{Gives};
+
+use crate::fault::{Place, ReadFault};
+use crate::name::Name;
+use mk_lines::is_plain_path;
+use std::alloc::{AllocError, Global};
+use std::str;
+
+/// The longest parts without spaces and tabs, in their order.
+pub fn words<'a>(alloc: Global, text: &'a [u8]) -> Result<Vec<&'a [u8]>, AllocError>
+    ensures { IfOk result (λ found. map (λ word. word.now) found.items ≡ words text.now) }
+{
+    text.split(|b| *b == b' ' || *b == b'\t')
+        .filter(|word| !word.is_empty())
+        .collect(alloc)
+}
+
+/// Bytes as text.
+fn utf8(bytes: &[u8]) -> Option<&str>
+    ensures { MatchOption result (is_utf8 bytes.now ≡ false) (λ text. (text.now ≡ bytes.now) × (is_utf8 bytes.now ≡ true)) }
+{
+    str::from_utf8(bytes).ok()
+}
+
+/// Bytes as a plain path.
+fn plain_path(name: &[u8]) -> Option<&str>
+    ensures { MatchOption result (is_plain_path name.now ≡ false) (λ text. (text.now ≡ name.now) × (is_plain_path name.now ≡ true)) }
+{
+    if is_plain_path(name) {
+        utf8(name)
+    } else {
+        None
+    }
+}
+
+/// Whether a word holds a byte that paths may hold, and names in a makefile may not.
+fn has_reserved(word: &[u8]) -> bool
+    ensures { result ≡ list_any is_reserved word.now }
+{
+    word.iter().any(|b| is_reserved(*b))
+}
+
+fn is_reserved(byte: u8) -> bool
+    ensures { result ≡ is_reserved byte }
+{
+    matches!(
+        byte,
+        b'%' | b'*'
+            | b'?'
+            | b'['
+            | b']'
+            | b':'
+            | b';'
+            | b'='
+            | b'#'
+            | b'$'
+            | b'\\'
+            | b'"'
+            | b'\''
+            | b'`'
+            | b'|'
+            | b'&'
+            | b'<'
+            | b'>'
+            | b'('
+            | b')'
+    )
+}
+
+/// Whether a word holds a bracket, as the name of an archive's member does.
+fn has_bracket(word: &[u8]) -> bool
+    ensures { result ≡ list_any is_bracket word.now }
+{
+    word.iter().any(|b| *b == b'(' || *b == b')')
+}
+
+/// A name that a makefile may have: a plain path without the reserved bytes.
+#[tactic(auto, unfolding(crate::specs::Names::is_make_name))]
+fn make_name(word: &[u8]) -> Option<&str>
+    ensures { MatchOption result (is_make_name word.now ≡ false) (λ name. (name.now ≡ word.now) × (is_make_name word.now ≡ true)) }
+{
+    if has_reserved(word) {
+        None
+    } else {
+        plain_path(word)
+    }
+}
+
+/// A word as a name. Fault 28 where it holds a bracket, else 27 where it is no name.
+#[tactic(auto, unfolding(crate::specs::Names::name_of))]
+pub fn name_of<'a>(
+    alloc: Global,
+    file: &Name,
+    line: usize,
+    word: &'a [u8],
+) -> Result<&'a str, ReadFault>
+    ensures { Gives (λ name. name.now) result (name_of (record { file = file.now; line = line }) word.now) }
+{
+    let is_member = has_bracket(word);
+    if !is_member && let Some(name) = make_name(word) {
+        return Ok(name);
+    }
+    let place = Place {
+        file: Name::new(alloc, file.as_str())?,
+        line,
+    };
+    Err(if is_member {
+        ReadFault::ArchiveMember(place)
+    } else {
+        ReadFault::BadName(place)
+    })
+}
+
+/// The names that a part of a line has, behind its expansion: of each word in turn fault 28 where it
+/// holds a bracket, else 27 where it is no name.
+pub fn names_of<'a>(
+    alloc: Global,
+    file: &Name,
+    line: usize,
+    text: &'a [u8],
+) -> Result<Vec<&'a str>, ReadFault>
+    ensures { Gives (λ found. map (λ name. name.now) found.items) result (names_of (record { file = file.now; line = line }) (words text.now)) }
+{
+    let mut names = Vec::new(alloc);
+    for word in &words(alloc, text)? {
+        names.push(name_of(alloc, file, line, word)?)?;
+    }
+    Ok(names)
+}
+
+/// Whether a name is a dot and three or more of `A-Z` and `_`.
+pub fn is_special(name: &str) -> bool
+    ensures { result ≡ is_special name.now }
+{
+    match name.as_bytes() {
+        [b'.', rest @ ..] => rest.len() >= 3 && is_capital_throughout(rest),
+        _ => false,
+    }
+}
+
+fn is_capital_throughout(word: &[u8]) -> bool
+    ensures { result ≡ list_all is_capital word.now }
+{
+    word.iter().all(|b| b.is_ascii_uppercase() || *b == b'_')
+}
