@@ -5,3 +5,4 @@ mod CommentLines
 mod Utf8
 mod WithFront
 mod NameLists
+mod Groups

@@ -1,0 +1,33 @@
+-- The prerequisites of a name.
+use Rattle.std.specs.Prelude.{ℕ, Bool, true, false, not, List, [], ◌∷◌, codes, filter, map, if◌then◌else◌}
+use Rattle.std.specs.List.{flat_map}
+use Rattle.std.specs.Str.{bytes_eq}
+use Rattle.mk_read.specs.Names.{has_name}
+use Rattle.mk_read.specs.Reading.{RuleRead}
+
+-- the words of all rule lines that name it, joined in order
+abbrev pub words_of : List RuleRead → List ℕ → List (List ℕ)
+words_of rules name = flat_map (λ (rule : RuleRead). rule.words) (filter (λ (rule : RuleRead). has_name rule.targets name) rules)
+
+abbrev pub is_wait : List ℕ → Bool
+is_wait word = bytes_eq word (codes ".WAIT")
+
+-- the word at the front of the first group
+abbrev pub in_first : List ℕ → List (List (List ℕ)) → List (List (List ℕ))
+in_first word [] = (word ∷ []) ∷ []
+in_first word (group ∷ groups) = (word ∷ group) ∷ groups
+
+-- the words between `.WAIT` and `.WAIT`
+unfoldable pub cut : List (List ℕ) → List (List (List ℕ))
+cut [] = []
+cut (word ∷ words) = if is_wait word then [] ∷ cut words else in_first word (cut words)
+
+abbrev pub has_words : List (List ℕ) → Bool
+has_words [] = false
+has_words (word ∷ words) = true
+
+-- Groups of prerequisites: cut at `.WAIT`, or each of its own where nothing runs side by side. Empty ones vanish.
+abbrev pub groups : Bool → List (List ℕ) → List (List (List ℕ))
+groups not_parallel words =
+    if not_parallel then map (λ word. word ∷ []) (filter (λ word. not (is_wait word)) words)
+    else filter has_words (cut words)
