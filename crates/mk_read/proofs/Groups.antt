@@ -1,9 +1,8 @@
 -- Groups of prerequisites.
-use Rattle.std.proofs.Common.{◌≡◌, ℕ, Bool, true, false, not, cond, List, [], ◌∷◌, ◌++◌, map, filter, refl, sym, ap, ◌∙◌, inl, inr}
+use Rattle.std.proofs.Common.{◌≡◌, ℕ, true, false, not, List, [], ◌∷◌, ◌++◌, map, filter, refl, ap, ◌∙◌, inl, inr}
 use Rattle.std.proofs.lemmas.Bool.{cases_Bool}
-use Rattle.std.specs.List.{flat_map}
 use Rattle.mk_read.specs.Laws.{joined, GroupsKeepTheirWords}
-use Rattle.mk_read.specs.Needs.{is_wait, in_first, has_words, cut, groups}
+use Rattle.mk_read.specs.Needs.{is_wait, in_first, has_words, cut}
 
 alone : (words : List (List ℕ)) → joined (map (λ word. word ∷ []) words) ≡ words
 alone [] = refl
