@@ -1,8 +1,6 @@
 -- The two formats agree.
-use Rattle.std.proofs.Common.{◌≡◌, ℕ, Bool, true, false, ◌&&◌, List, [], ◌∷◌, map, Option, Some, None, Result, Ok, Err, refl, sym, ap, ◌∙◌}
-use Rattle.std.specs.Prelude.{⊤, codes}
+use Rattle.std.proofs.Common.{◌≡◌, ℕ, true, List, [], ◌∷◌, map, Some, None, Result, Ok, Err, refl, sym, ap, ◌∙◌}
 use Rattle.std.specs.List.{list_all}
-use Rattle.std.specs.Str.{bytes_eq}
 use Rattle.std.proofs.lemmas.Slice.Eq.{bytes_eq-Decides}
 use Rattle.serde_json.specs.Data.{Data, string}
 use Rattle.mk_lines.specs.Paths.{is_plain_path}
@@ -11,15 +9,15 @@ use Rattle.mk_foot.specs.declared.key.Key.{Key}
 use Rattle.mk_foot.specs.declared.key.Key.TheVariants as keys
 use Rattle.mk_foot.specs.declared.format.Format.TheVariants.{One, Two}
 use Rattle.mk_foot.specs.Book.{Book}
-use Rattle.mk_foot.specs.Parts.{Entry, Group, Footprints}
+use Rattle.mk_foot.specs.Parts.{Entry, Footprints}
 use Rattle.mk_foot.specs.Steps.{◌>>=◌, each, test_each}
 use Rattle.mk_foot.specs.Names.{same_names}
-use Rattle.mk_foot.specs.Kinds.{text_of, texts_of, text_at, texts_at, elements_of, elements_at, has_only, format_in}
+use Rattle.mk_foot.specs.Kinds.{text_of, texts_of, text_at, texts_at, elements_at, has_only, format_in}
 use Rattle.mk_foot.specs.Footprints.{entry_in, shared_in, group_in, lists_in, first_format, second_format, footprints_in}
 use Rattle.mk_foot.specs.Checks.{group_is_plain, names_are_plain, test_all, group_for}
 use Rattle.mk_foot.specs.Reading.{book_in, book_of}
 use Rattle.mk_foot.proofs.Members.{elements_items}
-use Rattle.mk_foot.specs.Laws.{Values, array_of, object_of, plain_record, bare_record, plain_file, grouped_file, one_group, FormatsAgree}
+use Rattle.mk_foot.specs.Laws.{Values, plain_record, bare_record, plain_file, grouped_file, one_group, FormatsAgree}
 
 -- a record reads as the same in both formats
 same_entry : (v : Values) → entry_in One (plain_record v) ≡ entry_in Two (bare_record v)

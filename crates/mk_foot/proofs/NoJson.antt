@@ -1,11 +1,9 @@
 -- Which fault says that there is no JSON value.
-use Rattle.std.proofs.Common.{◌≡◌, ℕ, Bool, true, false, cond, ◌==◌, List, [], ◌∷◌, Option, Some, None, Result, Ok, Err, refl, sym, ap, ◌∙◌}
-use Rattle.std.specs.Prelude.{⊤, ◌↔◌, ◌≢◌, find}
-use Rattle.std.specs.Option.{option_map}
+use Rattle.std.proofs.Common.{◌≡◌, ℕ, Bool, true, false, cond, ◌==◌, List, [], ◌∷◌, Option, Some, None, Result, Ok, Err, refl, ap}
+use Rattle.std.specs.Prelude.{⊤, ◌≢◌}
 use Rattle.std.specs.List.{list_all}
 use Rattle.serde_json.specs.Data.{Data, Num, unsigned, negative, float}
-use Rattle.serde_json.specs.Find.{get, as_str, as_array, as_object, as_number}
-use Rattle.mk_lines.specs.Paths.{is_plain_path}
+use Rattle.serde_json.specs.Find.{as_str, as_number}
 use Rattle.mk_foot.specs.declared.fault.FootFault.{FootFault}
 use Rattle.mk_foot.specs.declared.fault.FootFault.TheVariants.{NotJson, Shape, OtherFormat, BadName, TwoRecords, SourceIsFixed, NoGroup, NoList}
 use Rattle.mk_foot.specs.declared.key.Key.{Key}
@@ -14,7 +12,7 @@ use Rattle.mk_foot.specs.declared.format.Format.{Format}
 use Rattle.mk_foot.specs.declared.format.Format.TheVariants.{One, Two}
 use Rattle.mk_foot.specs.Steps.{◌>>=◌, or_fault, unless_holds, each, test_each}
 use Rattle.mk_foot.specs.Kinds.{at_key, text_of, elements_of, pairs_of, texts_of, text_at, texts_at, elements_at, is_object, has_only, format_of, format_in}
-use Rattle.mk_foot.specs.Parts.{Entry, Group, SharedList, Footprints}
+use Rattle.mk_foot.specs.Parts.{Entry, Group, Footprints}
 use Rattle.mk_foot.specs.Footprints.{shared_in, entry_in, group_in, list_in, lists_in, first_format, second_format, in_format, footprints_in}
 use Rattle.mk_foot.specs.Names.{is_prefix}
 use Rattle.mk_foot.specs.Checks.{are_plain, entry_is_plain, goals_are_plain, group_is_plain, list_is_plain, names_are_plain, unless_found, targets_differ, sources_are_free, list_names, lists_are_there, test_all, group_for}

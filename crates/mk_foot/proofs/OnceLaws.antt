@@ -1,10 +1,10 @@
 -- Names that are kept once are the same names, each once.
-use Rattle.std.proofs.Common.{◌≡◌, ℕ, Bool, true, false, not, ◌||◌, ◌&&◌, cond, List, [], ◌∷◌, ◌++◌, inl, inr, refl, sym, ap, ◌∙◌}
+use Rattle.std.proofs.Common.{◌≡◌, ℕ, Bool, true, false, not, ◌||◌, ◌&&◌, cond, List, [], ◌∷◌, ◌++◌, refl, sym, ap, ◌∙◌}
 use Rattle.std.specs.Prelude.{filter}
 use Rattle.std.specs.Str.{bytes_eq}
 use Rattle.std.proofs.lemmas.Slice.Eq.{bytes_eq-Decides}
-use Rattle.mk_foot.specs.Names.{has_name, with_name, once}
-use Rattle.mk_foot.specs.Laws.{EachOnce, KeepsFirst, OnceKeepsFirst}
+use Rattle.mk_foot.specs.Names.{has_name, once}
+use Rattle.mk_foot.specs.Laws.{EachOnce, OnceKeepsFirst}
 use Rattle.mk_foot.proofs.Places.{bytes_eq_sym}
 use Rattle.mk_foot.proofs.Once.{once_push}
 

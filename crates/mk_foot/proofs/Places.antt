@@ -3,7 +3,7 @@ use Rattle.std.proofs.Common.{◌≡◌, ℕ, suc, ◌+◌, ◌<◌, ◌≤◌, 
 use Rattle.std.proofs.lemmas.Bool.{cases_Bool, false_from_ne_true, both_ways}
 use Rattle.std.proofs.lemmas.Slice.Eq.{bytes_eq-Decides}
 use Rattle.std.proofs.lemmas.List.{take_more, map_push, length-map}
-use Rattle.std.specs.Prelude.{is_some, IfSome, find}
+use Rattle.std.specs.Prelude.{is_some, IfSome}
 use Rattle.std.specs.Str.{bytes_eq}
 use Rattle.mk_foot.specs.Names.{has_name, place_from, else_last}
 

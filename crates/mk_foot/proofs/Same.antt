@@ -1,9 +1,7 @@
 -- Lists of the same names.
-use Rattle.std.proofs.Common.{◌≡◌, ℕ, suc, ◌+◌, ◌<◌, ◌≤◌, Bool, true, false, ◌&&◌, List, [], ◌∷◌, map, length, get_or, drop, String, Global, string_bytes, refl, sym, ap, ◌∙◌, arith}
-use Rattle.std.specs.Borrow.{Bor}
+use Rattle.std.proofs.Common.{◌≡◌, ℕ, suc, Bool, true, false, ◌&&◌, List, [], ◌∷◌, length, refl, ap, ◌∙◌}
 use Rattle.std.specs.Str.{bytes_eq}
 use Rattle.mk_foot.specs.Names.{same_names}
-use Rattle.mk_foot.proofs.Sets.{texts}
 
 and_no : (b : Bool) → (b && false) ≡ false
 and_no true = refl

@@ -1,10 +1,9 @@
 -- Shared lists, from the members of an object.
-use Rattle.std.proofs.Common.{◌≡◌, ℕ, List, ◌∷◌, Ok, Err, inl, inr, refl}
+use Rattle.std.proofs.Common.{◌≡◌, ℕ, List, Ok, inl, inr, refl}
 use Rattle.serde_json.specs.Data.{Data}
 use Rattle.mk_foot.specs.declared.fault.FootFault.{FootFault}
 use Rattle.mk_foot.specs.declared.key.Key.TheVariants as keys
 use Rattle.mk_foot.specs.Kinds.{texts_of}
-use Rattle.mk_foot.specs.Parts.{SharedList}
 use Rattle.mk_foot.specs.Footprints.{list_in}
 use Rattle.mk_foot.proofs.Steps.{Fails}
 

@@ -1,5 +1,5 @@
 -- A file of footprints, from its JSON value, or the first key at fault.
-use Rattle.std.specs.Prelude.{ℕ, List, [], ◌∷◌, Option, None, Some, Result, Ok, Err}
+use Rattle.std.specs.Prelude.{ℕ, List, [], ◌∷◌, None, Some, Result, Ok}
 use Rattle.serde_json.specs.Data.{Data}
 use Rattle.mk_foot.specs.declared.fault.FootFault.{FootFault}
 use Rattle.mk_foot.specs.declared.key.Key.{Key}

@@ -1,5 +1,5 @@
 -- JSON values by their kinds.
-use Rattle.std.specs.Prelude.{ℕ, ⊤, ◌==◌, Bool, List, [], ◌∷◌, map, Option, is_some, option_and_then, Result, Ok, Err, if◌then◌else◌}
+use Rattle.std.specs.Prelude.{ℕ, ⊤, ◌==◌, Bool, List, [], ◌∷◌, is_some, Result, Ok, Err, if◌then◌else◌}
 use Rattle.std.specs.Option.{option_map}
 use Rattle.std.specs.List.{list_all, list_any}
 use Rattle.std.specs.Str.{bytes_eq}

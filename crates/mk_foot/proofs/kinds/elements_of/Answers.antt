@@ -1,5 +1,3 @@
-use Rattle.std.proofs.Common.{◌∙◌, sym, ap, map}
-use Rattle.serde_json.specs.View.{view}
 use Rattle.mk_foot.proofs.Members.{elements_items}
 use Rattle.mk_foot.proofs.kinds.elements_of.Goals as goal
 

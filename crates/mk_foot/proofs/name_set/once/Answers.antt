@@ -1,4 +1,4 @@
-use Rattle.std.proofs.Common.{List, ℕ, String, Global, Vec, map, string_bytes, ap, ◌≡◌, ◌∙◌, subst}
+use Rattle.std.proofs.Common.{List, ℕ, map, string_bytes, ap, ◌≡◌, ◌∙◌, subst}
 use Rattle.std.specs.Prelude.{IfOk, fold}
 use Rattle.mk_foot.specs.Names.{with_name}
 use Rattle.mk_foot.proofs.Once.{once_into}

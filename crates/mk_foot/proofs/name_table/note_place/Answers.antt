@@ -1,4 +1,4 @@
-use Rattle.std.proofs.Common.{ap, sym, ◌∙◌, string_bytes, Some, Option, ℕ, List, cond}
+use Rattle.std.proofs.Common.{ap, sym, ◌∙◌, string_bytes, Some, ℕ, List, cond}
 use Rattle.std.specs.HashMap.{get_by_text}
 use Rattle.std.specs.Str.{bytes_eq}
 use Rattle.std.proofs.lemmas.Map.Text.{hash_map_updates_text}

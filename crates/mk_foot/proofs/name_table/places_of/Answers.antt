@@ -1,4 +1,4 @@
-use Rattle.std.proofs.Common.{◌<◌, refl, length, arith, ap, sym, ◌∙◌, string_bytes, String, Global}
+use Rattle.std.proofs.Common.{◌<◌, refl, length, arith, ap, ◌∙◌, string_bytes, String, Global}
 use Rattle.std.specs.HashMap.{get_by_text}
 use Rattle.mk_foot.proofs.Places.{next_place, none_placed}
 use Rattle.mk_foot.proofs.name_table.places_of.Goals as goal

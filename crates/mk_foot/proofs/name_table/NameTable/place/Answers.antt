@@ -1,4 +1,4 @@
-use Rattle.std.proofs.Common.{◌<◌, ◌+◌, Option, List, ℕ, length, sym, ap, ◌∙◌, subst, zero-add}
+use Rattle.std.proofs.Common.{◌<◌, Option, List, ℕ, length, sym, ap, ◌∙◌, subst, zero-add}
 use Rattle.std.specs.Prelude.{IfSome}
 use Rattle.mk_foot.specs.Names.{place_from}
 use Rattle.mk_foot.proofs.Places.{place_within}
