@@ -15,7 +15,7 @@ use crate::printing::text_of;
 use crate::request::Request;
 use crate::rules::rules_among;
 use crate::selection::select;
-use mk_graph::Name;
+use mk_lines::Name;
 use mk_lines::is_plain_path;
 use std::alloc::Global;
 

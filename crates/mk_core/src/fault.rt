@@ -4,7 +4,8 @@ ghost use Rattle.std.specs.Prelude.{◌≡◌};
 ghost use Rattle.mk_core.specs.Steps.{is_want_of_memory};
 ghost use Rattle.mk_core.specs.declared.fault.Fault.TheVariants.{Graph, Memory};
 
-use mk_graph::{GraphFault, Name};
+use mk_graph::GraphFault;
+use mk_lines::Name;
 use mk_lines::LineFault;
 use std::alloc::{AllocError, AllocFailed};
 use thiserror::Error;

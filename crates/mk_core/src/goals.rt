@@ -10,7 +10,7 @@ use crate::fault::{Fault, Place};
 use crate::name_set::NameSet;
 use crate::names::name_of;
 use crate::rules::Rule;
-use mk_graph::Name;
+use mk_lines::Name;
 use std::alloc::{AllocError, Global};
 
 /// A goal's name. Fault 28 where it holds a bracket, else 27 where it is no name, `.WAIT` or `-`.

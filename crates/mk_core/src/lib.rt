@@ -23,6 +23,6 @@ pub use answer::graph_text;
 pub use fault::{Fault, Place};
 pub use files::{Files, FilesError};
 pub use mem_files::MemFiles;
-pub use mk_graph::{Name, Names};
+pub use mk_lines::{Name, Names};
 pub use request::{Request, split_words};
 pub use wording::fault_text;

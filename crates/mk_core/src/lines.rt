@@ -8,7 +8,7 @@ ghost use Rattle.mk_lines.specs.declared.fault.LineFault.TheVariants.{Memory as 
 ghost use Rattle.mk_core.specs.Steps.{Gives, IsOfText};
 
 use crate::fault::Fault;
-use mk_graph::Name;
+use mk_lines::Name;
 use mk_lines::{Line, LineFault, logical_lines, uncomment};
 use std::alloc::{AllocError, Global};
 use std::borrow::CowSlice;

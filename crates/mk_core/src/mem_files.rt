@@ -7,7 +7,7 @@ ghost use Rattle.mk_core.specs.MemFiles.{entries};
 ghost use Rattle.mk_core.specs.declared.files.FilesError.TheVariants.{Memory, ReadFailed};
 
 use crate::files::{Files, FilesError};
-use mk_graph::Name;
+use mk_lines::Name;
 use std::alloc::{AllocError, AllocFailed, Global};
 
 /// A file in memory.

@@ -9,7 +9,7 @@ ghost use Rattle.mk_core.specs.Names.{is_make_name, is_reserved, is_bracket, is_
 ghost use Rattle.mk_core.specs.Steps.{Gives, IsOfText};
 
 use crate::fault::{Fault, Place};
-use mk_graph::Name;
+use mk_lines::Name;
 use mk_lines::is_plain_path;
 use std::alloc::{AllocError, Global};
 use std::str;

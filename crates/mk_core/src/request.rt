@@ -3,7 +3,7 @@
 ghost use Rattle.std.specs.Prelude.{◌≡◌, map, IfOk};
 ghost use Rattle.mk_core.specs.Words.{is_operand, operands_of, goals_of};
 
-use mk_graph::{Name, Names};
+use mk_lines::{Name, Names};
 use std::alloc::{AllocError, Global};
 
 /// What is asked of a makefile.

@@ -16,7 +16,7 @@ use crate::fault::{Fault, Place};
 use crate::name_set::NameSet;
 use crate::names::{is_special, name_of, words};
 use crate::parts::{before_blank, cut_once, is_blank_alone, trimmed};
-use mk_graph::Name;
+use mk_lines::Name;
 use mk_lines::Line;
 use std::alloc::{AllocError, Global};
 use std::marker::Model;

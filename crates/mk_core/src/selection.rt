@@ -13,7 +13,8 @@ ghost use Rattle.mk_core.specs.Selection.{Meets, Selects, one_group};
 use crate::name_set::NameSet;
 use crate::rules::Rule;
 use indexmap::IndexMap;
-use mk_graph::{Graph, GraphFault, Groups, MAX_NODES, Name, Node};
+use mk_graph::{Graph, GraphFault, Groups, MAX_NODES, Node};
+use mk_lines::Name;
 use std::alloc::{AllocError, Global};
 
 /// For each target the places of the rule lines that name it, in their order.

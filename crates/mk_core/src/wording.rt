@@ -5,7 +5,8 @@ ghost use Rattle.std.specs.String.{string_bytes};
 ghost use Rattle.mk_core.specs.FaultText.{fault_text, graph_fault_text, line_fault_text, no_memory, place_in, place_text, refusal};
 
 use crate::fault::{Fault, Place};
-use mk_graph::{GraphFault, Name};
+use mk_graph::GraphFault;
+use mk_lines::Name;
 use mk_lines::LineFault;
 use std::alloc::{AllocError, Global};
 

@@ -3,7 +3,7 @@
 ghost use Rattle.std.specs.Prelude.{◌≡◌};
 ghost use Rattle.mk_graph.specs.declared.fault.GraphFault.TheVariants.{Memory};
 
-use crate::name::Names;
+use mk_lines::Names;
 use std::alloc::{AllocError, AllocFailed};
 use thiserror::Error;
 

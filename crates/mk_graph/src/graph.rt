@@ -6,10 +6,10 @@ ghost use Rattle.mk_graph.specs.Build.{Builds};
 ghost use Rattle.mk_graph.specs.Serial.{serial_order};
 
 use crate::fault::GraphFault;
-use crate::name::Names;
 use crate::node::Node;
 use crate::prerequisites::rows_of;
 use crate::walk::{End, walk};
+use mk_lines::Names;
 use std::alloc::{AllocError, Global};
 use std::marker::Model;
 

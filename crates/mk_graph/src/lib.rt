@@ -5,8 +5,8 @@ pub mod build_laws;
 mod fault;
 mod graph;
 mod greedy;
+mod groups;
 pub mod laws;
-mod name;
 mod node;
 mod node_set;
 mod order;
@@ -16,7 +16,7 @@ mod walk;
 pub use fault::GraphFault;
 pub use graph::{Graph, MAX_NODES};
 pub use greedy::Greedy;
-pub use name::{Groups, Name, Names};
+pub use groups::Groups;
 pub use node::Node;
 pub use order::Order;
 

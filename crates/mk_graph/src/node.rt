@@ -1,6 +1,7 @@
 //! One target of a makefile.
 
-use crate::name::{Groups, Name};
+use crate::groups::Groups;
+use mk_lines::Name;
 
 /// A target or a file that a makefile names.
 #[derive(Debug, Drop)]

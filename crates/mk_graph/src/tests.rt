@@ -7,6 +7,7 @@ ghost use Rattle.mk_graph.specs.Progress.{row, AreRows};
 
 use super::*;
 use crate::prerequisites::rows_of;
+use mk_lines::Name;
 use std::alloc::{AllocError, Global};
 use std::process::Abort;
 use std::test::Fail;

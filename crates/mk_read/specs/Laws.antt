@@ -5,13 +5,14 @@ use Rattle.mk_lines.specs.Comments.{uncomment}
 use Rattle.mk_lines.specs.Lines.{Line}
 use Rattle.mk_read.specs.Kinds.{Comment, kind_of}
 use Rattle.mk_read.specs.Needs.{is_wait, groups}
-use Rattle.mk_read.specs.Reading.{Told, Deeper, Text, State, with_lines}
+use Rattle.mk_read.specs.State.{State}
+use Rattle.mk_read.specs.Reading.{Reader, Deeper, Text, with_lines}
 
 -- A line of a comment alone changes nothing: what is read with it is what is read without it.
 abbrev pub CommentLinesChangeNothing : Type 0
-CommentLinesChangeNothing = (told : Told) → (deeper : Deeper) → (text : Text) → (before after : List Line) → (line : Line) → (state : State)
+CommentLinesChangeNothing = (reader : Reader) → (deeper : Deeper) → (text : Text) → (before after : List Line) → (line : Line) → (state : State)
     → line.command ≡ false → kind_of (uncomment line.text) ≡ Ok Comment
-    → with_lines told deeper text (before ++ line ∷ after) state ≡ with_lines told deeper text (before ++ after) state
+    → with_lines reader deeper text (before ++ line ∷ after) state ≡ with_lines reader deeper text (before ++ after) state
 
 -- groups in one list
 abbrev pub joined : List (List (List ℕ)) → List (List ℕ)

@@ -2,6 +2,11 @@ pub mod Kinds
 pub mod Steps
 pub mod Names
 pub mod Special
+pub mod State
+pub mod Rules
+pub mod Files
+pub mod MemFiles
 pub mod Reading
+pub mod Following
 pub mod Needs
 pub mod Laws

@@ -3,7 +3,7 @@ use Rattle.std.specs.Prelude.{ℕ, Bool, true, false, not, List, [], ◌∷◌, 
 use Rattle.std.specs.List.{flat_map}
 use Rattle.std.specs.Str.{bytes_eq}
 use Rattle.mk_read.specs.Names.{has_name}
-use Rattle.mk_read.specs.Reading.{RuleRead}
+use Rattle.mk_read.specs.State.{RuleRead}
 
 -- the words of all rule lines that name it, joined in order
 abbrev pub words_of : List RuleRead → List ℕ → List (List ℕ)

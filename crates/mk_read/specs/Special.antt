@@ -4,7 +4,7 @@ use Rattle.std.specs.List.{list_all, list_any}
 use Rattle.std.specs.Str.{bytes_eq}
 use Rattle.mk_read.specs.declared.special.Special.{Special}
 use Rattle.mk_read.specs.declared.special.Special.TheVariants.{Suffixes, Phony, NotParallel, Wordless, Unread}
-use Rattle.mk_read.specs.Names.{has_name, is_empty}
+use Rattle.mk_read.specs.Names.{has_name, is_empty, once}
 
 -- what a name does as a special target, where it is a known one
 abbrev pub special_of : List ℕ → Option Special
@@ -50,14 +50,9 @@ abbrev pub is_suffix : List ℕ → Bool
 is_suffix [] = false
 is_suffix (b ∷ rest) = b == 46 && (not (is_empty rest) && list_all is_suffix_byte rest)
 
--- the suffixes with those words behind them that aren't listed yet
-unfoldable pub with_suffixes : List (List ℕ) → List (List ℕ) → List (List ℕ)
-with_suffixes suffixes [] = suffixes
-with_suffixes suffixes (word ∷ words) = with_suffixes (if has_name suffixes word then suffixes else suffixes ++ word ∷ []) words
-
--- without words the list is cleared
+-- the words behind the suffixes, each once; without words the list is cleared
 abbrev pub listed : List (List ℕ) → List (List ℕ) → List (List ℕ)
-listed suffixes words = if is_empty words then [] else with_suffixes suffixes words
+listed suffixes words = if is_empty words then [] else once (suffixes ++ words)
 
 -- an inference name: a known suffix, or two in a row
 abbrev pub is_inference_name : List (List ℕ) → List ℕ → Bool

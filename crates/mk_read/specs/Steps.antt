@@ -45,3 +45,8 @@ Fails fault defined = (is_want_of_memory fault ≡ true) ⊎ (defined ≡ Err fa
 abbrev pub Gives : {X Y : Type 0} → (X → Y) → Result X ReadFault → Result Y ReadFault → Type 0
 Gives view (Ok x) defined = defined ≡ Ok (view x)
 Gives view (Err fault) defined = Fails fault defined
+
+-- a result, seen by view
+abbrev pub seen : {X Y : Type 0} → (X → Y) → Result X ReadFault → Result Y ReadFault
+seen view (Ok x) = Ok (view x)
+seen view (Err fault) = Err fault

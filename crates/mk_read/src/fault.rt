@@ -5,8 +5,7 @@ ghost use Rattle.mk_read.specs.Steps.{is_want_of_memory};
 ghost use Rattle.mk_read.specs.declared.fault.KindFault.TheVariants.{Memory};
 ghost use Rattle.mk_read.specs.declared.fault.ReadFault.TheVariants.{Memory as NoMemory};
 
-use crate::name::Name;
-use mk_lines::LineFault;
+use mk_lines::{LineFault, Name};
 use mk_macros::MacroFault;
 use std::alloc::{AllocError, AllocFailed};
 use thiserror::Error;

@@ -3,16 +3,22 @@
 
 mod bytes;
 mod fault;
+mod files;
 mod kinds;
 pub mod laws;
-mod name;
+mod makefile;
+mod mem_files;
 mod names;
+mod reading;
 mod special;
 #[cfg(test)]
 mod tests;
 
 pub use fault::{KindFault, Place, ReadFault};
+pub use files::{Files, FilesError};
 pub use kinds::{AssignmentLine, IncludeLine, Kind, RuleLine, kind_of};
-pub use name::Name;
+pub use makefile::{Command, Makefile, Rule};
+pub use mem_files::MemFiles;
 pub use names::{is_special, name_of, names_of};
+pub use reading::read_makefile;
 pub use special::{Special, is_suffix, special_of};

@@ -10,8 +10,7 @@ ghost use Rattle.mk_read.specs.Special.{is_special, is_capital};
 ghost use Rattle.mk_read.specs.Steps.{Gives};
 
 use crate::fault::{Place, ReadFault};
-use crate::name::Name;
-use mk_lines::is_plain_path;
+use mk_lines::{Name, is_plain_path};
 use std::alloc::{AllocError, Global};
 use std::str;
 
