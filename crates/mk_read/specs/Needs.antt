@@ -1,9 +1,10 @@
--- The prerequisites of a name.
-use Rattle.std.specs.Prelude.{ℕ, Bool, true, false, not, List, [], ◌∷◌, codes, filter, map, if◌then◌else◌}
+-- The prerequisites and the commands of a name.
+use Rattle.std.specs.Prelude.{ℕ, Bool, true, false, not, List, [], ◌∷◌, codes, filter, find, map, ◌&&◌, Option, None, Some, if◌then◌else◌}
 use Rattle.std.specs.List.{flat_map}
 use Rattle.std.specs.Str.{bytes_eq}
 use Rattle.mk_read.specs.Names.{has_name}
-use Rattle.mk_read.specs.State.{RuleRead}
+use Rattle.mk_read.specs.State.{Command, RuleRead}
+use Rattle.mk_read.specs.Rules.{has_some, gives_commands}
 
 -- the words of all rule lines that name it, joined in order
 abbrev pub words_of : List RuleRead → List ℕ → List (List ℕ)
@@ -31,3 +32,16 @@ abbrev pub groups : Bool → List (List ℕ) → List (List (List ℕ))
 groups not_parallel words =
     if not_parallel then map (λ word. word ∷ []) (filter (λ word. not (is_wait word)) words)
     else filter has_words (cut words)
+
+-- the rule line has commands and names it
+abbrev pub has_commands : List ℕ → RuleRead → Bool
+has_commands name rule = has_some rule.commands && has_name rule.targets name
+
+abbrev pub commands_in : Option RuleRead → Option RuleRead → Option (List Command)
+commands_in (Some rule) other = rule.commands
+commands_in None (Some rule) = rule.commands
+commands_in None None = None
+
+-- the commands of the makefile's rule line for it that has any, else those of the default text's
+abbrev pub commands_of : List RuleRead → List ℕ → Option (List Command)
+commands_of rules name = commands_in (find (gives_commands name) rules) (find (has_commands name) rules)
