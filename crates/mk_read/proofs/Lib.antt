@@ -1,8 +1,11 @@
 mod EndBlanks
 mod FirstBytes
 mod Colons
+mod Commanded
 mod CommentLines
 mod Utf8
 mod WithFront
 mod NameLists
+mod NameSets
+mod Once
 mod Groups

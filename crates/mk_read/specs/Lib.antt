@@ -3,6 +3,7 @@ pub mod Steps
 pub mod Names
 pub mod Special
 pub mod State
+pub mod Views
 pub mod Rules
 pub mod Files
 pub mod MemFiles

@@ -1,5 +1,5 @@
 -- Names of files and targets.
-use Rattle.std.specs.Prelude.{ℕ, ◌==◌, Bool, not, ◌&&◌, ◌||◌, List, [], ◌∷◌, length, filter, Result, Ok, Err, if◌then◌else◌}
+use Rattle.std.specs.Prelude.{ℕ, ◌==◌, Bool, not, ◌&&◌, ◌||◌, List, [], ◌∷◌, ◌++◌, length, filter, Result, Ok, Err, if◌then◌else◌}
 use Rattle.std.specs.List.{list_any}
 use Rattle.std.specs.Str.{bytes_eq}
 use Rattle.mk_lines.specs.Paths.{is_plain_path}
@@ -48,6 +48,10 @@ names_in place table text = at_place place (expansion table None text) >>= λ ex
 -- the name stands among the names
 abbrev pub has_name : List (List ℕ) → List ℕ → Bool
 has_name names name = list_any (λ other. bytes_eq name other) names
+
+-- the names, with this one behind them unless it is there
+abbrev pub with_name : List (List ℕ) → List ℕ → List (List ℕ)
+with_name names name = if has_name names name then names else names ++ name ∷ []
 
 -- each name once, where it first stands
 abbrev pub once : List (List ℕ) → List (List ℕ)

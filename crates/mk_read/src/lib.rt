@@ -2,15 +2,19 @@
 #![tactic(auto)]
 
 mod bytes;
+mod commands;
 mod fault;
 mod files;
 mod kinds;
 pub mod laws;
 mod makefile;
 mod mem_files;
+mod name_set;
 mod names;
 mod reading;
 mod special;
+mod spot;
+mod state;
 #[cfg(test)]
 mod tests;
 

@@ -1,12 +1,14 @@
 //! Words and names.
 
-ghost use Rattle.std.specs.Prelude.{◌≡◌, true, false, map, IfOk, MatchOption};
+ghost use Rattle.std.specs.Prelude.{◌≡◌, true, false, map, IfOk, IfErr, MatchOption};
 ghost use Rattle.std.specs.List.{list_all, list_any};
 ghost use Rattle.std.specs.Str.{is_utf8};
 ghost use Rattle.mk_lines.specs.Paths.{is_plain_path};
 ghost use Rattle.mk_lines.specs.Words.{words};
 ghost use Rattle.mk_read.specs.Names.{is_make_name, is_reserved, is_bracket, name_of, names_of};
 ghost use Rattle.mk_read.specs.Special.{is_special, is_capital};
+ghost use Rattle.std.specs.String.{string_bytes};
+ghost use Rattle.mk_read.specs.Following.{IsOfText};
 ghost use Rattle.mk_read.specs.Steps.{Gives};
 
 use crate::fault::{Place, ReadFault};
@@ -102,7 +104,8 @@ pub fn name_of<'a>(
     line: usize,
     word: &'a [u8],
 ) -> Result<&'a str, ReadFault>
-    ensures { Gives (λ name. name.now) result (name_of (record { file = file.now; line = line }) word.now) }
+    ensures exact { Gives (λ name. name.now) result (name_of (record { file = file.now; line = line }) word.now) }
+    ensures own { IfErr result IsOfText }
 {
     let is_member = has_bracket(word);
     if !is_member && let Some(name) = make_name(word) {
@@ -121,17 +124,19 @@ pub fn name_of<'a>(
 
 /// The names that a part of a line has, behind its expansion: of each word in turn fault 28 where it
 /// holds a bracket, else 27 where it is no name.
-pub fn names_of<'a>(
+pub fn names_of(
     alloc: Global,
     file: &Name,
     line: usize,
-    text: &'a [u8],
-) -> Result<Vec<&'a str>, ReadFault>
-    ensures { Gives (λ found. map (λ name. name.now) found.items) result (names_of (record { file = file.now; line = line }) (words text.now)) }
+    text: &[u8],
+) -> Result<Vec<String>, ReadFault>
+    ensures exact { Gives (λ found. map string_bytes found.items) result (names_of (record { file = file.now; line = line }) (words text.now)) }
+    ensures own { IfErr result IsOfText }
 {
     let mut names = Vec::new(alloc);
     for word in &words(alloc, text)? {
-        names.push(name_of(alloc, file, line, word)?)?;
+        let name = name_of(alloc, file, line, word)?;
+        names.push(String::from_str(alloc, name)?)?;
     }
     Ok(names)
 }

@@ -1,0 +1,61 @@
+//! Names, each once, in the order in which they came.
+
+ghost use Rattle.std.specs.Prelude.{◌≡◌, [], not, map, IfOk, OnOk, OnErr};
+ghost use Rattle.std.specs.String.{string_bytes};
+ghost use Rattle.mk_read.specs.Names.{has_name, with_name};
+
+use indexmap::IndexSet;
+use std::alloc::{AllocError, Global};
+use std::marker::Model;
+
+/// Names, each once, in the order in which they came. A contract sees a list of names.
+#[derive(Drop)]
+pub struct NameSet {
+    names: IndexSet<String>,
+}
+
+impl Model for NameSet {
+    ghost use Rattle.std.specs.Prelude.{◌≡◌, List, ℕ, map};
+    ghost use Rattle.std.specs.String.{string_bytes};
+    ghost use Rattle.mk_read.specs.Names.{once};
+
+    ghost Value = { List (List ℕ) };
+
+    ghost view = { λ s. map string_bytes s.names.keys };
+
+    ghost invariant = { λ s. once (map string_bytes s.names.keys) ≡ map string_bytes s.names.keys };
+}
+
+impl NameSet {
+    /// No names.
+    pub fn new(alloc: Global) -> NameSet
+        ensures { result ≡ [] }
+    {
+        NameSet {
+            names: IndexSet::new(alloc),
+        }
+    }
+
+    /// Adds a name at the end, unless it is there already.
+    pub fn insert(&mut self, name: String) -> Result<(), AllocError>
+        ensures ok { OnOk result (self.new ≡ with_name self.old (string_bytes name)) }
+        ensures err { OnErr result (self.new ≡ self.old) }
+    {
+        self.names.insert(name)?;
+        Ok(())
+    }
+
+    /// Whether the name is there.
+    pub fn contains(&self, name: &str) -> bool
+        ensures { result ≡ has_name self.now name.now }
+    {
+        self.names.contains(name)
+    }
+
+    /// The names as a slice.
+    pub fn as_slice(&self) -> &[String]
+        ensures { map string_bytes result.now ≡ self.now }
+    {
+        self.names.as_slice()
+    }
+}
