@@ -1,3 +1,4 @@
+mod Assignments
 mod EndBlanks
 mod FirstBytes
 mod Colons
@@ -5,7 +6,9 @@ mod Commanded
 mod CommentLines
 mod Utf8
 mod WithFront
+mod ListTests
 mod NameLists
 mod NameSets
 mod Once
+mod Stepping
 mod Groups

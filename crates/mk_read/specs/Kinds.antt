@@ -15,6 +15,7 @@ use Rattle.mk_read.specs.declared.fault.KindFault.TheVariants.{ShellAssign, Colo
 use Rattle.mk_read.specs.declared.kinds.Kind as code
 use Rattle.mk_read.specs.declared.kinds.Kind.TheVariants as kinds
 use Rattle.mk_read.specs.declared.kinds.IncludeLine as include
+use Rattle.mk_read.specs.declared.kinds.AssignmentLine as assignment
 use Rattle.mk_read.specs.declared.kinds.RuleLine as rule
 
 -- an include line: whether a file that isn't there is passed over, and the text with the names of the files
@@ -113,10 +114,13 @@ include_view line = record { optional = line.optional; names = line.names.now }
 abbrev pub rule_view : rule.RuleLine → RuleLine
 rule_view line = record { targets = line.targets.now; words = line.words.now; command = option_map (λ command. command.now) line.command }
 
+abbrev pub assignment_view : assignment.AssignmentLine → AssignmentLine
+assignment_view line = record { name = line.name.now; op = line.op; value = line.value.now }
+
 abbrev pub kind_view : code.Kind → Kind
 kind_view kinds.Comment = Comment
 kind_view (kinds.Include line) = Include (include_view line)
-kind_view (kinds.Assignment line) = Assignment (record { name = line.name.now; op = line.op; value = line.value.now })
+kind_view (kinds.Assignment line) = Assignment (assignment_view line)
 kind_view (kinds.Rule line) = Rule (rule_view line)
 
 -- What a call returned, seen by view, is what is defined, unless memory ran out, of which nothing is said.

@@ -1,12 +1,20 @@
 -- How the parts of the code are seen.
-use Rattle.std.specs.Prelude.{◌≡◌, ℕ, false, List}
+use Rattle.std.specs.Prelude.{◌≡◌, ◌⊎◌, ℕ, true, false, List, None, Result, Ok}
+use Rattle.mk_macros.specs.Expansion.{expansion}
+use Rattle.mk_macros.specs.Table.{Macro}
+use Rattle.mk_macros.specs.declared.fault.MacroFault.{MacroFault}
+use Rattle.mk_read.specs.declared.fault.ReadFault.{ReadFault}
+use Rattle.mk_read.specs.declared.fault.ReadFault.TheVariants as fault
+use Rattle.mk_read.specs.Steps.{◌>>=◌, at_place, is_want_of_memory}
 use Rattle.mk_read.specs.declared.fault.Place.{Place}
 use Rattle.mk_read.specs.declared.spot.Spot as spot
 use Rattle.mk_read.specs.declared.state.Owner as code
 use Rattle.mk_read.specs.declared.state.Owner.TheVariants as owners
 use Rattle.mk_read.specs.Names.{has_name}
 use Rattle.mk_read.specs.Rules.{has_some, is_commanded}
-use Rattle.mk_read.specs.State.{RuleRead, Owner, Nobody, Last, SpecialTarget, PassedOver}
+use Rattle.mk_macros.specs.Definitions.{defined, without_blanks}
+use Rattle.mk_read.specs.Kinds.{AssignmentLine}
+use Rattle.mk_read.specs.State.{State, parted, RuleRead, Owner, Nobody, Last, SpecialTarget, PassedOver}
 
 -- the place of a line
 abbrev pub place_at : spot.Spot → Place
@@ -28,3 +36,15 @@ IsBare (Last rule) = has_some rule.commands ≡ false
 IsBare Nobody = Unit {0}
 IsBare SpecialTarget = Unit {0}
 IsBare PassedOver = Unit {0}
+
+-- the fault of a macro at a place, unless memory ran out
+abbrev pub IsMacroFault : Place → MacroFault → ReadFault → Type 0
+IsMacroFault place found answer = (is_want_of_memory answer ≡ true) ⊎ (answer ≡ fault.Macro place found)
+
+-- what a text of a line expands to
+abbrev pub expanded_text : Place → List Macro → List ℕ → Result (List ℕ) ReadFault
+expanded_text place table text = at_place place (expansion table None text) >>= λ expanded. Ok expanded.text
+
+-- what an assignment to a name does that was expanded
+unfoldable pub assigned : Place → State → AssignmentLine → List ℕ → Result State ReadFault
+assigned place state line name = at_place place (defined state.table (without_blanks name) line.op line.value) >>= λ table. Ok (record (parted state) { table = table })

@@ -12,6 +12,7 @@ mod mem_files;
 mod name_set;
 mod names;
 mod reading;
+mod rules;
 mod special;
 mod spot;
 mod state;

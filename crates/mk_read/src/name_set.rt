@@ -1,8 +1,8 @@
 //! Names, each once, in the order in which they came.
 
-ghost use Rattle.std.specs.Prelude.{◌≡◌, [], not, map, IfOk, OnOk, OnErr};
+ghost use Rattle.std.specs.Prelude.{◌≡◌, ◌++◌, [], map, IfOk, OnOk, OnErr};
 ghost use Rattle.std.specs.String.{string_bytes};
-ghost use Rattle.mk_read.specs.Names.{has_name, with_name};
+ghost use Rattle.mk_read.specs.Names.{has_name, once, with_name};
 
 use indexmap::IndexSet;
 use std::alloc::{AllocError, Global};
@@ -43,6 +43,17 @@ impl NameSet {
     {
         self.names.insert(name)?;
         Ok(())
+    }
+
+    /// The set with these names behind it, each once.
+    pub fn with_all(self, alloc: Global, names: &[String]) -> Result<NameSet, AllocError>
+        ensures { IfOk result (λ all. all ≡ once (self ++ map string_bytes names.now)) }
+    {
+        let NameSet { names: mut all } = self;
+        for name in names {
+            all.insert(String::from_str(alloc, name)?)?;
+        }
+        Ok(NameSet { names: all })
     }
 
     /// Whether the name is there.
