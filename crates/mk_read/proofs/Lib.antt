@@ -6,8 +6,13 @@ mod Commanded
 mod CommentLines
 mod Utf8
 mod WithFront
+mod Histories
+mod ItemLoops
+mod LineSteps
 mod ListTests
 mod NameLists
+mod OneFile
+mod SameReads
 mod NameSets
 mod Once
 mod Stepping

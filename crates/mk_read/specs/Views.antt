@@ -1,5 +1,5 @@
 -- How the parts of the code are seen.
-use Rattle.std.specs.Prelude.{◌≡◌, ◌⊎◌, ℕ, true, false, List, None, Result, Ok}
+use Rattle.std.specs.Prelude.{◌≡◌, ◌⊎◌, ℕ, true, false, List, ◌∷◌, ◌++◌, [], None, Bool, ◌==◌, Result, Ok, Err, if◌then◌else◌}
 use Rattle.mk_macros.specs.Expansion.{expansion}
 use Rattle.mk_macros.specs.Table.{Macro}
 use Rattle.mk_macros.specs.declared.fault.MacroFault.{MacroFault}
@@ -7,11 +7,13 @@ use Rattle.mk_read.specs.declared.fault.ReadFault.{ReadFault}
 use Rattle.mk_read.specs.declared.fault.ReadFault.TheVariants as fault
 use Rattle.mk_read.specs.Steps.{◌>>=◌, at_place, is_want_of_memory}
 use Rattle.mk_read.specs.declared.fault.Place.{Place}
+use Rattle.mk_read.specs.declared.including.Source as source
 use Rattle.mk_read.specs.declared.spot.Spot as spot
 use Rattle.mk_read.specs.declared.state.Owner as code
 use Rattle.mk_read.specs.declared.state.Owner.TheVariants as owners
-use Rattle.mk_read.specs.Names.{has_name}
-use Rattle.mk_read.specs.Rules.{has_some, is_commanded}
+use Rattle.mk_read.specs.Names.{has_name, is_empty, names_in}
+use Rattle.mk_read.specs.Reading.{Reader, Text, reading}
+use Rattle.mk_read.specs.Rules.{command_line, has_some, is_commanded}
 use Rattle.mk_macros.specs.Definitions.{defined, without_blanks}
 use Rattle.mk_read.specs.Kinds.{AssignmentLine}
 use Rattle.mk_read.specs.State.{State, parted, RuleRead, Owner, Nobody, Last, SpecialTarget, PassedOver}
@@ -48,3 +50,40 @@ expanded_text place table text = at_place place (expansion table None text) >>= 
 -- what an assignment to a name does that was expanded
 unfoldable pub assigned : Place → State → AssignmentLine → List ℕ → Result State ReadFault
 assigned place state line name = at_place place (defined state.table (without_blanks name) line.op line.value) >>= λ table. Ok (record (parted state) { table = table })
+
+-- what a command line does
+abbrev pub behind_commands : Place → List ℕ → State → Result State ReadFault
+behind_commands place text state = command_line place text state.read.earlier state.read.owner >>= λ read. Ok (record state { read = read })
+
+-- the text that is read
+abbrev pub text_of : source.Source → Text
+text_of s = record { file = s.file.now; default = s.default }
+
+-- how the text of a file is read with so many levels below it
+abbrev pub read_below : ℕ → Reader → List ℕ → List ℕ → State → Result State ReadFault
+read_below levels reader = reading levels reader
+
+-- what is read after the text of a file that an include line names
+abbrev pub found_after : (List ℕ → List ℕ → State → Result State ReadFault) → List ℕ → List ℕ → State → Result State ReadFault
+found_after read name text state = read name text state >>= λ after. Ok (parted after)
+
+-- the names of the files of an include line, with so many levels below it
+abbrev pub include_names : ℕ → Place → List Macro → List ℕ → Result (List (List ℕ)) ReadFault
+include_names levels place table text =
+    if levels == 0 then Err (fault.IncludeDepth place)
+    else (names_in place table text >>= λ names. if is_empty names then Err (fault.IncludeEmpty place) else Ok names)
+
+-- the fault where too many texts were read, unless memory ran out
+abbrev pub IsTooMany : Place → ReadFault → Type 0
+IsTooMany place answer = (is_want_of_memory answer ≡ true) ⊎ (answer ≡ fault.TooManyFiles place)
+
+-- the state with a text more, or with a missing file more
+abbrev pub text_more : State → List ℕ → State
+text_more state name = record state { texts = state.texts ++ name ∷ [] }
+
+abbrev pub missing_more : State → List ℕ → State
+missing_more state name = record state { missing = state.missing ++ name ∷ [] }
+
+-- what is read after a file that isn't there
+abbrev pub not_found : Place → Bool → State → List ℕ → Result State ReadFault
+not_found place optional state name = if optional then Ok (missing_more state name) else Err (fault.IncludeMissing place name)

@@ -5,6 +5,7 @@ mod bytes;
 mod commands;
 mod fault;
 mod files;
+mod including;
 mod kinds;
 pub mod laws;
 mod makefile;

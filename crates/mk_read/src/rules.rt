@@ -54,7 +54,7 @@ fn expanded_text<'a>(
 }
 
 /// The names of a part of a line: it is expanded, and then looked at word by word.
-fn names_in(
+pub(crate) fn names_in(
     spot: &Spot<'_>,
     macros: &MacroTable,
     text: &[u8],

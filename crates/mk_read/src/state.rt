@@ -1,15 +1,19 @@
 //! What was read so far.
 
-ghost use Rattle.std.specs.Prelude.{◌≡◌, [], ◌++◌, IfOk};
+ghost use Rattle.std.specs.Prelude.{◌≡◌, [], ◌∷◌, ◌++◌, length, map, nat_le, IfOk};
 ghost use Rattle.std.specs.String.{string_bytes};
 ghost use Rattle.mk_read.specs.State.{nothing_read, last_rule, owned, Nobody};
 ghost use Rattle.mk_read.specs.Views.{IsBare, owner_view};
 
 use crate::makefile::Rule;
 use crate::name_set::NameSet;
+use mk_lines::Name;
 use mk_macros::MacroTable;
 use std::alloc::{AllocError, Global};
 use std::marker::Model;
+
+/// How many texts are read at most, the default text aside.
+const MAX_TEXTS: usize = 1024;
 
 /// What a command line belongs to.
 #[derive(Drop)]
@@ -134,4 +138,38 @@ impl State {
         let lines = state.lines.owned(owner)?;
         Ok(State { lines, ..state })
     }
+
+    /// Whether no text more may be read.
+    pub(crate) fn is_full(&self) -> bool
+        ensures { result ≡ nat_le 1024 (length self.now.texts) }
+    {
+        self.texts.len() >= MAX_TEXTS
+    }
+
+    /// The same, with a text more that is read.
+    pub(crate) fn with_text(self, alloc: Global, file: &str) -> Result<State, AllocError>
+        ensures { IfOk result (λ state. state ≡ record self { texts = self.texts ++ file.now ∷ [] }) }
+    {
+        let state = self;
+        let texts = with_one_more(state.texts, String::from_str(alloc, file)?)?;
+        Ok(State { texts, ..state })
+    }
+
+    /// The same, with a file more that isn't there and was passed over.
+    pub(crate) fn without_file(self, file: Name) -> Result<State, AllocError>
+        ensures { IfOk result (λ state. state ≡ record self { missing = self.missing ++ file ∷ [] }) }
+    {
+        let state = self;
+        let missing = with_one_more(state.missing, file.into_string())?;
+        Ok(State { missing, ..state })
+    }
+}
+
+/// Names with one more behind them.
+fn with_one_more(names: Vec<String>, name: String) -> Result<Vec<String>, AllocError>
+    ensures { IfOk result (λ all. map string_bytes all.items ≡ map string_bytes names.items ++ string_bytes name ∷ []) }
+{
+    let mut all = names;
+    all.push(name)?;
+    Ok(all)
 }

@@ -1,0 +1,320 @@
+//! Texts that are read line by line, and the files that their include lines name.
+
+ghost use Rattle.std.specs.Prelude.{◌≡◌, ◌<◌, ◌^◌, ◌-◌, ◌⊎◌, Some, map, IfErr, IfOk, IfSome};
+ghost use Rattle.std.specs.Option.{option_map};
+ghost use Rattle.std.specs.String.{string_bytes};
+ghost use Rattle.mk_lines.specs.Lines.{Line, line_view, logical_lines};
+ghost use Rattle.mk_lines.specs.Comments.{uncomment};
+ghost use Rattle.mk_read.specs.declared.fault.ReadFault.TheVariants.{Memory, ReadFailed};
+ghost use Rattle.mk_read.specs.Files.{text_at};
+ghost use Rattle.mk_read.specs.Following.{Counts, Follows, IsOfText, below};
+ghost use Rattle.mk_read.specs.Kinds.{include_view, kind_of, kind_view};
+ghost use Rattle.mk_read.specs.Reading.{files as all_files, include, one_file, plain_line, with_line, with_lines, with_text};
+ghost use Rattle.mk_read.specs.State.{State};
+ghost use Rattle.mk_read.specs.Steps.{Gives, in_file, of_kind};
+ghost use Rattle.mk_read.specs.Views.{IsTooMany, behind_commands, found_after, include_names, not_found, place_at, read_below, text_more, text_of};
+
+use crate::fault::{KindFault, ReadFault};
+use crate::files::{Files, FilesError};
+use crate::kinds::{IncludeLine, Kind, kind_of};
+use crate::rules::names_in;
+use crate::spot::Spot;
+use crate::state::{Owner, State};
+use mk_macros::MacroTable;
+use mk_lines::{Line, LineFault, Name, logical_lines, uncomment};
+use std::alloc::Global;
+
+/// A text that is read.
+#[derive(Debug, Clone, Copy)]
+pub(crate) struct Source<'a> {
+    /// The allocator of what is read.
+    pub(crate) alloc: Global,
+    /// The name of its file.
+    pub(crate) file: &'a Name,
+    /// Whether it is the default text.
+    pub(crate) default: bool,
+    /// How many levels of included texts may stand below it.
+    pub(crate) levels: usize,
+}
+
+/// The logical lines of a text, or their first fault in this file.
+fn lines_of<'a>(source: &Source<'_>, text: &'a [u8]) -> Result<Vec<Line<'a>>, ReadFault>
+    ensures exact { Gives (λ lines. map line_view lines.items) result (in_file source.now.file.now (logical_lines text.now)) }
+    ensures own { IfErr result IsOfText }
+{
+    match logical_lines(source.alloc, text) {
+        Ok(lines) => Ok(lines),
+        Err(LineFault::Memory) => Err(ReadFault::Memory),
+        Err(fault) => Err(ReadFault::Line(source.file.clone()?, fault)),
+    }
+}
+
+/// The kind of a plain line without its comment, or its fault at this line.
+fn kind_at<'a>(spot: &Spot<'_>, text: &'a [u8]) -> Result<Kind<'a>, ReadFault>
+    ensures exact { Gives kind_view result (of_kind (place_at spot.now) (kind_of text.now)) }
+    ensures own { IfErr result IsOfText }
+{
+    match kind_of(spot.alloc, text) {
+        Ok(kind) => Ok(kind),
+        Err(KindFault::Memory) => Err(ReadFault::Memory),
+        Err(fault) => Err(ReadFault::Kind(spot.place()?, fault)),
+    }
+}
+
+/// What is read after a command line.
+fn after_command(spot: &Spot<'_>, state: State, text: &[u8]) -> Result<State, ReadFault>
+    ensures exact { Gives (λ state. state) result (behind_commands (place_at spot.now) text.now state) }
+    ensures own { IfErr result IsOfText }
+{
+    let lines = state.lines.with_command(spot, text)?;
+    Ok(State { lines, ..state })
+}
+
+/// What is read after the lines of a text.
+#[cycle(read)]
+fn with_lines<F: Files>(
+    files: &mut F,
+    source: &Source<'_>,
+    lines: &[Line<'_>],
+    state: State,
+) -> Result<State, ReadFault>
+    requires { F.failed files.old < 2 ^ 64 - 1 }
+    ensures map { F.told files.new ≡ F.told files.old }
+    ensures follows { IfSome (F.told files.old) (λ told. Follows told (λ reader. with_lines reader (below source.now.levels reader) (text_of source.now) (map line_view lines.now) state) state result) }
+    ensures counted { Counts (F.failed files.old) (F.failed files.new) result }
+{
+    let mut state = state;
+    for line in lines {
+        state = with_line(files, source, line, state)?;
+    }
+    Ok(state)
+}
+
+/// What is read after one more line.
+#[cycle(read)]
+fn with_line<F: Files>(
+    files: &mut F,
+    source: &Source<'_>,
+    line: &Line<'_>,
+    state: State,
+) -> Result<State, ReadFault>
+    requires { F.failed files.old < 2 ^ 64 - 1 }
+    ensures map { F.told files.new ≡ F.told files.old }
+    ensures follows { IfSome (F.told files.old) (λ told. Follows told (λ reader. with_line reader (below source.now.levels reader) (text_of source.now) state (line_view line.now)) state result) }
+    ensures counted { Counts (F.failed files.old) (F.failed files.new) result }
+{
+    let spot = Spot {
+        alloc: source.alloc,
+        file: source.file,
+        line: line.first,
+    };
+    if line.command {
+        return after_command(&spot, state, &line.text);
+    }
+    let text = uncomment(source.alloc, &line.text)?;
+    let kind = kind_at(&spot, &text)?;
+    with_kind(files, source, &spot, kind, state)
+}
+
+/// What is read after a plain line of this kind.
+#[cycle(read)]
+fn with_kind<F: Files>(
+    files: &mut F,
+    source: &Source<'_>,
+    spot: &Spot<'_>,
+    kind: Kind<'_>,
+    state: State,
+) -> Result<State, ReadFault>
+    requires { F.failed files.old < 2 ^ 64 - 1 }
+    ensures map { F.told files.new ≡ F.told files.old }
+    ensures follows { IfSome (F.told files.old) (λ told. Follows told (λ reader. plain_line reader (below source.now.levels reader) source.now.default (place_at spot.now) state (kind_view kind.entry)) state result) }
+    ensures counted { Counts (F.failed files.old) (F.failed files.new) result }
+{
+    match kind {
+        Kind::Comment => Ok(state),
+        Kind::Include(line) => with_include(files, source, spot, line, state),
+        Kind::Assignment(line) => state.with_assignment(spot, &line),
+        Kind::Rule(line) => state.with_rule(spot, source.default, &line),
+    }
+}
+
+/// The names of the files of an include line. Fault 33 where it stands too deep, 34 where it has no
+/// names.
+fn include_names(
+    levels: usize,
+    spot: &Spot<'_>,
+    macros: &MacroTable,
+    text: &[u8],
+) -> Result<Vec<String>, ReadFault>
+    ensures exact { Gives (λ names. map string_bytes names.items) result (include_names levels (place_at spot.now) macros.now text.now) }
+    ensures levels { IfOk result (λ _. 0 < levels) }
+    ensures own { IfErr result IsOfText }
+{
+    if levels == 0 {
+        return Err(ReadFault::IncludeDepth(spot.place()?));
+    }
+    let names = names_in(spot, macros, text)?;
+    if names.is_empty() {
+        return Err(ReadFault::IncludeEmpty(spot.place()?));
+    }
+    Ok(names)
+}
+
+/// What is read after an include line.
+#[cycle(read)]
+fn with_include<F: Files>(
+    files: &mut F,
+    source: &Source<'_>,
+    spot: &Spot<'_>,
+    line: IncludeLine<'_>,
+    state: State,
+) -> Result<State, ReadFault>
+    requires { F.failed files.old < 2 ^ 64 - 1 }
+    ensures map { F.told files.new ≡ F.told files.old }
+    ensures follows { IfSome (F.told files.old) (λ told. Follows told (λ reader. include reader (below source.now.levels reader) (place_at spot.now) state (include_view line.entry)) state result) }
+    ensures counted { Counts (F.failed files.old) (F.failed files.new) result }
+{
+    let names = include_names(source.levels, spot, &state.macros, line.names)?;
+    let state = state.owned(Owner::Nobody)?;
+    with_files(files, source.levels - 1, spot, line.optional, &names, state)
+}
+
+/// What is read after the files that an include line names, with so many levels below them.
+#[cycle(read)]
+fn with_files<F: Files>(
+    files: &mut F,
+    levels: usize,
+    spot: &Spot<'_>,
+    optional: bool,
+    names: &[String],
+    state: State,
+) -> Result<State, ReadFault>
+    requires { F.failed files.old < 2 ^ 64 - 1 }
+    ensures map { F.told files.new ≡ F.told files.old }
+    ensures follows { IfSome (F.told files.old) (λ told. Follows told (λ reader. all_files reader (read_below levels reader) (place_at spot.now) optional (map string_bytes names.now) state) state result) }
+    ensures counted { Counts (F.failed files.old) (F.failed files.new) result }
+{
+    let mut state = state;
+    for name in names {
+        state = with_file(files, levels, spot, optional, name, state)?;
+    }
+    Ok(state)
+}
+
+/// The text of a file that an include line names, where it is there. Fault 35 where the reader fails.
+fn text_at<F: Files>(
+    files: &mut F,
+    spot: &Spot<'_>,
+    name: &str,
+) -> Result<Option<Vec<u8>>, ReadFault>
+    requires { F.failed files.old < 2 ^ 64 - 1 }
+    ensures map { F.told files.new ≡ F.told files.old }
+    ensures text { IfOk result (λ found. IfSome (F.told files.old) (λ told. option_map (λ text. text.items) found ≡ text_at told name.now)) }
+    ensures fault { IfErr result (λ fault. (fault ≡ Memory) ⊎ (fault ≡ ReadFailed (Some (place_at spot.now)) name.now)) }
+    ensures counted { Counts (F.failed files.old) (F.failed files.new) result }
+{
+    let place = spot.place()?;
+    let file = Name::new(spot.alloc, name)?;
+    match files.read(spot.alloc, name) {
+        Ok(found) => Ok(found),
+        Err(FilesError::ReadFailed) => Err(ReadFault::ReadFailed(Some(place), file)),
+        Err(FilesError::Memory) => Err(ReadFault::Memory),
+    }
+}
+
+/// The fault where too many texts were read.
+fn too_many(spot: &Spot<'_>) -> ReadFault
+    ensures exact { IsTooMany (place_at spot.now) result }
+    ensures own { IsOfText result }
+{
+    match spot.place() {
+        Ok(place) => ReadFault::TooManyFiles(place),
+        Err(_) => ReadFault::Memory,
+    }
+}
+
+/// What is read after a file that an include line names. Fault 36 where too many were read, 32 where
+/// the file isn't there and may not be passed over.
+#[cycle(read)]
+fn with_file<F: Files>(
+    files: &mut F,
+    levels: usize,
+    spot: &Spot<'_>,
+    optional: bool,
+    name: &str,
+    state: State,
+) -> Result<State, ReadFault>
+    requires { F.failed files.old < 2 ^ 64 - 1 }
+    ensures map { F.told files.new ≡ F.told files.old }
+    ensures follows { IfSome (F.told files.old) (λ told. Follows told (λ reader. one_file reader (read_below levels reader) (place_at spot.now) optional state name.now) state result) }
+    ensures counted { Counts (F.failed files.old) (F.failed files.new) result }
+{
+    if state.is_full() {
+        return Err(too_many(spot));
+    }
+    match text_at(files, spot, name)? {
+        Some(text) => with_found(files, levels, spot, name, &text, state),
+        None => without_file(spot, optional, name, state),
+    }
+}
+
+/// What is read after a file that isn't there. Fault 32 where it may not be passed over.
+fn without_file(
+    spot: &Spot<'_>,
+    optional: bool,
+    name: &str,
+    state: State,
+) -> Result<State, ReadFault>
+    ensures exact { Gives (λ state. state) result (not_found (place_at spot.now) optional state name.now) }
+    ensures own { IfErr result IsOfText }
+{
+    let file = Name::new(spot.alloc, name)?;
+    if !optional {
+        return Err(ReadFault::IncludeMissing(spot.place()?, file));
+    }
+    Ok(state.without_file(file)?)
+}
+
+/// What is read after the text of a file that an include line names.
+#[cycle(read)]
+fn with_found<F: Files>(
+    files: &mut F,
+    levels: usize,
+    spot: &Spot<'_>,
+    name: &str,
+    text: &[u8],
+    state: State,
+) -> Result<State, ReadFault>
+    requires { F.failed files.old < 2 ^ 64 - 1 }
+    ensures map { F.told files.new ≡ F.told files.old }
+    ensures follows { IfSome (F.told files.old) (λ told. Follows told (λ reader. found_after (read_below levels reader) name.now text.now (text_more state name.now)) (text_more state name.now) result) }
+    ensures counted { Counts (F.failed files.old) (F.failed files.new) result }
+{
+    let file = Name::new(spot.alloc, name)?;
+    let state = state.with_text(spot.alloc, name)?;
+    let source = Source {
+        alloc: spot.alloc,
+        file: &file,
+        default: false,
+        levels,
+    };
+    let state = with_text(files, &source, text, state)?;
+    Ok(state.owned(Owner::Nobody)?)
+}
+
+/// What is read after a text. The faults of its lines come before its lines.
+#[cycle(read)]
+pub(crate) fn with_text<F: Files>(
+    files: &mut F,
+    source: &Source<'_>,
+    text: &[u8],
+    state: State,
+) -> Result<State, ReadFault>
+    requires { F.failed files.old < 2 ^ 64 - 1 }
+    ensures map { F.told files.new ≡ F.told files.old }
+    ensures follows { IfSome (F.told files.old) (λ told. Follows told (λ reader. with_text reader (below source.now.levels reader) (text_of source.now) text.now state) state result) }
+    ensures counted { Counts (F.failed files.old) (F.failed files.new) result }
+{
+    let lines = lines_of(source, text)?;
+    with_lines(files, source, &lines, state)
+}
