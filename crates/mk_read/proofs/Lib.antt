@@ -6,3 +6,6 @@ mod Utf8
 mod WithFront
 mod NameLists
 mod Groups
+mod Kept
+mod OneLine
+mod FixedMacros

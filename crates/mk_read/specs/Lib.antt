@@ -10,3 +10,4 @@ pub mod Reading
 pub mod Following
 pub mod Needs
 pub mod Laws
+pub mod RuleLaws

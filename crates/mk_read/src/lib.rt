@@ -10,6 +10,7 @@ mod makefile;
 mod mem_files;
 mod names;
 mod reading;
+pub mod rule_laws;
 mod special;
 #[cfg(test)]
 mod tests;

@@ -1,0 +1,45 @@
+-- Laws of rule lines, and of the macros that operands fix.
+use Rattle.std.specs.Prelude.{◌≡◌, ℕ, Bool, true, false, List, [], ◌∷◌, ◌++◌, Option, Some, Ok, filter}
+use Rattle.mk_macros.specs.Table.{Macro, macro_named}
+use Rattle.mk_read.specs.Names.{has_name}
+use Rattle.mk_read.specs.Needs.{words_of, commands_of}
+use Rattle.mk_read.specs.Reading.{Reader, Makefile, after_default, with_operands, makefile}
+use Rattle.mk_read.specs.Rules.{gives_commands, is_commanded}
+use Rattle.mk_read.specs.State.{RuleRead, State}
+
+-- Of two rule lines of a makefile that is read, at most one gives a name its commands: where one does, none behind it
+-- does.
+abbrev pub OneLineHasTheCommands : Type 0
+OneLineHasTheCommands = (reader : Reader) → (file : Option (List ℕ)) → (defaults : Bool) → (operands : List (List ℕ)) → (m : Makefile) → makefile reader file defaults operands ≡ Ok m
+    → (before between after : List RuleRead) → (one other : RuleRead) → (name : List ℕ) → m.rules ≡ before ++ one ∷ between ++ other ∷ after
+    → gives_commands name one ≡ true → gives_commands name other ≡ false
+
+-- The commands of a name are those of the rule line of the makefile that gives it any.
+abbrev pub CommandsAreOfTheOneLine : Type 0
+CommandsAreOfTheOneLine = (reader : Reader) → (file : Option (List ℕ)) → (defaults : Bool) → (operands : List (List ℕ)) → (m : Makefile) → makefile reader file defaults operands ≡ Ok m
+    → (before after : List RuleRead) → (rule : RuleRead) → (name : List ℕ) → m.rules ≡ before ++ rule ∷ after
+    → gives_commands name rule ≡ true → commands_of m.rules name ≡ rule.commands
+
+-- the rule lines of the default text
+abbrev pub of_default_text : List RuleRead → List RuleRead
+of_default_text rules = filter (λ (rule : RuleRead). rule.default) rules
+
+-- Where no rule line of the makefile gives a name commands, it has those that the default text gives it.
+abbrev pub ElseCommandsAreOfTheDefaultText : Type 0
+ElseCommandsAreOfTheDefaultText = (rules : List RuleRead) → (name : List ℕ) → is_commanded rules name ≡ false → commands_of rules name ≡ commands_of (of_default_text rules) name
+
+-- The prerequisites of a name by two lists of rule lines are those by the one, then those by the other.
+abbrev pub WordsComeFromAllLines : Type 0
+WordsComeFromAllLines = (before after : List RuleRead) → (name : List ℕ) → words_of (before ++ after) name ≡ words_of before name ++ words_of after name
+
+-- A rule line that doesn't name it gives a name no prerequisites.
+abbrev pub OtherLinesGiveNoWords : Type 0
+OtherLinesGiveNoWords = (before after : List RuleRead) → (rule : RuleRead) → (name : List ℕ) → has_name rule.targets name ≡ false
+    → words_of (before ++ rule ∷ after) name ≡ words_of (before ++ after) name
+
+-- A macro that stands fixed behind the operands stands in the makefile as it is.
+abbrev pub OperandsWinOverMakefiles : Type 0
+OperandsWinOverMakefiles = (reader : Reader) → (file : Option (List ℕ)) → (defaults : Bool) → (operands : List (List ℕ)) → (m : Makefile) → makefile reader file defaults operands ≡ Ok m
+    → (start : State) → (table : List Macro) → after_default reader defaults ≡ Ok start → with_operands 1 operands start.table ≡ Ok table
+    → (name : List ℕ) → (macro : Macro) → macro_named table name ≡ Some macro → macro.fixed ≡ true
+    → macro_named m.macros name ≡ Some macro

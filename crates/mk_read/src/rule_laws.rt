@@ -1,0 +1,37 @@
+//! Laws of rule lines and of operands, about the definitions alone.
+
+ghost use Rattle.mk_read.specs.RuleLaws.{OneLineHasTheCommands, CommandsAreOfTheOneLine, ElseCommandsAreOfTheDefaultText, WordsComeFromAllLines, OtherLinesGiveNoWords, OperandsWinOverMakefiles};
+
+use mk_macros::definition_laws::operands_win;
+
+/// In a makefile that is read, at most one rule line gives a name its commands.
+pub fn one_line_has_the_commands()
+    ensures { OneLineHasTheCommands }
+{}
+
+/// The commands of a name are those of the rule line of the makefile that gives it any.
+pub fn commands_are_of_the_one_line()
+    ensures { CommandsAreOfTheOneLine }
+{}
+
+/// Where no rule line of the makefile gives a name commands, it has those of the default text.
+pub fn else_commands_are_of_the_default_text()
+    ensures { ElseCommandsAreOfTheDefaultText }
+{}
+
+/// The prerequisites of a name are those of all rule lines that name it, in their order.
+pub fn words_come_from_all_lines()
+    ensures { WordsComeFromAllLines }
+{}
+
+/// A rule line that doesn't name it gives a name no prerequisites.
+pub fn other_lines_give_no_words()
+    ensures { OtherLinesGiveNoWords }
+{}
+
+/// A macro that an operand has fixed stands in the makefile as the operand set it.
+pub fn operands_win_over_makefiles()
+    ensures { OperandsWinOverMakefiles }
+{
+    operands_win();
+}
