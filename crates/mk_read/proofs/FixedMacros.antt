@@ -1,6 +1,6 @@
 -- Macros that operands have fixed.
-use Rattle.std.proofs.Common.{◌≡◌, ℕ, Bool, true, false, cond, not, List, [], ◌∷◌, ◌++◌, Option, None, Some, Result, Ok, Err, refl, sym, ap, subst, ◌∙◌}
-use Rattle.std.specs.Prelude.{◌&&◌, ◌||◌, codes, length, ◌==◌}
+use Rattle.std.proofs.Common.{◌≡◌, ℕ, Bool, true, not, List, [], ◌∷◌, Option, None, Some, Result, Ok, Err, refl, sym, ap, subst, ◌∙◌}
+use Rattle.std.specs.Prelude.{◌||◌, codes, length, ◌==◌}
 use Rattle.std.specs.List.{list_any, list_all}
 use Rattle.std.specs.Option.{option_map}
 use Rattle.mk_macros.specs.declared.fault.MacroFault.{MacroFault}
@@ -15,14 +15,14 @@ use Rattle.mk_read.specs.declared.special.Special.{Special}
 use Rattle.mk_read.specs.declared.special.Special.TheVariants.{Suffixes, Phony, NotParallel, Wordless, Unread}
 use Rattle.mk_read.specs.Kinds.{AssignmentLine, RuleLine}
 use Rattle.mk_read.specs.Names.{names_in, has_name, is_empty}
-use Rattle.mk_read.specs.Reading.{Reader, Makefile, with_operands}
+use Rattle.mk_read.specs.Reading.{Makefile, with_operands}
 use Rattle.mk_read.specs.RuleLaws.{OperandsWinOverMakefiles}
-use Rattle.mk_read.specs.Rules.{command_line, assignment, special_words, special_rule, new_rule, commands_behind, by_special, by_names, by_targets, has_some, rule}
+use Rattle.mk_read.specs.Rules.{command_line, assignment, special_words, special_rule, new_rule, commands_behind, by_special, by_names, has_some, rule}
 use Rattle.mk_read.specs.Special.{is_suffix, is_unknown_special, special_among}
-use Rattle.mk_read.specs.State.{RuleRead, SpecialTarget, PassedOver, Read, State, owned, parted}
+use Rattle.mk_read.specs.State.{RuleRead, SpecialTarget, Read, State, owned, parted}
 use Rattle.mk_read.specs.Steps.{◌>>=◌, at_place}
 use Rattle.mk_read.proofs.Kept.{Holds, holds_step, holds_if, IsKept, by_named}
-use Rattle.mk_read.proofs.OneLine.{Parts, parts_of}
+use Rattle.mk_read.proofs.OneLine.{parts_of}
 
 -- one definition, as a list of definitions
 one_definition : (table after : List Macro) (definition : Definition) → defined table definition.name definition.op definition.text ≡ Ok after → after_definitions table (definition ∷ []) ≡ Ok after

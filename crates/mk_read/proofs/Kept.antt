@@ -1,12 +1,11 @@
 -- What holds of every state of a reading.
-use Rattle.std.proofs.Common.{◌≡◌, ℕ, zero, suc, ◌+◌, Bool, true, false, cond, List, [], ◌∷◌, ◌++◌, codes, length, Option, None, Some, Result, Ok, Err}
+use Rattle.std.proofs.Common.{ℕ, zero, suc, ◌+◌, Bool, true, false, cond, List, [], ◌∷◌, ◌++◌, codes, length, Option, None, Some, Result, Ok, Err}
 use Rattle.std.specs.Prelude.{nat_le}
 use Rattle.mk_lines.specs.Comments.{uncomment}
 use Rattle.mk_lines.specs.Lines.{Line, logical_lines}
-use Rattle.mk_macros.specs.Table.{Macro}
 use Rattle.mk_read.specs.declared.fault.Place.{Place}
 use Rattle.mk_read.specs.declared.fault.ReadFault.{ReadFault}
-use Rattle.mk_read.specs.declared.fault.ReadFault.TheVariants.{IncludeMissing, IncludeDepth, IncludeEmpty, TooManyFiles, ReadFailed, NoMakefile}
+use Rattle.mk_read.specs.declared.fault.ReadFault.TheVariants.{NoMakefile}
 use Rattle.mk_read.specs.Kinds.{Kind, IncludeLine, AssignmentLine, RuleLine, Comment, Include, Assignment, Rule, kind_of}
 use Rattle.mk_read.specs.Names.{names_in, is_empty}
 use Rattle.mk_read.specs.State.{State, Read, nothing_read, parted}

@@ -9,3 +9,6 @@ mod Groups
 mod Kept
 mod OneLine
 mod FixedMacros
+mod Unplaced
+mod InPlace
+mod SameLines

@@ -1,10 +1,10 @@
 -- At most one rule line gives a name its commands.
-use Rattle.std.proofs.Common.{◌≡◌, ℕ, Bool, true, false, not, cond, List, [], ◌∷◌, ◌++◌, Option, None, Some, Result, Ok, Err, filter, refl, sym, ap, subst, ◌∙◌, inl, inr, ⊎_elim, append-nil, append_assoc}
+use Rattle.std.proofs.Common.{◌≡◌, ℕ, Bool, true, false, not, cond, List, [], ◌∷◌, ◌++◌, Option, None, Some, Result, Ok, Err, filter, refl, sym, ap, subst, ◌∙◌, ⊎_elim, append-nil, append_assoc}
 use Rattle.std.specs.Prelude.{◌&&◌, ◌||◌, find, codes, length, ◌==◌}
 use Rattle.std.specs.List.{list_any, list_all}
 use Rattle.std.specs.Option.{option_map}
 use Rattle.std.specs.Str.{bytes_eq}
-use Rattle.std.proofs.lemmas.Bool.{cases_Bool, and_parts, and_left, and_right, and_from, or_parts, or_from, or_cases, or_left, or_right, cond-true, cond-false, both_ways, not-true}
+use Rattle.std.proofs.lemmas.Bool.{cases_Bool, and_parts, or_parts, or_from, or_cases, or_left, or_right, cond-true, cond-false, both_ways, not-true}
 use Rattle.std.proofs.lemmas.List.Folds.{list_any-append}
 use Rattle.std.proofs.lemmas.Slice.Eq.{bytes_eq-Decides}
 use Rattle.mk_lines.specs.Bytes.{trimmed}
@@ -13,7 +13,7 @@ use Rattle.mk_macros.specs.Definitions.{defined, without_blanks}
 use Rattle.mk_macros.specs.Expansion.{expansion}
 use Rattle.mk_read.specs.declared.fault.Place.{Place}
 use Rattle.mk_read.specs.declared.fault.ReadFault.{ReadFault}
-use Rattle.mk_read.specs.declared.fault.ReadFault.TheVariants.{StrayCommand, UnknownSpecial, SpecialShape, TwoRecipes}
+use Rattle.mk_read.specs.declared.fault.ReadFault.TheVariants.{StrayCommand}
 use Rattle.mk_read.specs.declared.special.Special.{Special}
 use Rattle.mk_read.specs.declared.special.Special.TheVariants.{Suffixes, Phony, NotParallel, Wordless, Unread}
 use Rattle.mk_read.specs.Kinds.{AssignmentLine, RuleLine}
@@ -23,7 +23,7 @@ use Rattle.mk_read.specs.Reading.{Reader, Makefile, makefile, makefile_of, count
 use Rattle.mk_read.specs.RuleLaws.{OneLineHasTheCommands, CommandsAreOfTheOneLine, ElseCommandsAreOfTheDefaultText, of_default_text}
 use Rattle.mk_read.specs.Rules.{has_some, gives_commands, is_commanded, taken, unless_taken, is_comment, command_line, commanded, assignment, special_words, special_rule, new_rule, commands_behind, by_special, by_names, by_targets, rule}
 use Rattle.mk_read.specs.Special.{is_suffix, is_unknown_special, special_among}
-use Rattle.mk_read.specs.State.{Command, RuleRead, Owner, Nobody, Last, SpecialTarget, PassedOver, Read, State, nothing_read, last_rule, rules_of, owned, parted}
+use Rattle.mk_read.specs.State.{Command, RuleRead, Owner, Nobody, Last, SpecialTarget, PassedOver, Read, State, last_rule, rules_of, owned}
 use Rattle.mk_read.specs.Steps.{◌>>=◌, at_place}
 use Rattle.mk_read.proofs.Kept.{Holds, holds_step, holds_if, IsKept, by_default, by_named}
 

@@ -11,3 +11,4 @@ pub mod Following
 pub mod Needs
 pub mod Laws
 pub mod RuleLaws
+pub mod PlaceLaws

@@ -1,5 +1,5 @@
 -- Laws of rule lines, and of the macros that operands fix.
-use Rattle.std.specs.Prelude.{◌≡◌, ℕ, Bool, true, false, List, [], ◌∷◌, ◌++◌, Option, Some, Ok, filter}
+use Rattle.std.specs.Prelude.{◌≡◌, ℕ, Bool, true, false, List, ◌∷◌, ◌++◌, Option, Some, Ok, filter}
 use Rattle.mk_macros.specs.Table.{Macro, macro_named}
 use Rattle.mk_read.specs.Names.{has_name}
 use Rattle.mk_read.specs.Needs.{words_of, commands_of}

@@ -9,6 +9,7 @@ pub mod laws;
 mod makefile;
 mod mem_files;
 mod names;
+pub mod place_laws;
 mod reading;
 pub mod rule_laws;
 mod special;
