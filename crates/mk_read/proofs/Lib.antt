@@ -10,5 +10,7 @@ mod Kept
 mod OneLine
 mod FixedMacros
 mod Unplaced
+mod Parting
 mod InPlace
 mod SameLines
+mod Nested

@@ -199,7 +199,7 @@ pub record Parts (reader : Reader) (file : Option (List ℕ)) (defaults : Bool) 
   pub reads : from_named reader (record start { table = table }) chosen ≡ Ok state
   pub is : makefile_of state ≡ m
 
-bind_ok : {A B : Type 0} (r : Result A ReadFault) (f : A → Result B ReadFault) (y : B) → (r >>= f) ≡ Ok y → (x : A) × (r ≡ Ok x) × (f x ≡ Ok y)
+pub bind_ok : {A B : Type 0} (r : Result A ReadFault) (f : A → Result B ReadFault) (y : B) → (r >>= f) ≡ Ok y → (x : A) × (r ≡ Ok x) × (f x ≡ Ok y)
 bind_ok (Ok x) f y e = (x, refl, e)
 bind_ok (Err fault) f y e = absurd cc
 

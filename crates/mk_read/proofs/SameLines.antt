@@ -16,7 +16,8 @@ use Rattle.mk_read.specs.Reading.{Reader, Deeper, Text, Makefile, makefile, make
 use Rattle.mk_read.specs.State.{RuleRead, State, nothing_read, rules_of, parted}
 use Rattle.mk_read.specs.Steps.{◌>>=◌, in_file}
 use Rattle.mk_read.proofs.Unplaced.{same, stripped, stripped_rules, stripped_parted, placed_names_in, unnamed, line_stripped}
-use Rattle.mk_read.proofs.InPlace.{filter_stripped, comment_kept}
+use Rattle.mk_read.proofs.Parting.{comment_kept}
+use Rattle.mk_read.proofs.InPlace.{filter_stripped}
 
 -- ---- results
 
@@ -67,7 +68,7 @@ AgreeDeeper (Some read) (Some other) = Agree read other
 AgreeDeeper None (Some other) = ⊥
 AgreeDeeper (Some read) None = ⊥
 
-include_is : (kind : Result Kind KindFault) → is_include_kind kind ≡ true → (line : IncludeLine) × (kind ≡ Ok (Include line))
+pub include_is : (kind : Result Kind KindFault) → is_include_kind kind ≡ true → (line : IncludeLine) × (kind ≡ Ok (Include line))
 include_is (Ok (Include line)) is = (line, refl)
 include_is (Ok Comment) is = absurd (true≢false (sym is))
 include_is (Ok (Assignment line)) is = absurd (true≢false (sym is))

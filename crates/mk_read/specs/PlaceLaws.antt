@@ -109,6 +109,38 @@ begins_without_command (line ∷ lines) = if is_comment_line line then begins_wi
 abbrev pub said : State → Makefile
 said state = record (unplaced (makefile_of state)) { texts = [] }
 
+-- a file of these lines, that don't begin with a command line
+pub record FileHolds (reader : Reader) (name : List ℕ) (lines : List Line) : Type 0 where
+  pub bytes : List ℕ
+  pub there : reader.text name ≡ Some bytes
+  pub good : logical_lines bytes ≡ Ok lines
+  pub beginning : begins_without_command lines ≡ true
+
+-- files that hold these lines together, in their order
+abbrev pub FilesHold : Reader → List (List ℕ) → List Line → Type 0
+FilesHold reader [] lines = lines ≡ []
+FilesHold reader (name ∷ names) lines = (own : List Line) × (rest : List Line) × FileHolds reader name own × (lines ≡ own ++ rest) × FilesHold reader names rest
+
+-- an include line whose files hold these lines, from a state
+pub record IncludesLines (reader : Reader) (text : Text) (line : Line) (lines : List Line) (state : State) : Type 0 where
+  pub include : IncludeLine
+  pub plain : line.command ≡ false
+  pub kind : kind_of (uncomment line.text) ≡ Ok (Include include)
+  pub names : List (List ℕ)
+  pub expands : names_in (record { file = text.file; line = line.first }) state.table include.names ≡ Ok names
+  pub files : FilesHold reader names lines
+
+-- Where a text is read, an include line stands for the lines of its files: with these lines in its place the text is
+-- read too, and says the same but for places and the names of texts. No read fails, the files are there, and neither
+-- they nor what follows the include line begin with a command line. They may include others.
+abbrev pub IncludeLinesStandForTheirLines : Type 0
+IncludeLinesStandForTheirLines = (reader : Reader) → (levels : ℕ) → (text : Text) → (before lines after : List Line) → (line : Line) → (start read : State)
+    → reader.failing ≡ None → text.default ≡ false
+    → ((state : State) → with_lines reader (Some (reading levels reader)) text before start ≡ Ok state → IncludesLines reader text line lines state)
+    → begins_without_command after ≡ true
+    → with_lines reader (Some (reading levels reader)) text (before ++ line ∷ after) start ≡ Ok read
+    → (same : State) × (with_lines reader (Some (reading levels reader)) text (before ++ lines ++ after) start ≡ Ok same) × (said same ≡ said read)
+
 -- an include line that names one file, from a state where that can be read
 pub record NamesOneFile (reader : Reader) (text : Text) (line : Line) (name : List ℕ) (state : State) : Type 0 where
   pub include : IncludeLine
@@ -122,11 +154,11 @@ pub record StandAlone (lines : List Line) : Type 0 where
   pub including : includes_nothing lines ≡ true
   pub beginning : begins_without_command lines ≡ true
 
--- A text in which an include line stands for the lines of its file reads as the text with those lines in its place, but
--- for places and the names of texts. The file includes nothing itself, nor does what follows the include line; neither
--- begins with a command line; no read fails.
-abbrev pub IncludeLinesStandForTheirLines : Type 0
-IncludeLinesStandForTheirLines = (reader : Reader) → (levels : ℕ) → (text : Text) → (before lines after : List Line) → (line : Line) → (name bytes : List ℕ) → (start : State)
+-- Faults too: a text in which an include line stands for the lines of its file reads as the text with those lines in its
+-- place, or has the same fault, but for places and the names of texts. Here the file includes nothing itself, nor does
+-- what follows the include line; neither begins with a command line; no read fails.
+abbrev pub IncludeLinesFailAsTheirLines : Type 0
+IncludeLinesFailAsTheirLines = (reader : Reader) → (levels : ℕ) → (text : Text) → (before lines after : List Line) → (line : Line) → (name bytes : List ℕ) → (start : State)
     → reader.failing ≡ None → text.default ≡ false
     → ((state : State) → with_lines reader (Some (reading levels reader)) text before start ≡ Ok state → NamesOneFile reader text line name state)
     → reader.text name ≡ Some bytes → logical_lines bytes ≡ Ok lines → StandAlone lines → StandAlone after
