@@ -14,3 +14,4 @@ mod Parting
 mod InPlace
 mod SameLines
 mod Nested
+mod LastOperands

@@ -240,6 +240,11 @@ module _ (reader : Reader) (never : reader.failing ≡ None) where
         let last : makefile_of found.0 ≡ makefile_of x = cc in
         (found.0, found.1, ap (λ (m : Makefile). record (unplaced m) { texts = [] }) last)
 
+    -- lines one after another
+    one_by_one : (lines own rest : List Line) (a b x : State) → lines ≡ own ++ rest → on own a ≡ Ok b → on (rest ++ after) b ≡ Ok x → on (lines ++ after) a ≡ Ok x
+    one_by_one lines own rest a b x is first second =
+        ap (λ (l : List Line). on l a) (ap (λ (l : List Line). l ++ after) is ∙ append_assoc own rest after) ∙ (with_both reader (Some (reading levels reader)) text own (rest ++ after) a ∙ (ap (λ (r : Result State ReadFault). r >>= on (rest ++ after)) first ∙ second))
+
     all_in_place : (names : List (List ℕ)) (lines : List Line) → FilesHold reader names lines → (place : Place) (optional : Bool) (a b x : State) → Like a b
         → (files reader (reading levels reader) place optional names a >>= on after) ≡ Ok x → (y : State) × (on (lines ++ after) b ≡ Ok y) × (said y ≡ said x)
     unfolding files
@@ -253,7 +258,7 @@ module _ (reader : Reader) (never : reader.failing ≡ None) where
         let first = in_place levels text default name hold.0 hold.2 place optional a b inner.0 like inner.1 in
         let rest = all_in_place names hold.1 hold.4 place optional inner.0 (parted first.0) x first.2 (ap (λ (r : Result State ReadFault). r >>= on after) inner.2 ∙ outer.2) in
         let last = unparted (hold.1 ++ after) first.0 rest.0 (both_begin hold.1 after (files_begin names hold.1 hold.4) begins) rest.1 in
-        (last.0, ap (λ (l : List Line). on l b) (ap (λ (l : List Line). l ++ after) hold.3 ∙ append_assoc hold.0 hold.1 after) ∙ (with_both reader (Some read) text hold.0 (hold.1 ++ after) b ∙ (ap (λ (r : Result State ReadFault). r >>= on (hold.1 ++ after)) first.1 ∙ last.1)), last.2 ∙ rest.2)
+        (last.0, one_by_one lines hold.0 hold.1 b first.0 last.0 hold.3 first.1 last.1, last.2 ∙ rest.2)
 
     stands : (lines : List Line) (line : Line) (state x : State) → IncludesLines reader text line lines state → (with_line reader (Some (reading levels reader)) text state line >>= on after) ≡ Ok x
         → (y : State) × (on (lines ++ after) state ≡ Ok y) × (said y ≡ said x)

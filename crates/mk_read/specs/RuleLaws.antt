@@ -1,5 +1,9 @@
 -- Laws of rule lines, and of the macros that operands fix.
 use Rattle.std.specs.Prelude.{◌≡◌, ℕ, Bool, true, false, List, ◌∷◌, ◌++◌, Option, Some, Ok, filter}
+use Rattle.std.specs.List.{list_any}
+use Rattle.std.specs.Str.{bytes_eq}
+use Rattle.mk_macros.specs.Definitions.{with_operand}
+use Rattle.mk_macros.specs.Laws.{operand_name}
 use Rattle.mk_macros.specs.Table.{Macro, macro_named}
 use Rattle.mk_read.specs.Names.{has_name}
 use Rattle.mk_read.specs.Needs.{words_of, commands_of}
@@ -43,3 +47,15 @@ OperandsWinOverMakefiles = (reader : Reader) → (file : Option (List ℕ)) → 
     → (start : State) → (table : List Macro) → after_default reader defaults ≡ Ok start → with_operands 1 operands start.table ≡ Ok table
     → (name : List ℕ) → (macro : Macro) → macro_named table name ≡ Some macro → macro.fixed ≡ true
     → macro_named m.macros name ≡ Some macro
+
+-- the operand sets this name
+abbrev pub sets : List ℕ → List ℕ → Bool
+sets name operand = bytes_eq name (operand_name operand)
+
+-- A macro that an operand sets, and no later one does, stands in the makefile as that operand set it, whatever the
+-- makefile assigns.
+abbrev pub LastOperandWins : Type 0
+LastOperandWins = (reader : Reader) → (file : Option (List ℕ)) → (defaults : Bool) → (operands : List (List ℕ)) → (m : Makefile) → makefile reader file defaults operands ≡ Ok m
+    → (start : State) → (before after : List (List ℕ)) → (operand : List ℕ) → (table set : List Macro) → after_default reader defaults ≡ Ok start → operands ≡ before ++ operand ∷ after
+    → with_operands 1 before start.table ≡ Ok table → with_operand table operand ≡ Ok set → list_any (sets (operand_name operand)) after ≡ false
+    → macro_named m.macros (operand_name operand) ≡ macro_named set (operand_name operand)

@@ -1,8 +1,8 @@
 //! Laws of rule lines and of operands, about the definitions alone.
 
-ghost use Rattle.mk_read.specs.RuleLaws.{OneLineHasTheCommands, CommandsAreOfTheOneLine, ElseCommandsAreOfTheDefaultText, WordsComeFromAllLines, OtherLinesGiveNoWords, OperandsWinOverMakefiles};
+ghost use Rattle.mk_read.specs.RuleLaws.{OneLineHasTheCommands, CommandsAreOfTheOneLine, ElseCommandsAreOfTheDefaultText, WordsComeFromAllLines, OtherLinesGiveNoWords, OperandsWinOverMakefiles, LastOperandWins};
 
-use mk_macros::definition_laws::operands_win;
+use mk_macros::definition_laws::{operands_fix, operands_win};
 
 /// In a makefile that is read, at most one rule line gives a name its commands.
 pub fn one_line_has_the_commands()
@@ -33,5 +33,13 @@ pub fn other_lines_give_no_words()
 pub fn operands_win_over_makefiles()
     ensures { OperandsWinOverMakefiles }
 {
+    operands_win();
+}
+
+/// Of the operands that set a macro the last one wins, over what the makefile assigns too.
+pub fn last_operand_wins()
+    ensures { LastOperandWins }
+{
+    operands_fix();
     operands_win();
 }
