@@ -15,3 +15,4 @@ mod InPlace
 mod SameLines
 mod Nested
 mod LastOperands
+mod SilentLines

@@ -12,3 +12,4 @@ pub mod Needs
 pub mod Laws
 pub mod RuleLaws
 pub mod PlaceLaws
+pub mod TextLaws

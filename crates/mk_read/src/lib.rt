@@ -15,6 +15,7 @@ pub mod rule_laws;
 mod special;
 #[cfg(test)]
 mod tests;
+pub mod text_laws;
 
 pub use fault::{KindFault, Place, ReadFault};
 pub use files::{Files, FilesError};
