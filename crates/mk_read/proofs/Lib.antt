@@ -16,3 +16,5 @@ mod SameLines
 mod Nested
 mod LastOperands
 mod SilentLines
+mod Spelled
+mod Makefiles

@@ -21,16 +21,16 @@ use Rattle.mk_read.proofs.SameLines.{include_is}
 use Rattle.mk_read.proofs.OneLine.{bind_ok}
 
 -- the state without places and texts
-abbrev bare : State → State
+abbrev pub bare : State → State
 bare state = stripped forgotten state
 
 -- The second state is the first but for places and the names of texts, of which it has no more.
-record Like (a b : State) : Type 0 where
-  is : bare a ≡ bare b
-  fewer : length b.texts ≤ length a.texts
+pub record Like (a b : State) : Type 0 where
+  pub is : bare a ≡ bare b
+  pub fewer : length b.texts ≤ length a.texts
 
 -- where the first is read, so is the second
-abbrev Follows : Result State ReadFault → Result State ReadFault → Type 0
+abbrev pub Follows : Result State ReadFault → Result State ReadFault → Type 0
 Follows r s = (x : State) → r ≡ Ok x → (y : State) × (s ≡ Ok y) × Like x y
 
 follows_step : (r s : Result State ReadFault) (f g : State → Result State ReadFault) → Follows r s → ((x y : State) → Like x y → Follows (f x) (g y)) → Follows (r >>= f) (s >>= g)
@@ -68,7 +68,7 @@ deep reader zero = None
 deep reader (suc levels) = Some (reading levels reader)
 
 module _ (reader : Reader) (never : reader.failing ≡ None) where
-  works : (state : State) → fails reader state ≡ false
+  pub works : (state : State) → fails reader state ≡ false
   works state = ap (λ (o : Option ℕ). is_number o (suc (length state.texts + length state.missing))) never
 
   -- a line that isn't an include line keeps the texts
@@ -124,7 +124,7 @@ module _ (reader : Reader) (never : reader.failing ≡ None) where
     files_like (name ∷ names) a b like = follows_step (one_file reader read p optional a name) (one_file reader reads q optional b name) _ _ (one_like name a b like) (λ x y h. files_like names x y h)
 
   -- how a text is read, one level up
-  abbrev AgreeDeeper : Deeper → Deeper → Type 0
+  abbrev pub AgreeDeeper : Deeper → Deeper → Type 0
   AgreeDeeper None other = Unit {0}
   AgreeDeeper (Some read) None = ⊥
   AgreeDeeper (Some read) (Some reads) = (name bytes : List ℕ) (a b : State) → Like a b → Follows (read name bytes a) (reads name bytes b)
@@ -162,7 +162,7 @@ module _ (reader : Reader) (never : reader.failing ≡ None) where
           | inr f ↦ plain_like deeper deepers text other a b line default f like x e
         ]
 
-    lines_like : (lines : List Line) (a b : State) → Like a b → Follows (with_lines reader deeper text lines a) (with_lines reader deepers other lines b)
+    pub lines_like : (lines : List Line) (a b : State) → Like a b → Follows (with_lines reader deeper text lines a) (with_lines reader deepers other lines b)
     unfolding with_lines
     lines_like [] a b like = follows_ok a b like
     lines_like (line ∷ lines) a b like = follows_step (with_line reader deeper text a line) (with_line reader deepers other b line) _ _ (line_like line a b like) (λ x y h. lines_like lines x y h)
@@ -174,7 +174,7 @@ module _ (reader : Reader) (never : reader.failing ≡ None) where
   text_like deeper deepers agree name (Err why) a b like = λ x e. absurd cc
 
   -- with no fewer levels below
-  reading_like : (levels more : ℕ) → levels ≤ more → (name bytes : List ℕ) (a b : State) → Like a b → Follows (reading levels reader name bytes a) (reading more reader name bytes b)
+  pub reading_like : (levels more : ℕ) → levels ≤ more → (name bytes : List ℕ) (a b : State) → Like a b → Follows (reading levels reader name bytes a) (reading more reader name bytes b)
   unfolding reading
   reading_like zero zero le name bytes a b like = text_like None None tt name (logical_lines bytes) a b like
   reading_like zero (suc more) le name bytes a b like = text_like None (Some (reading more reader)) tt name (logical_lines bytes) a b like
@@ -225,7 +225,7 @@ module _ (reader : Reader) (never : reader.failing ≡ None) where
   files_begin [] lines hold = ap begins_without_command hold
   files_begin (name ∷ names) lines hold = ap begins_without_command hold.3 ∙ both_begin hold.0 hold.1 hold.2.beginning (files_begin names hold.1 hold.4)
 
-  like_said : (a b : State) → bare a ≡ bare b → said b ≡ said a
+  pub like_said : (a b : State) → bare a ≡ bare b → said b ≡ said a
   like_said a b is = said_stripped b ∙ (sym (ap makefile_of is) ∙ sym (said_stripped a))
 
   module _ (levels : ℕ) (text : Text) (default : text.default ≡ false) (after : List Line) (begins : begins_without_command after ≡ true) where

@@ -43,13 +43,13 @@ if_both view b c r r' s s' is e e' = at b e e' ∙ ap (λ d. but_places view (co
 -- ---- states
 
 -- the state without places
-abbrev bare : State → State
+abbrev pub bare : State → State
 bare state = stripped same state
 
-abbrev Alike : State → State → Type 0
+abbrev pub Alike : State → State → Type 0
 Alike a b = bare a ≡ bare b
 
-abbrev AlikeResults : Result State ReadFault → Result State ReadFault → Type 0
+abbrev pub AlikeResults : Result State ReadFault → Result State ReadFault → Type 0
 AlikeResults r s = but_places bare r ≡ but_places bare s
 
 parted_alike : (a b : State) → Alike a b → Alike (parted a) (parted b)
@@ -59,10 +59,10 @@ names_alike : (p q : Place) (a b : State) (text : List ℕ) → Alike a b → bu
 names_alike p q a b text e = placed_names_in p a.table text ∙ (ap (λ (s : State). names_in nowhere s.table text) e ∙ sym (placed_names_in q b.table text))
 
 -- texts with the same lines, read from states that are alike
-abbrev Agree : (List ℕ → List ℕ → State → Result State ReadFault) → (List ℕ → List ℕ → State → Result State ReadFault) → Type 0
+abbrev pub Agree : (List ℕ → List ℕ → State → Result State ReadFault) → (List ℕ → List ℕ → State → Result State ReadFault) → Type 0
 Agree read other = (name bytes others : List ℕ) (a b : State) → lines_said (logical_lines bytes) ≡ lines_said (logical_lines others) → Alike a b → AlikeResults (read name bytes a) (other name others b)
 
-abbrev AgreeDeeper : Deeper → Deeper → Type 0
+abbrev pub AgreeDeeper : Deeper → Deeper → Type 0
 AgreeDeeper None None = Unit {0}
 AgreeDeeper (Some read) (Some other) = Agree read other
 AgreeDeeper None (Some other) = ⊥
@@ -164,7 +164,7 @@ module _ (reader other : Reader) (failing : reader.failing ≡ other.failing) (t
       after (Ok b) h = h b
       after (Err fault) h = refl
 
-  lines_alike : (deeper deepers : Deeper) → AgreeDeeper deeper deepers → (text : Text) (r s : Result (List Line) LineFault) (a b : State) → lines_said r ≡ lines_said s → Alike a b
+  pub lines_alike : (deeper deepers : Deeper) → AgreeDeeper deeper deepers → (text : Text) (r s : Result (List Line) LineFault) (a b : State) → lines_said r ≡ lines_said s → Alike a b
       → AlikeResults (in_file text.file r >>= λ lines. with_lines reader deeper text lines a) (in_file text.file s >>= λ lines. with_lines other deepers text lines b)
   lines_alike deeper deepers agree text (Ok lines) (Ok others) a b is e =
       let one : map unnumbered (told lines) ≡ map unnumbered (told others) = cc in
@@ -173,7 +173,7 @@ module _ (reader other : Reader) (failing : reader.failing ≡ other.failing) (t
   lines_alike deeper deepers agree text (Err why) (Ok others) a b is e = absurd cc
   lines_alike deeper deepers agree text (Err why) (Err like) a b is e = let one : unnumbered_fault why ≡ unnumbered_fault like = cc in ap (λ (f : LineFault). Err (InLine text.file f)) one
 
-  reading_alike : (levels : ℕ) → Agree (reading levels reader) (reading levels other)
+  pub reading_alike : (levels : ℕ) → Agree (reading levels reader) (reading levels other)
   unfolding reading
   reading_alike zero name bytes others a b is e = lines_alike None None tt (record { file = name; default = false }) (logical_lines bytes) (logical_lines others) a b is e
   reading_alike (suc levels) name bytes others a b is e =

@@ -13,3 +13,4 @@ pub mod Laws
 pub mod RuleLaws
 pub mod PlaceLaws
 pub mod TextLaws
+pub mod IncludeLaws

@@ -4,6 +4,7 @@
 mod bytes;
 mod fault;
 mod files;
+pub mod include_laws;
 mod kinds;
 pub mod laws;
 mod makefile;
