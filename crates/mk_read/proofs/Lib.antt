@@ -18,3 +18,4 @@ mod LastOperands
 mod SilentLines
 mod Spelled
 mod Makefiles
+mod DefaultText

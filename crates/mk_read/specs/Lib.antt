@@ -14,3 +14,4 @@ pub mod RuleLaws
 pub mod PlaceLaws
 pub mod TextLaws
 pub mod IncludeLaws
+pub mod DefaultLaws

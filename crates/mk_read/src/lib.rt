@@ -2,6 +2,7 @@
 #![tactic(auto)]
 
 mod bytes;
+pub mod default_laws;
 mod fault;
 mod files;
 pub mod include_laws;
