@@ -80,10 +80,11 @@ module _ (name : List ℕ) (macro : Macro) where
     by_assignment place state line has =
         holds_step HasMacro (at_place place (expansion state.table None line.name)) _ (λ expanded. by_definition place state (without_blanks expanded.text) line.op line.value _ refl has)
 
-    stays : IsKept HasMacro
+    stays : IsKept HasMacro (λ default. Unit {0})
     stays = record {
       by_assignment = by_assignment;
-      by_rule = by_rule;
+      own = tt;
+      by_rule = λ default place state line any holds. by_rule default place state line holds;
       by_command = λ place text state has. with_read state (command_line place text state.read.earlier state.read.owner) has;
       by_parting = λ state has. has;
       by_texts = λ state texts has. has;
@@ -96,5 +97,5 @@ operands_win_over_makefiles win reader file defaults operands m e start table st
     let same_start : parts.start ≡ start = let both : Ok parts.start ≡ Ok start = sym parts.starts ∙ starts in cc in
     let same_table : parts.table ≡ table = let both : Ok parts.table ≡ Ok table = sym parts.fixed ∙ (ap (λ (s : State). with_operands 1 operands s.table) same_start ∙ fixes) in cc in
     let first : macro_named parts.table name ≡ Some macro = ap (λ (t : List Macro). macro_named t name) same_table ∙ is in
-    let last : macro_named parts.state.table name ≡ Some macro = subst (Holds (HasMacro name macro)) parts.reads (by_named (HasMacro name macro) (stays name macro win fixed) reader (record parts.start { table = parts.table }) parts.chosen first) in
+    let last : macro_named parts.state.table name ≡ Some macro = subst (Holds (HasMacro name macro)) parts.reads (by_named (HasMacro name macro) (λ default. Unit {0}) (stays name macro win fixed) reader (record parts.start { table = parts.table }) parts.chosen first) in
     ap (λ (m : Makefile). macro_named m.macros name) (sym parts.is) ∙ last

@@ -30,16 +30,18 @@ pub holds_if : (P : State → Type 0) (b : Bool) (r s : Result State ReadFault) 
 holds_if P true r s p q = p
 holds_if P false r s p q = q
 
--- each line but an include line keeps the property, and so does what stands between texts
-pub record IsKept (P : State → Type 0) : Type 0 where
+-- Each line but an include line keeps the property, and so does what stands between texts. It may be that the property is
+-- kept by the makefile's texts alone, and not by the default text.
+pub record IsKept (P : State → Type 0) (Allows : Bool → Type 0) : Type 0 where
+  pub own : Allows false
   pub by_assignment : (place : Place) (state : State) (line : AssignmentLine) → P state → Holds P (assignment place state line)
-  pub by_rule : (default : Bool) (place : Place) (state : State) (line : RuleLine) → P state → Holds P (rule default place state line)
+  pub by_rule : (default : Bool) (place : Place) (state : State) (line : RuleLine) → Allows default → P state → Holds P (rule default place state line)
   pub by_command : (place : Place) (text : List ℕ) (state : State) → P state → Holds P (command_line place text state.read.earlier state.read.owner >>= λ (read : Read). Ok (record state { read = read }))
   pub by_parting : (state : State) → P state → P (parted state)
   pub by_texts : (state : State) (texts : List (List ℕ)) → P state → P (record state { texts = texts })
   pub by_missing : (state : State) (missing : List (List ℕ)) → P state → P (record state { missing = missing })
 
-module _ (P : State → Type 0) (kept : IsKept P) (reader : Reader) where
+module _ (P : State → Type 0) (Allows : Bool → Type 0) (kept : IsKept P Allows) (reader : Reader) where
   abbrev KeepsTexts : (List ℕ → List ℕ → State → Result State ReadFault) → Type 0
   KeepsTexts read = (name bytes : List ℕ) (state : State) → P state → Holds P (read name bytes state)
 
@@ -65,33 +67,33 @@ module _ (P : State → Type 0) (kept : IsKept P) (reader : Reader) where
   by_include None keeps place state line p = tt
   by_include (Some read) keeps place state line p = holds_step P (names_in place state.table line.names) _ (λ names. holds_if P (is_empty names) _ _ tt (by_files read keeps place line.optional names (parted state) (kept.by_parting state p)))
 
-  by_plain : (deeper : Deeper) → KeepsDeeper deeper → (default : Bool) (place : Place) (state : State) (line : Kind) → P state → Holds P (plain_line reader deeper default place state line)
-  by_plain deeper keeps default place state Comment p = p
-  by_plain deeper keeps default place state (Include line) p = by_include deeper keeps place state line p
-  by_plain deeper keeps default place state (Assignment line) p = kept.by_assignment place state line p
-  by_plain deeper keeps default place state (Rule line) p = kept.by_rule default place state line p
+  by_plain : (deeper : Deeper) → KeepsDeeper deeper → (default : Bool) → Allows default → (place : Place) (state : State) (line : Kind) → P state → Holds P (plain_line reader deeper default place state line)
+  by_plain deeper keeps default allows place state Comment p = p
+  by_plain deeper keeps default allows place state (Include line) p = by_include deeper keeps place state line p
+  by_plain deeper keeps default allows place state (Assignment line) p = kept.by_assignment place state line p
+  by_plain deeper keeps default allows place state (Rule line) p = kept.by_rule default place state line allows p
 
-  by_line : (deeper : Deeper) → KeepsDeeper deeper → (text : Text) (state : State) (line : Line) → P state → Holds P (with_line reader deeper text state line)
+  by_line : (deeper : Deeper) → KeepsDeeper deeper → (text : Text) → Allows text.default → (state : State) (line : Line) → P state → Holds P (with_line reader deeper text state line)
   unfolding with_line
-  by_line deeper keeps text state line p = holds_if P line.command _ _ (kept.by_command _ line.text state p) (holds_step P (of_kind _ (kind_of (uncomment line.text))) _ (λ kind. by_plain deeper keeps text.default _ state kind p))
+  by_line deeper keeps text allows state line p = holds_if P line.command _ _ (kept.by_command _ line.text state p) (holds_step P (of_kind _ (kind_of (uncomment line.text))) _ (λ kind. by_plain deeper keeps text.default allows _ state kind p))
 
-  pub by_lines : (deeper : Deeper) → KeepsDeeper deeper → (text : Text) (lines : List Line) (state : State) → P state → Holds P (with_lines reader deeper text lines state)
+  pub by_lines : (deeper : Deeper) → KeepsDeeper deeper → (text : Text) → Allows text.default → (lines : List Line) (state : State) → P state → Holds P (with_lines reader deeper text lines state)
   unfolding with_lines
-  by_lines deeper keeps text [] state p = p
-  by_lines deeper keeps text (line ∷ lines) state p = holds_then P (with_line reader deeper text state line) _ (by_line deeper keeps text state line p) (by_lines deeper keeps text lines)
+  by_lines deeper keeps text allows [] state p = p
+  by_lines deeper keeps text allows (line ∷ lines) state p = holds_then P (with_line reader deeper text state line) _ (by_line deeper keeps text allows state line p) (by_lines deeper keeps text allows lines)
 
-  by_text : (deeper : Deeper) → KeepsDeeper deeper → (text : Text) (bytes : List ℕ) (state : State) → P state → Holds P (with_text reader deeper text bytes state)
-  by_text deeper keeps text bytes state p = holds_step P (in_file text.file (logical_lines bytes)) _ (λ lines. by_lines deeper keeps text lines state p)
+  by_text : (deeper : Deeper) → KeepsDeeper deeper → (text : Text) → Allows text.default → (bytes : List ℕ) (state : State) → P state → Holds P (with_text reader deeper text bytes state)
+  by_text deeper keeps text allows bytes state p = holds_step P (in_file text.file (logical_lines bytes)) _ (λ lines. by_lines deeper keeps text allows lines state p)
 
   by_reading : (levels : ℕ) → KeepsTexts (reading levels reader)
   unfolding reading
-  by_reading zero name bytes state p = by_text None tt _ bytes state p
-  by_reading (suc levels) name bytes state p = by_text (Some (reading levels reader)) (by_reading levels) _ bytes state p
+  by_reading zero name bytes state p = by_text None tt _ kept.own bytes state p
+  by_reading (suc levels) name bytes state p = by_text (Some (reading levels reader)) (by_reading levels) _ kept.own bytes state p
 
-  pub by_default : (defaults : Bool) → P nothing_read → Holds P (after_default reader defaults)
+  pub by_default : (defaults : Bool) → Allows true → P nothing_read → Holds P (after_default reader defaults)
   unfolding after_default
-  by_default true p = by_text None tt _ default_text nothing_read p
-  by_default false p = p
+  by_default true allows p = by_text None tt _ allows default_text nothing_read p
+  by_default false allows p = p
 
   by_text_or : (state : State) (name : List ℕ) (other : Result State ReadFault) (text : Option (List ℕ)) → P state → Holds P other → Holds P (text_or reader state name other text)
   by_text_or state name other None p q = q

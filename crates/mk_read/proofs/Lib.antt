@@ -19,3 +19,4 @@ mod SilentLines
 mod Spelled
 mod Makefiles
 mod DefaultText
+mod DefaultRules

@@ -160,10 +160,11 @@ module _ (default : Bool) (place : Place) (state : State) where
   unfolding rule
   by_rule line alone = holds_step IsAlone (names_in place state.table line.targets) _ (λ targets. by_all_targets line targets alone)
 
-stays_alone : IsKept IsAlone
+stays_alone : IsKept IsAlone (λ default. Unit {0})
 stays_alone = record {
   by_assignment = by_assignment;
-  by_rule = by_rule;
+  own = tt;
+  by_rule = λ default place state line any holds. by_rule default place state line holds;
   by_command = λ place text state alone. with_read state (command_line place text state.read.earlier state.read.owner) (alone_command place text state.read.earlier state.read.owner alone);
   by_parting = λ state alone. alone_owned Nobody state.read refl alone;
   by_texts = λ state texts alone. alone;
@@ -216,8 +217,8 @@ parts_of reader file defaults operands m e =
 alone_in : (reader : Reader) (file : Option (List ℕ)) (defaults : Bool) (operands : List (List ℕ)) (m : Makefile) → makefile reader file defaults operands ≡ Ok m → Alone m.rules
 alone_in reader file defaults operands m e =
     let parts = parts_of reader file defaults operands m e in
-    let first : IsAlone parts.start = subst (Holds IsAlone) parts.starts (by_default IsAlone stays_alone reader defaults tt) in
-    let last : IsAlone parts.state = subst (Holds IsAlone) parts.reads (by_named IsAlone stays_alone reader (record parts.start { table = parts.table }) parts.chosen first) in
+    let first : IsAlone parts.start = subst (Holds IsAlone) parts.starts (by_default IsAlone (λ default. Unit {0}) stays_alone reader defaults tt tt) in
+    let last : IsAlone parts.state = subst (Holds IsAlone) parts.reads (by_named IsAlone (λ default. Unit {0}) stays_alone reader (record parts.start { table = parts.table }) parts.chosen first) in
     subst (λ (m : Makefile). Alone m.rules) parts.is (alone_counted (counts parts.state.suffixes) (rules_of parts.state.read) last)
 
 -- behind a rule line that gives a name commands

@@ -1,8 +1,9 @@
 -- What the default text says.
-use Rattle.std.specs.Prelude.{◌≡◌, ℕ, true, false, List, [], ◌∷◌, codes, Some, Ok}
+use Rattle.std.specs.Prelude.{◌≡◌, ℕ, true, false, List, [], ◌∷◌, codes, filter, Option, Some, Ok}
 use Rattle.mk_macros.specs.Table.{Macro}
-use Rattle.mk_read.specs.Reading.{Reader, after_default}
-use Rattle.mk_read.specs.State.{Command, RuleRead, Last, State}
+use Rattle.mk_read.specs.Reading.{Reader, Makefile, counts, after_default, makefile}
+use Rattle.mk_read.specs.RuleLaws.{of_default_text}
+use Rattle.mk_read.specs.State.{Command, RuleRead, Last, State, rules_of}
 
 abbrev pub default_macro : List ℕ → List ℕ → Macro
 default_macro name text = record { name = name; text = text; immediate = false; fixed = false }
@@ -32,3 +33,13 @@ default_state = record {
 -- `.sh` and `.c.o`.
 abbrev pub DefaultTextSaysThis : Type 0
 DefaultTextSaysThis = (reader : Reader) → after_default reader true ≡ Ok default_state
+
+-- The rule lines of the default text, in a makefile that is read: those three of which, by the suffixes after all reading,
+-- a target is an inference name, as they stand in the default text.
+abbrev pub DefaultRulesStay : Type 0
+DefaultRulesStay = (reader : Reader) → (file : Option (List ℕ)) → (operands : List (List ℕ)) → (m : Makefile) → makefile reader file true operands ≡ Ok m
+    → of_default_text m.rules ≡ filter (counts m.suffixes) (rules_of default_state.read)
+
+-- Without the default text there is no rule line of it.
+abbrev pub NoDefaultRules : Type 0
+NoDefaultRules = (reader : Reader) → (file : Option (List ℕ)) → (operands : List (List ℕ)) → (m : Makefile) → makefile reader file false operands ≡ Ok m → of_default_text m.rules ≡ []

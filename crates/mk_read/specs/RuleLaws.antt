@@ -41,6 +41,11 @@ abbrev pub OtherLinesGiveNoWords : Type 0
 OtherLinesGiveNoWords = (before after : List RuleRead) → (rule : RuleRead) → (name : List ℕ) → has_name rule.targets name ≡ false
     → words_of (before ++ rule ∷ after) name ≡ words_of (before ++ after) name
 
+-- A rule line that names it gives a name its words, in its place.
+abbrev pub NamingLinesGiveTheirWords : Type 0
+NamingLinesGiveTheirWords = (before after : List RuleRead) → (rule : RuleRead) → (name : List ℕ) → has_name rule.targets name ≡ true
+    → words_of (before ++ rule ∷ after) name ≡ words_of before name ++ (rule.words ++ words_of after name)
+
 -- A macro that stands fixed behind the operands stands in the makefile as it is.
 abbrev pub OperandsWinOverMakefiles : Type 0
 OperandsWinOverMakefiles = (reader : Reader) → (file : Option (List ℕ)) → (defaults : Bool) → (operands : List (List ℕ)) → (m : Makefile) → makefile reader file defaults operands ≡ Ok m

@@ -1,6 +1,6 @@
 //! Laws of rule lines and of operands, about the definitions alone.
 
-ghost use Rattle.mk_read.specs.RuleLaws.{OneLineHasTheCommands, CommandsAreOfTheOneLine, ElseCommandsAreOfTheDefaultText, WordsComeFromAllLines, OtherLinesGiveNoWords, OperandsWinOverMakefiles, LastOperandWins};
+ghost use Rattle.mk_read.specs.RuleLaws.{OneLineHasTheCommands, CommandsAreOfTheOneLine, ElseCommandsAreOfTheDefaultText, WordsComeFromAllLines, OtherLinesGiveNoWords, NamingLinesGiveTheirWords, OperandsWinOverMakefiles, LastOperandWins};
 
 use mk_macros::definition_laws::{operands_fix, operands_win};
 
@@ -27,6 +27,11 @@ pub fn words_come_from_all_lines()
 /// A rule line that doesn't name it gives a name no prerequisites.
 pub fn other_lines_give_no_words()
     ensures { OtherLinesGiveNoWords }
+{}
+
+/// A rule line that names it gives a name its prerequisites, in its place among the others.
+pub fn naming_lines_give_their_words()
+    ensures { NamingLinesGiveTheirWords }
 {}
 
 /// A macro that an operand has fixed stands in the makefile as the operand set it.
