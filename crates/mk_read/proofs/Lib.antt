@@ -20,3 +20,4 @@ mod Spelled
 mod Makefiles
 mod DefaultText
 mod DefaultRules
+mod WellNamed

@@ -1,14 +1,15 @@
 -- Laws of rule lines, and of the macros that operands fix.
-use Rattle.std.specs.Prelude.{◌≡◌, ℕ, Bool, true, false, List, ◌∷◌, ◌++◌, Option, Some, Ok, filter}
-use Rattle.std.specs.List.{list_any}
+use Rattle.std.specs.Prelude.{◌≡◌, ℕ, Bool, true, false, not, ◌&&◌, List, ◌∷◌, ◌++◌, Option, Some, Ok, filter}
+use Rattle.std.specs.List.{list_all, list_any}
 use Rattle.std.specs.Str.{bytes_eq}
 use Rattle.mk_macros.specs.Definitions.{with_operand}
 use Rattle.mk_macros.specs.Laws.{operand_name}
 use Rattle.mk_macros.specs.Table.{Macro, macro_named}
-use Rattle.mk_read.specs.Names.{has_name}
+use Rattle.mk_read.specs.Names.{is_make_name, has_name, is_empty}
 use Rattle.mk_read.specs.Needs.{words_of, commands_of}
 use Rattle.mk_read.specs.Reading.{Reader, Makefile, after_default, with_operands, makefile}
 use Rattle.mk_read.specs.Rules.{gives_commands, is_commanded}
+use Rattle.mk_read.specs.Special.{is_special}
 use Rattle.mk_read.specs.State.{RuleRead, State}
 
 -- Of two rule lines of a makefile that is read, at most one gives a name its commands: where one does, none behind it
@@ -64,3 +65,12 @@ LastOperandWins = (reader : Reader) → (file : Option (List ℕ)) → (defaults
     → (start : State) → (before after : List (List ℕ)) → (operand : List ℕ) → (table set : List Macro) → after_default reader defaults ≡ Ok start → operands ≡ before ++ operand ∷ after
     → with_operands 1 before start.table ≡ Ok table → with_operand table operand ≡ Ok set → list_any (sets (operand_name operand)) after ≡ false
     → macro_named m.macros (operand_name operand) ≡ macro_named set (operand_name operand)
+
+-- The rule line has a target, its targets and its prerequisites are names, and no target is special.
+abbrev pub is_well_named : RuleRead → Bool
+is_well_named rule = not (is_empty rule.targets) && (list_all is_make_name rule.targets && (list_all is_make_name rule.words && not (list_any is_special rule.targets)))
+
+-- So is each rule line of a makefile that is read.
+abbrev pub RuleLinesAreWellNamed : Type 0
+RuleLinesAreWellNamed = (reader : Reader) → (file : Option (List ℕ)) → (defaults : Bool) → (operands : List (List ℕ)) → (m : Makefile) → makefile reader file defaults operands ≡ Ok m
+    → list_all is_well_named m.rules ≡ true

@@ -1,6 +1,6 @@
 //! Laws of rule lines and of operands, about the definitions alone.
 
-ghost use Rattle.mk_read.specs.RuleLaws.{OneLineHasTheCommands, CommandsAreOfTheOneLine, ElseCommandsAreOfTheDefaultText, WordsComeFromAllLines, OtherLinesGiveNoWords, NamingLinesGiveTheirWords, OperandsWinOverMakefiles, LastOperandWins};
+ghost use Rattle.mk_read.specs.RuleLaws.{OneLineHasTheCommands, CommandsAreOfTheOneLine, ElseCommandsAreOfTheDefaultText, WordsComeFromAllLines, OtherLinesGiveNoWords, NamingLinesGiveTheirWords, OperandsWinOverMakefiles, LastOperandWins, RuleLinesAreWellNamed};
 
 use mk_macros::definition_laws::{operands_fix, operands_win};
 
@@ -48,3 +48,9 @@ pub fn last_operand_wins()
     operands_fix();
     operands_win();
 }
+
+/// Each rule line of a makefile has a target, its targets and prerequisites are names, and no
+/// target of it is special.
+pub fn rule_lines_are_well_named()
+    ensures { RuleLinesAreWellNamed }
+{}
