@@ -11,3 +11,8 @@ pub mod Reading
 pub mod Following
 pub mod Needs
 pub mod Laws
+pub mod RuleLaws
+pub mod PlaceLaws
+pub mod TextLaws
+pub mod IncludeLaws
+pub mod DefaultLaws

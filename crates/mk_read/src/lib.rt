@@ -3,8 +3,10 @@
 
 mod bytes;
 mod commands;
+pub mod default_laws;
 mod fault;
 mod files;
+pub mod include_laws;
 mod including;
 mod kinds;
 pub mod laws;
@@ -12,13 +14,16 @@ mod makefile;
 mod mem_files;
 mod name_set;
 mod names;
+pub mod place_laws;
 mod reading;
+pub mod rule_laws;
 mod rules;
 mod special;
 mod spot;
 mod state;
 #[cfg(test)]
 mod tests;
+pub mod text_laws;
 
 pub use fault::{KindFault, Place, ReadFault};
 pub use files::{Files, FilesError};

@@ -1,0 +1,19 @@
+//! Laws of what texts say.
+
+ghost use Rattle.mk_read.specs.TextLaws.{SilentLinesSayNothing, SilentLinesChangeOnlyPlaces};
+
+use mk_lines::laws::lines_of_two_texts;
+
+/// A line of blanks or of a comment alone leaves what a text says.
+pub fn silent_lines_say_nothing()
+    ensures { SilentLinesSayNothing }
+{
+    lines_of_two_texts();
+}
+
+/// A line of blanks or of a comment alone that is put into the text of a file changes only places.
+pub fn silent_lines_change_only_places()
+    ensures { SilentLinesChangeOnlyPlaces }
+{
+    lines_of_two_texts();
+}
