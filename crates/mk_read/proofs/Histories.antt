@@ -80,7 +80,6 @@ some_at {A} P o x e h = subst (λ (q : Option A). IfSome q P) e h
 module _ {A C : Type 0} (view : C → A) (run : Reader → List A → State → Result State ReadFault) (step : Reader → A → State → Result State ReadFault)
     (none : (reader : Reader) (state : State) → run reader [] state ≡ Ok state)
     (more : (reader : Reader) (x : A) (xs : List A) (state : State) → run reader (x ∷ xs) state ≡ (step reader x state >>= run reader xs)) where
-
   -- what is left of the items, from the state so far
   abbrev pub Left : Told → List C → ℕ → (old now : State) → Type 0
   Left told items i old now = SoFar told (λ reader. run reader (map view items) old) (λ reader. run reader (map view (drop i items)) now) old now

@@ -30,7 +30,6 @@ files_more levels place optional reader name names state = refl
 
 -- lines
 module _ {C : Type 0} (view : C → Line) (levels : ℕ) (text : Text) (items : List C) (old : State) where
-
   abbrev pub LinesLeft : Told → ℕ → State → Type 0
   LinesLeft told i now = SoFar told (λ reader. with_lines reader (below levels reader) text (map view items) old) (λ reader. with_lines reader (below levels reader) text (map view (drop i items)) now) old now
 
@@ -55,7 +54,6 @@ module _ {C : Type 0} (view : C → Line) (levels : ℕ) (text : Text) (items : 
 
 -- files
 module _ {C : Type 0} (view : C → List ℕ) (levels : ℕ) (place : Place) (optional : Bool) (items : List C) (old : State) where
-
   abbrev pub FilesLeft : Told → ℕ → State → Type 0
   FilesLeft told i now = SoFar told (λ reader. files reader (read_below levels reader) place optional (map view items) old) (λ reader. files reader (read_below levels reader) place optional (map view (drop i items)) now) old now
 

@@ -8,10 +8,13 @@ mod Utf8
 mod WithFront
 mod Histories
 mod ItemLoops
+mod JoinedSuffixes
 mod LineSteps
+mod OperandLists
 mod ListTests
 mod NameLists
 mod OneFile
+mod OwnText
 mod SameReads
 mod NameSets
 mod Once

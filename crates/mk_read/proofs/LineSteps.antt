@@ -28,7 +28,6 @@ memory_follows told whole old = inl refl
 
 -- what is read after a text
 module _ (levels : ℕ) (text : Text) (bytes : List ℕ) (old : State) where
-
   abbrev whole_text : Reader → Result State ReadFault
   whole_text reader = with_text reader (below levels reader) text bytes old
 
@@ -42,7 +41,6 @@ module _ (levels : ℕ) (text : Text) (bytes : List ℕ) (old : State) where
 
 -- what is read after a line
 module _ (levels : ℕ) (text : Text) (old : State) (line : Line) where
-
   abbrev place_of : Place
   place_of = record { file = text.file; line = line.first }
 
@@ -71,7 +69,6 @@ module _ (levels : ℕ) (text : Text) (old : State) (line : Line) where
 
 -- assignments and rule lines
 module _ (levels : ℕ) (default : Bool) (place : Place) (old : State) where
-
   pub assignment_read : (o : Option Told) (line : AssignmentLine) (r : Result State ReadFault) → Gives (λ (s : State). s) r (assignment place old line) → IfErr r IsOfText → IfSome o (λ told. Follows told (λ reader. plain_line reader (below levels reader) default place old (Assignment line)) old r)
   assignment_read o line r gives own = some_with _ o (λ told e. no_reads told (assignment place old line) old r gives own (λ new h. same_reads old new (assignment place old line) (assignment_keeps place old line) h))
 
@@ -80,7 +77,6 @@ module _ (levels : ℕ) (default : Bool) (place : Place) (old : State) where
 
 -- include lines
 module _ (place : Place) (old : State) (line : IncludeLine) where
-
   named_at : (less : ℕ) (reader : Reader) (r : Result (List (List ℕ)) ReadFault) → (r >>= λ names. cond (is_empty names) (Err (IncludeEmpty place)) (files reader (read_below less reader) place line.optional names (parted old)))
       ≡ ((r >>= λ names. cond (is_empty names) (Err (IncludeEmpty place)) (Ok names)) >>= λ names. files reader (read_below less reader) place line.optional names (parted old))
   named_at less reader (Err fault) = refl
@@ -108,7 +104,6 @@ module _ (place : Place) (old : State) (line : IncludeLine) where
 
 -- a file that an include line names
 module _ (levels : ℕ) (place : Place) (optional : Bool) (old : State) (name : List ℕ) where
-
   abbrev whole_file : Reader → Result State ReadFault
   whole_file reader = one_file reader (read_below levels reader) place optional old name
 
@@ -131,7 +126,6 @@ module _ (levels : ℕ) (place : Place) (optional : Bool) (old : State) (name : 
 
 -- the text of such a file
 module _ (levels : ℕ) (name text : List ℕ) (old : State) where
-
   abbrev its_text : Text
   its_text = record { file = name; default = false }
 

@@ -23,19 +23,18 @@ reads_more xs ys name = omega (arith, length-append xs (name ∷ []))
 reads_missing : (xs ys : List (List ℕ)) (name : List ℕ) → length xs + length (ys ++ name ∷ []) ≡ suc (length xs + length ys)
 reads_missing xs ys name = omega (arith, length-append ys (name ∷ []))
 
-eq_self : (n : ℕ) → (n == n) ≡ true
+pub eq_self : (n : ℕ) → (n == n) ≡ true
 eq_self n = (Decides-eqb n n).1 refl
 
 eq_not : (k n : ℕ) → n < k → (k == n) ≡ false
 eq_not k n lt = ne_eqb k n (λ e. omega (arith, e, lt))
 
 -- a read that doesn't fail
-sound : (failing : Option ℕ) (n m : ℕ) → m ≡ suc n → Later m failing → is_number failing (suc n) ≡ false
+pub sound : (failing : Option ℕ) (n m : ℕ) → m ≡ suc n → Later m failing → is_number failing (suc n) ≡ false
 sound None n m e later = refl
 sound (Some k) n m e later = eq_not k (suc n) (omega (arith, e, later))
 
 module _ (told : Told) (read : Reader → Read) (place : Place) (optional : Bool) (state : State) (name : List ℕ) where
-
   whole : Reader → Result State ReadFault
   whole reader = one_file reader (read reader) place optional state name
 

@@ -1,5 +1,5 @@
 -- How the parts of the code are seen.
-use Rattle.std.specs.Prelude.{◌≡◌, ◌⊎◌, ℕ, true, false, List, ◌∷◌, ◌++◌, [], None, Bool, ◌==◌, Result, Ok, Err, if◌then◌else◌}
+use Rattle.std.specs.Prelude.{◌≡◌, ◌⊎◌, ℕ, true, false, List, ◌∷◌, ◌++◌, [], None, Option, Bool, ◌||◌, ◌==◌, codes, Result, Ok, Err, if◌then◌else◌}
 use Rattle.mk_macros.specs.Expansion.{expansion}
 use Rattle.mk_macros.specs.Table.{Macro}
 use Rattle.mk_macros.specs.declared.fault.MacroFault.{MacroFault}
@@ -12,7 +12,9 @@ use Rattle.mk_read.specs.declared.spot.Spot as spot
 use Rattle.mk_read.specs.declared.state.Owner as code
 use Rattle.mk_read.specs.declared.state.Owner.TheVariants as owners
 use Rattle.mk_read.specs.Names.{has_name, is_empty, names_in}
-use Rattle.mk_read.specs.Reading.{Reader, Text, reading}
+use Rattle.mk_read.specs.Reading.{Reader, Text, after_default, from_named, named, own_text, reading, with_operands}
+use Rattle.std.specs.List.{list_any}
+use Rattle.std.specs.Str.{bytes_eq}
 use Rattle.mk_read.specs.Rules.{command_line, has_some, is_commanded}
 use Rattle.mk_macros.specs.Definitions.{defined, without_blanks}
 use Rattle.mk_read.specs.Kinds.{AssignmentLine}
@@ -87,3 +89,31 @@ missing_more state name = record state { missing = state.missing ++ name ∷ [] 
 -- what is read after a file that isn't there
 abbrev pub not_found : Place → Bool → State → List ℕ → Result State ReadFault
 not_found place optional state name = if optional then Ok (missing_more state name) else Err (fault.IncludeMissing place name)
+
+-- the state in which the makefile's own text is read
+abbrev pub begun : State → List ℕ → State
+begun state name = record (parted state) { texts = name ∷ [] }
+
+-- no file was read
+abbrev pub IsUnread : State → Type 0
+IsUnread state = (state.texts ≡ []) × (state.missing ≡ [])
+
+-- the first usual makefile isn't there
+abbrev pub without_makefile : State → State
+without_makefile state = record state { missing = codes "makefile" ∷ [] }
+
+-- what is read after the second usual makefile
+abbrev pub second_text : Reader → State → Result State ReadFault
+second_text reader state = own_text reader (without_makefile state) (codes "Makefile") (Err (fault.NoMakefile None))
+
+-- the name is this suffix, or this suffix with another one behind it
+abbrev pub is_joined : List (List ℕ) → List ℕ → List ℕ → Bool
+is_joined suffixes name suffix = bytes_eq name suffix || list_any (λ other. bytes_eq name (suffix ++ other)) suffixes
+
+-- what is read in all
+abbrev pub state_read : Reader → Option (List ℕ) → Bool → List (List ℕ) → Result State ReadFault
+state_read reader name defaults operands = do
+  file ← named name
+  start ← after_default reader defaults
+  table ← with_operands 1 operands start.table
+  from_named reader (record start { table = table }) file

@@ -20,8 +20,8 @@ use crate::kinds::{IncludeLine, Kind, kind_of};
 use crate::rules::names_in;
 use crate::spot::Spot;
 use crate::state::{Owner, State};
-use mk_macros::MacroTable;
 use mk_lines::{Line, LineFault, Name, logical_lines, uncomment};
+use mk_macros::MacroTable;
 use std::alloc::Global;
 
 /// A text that is read.

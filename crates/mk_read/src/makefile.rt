@@ -4,6 +4,7 @@ ghost use Rattle.std.specs.Prelude.{◌≡◌, map};
 ghost use Rattle.std.specs.String.{string_bytes};
 
 use crate::fault::Place;
+use crate::name_set::NameSet;
 use mk_macros::MacroTable;
 use std::marker::Model;
 
@@ -55,7 +56,7 @@ impl Model for Rule {
 #[derive(Drop)]
 pub struct Makefile {
     pub(crate) rules: Vec<Rule>,
-    pub(crate) suffixes: Vec<String>,
+    pub(crate) suffixes: NameSet,
     pub(crate) phony: Vec<String>,
     pub(crate) not_parallel: bool,
     pub(crate) macros: MacroTable,
@@ -70,7 +71,7 @@ impl Model for Makefile {
 
     ghost Value = { value.Makefile };
 
-    ghost view = { λ m. record { rules = m.rules.items; suffixes = map string_bytes m.suffixes.items; phony = map string_bytes m.phony.items; not_parallel = m.not_parallel; macros = m.macros; texts = map string_bytes m.texts.items; passed_over = map string_bytes m.passed_over.items } };
+    ghost view = { λ m. record { rules = m.rules.items; suffixes = m.suffixes; phony = map string_bytes m.phony.items; not_parallel = m.not_parallel; macros = m.macros; texts = map string_bytes m.texts.items; passed_over = map string_bytes m.passed_over.items } };
 }
 
 impl Makefile {

@@ -122,11 +122,7 @@ fn are_suffixes(words: &[String]) -> bool
 }
 
 /// The suffixes with the words behind them, each once; without words the list is cleared.
-fn list_suffixes(
-    alloc: Global,
-    suffixes: NameSet,
-    words: &[String],
-) -> Result<NameSet, AllocError>
+fn list_suffixes(alloc: Global, suffixes: NameSet, words: &[String]) -> Result<NameSet, AllocError>
     ensures { IfOk result (λ all. all ≡ listed suffixes (map string_bytes words.now)) }
 {
     if words.is_empty() {
@@ -251,9 +247,7 @@ fn special_among(targets: &[String]) -> Option<Special>
 fn has_unknown(targets: &[String]) -> bool
     ensures { result ≡ list_any is_unknown_special (map string_bytes targets.now) }
 {
-    targets
-        .iter()
-        .any(|target| is_special(target) && special_of(target).is_none())
+    targets.iter().any(|target| is_special(target) && special_of(target).is_none())
 }
 
 /// A rule line by its names. Fault 29 where a target looks special and isn't known, 30 and 31.

@@ -1,7 +1,7 @@
 //! Rows on the kinds of lines.
 
 use super::*;
-use mk_lines::uncomment;
+use mk_lines::{Name, uncomment};
 use mk_macros::Op;
 use std::alloc::{AllocError, Global};
 use std::process::Abort;

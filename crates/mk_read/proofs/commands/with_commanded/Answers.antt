@@ -17,7 +17,7 @@ returns-in-Some-clause-exact c =
     ∙ (ap (λ (r : RuleRead). Err (TwoRecipes r.place c.in-Some.target.now)) (sym c.rule.view_is) ∙ ap (λ name. Err (TwoRecipes c.rule.inside.place name)) (sym c.in_ok-target.ensures)))
 
 pub invariant_of-result-2 : goal.invariant_of-result-2
-invariant_of-result-2 c = 
+invariant_of-result-2 c =
     let own : c.args.rule.default ≡ false = ap (λ (r : RuleRead). r.default) (sym c.rule.view_is) ∙ c.if-rule.false in
     let added : (name : List ℕ) → has_name c.in_ok-known.known name ≡ (has_name c.args.known name || has_name (map string_bytes c.rule.inside.targets.items) name) = λ name. c.in_ok-known.ensures name ∙ ap (λ (names : List (String Global)). has_name c.args.known name || has_name (map string_bytes names) name) c.deref-2.ensures.value in
     knows_more c.args.known c.in_ok-known.known c.args.earlier.items c.args.rule c.requires.known own c.requires.commands

@@ -13,9 +13,10 @@ pub loop-name-preserved : goal.loop-name-preserved
 loop-name-preserved c =
     let lt : c.loop-name.name-index < length c.args.names.now = omega arith in
     let old = names_of c.loop-name.all.keys in
-    let is = inserted c.loop-name.all.keys _ old c.insert.new.self.keys c.in_ok-insert.ensures.keys refl in
-    (subst (λ (names : List (List ℕ)). once names ≡ names) (sym is) (stays_once old _ c.loop-name.invariant.0),
-    one_in old (names_of c.insert.new.self.keys) c.args.names.now c.loop-name.name-index _ _ _ (c.in_ok-from_str.ensures.ok ∙ (c.deref.ensures ∙ ap string_bytes c.name-item.is)) is c.loop-name.invariant.1 lt)
+    let is = inserted c.loop-name.all.keys _ old c.insert.new.self.keys c.in_ok-insert.ensures.keys refl in (
+      subst (λ (names : List (List ℕ)). once names ≡ names) (sym is) (stays_once old _ c.loop-name.invariant.0),
+      one_in old (names_of c.insert.new.self.keys) c.args.names.now c.loop-name.name-index _ _ _ (c.in_ok-from_str.ensures.ok ∙ (c.deref.ensures ∙ ap string_bytes c.name-item.is)) is c.loop-name.invariant.1 lt,
+    )
 
 pub returns : goal.returns
 returns c =

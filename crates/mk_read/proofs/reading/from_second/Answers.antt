@@ -1,0 +1,31 @@
+use Rattle.std.proofs.Common.{◌≡◌, List, ℕ, Bool, true, false, codes, map, string_bytes, Ok, Err, Some, None, refl, sym, ap, subst, ◌∙◌}
+use Rattle.std.specs.Prelude.{◌⊎◌, IfSome}
+use Rattle.std.specs.Option.{option_map, option_copied}
+use Rattle.std.proofs.lemmas.Result.{err_from_is_err_and}
+use Rattle.mk_macros.specs.Table.{Macro}
+use Rattle.mk_read.specs.declared.fault.ReadFault.{ReadFault}
+use Rattle.mk_read.specs.declared.fault.ReadFault.TheVariants.{Memory, NoMakefile, ReadFailed}
+use Rattle.mk_read.specs.Files.{text_at}
+use Rattle.mk_read.specs.Following.{Answers, Follows, below}
+use Rattle.mk_read.specs.Reading.{default_text, from_named, makefile, named, reading, with_operands, with_text}
+use Rattle.mk_read.specs.State.{State, nothing_read, parted}
+use Rattle.mk_read.specs.Steps.{Fails}
+use Rattle.mk_read.specs.Views.{IsUnread, begun, second_text, without_makefile}
+use Rattle.mk_read.proofs.Histories.{some_with, some_at}
+use Rattle.mk_read.proofs.OwnText.{second_unread, second_found, second_absent}
+use Rattle.mk_read.proofs.reading.from_second.Goals as goal
+
+pub returns-in_err-text-clause-follows : goal.returns-in_err-text-clause-follows
+returns-in_err-text-clause-follows g c =
+    let p = err_from_is_err_and c.from_residual.result c.from_residual.ensures.1 in
+    rw (p.1, p.2) (second_unread c.args.state (g.F.Files.told c.args.files.now) c.in_err-text.field-0.0 c.in_err-text.ensures.fault)
+
+pub returns-in_ok-missing-in-Some-clause-follows : goal.returns-in_ok-missing-in-Some-clause-follows
+returns-in_ok-missing-in-Some-clause-follows g c =
+    second_found c.args.state (g.F.Files.told c.args.files.now) (g.F.Files.told c.makefile_at.new.files) c.deref.result.now c.with_own_text.result c.in_ok-text.ensures.map (some_with _ (g.F.Files.told c.args.files.now) (λ told e. (ap (λ text. Some text) c.deref.ensures.value ∙ ap (option_map (λ text. text.items)) (sym c.in-Some.is)) ∙ some_at (λ t. option_map (λ text. text.items) c.in_ok-text.field-0 ≡ text_at t (codes "Makefile")) (g.F.Files.told c.args.files.now) told e c.in_ok-text.ensures.text))
+    (subst (λ (missing : List (List ℕ)). IfSome (g.F.Files.told c.makefile_at.new.files) (λ told. Follows told (λ reader. reading 16 reader (codes "Makefile") c.deref.result.now (begun (record c.args.state { missing = missing }) (codes "Makefile"))) (begun (record c.args.state { missing = missing }) (codes "Makefile")) c.with_own_text.result)) c.in_ok-missing-in-Some.ensures
+    (subst (λ (s : State). IfSome (g.F.Files.told c.makefile_at.new.files) (λ told. Follows told (λ reader. reading 16 reader (codes "Makefile") c.deref.result.now (begun (record s { missing = map string_bytes c.in_ok-missing-in-Some.missing.items }) (codes "Makefile"))) (begun (record s { missing = map string_bytes c.in_ok-missing-in-Some.missing.items }) (codes "Makefile")) c.with_own_text.result)) c.state.view_is c.with_own_text.ensures.follows))
+
+pub returns-in-None-clause-follows : goal.returns-in-None-clause-follows
+returns-in-None-clause-follows g c =
+    second_absent c.args.state (g.F.Files.told c.args.files.now) (some_with _ (g.F.Files.told c.args.files.now) (λ told e. ap (option_map (λ text. text.items)) (sym c.in-None.is) ∙ some_at (λ t. option_map (λ text. text.items) c.in_ok-text.field-0 ≡ text_at t (codes "Makefile")) (g.F.Files.told c.args.files.now) told e c.in_ok-text.ensures.text))

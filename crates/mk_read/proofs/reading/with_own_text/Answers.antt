@@ -1,0 +1,24 @@
+use Rattle.std.proofs.Common.{◌≡◌, List, ℕ, Bool, true, false, codes, map, string_bytes, ◌∷◌, [], Ok, Err, Some, None, refl, sym, ap, subst, ◌∙◌}
+use Rattle.std.specs.Prelude.{◌⊎◌, IfSome}
+use Rattle.std.specs.Option.{option_map, option_copied}
+use Rattle.std.proofs.lemmas.Result.{err_from_is_err_and}
+use Rattle.mk_macros.specs.Table.{Macro}
+use Rattle.mk_read.specs.declared.fault.ReadFault.{ReadFault}
+use Rattle.mk_read.specs.declared.fault.ReadFault.TheVariants.{Memory, NoMakefile, ReadFailed}
+use Rattle.mk_read.specs.Files.{text_at}
+use Rattle.mk_read.specs.Following.{Answers, Follows, below}
+use Rattle.mk_read.specs.Reading.{default_text, from_named, makefile, named, reading, with_operands, with_text}
+use Rattle.mk_read.specs.State.{State, nothing_read, parted}
+use Rattle.mk_read.specs.Steps.{Fails}
+use Rattle.mk_read.specs.Views.{IsUnread, begun, second_text, without_makefile}
+use Rattle.mk_read.proofs.Histories.{some_with, some_at}
+use Rattle.mk_read.proofs.OwnText.{as_reading}
+use Rattle.mk_read.proofs.reading.with_own_text.Goals as goal
+
+pub returns-clause-follows : goal.returns-clause-follows
+returns-clause-follows g c =
+    let by_view = subst (λ (s : State). IfSome (g.F.Files.told c.args.files.now) (λ told. Follows told (λ reader. with_text reader (below 16 reader) (record { file = c.in_ok-file.file; default = false }) c.args.text.now (record s { texts = map string_bytes c.in_ok-texts.texts.items })) (record s { texts = map string_bytes c.in_ok-texts.texts.items }) c.with_text.result)) c.state-2.view_is c.with_text.ensures.follows in
+    let by_texts = subst (λ (texts : List (List ℕ)). IfSome (g.F.Files.told c.args.files.now) (λ told. Follows told (λ reader. with_text reader (below 16 reader) (record { file = c.in_ok-file.file; default = false }) c.args.text.now (record c.in_ok-state.state { texts = texts })) (record c.in_ok-state.state { texts = texts }) c.with_text.result)) c.in_ok-texts.ensures by_view in
+    let by_state = subst (λ (s : State). IfSome (g.F.Files.told c.args.files.now) (λ told. Follows told (λ reader. with_text reader (below 16 reader) (record { file = c.in_ok-file.file; default = false }) c.args.text.now (record s { texts = c.args.name.now ∷ [] })) (record s { texts = c.args.name.now ∷ [] }) c.with_text.result)) c.in_ok-state.ensures by_texts in
+    let by_file = subst (λ (name : List ℕ). IfSome (g.F.Files.told c.args.files.now) (λ told. Follows told (λ reader. with_text reader (below 16 reader) (record { file = name; default = false }) c.args.text.now (begun c.args.state c.args.name.now)) (begun c.args.state c.args.name.now) c.with_text.result)) c.in_ok-file.ensures by_state in
+    as_reading (g.F.Files.told c.args.files.now) 16 c.args.name.now c.args.text.now (begun c.args.state c.args.name.now) c.with_text.result by_file
