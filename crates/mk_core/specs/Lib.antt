@@ -2,13 +2,9 @@ pub use Rattle.mk_graph.specs.Graph
 pub use Rattle.mk_graph.specs.Membership
 pub use Rattle.mk_graph.specs.Build
 pub use Rattle.mk_graph.specs.Serial
-pub mod Files
-pub mod MemFiles
 pub mod Words
 pub mod Steps
-pub mod Lines
 pub mod Names
-pub mod Rules
 pub mod Goals
 pub mod Selection
 pub mod Table

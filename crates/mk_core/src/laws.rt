@@ -11,7 +11,7 @@ pub fn meets_what_is_reached()
     ensures { MeetsWhatIsReached }
 {}
 
-/// Rule lines and goals have at most one graph.
+/// A makefile and goals have at most one graph.
 pub fn graph_is_one()
     ensures { GraphIsOne }
 {}
