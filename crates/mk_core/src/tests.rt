@@ -1,6 +1,6 @@
 //! Rows on the public calls, over files in memory.
 
-ghost use Rattle.std.specs.Prelude.{◌<◌, ◌-◌, ◌^◌};
+ghost use Rattle.std.specs.Prelude.{◌≡◌, ◌<◌, ◌-◌, ◌^◌, IfOk};
 ghost use Rattle.mk_core.specs.MemFiles.{failures_of};
 
 use crate::{
@@ -59,37 +59,50 @@ fn unfolded(alloc: Global, text: &str) -> Result<String, Fail> {
     Ok(out)
 }
 
-/// Files of a row: a `makefile` of this text, and other names, each before its text.
-fn files_of(alloc: Global, makefile: &str, others: &[&str]) -> Result<MemFiles, Fail> {
-    let mut files = MemFiles::new(alloc);
-    files.add("makefile", unfolded(alloc, makefile)?.as_bytes())?;
-    for pair in others.chunks(2) {
-        if let [name, text] = pair {
-            files.add(name, unfolded(alloc, text)?.as_bytes())?;
-        }
+/// What stands in a row, between `‖`.
+fn fields_of(alloc: Global, row: &str) -> Result<Vec<&str>, Fail> {
+    Ok(row.split("‖").collect(alloc)?)
+}
+
+/// A field of a row, with its newlines and tabs.
+fn field(alloc: Global, fields: &[&str], at: usize) -> Result<String, Fail> {
+    match fields.get(at) {
+        Some(text) => unfolded(alloc, text),
+        None => Ok(String::new(alloc)),
     }
+}
+
+/// The files of a row: a `makefile`, and behind the third field two more at most, each name before
+/// its text.
+fn files_of(alloc: Global, fields: &[&str]) -> Result<MemFiles, Fail>
+    ensures { IfOk result (λ files. failures_of files ≡ 0) }
+{
+    let mut files = MemFiles::new(alloc);
+    files.add("makefile", field(alloc, fields, 0)?.as_bytes())?;
+    files.add(
+        field(alloc, fields, 3)?.as_str(),
+        field(alloc, fields, 4)?.as_bytes(),
+    )?;
+    files.add(
+        field(alloc, fields, 5)?.as_str(),
+        field(alloc, fields, 6)?.as_bytes(),
+    )?;
     Ok(files)
 }
 
-/// What is printed for a row: its makefile, the words of a command line, what is to be printed, and
-/// other files.
+/// What is printed over the files of a row with the words of its second field.
+fn over_row(alloc: Global, fields: &[&str]) -> Result<String, Fail> {
+    let mut files = files_of(alloc, fields)?;
+    let words = field(alloc, fields, 1)?;
+    answer(alloc, &mut files, &request(alloc, None, words.as_str())?)
+}
+
+/// Expects what the third field of a row says to be printed.
 fn expect_row(rt: &impl Abort, alloc: Global, row: &str) -> Result<(), Fail> {
-    let fields: Vec<&str> = row.split("‖").collect(alloc)?;
-    let [makefile, words, printed, others @ ..] = fields.as_slice() else {
-        assert!(rt; false, "no row: {row:?}");
-        return Ok(());
-    };
-    let mut files = files_of(alloc, makefile, others)?;
-    let request = request(alloc, None, words)?;
-    let got = match graph_text(alloc, &mut files, &request) {
-        Ok(text) => String::from_utf8(text)?,
-        Err(fault) => String::from_utf8(fault_text(alloc, &fault)?)?,
-    };
-    assert_eq!(rt;
-        got.as_str(),
-        unfolded(alloc, printed)?.as_str(),
-        "over {row:?}"
-    );
+    let fields = fields_of(alloc, row)?;
+    let got = over_row(alloc, &fields)?;
+    let printed = field(alloc, &fields, 2)?;
+    assert_eq!(rt; got.as_str(), printed.as_str(), "over {row:?}");
     Ok(())
 }
 
@@ -369,7 +382,9 @@ fn takes_the_first_makefile(rt: HostRuntime) -> Result<(), Fail> {
 }
 
 /// A makefile that includes `f1`, of which each to `f15` includes the next, and `f16`.
-fn chain(alloc: Global, last: &str) -> Result<MemFiles, Fail> {
+fn chain(alloc: Global, last: &str) -> Result<MemFiles, Fail>
+    ensures { IfOk result (λ files. failures_of files ≡ 0) }
+{
     let mut files = MemFiles::new(alloc);
     files.add("makefile", b"include f1\n")?;
     for i in 1..16 {
