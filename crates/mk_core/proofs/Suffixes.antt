@@ -22,6 +22,7 @@ use Rattle.mk_read.specs.Special.{is_suffix, is_unknown_special, listed, special
 use Rattle.mk_read.specs.State.{Read, RuleRead, State, SpecialTarget, PassedOver, nothing_read, owned, parted}
 use Rattle.mk_read.specs.Steps as reading_steps
 use Rattle.mk_read.specs.Steps.{◌>>=◌, at_place, in_file}
+use Rattle.mk_core.specs.Laws.{SuffixesAreSuffixes}
 use Rattle.mk_core.specs.Table.{with_suffixes}
 
 -- ---- what holds of a result, if there is one
@@ -238,7 +239,10 @@ of_makefile reader name defaults operands =
     (λ start h. behind_any ListsSuffixes (with_operands 1 operands start.table) (with_table start file)
     (λ table. let tabled : State = record start { table = table } in behind Lists ListsSuffixes (from_named reader tabled file) ended (of_named reader tabled file h) (λ state k. k))))
 
+pub suffixes_are_suffixes : SuffixesAreSuffixes
+suffixes_are_suffixes reader name defaults operands m e = subst (Each ListsSuffixes) e (of_makefile reader name defaults operands)
+
 -- so the words among them that are suffixes are all
 pub same_suffixes : (reader : Reader) (name : Option (List ℕ)) (defaults : Bool) (operands : List (List ℕ)) (m : Makefile) → makefile reader name defaults operands ≡ Ok m → with_suffixes m ≡ m
 same_suffixes reader name defaults operands m e =
-    ap (λ (suffixes : List (List ℕ)). let with : Makefile = record m { suffixes = suffixes } in with) (all_kept m.suffixes (subst (Each ListsSuffixes) e (of_makefile reader name defaults operands)))
+    ap (λ (suffixes : List (List ℕ)). let with : Makefile = record m { suffixes = suffixes } in with) (all_kept m.suffixes (suffixes_are_suffixes reader name defaults operands m e))

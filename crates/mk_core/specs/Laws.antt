@@ -1,10 +1,12 @@
 -- Laws of what goals reach, and of the answer.
-use Rattle.std.specs.Prelude.{◌≡◌, false, List, ℕ, [], ◌↔◌, Result, Ok, Err}
+use Rattle.std.specs.Prelude.{◌≡◌, Bool, true, false, List, ℕ, [], ◌↔◌, Option, Result, Ok, Err}
+use Rattle.std.specs.List.{list_all}
 use Rattle.mk_graph.specs.Membership.{Has, IsDistinct}
 use Rattle.mk_graph.specs.Graph as value
 use Rattle.mk_read.specs.declared.fault.ReadFault.TheVariants.{ReadFailed}
 use Rattle.mk_read.specs.Files.{Told}
-use Rattle.mk_read.specs.Reading.{Makefile}
+use Rattle.mk_read.specs.Reading.{Makefile, Reader, makefile}
+use Rattle.mk_read.specs.Special.{is_suffix}
 use Rattle.mk_core.specs.declared.fault.Fault.{Fault}
 use Rattle.mk_core.specs.declared.fault.Fault.TheVariants.{Read}
 use Rattle.mk_core.specs.declared.request.Request.{Request}
@@ -34,3 +36,7 @@ IsSettled (Err fault) = is_want_of_memory fault ≡ false
 -- Over files that are told, a request has one answer, beside want of memory and failed reads.
 abbrev pub AnswerIsOne : Type 0
 AnswerIsOne = (files : Told) (request : Request) (one other : Result (List ℕ) Fault) → IsSettled one → IsSettled other → Answers files request one → Answers files request other → one ≡ other
+
+-- The words that a makefile lists as suffixes are suffixes.
+abbrev pub SuffixesAreSuffixes : Type 0
+SuffixesAreSuffixes = (reader : Reader) (name : Option (List ℕ)) (defaults : Bool) (operands : List (List ℕ)) (m : Makefile) → makefile reader name defaults operands ≡ Ok m → list_all is_suffix m.suffixes ≡ true
