@@ -1,11 +1,9 @@
 -- Sets of names that are parts of a text.
-use Rattle.std.proofs.Common.{◌≡◌, ℕ, Bool, true, false, suc, not, ltb, ◌+◌, ◌≤◌, length, arith, cond, List, [], ◌∷◌, ◌++◌, refl, sym, ap, ◌∙◌}
+use Rattle.std.proofs.Common.{◌≡◌, ℕ, Bool, true, false, not, ◌+◌, length, cond, List, [], ◌∷◌, ◌++◌, refl, sym, ap, ◌∙◌}
 use Rattle.std.specs.Borrow.{Bor}
 use Rattle.std.specs.Str.{bytes_eq}
 use Rattle.std.specs.Prelude.{position, Some, None}
 use Rattle.std.specs.List.{list_any, position_or_len}
-use Rattle.std.proofs.lemmas.Bool.{ltb-false}
-use Rattle.std.proofs.lemmas.Option.{cond_some}
 use Rattle.std.proofs.lemmas.List.{map_push}
 use Rattle.mk_read.specs.Names.{has_name}
 use Rattle.mk_core.specs.Names.{number_of}

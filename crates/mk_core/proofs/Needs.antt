@@ -1,8 +1,7 @@
 -- The rule lines of a name, looked up by its name.
-use Rattle.std.proofs.Common.{◌≡◌, ℕ, ◌+◌, ◌<◌, Bool, true, false, not, ◌&&◌, ◌||◌, cond, List, [], ◌∷◌, ◌++◌, Some, None, map, length, get_or, drop, inl, inr, refl, sym, ap, ◌∙◌}
+use Rattle.std.proofs.Common.{◌≡◌, ℕ, ◌+◌, ◌<◌, Bool, true, false, not, ◌&&◌, ◌||◌, cond, List, [], ◌∷◌, ◌++◌, Some, None, map, length, get_or, drop, refl, sym, ap, ◌∙◌}
 use Rattle.std.specs.Prelude.{Option, filter, find}
-use Rattle.std.specs.List.{flat_map, list_any}
-use Rattle.std.proofs.lemmas.Bool.{cases_Bool, both_ways}
+use Rattle.std.specs.List.{flat_map}
 use Rattle.std.proofs.lemmas.List.{map-append, drop_more}
 use Rattle.std.proofs.lemmas.List.Folds.{list_any-append}
 use Rattle.std.specs.Str.{bytes_eq}
@@ -12,10 +11,10 @@ use Rattle.mk_read.specs.Needs.{words_of, commands_of, commands_in, has_commands
 use Rattle.mk_read.specs.Reading.{Makefile}
 use Rattle.mk_read.specs.Rules.{gives_commands, has_some}
 use Rattle.mk_read.specs.Special.{is_inference_name}
-use Rattle.mk_read.specs.State.{Command, RuleRead}
+use Rattle.mk_read.specs.State.{RuleRead}
 use Rattle.mk_core.specs.Goals.{own_targets}
 use Rattle.mk_core.specs.Names.{number_of}
-use Rattle.mk_core.specs.Selection.{rules_for, words_for, prerequisites_of, numbered, have_text, has_recipe}
+use Rattle.mk_core.specs.Selection.{prerequisites_of, numbered, have_text}
 use Rattle.mk_core.specs.Table.{counts_for, lines_of}
 use Rattle.mk_core.proofs.Walking.{Covers}
 

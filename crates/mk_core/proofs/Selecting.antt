@@ -1,5 +1,5 @@
 -- What becomes of the graph that is handed over.
-use Rattle.std.proofs.Common.{◌≡◌, ℕ, List, [], map, length, ◌<◌, Result, Ok, Err, refl, sym, subst}
+use Rattle.std.proofs.Common.{ℕ, List, [], length, ◌<◌, Result, Ok, Err, refl, sym, subst}
 use Rattle.std.proofs.lemmas.List.{length-map}
 use Rattle.mk_graph.specs.declared.fault.GraphFault.{GraphFault}
 use Rattle.mk_graph.specs.declared.fault.GraphFault.TheVariants.{Cycle, TooManyNodes, Memory}

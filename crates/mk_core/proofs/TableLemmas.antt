@@ -1,5 +1,5 @@
 -- Tables of rule lines.
-use Rattle.std.proofs.Common.{◌≡◌, ℕ, ◌+◌, ◌<◌, Bool, true, false, not, ◌||◌, ◌&&◌, cond, List, [], ◌∷◌, ◌++◌, length, get_or, map, take, drop, Some, None, refl, sym, ap, ◌∙◌, append-nil, append_assoc}
+use Rattle.std.proofs.Common.{◌≡◌, ℕ, ◌+◌, ◌<◌, Bool, true, false, not, ◌||◌, cond, List, [], ◌∷◌, ◌++◌, length, get_or, map, take, drop, Some, None, refl, sym, ap, ◌∙◌, append-nil, append_assoc}
 use Rattle.std.specs.Prelude.{Option, filter, find, slice_get}
 use Rattle.std.specs.Str.{bytes_eq}
 use Rattle.std.specs.List.{cons_option}
@@ -10,7 +10,7 @@ use Rattle.std.proofs.lemmas.Option.{slice_get-get_or}
 use Rattle.std.proofs.lemmas.Slice.Eq.{bytes_eq-Decides}
 use Rattle.mk_read.specs.Names.{has_name}
 use Rattle.mk_read.specs.State.{RuleRead}
-use Rattle.mk_core.specs.Table.{lines_at, lines_of, words_in, counts_for}
+use Rattle.mk_core.specs.Table.{lines_at, words_in, counts_for}
 use Rattle.mk_core.proofs.Added.{one_added, has_name_push}
 
 -- a target more is seen

@@ -1,5 +1,5 @@
 -- What a request for a graph is answered.
-use Rattle.std.specs.Prelude.{◌≡◌, ◌⊎◌, ℕ, ◌<◌, true, false, List, Option, None, Some, Result, Ok, Err}
+use Rattle.std.specs.Prelude.{◌≡◌, ◌⊎◌, ℕ, ◌<◌, true, false, List, None, Some, Result, Ok, Err}
 use Rattle.mk_graph.specs.Graph as value
 use Rattle.mk_graph.specs.Build.{Builds}
 use Rattle.mk_read.specs.declared.fault.ReadFault.{ReadFault}

@@ -1,4 +1,4 @@
-use Rattle.std.proofs.Common.{◌≡◌, List, ℕ, inl, refl, subst, Err}
+use Rattle.std.proofs.Common.{List, ℕ, inl, refl, subst, Err}
 use Rattle.std.proofs.lemmas.Result.{err_from_is_err_and}
 use Rattle.mk_read.specs.Reading.{Makefile}
 use Rattle.mk_core.specs.declared.fault.Fault.TheVariants.{Graph}

@@ -1,4 +1,4 @@
-use Rattle.std.proofs.Common.{◌≡◌, ◌∙◌, ◌<◌, ◌++◌, ◌∷◌, [], ap, sym, map, length, get_or, cond, arith}
+use Rattle.std.proofs.Common.{◌≡◌, ◌∙◌, ◌<◌, ◌++◌, ◌∷◌, [], ap, map, length, cond, arith}
 use Rattle.std.specs.String.{string_bytes}
 use Rattle.mk_read.specs.Names.{has_name}
 use Rattle.mk_read.specs.State.{RuleRead}

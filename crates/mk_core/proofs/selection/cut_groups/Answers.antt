@@ -1,8 +1,8 @@
-use Rattle.std.proofs.Common.{◌≡◌, ◌∙◌, ◌<◌, ◌≤◌, ◌++◌, ◌∷◌, [], List, ℕ, sym, ap, subst, length, map, arith}
+use Rattle.std.proofs.Common.{◌≡◌, ◌∙◌, ◌<◌, ◌≤◌, ◌++◌, ◌∷◌, [], List, ℕ, sym, ap, length, map, arith}
 use Rattle.std.specs.Prelude.{filter, Vec}
 use Rattle.std.specs.declared.alloc.Global.{Global}
 use Rattle.mk_core.specs.Table.{has_numbers}
-use Rattle.mk_core.proofs.GroupLists.{at_first, left_closes, left_grows, left_ends, with_left}
+use Rattle.mk_core.proofs.GroupLists.{at_first, left_closes, left_grows, left_ends}
 use Rattle.mk_core.proofs.NameLists.{texts}
 use Rattle.mk_core.proofs.selection.cut_groups.Goals as goal
 use Rattle.mk_core.proofs.selection.cut_groups.Goals.{then-eq+in_ok-push_group, else-eq+in_ok-push}

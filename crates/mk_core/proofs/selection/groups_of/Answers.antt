@@ -1,5 +1,4 @@
-use Rattle.std.proofs.Common.{◌≡◌, ◌∙◌, ◌∷◌, [], List, ℕ, Bool, true, sym, ap, map}
-use Rattle.std.specs.Borrow.{Bor}
+use Rattle.std.proofs.Common.{◌≡◌, ◌∙◌, ◌∷◌, [], List, ℕ, Bool, sym, ap, map}
 use Rattle.mk_read.specs.Needs.{groups}
 use Rattle.mk_core.specs.Names.{number_of}
 use Rattle.mk_core.specs.Selection.{numbered, prerequisites_of, words_for}

@@ -2,7 +2,6 @@ use Rattle.std.proofs.Common.{◌≡◌, List, ℕ, length, ◌<◌, map, sym, a
 use Rattle.std.proofs.lemmas.List.{length-map}
 use Rattle.mk_graph.specs.declared.node.Node.{Node}
 use Rattle.mk_graph.specs.Graph.{Graph}
-use Rattle.mk_core.specs.Names.{number_of}
 use Rattle.mk_core.specs.Selection.{graph_of, node_of}
 use Rattle.mk_core.proofs.NameLists.{texts}
 use Rattle.mk_core.proofs.Soundness.{is_sound}

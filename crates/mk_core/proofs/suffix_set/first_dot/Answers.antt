@@ -1,4 +1,4 @@
-use Rattle.std.proofs.Common.{sym, ap, ◌∙◌, subst, ◌≤◌, length}
+use Rattle.std.proofs.Common.{sym, subst, ◌≤◌, length}
 use Rattle.mk_lines.specs.Bytes.{is_byte}
 use Rattle.mk_core.proofs.ListTests.{position_some, position_none, position_within}
 use Rattle.mk_core.proofs.suffix_set.first_dot.Goals as goal

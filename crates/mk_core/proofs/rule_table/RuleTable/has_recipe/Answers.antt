@@ -1,4 +1,4 @@
-use Rattle.std.proofs.Common.{◌≡◌, ◌∙◌, List, true, false, sym, ap}
+use Rattle.std.proofs.Common.{◌∙◌, List, true, false, sym, ap}
 use Rattle.std.specs.Prelude.{find}
 use Rattle.mk_read.specs.State.{RuleRead}
 use Rattle.mk_core.specs.Selection.{rules_for}
