@@ -1,47 +1,11 @@
--- Words that are read as names, one after another.
-use Rattle.std.proofs.Common.{◌≡◌, ℕ, ◌+◌, ◌<◌, ◌≤◌, List, [], ◌∷◌, ◌++◌, map, length, get_or, take, drop, Result, Ok, Err, inl, inr, refl, sym, ap, ◌∙◌, append-nil}
+-- Names of the code, and what f gives for them.
+use Rattle.std.proofs.Common.{◌≡◌, ℕ, ◌+◌, ◌<◌, List, [], ◌∷◌, ◌++◌, map, length, get_or, take, ap, sym, ◌∙◌}
 use Rattle.std.specs.Borrow.{Bor}
-use Rattle.std.proofs.lemmas.List.{drop_more, drop_all, take_more, map_push}
-use Rattle.mk_core.specs.declared.fault.Fault.{Fault}
-use Rattle.mk_core.specs.declared.fault.Place.{Place}
-use Rattle.mk_core.specs.Steps.{◌>>=◌, Fails}
-use Rattle.mk_core.specs.Names.{name_of, names_of}
-use Rattle.mk_core.proofs.WithFront.{with_front, with_front_more}
+use Rattle.std.proofs.lemmas.List.{take_more, map_push}
 
 -- what names of the code spell
 abbrev pub texts : List (Bor (List ℕ)) → List (List ℕ)
 texts words = map (λ word. word.now) words
-
--- a first word that is a name
-names_first : (place : Place) (word name : List ℕ) (rest : List (List ℕ)) → name_of place word ≡ Ok name → names_of place (word ∷ rest) ≡ with_front (name ∷ []) (names_of place rest)
-unfolding names_of
-names_first place word name rest e = rw e (tail (names_of place rest))
-  where
-    tail : (r : Result (List (List ℕ)) Fault) → (r >>= λ names. Ok (name ∷ names)) ≡ with_front (name ∷ []) r
-    tail (Ok names) = refl
-    tail (Err fault) = refl
-
--- one word more
-pub names_more : (place : Place) (front : List (List ℕ)) (words : List (Bor (List ℕ))) (i : ℕ) (d : Bor (List ℕ)) (name : List ℕ) (whole : Result (List (List ℕ)) Fault) → name_of place (get_or words i d).now ≡ Ok name
-    → with_front front (names_of place (texts (drop i words))) ≡ whole → i < length words → with_front (front ++ name ∷ []) (names_of place (texts (drop (i + 1) words))) ≡ whole
-names_more place front words i d name whole e so_far lt =
-    sym (with_front_more front name (names_of place (texts (drop (i + 1) words)))) ∙ (ap (with_front front) (sym (ap (λ ws. names_of place (texts ws)) (drop_more words i d lt) ∙ names_first place (get_or words i d).now name (texts (drop (i + 1) words)) e)) ∙ so_far)
-
--- a word that is none
-pub names_fail : (place : Place) (front : List (List ℕ)) (words : List (Bor (List ℕ))) (i : ℕ) (d : Bor (List ℕ)) (fault : Fault) (whole : Result (List (List ℕ)) Fault) → Fails fault (name_of place (get_or words i d).now)
-    → with_front front (names_of place (texts (drop i words))) ≡ whole → i < length words → Fails fault whole
-unfolding names_of
-names_fail place front words i d fault whole (inl memory) so_far lt = inl memory
-names_fail place front words i d fault whole (inr e) so_far lt =
-    let first : names_of place (texts (drop i words)) ≡ Err fault = ap (λ ws. names_of place (texts ws)) (drop_more words i d lt) ∙ rw e refl in
-    inr (sym so_far ∙ ap (with_front front) first)
-
--- no word more
-pub names_end : (place : Place) (front : List (List ℕ)) (words : List (Bor (List ℕ))) (i : ℕ) (whole : Result (List (List ℕ)) Fault) → with_front front (names_of place (texts (drop i words))) ≡ whole → length words ≤ i → whole ≡ Ok front
-unfolding names_of
-names_end place front words i whole so_far le =
-    let last : names_of place (texts (drop i words)) ≡ Ok [] = ap (λ ws. names_of place (texts ws)) (drop_all i words le) in
-    sym so_far ∙ (ap (with_front front) last ∙ ap (λ (xs : List (List ℕ)). Ok xs) (append-nil front))
 
 -- what f gives for one name more
 pub mapped_more : {B : Type 0} (f : List ℕ → B) (names : List (Bor (List ℕ))) (i : ℕ) (d : Bor (List ℕ)) (before after : List B) (x : B) → after ≡ before ++ x ∷ [] → x ≡ f (get_or names i d).now

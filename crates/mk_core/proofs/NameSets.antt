@@ -1,14 +1,13 @@
 -- Sets of names that are parts of a text.
-use Rattle.std.proofs.Common.{◌≡◌, ℕ, Bool, true, false, suc, not, ltb, ◌+◌, ◌≤◌, length, arith, cond, List, [], ◌∷◌, ◌++◌, refl, sym, ap, ◌∙◌}
+use Rattle.std.proofs.Common.{◌≡◌, ℕ, Bool, true, false, not, ◌+◌, length, cond, List, [], ◌∷◌, ◌++◌, refl, sym, ap, ◌∙◌}
 use Rattle.std.specs.Borrow.{Bor}
 use Rattle.std.specs.Str.{bytes_eq}
 use Rattle.std.specs.Prelude.{position, Some, None}
 use Rattle.std.specs.List.{list_any, position_or_len}
-use Rattle.std.proofs.lemmas.Bool.{ltb-false}
-use Rattle.std.proofs.lemmas.Option.{cond_some}
 use Rattle.std.proofs.lemmas.List.{map_push}
-use Rattle.mk_core.specs.Names.{has_name, number_of}
-use Rattle.mk_core.proofs.ListTests.{list_any_map}
+use Rattle.mk_read.specs.Names.{has_name}
+use Rattle.mk_core.specs.Names.{number_of}
+use Rattle.mk_core.proofs.ListTests.{list_any_map, position_some, position_none}
 use Rattle.mk_core.proofs.NameLists.{texts}
 
 -- the names after an insertion
@@ -27,25 +26,10 @@ place_map : (p : List ℕ → Bool) (keys : List (Bor (List ℕ))) → position_
 place_map p [] = refl
 place_map p (key ∷ keys) = ap (λ n. cond (not (p key.now)) (1 + n) 0) (place_map p keys)
 
--- a place lies within the list, or at its end
-position_within : {A : Type 0} (p : A → Bool) (xs : List A) → position_or_len p xs ≤ length xs
-position_within p [] = omega arith
-position_within p (x ∷ xs) = at (not (p x)) (position_within p xs)
-  where
-    at : (b : Bool) → position_or_len p xs ≤ length xs → cond b (1 + position_or_len p xs) 0 ≤ suc (length xs)
-    at true h = omega arith
-    at false h = omega arith
-
 -- where a name is found
 pub number_found : (keys : List (Bor (List ℕ))) (name : List ℕ) (i : ℕ) → position (λ key. bytes_eq name key.now) keys ≡ Some i → i ≡ number_of (texts keys) name
-number_found keys name i e = sym (place_map (λ other. bytes_eq name other) keys ∙ (cond_some (ltb (position_or_len (λ (key : Bor (List ℕ)). bytes_eq name key.now) keys) (length keys)) (position_or_len (λ (key : Bor (List ℕ)). bytes_eq name key.now) keys) i e).1)
+number_found keys name i e = sym (place_map (λ other. bytes_eq name other) keys ∙ position_some (λ (key : Bor (List ℕ)). bytes_eq name key.now) keys i e)
 
 -- where it isn't
 pub number_missing : (keys : List (Bor (List ℕ))) (name : List ℕ) → position (λ key. bytes_eq name key.now) keys ≡ None → length keys ≡ number_of (texts keys) name
-number_missing keys name e =
-    let test : Bor (List ℕ) → Bool = λ key. bytes_eq name key.now in
-    sym (place_map (λ other. bytes_eq name other) keys ∙ not_below test keys (ltb (position_or_len test keys) (length keys)) refl e)
-  where
-    not_below : (test : Bor (List ℕ) → Bool) (ks : List (Bor (List ℕ))) (b : Bool) → ltb (position_or_len test ks) (length ks) ≡ b → cond b (Some (position_or_len test ks)) None ≡ None → position_or_len test ks ≡ length ks
-    not_below test ks true t e = absurd cc
-    not_below test ks false t e = omega (arith, ltb-false _ _ t, position_within test ks)
+number_missing keys name e = sym (place_map (λ other. bytes_eq name other) keys ∙ position_none (λ (key : Bor (List ℕ)). bytes_eq name key.now) keys e)

@@ -7,9 +7,8 @@ use Rattle.std.proofs.lemmas.Bool.{cases_Bool, false_from_ne_true, both_ways}
 use Rattle.std.proofs.lemmas.List.{drop_more}
 use Rattle.std.proofs.lemmas.List.Elements.{filter_agree}
 use Rattle.std.proofs.lemmas.Slice.Eq.{bytes_eq-Decides}
-use Rattle.mk_core.specs.Names.{has_name}
-use Rattle.mk_core.specs.Goals.{once}
-use Rattle.mk_core.proofs.Commands.{has_name_push}
+use Rattle.mk_read.specs.Names.{has_name, once}
+use Rattle.mk_core.proofs.Added.{has_name_push}
 use Rattle.mk_core.proofs.NameLists.{texts}
 
 -- two filters are one

@@ -1,5 +1,5 @@
 -- The graph of the names that goals reach is what the maker of a graph owes.
-use Rattle.std.proofs.Common.{◌≡◌, ℕ, zero, suc, ◌+◌, ◌<◌, ◌≤◌, Bool, true, false, not, cond, List, [], ◌∷◌, ◌++◌, map, length, get_or, inl, inr, ◌⊎◌, refl, sym, ap, subst, ◌∙◌, ⊎_elim, arith, append-nil}
+use Rattle.std.proofs.Common.{◌≡◌, ℕ, zero, suc, ◌+◌, ◌<◌, ◌≤◌, Bool, true, false, not, cond, List, [], ◌∷◌, ◌++◌, map, length, get_or, inl, inr, ◌⊎◌, refl, sym, ap, subst, ◌∙◌, ⊎_elim, arith}
 use Rattle.std.specs.Str.{bytes_eq}
 use Rattle.std.specs.List.{flat_map}
 use Rattle.std.proofs.Math.Numerals.{one-add}
@@ -10,8 +10,11 @@ use Rattle.mk_graph.specs.declared.node.Node.{Node}
 use Rattle.mk_graph.specs.Graph.{IsSound, Reached, goal, onward, node, no_node, prerequisites}
 use Rattle.mk_graph.specs.Membership.{Has, IsDistinct}
 use Rattle.mk_core.specs.Names.{number_of}
-use Rattle.mk_core.specs.Rules.{Rule}
-use Rattle.mk_core.specs.Selection.{Meets, ends, known, new, prerequisites_of, one_group, node_of, graph_of}
+use Rattle.mk_read.specs.Laws.{GroupsKeepTheirWords}
+use Rattle.mk_read.specs.Needs.{groups}
+use Rattle.mk_read.specs.Reading.{Makefile}
+use Rattle.mk_core.specs.Selection.{Meets, ends, known, new, prerequisites_of, words_for, node_of, graph_of}
+use Rattle.mk_core.proofs.Needs.{flat_numbered}
 
 abbrev Name : Type 0
 Name = List ℕ
@@ -129,57 +132,53 @@ module _ (needs : Name → List Name) where
 
 -- ---- the graph
 
-flat_one_group : (ns : List ℕ) → flat_map (λ group. group) (one_group ns) ≡ ns
-flat_one_group [] = refl
-flat_one_group (n ∷ ns) = append-nil (n ∷ ns)
+names_of_nodes : (m : Makefile) (all names : List Name) → map (λ (n : Node). n.name) (map (node_of m all) names) ≡ names
+names_of_nodes m all [] = refl
+names_of_nodes m all (name ∷ names) = ap (λ ns. name ∷ ns) (names_of_nodes m all names)
 
-names_of_nodes : (rules : List Rule) (all names : List Name) → map (λ (n : Node). n.name) (map (node_of rules all) names) ≡ names
-names_of_nodes rules all [] = refl
-names_of_nodes rules all (name ∷ names) = ap (λ ns. name ∷ ns) (names_of_nodes rules all names)
-
-module _ (rules : List Rule) (goals all : List Name) where
+module _ (keeps : GroupsKeepTheirWords) (m : Makefile) (goals all : List Name) where
   -- what a number's node is
-  node_is : (n : ℕ) → n < length all → node (graph_of rules goals all) n ≡ node_of rules all (get_or all n [])
-  node_is n lt = get_or-map (node_of rules all) all n [] no_node lt
+  node_is : (n : ℕ) → n < length all → node (graph_of m goals all) n ≡ node_of m all (get_or all n [])
+  node_is n lt = get_or-map (node_of m all) all n [] no_node lt
 
-  prerequisites_are : (n : ℕ) → n < length all → prerequisites (graph_of rules goals all) n ≡ map (number_of all) (prerequisites_of rules (get_or all n []))
-  prerequisites_are n lt = ap (λ (x : Node). flat_map (λ group. group) x.groups) (node_is n lt) ∙ flat_one_group (map (number_of all) (prerequisites_of rules (get_or all n [])))
+  prerequisites_are : (n : ℕ) → n < length all → prerequisites (graph_of m goals all) n ≡ map (number_of all) (prerequisites_of m (get_or all n []))
+  prerequisites_are n lt = ap (λ (x : Node). flat_map (λ group. group) x.groups) (node_is n lt) ∙ (flat_numbered all (groups m.not_parallel (words_for m (get_or all n []))) ∙ ap (map (number_of all)) (keeps m.not_parallel (words_for m (get_or all n []))))
 
   -- a number past the nodes has no prerequisites
-  none_past : (n p : ℕ) → length all ≤ n → Has (prerequisites (graph_of rules goals all) n) p → ⊥
+  none_past : (n p : ℕ) → length all ≤ n → Has (prerequisites (graph_of m goals all) n) p → ⊥
   none_past n p le h =
-      let past : node (graph_of rules goals all) n ≡ no_node = get_or_past (map (node_of rules all) all) n no_node (omega (arith, length-map all (node_of rules all))) in
+      let past : node (graph_of m goals all) n ≡ no_node = get_or_past (map (node_of m all) all) n no_node (omega (arith, length-map all (node_of m all))) in
       subst (λ (x : Node). Has (flat_map (λ group. group) x.groups) p) past h
 
-  count : length (map (node_of rules all) all) ≡ length all
-  count = length-map all (node_of rules all)
+  count : length (map (node_of m all) all) ≡ length all
+  count = length-map all (node_of m all)
 
   -- a prerequisite's number, from the name's
-  edge : (name word : Name) → Has all name → Has (prerequisites_of rules name) word → Has (prerequisites (graph_of rules goals all) (number_of all name)) (number_of all word)
+  edge : (name word : Name) → Has all name → Has (prerequisites_of m name) word → Has (prerequisites (graph_of m goals all) (number_of all name)) (number_of all word)
   edge name word h k =
-      let at : prerequisites (graph_of rules goals all) (number_of all name) ≡ map (number_of all) (prerequisites_of rules name) =
-      prerequisites_are (number_of all name) (number_below all name h) ∙ ap (λ n. map (number_of all) (prerequisites_of rules n)) (get_number all name [] h) in
-      subst (λ (ns : List ℕ). Has ns (number_of all word)) (sym at) (map_Has (number_of all) (prerequisites_of rules name) word k)
+      let at : prerequisites (graph_of m goals all) (number_of all name) ≡ map (number_of all) (prerequisites_of m name) =
+      prerequisites_are (number_of all name) (number_below all name h) ∙ ap (λ n. map (number_of all) (prerequisites_of m n)) (get_number all name [] h) in
+      subst (λ (ns : List ℕ). Has ns (number_of all word)) (sym at) (map_Has (number_of all) (prerequisites_of m name) word k)
 
   -- the maker owes nothing more
-  pub is_sound : Meets (prerequisites_of rules) [] goals all → IsSound (graph_of rules goals all)
-  is_sound m =
-      let needs : Name → List Name = prerequisites_of rules in
-      let distinct : IsDistinct all = stay_distinct needs m tt in
-      let closed : (n : Name) → Has all n → (w : Name) → Has (needs n) w → Has all w = stay_closed needs m (λ n h. absurd h) in
-      let reach : (a : Name) → Has all a → Reached (graph_of rules goals all) (number_of all a) =
-      goes_along needs (λ a. Reached (graph_of rules goals all) (number_of all a)) (λ n w h r k. onward r (edge n w h k)) m (λ x h. absurd h) (λ t h. goal (map_Has (number_of all) goals t h)) in
+  pub is_sound : Meets (prerequisites_of m) [] goals all → IsSound (graph_of m goals all)
+  is_sound w =
+      let needs : Name → List Name = prerequisites_of m in
+      let distinct : IsDistinct all = stay_distinct needs w tt in
+      let closed : (n : Name) → Has all n → (x : Name) → Has (needs n) x → Has all x = stay_closed needs w (λ n h. absurd h) in
+      let reach : (a : Name) → Has all a → Reached (graph_of m goals all) (number_of all a) =
+      goes_along needs (λ a. Reached (graph_of m goals all) (number_of all a)) (λ n x h r k. onward r (edge n x h k)) w (λ x h. absurd h) (λ t h. goal (map_Has (number_of all) goals t h)) in
       record {
-        names = subst IsDistinct (sym (names_of_nodes rules all all)) distinct;
+        names = subst IsDistinct (sym (names_of_nodes m all all)) distinct;
         goals = λ n h. let k = Has_map (number_of all) goals n h in
-            let lt = number_below all k.0 (gets_met needs m k.0 k.1) in
+            let lt = number_below all k.0 (gets_met needs w k.0 k.1) in
             let e = k.2 in omega (arith, count);
         edges = λ n p h. ⊎_elim
             (λ lt. let k = Has_map (number_of all) (needs (get_or all n [])) p (subst (λ (ns : List ℕ). Has ns p) (prerequisites_are n lt) h) in
             let below = number_below all k.0 (closed (get_or all n []) (Has_get_or all n [] lt) k.0 k.1) in
             let e = k.2 in
-            let fits : p < length (map (node_of rules all) all) = omega (arith, count) in fits)
+            let fits : p < length (map (node_of m all) all) = omega (arith, count) in fits)
             (λ le. absurd (none_past n p le h)) (cases_lt n (length all));
         reached = λ n lt. let low : n < length all = omega (arith, count) in
-            subst (Reached (graph_of rules goals all)) (number_get all n [] distinct low) (reach (get_or all n []) (Has_get_or all n [] low));
+            subst (Reached (graph_of m goals all)) (number_get all n [] distinct low) (reach (get_or all n []) (Has_get_or all n [] low));
       }

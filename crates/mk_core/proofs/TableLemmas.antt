@@ -1,24 +1,22 @@
 -- Tables of rule lines.
-use Rattle.std.proofs.Common.{◌≡◌, ℕ, ◌+◌, ◌<◌, Bool, true, false, not, ◌||◌, ◌&&◌, cond, List, [], ◌∷◌, ◌++◌, length, get_or, take, drop, Some, None, refl, sym, ap, ◌∙◌, append-nil, append_assoc}
-use Rattle.std.specs.Prelude.{filter, slice_get}
-use Rattle.std.specs.Borrow.{Bor}
+use Rattle.std.proofs.Common.{◌≡◌, ℕ, ◌+◌, ◌<◌, Bool, true, false, not, ◌||◌, cond, List, [], ◌∷◌, ◌++◌, length, get_or, map, take, drop, Some, None, refl, sym, ap, ◌∙◌, append-nil, append_assoc}
+use Rattle.std.specs.Prelude.{Option, filter, find, slice_get}
 use Rattle.std.specs.Str.{bytes_eq}
-use Rattle.std.specs.List.{cons_option, list_any, flat_map}
+use Rattle.std.specs.List.{cons_option}
 use Rattle.std.proofs.lemmas.Bool.{not-false, not-true}
 use Rattle.std.proofs.lemmas.List.{drop_more}
 use Rattle.std.proofs.lemmas.List.Elements.{filter_map-append, filter_more}
 use Rattle.std.proofs.lemmas.Option.{slice_get-get_or}
 use Rattle.std.proofs.lemmas.Slice.Eq.{bytes_eq-Decides}
-use Rattle.mk_core.specs.Names.{has_name}
-use Rattle.mk_core.specs.Rules.{Rule, has_commands}
-use Rattle.mk_core.specs.Table.{lines_at}
-use Rattle.mk_core.proofs.NameLists.{texts}
-use Rattle.mk_core.proofs.Commands.{one_added, has_name_push}
+use Rattle.mk_read.specs.Names.{has_name}
+use Rattle.mk_read.specs.State.{RuleRead}
+use Rattle.mk_core.specs.Table.{lines_at, words_in, counts_for}
+use Rattle.mk_core.proofs.Added.{one_added, has_name_push}
 
 -- a target more is seen
-pub seen_more : (seen new : List (List ℕ)) (targets : List (Bor (List ℕ))) (i : ℕ) (d : Bor (List ℕ)) (name : List ℕ) → new ≡ cond (has_name seen (get_or targets i d).now) seen (seen ++ (get_or targets i d).now ∷ [])
-    → has_name seen name ≡ has_name (texts (take i targets)) name → i < length targets → has_name new name ≡ has_name (texts (take (i + 1) targets)) name
-seen_more seen new targets i d name e h lt = one_added seen [] new targets i d name e h lt
+pub seen_more : {A : Type 0} (view : A → List ℕ) (seen new : List (List ℕ)) (targets : List A) (i : ℕ) (d : A) (x name : List ℕ) → new ≡ cond (has_name seen x) seen (seen ++ x ∷ []) → x ≡ view (get_or targets i d)
+    → has_name seen name ≡ has_name (map view (take i targets)) name → i < length targets → has_name new name ≡ has_name (map view (take (i + 1) targets)) name
+seen_more view seen new targets i d x name e is h lt = one_added view seen [] new targets i d x name e is h lt
 
 -- a target that was seen changes nothing
 pub noted_same : (seen new : List (List ℕ)) (x name : List ℕ) (places old : List ℕ) (place : ℕ) (added : Bool) → added ≡ not (has_name seen x) → added ≡ false → new ≡ cond (has_name seen x) seen (seen ++ x ∷ [])
@@ -48,10 +46,10 @@ noted_more seen new x name before after old place added a t e h k =
     k ∙ (at_name seen x name old place before unseen h (bytes_eq name x) refl ∙ ap (λ b. cond b (old ++ place ∷ []) old) (sym (ap (λ s. has_name s name) same ∙ has_name_push seen x name)))
 
 -- one rule line more
-pub lines_more : (rules : List Rule) (i : ℕ) (d : Rule) (name : List ℕ) (before after : List ℕ) → after ≡ cond (has_name (get_or rules i d).targets name) (before ++ i ∷ []) before
+pub lines_more : (rules : List RuleRead) (i : ℕ) (d : RuleRead) (name : List ℕ) (before after : List ℕ) → after ≡ cond (has_name (get_or rules i d).targets name) (before ++ i ∷ []) before
     → lines_at rules before ≡ filter (λ rule. has_name rule.targets name) (take i rules) → i < length rules → lines_at rules after ≡ filter (λ rule. has_name rule.targets name) (take (i + 1) rules)
 lines_more rules i d name before after e h lt =
-    let test : Rule → Bool = λ rule. has_name rule.targets name in
+    let test : RuleRead → Bool = λ rule. has_name rule.targets name in
     ap (lines_at rules) e ∙ (at (test (get_or rules i d)) ∙ (ap (λ ls. ls ++ cond (test (get_or rules i d)) (get_or rules i d ∷ []) []) h ∙ sym (filter_more test rules i d lt)))
   where
     last : lines_at rules (i ∷ []) ≡ get_or rules i d ∷ []
@@ -61,64 +59,38 @@ lines_more rules i d name before after e h lt =
     at true = filter_map-append (λ place. slice_get rules place) before (i ∷ []) ∙ ap (λ ls. lines_at rules before ++ ls) last
     at false = sym (append-nil (lines_at rules before))
 
--- rule lines that name a target and have commands
-pub commands_of_lines : (rules : List Rule) (name : List ℕ) → list_any (λ (rule : Rule). rule.recipe) (filter (λ (rule : Rule). has_name rule.targets name) rules) ≡ has_commands rules name
-commands_of_lines [] name = refl
-commands_of_lines (rule ∷ rules) name = at (has_name rule.targets name) ∙ ap (λ b. (rule.recipe && has_name rule.targets name) || b) (commands_of_lines rules name)
-  where
-    rest : List Rule
-    rest = filter (λ (r : Rule). has_name r.targets name) rules
-
-    and_true : (b c : Bool) → (b || c) ≡ ((b && true) || c)
-    and_true true c = refl
-    and_true false c = refl
-
-    and_false : (b c : Bool) → c ≡ ((b && false) || c)
-    and_false true c = refl
-    and_false false c = refl
-
-    at : (b : Bool) → list_any (λ (r : Rule). r.recipe) (cond b (rule ∷ filter (λ (r : Rule). has_name r.targets name) rules) (filter (λ (r : Rule). has_name r.targets name) rules)) ≡ ((rule.recipe && b) || list_any (λ (r : Rule). r.recipe) (filter (λ (r : Rule). has_name r.targets name) rules))
-    at true = and_true rule.recipe _
-    at false = and_false rule.recipe _
-
 -- the rule lines from a place on
-lines_from : (rules : List Rule) (places : List ℕ) (i d : ℕ) → i < length places → lines_at rules (drop i places) ≡ cons_option (slice_get rules (get_or places i d)) (lines_at rules (drop (i + 1) places))
+lines_from : (rules : List RuleRead) (places : List ℕ) (i d : ℕ) → i < length places → lines_at rules (drop i places) ≡ cons_option (slice_get rules (get_or places i d)) (lines_at rules (drop (i + 1) places))
 lines_from rules places i d lt = ap (lines_at rules) (drop_more places i d lt)
 
-abbrev words_of : List Rule → List (List ℕ)
-words_of rules = flat_map (λ (rule : Rule). rule.words) rules
-
 -- the words of one rule line more
-pub words_more : (rules : List Rule) (places : List ℕ) (i d : ℕ) (rule : Rule) (front whole : List (List ℕ)) → slice_get rules (get_or places i d) ≡ Some rule
-    → front ++ words_of (lines_at rules (drop i places)) ≡ whole → i < length places → (front ++ rule.words) ++ words_of (lines_at rules (drop (i + 1) places)) ≡ whole
+pub words_more : (rules : List RuleRead) (places : List ℕ) (i d : ℕ) (rule : RuleRead) (front whole : List (List ℕ)) → slice_get rules (get_or places i d) ≡ Some rule
+    → front ++ words_in (lines_at rules (drop i places)) ≡ whole → i < length places → (front ++ rule.words) ++ words_in (lines_at rules (drop (i + 1) places)) ≡ whole
 words_more rules places i d rule front whole e h lt =
-    append_assoc front rule.words (words_of (lines_at rules (drop (i + 1) places))) ∙ (sym (ap (λ ls. front ++ words_of ls) (lines_from rules places i d lt ∙ ap (λ o. cons_option o (lines_at rules (drop (i + 1) places))) e)) ∙ h)
+    append_assoc front rule.words (words_in (lines_at rules (drop (i + 1) places))) ∙ (sym (ap (λ ls. front ++ words_in ls) (lines_from rules places i d lt ∙ ap (λ o. cons_option o (lines_at rules (drop (i + 1) places))) e)) ∙ h)
 
-pub words_same : (rules : List Rule) (places : List ℕ) (i d : ℕ) (front whole : List (List ℕ)) → slice_get rules (get_or places i d) ≡ None
-    → front ++ words_of (lines_at rules (drop i places)) ≡ whole → i < length places → front ++ words_of (lines_at rules (drop (i + 1) places)) ≡ whole
+pub words_same : (rules : List RuleRead) (places : List ℕ) (i d : ℕ) (front whole : List (List ℕ)) → slice_get rules (get_or places i d) ≡ None
+    → front ++ words_in (lines_at rules (drop i places)) ≡ whole → i < length places → front ++ words_in (lines_at rules (drop (i + 1) places)) ≡ whole
 words_same rules places i d front whole e h lt =
-    sym (ap (λ ls. front ++ words_of ls) (lines_from rules places i d lt ∙ ap (λ o. cons_option o (lines_at rules (drop (i + 1) places))) e)) ∙ h
+    sym (ap (λ ls. front ++ words_in ls) (lines_from rules places i d lt ∙ ap (λ o. cons_option o (lines_at rules (drop (i + 1) places))) e)) ∙ h
 
-abbrev any_recipe : List Rule → Bool
-any_recipe rules = list_any (λ (rule : Rule). rule.recipe) rules
+-- the first of the rule lines that are left which counts
+found_more : (rules : List RuleRead) (places : List ℕ) (i d : ℕ) (own : Bool) (rule : RuleRead) (whole : Option RuleRead) → slice_get rules (get_or places i d) ≡ Some rule
+    → find (counts_for own) (lines_at rules (drop i places)) ≡ whole → i < length places → cond (counts_for own rule) (Some rule) (find (counts_for own) (lines_at rules (drop (i + 1) places))) ≡ whole
+found_more rules places i d own rule whole e h lt =
+    sym (ap (find (counts_for own)) (lines_from rules places i d lt ∙ ap (λ o. cons_option o (lines_at rules (drop (i + 1) places))) e)) ∙ h
 
--- whether one has commands
-recipe_more : (rules : List Rule) (places : List ℕ) (i d : ℕ) (rule : Rule) (whole : Bool) → slice_get rules (get_or places i d) ≡ Some rule
-    → any_recipe (lines_at rules (drop i places)) ≡ whole → i < length places → (rule.recipe || any_recipe (lines_at rules (drop (i + 1) places))) ≡ whole
-recipe_more rules places i d rule whole e h lt =
-    sym (ap any_recipe (lines_from rules places i d lt ∙ ap (λ o. cons_option o (lines_at rules (drop (i + 1) places))) e)) ∙ h
+pub found_same : (rules : List RuleRead) (places : List ℕ) (i d : ℕ) (own : Bool) (whole : Option RuleRead) → slice_get rules (get_or places i d) ≡ None
+    → find (counts_for own) (lines_at rules (drop i places)) ≡ whole → i < length places → find (counts_for own) (lines_at rules (drop (i + 1) places)) ≡ whole
+found_same rules places i d own whole e h lt =
+    sym (ap (find (counts_for own)) (lines_from rules places i d lt ∙ ap (λ o. cons_option o (lines_at rules (drop (i + 1) places))) e)) ∙ h
 
-pub recipe_same : (rules : List Rule) (places : List ℕ) (i d : ℕ) (whole : Bool) → slice_get rules (get_or places i d) ≡ None
-    → any_recipe (lines_at rules (drop i places)) ≡ whole → i < length places → any_recipe (lines_at rules (drop (i + 1) places)) ≡ whole
-recipe_same rules places i d whole e h lt =
-    sym (ap any_recipe (lines_from rules places i d lt ∙ ap (λ o. cons_option o (lines_at rules (drop (i + 1) places))) e)) ∙ h
+pub found_here : (rules : List RuleRead) (places : List ℕ) (i d : ℕ) (own b : Bool) (rule : RuleRead) (whole : Option RuleRead) → slice_get rules (get_or places i d) ≡ Some rule
+    → find (counts_for own) (lines_at rules (drop i places)) ≡ whole → i < length places → b ≡ counts_for own rule → b ≡ true → Some rule ≡ whole
+found_here rules places i d own b rule whole e h lt is t =
+    sym (ap (λ (c : Bool). cond c (Some rule) (find (counts_for own) (lines_at rules (drop (i + 1) places)))) (sym is ∙ t)) ∙ found_more rules places i d own rule whole e h lt
 
-pub recipe_found : (rules : List Rule) (places : List ℕ) (i d : ℕ) (rule : Rule) (whole : Bool) → slice_get rules (get_or places i d) ≡ Some rule
-    → any_recipe (lines_at rules (drop i places)) ≡ whole → i < length places → rule.recipe ≡ true → true ≡ whole
-recipe_found rules places i d rule whole e h lt t =
-    sym (ap (λ b. b || any_recipe (lines_at rules (drop (i + 1) places))) t) ∙ recipe_more rules places i d rule whole e h lt
-
-pub recipe_not : (rules : List Rule) (places : List ℕ) (i d : ℕ) (rule : Rule) (whole : Bool) → slice_get rules (get_or places i d) ≡ Some rule
-    → any_recipe (lines_at rules (drop i places)) ≡ whole → i < length places → rule.recipe ≡ false → any_recipe (lines_at rules (drop (i + 1) places)) ≡ whole
-recipe_not rules places i d rule whole e h lt f =
-    sym (ap (λ b. b || any_recipe (lines_at rules (drop (i + 1) places))) f) ∙ recipe_more rules places i d rule whole e h lt
+pub found_later : (rules : List RuleRead) (places : List ℕ) (i d : ℕ) (own b : Bool) (rule : RuleRead) (whole : Option RuleRead) → slice_get rules (get_or places i d) ≡ Some rule
+    → find (counts_for own) (lines_at rules (drop i places)) ≡ whole → i < length places → b ≡ counts_for own rule → b ≡ false → find (counts_for own) (lines_at rules (drop (i + 1) places)) ≡ whole
+found_later rules places i d own b rule whole e h lt is f =
+    sym (ap (λ (c : Bool). cond c (Some rule) (find (counts_for own) (lines_at rules (drop (i + 1) places)))) (sym is ∙ f)) ∙ found_more rules places i d own rule whole e h lt

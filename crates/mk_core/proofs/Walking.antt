@@ -1,34 +1,21 @@
 -- The walk of names: what is left to do falls, and what is met from here is met in all.
-use Rattle.std.proofs.Common.{◌≡◌, ℕ, ◌+◌, ◌<◌, ◌≤◌, Bool, true, false, ◌||◌, cond, List, [], ◌∷◌, ◌++◌, reverse, length, Some, inl, inr, refl, sym, ap, subst, ◌∙◌, arith}
-use Rattle.std.specs.Prelude.{Vec}
-use Rattle.std.specs.Option.{option_map_or}
+use Rattle.std.proofs.Common.{◌≡◌, ℕ, ◌+◌, ◌<◌, ◌≤◌, Bool, true, false, ◌||◌, cond, List, [], ◌∷◌, ◌++◌, reverse, length, inl, inr, refl, sym, ap, subst, ◌∙◌, arith}
 use Rattle.std.specs.Borrow.{Bor}
 use Rattle.std.specs.Str.{bytes_eq}
-use Rattle.std.specs.List.{flat_map}
-use Rattle.std.specs.Map.{lookup}
-use Rattle.std.specs.declared.alloc.Global.{Global}
-use Rattle.std.proofs.lemmas.Bool.{both_ways}
+use Rattle.std.proofs.lemmas.Bool.{both_ways, cases_Bool}
 use Rattle.std.proofs.lemmas.Slice.Eq.{bytes_eq-Decides}
 use Rattle.std.proofs.lemmas.List.{map-append, reverse-append, reverse-reverse, length-append, length-reverse, length-map}
 use Rattle.mk_graph.specs.Membership.{Has}
-use Rattle.mk_core.specs.Names.{has_name}
-use Rattle.mk_core.specs.Rules.{Rule}
-use Rattle.mk_core.specs.Table.{lines_at}
+use Rattle.mk_read.specs.Names.{has_name}
 use Rattle.mk_core.specs.Selection.{Meets, ends, known, new}
 use Rattle.mk_core.proofs.NameLists.{texts}
-use Rattle.mk_core.proofs.Commands.{has_name_push}
+use Rattle.mk_core.proofs.Added.{has_name_push}
 use Rattle.mk_core.proofs.Once.{bytes_eq_sym}
 
-abbrev words_of : List Rule → List (List ℕ)
-words_of rules = flat_map (λ (rule : Rule). rule.words) rules
-
--- how many prerequisites the names that aren't met have
-abbrev pub weight : List Rule → List (List ℕ) → List (Bor (List ℕ) × Vec ℕ Global) → ℕ
-weight rules met [] = 0
-weight rules met (e ∷ es) = cond (has_name met e.0.now) 0 (length (words_of (lines_at rules e.1.items))) + weight rules met es
-
-abbrev at_name : List (Bor (List ℕ) × Vec ℕ Global) → List ℕ → List ℕ
-at_name es name = option_map_or (λ (places : Vec ℕ Global). places.items) (lookup (λ (k : Bor (List ℕ)). bytes_eq name k.now) es) []
+-- how many words those of the names have that aren't met
+abbrev pub weight : (List ℕ → List (List ℕ)) → List (List ℕ) → List (List ℕ) → ℕ
+weight needs met [] = 0
+weight needs met (name ∷ names) = cond (has_name met name) 0 (length (needs name)) + weight needs met names
 
 lighter : (a c : Bool) (n : ℕ) → cond (a || c) 0 n ≤ cond a 0 n
 lighter true c n = omega arith
@@ -36,37 +23,45 @@ lighter false true n = omega arith
 lighter false false n = omega arith
 
 -- a name more doesn't raise it
-weight_below : (rules : List Rule) (met : List (List ℕ)) (name : List ℕ) (es : List (Bor (List ℕ) × Vec ℕ Global)) → weight rules (met ++ name ∷ []) es ≤ weight rules met es
-weight_below rules met name [] = omega arith
-weight_below rules met name (e ∷ es) =
-    let n = length (words_of (lines_at rules e.1.items)) in
-    let first : cond (has_name (met ++ name ∷ []) e.0.now) 0 n ≤ cond (has_name met e.0.now) 0 n = subst (λ (b : Bool). cond b 0 n ≤ cond (has_name met e.0.now) 0 n) (sym (has_name_push met name e.0.now)) (lighter (has_name met e.0.now) (bytes_eq e.0.now name) n) in
-    omega (arith, weight_below rules met name es)
+weight_below : (needs : List ℕ → List (List ℕ)) (met : List (List ℕ)) (name : List ℕ) (names : List (List ℕ)) → weight needs (met ++ name ∷ []) names ≤ weight needs met names
+weight_below needs met name [] = omega arith
+weight_below needs met name (other ∷ names) =
+    let n = length (needs other) in
+    let first : cond (has_name (met ++ name ∷ []) other) 0 n ≤ cond (has_name met other) 0 n = subst (λ (b : Bool). cond b 0 n ≤ cond (has_name met other) 0 n) (sym (has_name_push met name other)) (lighter (has_name met other) (bytes_eq other name) n) in
+    omega (arith, weight_below needs met name names)
 
--- a new name takes its prerequisites off
-pub weight_falls : (rules : List Rule) (met : List (List ℕ)) (name : List ℕ) (es : List (Bor (List ℕ) × Vec ℕ Global)) → has_name met name ≡ false → weight rules (met ++ name ∷ []) es + length (words_of (lines_at rules (at_name es name))) ≤ weight rules met es
-weight_falls rules met name [] h = omega arith
-weight_falls rules met name (e ∷ es) h = by_key (bytes_eq name e.0.now) refl (weight_falls rules met name es h)
+-- a new name takes its own words off
+weight_falls : (needs : List ℕ → List (List ℕ)) (met : List (List ℕ)) (name : List ℕ) (names : List (List ℕ)) → has_name met name ≡ false → has_name names name ≡ true → weight needs (met ++ name ∷ []) names + length (needs name) ≤ weight needs met names
+weight_falls needs met name [] h k = absurd cc
+weight_falls needs met name (other ∷ names) h k = by_first (bytes_eq name other) refl k (weight_falls needs met name names h)
   where
-    n : ℕ
-    n = length (words_of (lines_at rules e.1.items))
+    by_first : (b : Bool) → bytes_eq name other ≡ b → (b || has_name names name) ≡ true → (has_name names name ≡ true → weight needs (met ++ name ∷ []) names + length (needs name) ≤ weight needs met names)
+        → weight needs (met ++ name ∷ []) (other ∷ names) + length (needs name) ≤ weight needs met (other ∷ names)
+    by_first true t there ih =
+        let same : name ≡ other = (bytes_eq-Decides name other).0 t in
+        let alike : length (needs name) ≡ length (needs other) = ap (λ (n : List ℕ). length (needs n)) same in
+        let unmet : has_name met other ≡ false = ap (has_name met) (sym same) ∙ h in
+        let before : cond (has_name met other) 0 (length (needs other)) ≡ length (needs other) = rw unmet refl in
+        let after : cond (has_name (met ++ name ∷ []) other) 0 (length (needs other)) ≡ 0 = rw (has_name_push met name other, unmet, ← bytes_eq_sym name other, t) refl in
+        omega (arith, weight_below needs met name names)
+    by_first false f there ih =
+        let n = length (needs other) in
+        let first : cond (has_name (met ++ name ∷ []) other) 0 n ≤ cond (has_name met other) 0 n = subst (λ (b : Bool). cond b 0 n ≤ cond (has_name met other) 0 n) (sym (has_name_push met name other)) (lighter (has_name met other) (bytes_eq other name) n) in
+        omega (arith, ih there)
 
-    by_key : (b : Bool) → bytes_eq name e.0.now ≡ b → weight rules (met ++ name ∷ []) es + length (words_of (lines_at rules (at_name es name))) ≤ weight rules met es
-        → weight rules (met ++ name ∷ []) (e ∷ es) + length (words_of (lines_at rules (option_map_or (λ (places : Vec ℕ Global). places.items) (cond b (Some e.1) (lookup (λ (k : Bor (List ℕ)). bytes_eq name k.now) es)) []))) ≤ weight rules met (e ∷ es)
-    by_key true t ih =
-        let same : name ≡ e.0.now = (bytes_eq-Decides name e.0.now).0 t in
-        let unmet : has_name met e.0.now ≡ false = ap (has_name met) (sym same) ∙ h in
-        let before : cond (has_name met e.0.now) 0 (length (words_of (lines_at rules e.1.items))) ≡ length (words_of (lines_at rules e.1.items)) = rw unmet refl in
-        let after : cond (has_name (met ++ name ∷ []) e.0.now) 0 (length (words_of (lines_at rules e.1.items))) ≡ 0 = rw (has_name_push met name e.0.now, unmet, ← bytes_eq_sym name e.0.now, t) refl in
-        omega (arith, weight_below rules met name es)
-    by_key false f ih =
-        let other : has_name (met ++ name ∷ []) e.0.now ≡ has_name met e.0.now = has_name_push met name e.0.now ∙ (ap (λ b. has_name met e.0.now || b) (sym (bytes_eq_sym name e.0.now) ∙ f) ∙ or_none (has_name met e.0.now)) in
-        let same : cond (has_name (met ++ name ∷ []) e.0.now) 0 (length (words_of (lines_at rules e.1.items))) ≡ cond (has_name met e.0.now) 0 (length (words_of (lines_at rules e.1.items))) = ap (λ b. cond b 0 (length (words_of (lines_at rules e.1.items)))) other in
-        omega arith
-      where
-        or_none : (b : Bool) → (b || false) ≡ b
-        or_none true = refl
-        or_none false = refl
+-- the names outside of these have no words
+abbrev pub Covers : (List ℕ → List (List ℕ)) → List (List ℕ) → Type 0
+Covers needs names = (name : List ℕ) → has_name names name ≡ false → needs name ≡ []
+
+-- at each new name what it needs comes in place of what it weighed
+falls : (needs : List ℕ → List (List ℕ)) (names : List (List ℕ)) → Covers needs names → (met : List (List ℕ)) (name : List ℕ) → has_name met name ≡ false → weight needs (met ++ name ∷ []) names + length (needs name) ≤ weight needs met names
+falls needs names covers met name h =
+    elim (cases_Bool (has_name names name)) [
+      | inl t ↦ weight_falls needs met name names h t
+      | inr f ↦ (
+          let none : length (needs name) ≡ 0 = ap length (covers name f) in
+          omega (arith, weight_below needs met name names))
+    ]
 
 -- a name that is met stands among the met ones
 pub Has_name : (names : List (List ℕ)) (name : List ℕ) → has_name names name ≡ true → Has names name
@@ -119,19 +114,19 @@ pub walk_end : (needs : List ℕ → List (List ℕ)) (met goals : List (List �
 walk_end needs met goals todo none k = k met (subst (λ (ns : List (List ℕ)). Meets needs met ns met) (sym (ap (λ ns. texts (reverse ns)) none)) ends)
 
 -- what is to do falls at a name that is met
-pub less_known : (rules : List Rule) (met after : List (List ℕ)) (es : List (Bor (List ℕ) × Vec ℕ Global)) (todo rest : List (Bor (List ℕ))) (name : Bor (List ℕ)) → todo ≡ rest ++ name ∷ [] → after ≡ met → weight rules after es + length rest < weight rules met es + length todo
-less_known rules met after es todo rest name e same =
+pub less_known : (needs : List ℕ → List (List ℕ)) (names met after : List (List ℕ)) (todo rest : List (Bor (List ℕ))) (name : Bor (List ℕ)) → todo ≡ rest ++ name ∷ [] → after ≡ met → weight needs after names + length rest < weight needs met names + length todo
+less_known needs names met after todo rest name e same =
     let long : length todo ≡ length rest + 1 = ap length e ∙ length-append rest (name ∷ []) in
-    let alike : weight rules after es ≡ weight rules met es = ap (λ ms. weight rules ms es) same in
+    let alike : weight needs after names ≡ weight needs met names = ap (λ ms. weight needs ms names) same in
     omega arith
 
 -- and at a new one
-pub less_new : (rules : List Rule) (met after : List (List ℕ)) (es : List (Bor (List ℕ) × Vec ℕ Global)) (todo rest words more : List (Bor (List ℕ))) (name : Bor (List ℕ)) → todo ≡ rest ++ name ∷ [] → has_name met name.now ≡ false → after ≡ met ++ name.now ∷ []
-    → texts words ≡ words_of (lines_at rules (at_name es name.now)) → more ≡ rest ++ reverse words → weight rules after es + length more < weight rules met es + length todo
-less_new rules met after es todo rest words more name e h grown are pushed =
+pub less_new : (needs : List ℕ → List (List ℕ)) (names : List (List ℕ)) → Covers needs names → (met after : List (List ℕ)) (todo rest words more : List (Bor (List ℕ))) (name : Bor (List ℕ)) → todo ≡ rest ++ name ∷ [] → has_name met name.now ≡ false → after ≡ met ++ name.now ∷ []
+    → texts words ≡ needs name.now → more ≡ rest ++ reverse words → weight needs after names + length more < weight needs met names + length todo
+less_new needs names covers met after todo rest words more name e h grown are pushed =
     let long : length todo ≡ length rest + 1 = ap length e ∙ length-append rest (name ∷ []) in
     let longer : length more ≡ length rest + length words = ap length pushed ∙ (length-append rest (reverse words) ∙ ap (λ n. length rest + n) (length-reverse words)) in
-    let many : length words ≡ length (words_of (lines_at rules (at_name es name.now))) = sym (length-map words (λ (w : Bor (List ℕ)). w.now)) ∙ ap length are in
-    let alike : weight rules after es ≡ weight rules (met ++ name.now ∷ []) es = ap (λ ms. weight rules ms es) grown in
-    let falls = weight_falls rules met name.now es h in
+    let many : length words ≡ length (needs name.now) = sym (length-map words (λ (w : Bor (List ℕ)). w.now)) ∙ ap length are in
+    let alike : weight needs after names ≡ weight needs (met ++ name.now ∷ []) names = ap (λ ms. weight needs ms names) grown in
+    let off = falls needs names covers met name.now h in
     omega arith

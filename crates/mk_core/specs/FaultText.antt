@@ -1,14 +1,21 @@
 -- What is printed of a fault.
-use Rattle.std.specs.Prelude.{ℕ, List, [], ◌∷◌, ◌++◌, codes, Option, None, Some}
+use Rattle.std.specs.Prelude.{ℕ, List, [], ◌∷◌, ◌++◌, codes, Option, option_to_list}
 use Rattle.std.specs.List.{flat_map}
+use Rattle.std.specs.Option.{option_map}
 use Rattle.std.specs.Fmt.{decimal}
 use Rattle.mk_graph.specs.declared.fault.GraphFault.{GraphFault}
 use Rattle.mk_graph.specs.declared.fault.GraphFault.TheVariants as graph
 use Rattle.mk_lines.specs.declared.fault.LineFault.{LineFault}
 use Rattle.mk_lines.specs.declared.fault.LineFault.TheVariants as line
+use Rattle.mk_macros.specs.declared.fault.MacroFault.{MacroFault}
+use Rattle.mk_macros.specs.declared.fault.MacroFault.TheVariants as macro
+use Rattle.mk_read.specs.declared.fault.KindFault.{KindFault}
+use Rattle.mk_read.specs.declared.fault.KindFault.TheVariants as kind
+use Rattle.mk_read.specs.declared.fault.Place.{Place}
+use Rattle.mk_read.specs.declared.fault.ReadFault.{ReadFault}
+use Rattle.mk_read.specs.declared.fault.ReadFault.TheVariants as read
 use Rattle.mk_core.specs.declared.fault.Fault.{Fault}
-use Rattle.mk_core.specs.declared.fault.Fault.TheVariants.{Line, BadMacroName, DoubleColon, NotALine, StrayCommand, BadName, BadMakefileName, ArchiveMember, UnknownSpecial, TwoRecipes, ReadFailed, NoMakefile, NoGoal, Graph, Memory}
-use Rattle.mk_core.specs.declared.fault.Place.{Place}
+use Rattle.mk_core.specs.declared.fault.Fault.TheVariants.{Read, BadGoal, GoalIsMember, NoGoal, Graph, Memory}
 
 -- FILE:LINE
 abbrev pub place_text : Place → List ℕ
@@ -21,37 +28,74 @@ refusal number words = codes "refused " ++ (decimal number ++ flat_map (λ word.
 abbrev pub no_memory : List ℕ
 no_memory = codes "want of memory"
 
-abbrev pub place_in : List ℕ → ℕ → List ℕ
-place_in file number = place_text (record { file = file; line = number })
+-- a refusal whose words are a place
+abbrev pub refusal_at : ℕ → Place → List ℕ
+refusal_at number place = refusal number (place_text place ∷ [])
+
+-- one whose words are a place and a name
+abbrev pub refusal_of : ℕ → Place → List ℕ → List ℕ
+refusal_of number place name = refusal number (place_text place ∷ name ∷ [])
+
+-- one of a line of this file
+abbrev pub refusal_in : ℕ → List ℕ → ℕ → List ℕ
+refusal_in number file first = refusal_at number (record { file = file; line = first })
 
 abbrev pub line_fault_text : List ℕ → LineFault → List ℕ
-line_fault_text file (line.NulByte number) = refusal 1 (place_in file number ∷ [])
-line_fault_text file (line.LineTooLong number) = refusal 2 (place_in file number ∷ [])
-line_fault_text file (line.TooManyLines number) = refusal 3 (place_in file number ∷ [])
+line_fault_text file (line.NulByte first) = refusal_in 1 file first
+line_fault_text file (line.LineTooLong first) = refusal_in 2 file first
+line_fault_text file (line.TooManyLines first) = refusal_in 3 file first
 line_fault_text file line.Memory = no_memory
+
+abbrev pub macro_fault_text : Place → MacroFault → List ℕ
+macro_fault_text place macro.BadMacroName = refusal_at 11 place
+macro_fault_text place (macro.Recursive name) = refusal_of 12 place name
+macro_fault_text place macro.Unclosed = refusal_at 13 place
+macro_fault_text place macro.TooManyReferences = refusal_at 14 place
+macro_fault_text place macro.ValueTooLong = refusal_at 15 place
+macro_fault_text place macro.LoneDollar = refusal_at 16 place
+macro_fault_text place macro.MemberMacro = refusal_at 17 place
+macro_fault_text place macro.Memory = no_memory
+
+abbrev pub kind_fault_text : Place → KindFault → List ℕ
+kind_fault_text place kind.ShellAssign = refusal_at 21 place
+kind_fault_text place kind.ColonAssign = refusal_at 22 place
+kind_fault_text place kind.DoubleColon = refusal_at 23 place
+kind_fault_text place kind.TargetMacro = refusal_at 24 place
+kind_fault_text place kind.NotALine = refusal_at 25 place
+kind_fault_text place kind.Memory = no_memory
+
+-- the words of a read that failed, at an include line or without one
+abbrev pub failed_read_words : Option Place → List ℕ → List (List ℕ)
+failed_read_words place name = option_to_list (option_map place_text place) ++ name ∷ []
+
+unfoldable pub read_fault_text : ReadFault → List ℕ
+read_fault_text (read.Line file fault) = line_fault_text file fault
+read_fault_text (read.Macro place fault) = macro_fault_text place fault
+read_fault_text (read.Kind place fault) = kind_fault_text place fault
+read_fault_text (read.StrayCommand place) = refusal_at 26 place
+read_fault_text (read.BadName place) = refusal_at 27 place
+read_fault_text (read.BadMakefileName name) = refusal 27 (name ∷ [])
+read_fault_text (read.ArchiveMember place) = refusal_at 28 place
+read_fault_text (read.UnknownSpecial place) = refusal_at 29 place
+read_fault_text (read.SpecialShape place) = refusal_at 30 place
+read_fault_text (read.TwoRecipes place target) = refusal_of 31 place target
+read_fault_text (read.IncludeMissing place name) = refusal_of 32 place name
+read_fault_text (read.IncludeDepth place) = refusal_at 33 place
+read_fault_text (read.IncludeEmpty place) = refusal_at 34 place
+read_fault_text (read.ReadFailed place name) = refusal 35 (failed_read_words place name)
+read_fault_text (read.TooManyFiles place) = refusal_at 36 place
+read_fault_text (read.NoMakefile name) = refusal 37 (option_to_list name)
+read_fault_text read.Memory = no_memory
 
 abbrev pub graph_fault_text : GraphFault → List ℕ
 graph_fault_text (graph.Cycle names) = refusal 42 names
 graph_fault_text graph.TooManyNodes = refusal 43 []
 graph_fault_text graph.Memory = no_memory
 
-abbrev pub optional_name : Option (List ℕ) → List (List ℕ)
-optional_name None = []
-optional_name (Some name) = name ∷ []
-
 unfoldable pub fault_text : Fault → List ℕ
-fault_text (Line file fault) = line_fault_text file fault
-fault_text (BadMacroName place) = refusal 11 (place_text place ∷ [])
-fault_text (DoubleColon place) = refusal 23 (place_text place ∷ [])
-fault_text (NotALine place) = refusal 25 (place_text place ∷ [])
-fault_text (StrayCommand place) = refusal 26 (place_text place ∷ [])
-fault_text (BadName place) = refusal 27 (place_text place ∷ [])
-fault_text (BadMakefileName name) = refusal 27 (name ∷ [])
-fault_text (ArchiveMember place) = refusal 28 (place_text place ∷ [])
-fault_text (UnknownSpecial place) = refusal 29 (place_text place ∷ [])
-fault_text (TwoRecipes place target) = refusal 31 (place_text place ∷ target ∷ [])
-fault_text (ReadFailed name) = refusal 35 (name ∷ [])
-fault_text (NoMakefile name) = refusal 37 (optional_name name)
+fault_text (Read fault) = read_fault_text fault
+fault_text (BadGoal place) = refusal_at 27 place
+fault_text (GoalIsMember place) = refusal_at 28 place
 fault_text NoGoal = refusal 44 []
 fault_text (Graph fault) = graph_fault_text fault
 fault_text Memory = no_memory

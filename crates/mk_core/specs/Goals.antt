@@ -1,50 +1,60 @@
 -- The goals of a request.
-use Rattle.std.specs.Prelude.{ℕ, ◌+◌, not, ◌||◌, List, [], ◌∷◌, filter, codes, Option, None, Some, Result, Ok, Err, if◌then◌else◌}
-use Rattle.std.specs.Str.{bytes_eq}
+use Rattle.std.specs.Prelude.{ℕ, ◌+◌, not, ◌&&◌, List, [], ◌∷◌, Bool, filter, find, codes, Option, None, Some, Result, Ok, Err, if◌then◌else◌}
+use Rattle.std.specs.List.{flat_map, list_any}
+use Rattle.mk_read.specs.declared.fault.Place.{Place}
+use Rattle.mk_read.specs.Names.{has_name, is_bracket, is_make_name, once}
+use Rattle.mk_read.specs.Reading.{Makefile}
+use Rattle.mk_read.specs.Special.{is_inference_name, is_special}
+use Rattle.mk_read.specs.State.{RuleRead}
 use Rattle.mk_core.specs.declared.fault.Fault.{Fault}
-use Rattle.mk_core.specs.declared.fault.Fault.TheVariants.{BadName, NoGoal}
-use Rattle.mk_core.specs.declared.fault.Place.{Place}
-use Rattle.mk_core.specs.Names.{name_of, wait_word}
-use Rattle.mk_core.specs.Rules.{Rule}
+use Rattle.mk_core.specs.declared.fault.Fault.TheVariants.{BadGoal, GoalIsMember, NoGoal}
 use Rattle.mk_core.specs.Steps.{◌>>=◌}
 
--- a goal's name: `.WAIT` and `-` are none
-unfoldable pub goal_of : Place → List ℕ → Result (List ℕ) Fault
-goal_of place word = if bytes_eq word wait_word || bytes_eq word (codes "-") then Err (BadName place) else name_of place word
+-- a goal's place: its number among the words, as given
+abbrev pub goal_place : ℕ → Place
+goal_place number = record { file = codes "goal"; line = number }
+
+-- `.WAIT` and `-` are names elsewhere, and no goals
+abbrev pub is_no_goal : List ℕ → Bool
+is_no_goal word = has_name (codes ".WAIT" ∷ codes "-" ∷ []) word
+
+-- a goal's name
+unfoldable pub goal_of : ℕ → List ℕ → Result (List ℕ) Fault
+goal_of number word =
+    if is_no_goal word then Err (BadGoal (goal_place number))
+    else (if list_any is_bracket word then Err (GoalIsMember (goal_place number))
+    else (if is_make_name word then Ok word else Err (BadGoal (goal_place number))))
 
 -- the names of the goals from this number on
 unfoldable pub goals_from : ℕ → List (List ℕ) → Result (List (List ℕ)) Fault
 goals_from number [] = Ok []
 goals_from number (word ∷ rest) = do
-  name ← goal_of (record { file = codes "goal"; line = number }) word
+  name ← goal_of number word
   names ← goals_from (number + 1) rest
   Ok (name ∷ names)
 
--- each name once, where it first stands
-abbrev pub once : List (List ℕ) → List (List ℕ)
-once [] = []
-once (name ∷ names) = name ∷ filter (λ other. not (bytes_eq name other)) (once names)
+-- the targets of the makefile's own rule lines, in order
+abbrev pub own_targets : List RuleRead → List (List ℕ)
+own_targets rules = flat_map (λ (rule : RuleRead). rule.targets) (filter (λ (rule : RuleRead). not rule.default) rules)
 
--- the first of the names, else another
-abbrev pub first_or : List (List ℕ) → Option (List ℕ) → Option (List ℕ)
-first_or [] other = other
-first_or (name ∷ names) other = Some name
+-- neither special nor an inference name
+abbrev pub is_plain_target : List (List ℕ) → List ℕ → Bool
+is_plain_target suffixes name = not (is_special name) && not (is_inference_name suffixes name)
 
--- the first target of the rule lines
-abbrev pub first_target : List Rule → Option (List ℕ)
-first_target [] = None
-first_target (rule ∷ rules) = first_or rule.targets (first_target rules)
+-- the first such target, which is the goal where none is given
+abbrev pub first_target : Makefile → Option (List ℕ)
+first_target m = find (is_plain_target m.suffixes) (own_targets m.rules)
 
--- the goals that were given, each once, else the first target
 abbrev pub default_goal : Option (List ℕ) → Result (List (List ℕ)) Fault
 default_goal None = Err NoGoal
 default_goal (Some target) = Ok (target ∷ [])
 
-abbrev pub given_or_first : List (List ℕ) → List Rule → Result (List (List ℕ)) Fault
-given_or_first [] rules = default_goal (first_target rules)
-given_or_first (name ∷ names) rules = Ok (once (name ∷ names))
+-- the goals that were given, each once, else the first target
+abbrev pub given_or_first : List (List ℕ) → Makefile → Result (List (List ℕ)) Fault
+given_or_first [] m = default_goal (first_target m)
+given_or_first (name ∷ names) m = Ok (once (name ∷ names))
 
-unfoldable pub goal_names : List Rule → List (List ℕ) → Result (List (List ℕ)) Fault
-goal_names rules goals = do
+unfoldable pub goal_names : Makefile → List (List ℕ) → Result (List (List ℕ)) Fault
+goal_names m goals = do
   names ← goals_from 1 goals
-  given_or_first names rules
+  given_or_first names m

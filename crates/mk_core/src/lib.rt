@@ -3,26 +3,21 @@
 
 mod answer;
 mod fault;
-mod files;
 mod goals;
 pub mod laws;
-mod lines;
-mod mem_files;
 mod name_set;
-mod names;
-mod parts;
 mod printing;
 mod request;
-mod rules;
+mod rule_table;
 mod selection;
+mod suffix_set;
 #[cfg(test)]
 mod tests;
 mod wording;
 
 pub use answer::graph_text;
-pub use fault::{Fault, Place};
-pub use files::{Files, FilesError};
-pub use mem_files::MemFiles;
+pub use fault::Fault;
 pub use mk_lines::{Name, Names};
+pub use mk_read::{Files, FilesError, MemFiles};
 pub use request::{Request, split_words};
 pub use wording::fault_text;

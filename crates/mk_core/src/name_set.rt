@@ -1,7 +1,8 @@
 //! Names, each once, in the order in which they came.
 
 ghost use Rattle.std.specs.Prelude.{◌≡◌, ◌∷◌, ◌++◌, [], not, map, IfOk, OnOk, OnErr, Option, Some, None, if◌then◌else◌};
-ghost use Rattle.mk_core.specs.Names.{has_name, number_of};
+ghost use Rattle.mk_read.specs.Names.{has_name};
+ghost use Rattle.mk_core.specs.Names.{number_of};
 
 use indexmap::IndexSet;
 use std::alloc::{AllocError, Global};

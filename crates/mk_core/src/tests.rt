@@ -1,15 +1,17 @@
 //! Rows on the public calls, over files in memory.
 
-ghost use Rattle.std.specs.Prelude.{◌<◌, ◌-◌, ◌^◌};
+ghost use Rattle.std.specs.Prelude.{◌≡◌, ◌<◌, ◌-◌, ◌^◌, IfOk};
 ghost use Rattle.mk_core.specs.MemFiles.{failures_of};
 
 use crate::{
-    Fault, Files, FilesError, MemFiles, Name, Names, Place, Request, fault_text, graph_text,
-    split_words,
+    Fault, Files, FilesError, MemFiles, Name, Names, Request, fault_text, graph_text, split_words,
 };
 use mk_graph::GraphFault;
 use mk_lines::LineFault;
+use mk_macros::{MacroFault, MacroName};
+use mk_read::{KindFault, Place, ReadFault};
 use std::alloc::Global;
+use std::process::Abort;
 use std::test::Fail;
 
 /// A request with these words of a command line.
@@ -33,7 +35,7 @@ fn answer(alloc: Global, files: &mut MemFiles, request: &Request) -> Result<Stri
 {
     match graph_text(alloc, files, request) {
         Ok(text) => Ok(String::from_utf8(text)?),
-        Err(fault) => Ok(fault_text(alloc, &fault)?),
+        Err(fault) => Ok(String::from_utf8(fault_text(alloc, &fault)?)?),
     }
 }
 
@@ -44,223 +46,560 @@ fn over(alloc: Global, text: &[u8], words: &str) -> Result<String, Fail> {
     answer(alloc, &mut files, &request(alloc, None, words)?)
 }
 
-/// The makefile of the first row: two recipes, and a source.
-const PROGRAM: &str = "p: a.o\n\tcc -o p a.o\na.o: a.c\n\tcc -c a.c\n";
+/// A text of a row, in which `¶` stands for a newline and `→` for a tab.
+fn unfolded(alloc: Global, text: &str) -> Result<String, Fail> {
+    let mut out = String::new(alloc);
+    for c in text.chars() {
+        match c {
+            '¶' => out.push('\n')?,
+            '→' => out.push('\t')?,
+            other => out.push(other)?,
+        }
+    }
+    Ok(out)
+}
 
-/// Makefiles, the words of a command line, and what is printed.
-const GRAPHS: &[(&str, &str, &str)] = &[
-    (
-        PROGRAM,
-        "",
-        "goals p\na.c:\na.o recipe: a.c\np recipe: a.o\n",
-    ),
-    (PROGRAM, "zzz", "goals zzz\nzzz:\n"),
-    (
-        PROGRAM,
-        "a.o p a.o",
-        "goals a.o p\na.c:\na.o recipe: a.c\np recipe: a.o\n",
-    ),
-    ("a: b b\na: c b\n", "", "goals a\nb:\nc:\na: b b c b\n"),
-    ("a: b\nb: c\n", "c b", "goals c b\nc:\nb: c\n"),
-    ("a b: c\n\tx\n", "", "goals a\nc:\na recipe: c\n"),
-    ("a: b\n\tx\na: c\n", "", "goals a\nb:\nc:\na recipe: b c\n"),
-    ("a a:\n\tx\n", "", "goals a\na recipe:\n"),
-    ("a:", "", "goals a\na:\n"),
-    ("a:b", "", "goals a\nb:\na: b\n"),
-    (" \ta :\tb ", "", "goals a\nb:\na: b\n"),
-    (
-        "\t# x\n\n\t \t#\na: b\n\t \n \t\n",
-        "",
-        "goals a\nb:\na: b\n",
-    ),
-    ("a:\n\t# x\n\ty\n", "", "goals a\na recipe:\n"),
-    ("a:\n\n\tx $y; #z\n", "", "goals a\na recipe:\n"),
-    (
-        ".PO: ../a /b .c é\n",
-        "",
-        "goals .PO\n../a:\n/b:\n.c:\né:\n.PO: ../a /b .c é\n",
-    ),
-    (
-        "includes: include\n",
-        "",
-        "goals includes\ninclude:\nincludes: include\n",
-    ),
-    ("-include: b\n", "", "goals -include\nb:\n-include: b\n"),
-    ("a: b \\\n   c # d \\\ne\n", "", "goals a\nb:\nc:\na: b c\n"),
-    ("a: b # x\n", "", "goals a\nb:\na: b\n"),
-    ("a: b#c=d;$(e)\n", "", "goals a\nb:\na: b\n"),
-    ("a: b \\\n", "", "goals a\nb:\na: b\n"),
-    ("a:\\\n\\\nb\n", "", "goals a\nb:\na: b\n"),
-    ("a:\n\tx \\\n\ty\n", "", "goals a\na recipe:\n"),
-    ("a:\n# x\n\ty\n", "", "goals a\na recipe:\n"),
-    ("# x \\\na:\nb:\n", "", "goals b\nb:\n"),
-];
+/// What stands in a row, between `‖`.
+fn fields_of(alloc: Global, row: &str) -> Result<Vec<&str>, Fail> {
+    Ok(row.split("‖").collect(alloc)?)
+}
 
-#[test]
-fn prints_graphs(rt: HostRuntime) -> Result<(), Fail> {
-    for &(text, words, printed) in GRAPHS {
-        let got = over(rt.alloc(), text.as_bytes(), words)?;
-        assert_eq!(rt; got.as_str(), printed, "over {text:?} with {words:?}");
+/// A field of a row, with its newlines and tabs.
+fn field(alloc: Global, fields: &[&str], at: usize) -> Result<String, Fail> {
+    match fields.get(at) {
+        Some(text) => unfolded(alloc, text),
+        None => Ok(String::new(alloc)),
+    }
+}
+
+/// The files of a row: a `makefile`, and behind the third field two more at most, each name before
+/// its text.
+fn files_of(alloc: Global, fields: &[&str]) -> Result<MemFiles, Fail>
+    ensures { IfOk result (λ files. failures_of files ≡ 0) }
+{
+    let mut files = MemFiles::new(alloc);
+    files.add("makefile", field(alloc, fields, 0)?.as_bytes())?;
+    files.add(
+        field(alloc, fields, 3)?.as_str(),
+        field(alloc, fields, 4)?.as_bytes(),
+    )?;
+    files.add(
+        field(alloc, fields, 5)?.as_str(),
+        field(alloc, fields, 6)?.as_bytes(),
+    )?;
+    Ok(files)
+}
+
+/// What is printed over the files of a row with the words of its second field.
+fn over_row(alloc: Global, fields: &[&str]) -> Result<String, Fail> {
+    let mut files = files_of(alloc, fields)?;
+    let words = field(alloc, fields, 1)?;
+    answer(alloc, &mut files, &request(alloc, None, words.as_str())?)
+}
+
+/// Expects what the third field of a row says to be printed.
+fn expect_row(rt: &impl Abort, alloc: Global, row: &str) -> Result<(), Fail> {
+    let fields = fields_of(alloc, row)?;
+    let got = over_row(alloc, &fields)?;
+    let printed = field(alloc, &fields, 2)?;
+    assert_eq!(rt; got.as_str(), printed.as_str(), "over {row:?}");
+    Ok(())
+}
+
+/// Each line of the table is a row.
+fn expect_rows(rt: &impl Abort, alloc: Global, table: &str) -> Result<(), Fail> {
+    for row in table.lines() {
+        expect_row(rt, alloc, row)?;
     }
     Ok(())
 }
 
-/// Makefiles, and what is printed.
-const REFUSALS: &[(&str, &str)] = &[
-    ("", "refused 44"),
-    ("\n \t\n\t\n", "refused 44"),
-    ("a: $\nb\0:\n", "refused 1 makefile:2"),
-    ("a:: b\n", "refused 23 makefile:1"),
-    ("a :: b\n", "refused 23 makefile:1"),
-    ("\n\n \t\n# x\n", "refused 44"),
-    ("\n\n \t\nx\n", "refused 25 makefile:4"),
-    ("a: b\\#c\n", "refused 27 makefile:1"),
-    ("a: b \\\n %\n", "refused 27 makefile:1"),
-    ("a: b \\\n c\nd: %\n", "refused 27 makefile:3"),
-    ("a: b \\\\\n c\n", "refused 27 makefile:1"),
-    ("a: $(b)\n", "refused 25 makefile:1"),
-    ("a = b\n", "refused 25 makefile:1"),
-    ("a: b; c\n", "refused 25 makefile:1"),
-    ("include x\n", "refused 25 makefile:1"),
-    (" include :\n", "refused 25 makefile:1"),
-    ("-include\n", "refused 25 makefile:1"),
-    ("a: b; c # d\n", "refused 25 makefile:1"),
-    ("a: b\\", "refused 27 makefile:1"),
-    ("\t# x\\\n", "refused 44"),
-    ("a b\n", "refused 25 makefile:1"),
-    ("\r\n", "refused 25 makefile:1"),
-    (" : b\n", "refused 25 makefile:1"),
-    ("\n\tx\na:\n", "refused 26 makefile:2"),
-    ("a*: b\n", "refused 27 makefile:1"),
-    ("a: b%\n", "refused 27 makefile:1"),
-    ("a: b\n\nc: ./d\n", "refused 27 makefile:3"),
-    ("a: b/\n", "refused 27 makefile:1"),
-    ("a: //b\n", "refused 27 makefile:1"),
-    ("a: b/../c\n", "refused 27 makefile:1"),
-    ("a: b:c\n", "refused 27 makefile:1"),
-    ("a: b::c\n", "refused 27 makefile:1"),
-    ("a: b | c\n", "refused 27 makefile:1"),
-    ("a: b\r\n", "refused 27 makefile:1"),
-    ("a:\u{b}b\n", "refused 27 makefile:1"),
-    ("l.a(x.o): x.c\n", "refused 28 makefile:1"),
-    ("a: l.a(x*\n", "refused 28 makefile:1"),
-    ("%: l.a(x.o)\n", "refused 27 makefile:1"),
-    (".PHONY: a\n", "refused 29 makefile:1"),
-    ("a .A_B:\n", "refused 29 makefile:1"),
-    ("a: b .WAIT c\n", "refused 29 makefile:1"),
-    (".PHONY: %\n", "refused 27 makefile:1"),
-    ("a:\n\tx\na:\n\ty\n", "refused 31 makefile:3 a"),
-    ("a b:\n\tx\n\nc b a:\n\n\ty\n", "refused 31 makefile:4 b"),
-    ("a: a\n", "refused 42 a a"),
-    ("a: b c\nc: d\nd: c a\n", "refused 42 c d c"),
-];
+const PLAIN: &str =
+    r"p: a.o¶→cc -o p a.o¶a.o: a.c¶→cc -c a.c¶‖‖goals p¶a.c:¶a.o recipe: a.c¶p recipe: a.o¶
+p: a.o¶→cc -o p a.o¶a.o: a.c¶→cc -c a.c¶‖zzz‖goals zzz¶zzz:¶
+p: a.o¶→cc -o p a.o¶a.o: a.c¶→cc -c a.c¶‖a.o p a.o‖goals a.o p¶a.c:¶a.o recipe: a.c¶p recipe: a.o¶
+a: b b¶a: c b¶‖‖goals a¶b:¶c:¶a: b b c b¶
+a: b¶b: c¶‖c b‖goals c b¶c:¶b: c¶
+a b: c¶→x¶‖‖goals a¶c:¶a recipe: c¶
+a: b¶→x¶a: c¶‖‖goals a¶b:¶c:¶a recipe: b c¶
+a a:¶→x¶‖‖goals a¶a recipe:¶
+a a: b¶‖‖goals a¶b:¶a: b¶
+a:‖‖goals a¶a:¶
+a:b‖‖goals a¶b:¶a: b¶
+ →a :→b ‖‖goals a¶b:¶a: b¶
+→# x¶¶→ →#¶a: b¶→ ¶ →¶‖‖goals a¶b:¶a: b¶
+a:¶→# x¶→y¶‖‖goals a¶a recipe:¶
+a:¶¶→x $y; #z¶‖‖goals a¶a recipe:¶
+.PO: ../a /b .c é¶‖‖goals .PO¶../a:¶/b:¶.c:¶é:¶.PO: ../a /b .c é¶
+includes: include¶‖‖goals includes¶include:¶includes: include¶
+-include: b¶‖‖goals -include¶b:¶-include: b¶
+a: b \¶   c # d \¶e¶‖‖goals a¶b:¶c:¶a: b c¶
+a: b # x¶‖‖goals a¶b:¶a: b¶
+a: b#c=d;$(e)¶‖‖goals a¶b:¶a: b¶
+a: b \¶‖‖goals a¶b:¶a: b¶
+a:\¶\¶b¶‖‖goals a¶b:¶a: b¶
+a:¶→x \¶→y¶‖‖goals a¶a recipe:¶
+a:¶# x¶→y¶‖‖goals a¶a recipe:¶
+# x \¶a:¶b:¶‖‖goals b¶b:¶";
 
 #[test]
-fn refuses_lines(rt: HostRuntime) -> Result<(), Fail> {
-    for &(text, printed) in REFUSALS {
-        let got = over(rt.alloc(), text.as_bytes(), "")?;
-        assert_eq!(rt; got.as_str(), printed, "over {text:?}");
-    }
+fn prints_plain_rules(rt: HostRuntime) -> Result<(), Fail> {
+    expect_rows(&rt, rt.alloc(), PLAIN)
+}
+
+const MACROS: &str = r"S = a.c b.h¶all: $(S:%.c=obj/%.o)¶‖‖goals all¶obj/a.o:¶b.h:¶all: obj/a.o b.h¶
+X = $(Y)¶Y = $(X)¶all: $(X)¶‖‖refused 12 makefile:3 X
+a: $(b)¶‖‖goals a¶a:¶
+X = a b¶$(X): c¶‖‖goals a¶c:¶a: c¶
+X = a b¶$(X): c¶‖b‖goals b¶c:¶b: c¶
+a: $(X)¶X = b¶a: $(X)¶‖‖goals a¶b:¶a: b¶
+X ?= b¶X ?= c¶X += d¶a: $(X)¶‖‖goals a¶b:¶d:¶a: b d¶
+Y = b¶X ::= $(Y)¶Y = c¶a: $X¶‖‖goals a¶b:¶a: b¶
+a: $(X)¶‖X=b‖goals a¶b:¶a: b¶
+X = c¶X += d¶a: $(X)¶‖X=b‖goals a¶b:¶a: b¶
+a: $(X)¶‖X=b X=c‖goals a¶c:¶a: c¶
+a: $(X)¶‖Y=b X::=$(Y)‖goals a¶b:¶a: b¶
+b: $(X)¶a:¶‖X=c a X=d b‖goals a b¶a:¶d:¶b: d¶
+$(X): $(¶→x $(¶a:¶‖‖goals a¶a:¶
+a: b;echo #x¶‖‖goals a¶b:¶a recipe: b¶
+a: b;→ ¶‖‖goals a¶b:¶a: b¶
+a: b;¶→x¶‖‖goals a¶b:¶a recipe: b¶
+a:;¶‖‖goals a¶a:¶
+X = u;v # w¶a:;$(X)¶‖‖goals a¶a recipe:¶";
+
+#[test]
+fn expands_macros(rt: HostRuntime) -> Result<(), Fail> {
+    expect_rows(&rt, rt.alloc(), MACROS)
+}
+
+const SPECIAL: &str = r".PHONY: a c¶a: b¶→x¶‖‖goals a¶b:¶a recipe phony: b¶
+a: b¶.PHONY: b¶.PHONY: c¶‖‖goals a¶b phony:¶a: b¶
+.PHONY: a¶‖‖refused 44
+x: .WAIT a .WAIT .WAIT b¶x: c¶‖‖goals x¶a:¶b:¶c:¶x: a .WAIT b c¶
+x: a .WAIT¶x: b .WAIT c¶‖‖goals x¶a:¶b:¶c:¶x: a .WAIT b .WAIT c¶
+x: .WAIT¶‖‖goals x¶x:¶
+x: a .WAIT a b .WAIT a¶‖‖goals x¶a:¶b:¶x: a .WAIT a b .WAIT a¶
+.NOTPARALLEL:¶x: a b¶‖‖goals x¶a:¶b:¶x: a .WAIT b¶
+x: a .WAIT b c¶.NOTPARALLEL:¶‖x a‖goals x a¶a:¶b:¶c:¶x: a .WAIT b .WAIT c¶
+.POSIX:¶.WAIT:¶.IGNORE: a¶.SILENT:¶.PRECIOUS: b¶a:¶‖‖goals a¶a:¶
+.SUFFIXES: .c .o¶.c.o:¶→cc¶.c:¶→cc¶a: b¶‖‖goals a¶b:¶a: b¶
+.c.o:¶→cc¶a:¶.SUFFIXES: .c¶.SUFFIXES: .o¶‖‖goals a¶a:¶
+.c.o a:¶→x¶.SUFFIXES: .c .o¶‖‖goals a¶a recipe:¶
+.SUFFIXES: .c .o¶.SUFFIXES:¶.c.o: b¶‖‖goals .c.o¶b:¶.c.o: b¶
+.SUFFIXES: .c .o¶.c.x:¶‖‖goals .c.x¶.c.x:¶
+.SUFFIXES: .c .o¶.c.o.c:¶‖‖goals .c.o.c¶.c.o.c:¶
+.SUFFIXES: .c .o¶x.c: y¶‖‖goals x.c¶y:¶x.c: y¶
+.SUFFIXES: .c .o¶a: .c.o .c¶.c.o:¶→cc¶.c:¶→cc¶‖‖goals a¶.c.o:¶.c:¶a: .c.o .c¶
+.SUFFIXES: .c .o¶.c.o:¶→cc¶‖‖refused 44
+.SUFFIXES: .c .o¶.c.o:¶→cc¶‖.c.o‖goals .c.o¶.c.o:¶";
+
+#[test]
+fn minds_special_targets(rt: HostRuntime) -> Result<(), Fail> {
+    expect_rows(&rt, rt.alloc(), SPECIAL)
+}
+
+const INCLUDES: &str = r"-include x.mk¶a:¶‖‖goals a¶a:¶
+include x.mk¶a:¶‖‖goals b¶b:¶‖x.mk‖b:¶
+a: c¶include x.mk y.mk¶a: d¶‖‖goals a¶c:¶b:¶e:¶d:¶a: c b e d¶‖x.mk‖a: b¶‖y.mk‖a: e¶
+-include x.mk y.mk¶‖‖goals b¶b:¶‖y.mk‖b:¶
+include $(X)¶a: $(Y)¶‖X=x.mk‖goals a¶b:¶a: b¶‖x.mk‖Y = b¶
+include x.mk x.mk¶a:¶‖‖goals b¶c:¶b: c c¶‖x.mk‖b: c¶
+a:¶include x.mk¶→y¶‖‖refused 26 makefile:3‖x.mk‖b:¶
+include x.mk¶→y¶‖‖refused 26 makefile:2‖x.mk‖a:¶
+include x.mk¶‖‖refused 25 x.mk:2‖x.mk‖a:¶x¶
+include makefile¶‖‖refused 33 makefile:1";
+
+#[test]
+fn reads_included_files(rt: HostRuntime) -> Result<(), Fail> {
+    expect_rows(&rt, rt.alloc(), INCLUDES)
+}
+
+const REFUSALS: &str = r"‖‖refused 44
+¶ →¶→¶‖‖refused 44
+¶¶ →¶# x¶‖‖refused 44
+→# x\¶‖‖refused 44
+a = b¶‖‖refused 44
+a: b*¶→x¶‖-‖refused 27 makefile:1
+¶a: $(b*)¶‖‖refused 11 makefile:2
+a: $(b:c)¶‖‖refused 11 makefile:1
+a b = c¶‖‖refused 11 makefile:1
+a:¶‖A+=x‖refused 11 operand:1
+a:¶‖a X=1 A:=x -‖refused 11 operand:2
+a:¶‖=‖refused 11 operand:1
+a¶‖X=1 =‖refused 11 operand:2
+X = $(X)¶¶a: b¶a: $(X)¶‖‖refused 12 makefile:4 X
+all: $(X¶‖‖refused 13 makefile:1
+a: b$¶‖‖refused 16 makefile:1
+a: $ b¶‖‖refused 16 makefile:1
+$+=x¶‖‖refused 16 makefile:1
+a: $%¶‖‖refused 17 makefile:1
+a: $(%D)¶‖‖refused 17 makefile:1
+a: b¶V != date¶‖‖refused 21 makefile:2
+V := x¶‖‖refused 22 makefile:1
+a:: b¶‖‖refused 23 makefile:1
+a :: b¶‖‖refused 23 makefile:1
+::::= b¶‖‖refused 23 makefile:1
+a: b=c¶‖‖refused 24 makefile:1
+: a = b¶‖‖refused 24 makefile:1
+$(X): a = b¶‖‖refused 24 makefile:1
+a b¶‖‖refused 25 makefile:1
+¶¶ →¶x¶‖‖refused 25 makefile:4
+a;b¶‖‖refused 25 makefile:1
+$(X: a¶‖‖refused 25 makefile:1
+ : b¶‖‖refused 25 makefile:1
+¶→x¶a:¶‖‖refused 26 makefile:2
+X = b¶→x¶a:¶‖‖refused 26 makefile:2
+a:¶X = b¶→x¶‖‖refused 26 makefile:3
+a*: b¶‖‖refused 27 makefile:1
+a: b%¶‖‖refused 27 makefile:1
+a: b¶¶c: ./d¶‖‖refused 27 makefile:3
+a: b/¶‖‖refused 27 makefile:1
+a: //b¶‖‖refused 27 makefile:1
+a: b/../c¶‖‖refused 27 makefile:1
+a: b:c¶‖‖refused 27 makefile:1
+a: b::c¶‖‖refused 27 makefile:1
+a: b | c¶‖‖refused 27 makefile:1
+a: b\#c¶‖‖refused 27 makefile:1
+a: b \¶ %¶‖‖refused 27 makefile:1
+a: b \¶ c¶d: %¶‖‖refused 27 makefile:3
+a: b \\¶ c¶‖‖refused 27 makefile:1
+a: b\‖‖refused 27 makefile:1
+include = x¶‖‖refused 27 makefile:1
+ include :¶‖‖refused 27 makefile:1
+.PHONY: %¶‖‖refused 27 makefile:1
+a:¶‖-‖refused 27 goal:1
+a:¶‖a X=1 .WAIT‖refused 27 goal:2
+a:¶‖a a b*‖refused 27 goal:3
+a¶‖-‖refused 25 makefile:1
+l.a(x.o): x.c¶‖‖refused 28 makefile:1
+a: l.a(x*¶‖‖refused 28 makefile:1
+%: l.a(x.o)¶‖‖refused 27 makefile:1
+a:¶‖a l.a(x.o) b*‖refused 28 goal:2
+.FOO: a¶‖‖refused 29 makefile:1
+.DEFAULT:¶→x¶‖‖refused 29 makefile:1
+a .A_B:¶‖‖refused 29 makefile:1
+.PHONY: a¶→x¶‖‖refused 30 makefile:2
+.PHONY a: b¶‖‖refused 30 makefile:1
+.PHONY: a;¶‖‖refused 30 makefile:1
+.PHONY: a .WAIT b¶‖‖refused 30 makefile:1
+.NOTPARALLEL: a¶‖‖refused 30 makefile:1
+.POSIX: a¶‖‖refused 30 makefile:1
+.SUFFIXES: .c.o¶‖‖refused 30 makefile:1
+a:¶→x¶a:¶→y¶‖‖refused 31 makefile:3 a
+a b:¶→x¶¶c b a:¶¶→y¶‖‖refused 31 makefile:4 b
+a:;¶a:;¶‖‖refused 31 makefile:2 a
+include x.mk¶‖‖refused 32 makefile:1 x.mk
+a:¶include y.mk z¶‖‖refused 32 makefile:2 z‖y.mk‖
+include $(X)¶‖‖refused 34 makefile:1
+-include¶‖‖refused 34 makefile:1
+a: a¶‖‖refused 42 a a
+a: b c¶c: d¶d: c a¶‖‖refused 42 c d c";
+
+#[test]
+fn refuses_makefiles(rt: HostRuntime) -> Result<(), Fail> {
+    expect_rows(&rt, rt.alloc(), REFUSALS)
+}
+
+/// Bytes that a table can't show, and what is printed over them.
+#[test]
+fn refuses_bytes(rt: HostRuntime) -> Result<(), Fail> {
+    let got = over(rt.alloc(), b"a: $\nb\0:\n", "")?;
+    assert_eq!(rt; got.as_str(), "refused 1 makefile:2");
     let got = over(rt.alloc(), b"a: b\xff\n", "")?;
+    assert_eq!(rt; got.as_str(), "refused 27 makefile:1");
+    let got = over(rt.alloc(), b"a: b\r\n", "")?;
+    assert_eq!(rt; got.as_str(), "refused 27 makefile:1");
+    let got = over(rt.alloc(), b"a:\x0bb\n", "")?;
     assert_eq!(rt; got.as_str(), "refused 27 makefile:1");
     let got = over(rt.alloc(), b"\xff", "")?;
     assert_eq!(rt; got.as_str(), "refused 25 makefile:1");
-    Ok(())
-}
-
-#[test]
-fn refuses_words(rt: HostRuntime) -> Result<(), Fail> {
-    let rows = [
-        ("X=1", "refused 11 operand:1"),
-        ("a X=1 -", "refused 11 operand:1"),
-        ("=", "refused 11 operand:1"),
-        ("-", "refused 27 goal:1"),
-        ("a .WAIT", "refused 27 goal:2"),
-        ("a a b*", "refused 27 goal:3"),
-        ("a l.a(x.o) b*", "refused 28 goal:2"),
-    ];
-    for (words, printed) in rows {
-        let got = over(rt.alloc(), b"a:", words)?;
-        assert_eq!(rt; got.as_str(), printed, "with {words:?}");
-    }
-    let got = over(rt.alloc(), b"a", "X=1")?;
-    assert_eq!(rt; got.as_str(), "refused 11 operand:1");
-    let got = over(rt.alloc(), b"a", "-")?;
+    let got = over(rt.alloc(), b"\r\n", "")?;
     assert_eq!(rt; got.as_str(), "refused 25 makefile:1");
     Ok(())
 }
 
+/// Names of a file, the makefile's name that is asked for or `.`, the read that fails, and what is
+/// printed.
+const CHOICES: &str = r"makefile‖.‖0‖goals a¶a:¶
+Makefile‖.‖0‖goals a¶a:¶
+MAKEFILE‖.‖0‖refused 37
+makefile‖.‖1‖refused 35 makefile
+Makefile‖.‖1‖refused 35 makefile
+Makefile‖.‖2‖refused 35 Makefile
+makefile‖.‖2‖goals a¶a:¶
+x/y.mk‖x/y.mk‖0‖goals a¶a:¶
+x/y.mk‖x/y.mk‖1‖refused 35 x/y.mk
+makefile‖x/y.mk‖0‖refused 37 x/y.mk
+a b‖a b‖0‖refused 27 a b
+-‖-‖0‖refused 27 -
+x/‖x/‖1‖refused 27 x/
+a*(b)‖a*(b)‖0‖goals a¶a:¶";
+
 #[test]
 fn chooses_makefiles(rt: HostRuntime) -> Result<(), Fail> {
-    let rows = [
-        ("makefile", None, 0, "goals a\na:\n"),
-        ("Makefile", None, 0, "goals a\na:\n"),
-        ("MAKEFILE", None, 0, "refused 37"),
-        ("makefile", None, 1, "refused 35 makefile"),
-        ("Makefile", None, 2, "refused 35 Makefile"),
-        ("makefile", None, 2, "goals a\na:\n"),
-        ("x/y.mk", Some("x/y.mk"), 0, "goals a\na:\n"),
-        ("x/y.mk", Some("x/y.mk"), 1, "refused 35 x/y.mk"),
-        ("makefile", Some("x/y.mk"), 0, "refused 37 x/y.mk"),
-        ("a b", Some("a b"), 0, "refused 27 a b"),
-        ("-", Some("-"), 0, "refused 27 -"),
-        ("x/", Some("x/"), 1, "refused 27 x/"),
-        ("a*(b)", Some("a*(b)"), 0, "goals a\na:\n"),
-    ];
-    for (name, makefile, fails_at, printed) in rows {
-        let mut files = MemFiles::new(rt.alloc());
-        files.add(name, b"a:")?;
-        files.fail_at(fails_at);
-        let got = answer(rt.alloc(), &mut files, &request(rt.alloc(), makefile, "")?)?;
+    let alloc = rt.alloc();
+    for row in CHOICES.lines() {
+        let fields: Vec<&str> = row.split("‖").collect(alloc)?;
+        let [there, asked, failing, printed] = fields.as_slice() else {
+            assert!(rt; false, "no row: {row:?}");
+            continue;
+        };
+        let mut files = MemFiles::new(alloc);
+        files.add(there, b"a:")?;
+        files.fail_at(failing.parse::<u64>()?);
+        let makefile = if *asked == "." { None } else { Some(*asked) };
+        let request = request(alloc, makefile, "")?;
+        let got = match graph_text(alloc, &mut files, &request) {
+            Ok(text) => String::from_utf8(text)?,
+            Err(fault) => String::from_utf8(fault_text(alloc, &fault)?)?,
+        };
         assert_eq!(rt;
             got.as_str(),
-            printed,
-            "with {name:?} there and {makefile:?} asked for"
+            unfolded(alloc, printed)?.as_str(),
+            "for {row:?}"
         );
     }
+    Ok(())
+}
+
+#[test]
+fn takes_the_first_makefile(rt: HostRuntime) -> Result<(), Fail> {
     let mut files = MemFiles::new(rt.alloc());
     files.add("Makefile", b"b:")?;
     files.add("makefile", b"a:")?;
     files.add("makefile", b"c:")?;
     let got = answer(rt.alloc(), &mut files, &request(rt.alloc(), None, "")?)?;
     assert_eq!(rt; got.as_str(), "goals a\na:\n");
+    let mut files = MemFiles::new(rt.alloc());
+    files.add("-", b"a:")?;
+    let got = answer(
+        rt.alloc(),
+        &mut files,
+        &request(rt.alloc(), Some("-"), "=")?,
+    )?;
+    assert_eq!(rt; got.as_str(), "refused 27 -");
+    Ok(())
+}
+
+/// A makefile that includes `f1`, of which each to `f15` includes the next, and `f16`.
+fn chain(alloc: Global, last: &str) -> Result<MemFiles, Fail>
+    ensures { IfOk result (λ files. failures_of files ≡ 0) }
+{
+    let mut files = MemFiles::new(alloc);
+    files.add("makefile", b"include f1\n")?;
+    for i in 1..16 {
+        let name = format!(in alloc; "f{i}")?;
+        let next = i + 1;
+        let text = format!(in alloc; "include f{next}\n")?;
+        files.add(name.as_str(), text.as_bytes())?;
+    }
+    files.add("f16", last.as_bytes())?;
+    Ok(files)
+}
+
+#[test]
+fn includes_16_levels_deep(rt: HostRuntime) -> Result<(), Fail> {
+    let alloc = rt.alloc();
+    let asked = request(alloc, None, "")?;
+    let mut files = chain(alloc, "a:\n")?;
+    assert_eq!(rt;
+        answer(alloc, &mut files, &asked)?.as_str(),
+        "goals a\na:\n"
+    );
+    let mut files = chain(alloc, "include f17\n")?;
+    assert_eq!(rt;
+        answer(alloc, &mut files, &asked)?.as_str(),
+        "refused 33 f16:1"
+    );
     Ok(())
 }
 
 #[test]
-fn keeps_limits(rt: HostRuntime) -> Result<(), Fail> {
-    let rows = [
-        ("a:", " ", 65_534, "", "goals a\na:\n"),
-        ("\na:", " ", 65_535, "\n", "refused 2 makefile:2"),
-        ("a:\n\t", "x", 65_536, "\n", "goals a\na recipe:\n"),
-        ("a:\n\t", "x", 65_537, "\n", "refused 2 makefile:2"),
-        ("", "\t", 70_000, "\na:\n", "goals a\na:\n"),
-        ("", "x", 70_000, "\0", "refused 1 makefile:1"),
-        ("a:\n", "\tx\n", 65_535, "\n", "goals a\na recipe:\n"),
-        ("\na:\n", "\tx\n", 65_536, "", "refused 3 makefile:65538"),
-        ("", "\n", 100_000, "x", "refused 25 makefile:100001"),
-        ("", "a", 4_097, ":", "refused 27 makefile:1"),
-    ];
-    for (front, part, count, back, printed) in rows {
-        let mut text = front.to_string(rt.alloc())?;
-        text.push_str(&part.repeat(rt.alloc(), count)?)?;
-        text.push_str(back)?;
-        let got = over(rt.alloc(), text.as_bytes(), "")?;
-        assert_eq!(rt; got.as_str(), printed, "over {count} times {part:?}");
+fn answers_each_failed_read(rt: HostRuntime) -> Result<(), Fail> {
+    let alloc = rt.alloc();
+    let asked = request(alloc, None, "")?;
+    for read in 1..18 {
+        let mut files = chain(alloc, "a:\n")?;
+        files.fail_at(read);
+        let printed = match read {
+            1 => String::from_str(alloc, "refused 35 makefile")?,
+            2 => String::from_str(alloc, "refused 35 makefile:1 f1")?,
+            _ => {
+                let (before, name) = (read.saturating_sub(2), read.saturating_sub(1));
+                format!(in alloc; "refused 35 f{before}:1 f{name}")?
+            }
+        };
+        assert_eq!(rt;
+            answer(alloc, &mut files, &asked)?.as_str(),
+            printed.as_str()
+        );
+        assert_eq!(rt; files.failures(), 1);
     }
-    let name = "a".repeat(rt.alloc(), 4_096)?;
-    let text = format!(in rt.alloc(); "{name}:")?;
-    let printed = format!(in rt.alloc(); "goals {name}\n{name}:\n")?;
-    let got = over(rt.alloc(), text.as_bytes(), "")?;
-    assert!(rt; got == printed, "a name of 4,096 bytes");
+    let mut files = chain(alloc, "a:\n")?;
+    files.fail_at(18);
+    assert_eq!(rt;
+        answer(alloc, &mut files, &asked)?.as_str(),
+        "goals a\na:\n"
+    );
+    assert_eq!(rt; files.failures(), 0);
+    Ok(())
+}
+
+#[test]
+fn answers_failed_includes(rt: HostRuntime) -> Result<(), Fail> {
+    let alloc = rt.alloc();
+    for line in ["include x.mk", "-include x.mk", "include y.mk x.mk"] {
+        let mut files = MemFiles::new(alloc);
+        let text = format!(in alloc; "a:\n\n{line}\n")?;
+        files.add("makefile", text.as_bytes())?;
+        files.add("y.mk", b"")?;
+        files.add("x.mk", b"")?;
+        files.fail_at(if line.len() > 13 { 3 } else { 2 });
+        let got = answer(alloc, &mut files, &request(alloc, None, "")?)?;
+        assert_eq!(rt; got.as_str(), "refused 35 makefile:3 x.mk", "over {line:?}");
+    }
+    Ok(())
+}
+
+/// A part of a text, so often, between a front and a back; and what is printed over it.
+const REPEATED: &str = r"a:‖ ‖65534‖‖goals a¶a:¶
+¶a:‖ ‖65535‖¶‖refused 2 makefile:2
+a:¶→‖x‖65536‖¶‖goals a¶a recipe:¶
+a:¶→‖x‖65537‖¶‖refused 2 makefile:2
+‖→‖70000‖¶a:¶‖goals a¶a:¶
+a:¶‖→x¶‖65535‖¶‖goals a¶a recipe:¶
+¶a:¶‖→x¶‖65536‖‖refused 3 makefile:65538
+‖¶‖100000‖x‖refused 25 makefile:100001
+‖a‖4097‖:‖refused 27 makefile:1
+a: ‖b‖4097‖¶‖refused 27 makefile:1
+include‖ x.mk‖1023‖¶a:¶‖goals a¶a:¶
+include‖ x.mk‖1024‖¶a:¶‖refused 36 makefile:1
+-include‖ y.mk‖2000‖¶a:¶‖goals a¶a:¶";
+
+#[test]
+fn keeps_limits(rt: HostRuntime) -> Result<(), Fail> {
+    let alloc = rt.alloc();
+    for row in REPEATED.lines() {
+        let fields: Vec<&str> = row.split("‖").collect(alloc)?;
+        let [front, part, count, back, printed] = fields.as_slice() else {
+            assert!(rt; false, "no row: {row:?}");
+            continue;
+        };
+        let mut text = unfolded(alloc, front)?;
+        text.push_str(&unfolded(alloc, part)?.repeat(alloc, count.parse::<usize>()?)?)?;
+        text.push_str(&unfolded(alloc, back)?)?;
+        let mut files = MemFiles::new(alloc);
+        files.add("makefile", text.as_bytes())?;
+        files.add("x.mk", b"")?;
+        let got = answer(alloc, &mut files, &request(alloc, None, "")?)?;
+        assert_eq!(rt;
+            got.as_str(),
+            unfolded(alloc, printed)?.as_str(),
+            "over {row:?}"
+        );
+    }
+    Ok(())
+}
+
+#[test]
+fn keeps_long_names(rt: HostRuntime) -> Result<(), Fail> {
+    let alloc = rt.alloc();
+    let name = "b".repeat(alloc, 4_096)?;
+    let text = format!(in alloc; "a: {name}\n")?;
+    let printed = format!(in alloc; "goals a\n{name}:\na: {name}\n")?;
+    assert!(rt;
+        over(alloc, text.as_bytes(), "")? == printed,
+        "a name of 4,096 bytes"
+    );
+    let text = format!(in alloc; "{name}:\n")?;
+    let printed = format!(in alloc; "goals {name}\n{name}:\n")?;
+    assert!(rt;
+        over(alloc, text.as_bytes(), "")? == printed,
+        "a target of 4,096 bytes"
+    );
+    let long = "x".repeat(alloc, 70_000)?;
+    let text = format!(in alloc; "{long}\0")?;
+    assert_eq!(rt;
+        over(alloc, text.as_bytes(), "")?.as_str(),
+        "refused 1 makefile:1"
+    );
+    Ok(())
+}
+
+/// References as deep as they may be: round a name, and each in the value of another.
+#[test]
+fn keeps_to_256_levels(rt: HostRuntime) -> Result<(), Fail> {
+    let alloc = rt.alloc();
+    for (count, printed) in [
+        (256, "goals all\nX:\nall: X\n"),
+        (257, "refused 14 makefile:2"),
+    ] {
+        let mut text = String::from_str(alloc, "X = X\nall: ")?;
+        text.push_str(&"$(".repeat(alloc, count)?)?;
+        text.push_str("X")?;
+        text.push_str(&")".repeat(alloc, count)?)?;
+        assert_eq!(rt; over(alloc, text.as_bytes(), "")?.as_str(), printed);
+    }
+    for (count, printed) in [(256, "goals all\nall:\n"), (257, "refused 14 makefile:258")] {
+        let mut text = String::new(alloc);
+        for i in 1..count {
+            let next = i + 1;
+            text.push_str(&format!(in alloc; "A{i} = $(A{next})\n")?)?;
+        }
+        text.push_str(&format!(in alloc; "A{count} =\nall: $(A1)\n")?)?;
+        assert_eq!(rt; over(alloc, text.as_bytes(), "")?.as_str(), printed);
+    }
+    Ok(())
+}
+
+/// Macros of which each is the one before it, twice.
+fn doubled(alloc: Global, first: &str, op: &str, count: usize) -> Result<String, Fail> {
+    let mut text = format!(in alloc; "A0 {op} {first}\n")?;
+    for i in 0..count {
+        let next = i + 1;
+        text.push_str(&format!(in alloc; "A{next} {op} $(A{i})$(A{i})\n")?)?;
+    }
+    Ok(text)
+}
+
+#[test]
+fn keeps_to_65536_references(rt: HostRuntime) -> Result<(), Fail> {
+    let alloc = rt.alloc();
+    let rows = [
+        ("all: $(A15)$(A0)\n", "goals all\nall:\n"),
+        ("all: $(A15)$(A0)$(A0)\n", "refused 14 makefile:17"),
+    ];
+    for (line, printed) in rows {
+        let mut text = doubled(alloc, "", "=", 15)?;
+        text.push_str(line)?;
+        assert_eq!(rt; over(alloc, text.as_bytes(), "")?.as_str(), printed);
+    }
+    Ok(())
+}
+
+#[test]
+fn keeps_to_values_of_1048576_bytes(rt: HostRuntime) -> Result<(), Fail> {
+    let alloc = rt.alloc();
+    let rows = [
+        ("B ::= $(A10)\nall:\n", "goals all\nall:\n"),
+        ("B ::= $(A10)x\nall:\n", "refused 15 makefile:12"),
+        ("all:$(A10)\n", "refused 27 makefile:12"),
+        ("all:x$(A10)\n", "refused 15 makefile:12"),
+    ];
+    let first = "x".repeat(alloc, 1_024)?;
+    for (lines, printed) in rows {
+        let mut text = doubled(alloc, first.as_str(), "::=", 10)?;
+        text.push_str(lines)?;
+        assert_eq!(rt; over(alloc, text.as_bytes(), "")?.as_str(), printed);
+    }
     Ok(())
 }
 
 /// A target with so many prerequisites.
 fn star(alloc: Global, count: usize) -> Result<String, Fail> {
-    let mut text = "a:".to_string(alloc)?;
+    let mut text = "all:".to_string(alloc)?;
     for i in 0..count {
-        text.push_str(&format!(in alloc; " x{i}")?)?;
+        text.push_str(&format!(in alloc; " n{i}")?)?;
     }
     Ok(text)
 }
@@ -268,14 +607,15 @@ fn star(alloc: Global, count: usize) -> Result<String, Fail> {
 #[test]
 fn keeps_to_4096_nodes(rt: HostRuntime) -> Result<(), Fail> {
     let text = star(rt.alloc(), 4_095)?;
-    let mut printed = "goals a\n".to_string(rt.alloc())?;
+    let mut printed = "goals all\n".to_string(rt.alloc())?;
     for i in 0..4_095 {
-        printed.push_str(&format!(in rt.alloc(); "x{i}:\n")?)?;
+        printed.push_str(&format!(in rt.alloc(); "n{i}:\n")?)?;
     }
     printed.push_str(&text)?;
     printed.push_str("\n")?;
     let got = over(rt.alloc(), text.as_bytes(), "")?;
     assert!(rt; got == printed, "4,096 nodes");
+    assert_eq!(rt; got.as_str().lines().count(), 4_097);
     let text = star(rt.alloc(), 4_096)?;
     assert_eq!(rt;
         over(rt.alloc(), text.as_bytes(), "")?.as_str(),
@@ -293,42 +633,50 @@ fn names(alloc: Global, words: &[&str]) -> Result<Names, Fail> {
     Ok(Names::new(names))
 }
 
+/// What is printed of a fault of a makefile.
+fn of_read(alloc: Global, fault: ReadFault) -> Result<String, Fail> {
+    Ok(String::from_utf8(fault_text(alloc, &Fault::Read(fault))?)?)
+}
+
 #[test]
-fn writes_faults(rt: HostRuntime) -> Result<(), Fail> {
+fn writes_faults_of_makefiles(rt: HostRuntime) -> Result<(), Fail> {
     let alloc = rt.alloc();
+    let name = || Name::new(alloc, "a b");
     let place = || -> Result<Place, Fail> {
         Ok(Place {
             file: Name::new(alloc, "f")?,
             line: 65_537,
         })
     };
+    let text = of_read(
+        alloc,
+        ReadFault::Line(Name::new(alloc, "f")?, LineFault::TooManyLines(65_537)),
+    )?;
+    assert_eq!(rt; text.as_str(), "refused 3 f:65537");
+    let fault = MacroFault::Recursive(MacroName::new(alloc, b"X")?);
+    let text = of_read(alloc, ReadFault::Macro(place()?, fault))?;
+    assert_eq!(rt; text.as_str(), "refused 12 f:65537 X");
+    let text = of_read(alloc, ReadFault::Kind(place()?, KindFault::TargetMacro))?;
+    assert_eq!(rt; text.as_str(), "refused 24 f:65537");
+    let text = of_read(alloc, ReadFault::TwoRecipes(place()?, name()?))?;
+    assert_eq!(rt; text.as_str(), "refused 31 f:65537 a b");
+    let text = of_read(alloc, ReadFault::ReadFailed(Some(place()?), name()?))?;
+    assert_eq!(rt; text.as_str(), "refused 35 f:65537 a b");
+    let text = of_read(alloc, ReadFault::ReadFailed(None, name()?))?;
+    assert_eq!(rt; text.as_str(), "refused 35 a b");
+    let text = of_read(alloc, ReadFault::NoMakefile(None))?;
+    assert_eq!(rt; text.as_str(), "refused 37");
+    let text = of_read(alloc, ReadFault::NoMakefile(Some(name()?)))?;
+    assert_eq!(rt; text.as_str(), "refused 37 a b");
+    let text = of_read(alloc, ReadFault::Macro(place()?, MacroFault::Memory))?;
+    assert_eq!(rt; text.as_str(), "want of memory");
+    Ok(())
+}
+
+#[test]
+fn writes_other_faults(rt: HostRuntime) -> Result<(), Fail> {
+    let alloc = rt.alloc();
     let rows = [
-        (
-            Fault::Line(Name::new(alloc, "f")?, LineFault::NulByte(65_537)),
-            "refused 1 f:65537",
-        ),
-        (
-            Fault::Line(Name::new(alloc, "f")?, LineFault::LineTooLong(65_537)),
-            "refused 2 f:65537",
-        ),
-        (
-            Fault::Line(Name::new(alloc, "f")?, LineFault::TooManyLines(65_537)),
-            "refused 3 f:65537",
-        ),
-        (
-            Fault::Line(Name::new(alloc, "f")?, LineFault::Memory),
-            "want of memory",
-        ),
-        (Fault::BadMacroName(place()?), "refused 11 f:65537"),
-        (
-            Fault::TwoRecipes(place()?, Name::new(alloc, "a b")?),
-            "refused 31 f:65537 a b",
-        ),
-        (Fault::NoMakefile(None), "refused 37"),
-        (
-            Fault::NoMakefile(Some(Name::new(alloc, "")?)),
-            "refused 37 ",
-        ),
         (
             Fault::Graph(GraphFault::Cycle(names(alloc, &["a", "é", "a"])?)),
             "refused 42 a é a",
@@ -339,7 +687,8 @@ fn writes_faults(rt: HostRuntime) -> Result<(), Fail> {
         (Fault::Memory, "want of memory"),
     ];
     for (fault, printed) in rows {
-        assert_eq!(rt; fault_text(alloc, &fault)?.as_str(), printed);
+        let text = String::from_utf8(fault_text(alloc, &fault)?)?;
+        assert_eq!(rt; text.as_str(), printed);
     }
     Ok(())
 }

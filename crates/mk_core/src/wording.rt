@@ -1,13 +1,16 @@
 //! The printed words of a fault.
 
-ghost use Rattle.std.specs.Prelude.{◌≡◌, ◌∷◌, [], map, IfOk};
+ghost use Rattle.std.specs.Prelude.{◌≡◌, ◌∷◌, ◌++◌, [], map, IfOk, OnOk, option_to_list};
+ghost use Rattle.std.specs.List.{flat_map};
+ghost use Rattle.std.specs.Option.{option_copied};
 ghost use Rattle.std.specs.String.{string_bytes};
-ghost use Rattle.mk_core.specs.FaultText.{fault_text, graph_fault_text, line_fault_text, no_memory, place_in, place_text, refusal};
+ghost use Rattle.mk_core.specs.FaultText.{failed_read_words, fault_text, graph_fault_text, kind_fault_text, line_fault_text, macro_fault_text, no_memory, place_text, read_fault_text, refusal, refusal_at, refusal_in, refusal_of};
 
-use crate::fault::{Fault, Place};
+use crate::fault::Fault;
 use mk_graph::GraphFault;
-use mk_lines::Name;
-use mk_lines::LineFault;
+use mk_lines::{LineFault, Name};
+use mk_macros::MacroFault;
+use mk_read::{KindFault, Place, ReadFault};
 use std::alloc::{AllocError, Global};
 
 /// The file and the line.
@@ -20,51 +23,68 @@ fn place_text(alloc: Global, place: &Place) -> Result<String, AllocError>
 }
 
 /// `refused`, the number, and the words, each behind a space.
-fn refusal(alloc: Global, number: usize, words: &[&str]) -> Result<String, AllocError>
-    ensures { IfOk result (λ text. string_bytes text ≡ refusal number (map (λ word. word.now) words.now)) }
+fn refusal(alloc: Global, number: usize, words: &[&[u8]]) -> Result<Vec<u8>, AllocError>
+    ensures { IfOk result (λ text. text.items ≡ refusal number (map (λ word. word.now) words.now)) }
 {
-    let mut text = format!(in alloc; "refused {number}")?;
+    let mut text = format!(in alloc; "refused {number}")?.into_bytes();
     for word in words {
-        text.push_str(" ")?;
-        text.push_str(word)?;
+        text.push(b' ')?;
+        text.extend_from_slice(word)?;
     }
     Ok(text)
 }
 
 /// A refusal whose one word is a place.
-fn refusal_at(alloc: Global, number: usize, place: &Place) -> Result<String, AllocError>
-    ensures { IfOk result (λ text. string_bytes text ≡ refusal number (place_text place.now ∷ [])) }
+fn refusal_at(alloc: Global, number: usize, place: &Place) -> Result<Vec<u8>, AllocError>
+    ensures { IfOk result (λ text. text.items ≡ refusal_at number place.now) }
 {
     let place = place_text(alloc, place)?;
-    refusal(alloc, number, &[place.as_str()])
+    refusal(alloc, number, &[place.as_bytes()])
 }
 
-/// The line that is printed where a growth was refused.
-fn no_memory(alloc: Global) -> Result<String, AllocError>
-    ensures { IfOk result (λ text. string_bytes text ≡ no_memory) }
+/// A refusal whose words are a place and a name.
+fn refusal_of(
+    alloc: Global,
+    number: usize,
+    place: &Place,
+    name: &[u8],
+) -> Result<Vec<u8>, AllocError>
+    ensures { IfOk result (λ text. text.items ≡ refusal_of number place.now name.now) }
 {
-    String::from_str(alloc, "want of memory")
-}
-
-/// What names spell.
-fn spellings<'a>(alloc: Global, names: &'a [Name]) -> Result<Vec<&'a str>, AllocError>
-    ensures { IfOk result (λ words. map (λ word. word.now) words.items ≡ names.now) }
-{
-    names.iter().map(Name::as_str).collect(alloc)
+    let place = place_text(alloc, place)?;
+    refusal(alloc, number, &[place.as_bytes(), name])
 }
 
 /// A refusal whose one word is a line of a file.
-fn refusal_in(alloc: Global, number: usize, file: &Name, line: usize) -> Result<String, AllocError>
-    ensures { IfOk result (λ text. string_bytes text ≡ refusal number (place_in file.now line ∷ [])) }
+fn refusal_in(alloc: Global, number: usize, file: &Name, line: usize) -> Result<Vec<u8>, AllocError>
+    ensures { IfOk result (λ text. text.items ≡ refusal_in number file.now line) }
 {
     let file = file.as_str();
     let place = format!(in alloc; "{file}:{line}")?;
-    refusal(alloc, number, &[place.as_str()])
+    refusal(alloc, number, &[place.as_bytes()])
+}
+
+/// The line that is printed where a growth was refused.
+fn no_memory(alloc: Global) -> Result<Vec<u8>, AllocError>
+    ensures { IfOk result (λ text. text.items ≡ no_memory) }
+{
+    Vec::from_slice(alloc, b"want of memory")
+}
+
+/// What names spell.
+fn spellings<'a>(alloc: Global, names: &'a [Name]) -> Result<Vec<&'a [u8]>, AllocError>
+    ensures { IfOk result (λ words. map (λ word. word.now) words.items ≡ names.now) }
+{
+    let mut words = Vec::new(alloc);
+    for name in names {
+        words.push(name.as_str().as_bytes())?;
+    }
+    Ok(words)
 }
 
 /// The line that is printed of the fault of a line.
-fn line_fault_text(alloc: Global, file: &Name, fault: &LineFault) -> Result<String, AllocError>
-    ensures { IfOk result (λ text. string_bytes text ≡ line_fault_text file.now fault.now) }
+fn line_fault_text(alloc: Global, file: &Name, fault: &LineFault) -> Result<Vec<u8>, AllocError>
+    ensures { IfOk result (λ text. text.items ≡ line_fault_text file.now fault.now) }
 {
     match fault {
         LineFault::NulByte(line) => refusal_in(alloc, 1, file, *line),
@@ -74,9 +94,93 @@ fn line_fault_text(alloc: Global, file: &Name, fault: &LineFault) -> Result<Stri
     }
 }
 
+/// The line that is printed of the fault of a macro.
+fn macro_fault_text(alloc: Global, place: &Place, fault: &MacroFault) -> Result<Vec<u8>, AllocError>
+    ensures { IfOk result (λ text. text.items ≡ macro_fault_text place.now fault.now) }
+{
+    match fault {
+        MacroFault::BadMacroName => refusal_at(alloc, 11, place),
+        MacroFault::Recursive(name) => refusal_of(alloc, 12, place, name.as_bytes()),
+        MacroFault::Unclosed => refusal_at(alloc, 13, place),
+        MacroFault::TooManyReferences => refusal_at(alloc, 14, place),
+        MacroFault::ValueTooLong => refusal_at(alloc, 15, place),
+        MacroFault::LoneDollar => refusal_at(alloc, 16, place),
+        MacroFault::MemberMacro => refusal_at(alloc, 17, place),
+        MacroFault::Memory => no_memory(alloc),
+    }
+}
+
+/// The line that is printed of a plain line that is of no kind.
+fn kind_fault_text(alloc: Global, place: &Place, fault: &KindFault) -> Result<Vec<u8>, AllocError>
+    ensures { IfOk result (λ text. text.items ≡ kind_fault_text place.now fault.now) }
+{
+    match fault {
+        KindFault::ShellAssign => refusal_at(alloc, 21, place),
+        KindFault::ColonAssign => refusal_at(alloc, 22, place),
+        KindFault::DoubleColon => refusal_at(alloc, 23, place),
+        KindFault::TargetMacro => refusal_at(alloc, 24, place),
+        KindFault::NotALine => refusal_at(alloc, 25, place),
+        KindFault::Memory => no_memory(alloc),
+    }
+}
+
+/// The line that is printed where a read failed, at an include line or without one.
+fn failed_read_text(
+    alloc: Global,
+    place: &Option<Place>,
+    name: &Name,
+) -> Result<Vec<u8>, AllocError>
+    ensures { IfOk result (λ text. text.items ≡ refusal 35 (failed_read_words place.now name.now)) }
+{
+    match place {
+        Some(place) => refusal_of(alloc, 35, place, name.as_str().as_bytes()),
+        None => refusal(alloc, 35, &[name.as_str().as_bytes()]),
+    }
+}
+
+/// The line that is printed where the named makefile isn't there, or neither usual one is.
+fn no_makefile_text(alloc: Global, name: &Option<Name>) -> Result<Vec<u8>, AllocError>
+    ensures { IfOk result (λ text. text.items ≡ refusal 37 (option_to_list name.now)) }
+{
+    match name {
+        Some(name) => refusal(alloc, 37, &[name.as_str().as_bytes()]),
+        None => refusal(alloc, 37, &[]),
+    }
+}
+
+/// The line that is printed of a makefile's fault.
+#[tactic(auto, unfolding(crate::specs::FaultText::read_fault_text))]
+fn read_fault_text(alloc: Global, fault: &ReadFault) -> Result<Vec<u8>, AllocError>
+    ensures { IfOk result (λ text. text.items ≡ read_fault_text fault.now) }
+{
+    match fault {
+        ReadFault::Line(file, fault) => line_fault_text(alloc, file, fault),
+        ReadFault::Macro(place, fault) => macro_fault_text(alloc, place, fault),
+        ReadFault::Kind(place, fault) => kind_fault_text(alloc, place, fault),
+        ReadFault::StrayCommand(place) => refusal_at(alloc, 26, place),
+        ReadFault::BadName(place) => refusal_at(alloc, 27, place),
+        ReadFault::BadMakefileName(name) => refusal(alloc, 27, &[name.as_str().as_bytes()]),
+        ReadFault::ArchiveMember(place) => refusal_at(alloc, 28, place),
+        ReadFault::UnknownSpecial(place) => refusal_at(alloc, 29, place),
+        ReadFault::SpecialShape(place) => refusal_at(alloc, 30, place),
+        ReadFault::TwoRecipes(place, target) => {
+            refusal_of(alloc, 31, place, target.as_str().as_bytes())
+        }
+        ReadFault::IncludeMissing(place, name) => {
+            refusal_of(alloc, 32, place, name.as_str().as_bytes())
+        }
+        ReadFault::IncludeDepth(place) => refusal_at(alloc, 33, place),
+        ReadFault::IncludeEmpty(place) => refusal_at(alloc, 34, place),
+        ReadFault::ReadFailed(place, name) => failed_read_text(alloc, place, name),
+        ReadFault::TooManyFiles(place) => refusal_at(alloc, 36, place),
+        ReadFault::NoMakefile(name) => no_makefile_text(alloc, name),
+        ReadFault::Memory => no_memory(alloc),
+    }
+}
+
 /// The line that is printed of a graph's fault.
-fn graph_fault_text(alloc: Global, fault: &GraphFault) -> Result<String, AllocError>
-    ensures { IfOk result (λ text. string_bytes text ≡ graph_fault_text fault.now) }
+fn graph_fault_text(alloc: Global, fault: &GraphFault) -> Result<Vec<u8>, AllocError>
+    ensures { IfOk result (λ text. text.items ≡ graph_fault_text fault.now) }
 {
     match fault {
         GraphFault::Cycle(names) => {
@@ -91,26 +195,13 @@ fn graph_fault_text(alloc: Global, fault: &GraphFault) -> Result<String, AllocEr
 /// The line that is printed of a fault, without a newline: `refused`, the number, then the words;
 /// of want of memory `want of memory`.
 #[tactic(auto, unfolding(crate::specs::FaultText::fault_text))]
-pub fn fault_text(alloc: Global, fault: &Fault) -> Result<String, AllocError>
-    ensures { IfOk result (λ text. string_bytes text ≡ fault_text fault.now) }
+pub fn fault_text(alloc: Global, fault: &Fault) -> Result<Vec<u8>, AllocError>
+    ensures { IfOk result (λ text. text.items ≡ fault_text fault.now) }
 {
     match fault {
-        Fault::Line(file, fault) => line_fault_text(alloc, file, fault),
-        Fault::BadMacroName(place) => refusal_at(alloc, 11, place),
-        Fault::DoubleColon(place) => refusal_at(alloc, 23, place),
-        Fault::NotALine(place) => refusal_at(alloc, 25, place),
-        Fault::StrayCommand(place) => refusal_at(alloc, 26, place),
-        Fault::BadName(place) => refusal_at(alloc, 27, place),
-        Fault::BadMakefileName(name) => refusal(alloc, 27, &[name.as_str()]),
-        Fault::ArchiveMember(place) => refusal_at(alloc, 28, place),
-        Fault::UnknownSpecial(place) => refusal_at(alloc, 29, place),
-        Fault::TwoRecipes(place, target) => {
-            let place = place_text(alloc, place)?;
-            refusal(alloc, 31, &[place.as_str(), target.as_str()])
-        }
-        Fault::ReadFailed(name) => refusal(alloc, 35, &[name.as_str()]),
-        Fault::NoMakefile(None) => refusal(alloc, 37, &[]),
-        Fault::NoMakefile(Some(name)) => refusal(alloc, 37, &[name.as_str()]),
+        Fault::Read(fault) => read_fault_text(alloc, fault),
+        Fault::BadGoal(place) => refusal_at(alloc, 27, place),
+        Fault::GoalIsMember(place) => refusal_at(alloc, 28, place),
         Fault::NoGoal => refusal(alloc, 44, &[]),
         Fault::Graph(fault) => graph_fault_text(alloc, fault),
         Fault::Memory => no_memory(alloc),

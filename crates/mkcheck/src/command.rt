@@ -27,7 +27,9 @@ fn words_argument<'a>(alloc: Global) -> Arg<'a>
     Arg::new(alloc, "words")
         .num_args(0..)
         .value_name("WORD")
-        .help("A goal; without one the first target is the goal")
+        .help(
+            "A macro operand, where it has an =, else a goal; without a goal the first target is one",
+        )
 }
 
 fn named_graph<'a>(alloc: Global) -> Command<'a>

@@ -48,9 +48,8 @@ fn shown(alloc: Global, answer: Result<Vec<u8>, Fault>) -> Result<Outcome, Alloc
             if fault.is_want_of_memory() {
                 return Err(AllocError);
             }
-            let mut line = fault_text(alloc, &fault)?;
-            line.push('\n')?;
-            let out = line.into_bytes();
+            let mut out = fault_text(alloc, &fault)?;
+            out.push(b'\n')?;
             Ok(Outcome {
                 out,
                 err,

@@ -47,6 +47,8 @@ fn prints_the_graph(rt: HostRuntime) -> Result<(), Fail> {
         &["graph", "-f", "makefile", "--", "a.o"],
     )?;
     expect(&rt, outcome, "goals a.o\na.c:\na.o recipe: a.c\n", 0);
+    let outcome = ran(rt.alloc(), "a: $(X)\nb:\n", &["graph", "b", "X=c", "a"])?;
+    expect(&rt, outcome, "goals b a\nb:\nc:\na: c\n", 0);
     Ok(())
 }
 
@@ -56,8 +58,10 @@ fn prints_refusals(rt: HostRuntime) -> Result<(), Fail> {
     expect(&rt, outcome, "refused 42 c d c\n", 2);
     let outcome = ran(rt.alloc(), "", &["graph"])?;
     expect(&rt, outcome, "refused 44\n", 2);
-    let outcome = ran(rt.alloc(), PROGRAM, &["graph", "CC=cc"])?;
+    let outcome = ran(rt.alloc(), PROGRAM, &["graph", "CC+=cc"])?;
     expect(&rt, outcome, "refused 11 operand:1\n", 2);
+    let outcome = ran(rt.alloc(), "a: b\nV != date\n", &["graph"])?;
+    expect(&rt, outcome, "refused 21 makefile:2\n", 2);
     let outcome = ran(rt.alloc(), PROGRAM, &["graph", "-f", "-"])?;
     expect(&rt, outcome, "refused 27 -\n", 2);
     Ok(())

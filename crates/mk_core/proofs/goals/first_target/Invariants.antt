@@ -1,8 +1,8 @@
-use Rattle.std.proofs.Common.{◌≡◌, map, drop}
-use Rattle.mk_core.specs.Rules.{rule_view}
-use Rattle.mk_core.specs.Goals.{first_target}
+use Rattle.std.proofs.Common.{◌≡◌, drop}
+use Rattle.std.specs.Prelude.{find}
+use Rattle.mk_core.specs.Goals.{is_plain_target, own_targets}
 use Rattle.mk_core.proofs.goals.first_target.Given as goal
 
 -- the rule lines that are left decide
 abbrev pub invariant-loop-rule : goal.invariant-loop-rule
-invariant-loop-rule l = first_target (map rule_view (drop l.rule-index l.rules)) ≡ first_target (map rule_view l.rules)
+invariant-loop-rule l = find (is_plain_target l.table.suffixes) (own_targets (drop l.rule-index l.rules)) ≡ find (is_plain_target l.table.suffixes) (own_targets l.rules)

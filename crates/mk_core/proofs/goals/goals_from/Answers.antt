@@ -4,7 +4,7 @@ use Rattle.std.proofs.lemmas.Result.{err_from_is_err_and}
 use Rattle.mk_core.specs.Steps.{Fails}
 use Rattle.mk_core.specs.Goals.{goal_of}
 use Rattle.mk_core.proofs.NameLists.{texts}
-use Rattle.mk_core.proofs.GoalLists.{goal_place, goals_more, goals_fail, goals_end}
+use Rattle.mk_core.proofs.GoalLists.{goals_more, goals_fail, goals_end}
 use Rattle.mk_core.proofs.goals.goals_from.Goals as goal
 
 pub loop-i-preserved : goal.loop-i-preserved
@@ -12,7 +12,7 @@ loop-i-preserved c =
     let lt : c.loop-i.i < length c.args.goals.now = omega arith in
     let word = c.as_str.ensures ∙ c.index-goals-i.is in
     rw (c.in_ok-push.ensures.items, map_push)
-    (goals_more (texts c.loop-i.names.items) c.args.goals.now c.loop-i.i c.index-goals-i.result _ _ (ap (goal_of (goal_place (c.loop-i.i + 1))) (sym word) ∙ c.in_ok-goal_of.ensures.exact) c.loop-i.invariant lt)
+    (goals_more (texts c.loop-i.names.items) c.args.goals.now c.loop-i.i c.index-goals-i.result _ _ (ap (goal_of (c.loop-i.i + 1)) (sym word) ∙ c.in_ok-goal_of.ensures.exact) c.loop-i.invariant lt)
 
 pub returns-in_err-goal_of-clause-exact : goal.returns-in_err-goal_of-clause-exact
 returns-in_err-goal_of-clause-exact c =
@@ -20,7 +20,7 @@ returns-in_err-goal_of-clause-exact c =
     let word = c.as_str.ensures ∙ c.index-goals-i.is in
     let p = err_from_is_err_and c.from_residual.result c.from_residual.ensures.1 in
     rw (p.1, p.2)
-    (goals_fail (texts c.loop-i.names.items) c.args.goals.now c.loop-i.i c.index-goals-i.result _ _ (subst (λ (w : List ℕ). Fails c.in_err-goal_of.field-0.0 (goal_of (goal_place (c.loop-i.i + 1)) w)) word c.in_err-goal_of.ensures.exact) c.loop-i.invariant lt)
+    (goals_fail (texts c.loop-i.names.items) c.args.goals.now c.loop-i.i c.index-goals-i.result _ _ (subst (λ (w : List ℕ). Fails c.in_err-goal_of.field-0.0 (goal_of (c.loop-i.i + 1) w)) word c.in_err-goal_of.ensures.exact) c.loop-i.invariant lt)
 
 pub returns-clause-exact : goal.returns-clause-exact
 returns-clause-exact c =

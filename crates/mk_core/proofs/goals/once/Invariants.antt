@@ -1,5 +1,5 @@
 use Rattle.std.proofs.Common.{◌≡◌, drop}
-use Rattle.mk_core.specs.Goals.{once}
+use Rattle.mk_read.specs.Names.{once}
 use Rattle.mk_core.proofs.NameLists.{texts}
 use Rattle.mk_core.proofs.Once.{and_new}
 use Rattle.mk_core.proofs.goals.once.Given as goal

@@ -1,9 +1,9 @@
-use Rattle.std.proofs.Common.{◌≡◌, ◌∙◌, ◌++◌, ◌∷◌, [], cond, false, true, map, reverse, ap, sym, arith}
+use Rattle.std.proofs.Common.{◌≡◌, ◌∙◌, ◌++◌, ◌∷◌, [], cond, false, true, reverse, ap, sym, arith}
 use Rattle.std.proofs.lemmas.Bool.{not-false, not-true}
 use Rattle.std.proofs.lemmas.List.{nil_from_length}
-use Rattle.mk_core.specs.Names.{has_name}
-use Rattle.mk_core.specs.Rules.{rule_view}
-use Rattle.mk_core.specs.Table.{needs_in}
+use Rattle.mk_read.specs.Names.{has_name}
+use Rattle.mk_core.specs.Selection.{prerequisites_of}
+use Rattle.mk_core.proofs.Needs.{covered, targets_in}
 use Rattle.mk_core.proofs.Walking.{walk_start, walk_known, walk_new, walk_end, less_new}
 use Rattle.mk_core.proofs.selection.met_names.Goals as goal
 
@@ -17,14 +17,14 @@ loop-name-preserved c =
     let grown : c.insert.new.self ≡ c.loop-name.met ++ name.now ∷ [] = c.in_ok-insert.ensures.ok ∙ ap (λ b. cond b c.loop-name.met (c.loop-name.met ++ name.now ∷ [])) unmet in
     let pushed : c.extend_from_slice.new.self.items ≡ c.pop.new.self.items ++ reverse c.in_ok-words.words.items =
     c.in_ok-extend_from_slice.ensures.items ∙ ap (λ ws. c.pop.new.self.items ++ ws) (c.deref.ensures.value ∙ c.reverse-in-Some.ensures.items) in
-    walk_new (needs_in (map rule_view c.args.rules.now) c.args.table.now) c.loop-name.met c.insert.new.self _ c.loop-name.todo.items c.pop.new.self.items c.in_ok-words.words.items c.extend_from_slice.new.self.items name c.in-Some.ensures.items unmet grown c.in_ok-words.ensures pushed c.loop-name.invariant
+    walk_new (prerequisites_of c.args.table.now) c.loop-name.met c.insert.new.self _ c.loop-name.todo.items c.pop.new.self.items c.in_ok-words.words.items c.extend_from_slice.new.self.items name c.in-Some.ensures.items unmet grown c.in_ok-words.ensures pushed c.loop-name.invariant
 
 pub loop-name-preserved-then-not-branch : goal.loop-name-preserved-then-not-branch
 loop-name-preserved-then-not-branch c =
     let name = c.in-Some.name in
     let there : has_name c.loop-name.met name.now ≡ true = not-false _ (sym c.in_ok-insert.ensures.new ∙ c.if-not-branch.true) in
     let same : c.insert.new.self ≡ c.loop-name.met = c.in_ok-insert.ensures.ok ∙ ap (λ b. cond b c.loop-name.met (c.loop-name.met ++ name.now ∷ [])) there in
-    walk_known (needs_in (map rule_view c.args.rules.now) c.args.table.now) c.loop-name.met c.insert.new.self _ c.loop-name.todo.items c.pop.new.self.items name c.in-Some.ensures.items there same c.loop-name.invariant
+    walk_known (prerequisites_of c.args.table.now) c.loop-name.met c.insert.new.self _ c.loop-name.todo.items c.pop.new.self.items name c.in-Some.ensures.items there same c.loop-name.invariant
 
 pub loop-name-smaller : goal.loop-name-smaller
 loop-name-smaller c =
@@ -33,7 +33,7 @@ loop-name-smaller c =
     let grown : c.insert.new.self ≡ c.loop-name.met ++ name.now ∷ [] = c.in_ok-insert.ensures.ok ∙ ap (λ b. cond b c.loop-name.met (c.loop-name.met ++ name.now ∷ [])) unmet in
     let pushed : c.extend_from_slice.new.self.items ≡ c.pop.new.self.items ++ reverse c.in_ok-words.words.items =
     c.in_ok-extend_from_slice.ensures.items ∙ ap (λ ws. c.pop.new.self.items ++ ws) (c.deref.ensures.value ∙ c.reverse-in-Some.ensures.items) in
-    less_new (map rule_view c.args.rules.now) c.loop-name.met c.insert.new.self c.args.table.now.entries c.loop-name.todo.items c.pop.new.self.items c.in_ok-words.words.items c.extend_from_slice.new.self.items name c.in-Some.ensures.items unmet grown c.in_ok-words.ensures pushed
+    less_new (prerequisites_of c.args.table.now) (targets_in c.args.table.now.rules) (covered c.args.table.now) c.loop-name.met c.insert.new.self c.loop-name.todo.items c.pop.new.self.items c.in_ok-words.words.items c.extend_from_slice.new.self.items name c.in-Some.ensures.items unmet grown c.in_ok-words.ensures pushed
 
 pub returns : goal.returns
 returns c =

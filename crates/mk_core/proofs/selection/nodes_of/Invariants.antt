@@ -1,9 +1,8 @@
 use Rattle.std.proofs.Common.{◌≡◌, map, take}
-use Rattle.mk_core.specs.Rules.{rule_view}
-use Rattle.mk_core.specs.Table.{node_in}
+use Rattle.mk_core.specs.Selection.{node_of}
 use Rattle.mk_core.proofs.NameLists.{texts}
 use Rattle.mk_core.proofs.selection.nodes_of.Given as goal
 
 -- the nodes of the names so far
 abbrev pub invariant-loop-name : goal.invariant-loop-name
-invariant-loop-name l = l.nodes.items ≡ map (node_in (map rule_view l.rules) l.table l.met) (texts (take l.name-index l.name-items))
+invariant-loop-name l = l.nodes.items ≡ map (node_of l.table l.met) (texts (take l.name-index l.name-items))

@@ -1,6 +1,6 @@
 use Rattle.std.proofs.Common.{List, ℕ, not, sym, ap, ◌∙◌}
 use Rattle.std.specs.Str.{bytes_eq}
-use Rattle.mk_core.specs.Names.{has_name}
+use Rattle.mk_read.specs.Names.{has_name}
 use Rattle.mk_core.proofs.ListTests.{list_any_map}
 use Rattle.mk_core.proofs.NameSets.{inserted}
 use Rattle.mk_core.proofs.name_set.NameSet.insert.Goals as goal

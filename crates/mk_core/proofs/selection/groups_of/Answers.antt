@@ -1,0 +1,16 @@
+use Rattle.std.proofs.Common.{◌≡◌, ◌∙◌, ◌∷◌, [], List, ℕ, Bool, sym, ap, map}
+use Rattle.mk_read.specs.Needs.{groups}
+use Rattle.mk_core.specs.Names.{number_of}
+use Rattle.mk_core.specs.Selection.{numbered, prerequisites_of, words_for}
+use Rattle.mk_core.proofs.Needs.{single_numbered}
+use Rattle.mk_core.proofs.NameLists.{texts}
+use Rattle.mk_core.proofs.selection.groups_of.Goals as goal
+
+pub returns-then-not_parallel : goal.returns-then-not_parallel
+returns-then-not_parallel c =
+    let met = c.args.met.now in
+    let words = words_for c.args.table.now c.args.name.now in
+    let apart : Bool → List (List ℕ) = λ b. numbered met (groups b words) in
+    let names : texts c.deref.result.now ≡ prerequisites_of c.args.table.now c.args.name.now = ap texts c.deref.ensures.value ∙ c.in_ok-names.ensures in
+    c.new.ensures ∙ (c.in_ok-single_groups.ensures ∙ (ap (λ (ns : List (List ℕ)). map (λ name. number_of met name ∷ []) ns) names
+    ∙ (sym (single_numbered met (prerequisites_of c.args.table.now c.args.name.now)) ∙ sym (ap apart (sym c.not_parallel.ensures ∙ c.if-not_parallel.true)))))
