@@ -13,3 +13,5 @@ pub mod GivenLaws
 pub mod OnceLaws
 pub mod NoJson
 pub mod Formats
+pub mod Taken
+pub mod Apart

@@ -30,8 +30,8 @@ fn is_prefix(text: &[u8]) -> bool
 }
 
 /// Whether a name begins with one of the prefixes.
-fn is_under(prefixes: &[&str], name: &str) -> bool
-    ensures { result ≡ is_under (map (λ prefix. prefix.now) prefixes.now) name.now }
+fn is_under(prefixes: &[String], name: &str) -> bool
+    ensures { result ≡ is_under (map string_bytes prefixes.now) name.now }
 {
     let bytes = name.as_bytes();
     prefixes
@@ -40,15 +40,26 @@ fn is_under(prefixes: &[&str], name: &str) -> bool
 }
 
 /// Whether texts are plain paths.
-fn are_paths(texts: &[&str]) -> bool
-    ensures { result ≡ list_all is_plain (map (λ text. text.now) texts.now) }
+fn are_paths(texts: &[String]) -> bool
+    ensures { result ≡ list_all is_plain (map string_bytes texts.now) }
 {
     texts.iter().all(|text| is_plain_path(text.as_bytes()))
 }
 
+/// Whether a name is a plain path.
+fn is_path(key: Key, name: &str) -> Result<(), FootFault>
+    ensures { Gives (λ done. done) result (are_plain key (name.now ∷ [])) }
+{
+    if is_plain_path(name.as_bytes()) {
+        Ok(())
+    } else {
+        Err(FootFault::BadName(key))
+    }
+}
+
 /// Whether names are plain paths.
-fn are_plain(key: Key, names: &[&str]) -> Result<(), FootFault>
-    ensures { Gives (λ done. done) result (are_plain key (map (λ name. name.now) names.now)) }
+fn are_plain(key: Key, names: &[String]) -> Result<(), FootFault>
+    ensures { Gives (λ done. done) result (are_plain key (map string_bytes names.now)) }
 {
     if are_paths(names) {
         Ok(())
@@ -58,8 +69,8 @@ fn are_plain(key: Key, names: &[&str]) -> Result<(), FootFault>
 }
 
 /// Whether texts are prefixes.
-fn are_prefixes(texts: &[&str]) -> bool
-    ensures { result ≡ list_all is_prefix (map (λ text. text.now) texts.now) }
+fn are_prefixes(texts: &[String]) -> bool
+    ensures { result ≡ list_all is_prefix (map string_bytes texts.now) }
 {
     texts.iter().all(|text| is_prefix(text.as_bytes()))
 }
@@ -69,7 +80,7 @@ fn are_prefixes(texts: &[&str]) -> bool
 fn entry_is_plain(entry: &Entry) -> Result<(), FootFault>
     ensures { Gives (λ done. done) result (entry_is_plain entry.now) }
 {
-    are_plain(Key::Target, &[entry.target])?;
+    is_path(Key::Target, entry.target.as_str())?;
     are_plain(Key::Reads, &entry.reads)?;
     are_plain(Key::Writes, &entry.writes)
 }
@@ -136,13 +147,14 @@ fn names_are_plain(file: &Footprints) -> Result<(), FootFault>
 }
 
 /// The first target that comes a second time.
-fn first_again<'a>(alloc: Global, entries: &[Entry<'a>]) -> Result<Option<&'a str>, FootFault>
+fn first_again(alloc: Global, entries: &[Entry]) -> Result<Option<&str>, FootFault>
     ensures { Gives (λ found. option_map (λ name. name.now) found) result (Ok (first_again [] (map (λ entry. entry.target) entries.now))) }
 {
     let mut seen = NameSet::with_capacity(alloc, entries.len())?;
     for entry in entries {
-        if !seen.insert(entry.target)? {
-            return Ok(Some(entry.target));
+        let target = entry.target.as_str();
+        if !seen.insert(target)? {
+            return Ok(Some(target));
         }
     }
     Ok(None)
@@ -169,12 +181,12 @@ fn all_targets_differ(alloc: Global, groups: &[Group]) -> Result<(), FootFault>
 }
 
 /// The first source under a fixed prefix.
-fn first_fixed<'a>(fixed: &[&str], sources: &[&'a str]) -> Option<&'a str>
-    ensures { option_map (λ name. name.now) result ≡ find (is_under (map (λ prefix. prefix.now) fixed.now)) (map (λ source. source.now) sources.now) }
+fn first_fixed<'a>(fixed: &[String], sources: &'a [String]) -> Option<&'a str>
+    ensures { option_map (λ name. name.now) result ≡ find (is_under (map string_bytes fixed.now)) (map string_bytes sources.now) }
 {
     for source in sources {
         if is_under(fixed, source) {
-            return Some(source);
+            return Some(source.as_str());
         }
     }
     None
@@ -191,8 +203,8 @@ fn sources_are_free(alloc: Global, file: &Footprints) -> Result<(), FootFault>
 }
 
 /// Whether each of these names is among those.
-fn are_listed(names: &NameTable, shared: &[&str]) -> bool
-    ensures { result ≡ list_all (has_name names.now) (map (λ name. name.now) shared.now) }
+fn are_listed(names: &NameTable, shared: &[String]) -> bool
+    ensures { result ≡ list_all (has_name names.now) (map string_bytes shared.now) }
 {
     shared.iter().all(|name| names.contains(name))
 }
@@ -245,14 +257,14 @@ pub fn test_all(alloc: Global, file: &Footprints, names: &NameTable) -> Result<(
 }
 
 /// Whether two lists hold the same names in the same order.
-fn same_names(goals: &[String], own: &[&str]) -> bool
-    ensures { result ≡ same_names (map string_bytes goals.now) (map (λ name. name.now) own.now) }
+fn same_names(goals: &[String], own: &[String]) -> bool
+    ensures { result ≡ same_names (map string_bytes goals.now) (map string_bytes own.now) }
 {
     if goals.len() != own.len() {
         return false;
     }
     for (i, goal) in goals.iter().enumerate() {
-        if goal.as_str() != own[i] {
+        if goal.as_str() != own[i].as_str() {
             return false;
         }
     }
@@ -270,14 +282,11 @@ fn serves(goals: &[String], group: &Group) -> bool
 }
 
 /// The first group that serves the goals.
-pub fn group_for<'b, 'a>(
-    goals: &[String],
-    groups: &'b [Group<'a>],
-) -> Result<&'b Group<'a>, FootFault>
-    ensures { Gives (λ group. group.now) result (group_for (map string_bytes goals.now) groups.now) }
+pub fn group_for(goals: &[String], groups: Vec<Group>) -> Result<Group, FootFault>
+    ensures { Gives (λ group. group) result (group_for (map string_bytes goals.now) groups.items) }
 {
     for group in groups {
-        if serves(goals, group) {
+        if serves(goals, &group) {
             return Ok(group);
         }
     }

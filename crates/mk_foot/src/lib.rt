@@ -4,6 +4,7 @@
 mod book;
 mod checks;
 mod fault;
+mod fields;
 mod format;
 mod key;
 mod kinds;
