@@ -15,3 +15,5 @@ pub mod NoJson
 pub mod Formats
 pub mod Taken
 pub mod Apart
+pub mod Fronts
+pub mod Texts

@@ -12,9 +12,10 @@ ghost use Rattle.mk_foot.specs.Checks.{are_plain, entry_is_plain, goals_are_plai
 use crate::fault::FootFault;
 use crate::key::Key;
 use crate::name::Name;
-use crate::name_set::NameSet;
+use crate::name_set::{NameSet, clones_of};
 use crate::name_table::NameTable;
 use crate::parts::{Entry, Footprints, Group, SharedList};
+use crate::prefixes::Prefixes;
 use mk_lines::is_plain_path;
 use std::alloc::Global;
 
@@ -27,16 +28,6 @@ fn is_prefix(text: &[u8]) -> bool
         [path @ .., b'/'] => is_plain_path(path),
         _ => false,
     }
-}
-
-/// Whether a name begins with one of the prefixes.
-fn is_under(prefixes: &[String], name: &str) -> bool
-    ensures { result ≡ is_under (map string_bytes prefixes.now) name.now }
-{
-    let bytes = name.as_bytes();
-    prefixes
-        .iter()
-        .any(|prefix| bytes.starts_with(prefix.as_bytes()))
 }
 
 /// Whether texts are plain paths.
@@ -181,11 +172,11 @@ fn all_targets_differ(alloc: Global, groups: &[Group]) -> Result<(), FootFault>
 }
 
 /// The first source under a fixed prefix.
-fn first_fixed<'a>(fixed: &[String], sources: &'a [String]) -> Option<&'a str>
-    ensures { option_map (λ name. name.now) result ≡ find (is_under (map string_bytes fixed.now)) (map string_bytes sources.now) }
+fn first_fixed<'a>(fixed: &Prefixes, sources: &'a [String]) -> Option<&'a str>
+    ensures { option_map (λ name. name.now) result ≡ find (is_under fixed.now) (map string_bytes sources.now) }
 {
     for source in sources {
-        if is_under(fixed, source) {
+        if fixed.is_under(source.as_str()) {
             return Some(source.as_str());
         }
     }
@@ -196,7 +187,8 @@ fn first_fixed<'a>(fixed: &[String], sources: &'a [String]) -> Option<&'a str>
 fn sources_are_free(alloc: Global, file: &Footprints) -> Result<(), FootFault>
     ensures { Gives (λ done. done) result (sources_are_free file.now) }
 {
-    match first_fixed(&file.fixed, &file.sources) {
+    let fixed = Prefixes::new(alloc, clones_of(alloc, &file.fixed)?)?;
+    match first_fixed(&fixed, &file.sources) {
         Some(source) => Err(FootFault::SourceIsFixed(Name::new(alloc, source)?)),
         None => Ok(()),
     }

@@ -13,6 +13,7 @@ mod name;
 mod name_set;
 mod name_table;
 mod parts;
+mod prefixes;
 mod reading;
 mod setting;
 mod shapes;

@@ -69,6 +69,17 @@ pub fn copied(alloc: Global, texts: &[&str]) -> Result<Vec<String>, AllocError>
     Ok(copies)
 }
 
+/// Clones of names.
+pub fn clones_of(alloc: Global, names: &[String]) -> Result<Vec<String>, AllocError>
+    ensures { IfOk result (λ clones. map string_bytes clones.items ≡ map string_bytes names.now) }
+{
+    let mut clones = Vec::with_capacity(alloc, names.len())?;
+    for name in names {
+        clones.push(name.clone()?)?;
+    }
+    Ok(clones)
+}
+
 /// Whether no name comes twice.
 fn are_apart(alloc: Global, names: &[String]) -> Result<bool, AllocError>
     ensures { IfOk result (λ apart. apart ≡ true → once (map string_bytes names.now) ≡ map string_bytes names.now) }

@@ -5,4 +5,4 @@ use Rattle.mk_foot.proofs.checks.first_fixed.Given as goal
 
 -- the first one is among the sources that are left
 abbrev pub invariant-loop-source : goal.invariant-loop-source
-invariant-loop-source l = find (is_under (map string_bytes l.fixed)) (map string_bytes (drop l.source-index l.sources)) ≡ find (is_under (map string_bytes l.fixed)) (map string_bytes l.sources)
+invariant-loop-source l = find (is_under l.fixed) (map string_bytes (drop l.source-index l.sources)) ≡ find (is_under l.fixed) (map string_bytes l.sources)
