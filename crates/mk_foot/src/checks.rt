@@ -16,7 +16,7 @@ use crate::name_set::{NameSet, clones_of};
 use crate::name_table::NameTable;
 use crate::parts::{Entry, Footprints, Group, SharedList};
 use crate::prefixes::Prefixes;
-use mk_lines::is_plain_path;
+use mk_lines::{is_plain_path, is_plain_text_path};
 use std::alloc::Global;
 
 /// Whether a text is `/`, or a plain path with `/` behind it.
@@ -34,14 +34,14 @@ fn is_prefix(text: &[u8]) -> bool
 fn are_paths(texts: &[String]) -> bool
     ensures { result ≡ list_all is_plain (map string_bytes texts.now) }
 {
-    texts.iter().all(|text| is_plain_path(text.as_bytes()))
+    texts.iter().all(|text| is_plain_text_path(text.as_str()))
 }
 
 /// Whether a name is a plain path.
 fn is_path(key: Key, name: &str) -> Result<(), FootFault>
     ensures { Gives (λ done. done) result (are_plain key (name.now ∷ [])) }
 {
-    if is_plain_path(name.as_bytes()) {
+    if is_plain_text_path(name) {
         Ok(())
     } else {
         Err(FootFault::BadName(key))

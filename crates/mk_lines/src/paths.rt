@@ -108,3 +108,12 @@ pub fn is_plain_path(name: &[u8]) -> bool
 {
     has_path_shape(name) && str::from_utf8(name).is_ok()
 }
+
+/// Whether a text is a plain path. It answers as `is_plain_path` of the text's bytes, which need not
+/// be looked at again to be UTF-8.
+#[tactic(auto, unfolding(crate::specs::Paths::is_plain_path))]
+pub fn is_plain_text_path(name: &str) -> bool
+    ensures { result ≡ is_plain_path name.now }
+{
+    has_path_shape(name.as_bytes())
+}
