@@ -1,11 +1,10 @@
 -- Paths that are seen to have the shape of one by a look at each byte.
-use Rattle.std.proofs.Common.{◌≡◌, ℕ, Bool, true, false, not, ◌&&◌, ◌||◌, ◌==◌, cond, eqb, List, [], ◌∷◌, ◌-◌, ◌≤◌, length, get_or, take, drop, refl, sym, ap, ◌∙◌, true≢false, arith}
+use Rattle.std.proofs.Common.{◌≡◌, ℕ, Bool, true, false, not, ◌&&◌, ◌||◌, ◌==◌, cond, List, [], ◌∷◌, ◌-◌, ◌≤◌, length, get_or, take, drop, refl, sym, ap, ◌∙◌, true≢false, arith}
 use Rattle.std.specs.List.{slice_split, onto_first, list_all}
-use Rattle.std.specs.Str.{bytes_eq}
 use Rattle.std.proofs.lemmas.Bool.{ne_eqb}
 use Rattle.std.proofs.lemmas.List.{drop_all, take_rest}
 use Rattle.mk_lines.specs.Bytes.{is_byte}
-use Rattle.mk_lines.specs.Paths.{is_visible, is_proper, is_up, goes_up_first, are_components}
+use Rattle.mk_lines.specs.Paths.{is_visible, is_proper, are_components}
 use Rattle.mk_lines.proofs.Components.{absolute}
 
 -- a byte that may follow another one
