@@ -1,13 +1,12 @@
 -- Names that begin with one of some prefixes, by the lengths of these.
-use Rattle.std.proofs.Common.{◌≡◌, ℕ, Bool, true, false, ◌&&◌, ◌||◌, ◌≤◌, List, [], ◌∷◌, ◌++◌, length, take, drop, inl, inr, refl, sym, ap, ◌∙◌, true≢false, arith, length-append}
+use Rattle.std.proofs.Common.{◌≡◌, ℕ, Bool, true, ◌&&◌, List, [], ◌∷◌, length, take, drop, inl, inr, sym, ap, ◌∙◌, true≢false, arith, length-append}
 use Rattle.std.specs.Prelude.{nat_eq, nat_le}
 use Rattle.std.specs.List.{list_any}
 use Rattle.std.specs.Cmp.{both_ways}
 use Rattle.std.proofs.lemmas.Bool.{eqb-true, le-leb}
 use Rattle.std.proofs.lemmas.List.{take-append-drop}
 use Rattle.std.proofs.Math.Seq.{take-append_seam}
-use Rattle.mk_foot.specs.Names.{Has, has_name, is_under}
-use Rattle.mk_foot.specs.Laws.{Under}
+use Rattle.mk_foot.specs.Names.{has_name, is_under}
 use Rattle.mk_foot.proofs.GivenLaws.{either_true, left_true, right_true, both_true, has_told, has_tells, under_told, under_tells}
 
 -- a front of this length is a prefix

@@ -1,4 +1,4 @@
-use Rattle.std.proofs.Common.{◌∙◌, sym, List, ℕ, rules, tests, string_bytes, String, Global}
+use Rattle.std.proofs.Common.{◌∙◌, sym, rules, tests, string_bytes, String, Global}
 use Rattle.mk_lines.specs.Paths.{is_plain_path}
 use Rattle.std.proofs.lemmas.Iterator.{YieldsList-from_slice}
 use Rattle.std.proofs.lemmas.Iterator.Search.{all_from_yields_List}

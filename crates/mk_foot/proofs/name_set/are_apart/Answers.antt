@@ -1,5 +1,5 @@
-use Rattle.std.proofs.Common.{◌<◌, ◌≤◌, length, string_bytes, String, Global, map, sym, ap, ◌∙◌, arith, refl}
-use Rattle.mk_foot.proofs.Apart.{Apart, next_apart, all_apart}
+use Rattle.std.proofs.Common.{◌<◌, ◌≤◌, length, string_bytes, String, Global, map, ap, ◌∙◌, arith}
+use Rattle.mk_foot.proofs.Apart.{next_apart, all_apart}
 use Rattle.mk_foot.proofs.Once.{once_into}
 use Rattle.mk_foot.proofs.name_set.are_apart.Goals as goal
 

@@ -1,4 +1,4 @@
-use Rattle.std.proofs.Common.{List, [], ℕ, map, string_bytes, ap, sym, ◌≡◌, ◌∙◌, subst, arith, length}
+use Rattle.std.proofs.Common.{List, [], ℕ, map, string_bytes, ap, sym, ◌≡◌, ◌∙◌, subst, arith}
 use Rattle.std.specs.Prelude.{IfOk, fold}
 use Rattle.std.proofs.lemmas.List.{length-map}
 use Rattle.mk_foot.specs.Names.{with_name}

@@ -1,4 +1,4 @@
-use Rattle.std.proofs.Common.{◌≡◌, ◌<◌, length, arith, ap, ◌∙◌, string_bytes, String, Global, List, ℕ}
+use Rattle.std.proofs.Common.{◌<◌, length, arith, ap, ◌∙◌, string_bytes, String, Global, List, ℕ}
 use Rattle.std.specs.Prelude.{fold}
 use Rattle.mk_foot.specs.Names.{with_name}
 use Rattle.mk_foot.specs.Reading.{listed}

@@ -1,4 +1,4 @@
-use Rattle.std.proofs.Common.{◌≡◌, List, ℕ, ◌∙◌, ap}
+use Rattle.std.proofs.Common.{List, ℕ, ◌∙◌, ap}
 use Rattle.std.specs.List.{list_any}
 use Rattle.mk_foot.specs.Names.{is_under}
 use Rattle.mk_foot.proofs.Fronts.{front_there, by_length}
