@@ -1,7 +1,6 @@
 """Measures the reading of footprints beside serde_json alone and Python's json, on the same file, and prints a table."""
 
 import json
-import shutil
 import statistics
 import subprocess
 import sys
@@ -9,7 +8,8 @@ import time
 from dataclasses import dataclass
 from pathlib import Path
 
-from run import DATA, HERE
+from building import built
+from run import DATA
 
 RUNS = 11
 RATIO_BOUND = 2.0
@@ -18,6 +18,7 @@ GROWTH_BOUND = 2.5
 SIZE = 16_000_000
 RECORDS = 4_000
 READS = 100
+PREFIXES = 20_000
 
 
 def read_name(record: int, read: int) -> str:
@@ -38,26 +39,11 @@ def footprints(size: int, records: int) -> str:
     return text.ljust(size)
 
 
-def built() -> Path:
-    """The program that times one reading, built over copies of the crates that it needs."""
-    repository = DATA / "footprint"
-    shutil.rmtree(repository, ignore_errors=True)
-    crates = repository / "crates"
-    (crates / "footprint" / "src").mkdir(parents=True)
-    shutil.copy(HERE / "footprint" / "main.rt.in", crates / "footprint" / "src" / "main.rt")
-    shutil.copy(HERE.parent / "HANDLES", repository / "HANDLES")
-    for name in ("mk_lines", "mk_foot"):
-        # With what earlier checks left in out/, so that little is proved again.
-        shutil.copytree(HERE.parent / "crates" / name, crates / name)
-    listed = (HERE.parent / "crates.txt").read_text().splitlines()
-    kept = [line for line in listed if line.startswith(("mk_lines:", "mk_foot:"))]
-    (repository / "crates.txt").write_text("\n".join([*kept, "footprint: mk_foot serde_json anyhow", ""]))
-    (DATA / "empty.json").write_text('{"format":1,"fixed":[],"sources":[],"records":[]}')
-    command = ["rt", "run", "--", "setting", str(DATA / "empty.json")]
-    done = subprocess.run(command, cwd=crates / "footprint", capture_output=True, text=True, check=False)
-    if done.returncode != 0:
-        sys.exit(f"bench: {' '.join(command)} in {crates / 'footprint'}:\n{done.stdout}{done.stderr}")
-    return crates / "footprint" / "out" / "footprint"
+def prefixes(count: int) -> str:
+    """A file of format 1 of so many fixed prefixes, of 200 lengths, and as many sources, none under a prefix."""
+    fixed = [f"fixed/{'d' * (n % 200)}{n:05d}/" for n in range(count)]
+    sources = [f"fixed/{'d' * 200}{n:05d}/x" for n in range(count)]
+    return json.dumps({"format": 1, "fixed": fixed, "sources": sources, "records": []})
 
 
 @dataclass(frozen=True)
@@ -83,26 +69,33 @@ def own_time(program: Path, task: str, file: Path) -> float:
     return int(done.stdout) / 1_000
 
 
-def measure(program: Path, size: int, records: int) -> Times:
+def measure(program: Path, text: str) -> Times:
     """The tasks take turns, each in a process of its own, so that none finds the memory that another one left."""
     file = DATA / "footprint.json"
-    file.write_text(footprints(size, records))
+    file.write_text(text)
     rows = [(own_time(program, "value", file), own_time(program, "setting", file), python_time(file)) for _ in range(RUNS)]
     return Times(*(statistics.median(column) for column in zip(*rows, strict=True)))
 
 
+def cases(program: Path) -> list[tuple[str, Times, Times]]:
+    """What is measured, with the same of half the size."""
+    halves = measure(program, footprints(SIZE // 2, RECORDS // 2)), measure(program, prefixes(PREFIXES // 2))
+    wholes = measure(program, footprints(SIZE, RECORDS)), measure(program, prefixes(PREFIXES))
+    return [("16 MB", wholes[0], halves[0]), (f"{PREFIXES:,} prefixes", wholes[1], halves[1])]
+
+
 def main() -> None:
     DATA.mkdir(exist_ok=True)
-    program = built()
-    half, whole = measure(program, SIZE // 2, RECORDS // 2), measure(program, SIZE, RECORDS)
+    empty = '{"format":1,"fixed":[],"sources":[],"records":[]}'
+    program = built("footprint", ("mk_lines", "mk_foot"), "mk_foot serde_json anyhow", empty, "setting")
     print(f"elapsed time in milliseconds, median of {RUNS} runs")
-    print(f"{'footprints':<12}{'setting':>9}{'serde_json':>12}{'ratio':>8}{'python':>9}{'ratio':>8}{'growth':>8}")
-    for label, times, growth in (("8 MB", half, ""), ("16 MB", whole, f"{whole.setting / half.setting:.1f}")):
+    print(f"{'footprints':<18}{'setting':>9}{'serde_json':>12}{'ratio':>8}{'python':>9}{'ratio':>8}{'growth':>8}")
+    for label, times, half in cases(program):
         print(
-            f"{label:<12}{times.setting:>9.1f}{times.value:>12.1f}{times.setting / times.value:>8.2f}"
-            f"{times.python:>9.1f}{times.setting / times.python:>8.2f}{growth:>8}"
+            f"{label:<18}{times.setting:>9.1f}{times.value:>12.1f}{times.setting / times.value:>8.2f}"
+            f"{times.python:>9.1f}{times.setting / times.python:>8.2f}{times.setting / half.setting:>8.1f}"
         )
-    print(f"{'at most':<33}{RATIO_BOUND:>8.2f}{'':>17}{GROWTH_BOUND:>8.1f}")
+    print(f"{'at most':<18}{RATIO_BOUND:>29.2f} (of 16 MB){GROWTH_BOUND:>14.1f}")
 
 
 if __name__ == "__main__":

@@ -1,13 +1,12 @@
 """Measures the two lowest crates alone, beside `wc -l` and `make -n`, on the same texts, and prints a table."""
 
 import os
-import shutil
-import subprocess
 import sys
 from dataclasses import dataclass
 from pathlib import Path
 
-from run import DATA, HERE, Measure, Tool, installed, run, summary
+from building import built
+from run import DATA, Measure, Tool, installed, run, summary
 
 RUNS = 11
 GROWTH_BOUND = 2.5
@@ -57,28 +56,6 @@ def cases() -> list[tuple[Case, Case]]:
     return found
 
 
-def built() -> Path:
-    """The program that does the work of one crate, built over copies of the crates of this repository."""
-    repository = DATA / "reading"
-    shutil.rmtree(repository, ignore_errors=True)
-    crates = repository / "crates"
-    (crates / "reading" / "src").mkdir(parents=True)
-    shutil.copy(HERE / "reading" / "main.rt.in", crates / "reading" / "src" / "main.rt")
-    shutil.copy(HERE.parent / "HANDLES", repository / "HANDLES")
-    for name in ("mk_lines", "mk_macros"):
-        # With what earlier checks left in out/, so that little is proved again.
-        shutil.copytree(HERE.parent / "crates" / name, crates / name)
-    listed = (HERE.parent / "crates.txt").read_text().splitlines()
-    kept = [line for line in listed if line.startswith(("mk_lines:", "mk_macros:"))]
-    (repository / "crates.txt").write_text("\n".join([*kept, "reading: mk_lines mk_macros anyhow", ""]))
-    (DATA / "empty").write_text("")
-    command = ["rt", "run", "--", "lines", str(DATA / "empty")]
-    done = subprocess.run(command, cwd=crates / "reading", capture_output=True, text=True, check=False)
-    if done.returncode != 0:
-        sys.exit(f"bench: {' '.join(command)} in {crates / 'reading'}:\n{done.stdout}{done.stderr}")
-    return crates / "reading" / "out" / "reading"
-
-
 def measure(case: Case, program: Path) -> tuple[Measure, Measure]:
     """The program and the peer take turns."""
     own_file, peer_file = DATA / "reading.txt", DATA / "reading.mk"
@@ -98,7 +75,7 @@ def measure(case: Case, program: Path) -> tuple[Measure, Measure]:
 
 def main() -> None:
     DATA.mkdir(exist_ok=True)
-    program = built()
+    program = built("reading", ("mk_lines", "mk_macros"), "mk_lines mk_macros anyhow", "", "lines")
     os.chdir(DATA)
     print(f"processor time, median of {RUNS} runs")
     print(f"{'text':<20}{'own ms':>9}{'peer':>8}{'peer ms':>9}{'ratio':>8}{'growth':>8}{'memory MB':>11}")

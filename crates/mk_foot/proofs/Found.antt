@@ -1,8 +1,6 @@
 -- What stands at the place of a name.
-use Rattle.std.proofs.Common.{◌≡◌, ℕ, suc, ◌+◌, Bool, true, false, cond, List, [], ◌∷◌, map, get_or, Option, Some, None, refl, sym, ap, ◌∙◌, arith, ◌<◌, length, drop}
-use Rattle.std.specs.Borrow.{Bor}
+use Rattle.std.proofs.Common.{◌≡◌, ℕ, suc, ◌+◌, Bool, true, false, cond, List, [], ◌∷◌, map, get_or, Option, Some, None, refl, sym, ap, ◌∙◌, arith, ◌<◌, length, drop, String, Global, string_bytes}
 use Rattle.std.proofs.lemmas.List.{drop_more}
-use Rattle.mk_foot.proofs.Sets.{texts}
 use Rattle.std.specs.Prelude.{find, fold}
 use Rattle.std.specs.List.{flat_map}
 use Rattle.std.specs.Str.{bytes_eq}
@@ -68,8 +66,8 @@ unfolding names_in
 listed_nowhere lists names name is e = listed_in lists name ∙ ap names_in (missing (λ (l : SharedList). l.name) lists name (sym (e ∙ ap (λ ns. place_from 0 ns name) is)))
 
 -- the names of one list more
-pub next_list : (lists : List SharedList) (set new : List (List ℕ)) (shared : List (Bor (List ℕ))) (i : ℕ) (d : Bor (List ℕ)) (whole : List (List ℕ)) → new ≡ fold with_name set (listed lists (get_or shared i d).now)
-    → fold with_name set (flat_map (listed lists) (texts (drop i shared))) ≡ whole → i < length shared → fold with_name new (flat_map (listed lists) (texts (drop (i + 1) shared))) ≡ whole
+pub next_list : (lists : List SharedList) (set new : List (List ℕ)) (shared : List (String Global)) (i : ℕ) (d : String Global) (whole : List (List ℕ)) → new ≡ fold with_name set (listed lists (string_bytes (get_or shared i d)))
+    → fold with_name set (flat_map (listed lists) (map string_bytes (drop i shared))) ≡ whole → i < length shared → fold with_name new (flat_map (listed lists) (map string_bytes (drop (i + 1) shared))) ≡ whole
 next_list lists set new shared i d whole e so_far lt =
-    let rest = flat_map (listed lists) (texts (drop (i + 1) shared)) in
-    ap (λ s. fold with_name s rest) e ∙ (sym (fold-append with_name set (listed lists (get_or shared i d).now) rest) ∙ (sym (ap (λ (ns : List (Bor (List ℕ))). fold with_name set (flat_map (listed lists) (texts ns))) (drop_more shared i d lt)) ∙ so_far))
+    let rest = flat_map (listed lists) (map string_bytes (drop (i + 1) shared)) in
+    ap (λ s. fold with_name s rest) e ∙ (sym (fold-append with_name set (listed lists (string_bytes (get_or shared i d))) rest) ∙ (sym (ap (λ (ns : List (String Global)). fold with_name set (flat_map (listed lists) (map string_bytes ns))) (drop_more shared i d lt)) ∙ so_far))

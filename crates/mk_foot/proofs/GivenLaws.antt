@@ -11,23 +11,23 @@ use Rattle.mk_foot.specs.Names.{Has, has_name, is_under}
 use Rattle.mk_foot.specs.Setting.{Setting, is_given, is_editable}
 use Rattle.mk_foot.specs.Laws.{Under, GivenExactly, EditableExactly, EditableIsGiven}
 
-either_true : (a b : Bool) → (a || b) ≡ true → (a ≡ true) ⊎ (b ≡ true)
+pub either_true : (a b : Bool) → (a || b) ≡ true → (a ≡ true) ⊎ (b ≡ true)
 either_true true b e = inl refl
 either_true false b e = inr e
 
-left_true : (a b : Bool) → a ≡ true → (a || b) ≡ true
+pub left_true : (a b : Bool) → a ≡ true → (a || b) ≡ true
 left_true a b e = ap (λ c. c || b) e
 
-right_true : (a b : Bool) → b ≡ true → (a || b) ≡ true
+pub right_true : (a b : Bool) → b ≡ true → (a || b) ≡ true
 right_true true b e = refl
 right_true false b e = e
 
-both_true : (a b : Bool) → (a && b) ≡ true → (a ≡ true) × (b ≡ true)
+pub both_true : (a b : Bool) → (a && b) ≡ true → (a ≡ true) × (b ≡ true)
 both_true true b e = (refl, e)
 both_true false b e = absurd (true≢false (sym e))
 
 -- the test says what stands in a list
-has_told : (names : List (List ℕ)) (name : List ℕ) → has_name names name ≡ true → Has names name
+pub has_told : (names : List (List ℕ)) (name : List ℕ) → has_name names name ≡ true → Has names name
 has_told [] name e = true≢false (sym e)
 has_told (other ∷ names) name e =
     elim (either_true (bytes_eq name other) (has_name names name) e) [
@@ -35,7 +35,7 @@ has_told (other ∷ names) name e =
       | inr h ↦ inr (has_told names name h)
     ]
 
-has_tells : (names : List (List ℕ)) (name : List ℕ) → Has names name → has_name names name ≡ true
+pub has_tells : (names : List (List ℕ)) (name : List ℕ) → Has names name → has_name names name ≡ true
 has_tells [] name h = absurd h
 has_tells (other ∷ names) name (inl e) = left_true (bytes_eq name other) (has_name names name) ((bytes_eq-Decides name other).1 (sym e))
 has_tells (other ∷ names) name (inr h) = right_true (bytes_eq name other) (has_name names name) (has_tells names name h)
@@ -49,7 +49,7 @@ front_told name prefix e =
 front_tells : (name prefix rest : List ℕ) → name ≡ prefix ++ rest → starts_with nat_eq name prefix ≡ true
 front_tells name prefix rest e = (bytes_eq-Decides prefix (take (length prefix) name)).1 (sym (ap (take (length prefix)) e ∙ take-append_seam prefix rest))
 
-under_told : (fixed : List (List ℕ)) (name : List ℕ) → is_under fixed name ≡ true → Under fixed name
+pub under_told : (fixed : List (List ℕ)) (name : List ℕ) → is_under fixed name ≡ true → Under fixed name
 under_told [] name e = absurd (true≢false (sym e))
 under_told (prefix ∷ fixed) name e =
     elim (either_true (starts_with nat_eq name prefix) (is_under fixed name) e) [
@@ -57,7 +57,7 @@ under_told (prefix ∷ fixed) name e =
       | inr h ↦ (let u = under_told fixed name h in (u.0, inr u.1, u.2))
     ]
 
-under_tells : (fixed : List (List ℕ)) (name prefix rest : List ℕ) → Has fixed prefix → name ≡ prefix ++ rest → is_under fixed name ≡ true
+pub under_tells : (fixed : List (List ℕ)) (name prefix rest : List ℕ) → Has fixed prefix → name ≡ prefix ++ rest → is_under fixed name ≡ true
 under_tells [] name prefix rest h e = absurd h
 under_tells (other ∷ fixed) name prefix rest (inl same) e = left_true (starts_with nat_eq name other) (is_under fixed name) (front_tells name other rest (e ∙ ap (λ p. p ++ rest) (sym same)))
 under_tells (other ∷ fixed) name prefix rest (inr h) e = right_true (starts_with nat_eq name other) (is_under fixed name) (under_tells fixed name prefix rest h e)

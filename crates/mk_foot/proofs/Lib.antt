@@ -13,3 +13,7 @@ pub mod GivenLaws
 pub mod OnceLaws
 pub mod NoJson
 pub mod Formats
+pub mod Taken
+pub mod Apart
+pub mod Fronts
+pub mod Texts

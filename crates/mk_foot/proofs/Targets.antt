@@ -14,7 +14,7 @@ unfolding first_again
 again_cons before x rest = refl
 
 -- what a set said of a name
-is_new : (b added : Bool) → added ≡ not b → added ≡ true → b ≡ false
+pub is_new : (b added : Bool) → added ≡ not b → added ≡ true → b ≡ false
 is_new true added e t = absurd (true≢false (sym t ∙ e))
 is_new false added e t = refl
 

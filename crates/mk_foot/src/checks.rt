@@ -12,10 +12,11 @@ ghost use Rattle.mk_foot.specs.Checks.{are_plain, entry_is_plain, goals_are_plai
 use crate::fault::FootFault;
 use crate::key::Key;
 use crate::name::Name;
-use crate::name_set::NameSet;
+use crate::name_set::{NameSet, clones_of};
 use crate::name_table::NameTable;
 use crate::parts::{Entry, Footprints, Group, SharedList};
-use mk_lines::is_plain_path;
+use crate::prefixes::Prefixes;
+use mk_lines::{is_plain_path, is_plain_text_path};
 use std::alloc::Global;
 
 /// Whether a text is `/`, or a plain path with `/` behind it.
@@ -29,26 +30,27 @@ fn is_prefix(text: &[u8]) -> bool
     }
 }
 
-/// Whether a name begins with one of the prefixes.
-fn is_under(prefixes: &[&str], name: &str) -> bool
-    ensures { result ≡ is_under (map (λ prefix. prefix.now) prefixes.now) name.now }
+/// Whether texts are plain paths.
+fn are_paths(texts: &[String]) -> bool
+    ensures { result ≡ list_all is_plain (map string_bytes texts.now) }
 {
-    let bytes = name.as_bytes();
-    prefixes
-        .iter()
-        .any(|prefix| bytes.starts_with(prefix.as_bytes()))
+    texts.iter().all(|text| is_plain_text_path(text.as_str()))
 }
 
-/// Whether texts are plain paths.
-fn are_paths(texts: &[&str]) -> bool
-    ensures { result ≡ list_all is_plain (map (λ text. text.now) texts.now) }
+/// Whether a name is a plain path.
+fn is_path(key: Key, name: &str) -> Result<(), FootFault>
+    ensures { Gives (λ done. done) result (are_plain key (name.now ∷ [])) }
 {
-    texts.iter().all(|text| is_plain_path(text.as_bytes()))
+    if is_plain_text_path(name) {
+        Ok(())
+    } else {
+        Err(FootFault::BadName(key))
+    }
 }
 
 /// Whether names are plain paths.
-fn are_plain(key: Key, names: &[&str]) -> Result<(), FootFault>
-    ensures { Gives (λ done. done) result (are_plain key (map (λ name. name.now) names.now)) }
+fn are_plain(key: Key, names: &[String]) -> Result<(), FootFault>
+    ensures { Gives (λ done. done) result (are_plain key (map string_bytes names.now)) }
 {
     if are_paths(names) {
         Ok(())
@@ -58,8 +60,8 @@ fn are_plain(key: Key, names: &[&str]) -> Result<(), FootFault>
 }
 
 /// Whether texts are prefixes.
-fn are_prefixes(texts: &[&str]) -> bool
-    ensures { result ≡ list_all is_prefix (map (λ text. text.now) texts.now) }
+fn are_prefixes(texts: &[String]) -> bool
+    ensures { result ≡ list_all is_prefix (map string_bytes texts.now) }
 {
     texts.iter().all(|text| is_prefix(text.as_bytes()))
 }
@@ -69,7 +71,7 @@ fn are_prefixes(texts: &[&str]) -> bool
 fn entry_is_plain(entry: &Entry) -> Result<(), FootFault>
     ensures { Gives (λ done. done) result (entry_is_plain entry.now) }
 {
-    are_plain(Key::Target, &[entry.target])?;
+    is_path(Key::Target, entry.target.as_str())?;
     are_plain(Key::Reads, &entry.reads)?;
     are_plain(Key::Writes, &entry.writes)
 }
@@ -136,13 +138,14 @@ fn names_are_plain(file: &Footprints) -> Result<(), FootFault>
 }
 
 /// The first target that comes a second time.
-fn first_again<'a>(alloc: Global, entries: &[Entry<'a>]) -> Result<Option<&'a str>, FootFault>
+fn first_again(alloc: Global, entries: &[Entry]) -> Result<Option<&str>, FootFault>
     ensures { Gives (λ found. option_map (λ name. name.now) found) result (Ok (first_again [] (map (λ entry. entry.target) entries.now))) }
 {
     let mut seen = NameSet::with_capacity(alloc, entries.len())?;
     for entry in entries {
-        if !seen.insert(entry.target)? {
-            return Ok(Some(entry.target));
+        let target = entry.target.as_str();
+        if !seen.insert(target)? {
+            return Ok(Some(target));
         }
     }
     Ok(None)
@@ -169,12 +172,12 @@ fn all_targets_differ(alloc: Global, groups: &[Group]) -> Result<(), FootFault>
 }
 
 /// The first source under a fixed prefix.
-fn first_fixed<'a>(fixed: &[&str], sources: &[&'a str]) -> Option<&'a str>
-    ensures { option_map (λ name. name.now) result ≡ find (is_under (map (λ prefix. prefix.now) fixed.now)) (map (λ source. source.now) sources.now) }
+fn first_fixed<'a>(fixed: &Prefixes, sources: &'a [String]) -> Option<&'a str>
+    ensures { option_map (λ name. name.now) result ≡ find (is_under fixed.now) (map string_bytes sources.now) }
 {
     for source in sources {
-        if is_under(fixed, source) {
-            return Some(source);
+        if fixed.is_under(source.as_str()) {
+            return Some(source.as_str());
         }
     }
     None
@@ -184,15 +187,16 @@ fn first_fixed<'a>(fixed: &[&str], sources: &[&'a str]) -> Option<&'a str>
 fn sources_are_free(alloc: Global, file: &Footprints) -> Result<(), FootFault>
     ensures { Gives (λ done. done) result (sources_are_free file.now) }
 {
-    match first_fixed(&file.fixed, &file.sources) {
+    let fixed = Prefixes::new(alloc, clones_of(alloc, &file.fixed)?)?;
+    match first_fixed(&fixed, &file.sources) {
         Some(source) => Err(FootFault::SourceIsFixed(Name::new(alloc, source)?)),
         None => Ok(()),
     }
 }
 
 /// Whether each of these names is among those.
-fn are_listed(names: &NameTable, shared: &[&str]) -> bool
-    ensures { result ≡ list_all (has_name names.now) (map (λ name. name.now) shared.now) }
+fn are_listed(names: &NameTable, shared: &[String]) -> bool
+    ensures { result ≡ list_all (has_name names.now) (map string_bytes shared.now) }
 {
     shared.iter().all(|name| names.contains(name))
 }
@@ -245,14 +249,14 @@ pub fn test_all(alloc: Global, file: &Footprints, names: &NameTable) -> Result<(
 }
 
 /// Whether two lists hold the same names in the same order.
-fn same_names(goals: &[String], own: &[&str]) -> bool
-    ensures { result ≡ same_names (map string_bytes goals.now) (map (λ name. name.now) own.now) }
+fn same_names(goals: &[String], own: &[String]) -> bool
+    ensures { result ≡ same_names (map string_bytes goals.now) (map string_bytes own.now) }
 {
     if goals.len() != own.len() {
         return false;
     }
     for (i, goal) in goals.iter().enumerate() {
-        if goal.as_str() != own[i] {
+        if goal.as_str() != own[i].as_str() {
             return false;
         }
     }
@@ -270,14 +274,11 @@ fn serves(goals: &[String], group: &Group) -> bool
 }
 
 /// The first group that serves the goals.
-pub fn group_for<'b, 'a>(
-    goals: &[String],
-    groups: &'b [Group<'a>],
-) -> Result<&'b Group<'a>, FootFault>
-    ensures { Gives (λ group. group.now) result (group_for (map string_bytes goals.now) groups.now) }
+pub fn group_for(goals: &[String], groups: Vec<Group>) -> Result<Group, FootFault>
+    ensures { Gives (λ group. group) result (group_for (map string_bytes goals.now) groups.items) }
 {
     for group in groups {
-        if serves(goals, group) {
+        if serves(goals, &group) {
             return Ok(group);
         }
     }

@@ -4,6 +4,7 @@
 mod book;
 mod checks;
 mod fault;
+mod fields;
 mod format;
 mod key;
 mod kinds;
@@ -12,6 +13,7 @@ mod name;
 mod name_set;
 mod name_table;
 mod parts;
+mod prefixes;
 mod reading;
 mod setting;
 mod shapes;

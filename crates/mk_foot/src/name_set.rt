@@ -1,6 +1,6 @@
 //! Names, each once, in the order in which they came.
 
-ghost use Rattle.std.specs.Prelude.{◌≡◌, ◌∷◌, ◌++◌, [], not, map, fold, IfOk, OnOk, OnErr, if◌then◌else◌};
+ghost use Rattle.std.specs.Prelude.{◌≡◌, ◌∷◌, ◌++◌, [], true, not, map, fold, IfOk, OnOk, OnErr, if◌then◌else◌};
 ghost use Rattle.std.specs.String.{string_bytes};
 ghost use Rattle.mk_foot.specs.Names.{has_name, with_name, once};
 
@@ -49,11 +49,11 @@ impl<'a> NameSet<'a> {
 }
 
 /// Adds names, one after another.
-pub fn insert_all<'a>(set: &mut NameSet<'a>, names: &[&'a str]) -> Result<(), AllocError>
-    ensures { OnOk result (set.new ≡ fold with_name set.old (map (λ name. name.now) names.now)) }
+pub fn insert_all<'a>(set: &mut NameSet<'a>, names: &'a [String]) -> Result<(), AllocError>
+    ensures { OnOk result (set.new ≡ fold with_name set.old (map string_bytes names.now)) }
 {
     for name in names {
-        set.insert(name)?;
+        set.insert(name.as_str())?;
     }
     Ok(())
 }
@@ -69,11 +69,41 @@ pub fn copied(alloc: Global, texts: &[&str]) -> Result<Vec<String>, AllocError>
     Ok(copies)
 }
 
-/// Each name once, where it first stands.
-pub fn once(alloc: Global, names: &[&str]) -> Result<Vec<String>, AllocError>
-    ensures { IfOk result (λ copies. map string_bytes copies.items ≡ once (map (λ name. name.now) names.now)) }
+/// Clones of names.
+pub fn clones_of(alloc: Global, names: &[String]) -> Result<Vec<String>, AllocError>
+    ensures { IfOk result (λ clones. map string_bytes clones.items ≡ map string_bytes names.now) }
+{
+    let mut clones = Vec::with_capacity(alloc, names.len())?;
+    for name in names {
+        clones.push(name.clone()?)?;
+    }
+    Ok(clones)
+}
+
+/// Whether no name comes twice.
+fn are_apart(alloc: Global, names: &[String]) -> Result<bool, AllocError>
+    ensures { IfOk result (λ apart. apart ≡ true → once (map string_bytes names.now) ≡ map string_bytes names.now) }
 {
     let mut set = NameSet::with_capacity(alloc, names.len())?;
-    insert_all(&mut set, names)?;
+    for name in names {
+        if !set.insert(name.as_str())? {
+            return Ok(false);
+        }
+    }
+    Ok(true)
+}
+
+/// Each name once, where it first stands. Names without repeats are given back as they are.
+pub fn once(alloc: Global, names: Vec<String>) -> Result<Vec<String>, AllocError>
+    ensures { IfOk result (λ kept. map string_bytes kept.items ≡ once (map string_bytes names.items)) }
+{
+    if names.len() < 2 {
+        return Ok(names);
+    }
+    if are_apart(alloc, &names)? {
+        return Ok(names);
+    }
+    let mut set = NameSet::with_capacity(alloc, names.len())?;
+    insert_all(&mut set, &names)?;
     copied(alloc, set.as_slice())
 }

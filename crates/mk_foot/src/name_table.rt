@@ -9,6 +9,7 @@ ghost use Rattle.mk_foot.specs.Names.{has_name, place_from, else_last};
 use indexmap::IndexMap;
 use std::alloc::{AllocError, Global};
 use std::marker::Model;
+use std::str;
 
 /// Names in their order, which are looked up. A contract sees a list of names.
 #[derive(Drop)]
@@ -52,6 +53,17 @@ impl NameTable {
         ensures { result ≡ has_name self.now name.now }
     {
         self.places.contains_key(name)
+    }
+
+    /// Whether these bytes are those of a name that is there.
+    pub fn contains_bytes(&self, bytes: &[u8]) -> bool
+        ensures { result ≡ has_name self.now bytes.now }
+    {
+        let places = &self.places;
+        match str::from_utf8(bytes) {
+            Ok(name) => places.contains_key(name),
+            Err(_) => false,
+        }
     }
 
     /// The names in their order.

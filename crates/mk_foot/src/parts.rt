@@ -1,77 +1,81 @@
-//! The parts of a file of footprints, as they stand in it. All texts are lent by the JSON value.
+//! The parts of a file of footprints, as they stand in it. They own their texts.
 
 use std::marker::Model;
 
 /// A record as it stands in a file. A contract sees lists of bytes.
 #[derive(Drop)]
-pub struct Entry<'a> {
-    pub target: &'a str,
-    pub commands: Vec<&'a str>,
-    pub reads: Vec<&'a str>,
-    pub writes: Vec<&'a str>,
+pub struct Entry {
+    pub target: String,
+    pub commands: Vec<String>,
+    pub reads: Vec<String>,
+    pub writes: Vec<String>,
     /// The names of shared lists, whose files are read too. None in format 1.
-    pub shared: Vec<&'a str>,
+    pub shared: Vec<String>,
 }
 
-impl<'a> Model for Entry<'a> {
+impl Model for Entry {
     ghost use Rattle.std.specs.Prelude.{map};
+    ghost use Rattle.std.specs.String.{string_bytes};
     ghost use Rattle.mk_foot.specs.Parts as value;
 
     ghost Value = { value.Entry };
 
-    ghost view = { λ e. record { target = e.target.now; commands = map (λ t. t.now) e.commands.items; reads = map (λ t. t.now) e.reads.items; writes = map (λ t. t.now) e.writes.items; shared = map (λ t. t.now) e.shared.items } };
+    ghost view = { λ e. record { target = string_bytes e.target; commands = map string_bytes e.commands.items; reads = map string_bytes e.reads.items; writes = map string_bytes e.writes.items; shared = map string_bytes e.shared.items } };
 }
 
 /// Records, and the goals that they were made for. A contract sees lists of bytes.
 #[derive(Drop)]
-pub struct Group<'a> {
+pub struct Group {
     /// None in format 1, whose records serve any goals.
-    pub goals: Option<Vec<&'a str>>,
-    pub records: Vec<Entry<'a>>,
+    pub goals: Option<Vec<String>>,
+    pub records: Vec<Entry>,
 }
 
-impl<'a> Model for Group<'a> {
+impl Model for Group {
     ghost use Rattle.std.specs.Prelude.{map};
     ghost use Rattle.std.specs.Option.{option_map};
+    ghost use Rattle.std.specs.String.{string_bytes};
     ghost use Rattle.mk_foot.specs.Parts as value;
 
     ghost Value = { value.Group };
 
-    ghost view = { λ g. record { goals = option_map (λ goals. map (λ t. t.now) goals.items) g.goals; records = g.records.items } };
+    ghost view = { λ g. record { goals = option_map (λ goals. map string_bytes goals.items) g.goals; records = g.records.items } };
 }
 
 /// A list that records share. A contract sees lists of bytes.
 #[derive(Drop)]
-pub struct SharedList<'a> {
-    pub name: &'a str,
-    pub names: Vec<&'a str>,
+pub struct SharedList {
+    pub name: String,
+    pub names: Vec<String>,
 }
 
-impl<'a> Model for SharedList<'a> {
+impl Model for SharedList {
     ghost use Rattle.std.specs.Prelude.{map};
+    ghost use Rattle.std.specs.String.{string_bytes};
     ghost use Rattle.mk_foot.specs.Parts as value;
 
     ghost Value = { value.SharedList };
 
-    ghost view = { λ s. record { name = s.name.now; names = map (λ t. t.now) s.names.items } };
+    ghost view = { λ s. record { name = string_bytes s.name; names = map string_bytes s.names.items } };
 }
 
 /// A file of footprints by its parts. A contract sees lists of bytes.
 #[derive(Drop)]
-pub struct Footprints<'a> {
-    pub fixed: Vec<&'a str>,
-    pub sources: Vec<&'a str>,
+pub struct Footprints {
+    pub fixed: Vec<String>,
+    pub sources: Vec<String>,
     /// None in format 1.
-    pub lists: Vec<SharedList<'a>>,
+    pub lists: Vec<SharedList>,
     /// One in format 1.
-    pub groups: Vec<Group<'a>>,
+    pub groups: Vec<Group>,
 }
 
-impl<'a> Model for Footprints<'a> {
+impl Model for Footprints {
     ghost use Rattle.std.specs.Prelude.{map};
+    ghost use Rattle.std.specs.String.{string_bytes};
     ghost use Rattle.mk_foot.specs.Parts as value;
 
     ghost Value = { value.Footprints };
 
-    ghost view = { λ f. record { fixed = map (λ t. t.now) f.fixed.items; sources = map (λ t. t.now) f.sources.items; lists = f.lists.items; groups = f.groups.items } };
+    ghost view = { λ f. record { fixed = map string_bytes f.fixed.items; sources = map string_bytes f.sources.items; lists = f.lists.items; groups = f.groups.items } };
 }

@@ -5,10 +5,9 @@ ghost use Rattle.std.specs.List.{flat_map};
 ghost use Rattle.std.specs.String.{string_bytes};
 ghost use Rattle.serde_json.specs.View.{view};
 ghost use Rattle.mk_foot.specs.declared.fault.FootFault.TheVariants.{NotJson};
-ghost use Rattle.mk_foot.specs.Names.{with_name};
-ghost use Rattle.mk_foot.specs.Checks.{list_names};
+ghost use Rattle.mk_foot.specs.Names.{with_name, once as all_once};
 ghost use Rattle.mk_foot.specs.Steps.{Gives, or_fault};
-ghost use Rattle.mk_foot.specs.Reading.{listed, record_of, book_of, book_in, json_of, book_from};
+ghost use Rattle.mk_foot.specs.Reading.{listed, record_of, book_in, json_of, book_from};
 
 use crate::book::{Book, Record};
 use crate::checks::{group_for, test_all};
@@ -26,7 +25,7 @@ fn list_names(alloc: Global, lists: &[SharedList]) -> Result<NameTable, AllocErr
 {
     let mut names = Vec::with_capacity(alloc, lists.len())?;
     for list in lists {
-        names.push(String::from_str(alloc, list.name)?)?;
+        names.push(list.name.clone()?)?;
     }
     NameTable::new(alloc, names)
 }
@@ -35,7 +34,7 @@ fn list_names(alloc: Global, lists: &[SharedList]) -> Result<NameTable, AllocErr
 fn insert_list<'a>(
     set: &mut NameSet<'a>,
     names: &NameTable,
-    lists: &[SharedList<'a>],
+    lists: &'a [SharedList],
     name: &str,
 ) -> Result<(), AllocError>
     requires { names.now ≡ map (λ list. list.name) lists.now }
@@ -54,61 +53,72 @@ fn insert_list<'a>(
 fn insert_listed<'a>(
     set: &mut NameSet<'a>,
     names: &NameTable,
-    lists: &[SharedList<'a>],
-    shared: &[&str],
+    lists: &'a [SharedList],
+    shared: &[String],
 ) -> Result<(), AllocError>
     requires { names.now ≡ map (λ list. list.name) lists.now }
-    ensures { OnOk result (set.new ≡ fold with_name set.old (flat_map (listed lists.now) (map (λ name. name.now) shared.now))) }
+    ensures { OnOk result (set.new ≡ fold with_name set.old (flat_map (listed lists.now) (map string_bytes shared.now))) }
 {
     for name in shared {
-        insert_list(set, names, lists, name)?;
+        insert_list(set, names, lists, name.as_str())?;
     }
     Ok(())
 }
 
 /// The files that a record reads: its own, then those of the shared lists that it names.
-fn reads_of<'a>(
+fn reads_of(
     alloc: Global,
     names: &NameTable,
-    lists: &[SharedList<'a>],
-    entry: &Entry<'a>,
+    lists: &[SharedList],
+    own: Vec<String>,
+    shared: &[String],
 ) -> Result<Vec<String>, AllocError>
     requires { names.now ≡ map (λ list. list.name) lists.now }
-    ensures { IfOk result (λ reads. map string_bytes reads.items ≡ (record_of lists.now entry.now).reads) }
+    ensures { IfOk result (λ reads. map string_bytes reads.items ≡ all_once (map string_bytes own.items ++ flat_map (listed lists.now) (map string_bytes shared.now))) }
 {
-    let mut set = NameSet::with_capacity(alloc, entry.reads.len())?;
-    insert_all(&mut set, &entry.reads)?;
-    insert_listed(&mut set, names, lists, &entry.shared)?;
+    if shared.is_empty() {
+        return once(alloc, own);
+    }
+    let mut set = NameSet::with_capacity(alloc, own.len())?;
+    insert_all(&mut set, &own)?;
+    insert_listed(&mut set, names, lists, shared)?;
     copied(alloc, set.as_slice())
 }
 
 /// A record of the book.
-fn record_of<'a>(
+fn record_of(
     alloc: Global,
     names: &NameTable,
-    lists: &[SharedList<'a>],
-    entry: &Entry<'a>,
+    lists: &[SharedList],
+    entry: Entry,
 ) -> Result<Record, AllocError>
     requires { names.now ≡ map (λ list. list.name) lists.now }
-    ensures { IfOk result (λ made. made ≡ record_of lists.now entry.now) }
+    ensures { IfOk result (λ made. made ≡ record_of lists.now entry) }
 {
+    let Entry {
+        target,
+        commands,
+        reads,
+        writes,
+        shared,
+    } = entry;
     Ok(Record {
-        target: String::from_str(alloc, entry.target)?,
-        commands: copied(alloc, &entry.commands)?,
-        reads: reads_of(alloc, names, lists, entry)?,
-        writes: once(alloc, &entry.writes)?,
+        target,
+        commands,
+        reads: reads_of(alloc, names, lists, reads, &shared)?,
+        writes: once(alloc, writes)?,
     })
 }
 
 /// The records of the book.
-fn records_of<'a>(
+fn records_of(
     alloc: Global,
     names: &NameTable,
-    lists: &[SharedList<'a>],
-    entries: &[Entry<'a>],
+    lists: &[SharedList],
+    entries: Vec<Entry>,
 ) -> Result<Vec<Record>, AllocError>
     requires { names.now ≡ map (λ list. list.name) lists.now }
-    ensures { IfOk result (λ records. records.items ≡ map (record_of lists.now) entries.now) }
+    ensures { IfOk result (λ records. records.items ≡ map (record_of lists.now) entries.items) }
 {
     let mut records = Vec::with_capacity(alloc, entries.len())?;
     for entry in entries {
@@ -117,33 +127,26 @@ fn records_of<'a>(
     Ok(records)
 }
 
-/// The book of a group.
-fn book_of<'a>(
-    alloc: Global,
-    names: &NameTable,
-    file: &Footprints<'a>,
-    group: &Group<'a>,
-) -> Result<Book, AllocError>
-    requires { names.now ≡ list_names file.now }
-    ensures { IfOk result (λ book. book ≡ book_of file.now group.now) }
-{
-    Ok(Book {
-        fixed: once(alloc, &file.fixed)?,
-        sources: once(alloc, &file.sources)?,
-        records: records_of(alloc, names, &file.lists, &group.records)?,
-    })
-}
-
 /// The book of a JSON value.
 #[tactic(auto, unfolding(crate::specs::Reading::book_in))]
-fn book_in(alloc: Global, value: &Value, goals: &[String]) -> Result<Book, FootFault>
-    ensures { Gives (λ book. book) result (book_in (map string_bytes goals.now) (view value.now)) }
+fn book_in(alloc: Global, value: Value, goals: &[String]) -> Result<Book, FootFault>
+    ensures { Gives (λ book. book) result (book_in (map string_bytes goals.now) (view value)) }
 {
     let file = footprints_in(alloc, value)?;
     let names = list_names(alloc, &file.lists)?;
     test_all(alloc, &file, &names)?;
-    let group = group_for(goals, &file.groups)?;
-    Ok(book_of(alloc, &names, &file, group)?)
+    let Footprints {
+        fixed,
+        sources,
+        lists,
+        groups,
+    } = file;
+    let group = group_for(goals, groups)?;
+    Ok(Book {
+        fixed: once(alloc, fixed)?,
+        sources: once(alloc, sources)?,
+        records: records_of(alloc, &names, &lists, group.records)?,
+    })
 }
 
 /// The JSON value of a text.
@@ -180,5 +183,5 @@ pub fn read_book(alloc: Global, bytes: &[u8], goals: &[String]) -> Result<Book, 
     ensures { Gives (λ book. book) result (book_from (map string_bytes goals.now) bytes.now) }
 {
     let value = json_of(alloc, bytes)?;
-    book_in(alloc, &value, goals)
+    book_in(alloc, value, goals)
 }

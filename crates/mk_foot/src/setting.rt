@@ -3,11 +3,12 @@
 ghost use Rattle.std.specs.Prelude.{◌≡◌, map, IfOk};
 ghost use Rattle.std.specs.Option.{option_copied};
 ghost use Rattle.std.specs.String.{string_bytes};
-ghost use Rattle.mk_foot.specs.Names.{has_name, is_under};
+ghost use Rattle.mk_foot.specs.Names.{has_name};
 ghost use Rattle.mk_foot.specs.Setting.{record_for, is_given, is_editable};
 
 use crate::book::{Book, Record};
 use crate::name_table::NameTable;
+use crate::prefixes::Prefixes;
 use std::alloc::{AllocError, Global};
 use std::marker::Model;
 
@@ -16,7 +17,7 @@ use std::marker::Model;
 /// `specs.Setting` gives what the recipe of a name reads and writes.
 #[derive(Drop)]
 pub struct Setting {
-    fixed: Vec<String>,
+    fixed: Prefixes,
     sources: NameTable,
     texts: NameTable,
     passed_over: NameTable,
@@ -26,12 +27,11 @@ pub struct Setting {
 
 impl Model for Setting {
     ghost use Rattle.std.specs.Prelude.{◌≡◌, map};
-    ghost use Rattle.std.specs.String.{string_bytes};
     ghost use Rattle.mk_foot.specs.Setting as value;
 
     ghost Value = { value.Setting };
 
-    ghost view = { λ s. record { records = s.records.items; sources = s.sources; texts = s.texts; fixed = map string_bytes s.fixed.items; passed_over = s.passed_over } };
+    ghost view = { λ s. record { records = s.records.items; sources = s.sources; texts = s.texts; fixed = s.fixed; passed_over = s.passed_over } };
 
     ghost invariant = { λ s. s.targets ≡ map (λ r. r.target) s.records.items };
 }
@@ -45,16 +45,6 @@ fn targets_of(alloc: Global, records: &[Record]) -> Result<NameTable, AllocError
         targets.push(record.target.clone()?)?;
     }
     NameTable::new(alloc, targets)
-}
-
-/// Whether a name begins with one of the prefixes.
-fn is_under(prefixes: &[String], name: &str) -> bool
-    ensures { result ≡ is_under (map string_bytes prefixes.now) name.now }
-{
-    let bytes = name.as_bytes();
-    prefixes
-        .iter()
-        .any(|prefix| bytes.starts_with(prefix.as_bytes()))
 }
 
 impl Setting {
@@ -75,7 +65,7 @@ impl Setting {
         } = book;
         let targets = targets_of(alloc, &records)?;
         Ok(Setting {
-            fixed,
+            fixed: Prefixes::new(alloc, fixed)?,
             sources: NameTable::new(alloc, sources)?,
             texts: NameTable::new(alloc, texts)?,
             passed_over: NameTable::new(alloc, passed_over)?,
@@ -89,7 +79,7 @@ impl Setting {
     pub fn is_given(&self, name: &str) -> bool
         ensures { result ≡ is_given self.now name.now }
     {
-        self.sources.contains(name) || is_under(&self.fixed, name) || self.texts.contains(name)
+        self.sources.contains(name) || self.fixed.is_under(name) || self.texts.contains(name)
     }
 
     /// Whether a file may be edited between makes: a source that is no text of the makefile. It

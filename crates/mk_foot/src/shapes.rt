@@ -1,17 +1,22 @@
 //! A file of footprints by its parts.
 
 ghost use Rattle.std.specs.Prelude.{◌≡◌, map};
+ghost use Rattle.std.specs.String.{string_bytes};
 ghost use Rattle.serde_json.specs.View.{view, members_view};
 ghost use Rattle.mk_foot.specs.Steps.{Gives, each};
 ghost use Rattle.mk_foot.specs.Kinds.{pairs};
+ghost use Rattle.mk_foot.specs.declared.key.Key.TheVariants.{Lists};
+ghost use Rattle.mk_foot.specs.Taken.{object_view, without};
 ghost use Rattle.mk_foot.specs.Footprints.{entry_keys, shared_in, entry_in, group_in, list_in, lists_in, first_format, second_format, footprints_in};
 
 use crate::fault::FootFault;
+use crate::fields::{
+    Fields, fields_of, format_in, has_only, take, take_elements, take_text, take_texts,
+    unless_other,
+};
 use crate::format::Format;
 use crate::key::Key;
-use crate::kinds::{
-    at_key, elements_at, format_in, has_only, is_object, pairs_of, text_at, texts_at, texts_of,
-};
+use crate::kinds::{pairs_of, texts_of};
 use crate::parts::{Entry, Footprints, Group, SharedList};
 use serde_json::Value;
 use serde_json::value::Map;
@@ -33,29 +38,30 @@ fn entry_keys(format: Format) -> &'static [Key]
     }
 }
 
-/// The shared lists that a record names.
+/// Takes the shared lists that a record names.
 #[tactic(auto, unfolding(crate::specs::Footprints::shared_in))]
-fn shared_in<'a>(alloc: Global, format: Format, value: &'a Value) -> Result<Vec<&'a str>, FootFault>
-    ensures { Gives (λ texts. map (λ text. text.now) texts.items) result (shared_in format (view value.now)) }
+fn shared_in(alloc: Global, format: Format, fields: &mut Fields) -> Result<Vec<String>, FootFault>
+    ensures { Gives (λ texts. map string_bytes texts.items) result (shared_in format (object_view fields.old.entries)) }
 {
     match format {
         Format::One => Ok(Vec::new(alloc)),
-        Format::Two => texts_at(alloc, Key::Shared, value),
+        Format::Two => take_texts(alloc, Key::Shared, fields),
     }
 }
 
 /// A record: its keys in order, then any other key.
-#[tactic(auto, unfolding(crate::specs::Footprints::entry_in))]
-fn entry_in<'a>(alloc: Global, format: Format, value: &'a Value) -> Result<Entry<'a>, FootFault>
-    ensures { Gives (λ entry. entry) result (entry_in format (view value.now)) }
+#[tactic(auto, using(crate::proofs::Taken::texts_at_other_key, crate::proofs::Taken::shared_in_other_key), unfolding(crate::specs::Footprints::entry_in))]
+fn entry_in(alloc: Global, format: Format, value: Value) -> Result<Entry, FootFault>
+    ensures { Gives (λ entry. entry) result (entry_in format (view value)) }
 {
-    is_object(Key::Records, value)?;
-    let target = text_at(Key::Target, value)?;
-    let commands = texts_at(alloc, Key::Commands, value)?;
-    let reads = texts_at(alloc, Key::Reads, value)?;
-    let writes = texts_at(alloc, Key::Writes, value)?;
-    let shared = shared_in(alloc, format, value)?;
-    has_only(entry_keys(format), value)?;
+    let mut fields = fields_of(Key::Records, value)?;
+    let alone = has_only(entry_keys(format), &fields);
+    let target = take_text(Key::Target, &mut fields)?;
+    let commands = take_texts(alloc, Key::Commands, &mut fields)?;
+    let reads = take_texts(alloc, Key::Reads, &mut fields)?;
+    let writes = take_texts(alloc, Key::Writes, &mut fields)?;
+    let shared = shared_in(alloc, format, &mut fields)?;
+    unless_other(alone)?;
     Ok(Entry {
         target,
         commands,
@@ -66,12 +72,8 @@ fn entry_in<'a>(alloc: Global, format: Format, value: &'a Value) -> Result<Entry
 }
 
 /// Records, one after another.
-fn entries_in<'a>(
-    alloc: Global,
-    format: Format,
-    values: &'a [Value],
-) -> Result<Vec<Entry<'a>>, FootFault>
-    ensures { Gives (λ entries. entries.items) result (each (entry_in format) (map view values.now)) }
+fn entries_in(alloc: Global, format: Format, values: Vec<Value>) -> Result<Vec<Entry>, FootFault>
+    ensures { Gives (λ entries. entries.items) result (each (entry_in format) (map view values.items)) }
 {
     let mut entries = Vec::with_capacity(alloc, values.len())?;
     for value in values {
@@ -81,14 +83,15 @@ fn entries_in<'a>(
 }
 
 /// A group: its keys, then any other key, then its records.
-#[tactic(auto, unfolding(crate::specs::Footprints::group_in))]
-fn group_in<'a>(alloc: Global, value: &'a Value) -> Result<Group<'a>, FootFault>
-    ensures { Gives (λ group. group) result (group_in (view value.now)) }
+#[tactic(auto, using(crate::proofs::Taken::elements_at_other_key), unfolding(crate::specs::Footprints::group_in))]
+fn group_in(alloc: Global, value: Value) -> Result<Group, FootFault>
+    ensures { Gives (λ group. group) result (group_in (view value)) }
 {
-    is_object(Key::Groups, value)?;
-    let goals = texts_at(alloc, Key::Goals, value)?;
-    let values = elements_at(Key::Records, value)?;
-    has_only(&[Key::Goals, Key::Records], value)?;
+    let mut fields = fields_of(Key::Groups, value)?;
+    let alone = has_only(&[Key::Goals, Key::Records], &fields);
+    let goals = take_texts(alloc, Key::Goals, &mut fields)?;
+    let values = take_elements(Key::Records, &mut fields)?;
+    unless_other(alone)?;
     let records = entries_in(alloc, Format::Two, values)?;
     Ok(Group {
         goals: Some(goals),
@@ -97,8 +100,8 @@ fn group_in<'a>(alloc: Global, value: &'a Value) -> Result<Group<'a>, FootFault>
 }
 
 /// Groups, one after another.
-fn groups_in<'a>(alloc: Global, values: &'a [Value]) -> Result<Vec<Group<'a>>, FootFault>
-    ensures { Gives (λ groups. groups.items) result (each group_in (map view values.now)) }
+fn groups_in(alloc: Global, values: Vec<Value>) -> Result<Vec<Group>, FootFault>
+    ensures { Gives (λ groups. groups.items) result (each group_in (map view values.items)) }
 {
     let mut groups = Vec::with_capacity(alloc, values.len())?;
     for value in values {
@@ -108,45 +111,40 @@ fn groups_in<'a>(alloc: Global, values: &'a [Value]) -> Result<Vec<Group<'a>>, F
 }
 
 /// The shared lists that are the members of an object.
-fn members_in<'a>(
-    alloc: Global,
-    members: &'a Map<String, Value>,
-) -> Result<Vec<SharedList<'a>>, FootFault>
-    ensures { Gives (λ lists. lists.items) result (each list_in (pairs (members_view members.now.entries))) }
+fn members_in(alloc: Global, members: Map<String, Value>) -> Result<Vec<SharedList>, FootFault>
+    ensures { Gives (λ lists. lists.items) result (each list_in (pairs (members_view members.entries))) }
 {
     let mut lists = Vec::new(alloc);
-    for (name, value) in members.iter() {
+    for (name, value) in members {
         let names = texts_of(alloc, Key::Lists, value)?;
-        lists.push(SharedList {
-            name: name.as_str(),
-            names,
-        })?;
+        lists.push(SharedList { name, names })?;
     }
     Ok(lists)
 }
 
-/// The shared lists, in the order of their names.
+/// Takes the shared lists, in the order of their names.
 #[tactic(auto, unfolding(crate::specs::Footprints::lists_in))]
-fn lists_in<'a>(alloc: Global, object: &'a Value) -> Result<Vec<SharedList<'a>>, FootFault>
-    ensures { Gives (λ lists. lists.items) result (lists_in (view object.now)) }
+fn lists_in(alloc: Global, fields: &mut Fields) -> Result<Vec<SharedList>, FootFault>
+    ensures lists { Gives (λ lists. lists.items) result (lists_in (object_view fields.old.entries)) }
+    ensures left { object_view fields.new.entries ≡ without Lists (object_view fields.old.entries) }
 {
-    let value = at_key(Key::Lists, object)?;
+    let value = take(Key::Lists, fields)?;
     let members = pairs_of(Key::Lists, value)?;
     members_in(alloc, members)
 }
 
 /// A file of format 1.
-#[tactic(auto, unfolding(crate::specs::Footprints::first_format))]
-fn first_format<'a>(alloc: Global, object: &'a Value) -> Result<Footprints<'a>, FootFault>
-    ensures { Gives (λ file. file) result (first_format (view object.now)) }
+#[tactic(auto, using(crate::proofs::Taken::texts_at_other_key, crate::proofs::Taken::elements_at_other_key), unfolding(crate::specs::Footprints::first_format))]
+fn first_format(alloc: Global, fields: Fields) -> Result<Footprints, FootFault>
+    ensures { Gives (λ file. file) result (first_format (object_view fields.entries)) }
 {
-    let fixed = texts_at(alloc, Key::Fixed, object)?;
-    let sources = texts_at(alloc, Key::Sources, object)?;
-    let values = elements_at(Key::Records, object)?;
-    has_only(
-        &[Key::Format, Key::Fixed, Key::Sources, Key::Records],
-        object,
-    )?;
+    let mut fields = fields;
+    let known = [Key::Format, Key::Fixed, Key::Sources, Key::Records];
+    let alone = has_only(&known, &fields);
+    let fixed = take_texts(alloc, Key::Fixed, &mut fields)?;
+    let sources = take_texts(alloc, Key::Sources, &mut fields)?;
+    let values = take_elements(Key::Records, &mut fields)?;
+    unless_other(alone)?;
     let records = entries_in(alloc, Format::One, values)?;
     let group = Group {
         goals: None,
@@ -161,24 +159,24 @@ fn first_format<'a>(alloc: Global, object: &'a Value) -> Result<Footprints<'a>, 
 }
 
 /// A file of format 2.
-#[tactic(auto, unfolding(crate::specs::Footprints::second_format))]
-fn second_format<'a>(alloc: Global, object: &'a Value) -> Result<Footprints<'a>, FootFault>
-    ensures { Gives (λ file. file) result (second_format (view object.now)) }
+#[tactic(auto, using(crate::proofs::Taken::texts_at_other_key, crate::proofs::Taken::elements_at_other_key, crate::proofs::Taken::lists_in_other_key), unfolding(crate::specs::Footprints::second_format))]
+fn second_format(alloc: Global, fields: Fields) -> Result<Footprints, FootFault>
+    ensures { Gives (λ file. file) result (second_format (object_view fields.entries)) }
 {
-    let fixed = texts_at(alloc, Key::Fixed, object)?;
-    let sources = texts_at(alloc, Key::Sources, object)?;
-    let lists = lists_in(alloc, object)?;
-    let values = elements_at(Key::Groups, object)?;
-    has_only(
-        &[
-            Key::Format,
-            Key::Fixed,
-            Key::Sources,
-            Key::Lists,
-            Key::Groups,
-        ],
-        object,
-    )?;
+    let mut fields = fields;
+    let known = [
+        Key::Format,
+        Key::Fixed,
+        Key::Sources,
+        Key::Lists,
+        Key::Groups,
+    ];
+    let alone = has_only(&known, &fields);
+    let fixed = take_texts(alloc, Key::Fixed, &mut fields)?;
+    let sources = take_texts(alloc, Key::Sources, &mut fields)?;
+    let lists = lists_in(alloc, &mut fields)?;
+    let values = take_elements(Key::Groups, &mut fields)?;
+    unless_other(alone)?;
     let groups = groups_in(alloc, values)?;
     Ok(Footprints {
         fixed,
@@ -190,12 +188,12 @@ fn second_format<'a>(alloc: Global, object: &'a Value) -> Result<Footprints<'a>,
 
 /// A file of either format.
 #[tactic(auto, unfolding(crate::specs::Footprints::footprints_in))]
-pub fn footprints_in<'a>(alloc: Global, value: &'a Value) -> Result<Footprints<'a>, FootFault>
-    ensures { Gives (λ file. file) result (footprints_in (view value.now)) }
+pub fn footprints_in(alloc: Global, value: Value) -> Result<Footprints, FootFault>
+    ensures { Gives (λ file. file) result (footprints_in (view value)) }
 {
-    is_object(Key::Top, value)?;
-    match format_in(value)? {
-        Format::One => first_format(alloc, value),
-        Format::Two => second_format(alloc, value),
+    let fields = fields_of(Key::Top, value)?;
+    match format_in(&fields)? {
+        Format::One => first_format(alloc, fields),
+        Format::Two => second_format(alloc, fields),
     }
 }

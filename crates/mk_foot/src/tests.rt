@@ -284,48 +284,60 @@ fn wants_memory_or_answers(rt: HostRuntime) -> Result<(), Fail> {
 const BUILD: &str =
     r#"{"format":1,"fixed":["/usr/"],"sources":["a.c","b.mk","a.c"],"records":[{"target":"p","commands":["mk p","mk p"],"reads":["a.c","q","a.c"],"writes":["p"]},{"target":"q","commands":["mk q"],"reads":[],"writes":["q","q"]}]}"#;
 
-/// Names, and whether each is given, editable and passed over.
-const NAMES: &[(&str, bool, bool, bool)] = &[
-    ("a.c", true, true, false),
-    ("b.mk", true, false, false),
-    ("c.mk", true, false, false),
-    ("/usr/x.h", true, false, false),
-    ("/usr/", true, false, false),
-    ("/usr", false, false, false),
-    ("lib/usr/x", false, false, false),
-    ("a", false, false, false),
-    ("a.c/x", false, false, false),
-    ("p", false, false, false),
-    ("gone.mk", false, false, true),
-    ("", false, false, false),
-];
+/// Adds what a setting tells of each of these names: given, editable, passed over.
+fn push_told(out: &mut String, setting: &Setting, names: &str) -> Result<(), AllocError> {
+    for name in names.split(',') {
+        out.push_str(name)?;
+        if setting.is_given(name) {
+            out.push_str(" given")?;
+        }
+        if setting.is_editable(name) {
+            out.push_str(" editable")?;
+        }
+        if setting.is_passed_over(name) {
+            out.push_str(" passed over")?;
+        }
+        out.push(';')?;
+    }
+    Ok(())
+}
+
+/// Adds the record of each of these names.
+fn push_records(out: &mut String, setting: &Setting, names: &str) -> Result<(), AllocError> {
+    for name in names.split(',') {
+        match setting.record_of(name) {
+            Some(record) => push_record(out, record)?,
+            None => out.push_str(" none;")?,
+        }
+    }
+    Ok(())
+}
+
+/// The setting of `BUILD`.
+fn setting(alloc: Global) -> Result<Setting, Fail> {
+    let book = read_book(alloc, BUILD.as_bytes(), &[])?;
+    let texts = names(alloc, "c.mk b.mk")?;
+    let passed_over = names(alloc, "gone.mk")?;
+    Ok(Setting::new(alloc, book, texts, passed_over)?)
+}
+
+/// What a setting tells.
+fn told(alloc: Global, setting: &Setting) -> Result<String, AllocError> {
+    let mut out = String::new(alloc);
+    push_told(&mut out, setting, "a.c,b.mk,c.mk,gone.mk,/usr/x.h,/usr/")?;
+    push_told(&mut out, setting, "/usr,lib/usr/x,a,a.c/x,p,")?;
+    push_names(&mut out, setting.sources())?;
+    push_records(&mut out, setting, "q,p,r")?;
+    Ok(out)
+}
 
 #[test]
 fn knows_its_files(rt: HostRuntime) -> Result<(), Fail> {
-    let alloc = rt.alloc();
-    let book = read_book(alloc, BUILD.as_bytes(), &names(alloc, "p")?)?;
-    let setting = Setting::new(
-        alloc,
-        book,
-        names(alloc, "c.mk b.mk")?,
-        names(alloc, "gone.mk")?,
-    )?;
-    for &(name, given, editable, passed_over) in NAMES {
-        assert_eq!(rt; setting.is_given(name), given, "at {name:?}");
-        assert_eq!(rt; setting.is_editable(name), editable, "at {name:?}");
-        assert_eq!(rt; setting.is_passed_over(name), passed_over, "at {name:?}");
-    }
-    let mut found = String::new(alloc);
-    push_names(&mut found, setting.sources())?;
-    for name in ["q", "p", "r"] {
-        match setting.record_of(name) {
-            Some(record) => push_record(&mut found, record)?,
-            None => found.push_str(" none;")?,
-        }
-    }
+    let setting = setting(rt.alloc())?;
+    let out = told(rt.alloc(), &setting)?;
     assert_eq!(rt;
-        found.as_str(),
-        " a.c b.mk q: > q (mk q); p: a.c q > p (mk p / mk p); none;"
+        out.as_str(),
+        "a.c given editable;b.mk given;c.mk given;gone.mk passed over;/usr/x.h given;/usr/ given;/usr;lib/usr/x;a;a.c/x;p;; a.c b.mk q: > q (mk q); p: a.c q > p (mk p / mk p); none;"
     );
     Ok(())
 }

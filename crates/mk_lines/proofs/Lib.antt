@@ -18,3 +18,4 @@ pub mod WordOrder
 pub mod TwoTexts
 pub mod LongestParts
 pub mod Outside
+pub mod Tidy

@@ -21,7 +21,7 @@ pub use comments::uncomment;
 pub use fault::LineFault;
 pub use lines::{Line, logical_lines};
 pub use name::{Name, Names};
-pub use paths::is_plain_path;
+pub use paths::{is_plain_path, is_plain_text_path};
 pub use references::first_outside;
 pub use rule_lines::is_rule_line;
 pub use spans::{Span, words};

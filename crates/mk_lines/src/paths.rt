@@ -1,6 +1,6 @@
 //! Plain paths.
 
-ghost use Rattle.std.specs.Prelude.{◌≡◌};
+ghost use Rattle.std.specs.Prelude.{◌≡◌, true};
 ghost use Rattle.std.specs.List.{slice_split, list_all};
 ghost use Rattle.std.specs.Str.{is_utf8};
 ghost use Rattle.mk_lines.specs.Bytes.{is_byte};
@@ -68,6 +68,26 @@ fn is_visible_throughout(name: &[u8]) -> bool
     name.iter().all(|b| *b > b' ' && *b != 127)
 }
 
+/// Whether a name has the shape of a path at a glance, by one look at each byte: visible bytes, no
+/// dot before all, no slash behind all, and neither slash nor dot behind a slash. Most paths have it.
+fn is_tidy(name: &[u8]) -> bool
+    ensures visible { result ≡ true → list_all is_visible name.now ≡ true }
+    ensures components { result ≡ true → are_components (slice_split (is_byte 47) name.now) ≡ true }
+{
+    let [first, rest @ ..] = name else {
+        return false;
+    };
+    let mut before = *first;
+    let mut tidy = (before > b' ') & (before != 127) & (before != b'.');
+    for byte in rest {
+        let after = *byte;
+        let turns = (before == b'/') & ((after == b'/') | (after == b'.'));
+        tidy = tidy & (after > b' ') & (after != 127) & !turns;
+        before = after;
+    }
+    tidy && before != b'/'
+}
+
 /// Whether a name is of 1 to 4,096 bytes without spaces and control bytes, and without a second
 /// spelling of one place.
 fn has_path_shape(name: &[u8]) -> bool
@@ -76,7 +96,7 @@ fn has_path_shape(name: &[u8]) -> bool
     if name.is_empty() || name.len() > MAX_PATH {
         return false;
     }
-    is_visible_throughout(name) && are_components(name)
+    is_tidy(name) || (is_visible_throughout(name) && are_components(name))
 }
 
 /// Whether bytes are a plain path: UTF-8 of 1 to 4,096 bytes without spaces and control bytes, in
@@ -87,4 +107,13 @@ pub fn is_plain_path(name: &[u8]) -> bool
     ensures { result ≡ is_plain_path name.now }
 {
     has_path_shape(name) && str::from_utf8(name).is_ok()
+}
+
+/// Whether a text is a plain path. It answers as `is_plain_path` of the text's bytes, which need not
+/// be looked at again to be UTF-8.
+#[tactic(auto, unfolding(crate::specs::Paths::is_plain_path))]
+pub fn is_plain_text_path(name: &str) -> bool
+    ensures { result ≡ is_plain_path name.now }
+{
+    has_path_shape(name.as_bytes())
 }

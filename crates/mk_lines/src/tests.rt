@@ -139,13 +139,17 @@ fn finds_words(rt: HostRuntime) -> Result<(), Fail> {
 #[test]
 fn knows_plain_paths(rt: HostRuntime) -> Result<(), Fail> {
     let alloc = rt.alloc();
-    for path in ["..", "../a", "/a", "a/b", "../..", "a.b", "ä"] {
+    for path in [
+        "..", "../a", "/a", "a/b", "../..", "a.b", "ä", ".a", "a/.b", "..a/b", "/...",
+    ] {
         assert!(rt; is_plain_path(path.as_bytes()), "{path:?}");
+        assert!(rt; is_plain_text_path(path), "{path:?}");
     }
     for path in [
         "/..", "a/..", "/", "a/", "//a", "./a", "a//b", "a/./b", "", ".", "a b", "a\tb", "a\x7f",
     ] {
         assert!(rt; !is_plain_path(path.as_bytes()), "{path:?}");
+        assert!(rt; !is_plain_text_path(path), "{path:?}");
     }
     assert!(rt; !is_plain_path(b"a\xff"));
     assert!(rt; is_plain_path(&long(alloc, b"", b"x", 4096)?));

@@ -1,5 +1,5 @@
-use Rattle.mk_foot.proofs.Members.{elements_items}
+use Rattle.mk_foot.proofs.Members.{elements_found}
 use Rattle.mk_foot.proofs.kinds.elements_of.Goals as goal
 
-pub returns-in-Some : goal.returns-in-Some
-returns-in-Some c = rw (← c.in-Some.ensures, elements_items, c.as_slice.ensures.value)
+pub returns-in-Array : goal.returns-in-Array
+returns-in-Array c = elements_found c.args.key c.args.value c.in-Array.values c.in-Array.is

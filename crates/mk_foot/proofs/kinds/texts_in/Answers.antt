@@ -1,24 +1,30 @@
-use Rattle.std.proofs.Common.{◌<◌, ◌≤◌, length, arith}
-use Rattle.std.proofs.lemmas.List.{map_push}
+use Rattle.std.proofs.Common.{◌≡◌, [], arith, List, map, string_bytes, ap, sym, ◌∙◌}
+use Rattle.std.specs.Vec.Iter.{into_iter_items}
+use Rattle.std.proofs.lemmas.List.{map_push, nil_from_length}
 use Rattle.std.proofs.lemmas.Result.{err_from_is_err_and}
 use Rattle.serde_json.specs.View.{view}
+use Rattle.serde_json.specs.declared.value.Value.{Value}
+use Rattle.mk_foot.specs.Steps.{each}
 use Rattle.mk_foot.specs.Kinds.{text_of}
-use Rattle.mk_foot.proofs.Sets.{texts}
-use Rattle.mk_foot.proofs.Steps.{each_more, each_fails, each_ends}
+use Rattle.mk_foot.proofs.Steps.{with_front, with_front_nil, each_first, first_fails, each_none}
 use Rattle.mk_foot.proofs.kinds.texts_in.Goals as goal
+
+pub loop-value-init : goal.loop-value-init
+loop-value-init c = rw (c.in_ok-texts.ensures.items, c.into_iter-value-iterator.ensures.into_iter_gives.0) (with_front_nil (each (text_of c.args.key) (map view c.args.values.items)))
 
 pub loop-value-preserved : goal.loop-value-preserved
 loop-value-preserved c =
-    let lt : c.loop-value.value-index < length c.args.values.now = omega arith in
-    rw (c.in_ok-push.ensures.items, map_push) (each_more (text_of c.args.key) view (texts c.loop-value.texts.items) c.args.values.now c.loop-value.value-index c.value-item.result _ _ c.value-item.is c.in_ok-text_of.ensures c.loop-value.invariant lt)
+    let left = ap (λ (vs : List Value). with_front (map string_bytes c.loop-value.texts.items) (each (text_of c.args.key) (map view vs))) c.in-Some.ensures.steps.0 in
+    rw (c.in_ok-push.ensures.items, map_push) (each_first (text_of c.args.key) (map string_bytes c.loop-value.texts.items) (view c.in-Some.value) (map view (into_iter_items c.next.new.self)) _ _ c.in_ok-text_of.ensures (sym left ∙ c.loop-value.invariant))
 
 pub returns-in_err-text_of : goal.returns-in_err-text_of
 returns-in_err-text_of c =
-    let lt : c.loop-value.value-index < length c.args.values.now = omega arith in
+    let left = ap (λ (vs : List Value). with_front (map string_bytes c.loop-value.texts.items) (each (text_of c.args.key) (map view vs))) c.in-Some.ensures.steps.0 in
     let p = err_from_is_err_and c.from_residual-in_err-text_of.result c.from_residual-in_err-text_of.ensures.1 in
-    rw (p.1, p.2) (each_fails (text_of c.args.key) view (texts c.loop-value.texts.items) c.args.values.now c.loop-value.value-index c.value-item.result _ _ c.value-item.is c.in_err-text_of.ensures c.loop-value.invariant lt)
+    rw (p.1, p.2) (first_fails (text_of c.args.key) (map string_bytes c.loop-value.texts.items) (view c.in-Some.value) (map view (into_iter_items c.next.new.self)) _ _ c.in_err-text_of.ensures (sym left ∙ c.loop-value.invariant))
 
 pub returns : goal.returns
 returns c =
-    let le : length c.args.values.now ≤ c.loop-value.value-index = omega arith in
-    each_ends (text_of c.args.key) view (texts c.loop-value.texts.items) c.args.values.now c.loop-value.value-index _ c.loop-value.invariant le
+    let none : into_iter_items c.loop-value.value-iterator ≡ [] = nil_from_length (into_iter_items c.loop-value.value-iterator) (omega (arith, c.loop-value.value-iterator.rest.ok.0, c.in-None.ensures.steps.0)) in
+    let left = ap (λ (vs : List Value). with_front (map string_bytes c.loop-value.texts.items) (each (text_of c.args.key) (map view vs))) none in
+    each_none (text_of c.args.key) (map string_bytes c.loop-value.texts.items) _ (sym left ∙ c.loop-value.invariant)

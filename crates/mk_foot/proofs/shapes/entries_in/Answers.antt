@@ -1,22 +1,30 @@
-use Rattle.std.proofs.Common.{◌<◌, ◌≤◌, length, arith}
+use Rattle.std.proofs.Common.{◌≡◌, List, [], map, ap, sym, ◌∙◌, arith}
+use Rattle.std.specs.Vec.Iter.{into_iter_items}
+use Rattle.std.proofs.lemmas.List.{nil_from_length}
 use Rattle.std.proofs.lemmas.Result.{err_from_is_err_and}
 use Rattle.serde_json.specs.View.{view}
+use Rattle.serde_json.specs.declared.value.Value.{Value}
+use Rattle.mk_foot.specs.Steps.{each}
 use Rattle.mk_foot.specs.Footprints.{entry_in}
-use Rattle.mk_foot.proofs.Steps.{each_more, each_fails, each_ends}
+use Rattle.mk_foot.proofs.Steps.{with_front, with_front_nil, each_first, first_fails, each_none}
 use Rattle.mk_foot.proofs.shapes.entries_in.Goals as goal
+
+pub loop-value-init : goal.loop-value-init
+loop-value-init c = rw (c.in_ok-entries.ensures.items, c.into_iter-value-iterator.ensures.into_iter_gives.0) (with_front_nil (each (entry_in c.args.format) (map view c.args.values.items)))
 
 pub loop-value-preserved : goal.loop-value-preserved
 loop-value-preserved c =
-    let lt : c.loop-value.value-index < length c.args.values.now = omega arith in
-    rw c.in_ok-push.ensures.items (each_more (entry_in c.args.format) view c.loop-value.entries.items c.args.values.now c.loop-value.value-index c.value-item.result _ _ c.value-item.is c.in_ok-entry_in.ensures c.loop-value.invariant lt)
+    let left = ap (λ (vs : List Value). with_front c.loop-value.entries.items (each (entry_in c.args.format) (map view vs))) c.in-Some.ensures.steps.0 in
+    rw c.in_ok-push.ensures.items (each_first (entry_in c.args.format) c.loop-value.entries.items (view c.in-Some.value) (map view (into_iter_items c.next.new.self)) _ _ c.in_ok-entry_in.ensures (sym left ∙ c.loop-value.invariant))
 
 pub returns-in_err-entry_in : goal.returns-in_err-entry_in
 returns-in_err-entry_in c =
-    let lt : c.loop-value.value-index < length c.args.values.now = omega arith in
+    let left = ap (λ (vs : List Value). with_front c.loop-value.entries.items (each (entry_in c.args.format) (map view vs))) c.in-Some.ensures.steps.0 in
     let p = err_from_is_err_and c.from_residual-in_err-entry_in.result c.from_residual-in_err-entry_in.ensures.1 in
-    rw (p.1, p.2) (each_fails (entry_in c.args.format) view c.loop-value.entries.items c.args.values.now c.loop-value.value-index c.value-item.result _ _ c.value-item.is c.in_err-entry_in.ensures c.loop-value.invariant lt)
+    rw (p.1, p.2) (first_fails (entry_in c.args.format) c.loop-value.entries.items (view c.in-Some.value) (map view (into_iter_items c.next.new.self)) _ _ c.in_err-entry_in.ensures (sym left ∙ c.loop-value.invariant))
 
 pub returns : goal.returns
 returns c =
-    let le : length c.args.values.now ≤ c.loop-value.value-index = omega arith in
-    each_ends (entry_in c.args.format) view c.loop-value.entries.items c.args.values.now c.loop-value.value-index _ c.loop-value.invariant le
+    let none : into_iter_items c.loop-value.value-iterator ≡ [] = nil_from_length (into_iter_items c.loop-value.value-iterator) (omega (arith, c.loop-value.value-iterator.rest.ok.0, c.in-None.ensures.steps.0)) in
+    let left = ap (λ (vs : List Value). with_front c.loop-value.entries.items (each (entry_in c.args.format) (map view vs))) none in
+    each_none (entry_in c.args.format) c.loop-value.entries.items _ (sym left ∙ c.loop-value.invariant)

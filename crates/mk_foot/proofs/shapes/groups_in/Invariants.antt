@@ -1,4 +1,5 @@
-use Rattle.std.proofs.Common.{◌≡◌, map, drop}
+use Rattle.std.proofs.Common.{◌≡◌, map}
+use Rattle.std.specs.Vec.Iter.{into_iter_items}
 use Rattle.serde_json.specs.View.{view}
 use Rattle.mk_foot.specs.Steps.{each}
 use Rattle.mk_foot.specs.Footprints.{group_in}
@@ -7,4 +8,4 @@ use Rattle.mk_foot.proofs.shapes.groups_in.Given as goal
 
 -- the groups so far and those of the values that are left
 abbrev pub invariant-loop-value : goal.invariant-loop-value
-invariant-loop-value l = with_front l.groups.items (each group_in (map view (drop l.value-index l.values))) ≡ each group_in (map view l.values)
+invariant-loop-value l = with_front l.groups.items (each group_in (map view (into_iter_items l.value-iterator))) ≡ each group_in (map view l.fn.values.items)

@@ -9,4 +9,4 @@ use Rattle.mk_foot.proofs.shapes.members_in.Given as goal
 
 -- the lists so far and those of the members that are left
 abbrev pub invariant-loop-name : goal.invariant-loop-name
-invariant-loop-name l = with_front l.lists.items (each list_in (map pair_view l.name-iterator)) ≡ each list_in (pairs (members_view l.members.entries))
+invariant-loop-name l = with_front l.lists.items (each list_in (map pair_view l.name-iterator)) ≡ each list_in (pairs (members_view l.fn.members.entries))

@@ -1,0 +1,34 @@
+"""Builds a program of this folder over copies of crates of the repository."""
+
+import shutil
+import subprocess
+import sys
+from pathlib import Path
+
+from run import DATA, HERE
+
+
+def built(name: str, crates: tuple[str, ...], libraries: str, empty: str, task: str) -> Path:
+    """The program `name`, from `name/main.rt.in`, over these crates of the repository and these libraries.
+
+    The run that builds it does the task on a file with the text `empty`.
+    """
+    repository = DATA / name
+    shutil.rmtree(repository, ignore_errors=True)
+    own = repository / "crates" / name
+    (own / "src").mkdir(parents=True)
+    shutil.copy(HERE / name / "main.rt.in", own / "src" / "main.rt")
+    shutil.copy(HERE.parent / "HANDLES", repository / "HANDLES")
+    for crate in crates:
+        # With what earlier checks left in out/, so that little is proved again.
+        shutil.copytree(HERE.parent / "crates" / crate, repository / "crates" / crate)
+    listed = (HERE.parent / "crates.txt").read_text().splitlines()
+    kept = [line for line in listed if line.partition(":")[0] in crates]
+    (repository / "crates.txt").write_text("\n".join([*kept, f"{name}: {libraries}", ""]))
+    file = DATA / f"{name}.empty"
+    file.write_text(empty)
+    command = ["rt", "run", "--", task, str(file)]
+    done = subprocess.run(command, cwd=own, capture_output=True, text=True, check=False)
+    if done.returncode != 0:
+        sys.exit(f"bench: {' '.join(command)} in {own}:\n{done.stdout}{done.stderr}")
+    return own / "out" / name

@@ -1,0 +1,112 @@
+-- Paths that are seen to have the shape of one by a look at each byte.
+use Rattle.std.proofs.Common.{◌≡◌, ℕ, Bool, true, false, not, ◌&&◌, ◌||◌, ◌==◌, cond, List, [], ◌∷◌, ◌-◌, ◌≤◌, length, get_or, take, drop, refl, sym, ap, ◌∙◌, true≢false, arith}
+use Rattle.std.specs.List.{slice_split, onto_first, list_all}
+use Rattle.std.proofs.lemmas.Bool.{ne_eqb}
+use Rattle.std.proofs.lemmas.List.{drop_all, take_rest}
+use Rattle.mk_lines.specs.Bytes.{is_byte}
+use Rattle.mk_lines.specs.Paths.{is_visible, is_proper, are_components}
+use Rattle.mk_lines.proofs.Components.{absolute}
+
+-- a byte that may follow another one
+abbrev pub follows : ℕ → ℕ → Bool
+follows before b = is_visible b && not (before == 47 && (b == 47 || b == 46))
+
+-- what is left behind a byte is tidy
+abbrev pub tidy_from : ℕ → List ℕ → Bool
+tidy_from before [] = not (before == 47)
+tidy_from before (b ∷ bs) = follows before b && tidy_from b bs
+
+both_true : (a b : Bool) → (a && b) ≡ true → (a ≡ true) × (b ≡ true)
+both_true true b e = (refl, e)
+both_true false b e = absurd (true≢false (sym e))
+
+none_true : (b : Bool) → not b ≡ true → b ≡ false
+none_true true e = absurd (true≢false (sym e))
+none_true false e = refl
+
+neither : (a b : Bool) → (a || b) ≡ false → (a ≡ false) × (b ≡ false)
+neither true b e = absurd (true≢false e)
+neither false b e = (refl, e)
+
+-- the bytes are visible
+seen : (before : ℕ) (bs : List ℕ) → tidy_from before bs ≡ true → list_all is_visible bs ≡ true
+seen before [] e = refl
+seen before (b ∷ bs) e =
+    let h = both_true (follows before b) (tidy_from b bs) e in
+    let v = both_true (is_visible b) _ h.0 in
+    rw v.0 (seen b bs h.1)
+
+-- all parts but the first are proper
+abbrev rest_proper : List (List ℕ) → Bool
+rest_proper [] = true
+rest_proper (part ∷ parts) = list_all is_proper parts
+
+rest_onto : (b : ℕ) (parts : List (List ℕ)) → rest_proper (onto_first b parts) ≡ rest_proper parts
+rest_onto b [] = refl
+rest_onto b (part ∷ parts) = refl
+
+some_bytes : (b : ℕ) (bs : List ℕ) → (length (b ∷ bs) == 0) ≡ false
+some_bytes b bs = ne_eqb (length (b ∷ bs)) 0 (λ z. absurd (omega (arith, z)))
+
+no_dot : (b : ℕ) (bs : List ℕ) → (b == 46) ≡ false → is_proper (b ∷ bs) ≡ true
+no_dot b bs e = rw (some_bytes b bs, e) refl
+
+proper_onto : (b : ℕ) (parts : List (List ℕ)) → (b == 46) ≡ false → rest_proper parts ≡ true → list_all is_proper (onto_first b parts) ≡ true
+proper_onto b [] e h = rw (no_dot b [] e) refl
+proper_onto b (part ∷ parts) e h = rw (no_dot b part e) h
+
+abbrev parts : List ℕ → List (List ℕ)
+parts bs = slice_split (is_byte 47) bs
+
+-- what is known of the parts behind a slash, and behind another byte
+abbrev Behind : ℕ → List ℕ → Type 0
+Behind before bs = ((before == 47) ≡ true → list_all is_proper (parts bs) ≡ true) × ((before == 47) ≡ false → rest_proper (parts bs) ≡ true)
+
+next_part : (b : ℕ) (bs : List ℕ) (slash : Bool) → (b == 47) ≡ slash → Behind b bs → rest_proper (cond slash ([] ∷ parts bs) (onto_first b (parts bs))) ≡ true
+next_part b bs true at h = h.0 at
+next_part b bs false at h = rest_onto b (parts bs) ∙ h.1 at
+
+-- the first byte of a part behind a slash
+first_part : (before b : ℕ) (bs : List ℕ) → (before == 47) ≡ true → not (before == 47 && (b == 47 || b == 46)) ≡ true → Behind b bs → list_all is_proper (parts (b ∷ bs)) ≡ true
+first_part before b bs at turns h =
+    let n = neither (b == 47) (b == 46) (none_true _ (sym (ap (λ t. not (t && (b == 47 || b == 46))) at) ∙ turns)) in
+    let split : parts (b ∷ bs) ≡ onto_first b (parts bs) = rw n.0 refl in
+    ap (list_all is_proper) split ∙ proper_onto b (parts bs) n.1 (h.1 n.0)
+
+behind : (before : ℕ) (bs : List ℕ) → tidy_from before bs ≡ true → Behind before bs
+behind before [] e = (λ at. absurd (true≢false (sym e ∙ ap not at)), λ at. refl)
+behind before (b ∷ bs) e =
+    let h = both_true (follows before b) (tidy_from b bs) e in
+    let v = both_true (is_visible b) _ h.0 in
+    let left : Behind b bs = behind b bs h.1 in
+    (λ at. first_part before b bs at v.1 left, λ at. next_part b bs (b == 47) refl left)
+
+-- a first byte that is no dot
+goes_on : (b : ℕ) (ps : List (List ℕ)) → (b == 46) ≡ false → rest_proper ps ≡ true → are_components (onto_first b ps) ≡ true
+goes_on b [] e h = rw (some_bytes b [], e) refl
+goes_on b (part ∷ ps) e h = rw (some_bytes b part, e) h
+
+whole : (b : ℕ) (bs : List ℕ) (slash : Bool) → (b == 47) ≡ slash → (b == 46) ≡ false → tidy_from b bs ≡ true → are_components (parts (b ∷ bs)) ≡ true
+whole b bs true at dot e =
+    let split : parts (b ∷ bs) ≡ [] ∷ parts bs = rw at refl in
+    absolute (b ∷ bs) bs split ∙ (behind b bs e).0 at
+whole b bs false at dot e =
+    let split : parts (b ∷ bs) ≡ onto_first b (parts bs) = rw at refl in
+    ap are_components split ∙ goes_on b (parts bs) dot ((behind b bs e).1 at)
+
+-- a name whose bytes have all been looked at
+of_bytes : (b : ℕ) (bs : List ℕ) → (is_visible b && not (b == 46)) ≡ true → tidy_from b bs ≡ true → (list_all is_visible (b ∷ bs) ≡ true) × (are_components (parts (b ∷ bs)) ≡ true)
+of_bytes b bs first e =
+    let h = both_true (is_visible b) (not (b == 46)) first in
+    (rw h.0 (seen b bs e), whole b bs (b == 47) refl (none_true (b == 46) h.1) e)
+
+abbrev pub behind_first : List ℕ → List ℕ
+behind_first name = take (length name - 1) (drop 1 name)
+
+pub tidy_ends : (name : List ℕ) (tidy : Bool) (before i : ℕ) → 1 ≤ length name → (tidy && tidy_from before (drop i (behind_first name))) ≡ ((is_visible (get_or name 0 0) && not (get_or name 0 0 == 46)) && tidy_from (get_or name 0 0) (behind_first name))
+    → length (behind_first name) ≤ i → tidy ≡ true → not (before == 47) ≡ true → (list_all is_visible name ≡ true) × (are_components (slice_split (is_byte 47) name) ≡ true)
+tidy_ends [] tidy before i some so_far le t last = absurd (omega arith)
+tidy_ends (b ∷ bs) tidy before i some so_far le t last =
+    let held : (tidy && tidy_from before (drop i (behind_first (b ∷ bs)))) ≡ true = rw (t, drop_all i (behind_first (b ∷ bs)) le) last in
+    let h = both_true (is_visible b && not (b == 46)) (tidy_from b (behind_first (b ∷ bs))) (sym so_far ∙ held) in
+    of_bytes b bs h.0 (sym (ap (tidy_from b) (take_rest (b ∷ bs) 1)) ∙ h.1)
