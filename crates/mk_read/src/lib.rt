@@ -1,4 +1,4 @@
-//! The reading of makefiles: the kinds of their lines.
+//! The reading of makefiles: their lines, the files that they include, and what they say.
 #![tactic(auto)]
 
 mod bytes;
@@ -16,6 +16,8 @@ mod name_set;
 mod names;
 pub mod place_laws;
 mod reading;
+#[cfg(test)]
+mod reading_tests;
 pub mod rule_laws;
 mod rules;
 mod special;
