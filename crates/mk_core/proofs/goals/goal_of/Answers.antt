@@ -10,18 +10,18 @@ pub returns-in-Ok-clause-exact : goal.returns-in-Ok-clause-exact
 returns-in-Ok-clause-exact c =
     let place : Place = record { file = c.in_ok-file.file; line = c.args.number } in
     goal_named c.args.number c.args.word.now c.in_ok-file.file c.in_ok-file.ensures (sym c.is_no_goal.ensures ∙ c.if-is_no_goal.false) c.in-Ok.name.now
-    (subst (λ (w : List ℕ). name_of place w ≡ Ok c.in-Ok.name.now) c.as_bytes.ensures.value c.in-Ok.ensures)
+    (subst (λ (w : List ℕ). name_of place w ≡ Ok c.in-Ok.name.now) c.as_bytes.ensures.value c.in-Ok.ensures.exact)
 
 pub returns-in-Err-ArchiveMember-clause-exact : goal.returns-in-Err-ArchiveMember-clause-exact
 returns-in-Err-ArchiveMember-clause-exact c =
     let place : Place = record { file = c.in_ok-file.file; line = c.args.number } in
     goal_member c.args.number c.args.word.now c.in_ok-file.file c.in_ok-file.ensures (sym c.is_no_goal.ensures ∙ c.if-is_no_goal.false) c.in-Err-ArchiveMember.place
     (subst (λ (fault : ReadFault). reading.Fails fault (name_of place c.args.word.now)) c.in-Err-ArchiveMember.field-0-is
-    (subst (λ (w : List ℕ). reading.Fails c.in-Err-ArchiveMember.field-0 (name_of place w)) c.as_bytes.ensures.value c.in-Err-ArchiveMember.ensures))
+    (subst (λ (w : List ℕ). reading.Fails c.in-Err-ArchiveMember.field-0 (name_of place w)) c.as_bytes.ensures.value c.in-Err-ArchiveMember.ensures.exact))
 
 pub returns-in-Err-BadName-clause-exact : goal.returns-in-Err-BadName-clause-exact
 returns-in-Err-BadName-clause-exact c =
     let place : Place = record { file = c.in_ok-file.file; line = c.args.number } in
     goal_bad c.args.number c.args.word.now c.in_ok-file.file c.in_ok-file.ensures (sym c.is_no_goal.ensures ∙ c.if-is_no_goal.false) c.in-Err-BadName.place
     (subst (λ (fault : ReadFault). reading.Fails fault (name_of place c.args.word.now)) c.in-Err-BadName.field-0-is
-    (subst (λ (w : List ℕ). reading.Fails c.in-Err-BadName.field-0 (name_of place w)) c.as_bytes.ensures.value c.in-Err-BadName.ensures))
+    (subst (λ (w : List ℕ). reading.Fails c.in-Err-BadName.field-0 (name_of place w)) c.as_bytes.ensures.value c.in-Err-BadName.ensures.exact))
