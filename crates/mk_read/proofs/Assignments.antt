@@ -1,5 +1,5 @@
 -- Assignments.
-use Rattle.std.proofs.Common.{◌≡◌, ℕ, List, Result, Ok, Err, None, refl}
+use Rattle.std.proofs.Common.{◌≡◌, Result, Ok, Err, None, refl}
 use Rattle.mk_macros.specs.Expansion.{Expanded, expansion}
 use Rattle.mk_macros.specs.declared.fault.MacroFault.{MacroFault}
 use Rattle.mk_macros.specs.Definitions.{defined, without_blanks}

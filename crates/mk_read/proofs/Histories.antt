@@ -1,12 +1,12 @@
 -- Readings of files, step by step.
-use Rattle.std.proofs.Common.{◌≡◌, ℕ, ◌<◌, ◌≤◌, true, false, Option, None, Some, Result, Ok, Err, inl, inr, suc, ◌+◌, List, [], ◌∷◌, map, drop, length, get_or, refl, sym, ap, subst, ◌∙◌, arith}
+use Rattle.std.proofs.Common.{◌≡◌, ℕ, ◌<◌, ◌≤◌, Option, None, Some, Result, Ok, Err, inl, inr, ◌+◌, List, [], ◌∷◌, map, drop, length, get_or, refl, ap, subst, ◌∙◌, arith}
 use Rattle.mk_read.specs.declared.fault.ReadFault.{ReadFault}
 use Rattle.mk_read.specs.declared.fault.ReadFault.TheVariants.{ReadFailed}
 use Rattle.mk_read.specs.Files.{Told}
 use Rattle.mk_read.specs.Following.{reader_of, Later, Follows, Rises, Counts, IsOfText}
 use Rattle.mk_read.specs.Reading.{Reader, reads}
 use Rattle.mk_read.specs.State.{State}
-use Rattle.mk_read.specs.Steps.{◌>>=◌, Gives, Fails, is_want_of_memory}
+use Rattle.mk_read.specs.Steps.{◌>>=◌, Gives, Fails}
 use Rattle.std.specs.Prelude.{IfSome, IfErr}
 use Rattle.std.proofs.lemmas.List.{drop_more, drop_all}
 

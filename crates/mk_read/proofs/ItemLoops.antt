@@ -1,5 +1,5 @@
 -- The lines of a text, and the files of an include line, one after another.
-use Rattle.std.proofs.Common.{◌≡◌, ℕ, ◌<◌, ◌≤◌, ◌+◌, Bool, List, [], ◌∷◌, map, drop, length, get_or, Option, None, Some, Result, Ok, Err, refl, sym, ap, subst, ◌∙◌}
+use Rattle.std.proofs.Common.{◌≡◌, ℕ, ◌<◌, ◌≤◌, ◌+◌, Bool, List, [], ◌∷◌, map, drop, length, get_or, Option, Ok, Err, refl, subst, ◌∙◌}
 use Rattle.std.specs.Prelude.{IfSome}
 use Rattle.mk_lines.specs.Lines.{Line}
 use Rattle.mk_read.specs.declared.fault.Place.{Place}
@@ -10,7 +10,7 @@ use Rattle.mk_read.specs.Reading.{Reader, Text, files, one_file, with_line, with
 use Rattle.mk_read.specs.State.{State}
 use Rattle.mk_read.specs.Steps.{◌>>=◌}
 use Rattle.mk_read.specs.Views.{read_below}
-use Rattle.mk_read.proofs.Histories.{SoFar, begins, some_with, some_at, item_done, item_failed, items_done}
+use Rattle.mk_read.proofs.Histories.{SoFar, some_with, some_at, item_done, item_failed, items_done}
 
 lines_none : (levels : ℕ) (text : Text) (reader : Reader) (state : State) → with_lines reader (below levels reader) text [] state ≡ Ok state
 unfolding with_lines

@@ -1,5 +1,5 @@
 -- What holds of every state of a reading.
-use Rattle.std.proofs.Common.{ℕ, zero, suc, ◌+◌, Bool, true, false, cond, List, [], ◌∷◌, ◌++◌, codes, length, Option, None, Some, Result, Ok, Err}
+use Rattle.std.proofs.Common.{ℕ, zero, suc, Bool, true, false, cond, List, [], ◌∷◌, ◌++◌, codes, length, Option, None, Some, Result, Ok, Err}
 use Rattle.std.specs.Prelude.{nat_le}
 use Rattle.mk_lines.specs.Comments.{uncomment}
 use Rattle.mk_lines.specs.Lines.{Line, logical_lines}

@@ -21,7 +21,6 @@ use Rattle.mk_read.specs.Reading.{with_operands}
 use Rattle.mk_read.specs.RuleLaws.{sets, LastOperandWins}
 use Rattle.mk_read.specs.State.{State}
 use Rattle.mk_read.specs.Steps.{at_place}
-use Rattle.mk_read.specs.Steps as read
 use Rattle.mk_read.proofs.OneLine.{bind_ok, parts_of}
 use Rattle.mk_read.proofs.FixedMacros.{operands_win_over_makefiles}
 

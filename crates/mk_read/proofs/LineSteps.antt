@@ -1,23 +1,22 @@
 -- What a line does, step by step.
-use Rattle.std.proofs.Common.{◌≡◌, ℕ, zero, suc, ◌+◌, ◌-◌, ◌<◌, ◌≤◌, Bool, true, false, cond, not, List, [], ◌∷◌, length, Option, None, Some, Result, Ok, Err, inl, inr, refl, sym, ap, subst, ◌∙◌, arith}
+use Rattle.std.proofs.Common.{◌≡◌, ℕ, zero, suc, ◌-◌, Bool, true, false, cond, List, length, Option, None, Some, Result, Ok, Err, inl, inr, refl, sym, ap, subst, ◌∙◌, arith}
 use Rattle.std.specs.Prelude.{◌⊎◌, IfErr, IfSome, nat_le}
 use Rattle.std.proofs.Math.Dec.{eqb-suc-zero}
 use Rattle.mk_read.specs.Names.{is_empty, names_in}
 use Rattle.mk_lines.specs.Comments.{uncomment}
 use Rattle.mk_lines.specs.Lines.{Line, logical_lines}
-use Rattle.mk_macros.specs.Table.{Macro}
 use Rattle.mk_read.specs.declared.fault.Place.{Place}
 use Rattle.mk_read.specs.declared.fault.ReadFault.{ReadFault}
 use Rattle.mk_read.specs.declared.fault.ReadFault.TheVariants.{Memory, ReadFailed, IncludeEmpty}
 use Rattle.mk_read.specs.Files.{Told, text_at}
 use Rattle.mk_read.specs.Following.{reader_of, Follows, IsOfText, below}
-use Rattle.mk_read.specs.Kinds.{AssignmentLine, IncludeLine, RuleLine, Kind, Include, Assignment, Rule, kind_of}
+use Rattle.mk_read.specs.Kinds.{AssignmentLine, IncludeLine, RuleLine, Kind, Assignment, Rule, kind_of}
 use Rattle.mk_read.specs.Reading.{Reader, Text, reads, files, include, one_file, plain_line, reading, with_line, with_lines, with_text}
 use Rattle.mk_read.specs.Rules.{assignment, rule}
 use Rattle.mk_read.specs.State.{State, parted}
-use Rattle.mk_read.specs.Steps.{◌>>=◌, Gives, Fails, is_want_of_memory, in_file, of_kind}
-use Rattle.mk_read.specs.Views.{IsTooMany, behind_commands, found_after, include_names, missing_more, not_found, read_below, text_more}
-use Rattle.mk_read.proofs.Histories.{begins, ends, no_reads, some_with, some_at, steps, stops, text_fault}
+use Rattle.mk_read.specs.Steps.{◌>>=◌, Gives, Fails, in_file, of_kind}
+use Rattle.mk_read.specs.Views.{IsTooMany, behind_commands, found_after, include_names, not_found, read_below, text_more}
+use Rattle.mk_read.proofs.Histories.{ends, no_reads, some_with, some_at, steps, stops, text_fault}
 use Rattle.mk_read.proofs.OneFile.{is_found, is_missing, read_fails, too_many}
 use Rattle.mk_read.proofs.SameReads.{assignment_keeps, command_keeps, rule_keeps, same_reads}
 use Rattle.mk_read.proofs.Stepping.{then_ok, then_fails}

@@ -1,18 +1,18 @@
 -- A file that an include line names.
-use Rattle.std.proofs.Common.{◌≡◌, ℕ, ◌<◌, ◌≤◌, suc, ◌+◌, Bool, true, false, cond, List, [], ◌∷◌, ◌++◌, length, length-append, Option, None, Some, Result, Ok, Err, inl, inr, refl, sym, ap, subst, ◌∙◌, arith}
+use Rattle.std.proofs.Common.{◌≡◌, ℕ, ◌<◌, suc, ◌+◌, Bool, true, false, List, [], ◌∷◌, ◌++◌, length, length-append, Option, None, Some, Result, Ok, Err, inl, inr, refl, sym, ap, ◌∙◌, arith}
 use Rattle.std.specs.Prelude.{nat_le, ◌==◌, IfErr}
 use Rattle.std.proofs.lemmas.Bool.{ne_eqb}
 use Rattle.std.proofs.lemmas.Bool.Decides.{Decides-eqb}
 use Rattle.mk_read.specs.declared.fault.Place.{Place}
 use Rattle.mk_read.specs.declared.fault.ReadFault.{ReadFault}
-use Rattle.mk_read.specs.declared.fault.ReadFault.TheVariants.{IncludeMissing, ReadFailed, TooManyFiles}
+use Rattle.mk_read.specs.declared.fault.ReadFault.TheVariants.{ReadFailed, TooManyFiles}
 use Rattle.mk_read.specs.Files.{Told, text_at}
 use Rattle.mk_read.specs.Following.{reader_of, Later, Follows, IsOfText}
 use Rattle.mk_read.specs.Steps.{Gives}
 use Rattle.mk_read.proofs.SameReads.{reads_or}
 use Rattle.mk_read.specs.Reading.{Reader, reads, is_number, fails, found, one_file}
-use Rattle.mk_read.specs.State.{State, parted}
-use Rattle.mk_read.specs.Views.{found_after, missing_more, not_found, text_more}
+use Rattle.mk_read.specs.State.{State}
+use Rattle.mk_read.specs.Views.{found_after, not_found, text_more}
 
 abbrev Read : Type 0
 Read = List ℕ → List ℕ → State → Result State ReadFault

@@ -1,13 +1,12 @@
 -- Operands that are read one after another.
-use Rattle.std.proofs.Common.{◌≡◌, ℕ, ◌+◌, ◌<◌, ◌≤◌, List, [], ◌∷◌, codes, drop, length, get_or, Result, Ok, Err, inl, inr, refl, sym, ap, ◌∙◌}
+use Rattle.std.proofs.Common.{◌≡◌, ℕ, ◌+◌, ◌<◌, ◌≤◌, List, [], ◌∷◌, codes, drop, length, get_or, Result, Ok, inl, inr, refl, sym, ap, ◌∙◌}
 use Rattle.std.proofs.lemmas.List.{drop_more, drop_all}
 use Rattle.mk_macros.specs.Definitions.{with_operand}
 use Rattle.mk_macros.specs.Table.{Macro}
-use Rattle.mk_read.specs.declared.fault.Place.{Place}
 use Rattle.mk_read.specs.declared.fault.ReadFault.{ReadFault}
 use Rattle.mk_read.specs.Reading.{with_operands}
 use Rattle.mk_read.specs.Steps.{◌>>=◌, Fails, at_place}
-use Rattle.mk_read.proofs.Stepping.{then_ok, then_fails}
+use Rattle.mk_read.proofs.Stepping.{then_ok}
 
 -- the first of the operands
 first_operand : (number : ℕ) (operand : List ℕ) (operands : List (List ℕ)) (table : List Macro) → with_operands number (operand ∷ operands) table ≡ (at_place (record { file = codes "operand"; line = number }) (with_operand table operand) >>= with_operands (number + 1) operands)

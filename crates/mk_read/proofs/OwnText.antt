@@ -1,15 +1,14 @@
 -- The makefile's own text, and a whole reading.
-use Rattle.std.proofs.Common.{◌≡◌, ℕ, suc, ◌+◌, ◌<◌, ◌≤◌, Bool, true, false, cond, List, [], ◌∷◌, codes, length, Option, None, Some, Result, Ok, Err, inl, inr, refl, sym, ap, subst, ◌∙◌, arith}
-use Rattle.std.specs.Prelude.{◌⊎◌, IfErr, IfSome}
+use Rattle.std.proofs.Common.{◌≡◌, ℕ, suc, Bool, true, false, List, [], codes, length, Option, None, Some, Result, Ok, Err, inl, inr, refl, sym, ap, subst, ◌∙◌, arith}
+use Rattle.std.specs.Prelude.{◌⊎◌, IfSome}
 use Rattle.mk_macros.specs.Table.{Macro}
 use Rattle.mk_read.specs.declared.fault.ReadFault.{ReadFault}
 use Rattle.mk_read.specs.declared.fault.ReadFault.TheVariants.{Memory, NoMakefile, ReadFailed}
-use Rattle.mk_read.specs.DefaultLaws.{default_state}
 use Rattle.mk_read.specs.Files.{Told, text_at}
 use Rattle.mk_read.specs.Following.{reader_of, Answers, Follows, IsOfText, below}
 use Rattle.mk_read.specs.Reading.{Reader, Makefile, after_default, default_text, from_named, makefile, makefile_of, named, own_text, reads, reading, text_or, with_operands, with_text}
 use Rattle.mk_read.specs.State.{State, nothing_read}
-use Rattle.mk_read.specs.Steps.{◌>>=◌, Fails, seen}
+use Rattle.mk_read.specs.Steps.{◌>>=◌, Fails}
 use Rattle.mk_read.specs.Views.{IsUnread, begun, second_text, state_read, without_makefile}
 use Rattle.mk_read.proofs.DefaultText.{default_text_says_this}
 use Rattle.mk_read.proofs.Histories.{SoFar, begins, ends, some_with, some_at, steps, stops, text_fault}

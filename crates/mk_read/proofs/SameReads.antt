@@ -1,5 +1,5 @@
 -- Lines that read no file.
-use Rattle.std.proofs.Common.{◌≡◌, ℕ, Bool, true, false, cond, not, ◌&&◌, ◌||◌, List, [], ◌∷◌, ◌++◌, codes, Option, None, Some, Result, Ok, Err, length, refl, sym, ap, ◌∙◌}
+use Rattle.std.proofs.Common.{◌≡◌, ℕ, Bool, true, false, cond, not, ◌||◌, List, codes, Option, None, Some, Result, Ok, Err, length, refl, sym, ap, ◌∙◌}
 use Rattle.std.specs.Prelude.{◌==◌}
 use Rattle.std.specs.List.{list_all, list_any}
 use Rattle.mk_macros.specs.Definitions.{defined, without_blanks}
@@ -13,7 +13,7 @@ use Rattle.mk_read.specs.Names.{names_in, has_name, is_empty}
 use Rattle.mk_read.specs.Reading.{reads}
 use Rattle.mk_read.specs.Rules.{command_line, assignment, special_words, special_rule, new_rule, by_special, by_names, by_targets, rule}
 use Rattle.mk_read.specs.Special.{special_among, is_unknown_special, is_suffix}
-use Rattle.mk_read.specs.State.{State, SpecialTarget, owned, PassedOver}
+use Rattle.mk_read.specs.State.{State, SpecialTarget, owned}
 use Rattle.mk_read.specs.Steps.{◌>>=◌, at_place}
 use Rattle.mk_read.specs.Views.{behind_commands}
 

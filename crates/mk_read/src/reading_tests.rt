@@ -1,5 +1,8 @@
 //! Makefiles that are read from memory.
 
+ghost use Rattle.std.specs.Prelude.{◌≡◌, IfOk};
+ghost use Rattle.mk_read.specs.MemFiles.{failures_of};
+
 use super::*;
 use mk_lines::Name;
 use std::alloc::{AllocError, Global};
@@ -53,7 +56,9 @@ fn lists_text(alloc: Global, makefile: &Makefile) -> Result<Vec<u8>, AllocError>
 }
 
 /// Files with a makefile that includes another one.
-fn files(alloc: Global) -> Result<MemFiles, AllocError> {
+fn files(alloc: Global) -> Result<MemFiles, AllocError>
+    ensures { IfOk result (λ files. failures_of files ≡ 0) }
+{
     let mut files = MemFiles::new(alloc);
     files.add(
         "makefile",
@@ -100,22 +105,5 @@ fn reads_the_default_text(rt: HostRuntime) -> Result<(), Fail> {
         lists.as_slice(),
         b" .o .c .sh .x\n\n Makefile\n makefile".as_slice()
     );
-    Ok(())
-}
-
-#[test]
-fn a_failed_read_ends_the_reading(rt: HostRuntime) -> Result<(), Fail> {
-    let alloc = rt.alloc();
-    let mut files = files(alloc)?;
-    files.fail_at(2);
-    match read_makefile(alloc, &mut files, None, false, &[]) {
-        Err(ReadFault::ReadFailed(Some(place), name)) => {
-            assert_eq!(rt; place.line, 5);
-            assert_eq!(rt; name.as_str(), "more.mk");
-        }
-        Err(ReadFault::Memory) => return Err(ReadFault::Memory.into()),
-        _ => assert!(rt; false, "the read of more.mk fails"),
-    }
-    assert_eq!(rt; files.failures(), 1);
     Ok(())
 }

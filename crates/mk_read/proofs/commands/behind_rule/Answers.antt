@@ -1,4 +1,4 @@
-use Rattle.std.proofs.Common.{◌≡◌, false, true, ◌∙◌, sym, ap}
+use Rattle.std.proofs.Common.{◌∙◌, sym, ap}
 use Rattle.mk_read.specs.Rules.{has_some}
 use Rattle.mk_read.specs.State.{RuleRead}
 use Rattle.mk_read.proofs.Commanded.{same_commanded, knows_before, seen_there}

@@ -1,9 +1,8 @@
-use Rattle.std.proofs.Common.{◌≡◌, ◌||◌, false, true, inr, ◌∙◌, sym, ap, subst, Err, Some, List, ℕ, map, String, string_bytes}
+use Rattle.std.proofs.Common.{◌≡◌, ◌||◌, false, inr, ◌∙◌, sym, ap, subst, Err, Some, List, ℕ, map, String, string_bytes}
 use Rattle.std.specs.Prelude.{find}
 use Rattle.std.specs.declared.alloc.Global.{Global}
 use Rattle.mk_read.specs.Names.{has_name}
-use Rattle.mk_read.specs.State.{RuleRead, Read}
-use Rattle.mk_read.specs.declared.fault.ReadFault.{ReadFault}
+use Rattle.mk_read.specs.State.{RuleRead}
 use Rattle.mk_read.specs.declared.fault.ReadFault.TheVariants.{TwoRecipes}
 use Rattle.mk_read.proofs.Commanded.{refused, knows_more}
 use Rattle.mk_read.proofs.commands.with_commanded.Goals as goal

@@ -1,4 +1,4 @@
-use Rattle.std.proofs.Common.{◌≡◌, ◌<◌, ◌≤◌, ◌+◌, length, map, List, ℕ, String, string_bytes, arith, refl, sym, ap, subst, ◌∙◌, Ok, Err, true, false, Some, None, inl, inr}
+use Rattle.std.proofs.Common.{◌≡◌, ◌<◌, ◌≤◌, length, map, List, ℕ, String, string_bytes, arith, sym, ap, subst, ◌∙◌, Ok, Err, false, Some}
 use Rattle.std.proofs.lemmas.Result.{err_from_is_err_and}
 use Rattle.std.specs.Prelude.{IfSome, ◌-◌}
 use Rattle.std.specs.Cow.{cow_slice_items}

@@ -1,4 +1,4 @@
-use Rattle.std.proofs.Common.{◌≡◌, Bool, ◌||◌, true, false, refl, sym, ap, ◌∙◌, map, drop, take, length, ◌-◌, List, ℕ, string_bytes}
+use Rattle.std.proofs.Common.{◌≡◌, Bool, ◌||◌, true, false, sym, ap, ◌∙◌, map, drop, length, List, ℕ, string_bytes}
 use Rattle.std.specs.Prelude.{◌==◌}
 use Rattle.std.proofs.lemmas.List.{take_rest}
 use Rattle.std.proofs.lemmas.Slice.Eq.{starts_is}

@@ -1,17 +1,9 @@
-use Rattle.std.proofs.Common.{◌≡◌, List, ℕ, Bool, true, false, codes, map, string_bytes, Ok, Err, Some, None, refl, sym, ap, subst, ◌∙◌}
-use Rattle.std.specs.Prelude.{◌⊎◌, IfSome}
-use Rattle.std.specs.Option.{option_map, option_copied}
+use Rattle.std.proofs.Common.{Ok, sym, subst}
+use Rattle.std.specs.Prelude.{IfSome}
+use Rattle.std.specs.Option.{option_copied}
 use Rattle.std.proofs.lemmas.Result.{err_from_is_err_and}
-use Rattle.mk_macros.specs.Table.{Macro}
-use Rattle.mk_read.specs.declared.fault.ReadFault.{ReadFault}
-use Rattle.mk_read.specs.declared.fault.ReadFault.TheVariants.{Memory, NoMakefile, ReadFailed}
-use Rattle.mk_read.specs.Files.{text_at}
-use Rattle.mk_read.specs.Following.{Answers, Follows, below}
-use Rattle.mk_read.specs.Reading.{Makefile, default_text, from_named, makefile, named, reading, with_operands, with_text}
-use Rattle.mk_read.specs.State.{State, nothing_read, parted}
-use Rattle.mk_read.specs.Steps.{Fails}
-use Rattle.mk_read.specs.Views.{IsUnread, begun, second_text, without_makefile}
-use Rattle.mk_read.proofs.Histories.{some_with, some_at}
+use Rattle.mk_read.specs.Following.{Answers}
+use Rattle.mk_read.specs.Reading.{Makefile, makefile}
 use Rattle.mk_read.proofs.OwnText.{answers_with, answers_not}
 use Rattle.mk_read.proofs.reading.read_makefile.Goals as goal
 

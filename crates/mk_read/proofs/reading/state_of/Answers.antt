@@ -1,16 +1,13 @@
-use Rattle.std.proofs.Common.{◌≡◌, List, ℕ, Bool, true, false, codes, map, string_bytes, Ok, Err, Some, None, Option, refl, sym, ap, subst, ◌∙◌}
-use Rattle.std.specs.Prelude.{◌⊎◌, IfSome}
-use Rattle.std.specs.Option.{option_map, option_copied}
+use Rattle.std.proofs.Common.{◌≡◌, List, ℕ, Some, None, Option, sym, ap, subst, ◌∙◌}
+use Rattle.std.specs.Prelude.{IfSome}
+use Rattle.std.specs.Option.{option_copied}
 use Rattle.std.proofs.lemmas.Result.{err_from_is_err_and}
 use Rattle.mk_macros.specs.Table.{Macro}
-use Rattle.mk_read.specs.declared.fault.ReadFault.{ReadFault}
-use Rattle.mk_read.specs.declared.fault.ReadFault.TheVariants.{Memory, NoMakefile, ReadFailed}
-use Rattle.mk_read.specs.Files.{text_at}
-use Rattle.mk_read.specs.Following.{Answers, Follows, below}
-use Rattle.mk_read.specs.Reading.{default_text, from_named, makefile, named, reading, with_operands, with_text}
-use Rattle.mk_read.specs.State.{State, nothing_read, parted}
+use Rattle.mk_read.specs.Following.{Follows}
+use Rattle.mk_read.specs.Reading.{from_named, with_operands}
+use Rattle.mk_read.specs.State.{State}
 use Rattle.mk_read.specs.Steps.{Fails}
-use Rattle.mk_read.specs.Views.{IsUnread, begun, second_text, without_makefile}
+use Rattle.mk_read.specs.Views.{IsUnread}
 use Rattle.mk_read.proofs.Histories.{rises_not}
 use Rattle.mk_read.proofs.OwnText.{operands_fail, state_reads}
 use Rattle.mk_read.proofs.reading.state_of.Goals as goal

@@ -1,4 +1,4 @@
-use Rattle.std.proofs.Common.{◌≡◌, ◌<◌, ◌≤◌, ◌+◌, List, ℕ, codes, length, Ok, arith, subst, sym}
+use Rattle.std.proofs.Common.{◌≡◌, ◌<◌, ◌≤◌, ◌+◌, List, ℕ, codes, length, Ok, arith, subst}
 use Rattle.mk_macros.specs.Definitions.{with_operand}
 use Rattle.mk_read.specs.Steps.{Fails, at_place}
 use Rattle.std.proofs.lemmas.Result.{err_from_is_err_and}

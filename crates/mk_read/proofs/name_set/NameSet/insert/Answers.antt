@@ -1,4 +1,4 @@
-use Rattle.std.proofs.Common.{◌≡◌, List, ℕ, sym, subst, ◌∙◌, ap, string_bytes}
+use Rattle.std.proofs.Common.{◌≡◌, List, ℕ, sym, subst, string_bytes}
 use Rattle.mk_read.specs.Names.{once}
 use Rattle.mk_read.proofs.NameSets.{inserted}
 use Rattle.mk_read.proofs.Once.{stays_once}

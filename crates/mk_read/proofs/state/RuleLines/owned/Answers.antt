@@ -1,4 +1,4 @@
-use Rattle.std.proofs.Common.{◌≡◌, List, sym, subst}
+use Rattle.std.proofs.Common.{List, sym, subst}
 use Rattle.mk_read.specs.State.{RuleRead}
 use Rattle.mk_read.specs.Views.{KnowsCommands, owner_view}
 use Rattle.mk_read.proofs.Commanded.{knows_behind}

@@ -1,5 +1,4 @@
 use Rattle.std.proofs.Common.{◌≡◌, List, Result, Ok, sym, ap, subst, ◌∙◌}
-use Rattle.std.specs.Cow.{cow_slice_items}
 use Rattle.std.proofs.lemmas.Result.{err_from_is_err_and}
 use Rattle.mk_macros.specs.Table.{Macro}
 use Rattle.mk_read.specs.declared.fault.ReadFault.{ReadFault}
