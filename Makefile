@@ -28,6 +28,7 @@ check:
 
 bench: all
 	@python3 bench/run.py
+	@python3 bench/texts.py
 	@python3 bench/reading.py
 	@python3 bench/footprint.py
 

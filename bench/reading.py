@@ -77,7 +77,7 @@ def main() -> None:
     DATA.mkdir(exist_ok=True)
     program = built("reading", ("mk_lines", "mk_macros"), "mk_lines mk_macros anyhow", "", "lines")
     os.chdir(DATA)
-    print(f"processor time, median of {RUNS} runs")
+    print(f"processor time, least of {RUNS} runs")
     print(f"{'text':<20}{'own ms':>9}{'peer':>8}{'peer ms':>9}{'ratio':>8}{'growth':>8}{'memory MB':>11}")
     for whole, half in cases():
         own, peer = measure(whole, program)

@@ -7,7 +7,7 @@ import sys
 from dataclasses import dataclass
 from pathlib import Path
 
-from generate import Generated, deep, flat, layered
+from generate import Generated, deep, flat, layered, write
 
 HERE = Path(__file__).resolve().parent
 DATA = HERE / "data"
@@ -48,7 +48,7 @@ class Tool:
 
 @dataclass(frozen=True)
 class Measure:
-    """The median processor time of some runs, in milliseconds, and their peak memory in megabytes."""
+    """The least processor time of some runs, in milliseconds, and their peak memory in megabytes."""
 
     time: float
     memory: float
@@ -74,7 +74,7 @@ def installed(name: str) -> str | None:
 def tools(program: Path) -> list[Tool]:
     """mkcheck, and after it the peers that are installed here."""
     found = [Tool("mkcheck", str(program), ("graph", "-f"), writes_nodes=True)]
-    for name, arguments in (("make", ("-n", "-r", "-f")), ("bmake", ("-n", "-f"))):
+    for name, arguments in (("make", ("-n", "-r", "-f")), ("bmake", ("-n", "-r", "-f"))):
         path = installed(name)
         if path is not None:
             found.append(Tool(name, path, arguments))
@@ -100,7 +100,8 @@ def try_out(tool: Tool, case: Case) -> None:
     """One run before those that count, to see that the tool does the whole work."""
     output = DATA / "output"
     run(tool, case.file, output)
-    lines = output.read_bytes().count(b"\n")
+    with output.open("rb") as stream:
+        lines = sum(1 for _ in stream)
     wanted = tool.lines(case.makefile)
     if lines != wanted:
         sys.exit(f"bench: {tool.name} on {case.file}: {lines} lines and not {wanted}, output in {output}")
@@ -118,10 +119,16 @@ def measure(case: Case, measured: list[Tool]) -> dict[str, Measure]:
 
 
 def summary(usages: list[resource.struct_rusage]) -> Measure:
-    """The number of runs is odd, so one of them is the median."""
-    times = sorted(usage.ru_utime + usage.ru_stime for usage in usages)
+    """What else the machine does takes from a run's time nothing and may add to it, so the least counts."""
+    least = min(usage.ru_utime + usage.ru_stime for usage in usages)
     peak = max(usage.ru_maxrss for usage in usages)
-    return Measure(time=1000 * times[len(times) // 2], memory=peak / 1024)
+    return Measure(time=1000 * least, memory=peak / 1024)
+
+
+def ratio(figures: dict[str, Measure]) -> str:
+    """The time of mkcheck divided by that of the fastest peer."""
+    peers = [figure.time for name, figure in figures.items() if name != "mkcheck"]
+    return f"{figures['mkcheck'].time / min(peers):.2f}" if peers else "-"
 
 
 def header(names: list[str]) -> str:
@@ -130,16 +137,14 @@ def header(names: list[str]) -> str:
 
 
 def row(case: Case, figures: dict[str, Measure], before: dict[str, dict[str, Measure]]) -> str:
-    """The ratio is to the fastest peer; growth and memory stand at the largest size of each shape."""
+    """Growth and memory stand at the largest size of each shape."""
     own = figures["mkcheck"]
-    peers = [figure.time for name, figure in figures.items() if name != "mkcheck"]
-    ratio = f"{own.time / min(peers):.2f}" if peers else "-"
     growth = memory = ""
     if case.smaller is not None:
         growth = f"{own.time / before[case.smaller]['mkcheck'].time:.1f}"
         memory = f"{own.memory:.0f}"
     times = "".join(f"{figure.time:>11.1f}" for figure in figures.values())
-    return f"{case.label:<18}{case.makefile.nodes:>6}{times}{ratio:>8}{growth:>8}{memory:>11}".rstrip()
+    return f"{case.label:<18}{case.makefile.nodes:>6}{times}{ratio(figures):>8}{growth:>8}{memory:>11}".rstrip()
 
 
 def bounds(tool_count: int) -> str:
@@ -147,19 +152,24 @@ def bounds(tool_count: int) -> str:
     return f"{'at most':<{24 + 11 * tool_count}}{RATIO_BOUND:>8.2f}{GROWTH_BOUND:>8.1f}{MEMORY_BOUND:>11}"
 
 
-def main() -> None:
-    parser = argparse.ArgumentParser(description=__doc__)
+def asked(description: str) -> list[Tool]:
+    """The tools to measure, by the words of the command line."""
+    parser = argparse.ArgumentParser(description=description)
     parser.add_argument("--program", type=Path, default=HERE.parent / "bin" / "mkcheck", help="the mkcheck to measure")
     program = parser.parse_args().program.resolve()
     if not os.access(program, os.X_OK):
         sys.exit(f"bench: {program} is not there: run `make all` first")
-    measured = tools(program)
+    return tools(program)
+
+
+def main() -> None:
+    measured = asked(__doc__)
     DATA.mkdir(exist_ok=True)
     for case in CASES:
-        (DATA / case.file).write_text(case.makefile.text)
+        write(case.makefile, DATA / case.file)
     os.chdir(DATA)
 
-    print(f"processor time, median of {RUNS} runs; {', '.join(tool.path for tool in measured)}")
+    print(f"processor time, least of {RUNS} runs; {', '.join(tool.path for tool in measured)}")
     print(header([tool.name for tool in measured]))
     figures: dict[str, dict[str, Measure]] = {}
     for case in CASES:

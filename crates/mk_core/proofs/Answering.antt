@@ -1,5 +1,5 @@
 -- What is answered where a step fails, and where all of them succeed.
-use Rattle.std.proofs.Common.{◌≡◌, List, ℕ, false, true, Option, None, Result, Ok, Err, ◌⊎◌, inl, inr, refl, sym, ap, subst, ◌∙◌}
+use Rattle.std.proofs.Common.{◌≡◌, List, ℕ, false, Option, None, Result, Ok, Err, ◌⊎◌, inl, inr, refl, sym, ap, subst, ◌∙◌}
 use Rattle.std.proofs.Math.Logic.{⊎_map}
 use Rattle.mk_graph.specs.declared.fault.GraphFault.{GraphFault}
 use Rattle.mk_graph.specs.declared.fault.GraphFault.TheVariants as graph
@@ -14,7 +14,6 @@ use Rattle.mk_core.specs.declared.fault.Fault.TheVariants.{Read, BadGoal, GoalIs
 use Rattle.mk_core.specs.declared.request.Request.{Request}
 use Rattle.mk_core.specs.Goals.{goal_names}
 use Rattle.mk_core.specs.Selection.{Selects}
-use Rattle.mk_core.specs.Steps.{is_want_of_memory}
 use Rattle.mk_core.specs.Table.{with_suffixes}
 use Rattle.mk_core.proofs.Suffixes.{same_suffixes}
 use Rattle.mk_core.specs.Answer.{Answers, Draws, DrawsGoals, PrintsFor, makefile_for}
@@ -26,7 +25,7 @@ graph_fails m words goals graph.TooManyNodes e s = inr (subst (λ (named : Resul
 graph_fails m words goals (graph.Cycle names) e s = inr (subst (λ (named : Result (List (List ℕ)) Fault). DrawsGoals m named (Err (Graph (graph.Cycle names)))) (sym e) s)
 
 module _ (files : Told) (request : Request) where
-  refused : (fault : ReadFault) → reading.Fails fault (makefile_for request (following.reader_of files None)) → (is_want_of_memory (Read fault) ≡ true) ⊎ Draws request.goals (makefile_for request (following.reader_of files None)) (Err (Read fault))
+  refused : (fault : ReadFault) → reading.Fails fault (makefile_for request (following.reader_of files None)) → (fault ≡ read.Memory) ⊎ Draws request.goals (makefile_for request (following.reader_of files None)) (Err (Read fault))
   refused fault h = ⊎_map (λ m. m) (λ e. subst (λ (r : Result Makefile ReadFault). Draws request.goals r (Err (Read fault))) (sym e) refl) h
 
   -- a makefile that is refused

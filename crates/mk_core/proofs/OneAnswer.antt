@@ -68,6 +68,10 @@ module _ (files : Told) (request : Request) where
   or_drawn fault s (inl m) = absurd (both_ways (is_want_of_memory fault) s m)
   or_drawn fault s (inr d) = d
 
+  or_refused : (fault : ReadFault) → is_want_of_memory (Read fault) ≡ false → (fault ≡ read.Memory) ⊎ Drawn (Err (Read fault)) → Drawn (Err (Read fault))
+  or_refused fault s (inl m) = or_drawn (Read fault) s (inl (ap (λ (f : ReadFault). is_want_of_memory (Read f)) m))
+  or_refused fault s (inr d) = d
+
   drawn : (answer : Result (List ℕ) Fault) → IsSettled answer → Answers files request answer → Drawn answer
   drawn (Ok text) s a = a
   drawn (Err (Graph fault)) s a = or_drawn (Graph fault) s a
@@ -76,22 +80,22 @@ module _ (files : Told) (request : Request) where
   drawn (Err NoGoal) s a = or_drawn NoGoal s a
   drawn (Err Memory) s a = or_drawn Memory s a
   drawn (Err (Read (read.ReadFailed p n))) s a = absurd s
-  drawn (Err (Read (read.Line p fault))) s a = or_drawn (Read (read.Line p fault)) s a
-  drawn (Err (Read (read.Macro p fault))) s a = or_drawn (Read (read.Macro p fault)) s a
-  drawn (Err (Read (read.Kind p fault))) s a = or_drawn (Read (read.Kind p fault)) s a
-  drawn (Err (Read (read.StrayCommand p))) s a = or_drawn (Read (read.StrayCommand p)) s a
-  drawn (Err (Read (read.BadName p))) s a = or_drawn (Read (read.BadName p)) s a
-  drawn (Err (Read (read.BadMakefileName n))) s a = or_drawn (Read (read.BadMakefileName n)) s a
-  drawn (Err (Read (read.ArchiveMember p))) s a = or_drawn (Read (read.ArchiveMember p)) s a
-  drawn (Err (Read (read.UnknownSpecial p))) s a = or_drawn (Read (read.UnknownSpecial p)) s a
-  drawn (Err (Read (read.SpecialShape p))) s a = or_drawn (Read (read.SpecialShape p)) s a
-  drawn (Err (Read (read.TwoRecipes p n))) s a = or_drawn (Read (read.TwoRecipes p n)) s a
-  drawn (Err (Read (read.IncludeMissing p n))) s a = or_drawn (Read (read.IncludeMissing p n)) s a
-  drawn (Err (Read (read.IncludeDepth p))) s a = or_drawn (Read (read.IncludeDepth p)) s a
-  drawn (Err (Read (read.IncludeEmpty p))) s a = or_drawn (Read (read.IncludeEmpty p)) s a
-  drawn (Err (Read (read.TooManyFiles p))) s a = or_drawn (Read (read.TooManyFiles p)) s a
-  drawn (Err (Read (read.NoMakefile n))) s a = or_drawn (Read (read.NoMakefile n)) s a
-  drawn (Err (Read read.Memory)) s a = or_drawn (Read read.Memory) s a
+  drawn (Err (Read (read.Line p fault))) s a = or_refused (read.Line p fault) s a
+  drawn (Err (Read (read.Macro p fault))) s a = or_refused (read.Macro p fault) s a
+  drawn (Err (Read (read.Kind p fault))) s a = or_refused (read.Kind p fault) s a
+  drawn (Err (Read (read.StrayCommand p))) s a = or_refused (read.StrayCommand p) s a
+  drawn (Err (Read (read.BadName p))) s a = or_refused (read.BadName p) s a
+  drawn (Err (Read (read.BadMakefileName n))) s a = or_refused (read.BadMakefileName n) s a
+  drawn (Err (Read (read.ArchiveMember p))) s a = or_refused (read.ArchiveMember p) s a
+  drawn (Err (Read (read.UnknownSpecial p))) s a = or_refused (read.UnknownSpecial p) s a
+  drawn (Err (Read (read.SpecialShape p))) s a = or_refused (read.SpecialShape p) s a
+  drawn (Err (Read (read.TwoRecipes p n))) s a = or_refused (read.TwoRecipes p n) s a
+  drawn (Err (Read (read.IncludeMissing p n))) s a = or_refused (read.IncludeMissing p n) s a
+  drawn (Err (Read (read.IncludeDepth p))) s a = or_refused (read.IncludeDepth p) s a
+  drawn (Err (Read (read.IncludeEmpty p))) s a = or_refused (read.IncludeEmpty p) s a
+  drawn (Err (Read (read.TooManyFiles p))) s a = or_refused (read.TooManyFiles p) s a
+  drawn (Err (Read (read.NoMakefile n))) s a = or_refused (read.NoMakefile n) s a
+  drawn (Err (Read read.Memory)) s a = or_refused read.Memory s a
 
 -- ---- the graph's fate
 

@@ -3,7 +3,7 @@ use Rattle.std.specs.Prelude.{◌≡◌, ◌⊎◌, ℕ, ◌<◌, true, false, L
 use Rattle.mk_graph.specs.Graph as value
 use Rattle.mk_graph.specs.Build.{Builds}
 use Rattle.mk_read.specs.declared.fault.ReadFault.{ReadFault}
-use Rattle.mk_read.specs.declared.fault.ReadFault.TheVariants.{ReadFailed}
+use Rattle.mk_read.specs.declared.fault.ReadFault.TheVariants.{ReadFailed, Memory as NoMemory}
 use Rattle.mk_read.specs.Files.{Told}
 use Rattle.mk_read.specs.Following.{reader_of}
 use Rattle.mk_read.specs.Reading.{Makefile, Reader, makefile}
@@ -40,6 +40,7 @@ Draws words (Ok m) answer = DrawsGoals m (goal_names m words) answer
 abbrev pub Answers : Told → Request → Result (List ℕ) Fault → Type 0
 Answers files request (Ok text) = Draws request.goals (makefile_for request (reader_of files None)) (Ok text)
 Answers files request (Err (Read (ReadFailed place name))) = (k : ℕ) × (makefile_for request (reader_of files (Some k)) ≡ Err (ReadFailed place name))
+Answers files request (Err (Read fault)) = (fault ≡ NoMemory) ⊎ Draws request.goals (makefile_for request (reader_of files None)) (Err (Read fault))
 Answers files request (Err fault) = (is_want_of_memory fault ≡ true) ⊎ Draws request.goals (makefile_for request (reader_of files None)) (Err fault)
 
 -- the count of failed reads, old and new, with a fault: it rises where a read failed, and nowhere else

@@ -461,6 +461,35 @@ fn answers_failed_includes(rt: HostRuntime) -> Result<(), Fail> {
     Ok(())
 }
 
+/// Expects this text over the files. With a growth refused the answer is want of memory, or the
+/// whole one.
+fn expect_or_memory(
+    rt: &impl Abort,
+    alloc: Global,
+    files: &mut MemFiles,
+    printed: &str,
+) -> Result<(), Fail>
+    requires { failures_of files.old < 2 ^ 64 - 1 }
+{
+    match graph_text(alloc, files, &request(alloc, None, "")?) {
+        Ok(text) => assert_eq!(rt; text.as_slice(), printed.as_bytes()),
+        Err(fault) => assert!(rt; fault.is_want_of_memory(), "over {printed:?}"),
+    }
+    Ok(())
+}
+
+#[test]
+fn wants_memory_or_answers(rt: HostRuntime) -> Result<(), Fail> {
+    let alloc = rt.alloc();
+    let mut files = chain(alloc, "a:\n")?;
+    expect_or_memory(&rt, alloc, &mut files, "goals a\na:\n")?;
+    let text = b"S = a.c b.h\nall: $(S:%.c=obj/%.o)\n";
+    let mut files = MemFiles::new(alloc);
+    files.add("makefile", text)?;
+    let printed = "goals all\nobj/a.o:\nb.h:\nall: obj/a.o b.h\n";
+    expect_or_memory(&rt, alloc, &mut files, printed)
+}
+
 /// A part of a text, so often, between a front and a back; and what is printed over it.
 const REPEATED: &str = r"a:‖ ‖65534‖‖goals a¶a:¶
 ¶a:‖ ‖65535‖¶‖refused 2 makefile:2

@@ -2,7 +2,6 @@ pub mod ListTests
 pub mod Steps
 pub mod Members
 pub mod Sets
-pub mod Places
 pub mod Json
 pub mod Targets
 pub mod Same
@@ -15,5 +14,3 @@ pub mod NoJson
 pub mod Formats
 pub mod Taken
 pub mod Apart
-pub mod Fronts
-pub mod Texts

@@ -1,13 +1,21 @@
 -- Names that are kept once.
-use Rattle.std.proofs.Common.{◌≡◌, ℕ, Bool, true, false, not, ◌&&◌, ◌||◌, cond, List, [], ◌∷◌, ◌++◌, refl, sym, ap, ◌∙◌, append_assoc, append-nil}
+use Rattle.std.proofs.Common.{◌≡◌, ℕ, Bool, true, false, not, ◌&&◌, ◌||◌, cond, List, [], ◌∷◌, ◌++◌, refl, sym, ap, ◌∙◌, append_assoc, append-nil, inl, inr}
 use Rattle.std.specs.Prelude.{filter, fold}
 use Rattle.std.specs.Str.{bytes_eq}
+use Rattle.std.proofs.lemmas.Bool.{cases_Bool, false_from_ne_true, both_ways}
 use Rattle.std.proofs.lemmas.List.Elements.{filter_agree}
 use Rattle.std.proofs.lemmas.List.Folds.{list_any-append}
 use Rattle.std.proofs.lemmas.List.Sums.{fold-append}
 use Rattle.std.proofs.lemmas.Slice.Eq.{bytes_eq-Decides}
 use Rattle.mk_foot.specs.Names.{has_name, with_name, once}
-use Rattle.mk_foot.proofs.Places.{bytes_eq_sym}
+
+-- equal either way
+pub bytes_eq_sym : (a b : List ℕ) → bytes_eq a b ≡ bytes_eq b a
+bytes_eq_sym a b =
+    elim (cases_Bool (bytes_eq a b)) [
+      | inl t ↦ t ∙ sym ((bytes_eq-Decides b a).1 (sym ((bytes_eq-Decides a b).0 t)))
+      | inr f ↦ f ∙ sym (false_from_ne_true _ (λ t. both_ways _ f ((bytes_eq-Decides a b).1 (sym ((bytes_eq-Decides b a).0 t)))))
+    ]
 
 or_false : (a : Bool) → (a || false) ≡ a
 or_false true = refl

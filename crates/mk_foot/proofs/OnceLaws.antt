@@ -5,8 +5,7 @@ use Rattle.std.specs.Str.{bytes_eq}
 use Rattle.std.proofs.lemmas.Slice.Eq.{bytes_eq-Decides}
 use Rattle.mk_foot.specs.Names.{has_name, once}
 use Rattle.mk_foot.specs.Laws.{EachOnce, OnceKeepsFirst}
-use Rattle.mk_foot.proofs.Places.{bytes_eq_sym}
-use Rattle.mk_foot.proofs.Once.{once_push}
+use Rattle.mk_foot.proofs.Once.{bytes_eq_sym, once_push}
 
 -- the others of a list
 abbrev others : List ℕ → List (List ℕ) → List (List ℕ)

@@ -13,10 +13,8 @@ use crate::fault::FootFault;
 use crate::key::Key;
 use crate::name::Name;
 use crate::name_set::{NameSet, clones_of};
-use crate::name_table::NameTable;
 use crate::parts::{Entry, Footprints, Group, SharedList};
-use crate::prefixes::Prefixes;
-use mk_lines::{is_plain_path, is_plain_text_path};
+use mk_lines::{NameTable, Prefixes, is_plain_path, is_plain_text_path};
 use std::alloc::Global;
 
 /// Whether a text is `/`, or a plain path with `/` behind it.

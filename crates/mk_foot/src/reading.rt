@@ -13,9 +13,9 @@ use crate::book::{Book, Record};
 use crate::checks::{group_for, test_all};
 use crate::fault::FootFault;
 use crate::name_set::{NameSet, copied, insert_all, once};
-use crate::name_table::NameTable;
 use crate::parts::{Entry, Footprints, Group, SharedList};
 use crate::shapes::footprints_in;
+use mk_lines::NameTable;
 use serde_json::Value;
 use std::alloc::{AllocError, Global};
 

@@ -7,8 +7,7 @@ ghost use Rattle.mk_foot.specs.Names.{has_name};
 ghost use Rattle.mk_foot.specs.Setting.{record_for, is_given, is_editable};
 
 use crate::book::{Book, Record};
-use crate::name_table::NameTable;
-use crate::prefixes::Prefixes;
+use mk_lines::{NameTable, Prefixes};
 use std::alloc::{AllocError, Global};
 use std::marker::Model;
 

@@ -19,3 +19,7 @@ pub mod TwoTexts
 pub mod LongestParts
 pub mod Outside
 pub mod Tidy
+pub mod Places
+pub mod Texts
+pub mod Fronts
+pub mod NoReference

@@ -6,5 +6,6 @@ pub mod Comments
 pub mod Lines
 pub mod Paths
 pub mod Words
+pub mod Names
 pub mod Gives
 pub mod Laws

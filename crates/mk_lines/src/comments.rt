@@ -83,6 +83,10 @@ pub fn uncomment<'a>(alloc: Global, text: &'a [u8]) -> Result<CowSlice<'a, u8>, 
     ensures exact { IfOk result (λ line. cow_slice_items line ≡ uncomment text.now) }
     ensures lends { IfOk result (λ line. has_escaped_hash (before_comment text.now) ≡ false → is_borrowed line ≡ true) }
 {
+    // Most lines need no look at their references.
+    if !text.contains(&b'#') {
+        return Ok(CowSlice::Borrowed(text));
+    }
     let (read, spared) = text.split_at(spared_at(alloc, text)?);
     let comment = comment_at(read);
     let kept = &read[..comment.unwrap_or(read.len())];

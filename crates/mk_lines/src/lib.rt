@@ -1,5 +1,5 @@
-//! The lowest layer of reading: logical lines, comments, words, plain paths, and what stands
-//! outside references.
+//! The lowest layer of reading: logical lines, comments, words, plain paths, what stands outside
+//! references, and names that are looked up.
 #![tactic(auto)]
 
 mod bytes;
@@ -9,7 +9,9 @@ mod joins;
 pub mod laws;
 mod lines;
 mod name;
+mod name_table;
 mod paths;
+mod prefixes;
 mod references;
 mod rule_lines;
 mod runs;
@@ -21,7 +23,9 @@ pub use comments::uncomment;
 pub use fault::LineFault;
 pub use lines::{Line, logical_lines};
 pub use name::{Name, Names};
+pub use name_table::NameTable;
 pub use paths::{is_plain_path, is_plain_text_path};
+pub use prefixes::Prefixes;
 pub use references::first_outside;
 pub use rule_lines::is_rule_line;
 pub use spans::{Span, words};

@@ -3,6 +3,7 @@
 ghost use Rattle.std.specs.Prelude.{◌≡◌, ◌<◌, ◌==◌, length, IfOk, IfSome};
 ghost use Rattle.mk_lines.specs.References.{closed, place_view, next_place, first_outside, is_one_of};
 
+use bstr::ByteSlice;
 use std::alloc::{AllocError, Global};
 
 /// A place between the bytes of a text.
@@ -58,6 +59,10 @@ pub fn first_outside(alloc: Global, wanted: &[u8], text: &[u8]) -> Result<Option
     ensures exact { IfOk result (λ at. at ≡ first_outside (is_one_of wanted.now) text.now) }
     ensures within { IfOk result (λ at. IfSome at (λ k. k < length text.now)) }
 {
+    // Most texts have no reference.
+    if !text.contains(&b'$') {
+        return Ok(text.find_byteset(wanted));
+    }
     let mut place = Place {
         ends: Vec::new(alloc),
         dollar: false,

@@ -199,3 +199,43 @@ fn knows_rule_lines(rt: HostRuntime) -> Result<(), Fail> {
     }
     Ok(())
 }
+
+/// Names with a space between, each alone.
+fn names(alloc: Global, text: &str) -> Result<Vec<String>, AllocError> {
+    let mut names = Vec::new(alloc);
+    for name in text.split(' ') {
+        names.push(String::from_str(alloc, name)?)?;
+    }
+    Ok(names)
+}
+
+#[test]
+fn finds_names(rt: HostRuntime) -> Result<(), Fail> {
+    let table = NameTable::new(rt.alloc(), names(rt.alloc(), "b a.c b é")?)?;
+    for (name, place) in [
+        ("b", Some(0)),
+        ("a.c", Some(1)),
+        ("é", Some(3)),
+        ("a", None),
+    ] {
+        assert_eq!(rt; table.place(name), place, "{name}");
+        assert_eq!(rt; table.contains(name), place.is_some(), "{name}");
+    }
+    assert!(rt; table.contains_bytes("é".as_bytes()));
+    assert!(rt; !table.contains_bytes(b"\xc3"));
+    assert_eq!(rt; table.as_slice().len(), 4);
+    assert_eq!(rt; table.as_slice()[2].as_str(), "b");
+    Ok(())
+}
+
+#[test]
+fn finds_prefixes(rt: HostRuntime) -> Result<(), Fail> {
+    let prefixes = Prefixes::new(rt.alloc(), names(rt.alloc(), "/usr/ lib/ é/")?)?;
+    for name in ["/usr/x.h", "/usr/", "lib/a/b", "é/x"] {
+        assert!(rt; prefixes.is_under(name), "{name}");
+    }
+    for name in ["/usr", "usr/x.h", "li", "x/lib/", "", "e/x"] {
+        assert!(rt; !prefixes.is_under(name), "{name}");
+    }
+    Ok(())
+}

@@ -18,6 +18,7 @@ mod OwnText
 mod SameReads
 mod NameSets
 mod Once
+mod SuffixLists
 mod Stepping
 mod Groups
 mod Kept
@@ -35,3 +36,4 @@ mod Makefiles
 mod DefaultText
 mod DefaultRules
 mod WellNamed
+mod BracketFree

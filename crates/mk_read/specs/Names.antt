@@ -1,7 +1,7 @@
 -- Names of files and targets.
-use Rattle.std.specs.Prelude.{ℕ, ◌==◌, Bool, not, ◌&&◌, ◌||◌, List, [], ◌∷◌, ◌++◌, length, filter, Result, Ok, Err, if◌then◌else◌}
+pub use Rattle.mk_lines.specs.Names.{has_name, with_name, once}
+use Rattle.std.specs.Prelude.{ℕ, ◌==◌, Bool, not, ◌&&◌, ◌||◌, List, [], ◌∷◌, length, Result, Ok, Err, if◌then◌else◌}
 use Rattle.std.specs.List.{list_any}
-use Rattle.std.specs.Str.{bytes_eq}
 use Rattle.mk_lines.specs.Paths.{is_plain_path}
 use Rattle.mk_lines.specs.Words.{words}
 use Rattle.mk_macros.specs.Expansion.{expansion}
@@ -44,19 +44,6 @@ names_of place (word ∷ rest) = do
 -- the names of a part of a line: it is expanded, and then looked at word by word
 abbrev pub names_in : Place → List Macro → List ℕ → Result (List (List ℕ)) ReadFault
 names_in place table text = at_place place (expansion table None text) >>= λ expanded. names_of place (words expanded.text)
-
--- the name stands among the names
-abbrev pub has_name : List (List ℕ) → List ℕ → Bool
-has_name names name = list_any (λ other. bytes_eq name other) names
-
--- the names, with this one behind them unless it is there
-abbrev pub with_name : List (List ℕ) → List ℕ → List (List ℕ)
-with_name names name = if has_name names name then names else names ++ name ∷ []
-
--- each name once, where it first stands
-abbrev pub once : List (List ℕ) → List (List ℕ)
-once [] = []
-once (name ∷ names) = name ∷ filter (λ other. not (bytes_eq name other)) (once names)
 
 -- there are none
 abbrev pub is_empty : {A : Type 0} → List A → Bool

@@ -39,7 +39,7 @@ of_kind place (Err fault) = Err (Kind place fault)
 
 -- A fault is the one that is defined, or want of memory, of which nothing is said.
 abbrev pub Fails : {Y : Type 0} → ReadFault → Result Y ReadFault → Type 0
-Fails fault defined = (is_want_of_memory fault ≡ true) ⊎ (defined ≡ Err fault)
+Fails fault defined = (fault ≡ Memory) ⊎ (defined ≡ Err fault)
 
 -- What a call returned, seen by view, is what is defined, unless memory ran out.
 abbrev pub Gives : {X Y : Type 0} → (X → Y) → Result X ReadFault → Result Y ReadFault → Type 0

@@ -1,11 +1,11 @@
 -- How the parts of the code are seen.
-use Rattle.std.specs.Prelude.{◌≡◌, ◌⊎◌, ℕ, true, false, List, ◌∷◌, ◌++◌, [], None, Option, Bool, ◌||◌, ◌==◌, codes, Result, Ok, Err, if◌then◌else◌}
+use Rattle.std.specs.Prelude.{◌≡◌, ◌⊎◌, ℕ, false, List, ◌∷◌, ◌++◌, [], None, Option, Bool, ◌||◌, ◌==◌, codes, Result, Ok, Err, if◌then◌else◌}
 use Rattle.mk_macros.specs.Expansion.{expansion}
 use Rattle.mk_macros.specs.Table.{Macro}
 use Rattle.mk_macros.specs.declared.fault.MacroFault.{MacroFault}
 use Rattle.mk_read.specs.declared.fault.ReadFault.{ReadFault}
 use Rattle.mk_read.specs.declared.fault.ReadFault.TheVariants as fault
-use Rattle.mk_read.specs.Steps.{◌>>=◌, at_place, is_want_of_memory}
+use Rattle.mk_read.specs.Steps.{◌>>=◌, at_place}
 use Rattle.mk_read.specs.declared.fault.Place.{Place}
 use Rattle.mk_read.specs.declared.including.Source as source
 use Rattle.mk_read.specs.declared.spot.Spot as spot
@@ -43,7 +43,7 @@ IsBare PassedOver = Unit {0}
 
 -- the fault of a macro at a place, unless memory ran out
 abbrev pub IsMacroFault : Place → MacroFault → ReadFault → Type 0
-IsMacroFault place found answer = (is_want_of_memory answer ≡ true) ⊎ (answer ≡ fault.Macro place found)
+IsMacroFault place found answer = (answer ≡ fault.Memory) ⊎ (answer ≡ fault.Macro place found)
 
 -- what a text of a line expands to
 abbrev pub expanded_text : Place → List Macro → List ℕ → Result (List ℕ) ReadFault
@@ -77,7 +77,7 @@ include_names levels place table text =
 
 -- the fault where too many texts were read, unless memory ran out
 abbrev pub IsTooMany : Place → ReadFault → Type 0
-IsTooMany place answer = (is_want_of_memory answer ≡ true) ⊎ (answer ≡ fault.TooManyFiles place)
+IsTooMany place answer = (answer ≡ fault.Memory) ⊎ (answer ≡ fault.TooManyFiles place)
 
 -- the state with a text more, or with a missing file more
 abbrev pub text_more : State → List ℕ → State

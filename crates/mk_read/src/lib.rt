@@ -23,6 +23,7 @@ mod rules;
 mod special;
 mod spot;
 mod state;
+mod suffix_list;
 #[cfg(test)]
 mod tests;
 pub mod text_laws;

@@ -1,10 +1,12 @@
 //! What a makefile says.
 
-ghost use Rattle.std.specs.Prelude.{◌≡◌, map};
+ghost use Rattle.std.specs.Prelude.{◌≡◌, true, map};
+ghost use Rattle.std.specs.List.{list_all};
 ghost use Rattle.std.specs.String.{string_bytes};
+ghost use Rattle.mk_read.specs.Special.{is_suffix};
 
 use crate::fault::Place;
-use crate::name_set::NameSet;
+use crate::suffix_list::SuffixList;
 use mk_macros::MacroTable;
 use std::marker::Model;
 
@@ -56,7 +58,7 @@ impl Model for Rule {
 #[derive(Drop)]
 pub struct Makefile {
     pub(crate) rules: Vec<Rule>,
-    pub(crate) suffixes: NameSet,
+    pub(crate) suffixes: SuffixList,
     pub(crate) phony: Vec<String>,
     pub(crate) not_parallel: bool,
     pub(crate) macros: MacroTable,
@@ -85,7 +87,8 @@ impl Makefile {
 
     /// The known suffixes, in the order in which they were listed.
     pub fn suffixes(&self) -> &[String]
-        ensures { map string_bytes result.now ≡ self.now.suffixes }
+        ensures exact { map string_bytes result.now ≡ self.now.suffixes }
+        ensures suffixes { list_all is_suffix self.now.suffixes ≡ true }
     {
         self.suffixes.as_slice()
     }

@@ -107,10 +107,11 @@ pub fn name_of<'a>(
     ensures exact { Gives (λ name. name.now) result (name_of (record { file = file.now; line = line }) word.now) }
     ensures own { IfErr result IsOfText }
 {
-    let is_member = has_bracket(word);
-    if !is_member && let Some(name) = make_name(word) {
+    // A name holds no bracket.
+    if let Some(name) = make_name(word) {
         return Ok(name);
     }
+    let is_member = has_bracket(word);
     let place = Place {
         file: Name::new(alloc, file.as_str())?,
         line,

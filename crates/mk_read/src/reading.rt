@@ -20,10 +20,10 @@ use crate::fault::{Place, ReadFault};
 use crate::files::{Files, FilesError};
 use crate::including::{Source, with_text};
 use crate::makefile::{Makefile, Rule};
-use crate::name_set::NameSet;
 use crate::state::{Owner, RuleLines, State, with_last};
+use crate::suffix_list::SuffixList;
 use mk_lines::{Name, is_plain_path};
-use mk_macros::MacroTable;
+use mk_macros::{MacroFault, MacroTable};
 use std::alloc::{AllocError, Global};
 
 /// The default text, which is read first where it is asked for.
@@ -98,6 +98,7 @@ fn with_operand(
     };
     match table.fix(operand.as_str().as_bytes()) {
         Ok(()) => Ok(table),
+        Err(MacroFault::Memory) => Err(ReadFault::Memory),
         Err(fault) => Err(ReadFault::Macro(place, fault)),
     }
 }
@@ -272,14 +273,14 @@ fn has_inference_name(suffixes: &[String], targets: &[String]) -> bool
 }
 
 /// Whether a rule line counts, by the suffixes after all reading.
-fn counts(suffixes: &NameSet, rule: &Rule) -> bool
+fn counts(suffixes: &SuffixList, rule: &Rule) -> bool
     ensures { result ≡ counts suffixes.now rule.now }
 {
     !rule.default || has_inference_name(suffixes.as_slice(), &rule.targets)
 }
 
 /// The rule lines that count.
-fn counted(alloc: Global, suffixes: &NameSet, rules: Vec<Rule>) -> Result<Vec<Rule>, AllocError>
+fn counted(alloc: Global, suffixes: &SuffixList, rules: Vec<Rule>) -> Result<Vec<Rule>, AllocError>
     ensures { IfOk result (λ kept. kept.items ≡ filter (counts suffixes.now) rules.items) }
 {
     let mut kept = Vec::new(alloc);

@@ -6,6 +6,7 @@ ghost use Rattle.std.specs.Option.{option_map};
 ghost use Rattle.std.specs.String.{string_bytes};
 ghost use Rattle.mk_macros.specs.Definitions.{defined, without_blanks};
 ghost use Rattle.std.specs.Cow.{cow_slice_items};
+ghost use Rattle.mk_read.specs.declared.special.Special.TheVariants.{Suffixes};
 ghost use Rattle.mk_read.specs.Following.{IsOfText};
 ghost use Rattle.mk_read.specs.Kinds.{rule_view, assignment_view};
 ghost use Rattle.mk_read.specs.Names.{has_name, names_in};
@@ -18,11 +19,11 @@ use crate::bytes::without_blanks;
 use crate::fault::ReadFault;
 use crate::kinds::{AssignmentLine, RuleLine};
 use crate::makefile::{Command, Rule};
-use crate::name_set::NameSet;
 use crate::names::{is_special, names_of};
 use crate::special::{Special, is_suffix, special_of};
 use crate::spot::Spot;
 use crate::state::{Owner, State};
+use crate::suffix_list::SuffixList;
 use mk_macros::{Locals, MacroFault, MacroTable};
 use std::alloc::{AllocError, Global};
 use std::borrow::CowSlice;
@@ -49,6 +50,7 @@ fn expanded_text<'a>(
 {
     match macros.expand(spot.alloc, text, &Locals::Empty) {
         Ok(found) => Ok(found.text),
+        Err(MacroFault::Memory) => Err(ReadFault::Memory),
         Err(fault) => Err(macro_fault(spot, fault)),
     }
 }
@@ -79,6 +81,7 @@ fn with_definition(
     let mut table = macros;
     match table.define(name, line.op, line.value) {
         Ok(()) => Ok(table),
+        Err(MacroFault::Memory) => Err(ReadFault::Memory),
         Err(fault) => Err(macro_fault(spot, fault)),
     }
 }
@@ -122,13 +125,30 @@ fn are_suffixes(words: &[String]) -> bool
 }
 
 /// The suffixes with the words behind them, each once; without words the list is cleared.
-fn list_suffixes(alloc: Global, suffixes: NameSet, words: &[String]) -> Result<NameSet, AllocError>
+fn list_suffixes(
+    alloc: Global,
+    suffixes: SuffixList,
+    words: &[String],
+) -> Result<SuffixList, AllocError>
+    requires { list_all is_suffix (map string_bytes words.now) ≡ true }
     ensures { IfOk result (λ all. all ≡ listed suffixes (map string_bytes words.now)) }
 {
     if words.is_empty() {
-        return Ok(NameSet::new(alloc));
+        return Ok(SuffixList::new(alloc));
     }
     suffixes.with_all(alloc, words)
+}
+
+/// What `.SUFFIXES` does with its words. Fault 30 where one of them is no suffix.
+fn with_suffixes(spot: &Spot<'_>, state: State, words: &[String]) -> Result<State, ReadFault>
+    ensures exact { Gives (λ state. state) result (special_words (place_at spot.now) state (map string_bytes words.now) Suffixes) }
+    ensures own { IfErr result IsOfText }
+{
+    if !are_suffixes(words) {
+        return Err(ReadFault::SpecialShape(spot.place()?));
+    }
+    let suffixes = list_suffixes(spot.alloc, state.suffixes, words)?;
+    Ok(State { suffixes, ..state })
 }
 
 /// Puts words behind others.
@@ -152,13 +172,7 @@ fn with_special_words(
     ensures own { IfErr result IsOfText }
 {
     match special {
-        Special::Suffixes => {
-            if !are_suffixes(&words) {
-                return Err(ReadFault::SpecialShape(spot.place()?));
-            }
-            let suffixes = list_suffixes(spot.alloc, state.suffixes, &words)?;
-            Ok(State { suffixes, ..state })
-        }
+        Special::Suffixes => with_suffixes(spot, state, &words),
         Special::Phony => {
             let phony = append(state.phony, words)?;
             Ok(State { phony, ..state })

@@ -7,6 +7,7 @@ ghost use Rattle.mk_read.specs.Views.{IsBare, owner_view};
 
 use crate::makefile::Rule;
 use crate::name_set::NameSet;
+use crate::suffix_list::SuffixList;
 use mk_lines::Name;
 use mk_macros::MacroTable;
 use std::alloc::{AllocError, Global};
@@ -54,7 +55,7 @@ impl Model for RuleLines {
 #[derive(Drop)]
 pub(crate) struct State {
     pub(crate) macros: MacroTable,
-    pub(crate) suffixes: NameSet,
+    pub(crate) suffixes: SuffixList,
     pub(crate) phony: Vec<String>,
     pub(crate) not_parallel: bool,
     pub(crate) lines: RuleLines,
@@ -120,7 +121,7 @@ impl State {
     {
         State {
             macros: MacroTable::new(alloc),
-            suffixes: NameSet::new(alloc),
+            suffixes: SuffixList::new(alloc),
             phony: Vec::new(alloc),
             not_parallel: false,
             lines: RuleLines::new(alloc),

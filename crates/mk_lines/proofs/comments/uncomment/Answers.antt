@@ -1,6 +1,7 @@
 use Rattle.std.proofs.Common.{◌≡◌, ◌≤◌, ◌++◌, false, length, take, drop, unwrap_or, sym, ap, ◌∙◌, arith}
 use Rattle.std.proofs.lemmas.List.{length-take}
 use Rattle.mk_lines.specs.Comments.{read_part, spared_part, unescaped, has_escaped_hash}
+use Rattle.mk_lines.proofs.NoComment.{nothing_to_uncomment}
 use Rattle.mk_lines.proofs.Uncommenting.{unwrapped_within, with_comment, with_no_comment, nothing_changes, unescaped_same}
 use Rattle.mk_lines.proofs.comments.uncomment.Goals as goal
 use Rattle.mk_lines.proofs.comments.uncomment.Goals.{then-is_some, else-is_some, then-is_none+in_ok-extend_from_slice, else-is_none}
@@ -9,6 +10,9 @@ pub slice_bounds-kept-end : goal.slice_bounds-kept-end
 slice_bounds-kept-end c =
     let le : c.unwrap_or.result ≤ length c.split_at.result.0.now = rw (c.unwrap_or.ensures) (unwrapped_within (length c.split_at.result.0.now) c.comment_at-comment.result c.comment_at-comment.ensures.within) in
     omega (arith, length-take c.unwrap_or.result c.split_at.result.0.now)
+
+pub returns-then-not-contains-clause-exact : goal.returns-then-not-contains-clause-exact
+returns-then-not-contains-clause-exact c = sym (nothing_to_uncomment c.args.text.now (sym c.if-not-contains.ensures.value))
 
 pub returns-then-not-has_escaped_hash-clause-exact : goal.returns-then-not-has_escaped_hash-clause-exact
 returns-then-not-has_escaped_hash-clause-exact c =

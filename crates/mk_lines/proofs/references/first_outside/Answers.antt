@@ -1,8 +1,12 @@
 use Rattle.std.proofs.Common.{◌<◌, ◌≤◌, ◌≡◌, ◌&&◌, eqb, true, false, length, get_or, sym, ap, refl, ◌∙◌, arith}
 use Rattle.mk_lines.specs.References.{is_one_of, place_view, first_outside, first_from}
 use Rattle.mk_lines.proofs.Found.{moved, moved_zero, found_here, found_more, found_end}
+use Rattle.mk_lines.proofs.NoReference.{found_without_references}
 use Rattle.mk_lines.proofs.references.first_outside.Goals as goal
 use Rattle.mk_lines.proofs.references.first_outside.Goals.{else-is_outside-via-then-is_outside+else-contains, else-is_outside-via-else-is_outside}
+
+pub returns-then-not-contains-clause-exact : goal.returns-then-not-contains-clause-exact
+returns-then-not-contains-clause-exact c = found_without_references c.args.wanted.now c.args.text.now c.find_byteset.result (sym c.if-not-contains.ensures.value) c.find_byteset.ensures
 
 pub loop-at-init : goal.loop-at-init
 loop-at-init c =

@@ -1,0 +1,66 @@
+"""Measures `mkcheck graph` beside `make -n` and `bmake -n` on large texts, and prints a table."""
+
+import os
+import subprocess
+import sys
+from dataclasses import dataclass
+
+from generate import Generated
+from run import DATA, HERE, RUNS, Case, Measure, Tool, asked, measure, ratio
+
+# What is to be reached. The table shows it; no figure makes the run fail.
+RATIO_BOUND = 1.00
+GROWTH_BOUND = 2.3
+MEMORY_BOUND = 10.0
+
+# Each shape, and its largest size.
+SHAPES = {"long": 260, "includes": 990, "macros": 2800}
+
+
+@dataclass(frozen=True)
+class Text:
+    """A case whose makefile is written, and left out here, and the size of its texts in megabytes."""
+
+    case: Case
+    size: float
+
+
+def written(shape: str, count: int) -> Text:
+    """Writes a makefile, by a process of its own: a tool's peak memory counts that of the one that starts it."""
+    label = f"{shape} {count}"
+    command = [sys.executable, HERE / "generate.py", "--into", Case(label, Generated("", 0, 0)).file, shape, str(count)]
+    done = subprocess.run(command, capture_output=True, text=True, check=True)
+    nodes, recipes, size = map(int, done.stdout.split())
+    return Text(Case(label, Generated("", nodes, recipes)), size / 2**20)
+
+
+def row(text: Text, figures: dict[str, Measure], half: dict[str, Measure]) -> str:
+    """The growth is against a makefile of half the size."""
+    own = figures["mkcheck"]
+    times = "".join(f"{figure.time:>11.1f}" for figure in figures.values())
+    growth = own.time / half["mkcheck"].time
+    memory = f"{own.memory:>11.0f}{own.memory / text.size:>9.1f}"
+    return f"{text.case.label:<18}{text.size:>6.1f}{times}{ratio(figures):>8}{growth:>8.1f}{memory}"
+
+
+def show(shape: str, count: int, measured: list[Tool]) -> None:
+    """Measures a shape at half of its largest size and at that, and prints a row."""
+    before = measure(written(shape, count // 2).case, measured)
+    text = written(shape, count)
+    print(row(text, measure(text.case, measured), before), flush=True)
+
+
+def main() -> None:
+    measured = asked(__doc__)
+    DATA.mkdir(exist_ok=True)
+    os.chdir(DATA)
+    print(f"processor time, least of {RUNS} runs; {', '.join(tool.path for tool in measured)}")
+    columns = [f"{'makefile':<18}{'MB':>6}", *(f"{tool.name + ' ms':>11}" for tool in measured)]
+    print("".join([*columns, f"{'ratio':>8}{'growth':>8}{'memory MB':>11}{'by text':>9}"]))
+    for shape, count in SHAPES.items():
+        show(shape, count, measured)
+    print(f"{'at most':<{24 + 11 * len(measured)}}{RATIO_BOUND:>8.2f}{GROWTH_BOUND:>8.1f}{MEMORY_BOUND:>20.1f}")
+
+
+if __name__ == "__main__":
+    main()

@@ -1,0 +1,14 @@
+pub use Rattle.mk_graph.specs.Graph
+pub use Rattle.mk_graph.specs.Membership
+pub use Rattle.mk_graph.specs.Build
+pub mod Steps
+pub mod Names
+pub mod There
+pub mod Targets
+pub mod Inference
+pub mod Walk
+pub mod Selection
+pub mod Commands
+pub mod Goals
+pub mod Table
+pub mod Laws

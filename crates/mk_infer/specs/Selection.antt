@@ -1,0 +1,68 @@
+-- The graph of the names that goals reach.
+use Rattle.std.specs.Prelude.{◌≡◌, ℕ, Bool, not, ◌||◌, List, [], ◌∷◌, ◌++◌, map, find, take, option_to_list, Option, None, Some, Result, Ok, Err, if◌then◌else◌}
+use Rattle.mk_graph.specs.declared.fault.GraphFault.TheVariants as graph
+use Rattle.mk_graph.specs.declared.node.Node.{Node}
+use Rattle.mk_graph.specs.Graph.{Graph}
+use Rattle.mk_graph.specs.Build.{Builds}
+use Rattle.mk_read.specs.Names.{has_name}
+use Rattle.mk_read.specs.Needs.{groups, in_first}
+use Rattle.mk_read.specs.Reading.{Makefile}
+use Rattle.mk_read.specs.Rules.{has_some}
+use Rattle.mk_infer.specs.declared.fault.InferFault.{InferFault}
+use Rattle.mk_infer.specs.declared.fault.InferFault.TheVariants.{NoRule, Graph as Refused, Memory}
+use Rattle.mk_infer.specs.Names.{number_of}
+use Rattle.mk_infer.specs.Targets.{is_target, words_for, prerequisites_of, have_text}
+use Rattle.mk_infer.specs.There.{Exists, is_given}
+use Rattle.mk_infer.specs.Inference.{choice, chosen_commands}
+use Rattle.mk_infer.specs.Walk.{Meets}
+
+-- the prerequisites of a name, the inferred one before the others
+abbrev pub needs : Makefile → Exists → List ℕ → List (List ℕ)
+needs m e name = option_to_list (choice m e name) ++ prerequisites_of m name
+
+-- The inferred prerequisite as the first member of the first group. Where nothing runs side by side it is a group of
+-- its own.
+abbrev pub with_choice : Bool → Option (List ℕ) → List (List (List ℕ)) → List (List (List ℕ))
+with_choice not_parallel None groups = groups
+with_choice not_parallel (Some name) groups = if not_parallel then (name ∷ []) ∷ groups else in_first name groups
+
+-- the prerequisites of a name, in groups
+abbrev pub groups_of : Makefile → Exists → List ℕ → List (List (List ℕ))
+groups_of m e name = with_choice m.not_parallel (choice m e name) (groups m.not_parallel (words_for m name))
+
+-- the numbers of the names in groups
+abbrev pub numbered : List (List ℕ) → List (List (List ℕ)) → List (List ℕ)
+numbered all groups = map (map (number_of all)) groups
+
+abbrev pub node_of : Makefile → Exists → List (List ℕ) → List ℕ → Node
+node_of m e all name = record { name = name; groups = numbered all (groups_of m e name); recipe = have_text (chosen_commands m e name); phony = has_name m.phony name }
+
+-- the graph of these names, each numbered by its place
+abbrev pub graph_of : Makefile → Exists → List (List ℕ) → List (List ℕ) → Graph
+graph_of m e goals all = record { nodes = map (node_of m e all) all; goals = map (number_of all) goals }
+
+-- nothing makes the name: it is no target, has no inference rule, isn't phony and isn't given
+abbrev pub is_lacking : Makefile → Exists → List ℕ → Bool
+is_lacking m e name = not (e.any_leaf || (is_target m name || (has_some (choice m e name) || (has_name m.phony name || is_given e name))))
+
+-- the first of the names that lacks a rule, among as many as a graph may have
+abbrev pub lacking : Makefile → Exists → List (List ℕ) → Option (List ℕ)
+lacking m e all = find (is_lacking m e) (take 4096 all)
+
+-- The graph that is handed in is built, or refused. Want of memory is no refusal.
+abbrev pub Built : Graph → Result Graph InferFault → Type 0
+Built handed (Ok g) = Builds handed (Ok g)
+Built handed (Err (Refused graph.Memory)) = ⊥
+Built handed (Err (Refused fault)) = Builds handed (Err fault)
+Built handed (Err fault) = ⊥
+
+-- a name that lacks a rule is the fault
+abbrev pub BuiltUnless : Option (List ℕ) → Graph → Result Graph InferFault → Type 0
+BuiltUnless (Some name) handed answer = answer ≡ Err (NoRule name)
+BuiltUnless None handed answer = Built handed answer
+
+-- What becomes of the goals: the graph of the names that a walk from them meets, or its first fault. Nothing is said
+-- of want of memory.
+abbrev pub Selects : Makefile → Exists → List (List ℕ) → Result Graph InferFault → Type 0
+Selects m e goals (Err Memory) = Unit {0}
+Selects m e goals answer = (all : List (List ℕ)) × Meets (needs m e) [] goals all × BuiltUnless (lacking m e all) (graph_of m e goals all) answer

@@ -1,0 +1,32 @@
+-- Results in steps: the first fault is the result.
+use Rattle.std.specs.Prelude.{◌≡◌, ◌⊎◌, Result, Ok, Err}
+use Rattle.mk_graph.specs.declared.fault.GraphFault.{GraphFault}
+use Rattle.mk_graph.specs.declared.fault.GraphFault.TheVariants as graph
+use Rattle.mk_macros.specs.declared.fault.MacroFault.{MacroFault}
+use Rattle.mk_read.specs.declared.fault.Place.{Place}
+use Rattle.mk_infer.specs.declared.fault.InferFault.{InferFault}
+use Rattle.mk_infer.specs.declared.fault.InferFault.TheVariants.{Macro, Graph, Memory}
+
+infixl 10 ◌>>=◌
+abbrev pub ◌>>=◌ : {A B : Type 0} → Result A InferFault → (A → Result B InferFault) → Result B InferFault
+(Ok x) >>= f = f x
+(Err e) >>= f = Err e
+
+-- the fault of a macro is one at this place
+abbrev pub at_place : {A : Type 0} → Place → Result A MacroFault → Result A InferFault
+at_place place (Ok x) = Ok x
+at_place place (Err fault) = Err (Macro place fault)
+
+-- the fault of a graph, but want of memory
+abbrev pub of_graph : GraphFault → InferFault
+of_graph graph.Memory = Memory
+of_graph fault = Graph fault
+
+-- A fault is the one that is defined, or want of memory, of which nothing is said.
+abbrev pub Fails : {Y : Type 0} → InferFault → Result Y InferFault → Type 0
+Fails fault defined = (fault ≡ Memory) ⊎ (defined ≡ Err fault)
+
+-- What a function returned, seen by view, is what is defined, unless memory ran out.
+abbrev pub Gives : {X Y : Type 0} → (X → Y) → Result X InferFault → Result Y InferFault → Type 0
+Gives view (Ok x) defined = defined ≡ Ok (view x)
+Gives view (Err fault) defined = Fails fault defined

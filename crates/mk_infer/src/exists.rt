@@ -1,0 +1,66 @@
+//! The files that are there before a make.
+
+ghost use Rattle.std.specs.Prelude.{◌≡◌, true, false, ◌||◌, MatchOption};
+ghost use Rattle.mk_lines.specs.Names.{has_name};
+ghost use Rattle.mk_infer.specs.Table.{is_listed};
+ghost use Rattle.mk_infer.specs.There.{is_given};
+
+use mk_lines::{NameTable, Prefixes};
+use std::marker::Model;
+
+/// The files that are there before a make, and the names that count as there or as given beside
+/// them. A contract sees lists of names.
+#[derive(Drop)]
+pub struct Exists {
+    /// Whether any name without a rule is given. It makes no name one that is there for the choice
+    /// of an inference rule.
+    pub any_leaf: bool,
+    /// The sources.
+    pub sources: NameTable,
+    /// The fixed prefixes: a name under one of them is given, and gets no inference rule.
+    pub fixed: Prefixes,
+    /// The texts of the makefile.
+    pub texts: NameTable,
+    /// Names more that count as there for the choice of an inference rule.
+    pub more: NameTable,
+}
+
+impl Model for Exists {
+    ghost use Rattle.mk_infer.specs.There as value;
+
+    ghost Value = { value.Exists };
+
+    ghost view = { λ e. record { any_leaf = e.any_leaf; sources = e.sources; fixed = e.fixed; texts = e.texts; more = e.more } };
+}
+
+/// The name itself, where it stands in a table.
+fn found_in<'a>(table: &'a NameTable, name: &str) -> Option<&'a str>
+    ensures { MatchOption result (has_name table.now name.now ≡ false) (λ found. (found.now ≡ name.now) × (has_name table.now name.now ≡ true)) }
+{
+    match table.place(name) {
+        Some(place) => Some(table.as_slice()[place].as_str()),
+        None => None,
+    }
+}
+
+impl Exists {
+    /// Whether a name is given: a source, a text of the makefile, or under a fixed prefix.
+    pub fn is_given(&self, name: &str) -> bool
+        ensures { result ≡ is_given self.now name.now }
+    {
+        self.sources.contains(name) || self.texts.contains(name) || self.fixed.is_under(name)
+    }
+
+    /// The name itself, where it is a source, a text of the makefile, or one of the names more.
+    pub fn listed(&self, name: &str) -> Option<&str>
+        ensures { MatchOption result (is_listed self.now name.now ≡ false) (λ found. (found.now ≡ name.now) × (is_listed self.now name.now ≡ true)) }
+    {
+        if let Some(found) = found_in(&self.sources, name) {
+            return Some(found);
+        }
+        if let Some(found) = found_in(&self.texts, name) {
+            return Some(found);
+        }
+        found_in(&self.more, name)
+    }
+}

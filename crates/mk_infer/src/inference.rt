@@ -1,0 +1,194 @@
+//! The choice of an inference rule.
+
+ghost use Rattle.std.specs.Prelude.{◌≡◌, ◌++◌, true, false, None, Some, find, length, MatchOption, IfOk, if◌then◌else◌};
+ghost use Rattle.std.specs.Option.{option_map};
+ghost use Rattle.std.specs.String.{string_bytes};
+ghost use Rattle.mk_infer.specs.Inference.{but_last, choice, chosen_suffix, ending, ends_in, may_infer, stem};
+ghost use Rattle.mk_infer.specs.Table.{chosen_by, fits_by, making_of};
+ghost use Rattle.mk_infer.specs.There.{is_there};
+
+use crate::exists::Exists;
+use crate::rule_table::RuleTable;
+use mk_read::Command;
+use std::alloc::{AllocError, Global};
+use std::marker::Model;
+
+/// What an inference rule that was chosen gives a name. A contract sees lists.
+#[derive(Drop)]
+pub struct Chosen<'m> {
+    /// The inferred prerequisite.
+    pub name: &'m str,
+    /// The rule's commands.
+    pub commands: &'m [Command],
+}
+
+impl<'m> Model for Chosen<'m> {
+    ghost use Rattle.std.specs.Prelude.{Some};
+    ghost use Rattle.mk_infer.specs.Table as value;
+
+    ghost Value = { value.Chosen };
+
+    ghost view = { λ c. record { name = c.name.now; commands = Some c.commands.now } };
+}
+
+/// What stands before a suffix, where the name ends in it and has a rest before it.
+fn rest_before<'a>(name: &'a str, suffix: &str) -> Option<&'a str>
+    ensures { MatchOption result (ends_in name.now suffix.now ≡ false) (λ rest. (rest.now ≡ but_last (length suffix.now) name.now) × (ends_in name.now suffix.now ≡ true)) }
+{
+    let Some(rest) = name.strip_suffix(suffix) else {
+        return None;
+    };
+    if rest.is_empty() { None } else { Some(rest) }
+}
+
+/// A name without its known suffix, and that suffix, or nothing where it has none.
+pub fn parted<'a, 'm>(table: &RuleTable<'m>, name: &'a str) -> (&'a str, &'m str)
+    ensures stem { result.0.now ≡ stem table.now name.now }
+    ensures ending { result.1.now ≡ ending table.now name.now }
+{
+    for suffix in table.suffixes() {
+        if let Some(rest) = rest_before(name, suffix) {
+            return (rest, suffix);
+        }
+    }
+    (name, "")
+}
+
+/// Two texts, one behind the other.
+fn joined(alloc: Global, front: &str, back: &str) -> Result<String, AllocError>
+    ensures { IfOk result (λ text. string_bytes text ≡ front.now ++ back.now) }
+{
+    let mut text = String::from_str(alloc, front)?;
+    text.push_str(back)?;
+    Ok(text)
+}
+
+/// The name itself, where it is there.
+fn found_there<'m>(table: &RuleTable<'m>, exists: &'m Exists, name: &str) -> Option<&'m str>
+    ensures { MatchOption result (is_there table.now exists.now name.now ≡ false) (λ found. (found.now ≡ name.now) × (is_there table.now exists.now name.now ≡ true)) }
+{
+    if let Some(found) = exists.listed(name) {
+        return Some(found);
+    }
+    table.target(name)
+}
+
+/// What the inference rule with this suffix gives a name, where it has commands and its prerequisite
+/// is there.
+fn chosen_by<'m>(
+    alloc: Global,
+    table: &RuleTable<'m>,
+    exists: &'m Exists,
+    stem: &str,
+    ending: &str,
+    suffix: &str,
+) -> Result<Option<Chosen<'m>>, AllocError>
+    ensures { IfOk result (λ chosen. chosen ≡ (if fits_by table.now exists.now stem.now ending.now suffix.now then Some (chosen_by table.now stem.now ending.now suffix.now) else None)) }
+{
+    let rule = joined(alloc, suffix, ending)?;
+    let Some(commands) = table.rule_commands(&rule) else {
+        return Ok(None);
+    };
+    let wanted = joined(alloc, stem, suffix)?;
+    let Some(name) = found_there(table, exists, &wanted) else {
+        return Ok(None);
+    };
+    Ok(Some(Chosen { name, commands }))
+}
+
+/// What the first fitting inference rule gives a name, in the order of the suffixes.
+fn first_fitting<'m>(
+    alloc: Global,
+    table: &RuleTable<'m>,
+    exists: &'m Exists,
+    stem: &str,
+    ending: &str,
+) -> Result<Option<Chosen<'m>>, AllocError>
+    ensures { IfOk result (λ chosen. chosen ≡ option_map (chosen_by table.now stem.now ending.now) (find (fits_by table.now exists.now stem.now ending.now) table.now.suffixes)) }
+{
+    for suffix in table.suffixes() {
+        if let Some(chosen) = chosen_by(alloc, table, exists, stem, ending, suffix)? {
+            return Ok(Some(chosen));
+        }
+    }
+    Ok(None)
+}
+
+/// Whether a name may get an inference rule: it has no commands of its own, isn't phony, and isn't
+/// under a fixed prefix.
+fn may_infer(table: &RuleTable<'_>, exists: &Exists, name: &str) -> bool
+    ensures { result ≡ may_infer table.now exists.now name.now }
+{
+    !(table.own_commands(name).is_some() || table.is_phony(name) || exists.fixed.is_under(name))
+}
+
+/// What the inference rule of a name gives it, where it gets one.
+fn inferred<'m>(
+    alloc: Global,
+    table: &RuleTable<'m>,
+    exists: &'m Exists,
+    name: &str,
+) -> Result<Option<Chosen<'m>>, AllocError>
+    ensures { IfOk result (λ chosen. chosen ≡ option_map (chosen_by table.now (stem table.now name.now) (ending table.now name.now)) (chosen_suffix table.now exists.now name.now)) }
+{
+    if !may_infer(table, exists, name) {
+        return Ok(None);
+    }
+    let (stem, ending) = parted(table, name);
+    first_fitting(alloc, table, exists, stem, ending)
+}
+
+/// What makes a name. A contract sees lists.
+#[derive(Drop)]
+pub struct Maker<'m> {
+    /// The inferred prerequisite, where there is one.
+    pub choice: Option<&'m str>,
+    /// The commands of the inference rule that was chosen, else those of the name's own rule lines,
+    /// where there are any.
+    pub commands: Option<&'m [Command]>,
+}
+
+impl<'m> Model for Maker<'m> {
+    ghost use Rattle.std.specs.Option.{option_map};
+    ghost use Rattle.mk_infer.specs.Table as value;
+
+    ghost Value = { value.Making };
+
+    ghost view = { λ m. record { choice = option_map (λ name. name.now) m.choice; commands = option_map (λ commands. commands.now) m.commands } };
+}
+
+/// What makes a name: an inference rule, where one is chosen, else its own commands.
+pub fn making<'m>(
+    alloc: Global,
+    table: &RuleTable<'m>,
+    exists: &'m Exists,
+    name: &str,
+) -> Result<Maker<'m>, AllocError>
+    ensures { IfOk result (λ making. making ≡ making_of table.now exists.now name.now) }
+{
+    match inferred(alloc, table, exists, name)? {
+        Some(chosen) => Ok(Maker {
+            choice: Some(chosen.name),
+            commands: Some(chosen.commands),
+        }),
+        None => Ok(Maker {
+            choice: None,
+            commands: table.own_commands(name),
+        }),
+    }
+}
+
+/// The inferred prerequisite of a name, where there is one: what stands before the name's known
+/// suffix, with the first suffix of the list behind it that has a rule with commands and makes a name
+/// that is there. A name with commands of its own has none, nor has a phony name, nor one under a
+/// fixed prefix (IEEE Std 1003.1-2024, XCU make, "Inference Rules").
+pub fn choice<'m>(
+    alloc: Global,
+    table: &RuleTable<'m>,
+    exists: &'m Exists,
+    name: &str,
+) -> Result<Option<&'m str>, AllocError>
+    ensures { IfOk result (λ found. option_map (λ name. name.now) found ≡ choice table.now exists.now name.now) }
+{
+    Ok(making(alloc, table, exists, name)?.choice)
+}

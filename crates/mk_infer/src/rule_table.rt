@@ -1,0 +1,319 @@
+//! A makefile whose names are looked up.
+
+ghost use Rattle.std.specs.Prelude.{◌≡◌, ◌∷◌, ◌++◌, [], List, ℕ, map, filter, find, not, slice_get, true, false, None, Some, MatchOption, OnOk, IfOk, if◌then◌else◌};
+ghost use Rattle.std.specs.Option.{option_copied, option_map, option_map_or};
+ghost use Rattle.std.specs.List.{list_any};
+ghost use Rattle.std.specs.Str.{bytes_eq};
+ghost use Rattle.std.specs.String.{string_bytes};
+ghost use Rattle.indexmap.specs.IndexMap.{get_by};
+ghost use Rattle.mk_read.specs.Names.{has_name};
+ghost use Rattle.mk_read.specs.Needs.{commands_in, commands_of, is_wait};
+ghost use Rattle.mk_read.specs.Special.{is_inference_name};
+ghost use Rattle.mk_infer.specs.Targets.{is_target, own_commands, prerequisites_of, rules_for, words_for};
+ghost use Rattle.mk_infer.specs.Table.{HasLines, HoldsNames, counts_for, lines_at, lines_of, places_at, targets_in, words_in};
+
+use crate::name_set::{NameSet, insert_all};
+use crate::suffix_set::{SuffixSet, suffixes_among};
+use indexmap::IndexMap;
+use mk_macros::MacroTable;
+use mk_read::{Command, Makefile, Rule};
+use std::alloc::{AllocError, Global};
+use std::marker::Model;
+
+/// For each target the places of the rule lines that name it, in their order.
+type Lines<'m> = IndexMap<&'m str, Vec<usize>>;
+
+/// One more rule line of a target.
+fn add_place<'m>(
+    alloc: Global,
+    lines: &mut Lines<'m>,
+    target: &'m str,
+    place: usize,
+) -> Result<(), AllocError>
+    ensures { OnOk result ((name : List ℕ) →
+        option_map_or (λ places. places.items) (get_by (λ k. bytes_eq name k.now) lines.new) []
+        ≡ (if bytes_eq name target.entry.now then option_map_or (λ places. places.items) (get_by (λ k. bytes_eq name k.now) lines.old) [] ++ place ∷ [] else option_map_or (λ places. places.items) (get_by (λ k. bytes_eq name k.now) lines.old) [])) }
+{
+    let places = lines.entry(target)?.or_insert(Vec::new(alloc));
+    places.push(place)?;
+    Ok(())
+}
+
+/// One more rule line of each of these targets.
+fn add_targets<'m>(
+    alloc: Global,
+    lines: &mut Lines<'m>,
+    targets: &'m [String],
+    place: usize,
+) -> Result<(), AllocError>
+    ensures { OnOk result ((name : List ℕ) →
+        places_at lines.new name ≡ (if has_name (map string_bytes targets.now) name then places_at lines.old name ++ place ∷ [] else places_at lines.old name)) }
+{
+    let mut seen = NameSet::new(alloc);
+    for target in targets {
+        if !seen.insert(target)? {
+            continue;
+        }
+        add_place(alloc, lines, target, place)?;
+    }
+    Ok(())
+}
+
+/// The places of all rule lines.
+fn lines_among<'m>(alloc: Global, rules: &'m [Rule]) -> Result<Lines<'m>, AllocError>
+    ensures { IfOk result (λ lines. HasLines rules.now lines) }
+{
+    let mut lines = IndexMap::new(alloc);
+    for (place, rule) in rules.iter().enumerate() {
+        add_targets(alloc, &mut lines, &rule.targets, place)?;
+    }
+    Ok(lines)
+}
+
+/// Names, each once.
+fn names_among<'m>(alloc: Global, names: &'m [String]) -> Result<NameSet<'m>, AllocError>
+    ensures { IfOk result (λ set. HoldsNames set (map string_bytes names.now)) }
+{
+    let mut set = NameSet::new(alloc);
+    insert_all(&mut set, names)?;
+    Ok(set)
+}
+
+/// The rule line at a place.
+fn rule_at(rules: &[Rule], place: usize) -> Option<&Rule>
+    ensures { MatchOption result (slice_get rules.now place ≡ None) (λ rule. slice_get rules.now place ≡ Some rule.now) }
+{
+    rules.get(place)
+}
+
+/// Words behind others.
+fn push_words<'m>(words: &mut Vec<&'m str>, more: &'m [String]) -> Result<(), AllocError>
+    ensures { OnOk result (map (λ word. word.now) words.new.items ≡ map (λ word. word.now) words.old.items ++ map string_bytes more.now) }
+{
+    for word in more {
+        words.push(word.as_str())?;
+    }
+    Ok(())
+}
+
+/// The words of the rule lines at these places.
+fn words_at<'m>(
+    alloc: Global,
+    rules: &'m [Rule],
+    places: &[usize],
+) -> Result<Vec<&'m str>, AllocError>
+    ensures { IfOk result (λ words. map (λ word. word.now) words.items ≡ words_in (lines_at rules.now places.now)) }
+{
+    let mut words = Vec::new(alloc);
+    for place in places {
+        let Some(rule) = rule_at(rules, *place) else {
+            continue;
+        };
+        push_words(&mut words, &rule.words)?;
+    }
+    Ok(words)
+}
+
+/// Whether a rule line has commands. Where only the makefile's own count, it isn't of the default
+/// text.
+fn counts_for(own: bool, rule: &Rule) -> bool
+    ensures { result ≡ counts_for own rule.now }
+{
+    !(own && rule.default) && rule.commands.is_some()
+}
+
+/// The first rule line with commands at these places.
+fn commanded_at<'m>(rules: &'m [Rule], places: &[usize], own: bool) -> Option<&'m Rule>
+    ensures { option_copied result ≡ find (counts_for own) (lines_at rules.now places.now) }
+{
+    for place in places {
+        let Some(rule) = rule_at(rules, *place) else {
+            continue;
+        };
+        if counts_for(own, rule) {
+            return Some(rule);
+        }
+    }
+    None
+}
+
+/// The words but `.WAIT`.
+fn without_waits<'m>(alloc: Global, words: &[&'m str]) -> Result<Vec<&'m str>, AllocError>
+    ensures { IfOk result (λ found. map (λ word. word.now) found.items ≡ filter (λ word. not (is_wait word)) (map (λ word. word.now) words.now)) }
+{
+    let mut found = Vec::new(alloc);
+    for word in words {
+        if *word != ".WAIT" {
+            found.push(*word)?;
+        }
+    }
+    Ok(found)
+}
+
+/// The commands of a rule line, where it has any.
+fn commands_in<'m>(rule: Option<&'m Rule>, other: Option<&'m Rule>) -> Option<&'m [Command]>
+    ensures { option_map (λ commands. commands.now) result ≡ commands_in (option_copied rule.entry) (option_copied other.entry) }
+{
+    match &rule.or(other)?.commands {
+        Some(commands) => Some(commands.as_slice()),
+        None => None,
+    }
+}
+
+/// The commands at these places: those of the makefile's own rule line before those of the default
+/// text's.
+fn commands_at<'m>(rules: &'m [Rule], places: &[usize]) -> Option<&'m [Command]>
+    ensures { option_map (λ commands. commands.now) result ≡ commands_in (find (counts_for true) (lines_at rules.now places.now)) (find (counts_for false) (lines_at rules.now places.now)) }
+{
+    let own = commanded_at(rules, places, true);
+    let any = commanded_at(rules, places, false);
+    commands_in(own, any)
+}
+
+/// The targets of rule lines, each once.
+fn targets_among<'m>(alloc: Global, rules: &'m [Rule]) -> Result<NameSet<'m>, AllocError>
+    ensures { IfOk result (λ set. HoldsNames set (targets_in rules.now)) }
+{
+    let mut set = NameSet::new(alloc);
+    for rule in rules {
+        insert_all(&mut set, &rule.targets)?;
+    }
+    Ok(set)
+}
+
+/// A makefile whose names are looked up. A contract sees the makefile.
+#[derive(Drop)]
+pub struct RuleTable<'m> {
+    makefile: &'m Makefile,
+    suffixes: SuffixSet<'m>,
+    phony: NameSet<'m>,
+    targets: NameSet<'m>,
+    lines: Lines<'m>,
+}
+
+impl<'m> Model for RuleTable<'m> {
+    ghost use Rattle.mk_read.specs.Reading as value;
+    ghost use Rattle.mk_infer.specs.Table.{IsTableOf};
+
+    ghost Value = { value.Makefile };
+
+    ghost view = { λ t. t.makefile.now };
+
+    ghost invariant = { λ t. IsTableOf t.makefile.now t.suffixes t.phony t.targets t.lines };
+}
+
+impl<'m> RuleTable<'m> {
+    /// The table of a makefile.
+    pub fn new(alloc: Global, makefile: &'m Makefile) -> Result<RuleTable<'m>, AllocError>
+        ensures { IfOk result (λ table. table ≡ makefile.now) }
+    {
+        Ok(RuleTable {
+            makefile,
+            suffixes: suffixes_among(alloc, makefile.suffixes())?,
+            phony: names_among(alloc, makefile.phony())?,
+            targets: targets_among(alloc, makefile.rules())?,
+            lines: lines_among(alloc, makefile.rules())?,
+        })
+    }
+
+    /// The rule lines, in their order.
+    pub fn rules(&self) -> &'m [Rule]
+        ensures { result.now ≡ self.now.rules }
+    {
+        self.makefile.rules()
+    }
+
+    /// The known suffixes, in their order.
+    pub fn suffixes(&self) -> &'m [String]
+        ensures { map string_bytes result.now ≡ self.now.suffixes }
+    {
+        self.makefile.suffixes()
+    }
+
+    /// The macros after all reading.
+    pub fn macros(&self) -> &'m MacroTable
+        ensures { result.now ≡ self.now.macros }
+    {
+        self.makefile.macros()
+    }
+
+    /// Whether each prerequisite is a group of its own.
+    pub fn not_parallel(&self) -> bool
+        ensures { result ≡ self.now.not_parallel }
+    {
+        self.makefile.not_parallel()
+    }
+
+    /// Whether a name is an inference name.
+    pub fn is_inference_name(&self, name: &str) -> bool
+        ensures { result ≡ is_inference_name self.now.suffixes name.now }
+    {
+        self.suffixes.is_joined(name.as_bytes())
+    }
+
+    /// Whether a name is phony.
+    pub fn is_phony(&self, name: &str) -> bool
+        ensures { result ≡ has_name self.now.phony name.now }
+    {
+        self.phony.contains(name)
+    }
+
+    /// The name itself, where it is the target of a target rule.
+    pub fn target(&self, name: &str) -> Option<&'m str>
+        ensures { MatchOption result (is_target self.now name.now ≡ false) (λ found. (found.now ≡ name.now) × (is_target self.now name.now ≡ true)) }
+    {
+        if self.is_inference_name(name) {
+            return None;
+        }
+        self.targets.get(name)
+    }
+
+    /// The places of the rule lines that name a target, be it an inference name or not.
+    fn places_of(&self, name: &str) -> &[usize]
+        ensures { lines_at self.now.rules result.now ≡ lines_of self.now.rules name.now }
+    {
+        let Some(places) = self.lines.get(name) else {
+            return &[];
+        };
+        places.as_slice()
+    }
+
+    /// The places of a name's rule lines. An inference name is no target of theirs.
+    fn lines_for(&self, name: &str) -> &[usize]
+        ensures { lines_at self.now.rules result.now ≡ lines_of (rules_for self.now name.now) name.now }
+    {
+        if self.is_inference_name(name) {
+            return &[];
+        }
+        self.places_of(name)
+    }
+
+    /// The words of a name's rule lines, `.WAIT` among them.
+    pub fn words_for(&self, alloc: Global, name: &str) -> Result<Vec<&'m str>, AllocError>
+        ensures { IfOk result (λ words. map (λ word. word.now) words.items ≡ words_for self.now name.now) }
+    {
+        words_at(alloc, self.rules(), self.lines_for(name))
+    }
+
+    /// The prerequisites of a name, in their order.
+    pub fn prerequisites_of(&self, alloc: Global, name: &str) -> Result<Vec<&'m str>, AllocError>
+        ensures { IfOk result (λ words. map (λ word. word.now) words.items ≡ prerequisites_of self.now name.now) }
+    {
+        let words = self.words_for(alloc, name)?;
+        without_waits(alloc, &words)
+    }
+
+    /// The commands of a name's own rule lines.
+    pub fn own_commands(&self, name: &str) -> Option<&'m [Command]>
+        ensures { option_map (λ commands. commands.now) result ≡ own_commands self.now name.now }
+    {
+        commands_at(self.rules(), self.lines_for(name))
+    }
+
+    /// The commands of a rule line for a name, be it an inference name or not.
+    pub fn rule_commands(&self, name: &str) -> Option<&'m [Command]>
+        ensures { option_map (λ commands. commands.now) result ≡ commands_of self.now.rules name.now }
+    {
+        commands_at(self.rules(), self.places_of(name))
+    }
+}
