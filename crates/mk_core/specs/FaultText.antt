@@ -3,8 +3,13 @@ use Rattle.std.specs.Prelude.{ℕ, List, [], ◌∷◌, ◌++◌, codes, Option,
 use Rattle.std.specs.List.{flat_map}
 use Rattle.std.specs.Option.{option_map}
 use Rattle.std.specs.Fmt.{decimal}
+use Rattle.mk_foot.specs.Keys.{spelling}
+use Rattle.mk_foot.specs.declared.fault.FootFault.{FootFault}
+use Rattle.mk_foot.specs.declared.fault.FootFault.TheVariants as foot
 use Rattle.mk_graph.specs.declared.fault.GraphFault.{GraphFault}
 use Rattle.mk_graph.specs.declared.fault.GraphFault.TheVariants as graph
+use Rattle.mk_infer.specs.declared.fault.InferFault.{InferFault}
+use Rattle.mk_infer.specs.declared.fault.InferFault.TheVariants as infer
 use Rattle.mk_lines.specs.declared.fault.LineFault.{LineFault}
 use Rattle.mk_lines.specs.declared.fault.LineFault.TheVariants as line
 use Rattle.mk_macros.specs.declared.fault.MacroFault.{MacroFault}
@@ -15,7 +20,7 @@ use Rattle.mk_read.specs.declared.fault.Place.{Place}
 use Rattle.mk_read.specs.declared.fault.ReadFault.{ReadFault}
 use Rattle.mk_read.specs.declared.fault.ReadFault.TheVariants as read
 use Rattle.mk_core.specs.declared.fault.Fault.{Fault}
-use Rattle.mk_core.specs.declared.fault.Fault.TheVariants.{Read, BadGoal, GoalIsMember, NoGoal, Graph, Memory}
+use Rattle.mk_core.specs.declared.fault.Fault.TheVariants.{Read, Infer, Foot, FileReadFailed, NoFile, Memory}
 
 -- FILE:LINE
 abbrev pub place_text : Place → List ℕ
@@ -92,10 +97,31 @@ graph_fault_text (graph.Cycle names) = refusal 42 names
 graph_fault_text graph.TooManyNodes = refusal 43 []
 graph_fault_text graph.Memory = no_memory
 
+unfoldable pub infer_fault_text : InferFault → List ℕ
+infer_fault_text (infer.BadGoal place) = refusal_at 27 place
+infer_fault_text (infer.GoalIsMember place) = refusal_at 28 place
+infer_fault_text (infer.NoRule name) = refusal 41 (name ∷ [])
+infer_fault_text infer.NoGoal = refusal 44 []
+infer_fault_text (infer.InferencePrerequisites place) = refusal_at 45 place
+infer_fault_text (infer.Macro place fault) = macro_fault_text place fault
+infer_fault_text (infer.Graph fault) = graph_fault_text fault
+infer_fault_text infer.Memory = no_memory
+
+unfoldable pub foot_fault_text : FootFault → List ℕ
+foot_fault_text foot.NotJson = refusal 51 []
+foot_fault_text (foot.Shape key) = refusal 52 (spelling key ∷ [])
+foot_fault_text foot.OtherFormat = refusal 53 []
+foot_fault_text (foot.TwoRecords target) = refusal 54 (target ∷ [])
+foot_fault_text (foot.BadName key) = refusal 55 (spelling key ∷ [])
+foot_fault_text (foot.SourceIsFixed name) = refusal 56 (name ∷ [])
+foot_fault_text foot.NoGroup = refusal 57 []
+foot_fault_text foot.NoList = refusal 58 []
+foot_fault_text foot.Memory = no_memory
+
 unfoldable pub fault_text : Fault → List ℕ
 fault_text (Read fault) = read_fault_text fault
-fault_text (BadGoal place) = refusal_at 27 place
-fault_text (GoalIsMember place) = refusal_at 28 place
-fault_text NoGoal = refusal 44 []
-fault_text (Graph fault) = graph_fault_text fault
+fault_text (Infer fault) = infer_fault_text fault
+fault_text (Foot fault) = foot_fault_text fault
+fault_text (FileReadFailed name) = refusal 35 (name ∷ [])
+fault_text (NoFile name) = refusal 38 (name ∷ [])
 fault_text Memory = no_memory

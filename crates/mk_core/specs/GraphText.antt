@@ -1,8 +1,15 @@
 -- What is printed of a graph.
-use Rattle.std.specs.Prelude.{ℕ, List, [], ◌∷◌, ◌++◌, codes, if◌then◌else◌}
+use Rattle.std.specs.Prelude.{ℕ, Bool, List, [], ◌∷◌, ◌++◌, codes, Result, Ok, Err, if◌then◌else◌}
 use Rattle.std.specs.List.{flat_map}
 use Rattle.mk_graph.specs.Graph.{Graph, node}
 use Rattle.mk_graph.specs.Serial.{serial_order}
+use Rattle.mk_infer.specs.Commands.{Commands, commands}
+use Rattle.mk_infer.specs.There.{Exists}
+use Rattle.mk_infer.specs.declared.fault.InferFault.{InferFault}
+use Rattle.mk_read.specs.Reading.{Makefile}
+use Rattle.mk_core.specs.declared.fault.Fault.{Fault}
+use Rattle.mk_core.specs.declared.fault.Fault.TheVariants.{Infer}
+use Rattle.mk_core.specs.Steps.{◌>>=◌}
 
 -- each name behind a space
 abbrev pub names_text : Graph → List ℕ → List ℕ
@@ -24,9 +31,35 @@ node_text g n =
     ++ ((if (node g n).phony then codes " phony" else [])
     ++ (58 ∷ (groups_text g (node g n).groups ++ 10 ∷ []))))
 
-abbrev pub nodes_text : Graph → List ℕ → List ℕ
-nodes_text g ns = flat_map (node_text g) ns
+-- each command behind a tab, on a line of its own
+abbrev pub commands_text : List (List ℕ) → List ℕ
+commands_text lines = flat_map (λ line. 9 ∷ (line ++ 10 ∷ [])) lines
 
--- the goals on a line, then a line for each node in serial order
-unfoldable pub graph_text : Graph → List ℕ
-graph_text g = (codes "goals" ++ (names_text g g.goals ++ 10 ∷ [])) ++ nodes_text g (serial_order g)
+-- the goals on a line
+abbrev pub goals_text : Graph → List ℕ
+goals_text g = codes "goals" ++ (names_text g g.goals ++ 10 ∷ [])
+
+-- the expanded commands, or their fault
+abbrev pub lines_of : Result Commands InferFault → Result (List (List ℕ)) Fault
+lines_of (Ok c) = Ok c.lines
+lines_of (Err fault) = Err (Infer fault)
+
+-- the commands of a name as they are shown: none unless they are asked for
+abbrev pub shown_lines : Bool → Makefile → Exists → List ℕ → Result (List (List ℕ)) Fault
+shown_lines asked m e name = if asked then lines_of (commands m e name) else Ok []
+
+-- the line of a node with its commands behind it, or the fault of its commands
+abbrev pub shown_node : (List ℕ → Result (List (List ℕ)) Fault) → Graph → ℕ → Result (List ℕ) Fault
+shown_node lines_for g n = lines_for (node g n).name >>= λ lines. Ok (node_text g n ++ commands_text lines)
+
+-- the nodes in this order, or the first fault of their commands
+unfoldable pub nodes_text : (List ℕ → Result (List (List ℕ)) Fault) → Graph → List ℕ → Result (List ℕ) Fault
+nodes_text lines_for g [] = Ok []
+nodes_text lines_for g (n ∷ ns) = do
+  text ← shown_node lines_for g n
+  rest ← nodes_text lines_for g ns
+  Ok (text ++ rest)
+
+-- the goals on a line, then the nodes in serial order
+abbrev pub graph_text : (List ℕ → Result (List (List ℕ)) Fault) → Graph → Result (List ℕ) Fault
+graph_text lines_for g = nodes_text lines_for g (serial_order g) >>= λ nodes. Ok (goals_text g ++ nodes)

@@ -2,15 +2,12 @@ pub use Rattle.mk_graph.specs.Graph
 pub use Rattle.mk_graph.specs.Membership
 pub use Rattle.mk_graph.specs.Build
 pub use Rattle.mk_graph.specs.Serial
-pub use Rattle.mk_read.specs.Files
 pub use Rattle.mk_read.specs.MemFiles
 pub mod Words
 pub mod Steps
-pub mod Names
-pub mod Goals
-pub mod Selection
-pub mod Table
+pub mod Files
 pub mod GraphText
 pub mod FaultText
 pub mod Answer
+pub mod Views
 pub mod Laws

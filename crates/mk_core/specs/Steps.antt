@@ -1,9 +1,13 @@
 -- Results in steps: the first fault is the result.
-use Rattle.std.specs.Prelude.{◌≡◌, ◌⊎◌, Bool, true, false, Result, Ok, Err}
-use Rattle.mk_graph.specs.declared.fault.GraphFault.TheVariants as graph
-use Rattle.mk_read.specs.Steps as reading
+use Rattle.std.specs.Prelude.{◌≡◌, ◌⊎◌, ⊤, ℕ, Bool, true, false, List, ◌++◌, Result, Ok, Err}
+use Rattle.mk_foot.specs.declared.fault.FootFault.{FootFault}
+use Rattle.mk_foot.specs.declared.fault.FootFault.TheVariants as foot
+use Rattle.mk_infer.specs.declared.fault.InferFault.{InferFault}
+use Rattle.mk_infer.specs.declared.fault.InferFault.TheVariants as infer
+use Rattle.mk_read.specs.declared.fault.ReadFault.{ReadFault}
+use Rattle.mk_read.specs.declared.fault.ReadFault.TheVariants as read
 use Rattle.mk_core.specs.declared.fault.Fault.{Fault}
-use Rattle.mk_core.specs.declared.fault.Fault.TheVariants.{Read, Graph, Memory}
+use Rattle.mk_core.specs.declared.fault.Fault.TheVariants.{Read, Infer, Foot, Memory}
 
 infixl 10 ◌>>=◌
 abbrev pub ◌>>=◌ : {A B : Type 0} → Result A Fault → (A → Result B Fault) → Result B Fault
@@ -15,24 +19,36 @@ abbrev pub seen : {X Y : Type 0} → (X → Y) → Result X Fault → Result Y F
 seen view (Ok x) = Ok (view x)
 seen view (Err fault) = Err fault
 
--- want of memory, of each kind
-abbrev pub is_want_of_memory : Fault → Bool
-is_want_of_memory Memory = true
-is_want_of_memory (Read fault) = reading.is_want_of_memory fault
-is_want_of_memory (Graph graph.Memory) = true
-is_want_of_memory fault = false
+-- want of memory
+abbrev pub is_memory : Fault → Bool
+is_memory Memory = true
+is_memory fault = false
+
+-- the fault of a makefile, but want of memory
+abbrev pub of_read : ReadFault → Fault
+of_read read.Memory = Memory
+of_read fault = Read fault
+
+-- the fault of goals, of their graph or of commands, but want of memory
+abbrev pub of_infer : InferFault → Fault
+of_infer infer.Memory = Memory
+of_infer fault = Infer fault
+
+-- the fault of footprints, but want of memory
+abbrev pub of_foot : FootFault → Fault
+of_foot foot.Memory = Memory
+of_foot fault = Foot fault
 
 -- A fault is the one that is defined, or want of memory, of which nothing is said.
 abbrev pub Fails : {Y : Type 0} → Fault → Result Y Fault → Type 0
-Fails fault defined = (is_want_of_memory fault ≡ true) ⊎ (defined ≡ Err fault)
+Fails fault defined = (fault ≡ Memory) ⊎ (defined ≡ Err fault)
 
 -- What a function returned, seen by view, is what is defined, unless memory ran out.
 abbrev pub Gives : {X Y : Type 0} → (X → Y) → Result X Fault → Result Y Fault → Type 0
 Gives view (Ok x) defined = defined ≡ Ok (view x)
 Gives view (Err fault) defined = Fails fault defined
 
--- a fault of the words of goals: nothing was read, and no graph was built
-abbrev pub IsOfGoals : Fault → Type 0
-IsOfGoals (Read fault) = ⊥
-IsOfGoals (Graph fault) = ⊥
-IsOfGoals fault = Unit {0}
+-- What is defined stands behind the old text in the new one, unless memory ran out.
+abbrev pub Extends : List ℕ → List ℕ → Result ⊤ Fault → Result (List ℕ) Fault → Type 0
+Extends old new (Ok done) defined = (text : List ℕ) × (defined ≡ Ok text) × (new ≡ old ++ text)
+Extends old new (Err fault) defined = Fails fault defined

@@ -1,49 +1,79 @@
 //! The answer to a request for a graph.
 
-ghost use Rattle.std.specs.Prelude.{◌≡◌, ◌<◌, ◌-◌, ◌^◌, IfSome};
-ghost use Rattle.mk_core.specs.Answer.{Answers, Counts, PrintsFor};
+ghost use Rattle.std.specs.Prelude.{◌≡◌, ◌<◌, ◌-◌, ◌^◌, map, IfSome};
+ghost use Rattle.mk_core.specs.Answer.{Answers, Counts};
 ghost use Rattle.mk_core.specs.Steps.{seen};
-ghost use Rattle.mk_core.specs.Table.{with_suffixes};
+ghost use Rattle.mk_core.specs.Views.{DrawsWords};
 
 use crate::fault::Fault;
-use crate::goals::goal_names;
 use crate::printing::text_of;
 use crate::request::Request;
-use crate::rule_table::RuleTable;
-use crate::selection::select;
+use crate::there::there_for;
+use mk_infer::{Exists, RuleTable, goal_names, select};
 use mk_lines::Name;
 use mk_read::{Files, Makefile, read_makefile};
 use std::alloc::Global;
 
-/// What is printed over a makefile.
-fn printed(alloc: Global, makefile: &Makefile, goals: &[Name]) -> Result<Vec<u8>, Fault>
-    ensures { PrintsFor (with_suffixes makefile.now) goals.now (seen (λ text. text.items) result) }
+/// What is printed over a makefile whose names are looked up.
+fn drawn_over<'m>(
+    alloc: Global,
+    table: &RuleTable<'m>,
+    exists: &'m Exists,
+    words: &'m [Name],
+    commands: bool,
+) -> Result<Vec<u8>, Fault>
+    ensures { DrawsWords commands table.now exists.now words.now (seen (λ text. text.items) result) }
 {
-    let table = RuleTable::new(alloc, makefile)?;
-    let goals = goal_names(alloc, &table, goals)?;
-    let graph = select(alloc, &table, goals.as_slice())?;
-    Ok(text_of(alloc, &graph)?)
+    let goals = goal_names(alloc, table, words)?;
+    let graph = select(alloc, table, exists, goals.as_slice())?;
+    text_of(alloc, table, exists, &graph, commands)
 }
 
-/// What `mkcheck graph` prints: the goals on a line, then a line for each node in serial order, or
-/// the first fault: of the makefile's name, of the operands, of the reading, of the goals, of the
-/// graph.
+/// What is printed over a makefile, the files that are there, and the words of goals.
+fn drawn<'m>(
+    alloc: Global,
+    makefile: &'m Makefile,
+    exists: &'m Exists,
+    words: &'m [Name],
+    commands: bool,
+) -> Result<Vec<u8>, Fault>
+    ensures { DrawsWords commands makefile.now exists.now words.now (seen (λ text. text.items) result) }
+{
+    let table = RuleTable::new(alloc, makefile)?;
+    drawn_over(alloc, &table, exists, words, commands)
+}
+
+/// What `mkcheck graph` prints: the goals on a line, then a line for each node in serial order, with its
+/// commands behind it where they are asked for (IEEE Std 1003.1-2024, XCU make, "Target Rules", "Inference
+/// Rules", "Macros").
+///
+/// The first fault is the answer: of the makefile's name, of the operands, of the reading; 45, of the
+/// goals, 44; 35, 38 and 51 to 58 of the footprints; 41 or 43 as a walk meets them, 42; and with
+/// commands 11 to 17, node by node in serial order.
 pub fn graph_text<F: Files>(
     alloc: Global,
     files: &mut F,
     request: &Request,
+    commands: bool,
 ) -> Result<Vec<u8>, Fault>
     requires { F.failed files.old < 2 ^ 64 - 1 }
     ensures map { F.told files.new ≡ F.told files.old }
-    ensures answer { IfSome (F.told files.old) (λ told. Answers told request.now (seen (λ text. text.items) result)) }
+    ensures answer { IfSome (F.told files.old) (λ told. Answers told request.now commands (seen (λ text. text.items) result)) }
     ensures counted { Counts (F.failed files.old) (F.failed files.new) result }
 {
     let makefile = read_makefile(
         alloc,
         files,
         request.makefile.as_ref(),
-        false,
+        request.defaults,
         request.operands.as_slice(),
     )?;
-    printed(alloc, &makefile, request.goals.as_slice())
+    let exists = there_for(alloc, files, request, &makefile)?;
+    drawn(
+        alloc,
+        &makefile,
+        &exists,
+        request.goals.as_slice(),
+        commands,
+    )
 }

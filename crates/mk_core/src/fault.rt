@@ -1,33 +1,36 @@
 //! Why a request is refused.
 
 ghost use Rattle.std.specs.Prelude.{◌≡◌};
-ghost use Rattle.mk_core.specs.Steps.{is_want_of_memory};
-ghost use Rattle.mk_core.specs.declared.fault.Fault.TheVariants.{Graph, Memory, Read};
+ghost use Rattle.mk_core.specs.Steps.{is_memory, of_foot, of_infer, of_read};
+ghost use Rattle.mk_core.specs.declared.fault.Fault.TheVariants.{Memory};
 
-use mk_graph::GraphFault;
-use mk_read::{Place, ReadFault};
+use mk_foot::FootFault;
+use mk_infer::InferFault;
+use mk_lines::Name;
+use mk_read::ReadFault;
 use std::alloc::{AllocError, AllocFailed};
 use thiserror::Error;
 
-/// Why a request is refused: the first fault of the makefile, of the goals, of the graph.
+/// Why a request is refused: the first fault of the makefile, of the goals, of the footprints, of the
+/// graph, of the commands.
 #[derive(Debug, Drop, Error)]
 pub enum Fault {
-    /// The makefile is refused (faults 1 to 37).
+    /// The makefile is refused (faults 1 to 37). The fault is none of memory.
     #[error(transparent)]
     Read(ReadFault),
-    /// A goal is no name of a target, `.WAIT` or `-` (fault 27). The place's file is `goal`, and its
-    /// line counts the goals as given, from 1.
-    #[error("a goal is no name")]
-    BadGoal(Place),
-    /// A goal holds `(` or `)` (fault 28). The place is as above.
-    #[error("a goal names an archive's member")]
-    GoalIsMember(Place),
-    /// No goal was given, and the makefile has no target that is one (fault 44).
-    #[error("there is no goal")]
-    NoGoal,
-    /// The nodes are no graph.
+    /// The goals are refused (27, 28, 44, 45), they have no graph (41 to 43), or a command can't be
+    /// expanded (11 to 17). The fault is none of memory.
     #[error(transparent)]
-    Graph(GraphFault),
+    Infer(InferFault),
+    /// The footprints are refused (faults 51 to 58). The fault is none of memory.
+    #[error(transparent)]
+    Foot(FootFault),
+    /// The reader failed to read this file, which is no makefile (fault 35).
+    #[error("a file could not be read")]
+    FileReadFailed(Name),
+    /// This file, which is no makefile, isn't there (fault 38).
+    #[error("a file is missing")]
+    NoFile(Name),
     /// A growth was refused, which may come in place of any answer.
     #[error("want of memory")]
     Memory,
@@ -36,29 +39,42 @@ pub enum Fault {
 impl Fault {
     /// Whether a growth was refused, which may come in place of any answer.
     pub fn is_want_of_memory(&self) -> bool
-        ensures { result ≡ is_want_of_memory self.now }
+        ensures { result ≡ is_memory self.now }
     {
-        match self {
-            Fault::Memory | Fault::Graph(GraphFault::Memory) => true,
-            Fault::Read(fault) => fault.is_want_of_memory(),
-            _ => false,
-        }
+        matches!(self, Fault::Memory)
     }
 }
 
 impl From<ReadFault> for Fault {
-    ghost from_gives = { λ r e. e ≡ Read r };
+    ghost from_gives = { λ r e. e ≡ of_read r };
 
     fn from(fault: ReadFault) -> Fault {
-        Fault::Read(fault)
+        match fault {
+            ReadFault::Memory => Fault::Memory,
+            fault => Fault::Read(fault),
+        }
     }
 }
 
-impl From<GraphFault> for Fault {
-    ghost from_gives = { λ g e. e ≡ Graph g };
+impl From<InferFault> for Fault {
+    ghost from_gives = { λ r e. e ≡ of_infer r };
 
-    fn from(fault: GraphFault) -> Fault {
-        Fault::Graph(fault)
+    fn from(fault: InferFault) -> Fault {
+        match fault {
+            InferFault::Memory => Fault::Memory,
+            fault => Fault::Infer(fault),
+        }
+    }
+}
+
+impl From<FootFault> for Fault {
+    ghost from_gives = { λ r e. e ≡ of_foot r };
+
+    fn from(fault: FootFault) -> Fault {
+        match fault {
+            FootFault::Memory => Fault::Memory,
+            fault => Fault::Foot(fault),
+        }
     }
 }
 

@@ -3,16 +3,16 @@
 
 mod answer;
 mod fault;
-mod goals;
 pub mod laws;
-mod name_set;
 mod printing;
 mod request;
-mod rule_table;
-mod selection;
-mod suffix_set;
+#[cfg(test)]
+mod rows;
+#[cfg(test)]
+mod selection_tests;
 #[cfg(test)]
 mod tests;
+mod there;
 mod wording;
 
 pub use answer::graph_text;

@@ -2,9 +2,12 @@
 
 ghost use Rattle.std.specs.Prelude.{◌≡◌, ◌∷◌, ◌++◌, [], map, MatchOption, OnOk, IfOk};
 ghost use Rattle.mk_graph.specs.Graph.{node, no_node};
-ghost use Rattle.mk_core.specs.GraphText.{names_text, waits_text, groups_text, node_text, nodes_text, graph_text};
+ghost use Rattle.mk_core.specs.GraphText.{commands_text, goals_text, graph_text, groups_text, names_text, node_text, nodes_text, shown_lines, shown_node, waits_text};
+ghost use Rattle.mk_core.specs.Steps.{Extends, Gives};
 
+use crate::fault::Fault;
 use mk_graph::{Graph, Node};
+use mk_infer::{Exists, RuleTable, commands};
 use std::alloc::{AllocError, Global};
 
 /// The node with this number.
@@ -82,26 +85,95 @@ fn push_node(out: &mut Vec<u8>, graph: &Graph, number: usize) -> Result<(), Allo
     Ok(())
 }
 
-/// Adds a line for each of the nodes.
-fn push_nodes(out: &mut Vec<u8>, graph: &Graph, numbers: &[usize]) -> Result<(), AllocError>
-    ensures { OnOk result (out.new.items ≡ out.old.items ++ nodes_text graph.now numbers.now) }
+/// Adds each command behind a tab, on a line of its own.
+fn push_commands(out: &mut Vec<u8>, lines: &[Vec<u8>]) -> Result<(), AllocError>
+    ensures { OnOk result (out.new.items ≡ out.old.items ++ commands_text (map (λ line. line.items) lines.now)) }
 {
-    for number in numbers {
-        push_node(out, graph, *number)?;
+    for line in lines {
+        out.push(b'\t')?;
+        out.extend_from_slice(line)?;
+        out.push(b'\n')?;
     }
     Ok(())
 }
 
-/// The goals on a line, then a line for each node in serial order.
-#[tactic(auto, unfolding(crate::specs::GraphText::graph_text))]
-pub fn text_of(alloc: Global, graph: &Graph) -> Result<Vec<u8>, AllocError>
-    ensures { IfOk result (λ text. text.items ≡ graph_text graph.now) }
+/// The commands of a name as they are shown: none unless they are asked for.
+fn shown_lines<'m>(
+    alloc: Global,
+    table: &RuleTable<'m>,
+    exists: &'m Exists,
+    name: &str,
+    asked: bool,
+) -> Result<Vec<Vec<u8>>, Fault>
+    ensures { Gives (λ lines. map (λ line. line.items) lines.items) result (shown_lines asked table.now exists.now name.now) }
+{
+    if asked {
+        Ok(commands(alloc, table, exists, name)?.lines)
+    } else {
+        Ok(Vec::new(alloc))
+    }
+}
+
+/// Adds the line of a node, and its commands.
+fn push_shown<'m>(
+    alloc: Global,
+    out: &mut Vec<u8>,
+    table: &RuleTable<'m>,
+    exists: &'m Exists,
+    graph: &Graph,
+    number: usize,
+    asked: bool,
+) -> Result<(), Fault>
+    ensures { Extends out.old.items out.new.items result (shown_node (shown_lines asked table.now exists.now) graph.now number) }
+{
+    let lines = shown_lines(alloc, table, exists, name_at(graph, number), asked)?;
+    push_node(out, graph, number)?;
+    push_commands(out, &lines)?;
+    Ok(())
+}
+
+/// Adds the lines of nodes, each with its commands.
+fn push_nodes<'m>(
+    alloc: Global,
+    out: &mut Vec<u8>,
+    table: &RuleTable<'m>,
+    exists: &'m Exists,
+    graph: &Graph,
+    numbers: &[usize],
+    asked: bool,
+) -> Result<(), Fault>
+    ensures { Extends out.old.items out.new.items result (nodes_text (shown_lines asked table.now exists.now) graph.now numbers.now) }
+{
+    for number in numbers {
+        push_shown(alloc, out, table, exists, graph, *number, asked)?;
+    }
+    Ok(())
+}
+
+/// Adds the goals on a line.
+fn push_goals(out: &mut Vec<u8>, graph: &Graph) -> Result<(), AllocError>
+    ensures { OnOk result (out.new.items ≡ out.old.items ++ goals_text graph.now) }
+{
+    out.extend_from_slice(b"goals")?;
+    push_names(out, graph, graph.goals())?;
+    out.push(b'\n')?;
+    Ok(())
+}
+
+/// The goals on a line, then a line for each node in serial order, with its commands behind it where
+/// they are asked for.
+pub fn text_of<'m>(
+    alloc: Global,
+    table: &RuleTable<'m>,
+    exists: &'m Exists,
+    graph: &Graph,
+    asked: bool,
+) -> Result<Vec<u8>, Fault>
+    ensures { Gives (λ text. text.items) result (graph_text (shown_lines asked table.now exists.now) graph.now) }
 {
     let mut out = Vec::new(alloc);
-    out.extend_from_slice(b"goals")?;
-    push_names(&mut out, graph, graph.goals())?;
-    out.push(b'\n')?;
+    push_goals(&mut out, graph)?;
     let order = graph.serial()?;
-    push_nodes(&mut out, graph, &order)?;
+    push_nodes(alloc, &mut out, table, exists, graph, &order, asked)?;
     Ok(out)
 }

@@ -11,10 +11,14 @@ use std::alloc::{AllocError, Global};
 pub struct Request {
     /// The makefile's name; without one it is `makefile`, else `Makefile`.
     pub makefile: Option<Name>,
+    /// Whether the default text is read before the operands: its macros, suffixes and inference rules.
+    pub defaults: bool,
     /// Macro operands, as given.
     pub operands: Names,
     /// Goals, as given; without one it is the first target.
     pub goals: Names,
+    /// The name of the file of footprints. Without one each name that has no rule is given.
+    pub book: Option<Name>,
 }
 
 /// Whether a word is a macro operand: it holds `=`.

@@ -3,116 +3,16 @@
 ghost use Rattle.std.specs.Prelude.{◌≡◌, ◌<◌, ◌-◌, ◌^◌, IfOk};
 ghost use Rattle.mk_core.specs.MemFiles.{failures_of};
 
-use crate::{
-    Fault, Files, FilesError, MemFiles, Name, Names, Request, fault_text, graph_text, split_words,
-};
+use crate::rows::{answer, expect_rows, over, request, unfolded};
+use crate::{Fault, Files, FilesError, MemFiles, Name, Names, fault_text, graph_text, split_words};
 use mk_graph::GraphFault;
+use mk_infer::InferFault;
 use mk_lines::LineFault;
 use mk_macros::{MacroFault, MacroName};
 use mk_read::{KindFault, Place, ReadFault};
 use std::alloc::Global;
 use std::process::Abort;
 use std::test::Fail;
-
-/// A request with these words of a command line.
-fn request(alloc: Global, makefile: Option<&str>, words: &str) -> Result<Request, Fail> {
-    let makefile = match makefile {
-        Some(name) => Some(Name::new(alloc, name)?),
-        None => None,
-    };
-    let words: Vec<&str> = words.split_whitespace().collect(alloc)?;
-    let (operands, goals) = split_words(alloc, &words)?;
-    Ok(Request {
-        makefile,
-        operands,
-        goals,
-    })
-}
-
-/// What is printed over these files: the graph's text, or the words of the fault.
-fn answer(alloc: Global, files: &mut MemFiles, request: &Request) -> Result<String, Fail>
-    requires { failures_of files.old < 2 ^ 64 - 1 }
-{
-    match graph_text(alloc, files, request) {
-        Ok(text) => Ok(String::from_utf8(text)?),
-        Err(fault) => Ok(String::from_utf8(fault_text(alloc, &fault)?)?),
-    }
-}
-
-/// What is printed over a `makefile` of this text.
-fn over(alloc: Global, text: &[u8], words: &str) -> Result<String, Fail> {
-    let mut files = MemFiles::new(alloc);
-    files.add("makefile", text)?;
-    answer(alloc, &mut files, &request(alloc, None, words)?)
-}
-
-/// A text of a row, in which `¶` stands for a newline and `→` for a tab.
-fn unfolded(alloc: Global, text: &str) -> Result<String, Fail> {
-    let mut out = String::new(alloc);
-    for c in text.chars() {
-        match c {
-            '¶' => out.push('\n')?,
-            '→' => out.push('\t')?,
-            other => out.push(other)?,
-        }
-    }
-    Ok(out)
-}
-
-/// What stands in a row, between `‖`.
-fn fields_of(alloc: Global, row: &str) -> Result<Vec<&str>, Fail> {
-    Ok(row.split("‖").collect(alloc)?)
-}
-
-/// A field of a row, with its newlines and tabs.
-fn field(alloc: Global, fields: &[&str], at: usize) -> Result<String, Fail> {
-    match fields.get(at) {
-        Some(text) => unfolded(alloc, text),
-        None => Ok(String::new(alloc)),
-    }
-}
-
-/// The files of a row: a `makefile`, and behind the third field two more at most, each name before
-/// its text.
-fn files_of(alloc: Global, fields: &[&str]) -> Result<MemFiles, Fail>
-    ensures { IfOk result (λ files. failures_of files ≡ 0) }
-{
-    let mut files = MemFiles::new(alloc);
-    files.add("makefile", field(alloc, fields, 0)?.as_bytes())?;
-    files.add(
-        field(alloc, fields, 3)?.as_str(),
-        field(alloc, fields, 4)?.as_bytes(),
-    )?;
-    files.add(
-        field(alloc, fields, 5)?.as_str(),
-        field(alloc, fields, 6)?.as_bytes(),
-    )?;
-    Ok(files)
-}
-
-/// What is printed over the files of a row with the words of its second field.
-fn over_row(alloc: Global, fields: &[&str]) -> Result<String, Fail> {
-    let mut files = files_of(alloc, fields)?;
-    let words = field(alloc, fields, 1)?;
-    answer(alloc, &mut files, &request(alloc, None, words.as_str())?)
-}
-
-/// Expects what the third field of a row says to be printed.
-fn expect_row(rt: &impl Abort, alloc: Global, row: &str) -> Result<(), Fail> {
-    let fields = fields_of(alloc, row)?;
-    let got = over_row(alloc, &fields)?;
-    let printed = field(alloc, &fields, 2)?;
-    assert_eq!(rt; got.as_str(), printed.as_str(), "over {row:?}");
-    Ok(())
-}
-
-/// Each line of the table is a row.
-fn expect_rows(rt: &impl Abort, alloc: Global, table: &str) -> Result<(), Fail> {
-    for row in table.lines() {
-        expect_row(rt, alloc, row)?;
-    }
-    Ok(())
-}
 
 const PLAIN: &str =
     r"p: a.o¶→cc -o p a.o¶a.o: a.c¶→cc -c a.c¶‖‖goals p¶a.c:¶a.o recipe: a.c¶p recipe: a.o¶
@@ -349,7 +249,7 @@ fn chooses_makefiles(rt: HostRuntime) -> Result<(), Fail> {
         files.fail_at(failing.parse::<u64>()?);
         let makefile = if *asked == "." { None } else { Some(*asked) };
         let request = request(alloc, makefile, "")?;
-        let got = match graph_text(alloc, &mut files, &request) {
+        let got = match graph_text(alloc, &mut files, &request, false) {
             Ok(text) => String::from_utf8(text)?,
             Err(fault) => String::from_utf8(fault_text(alloc, &fault)?)?,
         };
@@ -471,7 +371,7 @@ fn expect_or_memory(
 ) -> Result<(), Fail>
     requires { failures_of files.old < 2 ^ 64 - 1 }
 {
-    match graph_text(alloc, files, &request(alloc, None, "")?) {
+    match graph_text(alloc, files, &request(alloc, None, "")?, false) {
         Ok(text) => assert_eq!(rt; text.as_slice(), printed.as_bytes()),
         Err(fault) => assert!(rt; fault.is_want_of_memory(), "over {printed:?}"),
     }
@@ -707,16 +607,20 @@ fn writes_other_faults(rt: HostRuntime) -> Result<(), Fail> {
     let alloc = rt.alloc();
     let rows = [
         (
-            Fault::Graph(GraphFault::Cycle(names(alloc, &["a", "é", "a"])?)),
+            InferFault::Graph(GraphFault::Cycle(names(alloc, &["a", "é", "a"])?)),
             "refused 42 a é a",
         ),
-        (Fault::Graph(GraphFault::TooManyNodes), "refused 43"),
-        (Fault::NoGoal, "refused 44"),
-        (Fault::Graph(GraphFault::Memory), "want of memory"),
-        (Fault::Memory, "want of memory"),
+        (InferFault::Graph(GraphFault::TooManyNodes), "refused 43"),
+        (InferFault::NoGoal, "refused 44"),
+        (
+            InferFault::NoRule(Name::new(alloc, "a b")?),
+            "refused 41 a b",
+        ),
+        (InferFault::Graph(GraphFault::Memory), "want of memory"),
+        (InferFault::Memory, "want of memory"),
     ];
     for (fault, printed) in rows {
-        let text = String::from_utf8(fault_text(alloc, &fault)?)?;
+        let text = String::from_utf8(fault_text(alloc, &Fault::Infer(fault))?)?;
         assert_eq!(rt; text.as_str(), printed);
     }
     Ok(())

@@ -4,10 +4,12 @@ ghost use Rattle.std.specs.Prelude.{◌≡◌, ◌∷◌, ◌++◌, [], map, IfO
 ghost use Rattle.std.specs.List.{flat_map};
 ghost use Rattle.std.specs.Option.{option_copied};
 ghost use Rattle.std.specs.String.{string_bytes};
-ghost use Rattle.mk_core.specs.FaultText.{failed_read_words, fault_text, graph_fault_text, kind_fault_text, line_fault_text, macro_fault_text, no_memory, place_text, read_fault_text, refusal, refusal_at, refusal_in, refusal_of};
+ghost use Rattle.mk_core.specs.FaultText.{failed_read_words, fault_text, foot_fault_text, graph_fault_text, infer_fault_text, kind_fault_text, line_fault_text, macro_fault_text, no_memory, place_text, read_fault_text, refusal, refusal_at, refusal_in, refusal_of};
 
 use crate::fault::Fault;
+use mk_foot::FootFault;
 use mk_graph::GraphFault;
+use mk_infer::InferFault;
 use mk_lines::{LineFault, Name};
 use mk_macros::MacroFault;
 use mk_read::{KindFault, Place, ReadFault};
@@ -192,6 +194,41 @@ fn graph_fault_text(alloc: Global, fault: &GraphFault) -> Result<Vec<u8>, AllocE
     }
 }
 
+/// The line that is printed of a fault of goals, of their graph, or of commands.
+#[tactic(auto, unfolding(crate::specs::FaultText::infer_fault_text))]
+fn infer_fault_text(alloc: Global, fault: &InferFault) -> Result<Vec<u8>, AllocError>
+    ensures { IfOk result (λ text. text.items ≡ infer_fault_text fault.now) }
+{
+    match fault {
+        InferFault::BadGoal(place) => refusal_at(alloc, 27, place),
+        InferFault::GoalIsMember(place) => refusal_at(alloc, 28, place),
+        InferFault::NoRule(name) => refusal(alloc, 41, &[name.as_str().as_bytes()]),
+        InferFault::NoGoal => refusal(alloc, 44, &[]),
+        InferFault::InferencePrerequisites(place) => refusal_at(alloc, 45, place),
+        InferFault::Macro(place, fault) => macro_fault_text(alloc, place, fault),
+        InferFault::Graph(fault) => graph_fault_text(alloc, fault),
+        InferFault::Memory => no_memory(alloc),
+    }
+}
+
+/// The line that is printed of a fault of footprints.
+#[tactic(auto, unfolding(crate::specs::FaultText::foot_fault_text))]
+fn foot_fault_text(alloc: Global, fault: &FootFault) -> Result<Vec<u8>, AllocError>
+    ensures { IfOk result (λ text. text.items ≡ foot_fault_text fault.now) }
+{
+    match fault {
+        FootFault::NotJson => refusal(alloc, 51, &[]),
+        FootFault::Shape(key) => refusal(alloc, 52, &[key.as_str().as_bytes()]),
+        FootFault::OtherFormat => refusal(alloc, 53, &[]),
+        FootFault::TwoRecords(name) => refusal(alloc, 54, &[name.as_str().as_bytes()]),
+        FootFault::BadName(key) => refusal(alloc, 55, &[key.as_str().as_bytes()]),
+        FootFault::SourceIsFixed(name) => refusal(alloc, 56, &[name.as_str().as_bytes()]),
+        FootFault::NoGroup => refusal(alloc, 57, &[]),
+        FootFault::NoList => refusal(alloc, 58, &[]),
+        FootFault::Memory => no_memory(alloc),
+    }
+}
+
 /// The line that is printed of a fault, without a newline: `refused`, the number, then the words;
 /// of want of memory `want of memory`.
 #[tactic(auto, unfolding(crate::specs::FaultText::fault_text))]
@@ -200,10 +237,10 @@ pub fn fault_text(alloc: Global, fault: &Fault) -> Result<Vec<u8>, AllocError>
 {
     match fault {
         Fault::Read(fault) => read_fault_text(alloc, fault),
-        Fault::BadGoal(place) => refusal_at(alloc, 27, place),
-        Fault::GoalIsMember(place) => refusal_at(alloc, 28, place),
-        Fault::NoGoal => refusal(alloc, 44, &[]),
-        Fault::Graph(fault) => graph_fault_text(alloc, fault),
+        Fault::Infer(fault) => infer_fault_text(alloc, fault),
+        Fault::Foot(fault) => foot_fault_text(alloc, fault),
+        Fault::FileReadFailed(name) => refusal(alloc, 35, &[name.as_str().as_bytes()]),
+        Fault::NoFile(name) => refusal(alloc, 38, &[name.as_str().as_bytes()]),
         Fault::Memory => no_memory(alloc),
     }
 }

@@ -2,11 +2,24 @@
 use Rattle.std.specs.Prelude.{◌≡◌, ℕ, ◌==◌, Bool, true, false, List, [], ◌∷◌, Option, None, Some, codes}
 use Rattle.std.specs.List.{list_any}
 use Rattle.std.specs.Option.{option_map_or}
+use Rattle.clap.specs.declared.builder.action.ArgAction.TheVariants.{Count}
 use Rattle.clap.specs.Words.{App, Rule, new_app, new_rule, with_rule, with_subcommand}
 
 -- `-f F`, once at most
 abbrev pub makefile_option : Rule
 makefile_option = record (new_rule (codes "makefile")) { short = Some 102; value_names = 1 }
+
+-- `-r`, any number of times
+abbrev pub no_defaults_option : Rule
+no_defaults_option = record (new_rule (codes "no-defaults")) { short = Some 114; action = Some Count }
+
+-- `-b BOOK`, once at most
+abbrev pub book_option : Rule
+book_option = record (new_rule (codes "book")) { short = Some 98; value_names = 1 }
+
+-- `-c`, any number of times
+abbrev pub commands_option : Rule
+commands_option = record (new_rule (codes "commands")) { short = Some 99; action = Some Count }
 
 -- `[WORD..]`
 abbrev pub words_argument : Rule
@@ -16,9 +29,9 @@ words_argument = record (new_rule (codes "words")) { range = Some (record { star
 abbrev pub named_graph : App
 named_graph = new_app (codes "graph")
 
--- `graph [-f F] [WORD..]`
+-- `graph [-f F] [-r] [-b BOOK] [-c] [WORD..]`
 abbrev pub graph_command : App
-graph_command = with_rule (with_rule named_graph makefile_option) words_argument
+graph_command = with_rule (with_rule (with_rule (with_rule (with_rule named_graph makefile_option) no_defaults_option) book_option) commands_option) words_argument
 
 -- `mkcheck`, with a version
 abbrev pub named_program : App
@@ -28,7 +41,7 @@ named_program = let app = new_app (codes "mkcheck") in record app { top = record
 abbrev pub program : App
 program = record named_program { top = record (named_program.top) { no_binary_name = true; subcommand_required = true; disable_help_subcommand = true } }
 
--- `mkcheck graph [-f F] [WORD..]`
+-- `mkcheck graph [-f F] [-r] [-b BOOK] [-c] [WORD..]`
 abbrev pub command_line : App
 command_line = with_subcommand program graph_command.top
 

@@ -3,9 +3,9 @@
 ghost use Rattle.std.specs.Prelude.{◌≡◌, IfOk, false};
 ghost use Rattle.clap.specs.Words.{app_of, rule_of};
 ghost use Rattle.clap.specs.declared.builder.command.Command.TheViews.{out-Command as fields_of};
-ghost use Rattle.mkcheck.specs.CommandLine.{command_line, graph_command, makefile_option, named_graph, named_program, program, words_argument};
+ghost use Rattle.mkcheck.specs.CommandLine.{book_option, command_line, commands_option, graph_command, makefile_option, named_graph, named_program, no_defaults_option, program, words_argument};
 
-use clap::{Arg, Command};
+use clap::{Arg, ArgAction, Command};
 use std::alloc::{AllocError, Global};
 
 const STATUSES: &str = "Status: 0 done, 2 refused or a fault of the command line, 3 want of memory";
@@ -18,6 +18,36 @@ fn makefile_option<'a>(alloc: Global) -> Arg<'a>
         .short('f')
         .value_name("F")
         .help("The makefile; without it makefile, else Makefile")
+}
+
+fn no_defaults_option<'a>(alloc: Global) -> Arg<'a>
+    ensures rule { rule_of result ≡ no_defaults_option }
+    ensures local { result.global ≡ false }
+{
+    Arg::new(alloc, "no-defaults")
+        .short('r')
+        .action(ArgAction::Count)
+        .help("Leaves out the default text: its macros, suffixes and inference rules")
+}
+
+fn book_option<'a>(alloc: Global) -> Arg<'a>
+    ensures rule { rule_of result ≡ book_option }
+    ensures local { result.global ≡ false }
+{
+    Arg::new(alloc, "book")
+        .short('b')
+        .value_name("BOOK")
+        .help("The file of recorded footprints; with it a name that nothing makes is refused")
+}
+
+fn commands_option<'a>(alloc: Global) -> Arg<'a>
+    ensures rule { rule_of result ≡ commands_option }
+    ensures local { result.global ≡ false }
+{
+    Arg::new(alloc, "commands")
+        .short('c')
+        .action(ArgAction::Count)
+        .help("Prints the commands of each target behind its line, expanded")
 }
 
 fn words_argument<'a>(alloc: Global) -> Arg<'a>
@@ -38,7 +68,7 @@ fn named_graph<'a>(alloc: Global) -> Command<'a>
 {
     Command::new(alloc, "graph")
         .about("Prints the goals, then a line for each target in serial order")
-        .override_usage("mkcheck graph [-f F] [WORD]...")
+        .override_usage("mkcheck graph [-f F] [-r] [-b BOOK] [-c] [WORD]...")
         .after_help(STATUSES)
 }
 
@@ -48,6 +78,9 @@ fn graph_command<'a>(alloc: Global) -> Result<Command<'a>, AllocError>
 {
     named_graph(alloc)
         .arg(makefile_option(alloc))?
+        .arg(no_defaults_option(alloc))?
+        .arg(book_option(alloc))?
+        .arg(commands_option(alloc))?
         .arg(words_argument(alloc))
 }
 
@@ -71,7 +104,7 @@ fn program<'a>(alloc: Global) -> Command<'a>
         .disable_help_subcommand(true)
 }
 
-/// The command line of the program: `graph [-f F] [WORD..]`, `--help` and `--version`. It reads
+/// The command line of the program: `graph [-f F] [-r] [-b BOOK] [-c] [WORD..]`, `--help` and `--version`. It reads
 /// the words behind the program's name.
 pub fn command_line<'a>(alloc: Global) -> Result<Command<'a>, AllocError>
     ensures app { IfOk result (λ c. app_of c ≡ command_line) }

@@ -6,7 +6,7 @@ ghost use Rattle.clap.specs.Words.{all_of, first_of, found_of, has_subcommand, k
 ghost use Rattle.mk_core.specs.Words.{goals_of, operands_of};
 ghost use Rattle.mk_core.specs.Steps.{seen};
 ghost use Rattle.mkcheck.specs.CommandLine.{HasNoOption, graph_words};
-ghost use Rattle.mkcheck.specs.Run.{Explains, IsAnswered, IsRefused, Shows, asking, faults_of, request_of, requested, written};
+ghost use Rattle.mkcheck.specs.Run.{Explains, IsAnswered, IsRefused, Shows, asked_by, asking, faults_of, requested, wish_of, written};
 
 use crate::command::command_line;
 use crate::ending::FAULT;
@@ -78,11 +78,11 @@ fn explained(alloc: Global, error: &Error) -> Result<Outcome, AllocError>
     }
 }
 
-// The makefile that `-f` names.
-fn named_makefile(alloc: Global, matches: &ArgMatches<'_>) -> Result<Option<Name>, AllocError>
-    ensures { IfOk result (λ name. name ≡ first_of (codes "makefile") (rows_of (found_of matches.now))) }
+// The value of an option, where it has one.
+fn named(alloc: Global, matches: &ArgMatches<'_>, id: &str) -> Result<Option<Name>, AllocError>
+    ensures { IfOk result (λ name. name ≡ first_of id.now (rows_of (found_of matches.now))) }
 {
-    match matches.get_str("makefile") {
+    match matches.get_str(id) {
         Some(name) => Ok(Some(Name::new(alloc, name)?)),
         None => Ok(None),
     }
@@ -103,12 +103,14 @@ fn given_words(alloc: Global, matches: &ArgMatches<'_>) -> Result<(Names, Names)
 fn requested(alloc: Global, matches: &ArgMatches<'_>) -> Result<Request, AllocError>
     ensures { IfOk result (λ request. request ≡ requested (rows_of (found_of matches.now))) }
 {
-    let makefile = named_makefile(alloc, matches)?;
+    let makefile = named(alloc, matches, "makefile")?;
     let (operands, goals) = given_words(alloc, matches)?;
     Ok(Request {
         makefile,
+        defaults: matches.get_count("no-defaults") == 0,
         operands,
         goals,
+        book: named(alloc, matches, "book")?,
     })
 }
 
@@ -122,11 +124,12 @@ fn answered<F: Files>(
     requires met { has_subcommand matches.now ≡ true }
     ensures map { F.told files.new ≡ F.told files.old }
     ensures answered { IfOk result (λ outcome. IsAnswered (F.told files.old) (F.failed files.old) (F.failed files.new)
-        (requested (option_map_or (λ met. met.1) (subcommand_rows_of matches.now) [])) (written outcome)) }
+        (asked_by (option_map_or (λ met. met.1) (subcommand_rows_of matches.now) [])) (written outcome)) }
 {
     let (_, graph) = matches.subcommand().unwrap();
     let request = requested(alloc, graph)?;
-    let answer = graph_text(alloc, files, &request);
+    let commands = graph.get_count("commands") > 0;
+    let answer = graph_text(alloc, files, &request, commands);
     shown(alloc, answer)
 }
 
@@ -142,7 +145,7 @@ pub fn run<F: Files, S: AsStr>(
     // Words that the command line takes make a request, which is answered.
     ensures taken { IfOk result (λ outcome. faults_of (map S.text words.now) ≡ [] →
         IsAnswered (F.told files.old) (F.failed files.old) (F.failed files.new)
-        (request_of (map S.text words.now)) (written outcome)) }
+        (wish_of (map S.text words.now)) (written outcome)) }
 
     // In plain words: `graph [-f F] WORD..` asks what it says.
     ensures plain { IfOk result (λ outcome. (makefile : Option (List ℕ)) (asked : List (List ℕ)) →

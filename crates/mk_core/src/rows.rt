@@ -1,0 +1,156 @@
+//! Rows of tests: files in memory, words of a command line, and what is printed.
+
+ghost use Rattle.std.specs.Prelude.{◌≡◌, ◌<◌, ◌-◌, ◌^◌, IfOk};
+ghost use Rattle.mk_core.specs.MemFiles.{failures_of};
+
+use crate::{MemFiles, Name, Request, fault_text, graph_text, split_words};
+use std::alloc::Global;
+use std::process::Abort;
+use std::test::Fail;
+
+/// A request with these macro operands and goals.
+pub fn request(alloc: Global, makefile: Option<&str>, words: &str) -> Result<Request, Fail> {
+    let makefile = match makefile {
+        Some(name) => Some(Name::new(alloc, name)?),
+        None => None,
+    };
+    let words: Vec<&str> = words.split_whitespace().collect(alloc)?;
+    let (operands, goals) = split_words(alloc, &words)?;
+    Ok(Request {
+        makefile,
+        defaults: true,
+        operands,
+        goals,
+        book: None,
+    })
+}
+
+/// What is asked: a request, and whether the commands are printed.
+#[derive(Drop)]
+pub struct Asked {
+    pub request: Request,
+    pub commands: bool,
+}
+
+/// What these words of a command line ask, with the options first: `-r`, `-c`, `-b` and a name.
+pub fn asked(alloc: Global, words: &str) -> Result<Asked, Fail> {
+    let mut asked = Asked {
+        request: request(alloc, None, words)?,
+        commands: false,
+    };
+    let mut left: Vec<&str> = words.split_whitespace().collect(alloc)?;
+    left.reverse();
+    while left
+        .last()
+        .is_some_and(|word| word.len() > 1 && word.starts_with("-"))
+    {
+        match left.pop() {
+            Some("-r") => asked.request.defaults = false,
+            Some("-c") => asked.commands = true,
+            _ => {
+                let name = left.pop().unwrap_or("");
+                asked.request.book = Some(Name::new(alloc, name)?);
+            }
+        }
+    }
+    left.reverse();
+    let (operands, goals) = split_words(alloc, &left)?;
+    asked.request.operands = operands;
+    asked.request.goals = goals;
+    Ok(asked)
+}
+
+/// What is printed over these files: the graph's text, or the words of the fault.
+pub fn printed(alloc: Global, files: &mut MemFiles, asked: &Asked) -> Result<String, Fail>
+    requires { failures_of files.old < 2 ^ 64 - 1 }
+{
+    match graph_text(alloc, files, &asked.request, asked.commands) {
+        Ok(text) => Ok(String::from_utf8(text)?),
+        Err(fault) => Ok(String::from_utf8(fault_text(alloc, &fault)?)?),
+    }
+}
+
+/// The same, with the commands left out.
+pub fn answer(alloc: Global, files: &mut MemFiles, request: &Request) -> Result<String, Fail>
+    requires { failures_of files.old < 2 ^ 64 - 1 }
+{
+    match graph_text(alloc, files, request, false) {
+        Ok(text) => Ok(String::from_utf8(text)?),
+        Err(fault) => Ok(String::from_utf8(fault_text(alloc, &fault)?)?),
+    }
+}
+
+/// What is printed over a `makefile` of this text.
+pub fn over(alloc: Global, text: &[u8], words: &str) -> Result<String, Fail> {
+    let mut files = MemFiles::new(alloc);
+    files.add("makefile", text)?;
+    answer(alloc, &mut files, &request(alloc, None, words)?)
+}
+
+/// A text of a row, in which `¶` stands for a newline and `→` for a tab.
+pub fn unfolded(alloc: Global, text: &str) -> Result<String, Fail> {
+    let mut out = String::new(alloc);
+    for c in text.chars() {
+        match c {
+            '¶' => out.push('\n')?,
+            '→' => out.push('\t')?,
+            other => out.push(other)?,
+        }
+    }
+    Ok(out)
+}
+
+/// What stands in a row, between `‖`.
+pub fn fields_of(alloc: Global, row: &str) -> Result<Vec<&str>, Fail> {
+    Ok(row.split("‖").collect(alloc)?)
+}
+
+/// A field of a row, with its newlines and tabs.
+pub fn field(alloc: Global, fields: &[&str], at: usize) -> Result<String, Fail> {
+    match fields.get(at) {
+        Some(text) => unfolded(alloc, text),
+        None => Ok(String::new(alloc)),
+    }
+}
+
+/// The files of a row: a `makefile`, and behind the third field two more at most, each name before
+/// its text.
+pub fn files_of(alloc: Global, fields: &[&str]) -> Result<MemFiles, Fail>
+    ensures { IfOk result (λ files. failures_of files ≡ 0) }
+{
+    let mut files = MemFiles::new(alloc);
+    files.add("makefile", field(alloc, fields, 0)?.as_bytes())?;
+    files.add(
+        field(alloc, fields, 3)?.as_str(),
+        field(alloc, fields, 4)?.as_bytes(),
+    )?;
+    files.add(
+        field(alloc, fields, 5)?.as_str(),
+        field(alloc, fields, 6)?.as_bytes(),
+    )?;
+    Ok(files)
+}
+
+/// What is printed over the files of a row with the words of its second field.
+pub fn over_row(alloc: Global, fields: &[&str]) -> Result<String, Fail> {
+    let mut files = files_of(alloc, fields)?;
+    let words = field(alloc, fields, 1)?;
+    printed(alloc, &mut files, &asked(alloc, words.as_str())?)
+}
+
+/// Expects what the third field of a row says to be printed.
+pub fn expect_row(rt: &impl Abort, alloc: Global, row: &str) -> Result<(), Fail> {
+    let fields = fields_of(alloc, row)?;
+    let got = over_row(alloc, &fields)?;
+    let printed = field(alloc, &fields, 2)?;
+    assert_eq!(rt; got.as_str(), printed.as_str(), "over {row:?}");
+    Ok(())
+}
+
+/// Each line of the table is a row.
+pub fn expect_rows(rt: &impl Abort, alloc: Global, table: &str) -> Result<(), Fail> {
+    for row in table.lines() {
+        expect_row(rt, alloc, row)?;
+    }
+    Ok(())
+}
