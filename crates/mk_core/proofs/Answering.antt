@@ -23,7 +23,7 @@ use Rattle.mk_core.specs.declared.fault.Fault.{Fault}
 use Rattle.mk_core.specs.declared.fault.Fault.TheVariants.{Read, Infer, Foot, FileReadFailed, NoFile, Memory}
 use Rattle.mk_core.specs.declared.request.Request.{Request}
 use Rattle.mk_core.specs.Answer.{Answers, Draws, DrawsGoals, DrawsGraph, DrawsThere, Prints, makefile_for}
-use Rattle.mk_core.specs.Files.{FileReads, there_by, there_for, there_without_book}
+use Rattle.mk_core.specs.FilesThere.{FileReads, there_by, there_for, there_without_book}
 use Rattle.mk_core.specs.Views.{DrawsNamed, DrawsWords, FindsThere}
 use Rattle.mk_core.specs.GraphText.{goals_text, graph_text, lines_of, nodes_text, shown_lines, shown_node, commands_text, node_text}
 use Rattle.mk_core.specs.Steps.{◌>>=◌, Fails, Gives, of_infer, of_read, seen}

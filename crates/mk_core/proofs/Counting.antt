@@ -13,7 +13,7 @@ use Rattle.mk_read.specs.Reading.{Makefile}
 use Rattle.mk_core.specs.declared.fault.Fault.{Fault}
 use Rattle.mk_core.specs.declared.fault.Fault.TheVariants.{Read, Infer, Foot, FileReadFailed, NoFile, Memory}
 use Rattle.mk_core.specs.Answer.{Counts, Rises}
-use Rattle.mk_core.specs.Files.{there_by}
+use Rattle.mk_core.specs.FilesThere.{there_by}
 use Rattle.mk_core.specs.Steps.{Gives, of_infer, seen}
 use Rattle.mk_core.specs.Views.{DrawsNamed, DrawsWords}
 use Rattle.mk_core.proofs.Answering.{IsOfCommands, of_named}

@@ -15,7 +15,7 @@ use Rattle.mk_core.specs.declared.fault.Fault.{Fault}
 use Rattle.mk_core.specs.declared.fault.Fault.TheVariants.{Read, Infer, Foot, FileReadFailed, NoFile, Memory}
 use Rattle.mk_core.specs.declared.request.Request.{Request}
 use Rattle.mk_core.specs.Answer.{Answers, Draws, DrawsGoals, DrawsThere, Prints, makefile_for}
-use Rattle.mk_core.specs.Files.{there_for}
+use Rattle.mk_core.specs.FilesThere.{there_for}
 use Rattle.mk_core.specs.Laws.{AnswerIsOne, IsSettled}
 
 -- ---- an answer that is settled is drawn

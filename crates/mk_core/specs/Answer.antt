@@ -14,7 +14,7 @@ use Rattle.mk_read.specs.Reading.{Makefile, Reader, makefile}
 use Rattle.mk_core.specs.declared.fault.Fault.{Fault}
 use Rattle.mk_core.specs.declared.fault.Fault.TheVariants.{Read, Infer, FileReadFailed, Memory}
 use Rattle.mk_core.specs.declared.request.Request.{Request}
-use Rattle.mk_core.specs.Files.{there_for}
+use Rattle.mk_core.specs.FilesThere.{there_for}
 use Rattle.mk_core.specs.GraphText.{graph_text, shown_lines}
 
 -- the makefile of a request

@@ -2,10 +2,11 @@ pub use Rattle.mk_graph.specs.Graph
 pub use Rattle.mk_graph.specs.Membership
 pub use Rattle.mk_graph.specs.Build
 pub use Rattle.mk_graph.specs.Serial
+pub use Rattle.mk_read.specs.Files
 pub use Rattle.mk_read.specs.MemFiles
 pub mod Words
 pub mod Steps
-pub mod Files
+pub mod FilesThere
 pub mod GraphText
 pub mod FaultText
 pub mod Answer

@@ -9,7 +9,7 @@ use Rattle.mk_core.specs.declared.fault.Fault.{Fault}
 use Rattle.mk_core.specs.declared.fault.Fault.TheVariants.{Infer, FileReadFailed, Memory}
 use Rattle.mk_core.specs.declared.request.Request.{Request}
 use Rattle.mk_core.specs.Answer.{DrawsGoals, DrawsGraph}
-use Rattle.mk_core.specs.Files.{there_for}
+use Rattle.mk_core.specs.FilesThere.{there_for}
 
 -- the answer over the files that are there and the goals, or the fault in naming these
 abbrev pub DrawsNamed : Bool → Makefile → Exists → Result (List (List ℕ)) InferFault → Result (List ℕ) Fault → Type 0

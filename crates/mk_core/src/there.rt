@@ -8,7 +8,7 @@ ghost use Rattle.mk_foot.specs.Reading.{book_from};
 ghost use Rattle.mk_infer.specs.Goals.{goal_names};
 ghost use Rattle.mk_infer.specs.Steps.{Gives as GivesNames};
 ghost use Rattle.mk_core.specs.Answer.{Counts};
-ghost use Rattle.mk_core.specs.Files.{FileReads, there_by, there_without_book, there_with_book};
+ghost use Rattle.mk_core.specs.FilesThere.{FileReads, there_by, there_without_book, there_with_book};
 ghost use Rattle.mk_core.specs.Steps.{Gives};
 ghost use Rattle.mk_core.specs.Views.{FindsThere};
 

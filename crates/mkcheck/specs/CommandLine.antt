@@ -29,9 +29,17 @@ words_argument = record (new_rule (codes "words")) { range = Some (record { star
 abbrev pub named_graph : App
 named_graph = new_app (codes "graph")
 
+-- `graph [-f F] [-r]`
+abbrev pub reading_command : App
+reading_command = with_rule (with_rule named_graph makefile_option) no_defaults_option
+
+-- `graph [-f F] [-r] [-b BOOK] [-c]`
+abbrev pub options_command : App
+options_command = with_rule (with_rule reading_command book_option) commands_option
+
 -- `graph [-f F] [-r] [-b BOOK] [-c] [WORD..]`
 abbrev pub graph_command : App
-graph_command = with_rule (with_rule (with_rule (with_rule (with_rule named_graph makefile_option) no_defaults_option) book_option) commands_option) words_argument
+graph_command = with_rule options_command words_argument
 
 -- `mkcheck`, with a version
 abbrev pub named_program : App

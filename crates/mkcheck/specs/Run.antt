@@ -10,7 +10,7 @@ use Rattle.mk_core.specs.declared.request.Request.{Request}
 use Rattle.mk_core.specs.Answer.{Answers, Counts}
 use Rattle.mk_core.specs.FaultText.{fault_text}
 use Rattle.mk_core.specs.Steps.{is_memory}
-use Rattle.mk_read.specs.Files.{Told}
+use Rattle.mk_core.specs.Files.{Told}
 use Rattle.mk_core.specs.Words.{goals_of, operands_of}
 use Rattle.mkcheck.specs.declared.run.Outcome.{Outcome}
 use Rattle.mkcheck.specs.CommandLine.{command_line}

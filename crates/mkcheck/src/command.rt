@@ -3,7 +3,7 @@
 ghost use Rattle.std.specs.Prelude.{◌≡◌, IfOk, false};
 ghost use Rattle.clap.specs.Words.{app_of, rule_of};
 ghost use Rattle.clap.specs.declared.builder.command.Command.TheViews.{out-Command as fields_of};
-ghost use Rattle.mkcheck.specs.CommandLine.{book_option, command_line, commands_option, graph_command, makefile_option, named_graph, named_program, no_defaults_option, program, words_argument};
+ghost use Rattle.mkcheck.specs.CommandLine.{book_option, command_line, commands_option, graph_command, makefile_option, named_graph, named_program, no_defaults_option, options_command, program, reading_command, words_argument};
 
 use clap::{Arg, ArgAction, Command};
 use std::alloc::{AllocError, Global};
@@ -34,10 +34,9 @@ fn book_option<'a>(alloc: Global) -> Arg<'a>
     ensures rule { rule_of result ≡ book_option }
     ensures local { result.global ≡ false }
 {
-    Arg::new(alloc, "book")
-        .short('b')
-        .value_name("BOOK")
-        .help("The file of recorded footprints; with it a name that nothing makes is refused")
+    Arg::new(alloc, "book").short('b').value_name("BOOK").help(
+        "The file of recorded footprints; with it a name that nothing makes is refused",
+    )
 }
 
 fn commands_option<'a>(alloc: Global) -> Arg<'a>
@@ -72,16 +71,29 @@ fn named_graph<'a>(alloc: Global) -> Command<'a>
         .after_help(STATUSES)
 }
 
-fn graph_command<'a>(alloc: Global) -> Result<Command<'a>, AllocError>
-    ensures app { IfOk result (λ c. app_of c ≡ graph_command) }
+fn reading_command<'a>(alloc: Global) -> Result<Command<'a>, AllocError>
+    ensures app { IfOk result (λ c. app_of c ≡ reading_command) }
     ensures local { IfOk result (λ c. (fields_of c).has_globals ≡ false) }
 {
     named_graph(alloc)
         .arg(makefile_option(alloc))?
-        .arg(no_defaults_option(alloc))?
+        .arg(no_defaults_option(alloc))
+}
+
+fn options_command<'a>(alloc: Global) -> Result<Command<'a>, AllocError>
+    ensures app { IfOk result (λ c. app_of c ≡ options_command) }
+    ensures local { IfOk result (λ c. (fields_of c).has_globals ≡ false) }
+{
+    reading_command(alloc)?
         .arg(book_option(alloc))?
-        .arg(commands_option(alloc))?
-        .arg(words_argument(alloc))
+        .arg(commands_option(alloc))
+}
+
+fn graph_command<'a>(alloc: Global) -> Result<Command<'a>, AllocError>
+    ensures app { IfOk result (λ c. app_of c ≡ graph_command) }
+    ensures local { IfOk result (λ c. (fields_of c).has_globals ≡ false) }
+{
+    options_command(alloc)?.arg(words_argument(alloc))
 }
 
 fn named_program<'a>(alloc: Global) -> Command<'a>

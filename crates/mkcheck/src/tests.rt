@@ -53,6 +53,39 @@ fn prints_the_graph(rt: HostRuntime) -> Result<(), Fail> {
 }
 
 #[test]
+fn takes_options(rt: HostRuntime) -> Result<(), Fail> {
+    let rules = "p: a.o\n\t$(CC) -o $@ $^\na.o:\na.c:\n";
+    let outcome = ran(rt.alloc(), rules, &["graph", "-c", "CC=cc"])?;
+    let out = "goals p\na.c:\na.o recipe: a.c\n\tcc -O1 -c a.c\np recipe: a.o\n\tcc -o p a.o\n";
+    expect(&rt, outcome, out, 0);
+    let outcome = ran(rt.alloc(), rules, &["graph", "-r", "-c", "CC=cc"])?;
+    let out = "goals p\na.o:\np recipe: a.o\n\tcc -o p a.o\n";
+    expect(&rt, outcome, out, 0);
+    let outcome = ran(rt.alloc(), rules, &["graph", "-rr", "a.o"])?;
+    expect(&rt, outcome, "goals a.o\na.o:\n", 0);
+    let outcome = ran(rt.alloc(), rules, &["graph", "-b", "B"])?;
+    expect(&rt, outcome, "refused 38 B\n", 2);
+    Ok(())
+}
+
+#[test]
+fn reads_footprints(rt: HostRuntime) -> Result<(), Fail> {
+    let alloc = rt.alloc();
+    let mut files = holding(alloc, PROGRAM)?;
+    files.add(
+        "B",
+        b"{\"format\":1,\"fixed\":[],\"sources\":[],\"records\":[]}",
+    )?;
+    let outcome = run(alloc, &mut files, &["graph", "-b", "B"])?;
+    expect(&rt, outcome, "refused 41 a.c\n", 2);
+    let mut files = holding(alloc, PROGRAM)?;
+    files.add("B", b"{")?;
+    let outcome = run(alloc, &mut files, &["graph", "-b", "B"])?;
+    expect(&rt, outcome, "refused 51\n", 2);
+    Ok(())
+}
+
+#[test]
 fn prints_refusals(rt: HostRuntime) -> Result<(), Fail> {
     let outcome = ran(rt.alloc(), "a: b c\nc: d\nd: c a\n", &["graph"])?;
     expect(&rt, outcome, "refused 42 c d c\n", 2);
@@ -106,6 +139,11 @@ fn refuses_other_words(rt: HostRuntime) -> Result<(), Fail> {
     expect_fault(
         &rt,
         ran(rt.alloc(), PROGRAM, &["graph", "-f", "a", "-f", "b"])?,
+    );
+    expect_fault(&rt, ran(rt.alloc(), PROGRAM, &["graph", "-b"])?);
+    expect_fault(
+        &rt,
+        ran(rt.alloc(), PROGRAM, &["graph", "-b", "A", "-b", "B"])?,
     );
     Ok(())
 }

@@ -7,7 +7,7 @@ use Rattle.mk_infer.specs.There.{Exists}
 use Rattle.mk_infer.specs.declared.fault.InferFault.{InferFault}
 use Rattle.mk_foot.specs.Reading.{book_from}
 use Rattle.mk_read.specs.Files.{text_at}
-use Rattle.mk_core.specs.Files.{FileReads, there_by}
+use Rattle.mk_core.specs.FilesThere.{FileReads, there_by}
 use Rattle.mk_core.specs.Steps.{Gives}
 use Rattle.mk_core.proofs.Answering.{found_unnamed, found_unread, found_by}
 use Rattle.mk_core.proofs.Counting.{some_all, some_with, stays_infer, stays_there}
