@@ -1,6 +1,6 @@
 //! A makefile whose names are looked up.
 
-ghost use Rattle.std.specs.Prelude.{◌≡◌, ◌∷◌, ◌++◌, [], List, ℕ, map, filter, find, not, slice_get, true, false, None, Some, MatchOption, OnOk, IfOk, if◌then◌else◌};
+ghost use Rattle.std.specs.Prelude.{◌≡◌, ◌∷◌, ◌++◌, [], List, ℕ, length, map, filter, find, not, slice_get, true, false, None, Some, MatchOption, OnOk, IfOk, if◌then◌else◌};
 ghost use Rattle.std.specs.Option.{option_copied, option_map, option_map_or};
 ghost use Rattle.std.specs.List.{list_any};
 ghost use Rattle.std.specs.Str.{bytes_eq};
@@ -9,6 +9,7 @@ ghost use Rattle.indexmap.specs.IndexMap.{get_by};
 ghost use Rattle.mk_read.specs.Names.{has_name};
 ghost use Rattle.mk_read.specs.Needs.{commands_in, commands_of, is_wait};
 ghost use Rattle.mk_read.specs.Special.{is_inference_name};
+ghost use Rattle.mk_infer.specs.Inference.{but_last, ends_in};
 ghost use Rattle.mk_infer.specs.Targets.{is_target, own_commands, prerequisites_of, rules_for, words_for};
 ghost use Rattle.mk_infer.specs.Table.{HasLines, HoldsNames, counts_for, lines_at, lines_of, places_at, targets_in, words_in};
 
@@ -251,6 +252,22 @@ impl<'m> RuleTable<'m> {
         self.suffixes.is_joined(name.as_bytes())
     }
 
+    /// A name, cut before its known suffix, where it has one and a rest before it. A known suffix
+    /// holds one dot, so it can only begin at the last one of the name.
+    pub(crate) fn cut_before_suffix<'a>(&self, name: &'a str) -> Option<(&'a str, &'a str)>
+        ensures { MatchOption result (find (ends_in name.now) self.now.suffixes ≡ None) (λ parts. (parts.0.now ≡ but_last (length parts.1.now) name.now) × (find (ends_in name.now) self.now.suffixes ≡ Some parts.1.now)) }
+    {
+        let known = &self.suffixes;
+        let Some(at) = name.rfind('.') else {
+            return None;
+        };
+        let suffix = &name[at..];
+        if at == 0 || !known.contains(suffix.as_bytes()) {
+            return None;
+        }
+        Some((&name[..at], suffix))
+    }
+
     /// Whether a name is phony.
     pub(crate) fn is_phony(&self, name: &str) -> bool
         ensures { result ≡ has_name self.now.phony name.now }
@@ -296,7 +313,11 @@ impl<'m> RuleTable<'m> {
     }
 
     /// The prerequisites of a name, in their order.
-    pub(crate) fn prerequisites_of(&self, alloc: Global, name: &str) -> Result<Vec<&'m str>, AllocError>
+    pub(crate) fn prerequisites_of(
+        &self,
+        alloc: Global,
+        name: &str,
+    ) -> Result<Vec<&'m str>, AllocError>
         ensures { IfOk result (λ words. map (λ word. word.now) words.items ≡ prerequisites_of self.now name.now) }
     {
         let words = self.words_for(alloc, name)?;
