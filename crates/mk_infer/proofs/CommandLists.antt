@@ -16,11 +16,6 @@ abbrev pub behind : List (List ℕ) → Bool → Result Commands InferFault → 
 behind lines varying (Ok rest) = Ok (record { lines = lines ++ rest.lines; varying = varying || rest.varying })
 behind lines varying (Err fault) = Err fault
 
--- nothing before
-pub behind_none : (r : Result Commands InferFault) → behind [] false r ≡ r
-behind_none (Ok rest) = refl
-behind_none (Err fault) = refl
-
 -- the text and whether it varies
 the_pair : Result (List ℕ × Bool) InferFault → List ℕ × Bool
 the_pair (Ok pair) = pair

@@ -1,6 +1,6 @@
 -- The first of a list that passes, and what it gives.
 use Rattle.std.proofs.Common.{◌≡◌, ℕ, ◌+◌, ◌<◌, Bool, true, false, cond, List, Option, Some, None, map, length, get_or, drop, refl, sym, ap, ◌∙◌}
-use Rattle.std.specs.Prelude.{find, IfOk, Result, Ok, Err}
+use Rattle.std.specs.Prelude.{find}
 use Rattle.std.specs.Option.{option_map}
 use Rattle.std.proofs.lemmas.List.{drop_more}
 
@@ -15,20 +15,3 @@ first_is {B} view p gives xs i d x given whole is lt e so_far = at (p x) refl e
     at : (b : Bool) → p x ≡ b → Some given ≡ cond b (Some (gives x)) None → Some given ≡ option_map gives whole
     at true t k = k ∙ ap (option_map gives) (sym (ap (λ b. cond b (Some x) (find p (map view (drop (i + 1) xs)))) t) ∙ (sym next ∙ so_far))
     at false f k = absurd cc
-
--- the next one doesn't
-pub first_later : {A B C : Type 0} (view : A → B) (p : B → Bool) (gives : B → C) (xs : List A) (i : ℕ) (d : A) (x : B) (whole : Option B) → x ≡ view (get_or xs i d) → i < length xs
-    → None ≡ cond (p x) (Some (gives x)) None → find p (map view (drop i xs)) ≡ whole → find p (map view (drop (i + 1) xs)) ≡ whole
-first_later {B} view p gives xs i d x whole is lt e so_far = at (p x) refl e
-  where
-    next : find p (map view (drop i xs)) ≡ cond (p x) (Some x) (find p (map view (drop (i + 1) xs)))
-    next = ap (λ ys. find p (map view ys)) (drop_more xs i d lt) ∙ ap (λ (y : B). cond (p y) (Some y) (find p (map view (drop (i + 1) xs)))) (sym is)
-
-    at : (b : Bool) → p x ≡ b → None ≡ cond b (Some (gives x)) None → find p (map view (drop (i + 1) xs)) ≡ whole
-    at true t k = absurd cc
-    at false f k = sym (ap (λ b. cond b (Some x) (find p (map view (drop (i + 1) xs)))) f) ∙ (sym next ∙ so_far)
-
--- what holds of a result, by what else holds of it
-pub ok_by : {A E : Type 0} (P Q : A → Type 0) (r : Result A E) → ((x : A) → P x → Q x) → IfOk r P → IfOk r Q
-ok_by P Q (Ok x) f h = f x h
-ok_by P Q (Err e) f h = h

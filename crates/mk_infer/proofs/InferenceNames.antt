@@ -38,7 +38,7 @@ found p [] x h e = absurd h
 found p (y ∷ xs) x (inl same) e = ap (λ b. b || list_any p xs) (ap p same ∙ e)
 found p (y ∷ xs) x (inr h) e = ap (λ b. p y || b) (found p xs x h e) ∙ or_true (p y)
 
-both_are : (a b : Bool) → (a && b) ≡ true → (a ≡ true) × (b ≡ true)
+pub both_are : (a b : Bool) → (a && b) ≡ true → (a ≡ true) × (b ≡ true)
 both_are true b h = (refl, h)
 both_are false b h = absurd cc
 
@@ -46,7 +46,7 @@ either_is : (a b : Bool) → (a || b) ≡ true → (a ≡ true) ⊎ (b ≡ true)
 either_is true b h = inl refl
 either_is false b h = inr h
 
-each_passes : {A : Type 0} (p : A → Bool) (xs : List A) (x : A) → list_all p xs ≡ true → Has xs x → p x ≡ true
+pub each_passes : {A : Type 0} (p : A → Bool) (xs : List A) (x : A) → list_all p xs ≡ true → Has xs x → p x ≡ true
 each_passes p [] x h k = absurd k
 each_passes p (y ∷ xs) x h (inl e) = ap p (sym e) ∙ (both_are (p y) (list_all p xs) h).0
 each_passes p (y ∷ xs) x h (inr k) = each_passes p xs x (both_are (p y) (list_all p xs) h).1 k
@@ -59,7 +59,7 @@ same_tests false false f g = refl
 -- ---- suffixes
 
 -- a suffix is a dot and bytes that are none
-record Dotted (suffix : List ℕ) : Type 0 where
+pub record Dotted (suffix : List ℕ) : Type 0 where
   pub rest : List ℕ
   pub is : suffix ≡ 46 ∷ rest
   pub free : list_all is_suffix_byte rest ≡ true
@@ -68,7 +68,7 @@ is_dot : (b : ℕ) (rest : List ℕ) (c : Bool) → (b == 46) ≡ c → (c && (n
 is_dot b rest true e h = record { rest = rest; is = ap (λ (x : ℕ). x ∷ rest) (eqb-true b 46 e); free = (both_are (not (is_empty rest)) (list_all is_suffix_byte rest) h).1 }
 is_dot b rest false e h = absurd cc
 
-dotted : (suffix : List ℕ) → is_suffix suffix ≡ true → Dotted suffix
+pub dotted : (suffix : List ℕ) → is_suffix suffix ≡ true → Dotted suffix
 dotted [] h = absurd cc
 dotted (b ∷ rest) h = is_dot b rest (b == 46) refl h
 

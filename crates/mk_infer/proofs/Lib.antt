@@ -14,12 +14,12 @@ pub mod Walking
 pub mod RuleNeeds
 pub mod Inferable
 pub mod Places
-pub mod Endings
 pub mod FirstFound
 pub mod Making
 pub mod CommandRecipes
 pub mod Soundness
 pub mod Selecting
 pub mod InferenceNames
+pub mod LastDots
 pub mod OneSelection
 pub mod Writes

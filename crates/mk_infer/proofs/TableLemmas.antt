@@ -1,16 +1,14 @@
 -- Tables of rule lines.
-use Rattle.std.proofs.Common.{◌≡◌, ℕ, ◌+◌, ◌<◌, Bool, true, false, not, ◌||◌, cond, List, [], ◌∷◌, ◌++◌, length, get_or, map, take, drop, Some, None, refl, sym, ap, ◌∙◌, append-nil, append_assoc}
-use Rattle.std.specs.Prelude.{Option, filter, find, slice_get}
+use Rattle.std.proofs.Common.{◌≡◌, ℕ, ◌+◌, ◌<◌, Bool, true, false, not, ◌||◌, cond, List, [], ◌∷◌, ◌++◌, length, get_or, map, take, refl, sym, ap, ◌∙◌, append-nil}
+use Rattle.std.specs.Prelude.{filter, slice_get}
 use Rattle.std.specs.Str.{bytes_eq}
-use Rattle.std.specs.List.{cons_option}
 use Rattle.std.proofs.lemmas.Bool.{not-false, not-true}
-use Rattle.std.proofs.lemmas.List.{drop_more}
 use Rattle.std.proofs.lemmas.List.Elements.{filter_map-append, filter_more}
 use Rattle.std.proofs.lemmas.Option.{slice_get-get_or}
 use Rattle.std.proofs.lemmas.Slice.Eq.{bytes_eq-Decides}
 use Rattle.mk_read.specs.Names.{has_name}
 use Rattle.mk_read.specs.State.{RuleRead}
-use Rattle.mk_infer.specs.Table.{lines_at, words_in, counts_for}
+use Rattle.mk_infer.specs.Table.{lines_at}
 use Rattle.mk_infer.proofs.Added.{one_added, has_name_push}
 
 -- a target more is seen
@@ -58,39 +56,3 @@ lines_more rules i d name before after e h lt =
     at : (b : Bool) → lines_at rules (cond b (before ++ i ∷ []) before) ≡ lines_at rules before ++ cond b (get_or rules i d ∷ []) []
     at true = filter_map-append (λ place. slice_get rules place) before (i ∷ []) ∙ ap (λ ls. lines_at rules before ++ ls) last
     at false = sym (append-nil (lines_at rules before))
-
--- the rule lines from a place on
-lines_from : (rules : List RuleRead) (places : List ℕ) (i d : ℕ) → i < length places → lines_at rules (drop i places) ≡ cons_option (slice_get rules (get_or places i d)) (lines_at rules (drop (i + 1) places))
-lines_from rules places i d lt = ap (lines_at rules) (drop_more places i d lt)
-
--- the words of one rule line more
-pub words_more : (rules : List RuleRead) (places : List ℕ) (i d : ℕ) (rule : RuleRead) (front whole : List (List ℕ)) → slice_get rules (get_or places i d) ≡ Some rule
-    → front ++ words_in (lines_at rules (drop i places)) ≡ whole → i < length places → (front ++ rule.words) ++ words_in (lines_at rules (drop (i + 1) places)) ≡ whole
-words_more rules places i d rule front whole e h lt =
-    append_assoc front rule.words (words_in (lines_at rules (drop (i + 1) places))) ∙ (sym (ap (λ ls. front ++ words_in ls) (lines_from rules places i d lt ∙ ap (λ o. cons_option o (lines_at rules (drop (i + 1) places))) e)) ∙ h)
-
-pub words_same : (rules : List RuleRead) (places : List ℕ) (i d : ℕ) (front whole : List (List ℕ)) → slice_get rules (get_or places i d) ≡ None
-    → front ++ words_in (lines_at rules (drop i places)) ≡ whole → i < length places → front ++ words_in (lines_at rules (drop (i + 1) places)) ≡ whole
-words_same rules places i d front whole e h lt =
-    sym (ap (λ ls. front ++ words_in ls) (lines_from rules places i d lt ∙ ap (λ o. cons_option o (lines_at rules (drop (i + 1) places))) e)) ∙ h
-
--- the first of the rule lines that are left which counts
-found_more : (rules : List RuleRead) (places : List ℕ) (i d : ℕ) (own : Bool) (rule : RuleRead) (whole : Option RuleRead) → slice_get rules (get_or places i d) ≡ Some rule
-    → find (counts_for own) (lines_at rules (drop i places)) ≡ whole → i < length places → cond (counts_for own rule) (Some rule) (find (counts_for own) (lines_at rules (drop (i + 1) places))) ≡ whole
-found_more rules places i d own rule whole e h lt =
-    sym (ap (find (counts_for own)) (lines_from rules places i d lt ∙ ap (λ o. cons_option o (lines_at rules (drop (i + 1) places))) e)) ∙ h
-
-pub found_same : (rules : List RuleRead) (places : List ℕ) (i d : ℕ) (own : Bool) (whole : Option RuleRead) → slice_get rules (get_or places i d) ≡ None
-    → find (counts_for own) (lines_at rules (drop i places)) ≡ whole → i < length places → find (counts_for own) (lines_at rules (drop (i + 1) places)) ≡ whole
-found_same rules places i d own whole e h lt =
-    sym (ap (find (counts_for own)) (lines_from rules places i d lt ∙ ap (λ o. cons_option o (lines_at rules (drop (i + 1) places))) e)) ∙ h
-
-pub found_here : (rules : List RuleRead) (places : List ℕ) (i d : ℕ) (own b : Bool) (rule : RuleRead) (whole : Option RuleRead) → slice_get rules (get_or places i d) ≡ Some rule
-    → find (counts_for own) (lines_at rules (drop i places)) ≡ whole → i < length places → b ≡ counts_for own rule → b ≡ true → Some rule ≡ whole
-found_here rules places i d own b rule whole e h lt is t =
-    sym (ap (λ (c : Bool). cond c (Some rule) (find (counts_for own) (lines_at rules (drop (i + 1) places)))) (sym is ∙ t)) ∙ found_more rules places i d own rule whole e h lt
-
-pub found_later : (rules : List RuleRead) (places : List ℕ) (i d : ℕ) (own b : Bool) (rule : RuleRead) (whole : Option RuleRead) → slice_get rules (get_or places i d) ≡ Some rule
-    → find (counts_for own) (lines_at rules (drop i places)) ≡ whole → i < length places → b ≡ counts_for own rule → b ≡ false → find (counts_for own) (lines_at rules (drop (i + 1) places)) ≡ whole
-found_later rules places i d own b rule whole e h lt is f =
-    sym (ap (λ (c : Bool). cond c (Some rule) (find (counts_for own) (lines_at rules (drop (i + 1) places)))) (sym is ∙ f)) ∙ found_more rules places i d own rule whole e h lt

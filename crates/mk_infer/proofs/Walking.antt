@@ -113,14 +113,7 @@ walk_start needs met goals todo none turned = λ all m.
 pub walk_end : (needs : List ℕ → List (List ℕ)) (met goals : List (List ℕ)) (todo : List (Bor (List ℕ))) → todo ≡ [] → Continues needs met todo goals → Stack needs [] goals met
 walk_end needs met goals todo none k = k met (subst (λ (ns : List (List ℕ)). Stack needs met ns met) (sym (ap (λ ns. texts (reverse ns)) none)) ends)
 
--- what is to do falls at a name that is met
-pub less_known : (needs : List ℕ → List (List ℕ)) (names met after : List (List ℕ)) (todo rest : List (Bor (List ℕ))) (name : Bor (List ℕ)) → todo ≡ rest ++ name ∷ [] → after ≡ met → weight needs after names + length rest < weight needs met names + length todo
-less_known needs names met after todo rest name e same =
-    let long : length todo ≡ length rest + 1 = ap length e ∙ length-append rest (name ∷ []) in
-    let alike : weight needs after names ≡ weight needs met names = ap (λ ms. weight needs ms names) same in
-    omega arith
-
--- and at a new one
+-- what is to do falls at a new name
 pub less_new : (needs : List ℕ → List (List ℕ)) (names : List (List ℕ)) → Covers needs names → (met after : List (List ℕ)) (todo rest words more : List (Bor (List ℕ))) (name : Bor (List ℕ)) → todo ≡ rest ++ name ∷ [] → has_name met name.now ≡ false → after ≡ met ++ name.now ∷ []
     → texts words ≡ needs name.now → more ≡ rest ++ reverse words → weight needs after names + length more < weight needs met names + length todo
 less_new needs names covers met after todo rest words more name e h grown are pushed =

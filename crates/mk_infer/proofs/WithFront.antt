@@ -7,11 +7,6 @@ abbrev pub with_front : {A : Type 0} → List A → Result (List A) InferFault �
 with_front front (Ok rest) = Ok (front ++ rest)
 with_front front (Err fault) = Err fault
 
--- nothing before
-pub with_front_nil : {A : Type 0} (r : Result (List A) InferFault) → with_front [] r ≡ r
-with_front_nil (Ok rest) = refl
-with_front_nil (Err fault) = refl
-
 -- one more before
 pub with_front_more : {A : Type 0} (front : List A) (x : A) (r : Result (List A) InferFault) → with_front front (with_front (x ∷ []) r) ≡ with_front (front ++ x ∷ []) r
 with_front_more front x (Ok rest) = ap (λ (xs : List _). Ok xs) (simp append_assoc)

@@ -45,14 +45,14 @@ fn found_in<'a>(table: &'a NameTable, name: &str) -> Option<&'a str>
 
 impl Exists {
     /// Whether a name is given: a source, a text of the makefile, or under a fixed prefix.
-    pub fn is_given(&self, name: &str) -> bool
+    pub(crate) fn is_given(&self, name: &str) -> bool
         ensures { result ≡ is_given self.now name.now }
     {
         self.sources.contains(name) || self.texts.contains(name) || self.fixed.is_under(name)
     }
 
     /// The name itself, where it is a source, a text of the makefile, or one of the names more.
-    pub fn listed(&self, name: &str) -> Option<&str>
+    pub(crate) fn listed(&self, name: &str) -> Option<&str>
         ensures { MatchOption result (is_listed self.now name.now ≡ false) (λ found. (found.now ≡ name.now) × (is_listed self.now name.now ≡ true)) }
     {
         if let Some(found) = found_in(&self.sources, name) {

@@ -53,7 +53,7 @@ fn goals_from<'a>(alloc: Global, goals: &'a [Name]) -> Result<Vec<&'a str>, Infe
 }
 
 /// Each name once, where it first stands.
-pub fn once<'a>(alloc: Global, names: &[&'a str]) -> Result<NameSet<'a>, AllocError>
+fn once<'a>(alloc: Global, names: &[&'a str]) -> Result<NameSet<'a>, AllocError>
     ensures { IfOk result (λ set. set ≡ once (map (λ name. name.now) names.now)) }
 {
     let mut set = NameSet::new(alloc);

@@ -3,7 +3,7 @@
 ghost use Rattle.std.specs.Prelude.{◌≡◌, ◌++◌, true, false, None, Some, find, length, MatchOption, IfOk, if◌then◌else◌};
 ghost use Rattle.std.specs.Option.{option_map};
 ghost use Rattle.std.specs.String.{string_bytes};
-ghost use Rattle.mk_infer.specs.Inference.{but_last, choice, chosen_suffix, ending, ends_in, may_infer, stem};
+ghost use Rattle.mk_infer.specs.Inference.{choice, chosen_suffix, ending, may_infer, stem};
 ghost use Rattle.mk_infer.specs.Table.{chosen_by, fits_by, making_of};
 ghost use Rattle.mk_infer.specs.There.{is_there};
 
@@ -31,27 +31,15 @@ impl<'m> Model for Chosen<'m> {
     ghost view = { λ c. record { name = c.name.now; commands = Some c.commands.now } };
 }
 
-/// What stands before a suffix, where the name ends in it and has a rest before it.
-fn rest_before<'a>(name: &'a str, suffix: &str) -> Option<&'a str>
-    ensures { MatchOption result (ends_in name.now suffix.now ≡ false) (λ rest. (rest.now ≡ but_last (length suffix.now) name.now) × (ends_in name.now suffix.now ≡ true)) }
-{
-    let Some(rest) = name.strip_suffix(suffix) else {
-        return None;
-    };
-    if rest.is_empty() { None } else { Some(rest) }
-}
-
 /// A name without its known suffix, and that suffix, or nothing where it has none.
-pub fn parted<'a, 'm>(table: &RuleTable<'m>, name: &'a str) -> (&'a str, &'m str)
+pub fn parted<'a>(table: &RuleTable<'_>, name: &'a str) -> (&'a str, &'a str)
     ensures stem { result.0.now ≡ stem table.now name.now }
     ensures ending { result.1.now ≡ ending table.now name.now }
 {
-    for suffix in table.suffixes() {
-        if let Some(rest) = rest_before(name, suffix) {
-            return (rest, suffix);
-        }
+    match table.cut_before_suffix(name) {
+        Some(parts) => parts,
+        None => (name, ""),
     }
-    (name, "")
 }
 
 /// Two texts, one behind the other.

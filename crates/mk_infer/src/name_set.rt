@@ -25,7 +25,7 @@ impl<'a> Model for NameSet<'a> {
 
 impl<'a> NameSet<'a> {
     /// No names.
-    pub fn new(alloc: Global) -> NameSet<'a>
+    pub(crate) fn new(alloc: Global) -> NameSet<'a>
         ensures { result ≡ [] }
     {
         NameSet {
@@ -34,7 +34,7 @@ impl<'a> NameSet<'a> {
     }
 
     /// Adds a name at the end, unless it is there already. Answers whether it was new.
-    pub fn insert(&mut self, name: &'a str) -> Result<bool, AllocError>
+    pub(crate) fn insert(&mut self, name: &'a str) -> Result<bool, AllocError>
         ensures new { IfOk result (λ added. added ≡ not (has_name self.old name.entry.now)) }
         ensures ok { OnOk result (self.new ≡ (if has_name self.old name.entry.now then self.old else self.old ++ name.entry.now ∷ [])) }
         ensures err { OnErr result (self.new ≡ self.old) }
@@ -43,7 +43,7 @@ impl<'a> NameSet<'a> {
     }
 
     /// The name itself, where it is there.
-    pub fn get(&self, name: &str) -> Option<&'a str>
+    pub(crate) fn get(&self, name: &str) -> Option<&'a str>
         ensures { MatchOption result (has_name self.now name.now ≡ false) (λ found. (found.now ≡ name.now) × (has_name self.now name.now ≡ true)) }
     {
         match self.names.get(name) {
@@ -53,14 +53,14 @@ impl<'a> NameSet<'a> {
     }
 
     /// Whether the name is there.
-    pub fn contains(&self, name: &str) -> bool
+    pub(crate) fn contains(&self, name: &str) -> bool
         ensures { result ≡ has_name self.now name.now }
     {
         self.names.contains(name)
     }
 
     /// The place at which the name stands, or how many names there are where it doesn't.
-    pub fn number_of(&self, name: &str) -> usize
+    pub(crate) fn number_of(&self, name: &str) -> usize
         ensures { result ≡ number_of self.now name.now }
     {
         match self.names.get_index_of(name) {

@@ -1,6 +1,6 @@
 //! A makefile whose names are looked up.
 
-ghost use Rattle.std.specs.Prelude.{◌≡◌, ◌∷◌, ◌++◌, [], List, ℕ, map, filter, find, not, slice_get, true, false, None, Some, MatchOption, OnOk, IfOk, if◌then◌else◌};
+ghost use Rattle.std.specs.Prelude.{◌≡◌, ◌∷◌, ◌++◌, [], List, ℕ, length, map, filter, find, not, slice_get, true, false, None, Some, MatchOption, OnOk, IfOk, if◌then◌else◌};
 ghost use Rattle.std.specs.Option.{option_copied, option_map, option_map_or};
 ghost use Rattle.std.specs.List.{list_any};
 ghost use Rattle.std.specs.Str.{bytes_eq};
@@ -9,6 +9,7 @@ ghost use Rattle.indexmap.specs.IndexMap.{get_by};
 ghost use Rattle.mk_read.specs.Names.{has_name};
 ghost use Rattle.mk_read.specs.Needs.{commands_in, commands_of, is_wait};
 ghost use Rattle.mk_read.specs.Special.{is_inference_name};
+ghost use Rattle.mk_infer.specs.Inference.{but_last, ends_in};
 ghost use Rattle.mk_infer.specs.Targets.{is_target, own_commands, prerequisites_of, rules_for, words_for};
 ghost use Rattle.mk_infer.specs.Table.{HasLines, HoldsNames, counts_for, lines_at, lines_of, places_at, targets_in, words_in};
 
@@ -217,49 +218,65 @@ impl<'m> RuleTable<'m> {
     }
 
     /// The rule lines, in their order.
-    pub fn rules(&self) -> &'m [Rule]
+    pub(crate) fn rules(&self) -> &'m [Rule]
         ensures { result.now ≡ self.now.rules }
     {
         self.makefile.rules()
     }
 
     /// The known suffixes, in their order.
-    pub fn suffixes(&self) -> &'m [String]
+    pub(crate) fn suffixes(&self) -> &'m [String]
         ensures { map string_bytes result.now ≡ self.now.suffixes }
     {
         self.makefile.suffixes()
     }
 
     /// The macros after all reading.
-    pub fn macros(&self) -> &'m MacroTable
+    pub(crate) fn macros(&self) -> &'m MacroTable
         ensures { result.now ≡ self.now.macros }
     {
         self.makefile.macros()
     }
 
     /// Whether each prerequisite is a group of its own.
-    pub fn not_parallel(&self) -> bool
+    pub(crate) fn not_parallel(&self) -> bool
         ensures { result ≡ self.now.not_parallel }
     {
         self.makefile.not_parallel()
     }
 
     /// Whether a name is an inference name.
-    pub fn is_inference_name(&self, name: &str) -> bool
+    pub(crate) fn is_inference_name(&self, name: &str) -> bool
         ensures { result ≡ is_inference_name self.now.suffixes name.now }
     {
         self.suffixes.is_joined(name.as_bytes())
     }
 
+    /// A name, cut before its known suffix, where it has one and a rest before it. A known suffix
+    /// holds one dot, so it can only begin at the last one of the name.
+    pub(crate) fn cut_before_suffix<'a>(&self, name: &'a str) -> Option<(&'a str, &'a str)>
+        ensures { MatchOption result (find (ends_in name.now) self.now.suffixes ≡ None) (λ parts. (parts.0.now ≡ but_last (length parts.1.now) name.now) × (find (ends_in name.now) self.now.suffixes ≡ Some parts.1.now)) }
+    {
+        let known = &self.suffixes;
+        let Some(at) = name.rfind('.') else {
+            return None;
+        };
+        let suffix = &name[at..];
+        if at == 0 || !known.contains(suffix.as_bytes()) {
+            return None;
+        }
+        Some((&name[..at], suffix))
+    }
+
     /// Whether a name is phony.
-    pub fn is_phony(&self, name: &str) -> bool
+    pub(crate) fn is_phony(&self, name: &str) -> bool
         ensures { result ≡ has_name self.now.phony name.now }
     {
         self.phony.contains(name)
     }
 
     /// The name itself, where it is the target of a target rule.
-    pub fn target(&self, name: &str) -> Option<&'m str>
+    pub(crate) fn target(&self, name: &str) -> Option<&'m str>
         ensures { MatchOption result (is_target self.now name.now ≡ false) (λ found. (found.now ≡ name.now) × (is_target self.now name.now ≡ true)) }
     {
         if self.is_inference_name(name) {
@@ -289,14 +306,18 @@ impl<'m> RuleTable<'m> {
     }
 
     /// The words of a name's rule lines, `.WAIT` among them.
-    pub fn words_for(&self, alloc: Global, name: &str) -> Result<Vec<&'m str>, AllocError>
+    pub(crate) fn words_for(&self, alloc: Global, name: &str) -> Result<Vec<&'m str>, AllocError>
         ensures { IfOk result (λ words. map (λ word. word.now) words.items ≡ words_for self.now name.now) }
     {
         words_at(alloc, self.rules(), self.lines_for(name))
     }
 
     /// The prerequisites of a name, in their order.
-    pub fn prerequisites_of(&self, alloc: Global, name: &str) -> Result<Vec<&'m str>, AllocError>
+    pub(crate) fn prerequisites_of(
+        &self,
+        alloc: Global,
+        name: &str,
+    ) -> Result<Vec<&'m str>, AllocError>
         ensures { IfOk result (λ words. map (λ word. word.now) words.items ≡ prerequisites_of self.now name.now) }
     {
         let words = self.words_for(alloc, name)?;
@@ -304,14 +325,14 @@ impl<'m> RuleTable<'m> {
     }
 
     /// The commands of a name's own rule lines.
-    pub fn own_commands(&self, name: &str) -> Option<&'m [Command]>
+    pub(crate) fn own_commands(&self, name: &str) -> Option<&'m [Command]>
         ensures { option_map (λ commands. commands.now) result ≡ own_commands self.now name.now }
     {
         commands_at(self.rules(), self.lines_for(name))
     }
 
     /// The commands of a rule line for a name, be it an inference name or not.
-    pub fn rule_commands(&self, name: &str) -> Option<&'m [Command]>
+    pub(crate) fn rule_commands(&self, name: &str) -> Option<&'m [Command]>
         ensures { option_map (λ commands. commands.now) result ≡ commands_of self.now.rules name.now }
     {
         commands_at(self.rules(), self.places_of(name))

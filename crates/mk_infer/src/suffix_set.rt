@@ -62,7 +62,7 @@ impl<'m> SuffixSet<'m> {
     }
 
     /// Whether the bytes are a suffix that is there.
-    fn contains(&self, bytes: &[u8]) -> bool
+    pub fn contains(&self, bytes: &[u8]) -> bool
         ensures { result ≡ has_name self.now bytes.now }
     {
         self.suffixes.contains(bytes)

@@ -146,6 +146,7 @@ fn infers_from_a_suffix(rt: HostRuntime) -> Result<(), Fail> {
         ),
         (b"prog:\nprog.c:\n", true, b"prog!| prog.c\nprog.c\n"),
         (b"a.c:\na.c.sh:\n", true, b"a.c\n"),
+        (b"a.b.o:\na.b.c:\n", true, b"a.b.o!| a.b.c\na.b.c\n"),
         (b"a.o:;\na.c:\n", true, b"a.o\n"),
         (b"a.o: a.c\na.c:\n", true, b"a.o!| a.c a.c\na.c\n"),
         (b".PHONY: a.o\na.o:\na.c:\n", true, b"a.o*\n"),
