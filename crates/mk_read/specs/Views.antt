@@ -15,7 +15,7 @@ use Rattle.mk_read.specs.Names.{has_name, is_empty, names_in}
 use Rattle.mk_read.specs.Reading.{Reader, Text, after_default, from_named, named, own_text, reading, with_operands}
 use Rattle.std.specs.List.{list_any}
 use Rattle.std.specs.Str.{bytes_eq}
-use Rattle.mk_read.specs.Rules.{command_line, has_some, is_commanded}
+use Rattle.mk_read.specs.Rules.{command_line, has_some, is_commanded, new_rule}
 use Rattle.mk_macros.specs.Definitions.{defined, without_blanks}
 use Rattle.mk_read.specs.Kinds.{AssignmentLine}
 use Rattle.mk_read.specs.State.{State, parted, RuleRead, Owner, Nobody, Last, SpecialTarget, PassedOver}
@@ -52,6 +52,10 @@ expanded_text place table text = at_place place (expansion table None text) >>= 
 -- what an assignment to a name does that was expanded
 unfoldable pub assigned : Place → State → AssignmentLine → List ℕ → Result State ReadFault
 assigned place state line name = at_place place (defined state.table (without_blanks name) line.op line.value) >>= λ table. Ok (record (parted state) { table = table })
+
+-- what was read with a rule line more
+abbrev pub ruled : RuleRead → State → Result State ReadFault
+ruled rule state = new_rule rule state.read >>= λ read. Ok (record state { read = read })
 
 -- what a command line does
 abbrev pub behind_commands : Place → List ℕ → State → Result State ReadFault

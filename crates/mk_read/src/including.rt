@@ -258,6 +258,23 @@ fn with_file<F: Files>(
     }
 }
 
+/// Passes over a file that isn't there. Fault 32 where it may not be passed over.
+fn pass_over(
+    spot: &Spot<'_>,
+    optional: bool,
+    name: &str,
+    state: &mut State,
+) -> Result<(), ReadFault>
+    ensures exact { Gives (λ done. state.new) result (not_found (place_at spot.now) optional state.old name.now) }
+    ensures own { IfErr result IsOfText }
+{
+    let file = Name::new(spot.alloc, name)?;
+    if !optional {
+        return Err(ReadFault::IncludeMissing(spot.place()?, file));
+    }
+    Ok(state.note_missing(file)?)
+}
+
 /// What is read after a file that isn't there. Fault 32 where it may not be passed over.
 fn without_file(
     spot: &Spot<'_>,
@@ -268,11 +285,9 @@ fn without_file(
     ensures exact { Gives (λ state. state) result (not_found (place_at spot.now) optional state name.now) }
     ensures own { IfErr result IsOfText }
 {
-    let file = Name::new(spot.alloc, name)?;
-    if !optional {
-        return Err(ReadFault::IncludeMissing(spot.place()?, file));
-    }
-    Ok(state.without_file(file)?)
+    let mut state = state;
+    pass_over(spot, optional, name, &mut state)?;
+    Ok(state)
 }
 
 /// What is read after the text of a file that an include line names.

@@ -1,19 +1,19 @@
 //! Assignments and rule lines.
 
-ghost use Rattle.std.specs.Prelude.{◌≡◌, ◌==◌, ◌++◌, not, false, true, None, codes, map, length, IfErr, IfOk};
+ghost use Rattle.std.specs.Prelude.{◌≡◌, ◌==◌, ◌++◌, not, false, true, None, Ok, Err, codes, map, length, IfErr, IfOk, OnOk, if◌then◌else◌};
 ghost use Rattle.std.specs.List.{list_all, list_any};
 ghost use Rattle.std.specs.Option.{option_map};
 ghost use Rattle.std.specs.String.{string_bytes};
 ghost use Rattle.mk_macros.specs.Definitions.{defined, without_blanks};
 ghost use Rattle.std.specs.Cow.{cow_slice_items};
-ghost use Rattle.mk_read.specs.declared.special.Special.TheVariants.{Suffixes};
+ghost use Rattle.mk_read.specs.declared.fault.ReadFault.TheVariants.{SpecialShape};
 ghost use Rattle.mk_read.specs.Following.{IsOfText};
 ghost use Rattle.mk_read.specs.Kinds.{rule_view, assignment_view};
-ghost use Rattle.mk_read.specs.Names.{has_name, names_in};
+ghost use Rattle.mk_read.specs.Names.{has_name, is_empty, names_in};
 ghost use Rattle.mk_read.specs.Rules.{assignment, special_words, special_rule, commands_behind, by_names, rule};
 ghost use Rattle.mk_read.specs.Special.{is_suffix, listed, special_among, is_unknown_special};
 ghost use Rattle.mk_read.specs.Steps.{Gives, at_place};
-ghost use Rattle.mk_read.specs.Views.{IsMacroFault, assigned, expanded_text, place_at};
+ghost use Rattle.mk_read.specs.Views.{IsMacroFault, assigned, expanded_text, place_at, ruled};
 
 use crate::bytes::without_blanks;
 use crate::fault::ReadFault;
@@ -22,11 +22,12 @@ use crate::makefile::{Command, Rule};
 use crate::names::{is_special, names_of};
 use crate::special::{Special, is_suffix, special_of};
 use crate::spot::Spot;
-use crate::state::{Owner, State};
+use crate::state::{Owner, RuleLines, State};
 use crate::suffix_list::SuffixList;
 use mk_macros::{Locals, MacroFault, MacroTable};
 use std::alloc::{AllocError, Global};
 use std::borrow::CowSlice;
+use std::mem;
 
 /// The fault of a macro at a line.
 fn macro_fault(spot: &Spot<'_>, fault: MacroFault) -> ReadFault
@@ -68,19 +69,18 @@ pub(crate) fn names_in(
     names_of(spot.alloc, spot.file, spot.line, &found)
 }
 
-/// The macros with a definition under this name.
-fn with_definition(
+/// Defines a macro under this name.
+fn define(
     spot: &Spot<'_>,
-    macros: MacroTable,
+    macros: &mut MacroTable,
     name: &[u8],
     line: &AssignmentLine<'_>,
-) -> Result<MacroTable, ReadFault>
-    ensures exact { Gives (λ table. table) result (at_place (place_at spot.now) (defined macros name.now line.now.op line.now.value.now)) }
+) -> Result<(), ReadFault>
+    ensures exact { Gives (λ done. macros.new) result (at_place (place_at spot.now) (defined macros.old name.now line.now.op line.now.value.now)) }
     ensures own { IfErr result IsOfText }
 {
-    let mut table = macros;
-    match table.define(name, line.op, line.value) {
-        Ok(()) => Ok(table),
+    match macros.define(name, line.op, line.value) {
+        Ok(()) => Ok(()),
         Err(MacroFault::Memory) => Err(ReadFault::Memory),
         Err(fault) => Err(macro_fault(spot, fault)),
     }
@@ -89,21 +89,29 @@ fn with_definition(
 impl State {
     /// An assignment to a name that was expanded.
     #[tactic(auto, unfolding(crate::specs::Views::assigned))]
-    fn with_assigned(
-        self,
+    fn assign_to(
+        &mut self,
         spot: &Spot<'_>,
         name: &[u8],
         line: &AssignmentLine<'_>,
-    ) -> Result<State, ReadFault>
-        ensures exact { Gives (λ state. state) result (assigned (place_at spot.now) self (assignment_view line.now) name.now) }
+    ) -> Result<(), ReadFault>
+        ensures exact { Gives (λ done. self.new) result (assigned (place_at spot.now) self.old (assignment_view line.now) name.now) }
         ensures own { IfErr result IsOfText }
     {
-        let state = self.owned(Owner::Nobody)?;
-        let macros = with_definition(spot, state.macros, without_blanks(name), line)?;
-        Ok(State { macros, ..state })
+        self.own(Owner::Nobody)?;
+        define(spot, &mut self.macros, without_blanks(name), line)
     }
 
     /// An assignment, whose name is expanded first.
+    fn assign(&mut self, spot: &Spot<'_>, line: &AssignmentLine<'_>) -> Result<(), ReadFault>
+        ensures exact { Gives (λ done. self.new) result (assignment (place_at spot.now) self.old (assignment_view line.now)) }
+        ensures own { IfErr result IsOfText }
+    {
+        let name = expanded_text(spot, &self.macros, line.name)?;
+        self.assign_to(spot, &name, line)
+    }
+
+    /// What is read after an assignment.
     pub(crate) fn with_assignment(
         self,
         spot: &Spot<'_>,
@@ -112,8 +120,9 @@ impl State {
         ensures exact { Gives (λ state. state) result (assignment (place_at spot.now) self (assignment_view line.now)) }
         ensures own { IfErr result IsOfText }
     {
-        let name = expanded_text(spot, &self.macros, line.name)?;
-        self.with_assigned(spot, &name, line)
+        let mut state = self;
+        state.assign(spot, line)?;
+        Ok(state)
     }
 }
 
@@ -140,59 +149,62 @@ fn list_suffixes(
 }
 
 /// What `.SUFFIXES` does with its words. Fault 30 where one of them is no suffix.
-fn with_suffixes(spot: &Spot<'_>, state: State, words: &[String]) -> Result<State, ReadFault>
-    ensures exact { Gives (λ state. state) result (special_words (place_at spot.now) state (map string_bytes words.now) Suffixes) }
+fn add_suffixes(
+    spot: &Spot<'_>,
+    suffixes: &mut SuffixList,
+    words: &[String],
+) -> Result<(), ReadFault>
+    ensures exact { Gives (λ done. suffixes.new) result (if list_all is_suffix (map string_bytes words.now) then Ok (listed suffixes.old (map string_bytes words.now)) else Err (SpecialShape (place_at spot.now))) }
     ensures own { IfErr result IsOfText }
 {
     if !are_suffixes(words) {
         return Err(ReadFault::SpecialShape(spot.place()?));
     }
-    let suffixes = list_suffixes(spot.alloc, state.suffixes, words)?;
-    Ok(State { suffixes, ..state })
+    let before = mem::replace(suffixes, SuffixList::new(spot.alloc));
+    *suffixes = list_suffixes(spot.alloc, before, words)?;
+    Ok(())
 }
 
 /// Puts words behind others.
-fn append(names: Vec<String>, words: Vec<String>) -> Result<Vec<String>, AllocError>
-    ensures { IfOk result (λ all. map string_bytes all.items ≡ map string_bytes names.items ++ map string_bytes words.items) }
+fn append(names: &mut Vec<String>, words: Vec<String>) -> Result<(), AllocError>
+    ensures { OnOk result (map string_bytes names.new.items ≡ map string_bytes names.old.items ++ map string_bytes words.items) }
 {
-    let mut all = names;
     let mut words = words;
-    all.append(&mut words)?;
-    Ok(all)
+    names.append(&mut words)?;
+    Ok(())
+}
+
+/// Fault 30 where there are words.
+fn unless_words(spot: &Spot<'_>, words: &[String]) -> Result<(), ReadFault>
+    ensures exact { Gives (λ done. done) result (if is_empty (map string_bytes words.now) then Ok tt else Err (SpecialShape (place_at spot.now))) }
+    ensures own { IfErr result IsOfText }
+{
+    if !words.is_empty() {
+        return Err(ReadFault::SpecialShape(spot.place()?));
+    }
+    Ok(())
 }
 
 /// What a special target does with its words. Fault 30 where it can't have them.
-fn with_special_words(
+fn note_words(
     spot: &Spot<'_>,
-    state: State,
+    state: &mut State,
     words: Vec<String>,
     special: Special,
-) -> Result<State, ReadFault>
-    ensures exact { Gives (λ state. state) result (special_words (place_at spot.now) state (map string_bytes words.items) special) }
+) -> Result<(), ReadFault>
+    ensures exact { Gives (λ done. state.new) result (special_words (place_at spot.now) state.old (map string_bytes words.items) special) }
     ensures own { IfErr result IsOfText }
 {
     match special {
-        Special::Suffixes => with_suffixes(spot, state, &words),
-        Special::Phony => {
-            let phony = append(state.phony, words)?;
-            Ok(State { phony, ..state })
-        }
+        Special::Suffixes => add_suffixes(spot, &mut state.suffixes, &words),
+        Special::Phony => Ok(append(&mut state.phony, words)?),
         Special::NotParallel => {
-            if !words.is_empty() {
-                return Err(ReadFault::SpecialShape(spot.place()?));
-            }
-            Ok(State {
-                not_parallel: true,
-                ..state
-            })
+            unless_words(spot, &words)?;
+            state.not_parallel = true;
+            Ok(())
         }
-        Special::Wordless => {
-            if !words.is_empty() {
-                return Err(ReadFault::SpecialShape(spot.place()?));
-            }
-            Ok(state)
-        }
-        Special::Unread => Ok(state),
+        Special::Wordless => unless_words(spot, &words),
+        Special::Unread => Ok(()),
     }
 }
 
@@ -212,22 +224,22 @@ fn is_alone(targets: &[String]) -> bool
 
 /// A special target, which stands alone, without commands and without `.WAIT`; else fault 30.
 #[tactic(auto, unfolding(crate::specs::Rules::special_rule))]
-fn with_special(
+fn add_special(
     spot: &Spot<'_>,
-    state: State,
+    state: &mut State,
     targets: &[String],
     words: Vec<String>,
     commands: bool,
     special: Special,
-) -> Result<State, ReadFault>
-    ensures exact { Gives (λ state. state) result (special_rule (place_at spot.now) state (map string_bytes targets.now) (map string_bytes words.items) commands special) }
+) -> Result<(), ReadFault>
+    ensures exact { Gives (λ done. state.new) result (special_rule (place_at spot.now) state.old (map string_bytes targets.now) (map string_bytes words.items) commands special) }
     ensures own { IfErr result IsOfText }
 {
     if !is_alone(targets) || commands || has_wait(&words) {
         return Err(ReadFault::SpecialShape(spot.place()?));
     }
-    let state = state.owned(Owner::SpecialTarget)?;
-    with_special_words(spot, state, words, special)
+    state.own(Owner::SpecialTarget)?;
+    note_words(spot, state, words, special)
 }
 
 /// The commands of a `;`: the text behind it, where there is some.
@@ -264,29 +276,49 @@ fn has_unknown(targets: &[String]) -> bool
     targets.iter().any(|target| is_special(target) && special_of(target).is_none())
 }
 
+/// Adds a rule line behind the others.
+fn push_rule(alloc: Global, state: &mut State, rule: Rule) -> Result<(), ReadFault>
+    ensures exact { Gives (λ done. state.new) result (ruled rule state.old) }
+    ensures own { IfErr result IsOfText }
+{
+    let lines = mem::replace(&mut state.lines, RuleLines::new(alloc));
+    state.lines = lines.with_rule(alloc, rule)?;
+    Ok(())
+}
+
+/// The commands of a rule line: those behind its `;`, where it has one.
+fn commands_of(
+    spot: &Spot<'_>,
+    command: Option<&[u8]>,
+) -> Result<Option<Vec<Command>>, AllocError>
+    ensures { IfOk result (λ commands. option_map (λ commands. commands.items) commands ≡ option_map (commands_behind (place_at spot.now)) (option_map (λ text. text.now) command.entry)) }
+{
+    match command {
+        Some(text) => Ok(Some(commands_behind(spot, text)?)),
+        None => Ok(None),
+    }
+}
+
 /// A rule line by its names. Fault 29 where a target looks special and isn't known, 30 and 31.
 #[tactic(auto, unfolding(crate::specs::Rules::by_names))]
-fn with_names(
+fn add_by_names(
     spot: &Spot<'_>,
     default: bool,
-    state: State,
+    state: &mut State,
     targets: Vec<String>,
     words: Vec<String>,
     command: Option<&[u8]>,
-) -> Result<State, ReadFault>
-    ensures exact { Gives (λ state. state) result (by_names default (place_at spot.now) state (map string_bytes targets.items) (option_map (λ text. text.now) command.entry) (map string_bytes words.items)) }
+) -> Result<(), ReadFault>
+    ensures exact { Gives (λ done. state.new) result (by_names default (place_at spot.now) state.old (map string_bytes targets.items) (option_map (λ text. text.now) command.entry) (map string_bytes words.items)) }
     ensures own { IfErr result IsOfText }
 {
     if has_unknown(&targets) {
         return Err(ReadFault::UnknownSpecial(spot.place()?));
     }
     if let Some(special) = special_among(&targets) {
-        return with_special(spot, state, &targets, words, command.is_some(), special);
+        return add_special(spot, state, &targets, words, command.is_some(), special);
     }
-    let commands = match command {
-        Some(text) => Some(commands_behind(spot, text)?),
-        None => None,
-    };
+    let commands = commands_of(spot, command)?;
     let rule = Rule {
         targets,
         words,
@@ -294,14 +326,31 @@ fn with_names(
         place: spot.place()?,
         default,
     };
-    let lines = state.lines.with_rule(spot.alloc, rule)?;
-    Ok(State { lines, ..state })
+    push_rule(spot.alloc, state, rule)
 }
 
 impl State {
     /// A rule line: its targets are expanded and looked at, then its prerequisites. Where the targets
     /// expand to nothing, the rest and its commands are passed over.
     #[tactic(auto, unfolding(crate::specs::Rules::rule))]
+    fn add_rule(
+        &mut self,
+        spot: &Spot<'_>,
+        default: bool,
+        line: &RuleLine<'_>,
+    ) -> Result<(), ReadFault>
+        ensures exact { Gives (λ done. self.new) result (rule default (place_at spot.now) self.old (rule_view line.now)) }
+        ensures own { IfErr result IsOfText }
+    {
+        let targets = names_in(spot, &self.macros, line.targets)?;
+        if targets.is_empty() {
+            return Ok(self.own(Owner::PassedOver)?);
+        }
+        let words = names_in(spot, &self.macros, line.words)?;
+        add_by_names(spot, default, self, targets, words, line.command)
+    }
+
+    /// What is read after a rule line.
     pub(crate) fn with_rule(
         self,
         spot: &Spot<'_>,
@@ -311,11 +360,8 @@ impl State {
         ensures exact { Gives (λ state. state) result (rule default (place_at spot.now) self (rule_view line.now)) }
         ensures own { IfErr result IsOfText }
     {
-        let targets = names_in(spot, &self.macros, line.targets)?;
-        if targets.is_empty() {
-            return Ok(self.owned(Owner::PassedOver)?);
-        }
-        let words = names_in(spot, &self.macros, line.words)?;
-        with_names(spot, default, self, targets, words, line.command)
+        let mut state = self;
+        state.add_rule(spot, default, line)?;
+        Ok(state)
     }
 }

@@ -1,6 +1,6 @@
 //! What was read so far.
 
-ghost use Rattle.std.specs.Prelude.{◌≡◌, [], ◌∷◌, ◌++◌, length, map, nat_le, IfOk};
+ghost use Rattle.std.specs.Prelude.{◌≡◌, [], ◌∷◌, ◌++◌, length, map, nat_le, IfOk, OnOk};
 ghost use Rattle.std.specs.String.{string_bytes};
 ghost use Rattle.mk_read.specs.State.{nothing_read, last_rule, owned, Nobody};
 ghost use Rattle.mk_read.specs.Views.{IsBare, owner_view};
@@ -12,6 +12,7 @@ use mk_lines::Name;
 use mk_macros::MacroTable;
 use std::alloc::{AllocError, Global};
 use std::marker::Model;
+use std::mem;
 
 /// How many texts are read at most, the default text aside.
 const MAX_TEXTS: usize = 1024;
@@ -130,14 +131,25 @@ impl State {
         }
     }
 
+    /// Gives command lines another owner, which has none so far.
+    pub(crate) fn own(&mut self, owner: Owner) -> Result<(), AllocError>
+        requires { IsBare (owner_view owner) }
+        ensures { OnOk result (self.new ≡ record self.old { read = owned (owner_view owner) self.old.read }) }
+    {
+        let alloc = *self.texts.allocator();
+        let lines = mem::replace(&mut self.lines, RuleLines::new(alloc));
+        self.lines = lines.owned(owner)?;
+        Ok(())
+    }
+
     /// The same, with another owner of command lines, which has none so far.
     pub(crate) fn owned(self, owner: Owner) -> Result<State, AllocError>
         requires { IsBare (owner_view owner) }
         ensures { IfOk result (λ state. state ≡ record self { read = owned (owner_view owner) self.read }) }
     {
-        let state = self;
-        let lines = state.lines.owned(owner)?;
-        Ok(State { lines, ..state })
+        let mut state = self;
+        state.own(owner)?;
+        Ok(state)
     }
 
     /// Whether no text more may be read.
@@ -147,30 +159,28 @@ impl State {
         self.texts.len() >= MAX_TEXTS
     }
 
+    /// Notes a text more that is read.
+    fn note_text(&mut self, alloc: Global, file: &str) -> Result<(), AllocError>
+        ensures { OnOk result (self.new ≡ record self.old { texts = self.old.texts ++ file.now ∷ [] }) }
+    {
+        self.texts.push(String::from_str(alloc, file)?)?;
+        Ok(())
+    }
+
     /// The same, with a text more that is read.
     pub(crate) fn with_text(self, alloc: Global, file: &str) -> Result<State, AllocError>
         ensures { IfOk result (λ state. state ≡ record self { texts = self.texts ++ file.now ∷ [] }) }
     {
-        let state = self;
-        let texts = with_one_more(state.texts, String::from_str(alloc, file)?)?;
-        Ok(State { texts, ..state })
+        let mut state = self;
+        state.note_text(alloc, file)?;
+        Ok(state)
     }
 
-    /// The same, with a file more that isn't there and was passed over.
-    pub(crate) fn without_file(self, file: Name) -> Result<State, AllocError>
-        ensures { IfOk result (λ state. state ≡ record self { missing = self.missing ++ file ∷ [] }) }
+    /// Notes a file more that isn't there and was passed over.
+    pub(crate) fn note_missing(&mut self, file: Name) -> Result<(), AllocError>
+        ensures { OnOk result (self.new ≡ record self.old { missing = self.old.missing ++ file ∷ [] }) }
     {
-        let state = self;
-        let missing = with_one_more(state.missing, file.into_string())?;
-        Ok(State { missing, ..state })
+        self.missing.push(file.into_string())?;
+        Ok(())
     }
-}
-
-/// Names with one more behind them.
-fn with_one_more(names: Vec<String>, name: String) -> Result<Vec<String>, AllocError>
-    ensures { IfOk result (λ all. map string_bytes all.items ≡ map string_bytes names.items ++ string_bytes name ∷ []) }
-{
-    let mut all = names;
-    all.push(name)?;
-    Ok(all)
 }
