@@ -287,10 +287,7 @@ fn push_rule(alloc: Global, state: &mut State, rule: Rule) -> Result<(), ReadFau
 }
 
 /// The commands of a rule line: those behind its `;`, where it has one.
-fn commands_of(
-    spot: &Spot<'_>,
-    command: Option<&[u8]>,
-) -> Result<Option<Vec<Command>>, AllocError>
+fn commands_of(spot: &Spot<'_>, command: Option<&[u8]>) -> Result<Option<Vec<Command>>, AllocError>
     ensures { IfOk result (λ commands. option_map (λ commands. commands.items) commands ≡ option_map (commands_behind (place_at spot.now)) (option_map (λ text. text.now) command.entry)) }
 {
     match command {

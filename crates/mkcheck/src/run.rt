@@ -1,6 +1,6 @@
 //! A run of the program, from the words of its command line to what it writes.
 
-ghost use Rattle.std.specs.Prelude.{ℕ, List, Option, length, ◌≡◌, ◌≢◌, ◌<◌, ◌^◌, ◌-◌, [], true, codes, map, unwrap_or, IfOk};
+ghost use Rattle.std.specs.Prelude.{ℕ, List, Option, length, ◌≡◌, ◌≢◌, ◌<◌, ◌^◌, ◌-◌, [], true, codes, map, unwrap_or, Err, IfOk};
 ghost use Rattle.std.specs.Option.{option_map_or};
 ghost use Rattle.clap.specs.Words.{all_of, first_of, found_of, has_subcommand, kind_of, rows_of, subcommand_rows_of};
 ghost use Rattle.mk_core.specs.Words.{goals_of, operands_of};
@@ -33,29 +33,33 @@ pub struct Outcome {
     pub status: u8,
 }
 
+// What shows a refusal.
+fn refused(alloc: Global, fault: &Fault) -> Result<Outcome, AllocError>
+    ensures { IfOk result (λ outcome. Shows (Err fault.now) (written outcome)) }
+{
+    if fault.is_want_of_memory() {
+        return Err(AllocError);
+    }
+    let mut out = fault_text(alloc, fault)?;
+    out.push(b'\n')?;
+    Ok(Outcome {
+        out,
+        err: String::new(alloc),
+        status: REFUSED,
+    })
+}
+
 // What shows an answer.
 fn shown(alloc: Global, answer: Result<Vec<u8>, Fault>) -> Result<Outcome, AllocError>
     ensures { IfOk result (λ outcome. Shows (seen (λ text. text.items) answer) (written outcome)) }
 {
-    let err = String::new(alloc);
     match answer {
         Ok(out) => Ok(Outcome {
             out,
-            err,
+            err: String::new(alloc),
             status: DONE,
         }),
-        Err(fault) => {
-            if fault.is_want_of_memory() {
-                return Err(AllocError);
-            }
-            let mut out = fault_text(alloc, &fault)?;
-            out.push(b'\n')?;
-            Ok(Outcome {
-                out,
-                err,
-                status: REFUSED,
-            })
-        }
+        Err(fault) => refused(alloc, &fault),
     }
 }
 
