@@ -8,6 +8,7 @@ use mk_graph::Graph;
 use mk_lines::{Name, NameTable, Prefixes};
 use mk_read::{Makefile, MemFiles, read_makefile};
 use std::alloc::{AllocError, Global};
+use std::process::Abort;
 use std::test::Fail;
 
 /// A file `makefile` of this text.
@@ -86,22 +87,40 @@ fn shown(alloc: Global, graph: &Graph) -> Result<Vec<u8>, AllocError> {
     Ok(out)
 }
 
-/// What is shown of the graph of a text's goals, or the words of the fault.
+/// What is shown of the graph of a table's goals, or the words of the fault.
+fn graph_shown(
+    alloc: Global,
+    table: &RuleTable<'_>,
+    exists: &Exists,
+    goals: &[Name],
+) -> Result<Vec<u8>, Fail> {
+    match selected(alloc, table, exists, goals) {
+        Ok(graph) => Ok(shown(alloc, &graph)?),
+        Err(fault) => Ok(fault_words(alloc, &fault)?),
+    }
+}
+
+/// The same of a makefile's goals.
+fn makefile_graph(
+    alloc: Global,
+    makefile: &Makefile,
+    exists: &Exists,
+    goals: &[Name],
+) -> Result<Vec<u8>, Fail> {
+    let table = RuleTable::new(alloc, makefile)?;
+    graph_shown(alloc, &table, exists, goals)
+}
+
+/// The same of a text's goals.
 fn graph_of(
     alloc: Global,
     text: &[u8],
     defaults: bool,
     exists: &Exists,
-    goal: &str,
+    goals: &[Name],
 ) -> Result<Vec<u8>, Fail> {
     let makefile = makefile(alloc, text, defaults, "CC=cc")?;
-    let table = RuleTable::new(alloc, &makefile)?;
-    let given = [Name::new(alloc, goal)?];
-    let words: &[Name] = if goal.is_empty() { &[] } else { &given };
-    match selected(alloc, &table, exists, words) {
-        Ok(graph) => Ok(shown(alloc, &graph)?),
-        Err(fault) => Ok(fault_words(alloc, &fault)?),
-    }
+    makefile_graph(alloc, &makefile, exists, goals)
 }
 
 fn selected(
@@ -172,7 +191,7 @@ fn infers_from_a_suffix(rt: HostRuntime) -> Result<(), Fail> {
         (b"a: b\nb: a\n", true, b"graph"),
     ] {
         assert_eq!(rt;
-            graph_of(alloc, text, defaults, &exists, "")?.as_slice(),
+            graph_of(alloc, text, defaults, &exists, &[])?.as_slice(),
             expected
         );
     }
@@ -202,7 +221,7 @@ fn names_without_a_rule_are_given(rt: HostRuntime) -> Result<(), Fail> {
     ] {
         let exists = exists(alloc, false, sources, fixed)?;
         assert_eq!(rt;
-            graph_of(alloc, text, true, &exists, "")?.as_slice(),
+            graph_of(alloc, text, true, &exists, &[])?.as_slice(),
             expected
         );
     }
@@ -220,7 +239,7 @@ fn goals_are_names(rt: HostRuntime) -> Result<(), Fail> {
         ("a(b)", b"28 1"),
     ] {
         assert_eq!(rt;
-            graph_of(alloc, PROGRAM, true, &exists, goal)?.as_slice(),
+            graph_of(alloc, PROGRAM, true, &exists, &[Name::new(alloc, goal)?])?.as_slice(),
             expected
         );
     }
@@ -253,12 +272,17 @@ fn told(
     }
 }
 
+/// The commands of a name in a makefile.
+fn makefile_commands(alloc: Global, makefile: &Makefile, name: &str) -> Result<Vec<u8>, Fail> {
+    let exists = exists(alloc, true, "", "")?;
+    let table = RuleTable::new(alloc, makefile)?;
+    told(alloc, &table, &exists, name)
+}
+
 /// The commands of a name in a makefile of this text.
 fn commands_text(alloc: Global, text: &[u8], name: &str) -> Result<Vec<u8>, Fail> {
-    let exists = exists(alloc, true, "", "")?;
     let makefile = makefile(alloc, text, true, "CC=cc")?;
-    let table = RuleTable::new(alloc, &makefile)?;
-    told(alloc, &table, &exists, name)
+    makefile_commands(alloc, &makefile, name)
 }
 
 #[test]
@@ -304,22 +328,24 @@ fn has_choice(
     Ok(is_name(found, wanted))
 }
 
-#[test]
-fn choices_are_names_that_are_there(rt: HostRuntime) -> Result<(), Fail> {
-    let alloc = rt.alloc();
+/// Sees that a name that is there is chosen.
+fn see_choices(rt: &impl Abort, alloc: Global, makefile: &Makefile) -> Result<(), Fail> {
     let exists = exists(alloc, false, "s", "f/")?;
-    let makefile = makefile(alloc, OBJECT, true, "CC=cc")?;
-    let table = RuleTable::new(alloc, &makefile)?;
+    let table = RuleTable::new(alloc, makefile)?;
     assert!(rt; has_choice(alloc, &table, &exists, "a.o", "a.c")?);
     assert!(rt; !has_choice(alloc, &table, &exists, "a.c", "a.c")?);
     Ok(())
 }
 
 #[test]
-fn names_are_looked_up(rt: HostRuntime) -> Result<(), Fail> {
-    let alloc = rt.alloc();
-    let makefile = makefile(alloc, OBJECT, true, "CC=cc")?;
-    let table = RuleTable::new(alloc, &makefile)?;
+fn choices_are_names_that_are_there(rt: HostRuntime) -> Result<(), Fail> {
+    let makefile = makefile(rt.alloc(), OBJECT, true, "CC=cc")?;
+    see_choices(&rt, rt.alloc(), &makefile)
+}
+
+/// Sees what rule lines give a name.
+fn see_names(rt: &impl Abort, alloc: Global, makefile: &Makefile) -> Result<(), Fail> {
+    let table = RuleTable::new(alloc, makefile)?;
     let target = table.target("a.o");
     assert!(rt; is_name(target, "a.o"));
     assert!(rt; table.target(".c.o").is_none());
@@ -331,10 +357,14 @@ fn names_are_looked_up(rt: HostRuntime) -> Result<(), Fail> {
 }
 
 #[test]
-fn tables_tell_of_rules(rt: HostRuntime) -> Result<(), Fail> {
-    let alloc = rt.alloc();
-    let makefile = makefile(alloc, OBJECT, true, "CC=cc")?;
-    let table = RuleTable::new(alloc, &makefile)?;
+fn names_are_looked_up(rt: HostRuntime) -> Result<(), Fail> {
+    let makefile = makefile(rt.alloc(), OBJECT, true, "CC=cc")?;
+    see_names(&rt, rt.alloc(), &makefile)
+}
+
+/// Sees what a table tells of its makefile.
+fn see_rules(rt: &impl Abort, alloc: Global, makefile: &Makefile) -> Result<(), Fail> {
+    let table = RuleTable::new(alloc, makefile)?;
     assert!(rt; table.is_inference_name(".c.o"));
     assert!(rt; !table.is_phony("a.o"));
     assert!(rt; !table.not_parallel());
@@ -343,6 +373,12 @@ fn tables_tell_of_rules(rt: HostRuntime) -> Result<(), Fail> {
     assert!(rt; table.rule_commands(".c.o").is_some());
     assert!(rt; table.own_commands("a.o").is_none());
     Ok(())
+}
+
+#[test]
+fn tables_tell_of_rules(rt: HostRuntime) -> Result<(), Fail> {
+    let makefile = makefile(rt.alloc(), OBJECT, true, "CC=cc")?;
+    see_rules(&rt, rt.alloc(), &makefile)
 }
 
 #[test]
