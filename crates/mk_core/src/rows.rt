@@ -32,29 +32,28 @@ pub struct Asked {
     pub commands: bool,
 }
 
-/// What these words of a command line ask, with the options first: `-r`, `-c`, `-b` and a name.
-pub fn asked(alloc: Global, words: &str) -> Result<Asked, Fail> {
+/// What these words of a command line ask: `-r`, `-c`, `-b` and a name, operands and goals.
+pub fn asked_by(alloc: Global, words: &str) -> Result<Asked, Fail> {
     let mut asked = Asked {
-        request: request(alloc, None, words)?,
+        request: request(alloc, None, "")?,
         commands: false,
     };
-    let mut left: Vec<&str> = words.split_whitespace().collect(alloc)?;
-    left.reverse();
-    while left
-        .last()
-        .is_some_and(|word| word.len() > 1 && word.starts_with("-"))
-    {
-        match left.pop() {
-            Some("-r") => asked.request.defaults = false,
-            Some("-c") => asked.commands = true,
-            _ => {
-                let name = left.pop().unwrap_or("");
-                asked.request.book = Some(Name::new(alloc, name)?);
-            }
+    let mut others: Vec<&str> = Vec::new(alloc);
+    let mut is_book = false;
+    for word in words.split_whitespace() {
+        if is_book {
+            asked.request.book = Some(Name::new(alloc, word)?);
+            is_book = false;
+            continue;
+        }
+        match word {
+            "-r" => asked.request.defaults = false,
+            "-c" => asked.commands = true,
+            "-b" => is_book = true,
+            other => others.push(other)?,
         }
     }
-    left.reverse();
-    let (operands, goals) = split_words(alloc, &left)?;
+    let (operands, goals) = split_words(alloc, &others)?;
     asked.request.operands = operands;
     asked.request.goals = goals;
     Ok(asked)
@@ -135,7 +134,7 @@ pub fn files_of(alloc: Global, fields: &[&str]) -> Result<MemFiles, Fail>
 pub fn over_row(alloc: Global, fields: &[&str]) -> Result<String, Fail> {
     let mut files = files_of(alloc, fields)?;
     let words = field(alloc, fields, 1)?;
-    printed(alloc, &mut files, &asked(alloc, words.as_str())?)
+    printed(alloc, &mut files, &asked_by(alloc, words.as_str())?)
 }
 
 /// Expects what the third field of a row says to be printed.
