@@ -111,16 +111,10 @@ fn makefile_graph(
     graph_shown(alloc, &table, exists, goals)
 }
 
-/// The same of a text's goals.
-fn graph_of(
-    alloc: Global,
-    text: &[u8],
-    defaults: bool,
-    exists: &Exists,
-    goals: &[Name],
-) -> Result<Vec<u8>, Fail> {
-    let makefile = makefile(alloc, text, defaults, "CC=cc")?;
-    makefile_graph(alloc, &makefile, exists, goals)
+/// The same of a text's first goal.
+fn graph_of(alloc: Global, text: &[u8], exists: &Exists) -> Result<Vec<u8>, Fail> {
+    let makefile = makefile(alloc, text, true, "CC=cc")?;
+    makefile_graph(alloc, &makefile, exists, &[])
 }
 
 fn selected(
@@ -148,105 +142,94 @@ fn fault_words(alloc: Global, fault: &InferFault) -> Result<Vec<u8>, Fail> {
     Ok(text.into_bytes())
 }
 
-/// A program of one object, whose source is a target.
-const PROGRAM: &[u8] = b"p: a.o\n\t$(CC) -o $@ $^\na.o:\na.c:\n";
+/// A text of a row, in which `¶` stands for a newline and `→` for a tab.
+fn unfolded(alloc: Global, text: &str) -> Result<String, Fail> {
+    let mut out = String::new(alloc);
+    for c in text.chars() {
+        match c {
+            '¶' => out.push('\n')?,
+            '→' => out.push('\t')?,
+            other => out.push(other)?,
+        }
+    }
+    Ok(out)
+}
 
-#[test]
-fn infers_from_a_suffix(rt: HostRuntime) -> Result<(), Fail> {
-    let alloc = rt.alloc();
-    let exists = exists(alloc, true, "", "")?;
-    for (text, defaults, expected) in [
-        (PROGRAM, true, b"p!| a.o\na.o!| a.c\na.c\n".as_slice()),
-        (PROGRAM, false, b"p!| a.o\na.o\n"),
-        (
-            b".SUFFIXES: .s\n.s.o:\n\tas -o $@ $<\nx.o:\nx.s:\nx.c:\n",
-            true,
-            b"x.o!| x.c\nx.c\n",
-        ),
-        (b"prog:\nprog.c:\n", true, b"prog!| prog.c\nprog.c\n"),
-        (b"a.c:\na.c.sh:\n", true, b"a.c\n"),
-        (b"a.b.o:\na.b.c:\n", true, b"a.b.o!| a.b.c\na.b.c\n"),
-        (b"a.o:;\na.c:\n", true, b"a.o\n"),
-        (b"a.o: a.c\na.c:\n", true, b"a.o!| a.c a.c\na.c\n"),
-        (b".PHONY: a.o\na.o:\na.c:\n", true, b"a.o*\n"),
-        (
-            b"p.o:\np.y:\n.y.c:\n\tyacc $<\n.SUFFIXES: .y\n",
-            true,
-            b"p.o\n",
-        ),
-        (
-            b"a.o: b .WAIT c\na.c:\n",
-            true,
-            b"a.o!| a.c b| c\na.c\nb\nc\n",
-        ),
-        (b"a.o: .WAIT b\na.c:\n", true, b"a.o!| a.c b\na.c\nb\n"),
-        (
-            b".NOTPARALLEL:\na.o: b c\na.c:\n",
-            true,
-            b"a.o!| a.c| b| c\na.c\nb\nc\n",
-        ),
-        (b".c.o: .WAIT\na:\n", true, b"a\n"),
-        (b".c.o: x\na:\n", true, b"45 1"),
-        (b".c.o:\n\tcc\n", true, b"44"),
-        (b"a: b\nb: a\n", true, b"graph"),
-    ] {
-        assert_eq!(rt;
-            graph_of(alloc, text, defaults, &exists, &[])?.as_slice(),
-            expected
-        );
+/// What stands in a row, between `‖`.
+fn fields_of(alloc: Global, row: &str) -> Result<Vec<&str>, Fail> {
+    Ok(row.split("‖").collect(alloc)?)
+}
+
+/// A field of a row, with its newlines and tabs.
+fn field(alloc: Global, fields: &[&str], at: usize) -> Result<String, Fail> {
+    match fields.get(at) {
+        Some(text) => unfolded(alloc, text),
+        None => Ok(String::new(alloc)),
+    }
+}
+
+/// What is shown of the graph of a row's makefile.
+fn graph_of_row(alloc: Global, exists: &Exists, fields: &[&str]) -> Result<Vec<u8>, Fail> {
+    let text = field(alloc, fields, 0)?;
+    graph_of(alloc, text.as_bytes(), exists)
+}
+
+/// Expects the second field of a row to be shown.
+fn expect_graph(rt: &impl Abort, alloc: Global, exists: &Exists, row: &str) -> Result<(), Fail> {
+    let fields = fields_of(alloc, row)?;
+    let got = graph_of_row(alloc, exists, &fields)?;
+    let wanted = field(alloc, &fields, 1)?;
+    assert_eq!(rt; got.as_slice(), wanted.as_bytes(), "over {row:?}");
+    Ok(())
+}
+
+/// Each line of the table is a row.
+fn expect_graphs(rt: &impl Abort, alloc: Global, exists: &Exists, table: &str) -> Result<(), Fail> {
+    for row in table.lines() {
+        expect_graph(rt, alloc, exists, row)?;
     }
     Ok(())
 }
 
-#[test]
-fn names_without_a_rule_are_given(rt: HostRuntime) -> Result<(), Fail> {
-    let alloc = rt.alloc();
-    for (text, sources, fixed, expected) in [
-        (
-            b"p: a.o\n".as_slice(),
-            "a.c",
-            "",
-            b"p| a.o\na.o!| a.c\na.c\n".as_slice(),
-        ),
-        (b"p: a.o\n", "", "", b"41 a.o"),
-        (b"p: a.c b.c\n", "a.c", "", b"41 b.c"),
-        (b"p: makefile\n", "", "", b"p| makefile\nmakefile\n"),
-        (
-            b"p: /usr/a.o\n",
-            "/usr/a.c",
-            "/usr/",
-            b"p| /usr/a.o\n/usr/a.o\n",
-        ),
-        (b".PHONY: q\np: q\n", "", "", b"p| q\nq*\n"),
-    ] {
-        let exists = exists(alloc, false, sources, fixed)?;
-        assert_eq!(rt;
-            graph_of(alloc, text, true, &exists, &[])?.as_slice(),
-            expected
-        );
-    }
-    Ok(())
-}
+/// Makefiles behind the default text, and what is shown of their first goal.
+const GRAPHS: &str = r"p: a.o¶→$(CC) -o $@ $^¶a.o:¶a.c:‖p!| a.o¶a.o!| a.c¶a.c¶
+.SUFFIXES: .s¶.s.o:¶→as -o $@ $<¶x.o:¶x.s:¶x.c:‖x.o!| x.c¶x.c¶
+prog:¶prog.c:‖prog!| prog.c¶prog.c¶
+a.c:¶a.c.sh:‖a.c¶
+a.b.o:¶a.b.c:‖a.b.o!| a.b.c¶a.b.c¶
+a.o:;¶a.c:‖a.o¶
+a.o: a.c¶a.c:‖a.o!| a.c a.c¶a.c¶
+.PHONY: a.o¶a.o:¶a.c:‖a.o*¶
+p.o:¶p.y:¶.y.c:¶→yacc $<¶.SUFFIXES: .y‖p.o¶
+a.o: b .WAIT c¶a.c:‖a.o!| a.c b| c¶a.c¶b¶c¶
+a.o: .WAIT b¶a.c:‖a.o!| a.c b¶a.c¶b¶
+.NOTPARALLEL:¶a.o: b c¶a.c:‖a.o!| a.c| b| c¶a.c¶b¶c¶
+.c.o: .WAIT¶a:‖a¶
+.c.o: x¶a:‖45 1
+.c.o:¶→cc‖44
+a: b¶b: a‖graph";
 
 #[test]
-fn goals_are_names(rt: HostRuntime) -> Result<(), Fail> {
-    let alloc = rt.alloc();
-    let exists = exists(alloc, true, "", "")?;
-    for (goal, expected) in [
-        ("a.c", b"a.c\n".as_slice()),
-        ("a%b", b"27 1"),
-        (".WAIT", b"27 1"),
-        ("a(b)", b"28 1"),
-    ] {
-        assert_eq!(rt;
-            graph_of(alloc, PROGRAM, true, &exists, &[Name::new(alloc, goal)?])?.as_slice(),
-            expected
-        );
-    }
-    Ok(())
+fn selects_graphs(rt: HostRuntime) -> Result<(), Fail> {
+    let exists = exists(rt.alloc(), true, "", "")?;
+    expect_graphs(&rt, rt.alloc(), &exists, GRAPHS)
 }
 
-/// Commands, each behind a newline.
+/// The same where `a.c` is the one source, and what begins with `/usr/` is fixed.
+const GIVEN: &str = r"p: a.o‖p| a.o¶a.o!| a.c¶a.c¶
+p: b.o‖41 b.o
+p: a.c b.c‖41 b.c
+p: makefile‖p| makefile¶makefile¶
+p: /usr/a.o¶/usr/a.c:‖p| /usr/a.o¶/usr/a.o¶
+.PHONY: q¶p: q‖p| q¶q*¶";
+
+#[test]
+fn minds_what_is_given(rt: HostRuntime) -> Result<(), Fail> {
+    let exists = exists(rt.alloc(), false, "a.c", "/usr/")?;
+    expect_graphs(&rt, rt.alloc(), &exists, GIVEN)
+}
+
+/// Commands, each behind a newline; before them `?` where they vary.
 fn lines_text(alloc: Global, found: &Commands) -> Result<Vec<u8>, AllocError> {
     let mut out = Vec::new(alloc);
     if found.varying {
@@ -272,50 +255,6 @@ fn told(
     }
 }
 
-/// The commands of a name in a makefile.
-fn makefile_commands(alloc: Global, makefile: &Makefile, name: &str) -> Result<Vec<u8>, Fail> {
-    let exists = exists(alloc, true, "", "")?;
-    let table = RuleTable::new(alloc, makefile)?;
-    told(alloc, &table, &exists, name)
-}
-
-/// The commands of a name in a makefile of this text.
-fn commands_text(alloc: Global, text: &[u8], name: &str) -> Result<Vec<u8>, Fail> {
-    let makefile = makefile(alloc, text, true, "CC=cc")?;
-    makefile_commands(alloc, &makefile, name)
-}
-
-#[test]
-fn commands_are_expanded(rt: HostRuntime) -> Result<(), Fail> {
-    let alloc = rt.alloc();
-    for (text, name, expected) in [
-        (PROGRAM, "a.o", b"\ncc -O1 -c a.c".as_slice()),
-        (PROGRAM, "p", b"\ncc -o p a.o"),
-        (PROGRAM, "a.c", b""),
-        (
-            b"X = 1\nd/a.o: b b\n\techo $* $< $^ $+ $(X)\nX = 2\n",
-            "d/a.o",
-            b"\necho d/a b b b b 2",
-        ),
-        (b"a:\n\techo $?\n", "a", b"?\necho "),
-        (b"a:\n\techo 1\n\techo $\n", "a", b"macro 3"),
-    ] {
-        assert_eq!(rt; commands_text(alloc, text, name)?.as_slice(), expected);
-    }
-    Ok(())
-}
-
-/// Whether this name was found.
-fn is_name(found: Option<&str>, name: &str) -> bool {
-    match found {
-        Some(text) => text == name,
-        None => false,
-    }
-}
-
-/// A makefile with an object in two rule lines, and its source.
-const OBJECT: &[u8] = b"a.o: b c\na.o: .WAIT d\na.c:\n";
-
 /// Whether a name has this inferred prerequisite.
 fn has_choice(
     alloc: Global,
@@ -324,89 +263,50 @@ fn has_choice(
     name: &str,
     wanted: &str,
 ) -> Result<bool, AllocError> {
-    let found = choice(alloc, table, exists, name)?;
-    Ok(is_name(found, wanted))
+    match choice(alloc, table, exists, name)? {
+        Some(found) => Ok(found == wanted),
+        None => Ok(false),
+    }
 }
 
-/// Sees that a name that is there is chosen.
-fn see_choices(rt: &impl Abort, alloc: Global, makefile: &Makefile) -> Result<(), Fail> {
-    let exists = exists(alloc, false, "s", "f/")?;
+/// A makefile whose last line defines a macro of its commands.
+const OBJECT: &[u8] = b"d/a.o: b b\n\techo $* $< $^ $+ $(X)\nb.o:\nb.c:\nX = 2\n";
+
+/// Sees the commands of two names, and the inferred prerequisite of one.
+fn see_commands(
+    rt: &impl Abort,
+    alloc: Global,
+    table: &RuleTable<'_>,
+    exists: &Exists,
+) -> Result<(), Fail> {
+    let own = told(alloc, table, exists, "d/a.o")?;
+    assert_eq!(rt; own.as_slice(), b"\necho d/a b b b b 2".as_slice());
+    let inferred = told(alloc, table, exists, "b.o")?;
+    assert_eq!(rt; inferred.as_slice(), b"\ncc -O1 -c b.c".as_slice());
+    assert!(rt; has_choice(alloc, table, exists, "b.o", "b.c")?);
+    assert!(rt; !has_choice(alloc, table, exists, "b.c", "b.c")?);
+    Ok(())
+}
+
+/// The same over a makefile.
+fn see_makefile(
+    rt: &impl Abort,
+    alloc: Global,
+    makefile: &Makefile,
+    exists: &Exists,
+) -> Result<(), Fail> {
     let table = RuleTable::new(alloc, makefile)?;
-    assert!(rt; has_choice(alloc, &table, &exists, "a.o", "a.c")?);
-    assert!(rt; !has_choice(alloc, &table, &exists, "a.c", "a.c")?);
-    Ok(())
+    see_commands(rt, alloc, &table, exists)
+}
+
+/// The same over a text.
+fn see_text(rt: &impl Abort, alloc: Global, text: &[u8], exists: &Exists) -> Result<(), Fail> {
+    let makefile = makefile(alloc, text, true, "CC=cc")?;
+    see_makefile(rt, alloc, &makefile, exists)
 }
 
 #[test]
-fn choices_are_names_that_are_there(rt: HostRuntime) -> Result<(), Fail> {
-    let makefile = makefile(rt.alloc(), OBJECT, true, "CC=cc")?;
-    see_choices(&rt, rt.alloc(), &makefile)
-}
-
-/// Sees what rule lines give a name.
-fn see_names(rt: &impl Abort, alloc: Global, makefile: &Makefile) -> Result<(), Fail> {
-    let table = RuleTable::new(alloc, makefile)?;
-    let target = table.target("a.o");
-    assert!(rt; is_name(target, "a.o"));
-    assert!(rt; table.target(".c.o").is_none());
-    let words = table.words_for(alloc, "a.o")?;
-    assert_eq!(rt; words.as_slice(), ["b", "c", ".WAIT", "d"].as_slice());
-    let names = table.prerequisites_of(alloc, "a.o")?;
-    assert_eq!(rt; names.as_slice(), ["b", "c", "d"].as_slice());
-    Ok(())
-}
-
-#[test]
-fn names_are_looked_up(rt: HostRuntime) -> Result<(), Fail> {
-    let makefile = makefile(rt.alloc(), OBJECT, true, "CC=cc")?;
-    see_names(&rt, rt.alloc(), &makefile)
-}
-
-/// Sees what a table tells of its makefile.
-fn see_rules(rt: &impl Abort, alloc: Global, makefile: &Makefile) -> Result<(), Fail> {
-    let table = RuleTable::new(alloc, makefile)?;
-    assert!(rt; table.is_inference_name(".c.o"));
-    assert!(rt; !table.is_phony("a.o"));
-    assert!(rt; !table.not_parallel());
-    assert_eq!(rt; table.rules().len(), 6);
-    assert_eq!(rt; table.suffixes().len(), 3);
-    assert!(rt; table.rule_commands(".c.o").is_some());
-    assert!(rt; table.own_commands("a.o").is_none());
-    Ok(())
-}
-
-#[test]
-fn tables_tell_of_rules(rt: HostRuntime) -> Result<(), Fail> {
-    let makefile = makefile(rt.alloc(), OBJECT, true, "CC=cc")?;
-    see_rules(&rt, rt.alloc(), &makefile)
-}
-
-#[test]
-fn files_are_given(rt: HostRuntime) -> Result<(), Fail> {
-    let alloc = rt.alloc();
-    let exists = exists(alloc, false, "s", "f/")?;
-    assert!(rt; exists.is_given("s"));
-    assert!(rt; exists.is_given("f/x"));
-    assert!(rt; !exists.is_given("a.c"));
-    let source = exists.listed("s");
-    assert!(rt; is_name(source, "s"));
-    assert!(rt; exists.listed("f/x").is_none());
-    Ok(())
-}
-
-#[test]
-fn sets_hold_names_once(rt: HostRuntime) -> Result<(), Fail> {
-    let mut set = NameSet::new(rt.alloc());
-    assert!(rt; set.insert("b")?);
-    assert!(rt; set.insert("a")?);
-    assert!(rt; !set.insert("b")?);
-    assert_eq!(rt; set.as_slice(), ["b", "a"].as_slice());
-    let found = set.get("a");
-    assert!(rt; is_name(found, "a"));
-    let none = set.get("c");
-    assert!(rt; none.is_none());
-    assert_eq!(rt; set.number_of("a"), 1);
-    assert_eq!(rt; set.number_of("c"), 2);
-    assert!(rt; set.contains("a") && !set.contains("c"));
-    Ok(())
+fn expands_commands(rt: HostRuntime) -> Result<(), Fail> {
+    let exists = exists(rt.alloc(), true, "", "")?;
+    see_text(&rt, rt.alloc(), OBJECT, &exists)
 }
