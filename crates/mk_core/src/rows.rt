@@ -3,8 +3,8 @@
 ghost use Rattle.std.specs.Prelude.{◌≡◌, ◌<◌, ◌-◌, ◌^◌, IfOk};
 ghost use Rattle.mk_core.specs.MemFiles.{failures_of};
 
-use crate::{MemFiles, Name, Request, fault_text, graph_text, split_words};
-use std::alloc::Global;
+use crate::{Fault, MemFiles, Name, Request, fault_text, graph_text, split_words};
+use std::alloc::{AllocError, Global};
 use std::process::Abort;
 use std::test::Fail;
 
@@ -59,24 +59,31 @@ pub fn asked_by(alloc: Global, words: &str) -> Result<Asked, Fail> {
     Ok(asked)
 }
 
+/// The text of an answer, or the line of its fault.
+fn bytes_of(alloc: Global, answer: Result<Vec<u8>, Fault>) -> Result<Vec<u8>, AllocError> {
+    match answer {
+        Ok(text) => Ok(text),
+        Err(fault) => fault_text(alloc, &fault),
+    }
+}
+
 /// What is printed over these files: the graph's text, or the words of the fault.
 pub fn printed(alloc: Global, files: &mut MemFiles, asked: &Asked) -> Result<String, Fail>
     requires { failures_of files.old < 2 ^ 64 - 1 }
 {
-    match graph_text(alloc, files, &asked.request, asked.commands) {
-        Ok(text) => Ok(String::from_utf8(text)?),
-        Err(fault) => Ok(String::from_utf8(fault_text(alloc, &fault)?)?),
-    }
+    let bytes = bytes_of(
+        alloc,
+        graph_text(alloc, files, &asked.request, asked.commands),
+    )?;
+    Ok(String::from_utf8(bytes)?)
 }
 
 /// The same, with the commands left out.
 pub fn answer(alloc: Global, files: &mut MemFiles, request: &Request) -> Result<String, Fail>
     requires { failures_of files.old < 2 ^ 64 - 1 }
 {
-    match graph_text(alloc, files, request, false) {
-        Ok(text) => Ok(String::from_utf8(text)?),
-        Err(fault) => Ok(String::from_utf8(fault_text(alloc, &fault)?)?),
-    }
+    let bytes = bytes_of(alloc, graph_text(alloc, files, request, false))?;
+    Ok(String::from_utf8(bytes)?)
 }
 
 /// What is printed over a `makefile` of this text.
