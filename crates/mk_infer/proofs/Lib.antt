@@ -13,7 +13,6 @@ pub mod Walks
 pub mod Walking
 pub mod RuleNeeds
 pub mod Inferable
-pub mod Places
 pub mod FirstFound
 pub mod Making
 pub mod CommandRecipes

@@ -1,7 +1,6 @@
 //! The files that are there before a make.
 
 ghost use Rattle.std.specs.Prelude.{◌≡◌, true, false, ◌||◌, MatchOption};
-ghost use Rattle.mk_lines.specs.Names.{has_name};
 ghost use Rattle.mk_infer.specs.Table.{is_listed};
 ghost use Rattle.mk_infer.specs.There.{is_given};
 
@@ -33,16 +32,6 @@ impl Model for Exists {
     ghost view = { λ e. record { any_leaf = e.any_leaf; sources = e.sources; fixed = e.fixed; texts = e.texts; more = e.more } };
 }
 
-/// The name itself, where it stands in a table.
-fn found_in<'a>(table: &'a NameTable, name: &str) -> Option<&'a str>
-    ensures { MatchOption result (has_name table.now name.now ≡ false) (λ found. (found.now ≡ name.now) × (has_name table.now name.now ≡ true)) }
-{
-    match table.place(name) {
-        Some(place) => Some(table.as_slice()[place].as_str()),
-        None => None,
-    }
-}
-
 impl Exists {
     /// Whether a name is given: a source, a text of the makefile, or under a fixed prefix.
     pub(crate) fn is_given(&self, name: &str) -> bool
@@ -55,12 +44,12 @@ impl Exists {
     pub(crate) fn listed(&self, name: &str) -> Option<&str>
         ensures { MatchOption result (is_listed self.now name.now ≡ false) (λ found. (found.now ≡ name.now) × (is_listed self.now name.now ≡ true)) }
     {
-        if let Some(found) = found_in(&self.sources, name) {
+        if let Some(found) = self.sources.get(name) {
             return Some(found);
         }
-        if let Some(found) = found_in(&self.texts, name) {
+        if let Some(found) = self.texts.get(name) {
             return Some(found);
         }
-        found_in(&self.more, name)
+        self.more.get(name)
     }
 }

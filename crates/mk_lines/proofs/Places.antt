@@ -1,5 +1,5 @@
 -- Places of names.
-use Rattle.std.proofs.Common.{◌≡◌, ℕ, suc, ◌+◌, ◌<◌, ◌≤◌, Bool, true, false, ◌||◌, cond, List, [], ◌∷◌, ◌++◌, length, Option, Some, None, refl, sym, ap, ◌∙◌, arith, inl, inr, true≢false, map, get_or, take, String, Global, string_bytes, length-take-le}
+use Rattle.std.proofs.Common.{◌-◌, ◌≡◌, ℕ, suc, ◌+◌, ◌<◌, ◌≤◌, Bool, true, false, ◌||◌, cond, List, [], ◌∷◌, ◌++◌, length, Option, Some, None, refl, sym, ap, ◌∙◌, arith, inl, inr, true≢false, map, get_or, take, String, Global, string_bytes, length-take-le}
 use Rattle.std.proofs.lemmas.Bool.{cases_Bool, false_from_ne_true, both_ways}
 use Rattle.std.proofs.lemmas.Slice.Eq.{bytes_eq-Decides}
 use Rattle.std.proofs.lemmas.List.{take_more, map_push, length-map}
@@ -84,3 +84,25 @@ next_place before after names i d name q is noted so_far lt =
 pub none_placed : (o : Option ℕ) (q : List ℕ) → o ≡ None → o ≡ place_from 0 [] q
 unfolding place_from
 none_placed o q e = e
+
+-- the name stands at its place
+named_from : (n : ℕ) (names : List (List ℕ)) (name : List ℕ) (place : ℕ) (d : List ℕ) → place_from n names name ≡ Some place → (n ≤ place) × (get_or names (place - n) d ≡ name)
+unfolding place_from
+named_from n [] name place d h = absurd cc
+named_from n (other ∷ names) name place d h = at (bytes_eq name other) refl h (named_from (n + 1) names name place d)
+  where
+    at : (b : Bool) → bytes_eq name other ≡ b → cond b (Some n) (place_from (n + 1) names name) ≡ Some place → (place_from (n + 1) names name ≡ Some place → (n + 1 ≤ place) × (get_or names (place - (n + 1)) d ≡ name)) → (n ≤ place) × (get_or (other ∷ names) (place - n) d ≡ name)
+    at true e k ih =
+        let here : n ≡ place = cc in
+        let none : place - n ≡ 0 = omega arith in
+        (omega arith, ap (λ i. get_or (other ∷ names) i d) none ∙ sym ((bytes_eq-Decides name other).0 e))
+    at false e k ih =
+        let deeper = ih k in
+        let le = deeper.0 in
+        let more : place - n ≡ suc (place - (n + 1)) = omega arith in
+        (omega arith, ap (λ i. get_or (other ∷ names) i d) more ∙ deeper.1)
+
+pub named_at : (names : List (List ℕ)) (name : List ℕ) (place : ℕ) (d : List ℕ) → place_from 0 names name ≡ Some place → get_or names place d ≡ name
+named_at names name place d h =
+    let same : place - 0 ≡ place = omega arith in
+    ap (λ i. get_or names i d) (sym same) ∙ (named_from 0 names name place d h).1

@@ -20,7 +20,7 @@ pub fn cut(text: &[u8], separator: u8) -> (&[u8], Option<&[u8]>)
     }
 }
 
-/// Whether a byte is a space or a tab.
+/// Whether a byte is a blank, a space or a tab (the standard's `make`, "Makefile Syntax").
 pub fn is_blank(byte: u8) -> bool
     ensures { result ≡ is_blank byte }
 {
@@ -34,7 +34,8 @@ pub fn is_blank_alone(text: &[u8]) -> bool
     text.iter().all(|b| is_blank(*b))
 }
 
-/// The text behind the blanks that lead it.
+/// The text behind the blanks that lead it, all of it that is left: the standard's `make`, "Makefile
+/// Syntax" and "Macros", drops them there.
 pub fn trimmed(text: &[u8]) -> &[u8]
     ensures { result.now ≡ trimmed text.now }
 {

@@ -19,6 +19,7 @@ mod spans;
 #[cfg(test)]
 mod tests;
 
+pub use bytes::{is_blank, trimmed};
 pub use comments::uncomment;
 pub use fault::LineFault;
 pub use lines::{Line, logical_lines};

@@ -1,6 +1,6 @@
 //! Names that are looked up.
 
-ghost use Rattle.std.specs.Prelude.{◌≡◌, ◌<◌, ℕ, List, length, map, IfOk, IfSome, OnOk};
+ghost use Rattle.std.specs.Prelude.{◌≡◌, ◌<◌, ℕ, List, true, false, length, map, IfOk, IfSome, MatchOption, OnOk};
 ghost use Rattle.std.specs.HashMap.{get_by_text};
 ghost use Rattle.std.specs.Str.{bytes_eq};
 ghost use Rattle.std.specs.String.{string_bytes};
@@ -46,6 +46,16 @@ impl NameTable {
         ensures within { IfSome result (λ place. place < length self.now) }
     {
         self.places.get(name).copied()
+    }
+
+    /// The name itself, where it is there.
+    pub fn get(&self, name: &str) -> Option<&str>
+        ensures { MatchOption result (has_name self.now name.now ≡ false) (λ found. (found.now ≡ name.now) × (has_name self.now name.now ≡ true)) }
+    {
+        match self.place(name) {
+            Some(place) => Some(self.as_slice()[place].as_str()),
+            None => None,
+        }
     }
 
     /// Whether a name is there.

@@ -126,6 +126,15 @@ fn drops_comments(rt: HostRuntime) -> Result<(), Fail> {
 }
 
 #[test]
+fn drops_leading_blanks(rt: HostRuntime) -> Result<(), Fail> {
+    for (text, rest) in [(" \t a b ", "a b "), ("a", "a"), ("\t ", ""), ("", "")] {
+        assert_eq!(rt; trimmed(text.as_bytes()), rest.as_bytes(), "{text:?}");
+    }
+    assert!(rt; is_blank(b' ') && is_blank(b'\t') && !is_blank(b'\n') && !is_blank(b'\x0b'));
+    Ok(())
+}
+
+#[test]
 fn finds_words(rt: HostRuntime) -> Result<(), Fail> {
     let alloc = rt.alloc();
     let spans = words(alloc, b" a  bc")?;
@@ -220,6 +229,7 @@ fn finds_names(rt: HostRuntime) -> Result<(), Fail> {
     ] {
         assert_eq!(rt; table.place(name), place, "{name}");
         assert_eq!(rt; table.contains(name), place.is_some(), "{name}");
+        assert_eq!(rt; table.get(name), place.map(|_| name), "{name}");
     }
     assert!(rt; table.contains_bytes("é".as_bytes()));
     assert!(rt; !table.contains_bytes(b"\xc3"));

@@ -17,3 +17,4 @@ pub mod DefinitionLaws
 pub mod EndBlanks
 pub mod Operands
 pub mod Outside
+pub mod OtherMacros

@@ -1,6 +1,7 @@
 -- Laws of expansion and of definitions.
 use Rattle.std.specs.Prelude.{◌≡◌, ◌≤◌, ℕ, ◌+◌, ◌==◌, Bool, true, false, not, List, [], ◌∷◌, ◌++◌, length, Option, None, Some, Result, Ok}
 use Rattle.std.specs.List.{list_all, before_first}
+use Rattle.std.specs.Str.{bytes_eq}
 use Rattle.mk_lines.specs.Bytes.{is_byte}
 use Rattle.mk_macros.specs.declared.fault.MacroFault.{MacroFault}
 use Rattle.mk_macros.specs.declared.op.Op.{Op}
@@ -87,6 +88,11 @@ IsFixed table name = (macro : Macro) × (macro_named table name ≡ Some macro) 
 -- What an operand sets is fixed.
 abbrev pub OperandsFix : Type 0
 OperandsFix = (table : List Macro) → (operand : List ℕ) → (after : List Macro) → with_operand table operand ≡ Ok after → IsFixed after (operand_name operand)
+
+-- An operand leaves every other macro: a name that it doesn't set means what it meant before.
+abbrev pub OperandsLeaveOthers : Type 0
+OperandsLeaveOthers = (table : List Macro) → (operand : List ℕ) → (after : List Macro) → (name : List ℕ) → bytes_eq name (operand_name operand) ≡ false
+    → with_operand table operand ≡ Ok after → macro_named after name ≡ macro_named table name
 
 -- What is fixed wins over every later definition of its name: it stays as it is.
 abbrev pub OperandsWin : Type 0

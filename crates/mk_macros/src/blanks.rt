@@ -1,28 +1,12 @@
 //! The blanks at the ends of a text.
 
 ghost use Rattle.std.specs.Prelude.{◌≡◌};
-ghost use Rattle.mk_lines.specs.Bytes.{is_blank, trimmed};
 ghost use Rattle.mk_macros.specs.Definitions.{without_blanks};
 
-/// Whether a byte is a space or a tab.
-fn is_blank(byte: u8) -> bool
-    ensures { result ≡ is_blank byte }
-{
-    byte == b' ' || byte == b'\t'
-}
+use mk_lines::{is_blank, trimmed};
 
-/// The text behind the spaces and tabs that lead it.
-pub fn trimmed(text: &[u8]) -> &[u8]
-    ensures { result.now ≡ trimmed text.now }
-{
-    let mut rest = text;
-    while let [b' ' | b'\t', after @ ..] = rest {
-        rest = after;
-    }
-    rest
-}
-
-/// The text without the spaces and tabs at its ends.
+/// The text without the blanks at its ends, spaces and tabs: as the name of a macro is taken (the
+/// standard's `make`, "Macros").
 pub fn without_blanks(text: &[u8]) -> &[u8]
     ensures { result.now ≡ without_blanks text.now }
 {

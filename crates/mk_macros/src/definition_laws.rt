@@ -1,10 +1,15 @@
 //! Laws of definitions.
 
-ghost use Rattle.mk_macros.specs.Laws.{OperandsFix, OperandsWin, AppendingToNothing, AppendingToDelayed, AppendingToImmediate};
+ghost use Rattle.mk_macros.specs.Laws.{OperandsFix, OperandsLeaveOthers, OperandsWin, AppendingToNothing, AppendingToDelayed, AppendingToImmediate};
 
 /// What an operand sets is fixed.
 pub fn operands_fix()
     ensures { OperandsFix }
+{}
+
+/// An operand leaves every macro that it doesn't set.
+pub fn operands_leave_others()
+    ensures { OperandsLeaveOthers }
 {}
 
 /// What an operand has fixed wins over every later definition of its name: it stays as it is.

@@ -7,7 +7,7 @@ ghost use Rattle.mk_macros.specs.Expansion.{expansion};
 ghost use Rattle.mk_macros.specs.Steps.{Gives};
 ghost use Rattle.mk_macros.specs.Table.{macro_named, macro_of};
 
-use crate::blanks::{trimmed, without_blanks};
+use crate::blanks::without_blanks;
 use crate::bytes::{ends_with, first_place};
 use crate::fault::MacroFault;
 use crate::locals::Locals;
@@ -15,6 +15,7 @@ use crate::macro_name::is_macro_name;
 use crate::op::Op;
 use crate::room::MAX_LENGTH;
 use crate::table::{Macro, MacroTable};
+use mk_lines::trimmed;
 use std::alloc::{AllocError, Global};
 
 /// A text with each `$` doubled.

@@ -23,6 +23,7 @@ mod table;
 #[cfg(test)]
 mod tests;
 
+pub use blanks::without_blanks;
 pub use expansion::Expansion;
 pub use fault::MacroFault;
 pub use locals::Locals;

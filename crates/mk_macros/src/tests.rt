@@ -1,6 +1,6 @@
 //! Rows on expansions. The expected texts were worked out by hand.
 
-use crate::{Locals, MacroFault, MacroTable, Op};
+use crate::{Locals, MacroFault, MacroTable, Op, without_blanks};
 use std::alloc::Global;
 use std::borrow::CowSlice;
 use std::process::Abort;
@@ -371,4 +371,16 @@ fn too_long_before_other_faults(rt: HostRuntime) -> Result<(), Fail> {
     let text = long(rt.alloc(), 1_048_576, "")?;
     let table = table_of(rt.alloc(), &[("L", text.as_str())])?;
     expect_all(&rt, &table, &Locals::Empty, TOO_LONG)
+}
+
+#[test]
+fn blanks_at_the_ends(rt: HostRuntime) -> Result<(), Fail> {
+    for (text, rest) in [(" \t a b \t", "a b"), ("a", "a"), (" \t ", ""), ("", "")] {
+        assert_eq!(rt;
+            without_blanks(text.as_bytes()),
+            rest.as_bytes(),
+            "{text:?}"
+        );
+    }
+    Ok(())
 }

@@ -1,5 +1,4 @@
 mod Assignments
-mod EndBlanks
 mod FirstBytes
 mod Colons
 mod Commanded
@@ -36,4 +35,5 @@ mod Makefiles
 mod DefaultText
 mod DefaultRules
 mod WellNamed
+mod ListedSuffixes
 mod BracketFree

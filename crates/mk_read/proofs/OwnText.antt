@@ -80,29 +80,29 @@ module _ (name : Option (List ℕ)) (defaults : Bool) (operands : List (List ℕ
   abbrev whole : Reader → Result State ReadFault
   whole reader = state_read reader name defaults operands
 
-  pub name_fails : (o : Option Told) (fault : ReadFault) → Fails fault (named name) → IsOfText fault → IfSome o (λ told. Follows told (λ reader. state_read reader name defaults operands) nothing_read (Err fault))
-  name_fails o fault fails own = some_with _ o (λ told e. pure_stop told whole (named name) (λ reader file. after_default reader defaults >>= λ start. with_operands 1 operands start.table >>= λ table. from_named reader (record start { table = table }) file) nothing_read nothing_read fault (begins told whole nothing_read) fails own)
+  pub name_fails : (o : Option Told) (old : State) (fault : ReadFault) → Fails fault (named name) → IsOfText fault → IfSome o (λ told. old ≡ nothing_read → Follows told (λ reader. state_read reader name defaults operands) nothing_read (Err fault))
+  name_fails o old fault fails own = some_with _ o (λ told e none. pure_stop told whole (named name) (λ reader file. after_default reader defaults >>= λ start. with_operands 1 operands start.table >>= λ table. from_named reader (record start { table = table }) file) nothing_read nothing_read fault (begins told whole nothing_read) fails own)
 
   after_name : (told : Told) → named name ≡ Ok name → SoFar told whole (λ reader. after_default reader defaults >>= λ start. with_operands 1 operands start.table >>= λ table. from_named reader (record start { table = table }) name) nothing_read nothing_read
   after_name told is = pure_step told whole (named name) (λ reader file. after_default reader defaults >>= λ start. with_operands 1 operands start.table >>= λ table. from_named reader (record start { table = table }) file) nothing_read nothing_read name (begins told whole nothing_read) is
 
-  pub default_fails : (o : Option Told) (fault : ReadFault) → named name ≡ Ok name → IfSome o (λ told. Follows told (λ reader. after_default reader defaults) nothing_read (Err fault)) → IfSome o (λ told. Follows told (λ reader. state_read reader name defaults operands) nothing_read (Err fault))
-  default_fails o fault is went = some_with _ o (λ told e. stops told whole (λ reader. after_default reader defaults) (λ reader start. with_operands 1 operands start.table >>= λ table. from_named reader (record start { table = table }) name) nothing_read nothing_read fault (after_name told is)
-      (some_at (λ t. Follows t (λ reader. after_default reader defaults) nothing_read (Err fault)) o told e went))
+  pub default_fails : (o : Option Told) (old : State) (fault : ReadFault) → named name ≡ Ok name → IfSome o (λ told. old ≡ nothing_read → Follows told (λ reader. after_default reader defaults) nothing_read (Err fault)) → IfSome o (λ told. old ≡ nothing_read → Follows told (λ reader. state_read reader name defaults operands) nothing_read (Err fault))
+  default_fails o old fault is went = some_with _ o (λ told e none. stops told whole (λ reader. after_default reader defaults) (λ reader start. with_operands 1 operands start.table >>= λ table. from_named reader (record start { table = table }) name) nothing_read nothing_read fault (after_name told is)
+      (some_at (λ t. old ≡ nothing_read → Follows t (λ reader. after_default reader defaults) nothing_read (Err fault)) o told e went none))
 
   module _ (start : State) where
     after_start : (told : Told) → named name ≡ Ok name → Follows told (λ reader. after_default reader defaults) nothing_read (Ok start) → SoFar told whole (λ reader. with_operands 1 operands start.table >>= λ table. from_named reader (record start { table = table }) name) nothing_read start
     after_start told is went = steps told whole (λ reader. after_default reader defaults) (λ reader state. with_operands 1 operands state.table >>= λ table. from_named reader (record state { table = table }) name) nothing_read nothing_read start (after_name told is) went
 
-    pub operands_fail : (o : Option Told) (fault : ReadFault) → named name ≡ Ok name → IfSome o (λ told. Follows told (λ reader. after_default reader defaults) nothing_read (Ok start)) → Fails fault (with_operands 1 operands start.table) → IsOfText fault
-        → IfSome o (λ told. Follows told (λ reader. state_read reader name defaults operands) nothing_read (Err fault))
-    operands_fail o fault is went fails own = some_with _ o (λ told e. pure_stop told whole (with_operands 1 operands start.table) (λ reader table. from_named reader (record start { table = table }) name) nothing_read start fault
-        (after_start told is (some_at (λ t. Follows t (λ reader. after_default reader defaults) nothing_read (Ok start)) o told e went)) fails own)
+    pub operands_fail : (o : Option Told) (old : State) (fault : ReadFault) → named name ≡ Ok name → IfSome o (λ told. old ≡ nothing_read → Follows told (λ reader. after_default reader defaults) nothing_read (Ok start)) → Fails fault (with_operands 1 operands start.table) → IsOfText fault
+        → IfSome o (λ told. old ≡ nothing_read → Follows told (λ reader. state_read reader name defaults operands) nothing_read (Err fault))
+    operands_fail o old fault is went fails own = some_with _ o (λ told e none. pure_stop told whole (with_operands 1 operands start.table) (λ reader table. from_named reader (record start { table = table }) name) nothing_read start fault
+        (after_start told is (some_at (λ t. old ≡ nothing_read → Follows t (λ reader. after_default reader defaults) nothing_read (Ok start)) o told e went none)) fails own)
 
-    pub state_reads : (o o' : Option Told) (table : List Macro) (r : Result State ReadFault) → named name ≡ Ok name → o' ≡ o → IfSome o (λ told. Follows told (λ reader. after_default reader defaults) nothing_read (Ok start)) → with_operands 1 operands start.table ≡ Ok table
-        → IfSome o' (λ told. IsUnread (record start { table = table }) → Follows told (λ reader. from_named reader (record start { table = table }) name) (record start { table = table }) r) → IfSome o (λ told. Follows told (λ reader. state_read reader name defaults operands) nothing_read r)
-    state_reads o o' table r is same went fixed rest = some_with _ o (λ told e.
-        let begun_at = some_at (λ t. Follows t (λ reader. after_default reader defaults) nothing_read (Ok start)) o told e went in
+    pub state_reads : (o o' : Option Told) (old : State) (table : List Macro) (r : Result State ReadFault) → named name ≡ Ok name → o' ≡ o → IfSome o (λ told. old ≡ nothing_read → Follows told (λ reader. after_default reader defaults) nothing_read (Ok start)) → with_operands 1 operands start.table ≡ Ok table
+        → IfSome o' (λ told. IsUnread (record start { table = table }) → Follows told (λ reader. from_named reader (record start { table = table }) name) (record start { table = table }) r) → IfSome o (λ told. old ≡ nothing_read → Follows told (λ reader. state_read reader name defaults operands) nothing_read r)
+    state_reads o o' old table r is same went fixed rest = some_with _ o (λ told e none.
+        let begun_at = some_at (λ t. old ≡ nothing_read → Follows t (λ reader. after_default reader defaults) nothing_read (Ok start)) o told e went none in
         let so_far = pure_step told whole (with_operands 1 operands start.table) (λ reader table. from_named reader (record start { table = table }) name) nothing_read start table (after_start told is begun_at) fixed in
         ends told whole (λ reader. from_named reader (record start { table = table }) name) nothing_read (record start { table = table }) r so_far
         (some_at (λ t. IsUnread (record start { table = table }) → Follows t (λ reader. from_named reader (record start { table = table }) name) (record start { table = table }) r) o' told (same ∙ e) rest
@@ -126,11 +126,11 @@ module _ (name : Option (List ℕ)) (defaults : Bool) (operands : List (List ℕ
       by_name (Ok file) = by_start file (after_default reader defaults)
       by_name (Err fault) = refl
 
-  pub answers_with : (o : Option Told) (state : State) → IfSome o (λ told. Follows told (λ reader. state_read reader name defaults operands) nothing_read (Ok state)) → IfSome o (λ told. Answers told (λ reader. makefile reader name defaults operands) (Ok (makefile_of state)))
-  answers_with o state went = some_with _ o (λ told e. makefile_is (reader_of told None) ∙ ap (λ (r : Result State ReadFault). r >>= λ s. Ok (makefile_of s)) ((some_at (λ t. Follows t whole nothing_read (Ok state)) o told e went).1 None tt))
+  pub answers_with : (o : Option Told) (old state : State) → old ≡ nothing_read → IfSome o (λ told. old ≡ nothing_read → Follows told (λ reader. state_read reader name defaults operands) nothing_read (Ok state)) → IfSome o (λ told. Answers told (λ reader. makefile reader name defaults operands) (Ok (makefile_of state)))
+  answers_with o old state none went = some_with _ o (λ told e. makefile_is (reader_of told None) ∙ ap (λ (r : Result State ReadFault). r >>= λ s. Ok (makefile_of s)) ((some_at (λ t. old ≡ nothing_read → Follows t whole nothing_read (Ok state)) o told e went none).1 None tt))
 
-  pub answers_not : (o : Option Told) (fault : ReadFault) → IfSome o (λ told. Follows told (λ reader. state_read reader name defaults operands) nothing_read (Err fault)) → IfSome o (λ told. Answers told (λ reader. makefile reader name defaults operands) (Err fault))
-  answers_not o fault went = some_with _ o (λ told e. at told fault (some_at (λ t. Follows t whole nothing_read (Err fault)) o told e went))
+  pub answers_not : (o : Option Told) (old : State) (fault : ReadFault) → old ≡ nothing_read → IfSome o (λ told. old ≡ nothing_read → Follows told (λ reader. state_read reader name defaults operands) nothing_read (Err fault)) → IfSome o (λ told. Answers told (λ reader. makefile reader name defaults operands) (Err fault))
+  answers_not o old fault none went = some_with _ o (λ told e. at told fault (some_at (λ t. old ≡ nothing_read → Follows t whole nothing_read (Err fault)) o told e went none))
     where
       at : (told : Told) (f : ReadFault) → Follows told whole nothing_read (Err f) → Answers {A = Makefile} told (λ reader. makefile reader name defaults operands) (Err f)
       at told (ReadFailed place file) h = (h.0, makefile_is (reader_of told (Some h.0)) ∙ ap (λ (r : Result State ReadFault). r >>= λ s. Ok (makefile_of s)) h.2)
@@ -201,11 +201,11 @@ module _ (state : State) where
       more_of h = let none : length state.missing ≡ 0 = ap (λ (m : List (List ℕ)). length m) h in omega (arith, none)
 
 -- the default text, where it is asked for
-pub default_read : (o : Option Told) (defaults : Bool) (file : List ℕ) (old : State) (r : Result State ReadFault) → defaults ≡ true → file ≡ codes "(default)" → old ≡ nothing_read
-    → IfSome o (λ told. Follows told (λ reader. with_text reader (below 0 reader) (record { file = file; default = true }) default_text old) old r) → IfSome o (λ told. Follows told (λ reader. after_default reader defaults) nothing_read r)
+pub default_read : (o : Option Told) (defaults : Bool) (file : List ℕ) (old : State) (r : Result State ReadFault) → defaults ≡ true → file ≡ codes "(default)"
+    → IfSome o (λ told. Follows told (λ reader. with_text reader (below 0 reader) (record { file = file; default = true }) default_text old) old r) → IfSome o (λ told. old ≡ nothing_read → Follows told (λ reader. after_default reader defaults) nothing_read r)
 unfolding after_default
-default_read o defaults file old r asked name none went =
-    some_with _ o (λ told e. subst (λ (d : Bool). Follows told (λ reader. after_default reader d) nothing_read r) (sym asked)
+default_read o defaults file old r asked name went =
+    some_with _ o (λ told e none. subst (λ (d : Bool). Follows told (λ reader. after_default reader d) nothing_read r) (sym asked)
     (at told (subst (λ (n : List ℕ). Follows told (λ reader. with_text reader (below 0 reader) (record { file = n; default = true }) default_text nothing_read) nothing_read r) name
     (subst (λ (s : State). Follows told (λ reader. with_text reader (below 0 reader) (record { file = file; default = true }) default_text s) s r) none
     (some_at (λ t. Follows t (λ reader. with_text reader (below 0 reader) (record { file = file; default = true }) default_text old) old r) o told e went)))))

@@ -9,7 +9,7 @@ use Rattle.mk_read.specs.Names.{is_make_name, has_name, is_empty}
 use Rattle.mk_read.specs.Needs.{words_of, commands_of}
 use Rattle.mk_read.specs.Reading.{Reader, Makefile, after_default, with_operands, makefile}
 use Rattle.mk_read.specs.Rules.{gives_commands, is_commanded}
-use Rattle.mk_read.specs.Special.{is_special}
+use Rattle.mk_read.specs.Special.{is_special, is_suffix}
 use Rattle.mk_read.specs.State.{RuleRead, State}
 
 -- Of two rule lines of a makefile that is read, at most one gives a name its commands: where one does, none behind it
@@ -74,3 +74,8 @@ is_well_named rule = not (is_empty rule.targets) && (list_all is_make_name rule.
 abbrev pub RuleLinesAreWellNamed : Type 0
 RuleLinesAreWellNamed = (reader : Reader) → (file : Option (List ℕ)) → (defaults : Bool) → (operands : List (List ℕ)) → (m : Makefile) → makefile reader file defaults operands ≡ Ok m
     → list_all is_well_named m.rules ≡ true
+
+-- The words that a makefile lists as suffixes are suffixes.
+abbrev pub SuffixesAreSuffixes : Type 0
+SuffixesAreSuffixes = (reader : Reader) → (file : Option (List ℕ)) → (defaults : Bool) → (operands : List (List ℕ)) → (m : Makefile) → makefile reader file defaults operands ≡ Ok m
+    → list_all is_suffix m.suffixes ≡ true

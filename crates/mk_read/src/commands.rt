@@ -10,13 +10,12 @@ ghost use Rattle.mk_read.specs.State.{rules_of, Last};
 ghost use Rattle.mk_read.specs.Steps.{Gives};
 ghost use Rattle.mk_read.specs.Views.{KnowsCommands, owner_view, place_at};
 
-use crate::bytes::trimmed;
 use crate::fault::ReadFault;
 use crate::makefile::{Command, Rule};
 use crate::name_set::NameSet;
 use crate::spot::Spot;
 use crate::state::{Owner, RuleLines, with_last};
-use mk_lines::Name;
+use mk_lines::{Name, trimmed};
 use std::alloc::{AllocError, Global};
 
 /// Whether the first byte of a command that is no blank is `#`.

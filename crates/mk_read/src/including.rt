@@ -11,7 +11,7 @@ ghost use Rattle.mk_read.specs.Following.{Counts, Follows, IsOfText, below};
 ghost use Rattle.mk_read.specs.Kinds.{include_view, kind_of, kind_view};
 ghost use Rattle.mk_read.specs.Reading.{files as all_files, include, one_file, plain_line, with_line, with_lines, with_text};
 ghost use Rattle.mk_read.specs.State.{State};
-ghost use Rattle.mk_read.specs.Steps.{Gives, in_file, of_kind};
+ghost use Rattle.mk_read.specs.Steps.{Gives, in_file, of_kind, seen};
 ghost use Rattle.mk_read.specs.Views.{IsTooMany, behind_commands, found_after, include_names, not_found, place_at, read_below, text_more, text_of};
 
 use crate::fault::{KindFault, ReadFault};
@@ -19,10 +19,11 @@ use crate::files::{Files, FilesError};
 use crate::kinds::{IncludeLine, Kind, kind_of};
 use crate::rules::names_in;
 use crate::spot::Spot;
-use crate::state::{Owner, State};
+use crate::state::{Owner, RuleLines, State};
 use mk_lines::{Line, LineFault, Name, logical_lines, uncomment};
 use mk_macros::MacroTable;
 use std::alloc::Global;
+use std::mem;
 
 /// A text that is read.
 #[derive(Debug, Clone, Copy)]
@@ -61,46 +62,46 @@ fn kind_at<'a>(spot: &Spot<'_>, text: &'a [u8]) -> Result<Kind<'a>, ReadFault>
     }
 }
 
-/// What is read after a command line.
-fn after_command(spot: &Spot<'_>, state: State, text: &[u8]) -> Result<State, ReadFault>
-    ensures exact { Gives (λ state. state) result (behind_commands (place_at spot.now) text.now state) }
+/// Reads a command line.
+fn read_command(spot: &Spot<'_>, state: &mut State, text: &[u8]) -> Result<(), ReadFault>
+    ensures exact { Gives (λ done. state.new) result (behind_commands (place_at spot.now) text.now state.old) }
     ensures own { IfErr result IsOfText }
 {
-    let lines = state.lines.with_command(spot, text)?;
-    Ok(State { lines, ..state })
+    let lines = mem::replace(&mut state.lines, RuleLines::new(spot.alloc));
+    state.lines = lines.with_command(spot, text)?;
+    Ok(())
 }
 
-/// What is read after the lines of a text.
+/// Reads the lines of a text.
 #[cycle(read)]
-fn with_lines<F: Files>(
+fn read_lines<F: Files>(
     files: &mut F,
     source: &Source<'_>,
     lines: &[Line<'_>],
-    state: State,
-) -> Result<State, ReadFault>
+    state: &mut State,
+) -> Result<(), ReadFault>
     requires { F.failed files.old < 2 ^ 64 - 1 }
     ensures map { F.told files.new ≡ F.told files.old }
-    ensures follows { IfSome (F.told files.old) (λ told. Follows told (λ reader. with_lines reader (below source.now.levels reader) (text_of source.now) (map line_view lines.now) state) state result) }
+    ensures follows { IfSome (F.told files.old) (λ told. Follows told (λ reader. with_lines reader (below source.now.levels reader) (text_of source.now) (map line_view lines.now) state.old) state.old (seen (λ done. state.new) result)) }
     ensures counted { Counts (F.failed files.old) (F.failed files.new) result }
 {
-    let mut state = state;
     for line in lines {
-        state = with_line(files, source, line, state)?;
+        read_line(files, source, line, state)?;
     }
-    Ok(state)
+    Ok(())
 }
 
-/// What is read after one more line.
+/// Reads one more line.
 #[cycle(read)]
-fn with_line<F: Files>(
+fn read_line<F: Files>(
     files: &mut F,
     source: &Source<'_>,
     line: &Line<'_>,
-    state: State,
-) -> Result<State, ReadFault>
+    state: &mut State,
+) -> Result<(), ReadFault>
     requires { F.failed files.old < 2 ^ 64 - 1 }
     ensures map { F.told files.new ≡ F.told files.old }
-    ensures follows { IfSome (F.told files.old) (λ told. Follows told (λ reader. with_line reader (below source.now.levels reader) (text_of source.now) state (line_view line.now)) state result) }
+    ensures follows { IfSome (F.told files.old) (λ told. Follows told (λ reader. with_line reader (below source.now.levels reader) (text_of source.now) state.old (line_view line.now)) state.old (seen (λ done. state.new) result)) }
     ensures counted { Counts (F.failed files.old) (F.failed files.new) result }
 {
     let spot = Spot {
@@ -109,32 +110,32 @@ fn with_line<F: Files>(
         line: line.first,
     };
     if line.command {
-        return after_command(&spot, state, &line.text);
+        return read_command(&spot, state, &line.text);
     }
     let text = uncomment(source.alloc, &line.text)?;
     let kind = kind_at(&spot, &text)?;
-    with_kind(files, source, &spot, kind, state)
+    read_kind(files, source, &spot, kind, state)
 }
 
-/// What is read after a plain line of this kind.
+/// Reads a plain line of this kind.
 #[cycle(read)]
-fn with_kind<F: Files>(
+fn read_kind<F: Files>(
     files: &mut F,
     source: &Source<'_>,
     spot: &Spot<'_>,
     kind: Kind<'_>,
-    state: State,
-) -> Result<State, ReadFault>
+    state: &mut State,
+) -> Result<(), ReadFault>
     requires { F.failed files.old < 2 ^ 64 - 1 }
     ensures map { F.told files.new ≡ F.told files.old }
-    ensures follows { IfSome (F.told files.old) (λ told. Follows told (λ reader. plain_line reader (below source.now.levels reader) source.now.default (place_at spot.now) state (kind_view kind.entry)) state result) }
+    ensures follows { IfSome (F.told files.old) (λ told. Follows told (λ reader. plain_line reader (below source.now.levels reader) source.now.default (place_at spot.now) state.old (kind_view kind.entry)) state.old (seen (λ done. state.new) result)) }
     ensures counted { Counts (F.failed files.old) (F.failed files.new) result }
 {
     match kind {
-        Kind::Comment => Ok(state),
-        Kind::Include(line) => with_include(files, source, spot, line, state),
-        Kind::Assignment(line) => state.with_assignment(spot, &line),
-        Kind::Rule(line) => state.with_rule(spot, source.default, &line),
+        Kind::Comment => Ok(()),
+        Kind::Include(line) => read_include(files, source, spot, line, state),
+        Kind::Assignment(line) => state.assign(spot, &line),
+        Kind::Rule(line) => state.add_rule(spot, source.default, &line),
     }
 }
 
@@ -160,45 +161,44 @@ fn include_names(
     Ok(names)
 }
 
-/// What is read after an include line.
+/// Reads an include line.
 #[cycle(read)]
-fn with_include<F: Files>(
+fn read_include<F: Files>(
     files: &mut F,
     source: &Source<'_>,
     spot: &Spot<'_>,
     line: IncludeLine<'_>,
-    state: State,
-) -> Result<State, ReadFault>
+    state: &mut State,
+) -> Result<(), ReadFault>
     requires { F.failed files.old < 2 ^ 64 - 1 }
     ensures map { F.told files.new ≡ F.told files.old }
-    ensures follows { IfSome (F.told files.old) (λ told. Follows told (λ reader. include reader (below source.now.levels reader) (place_at spot.now) state (include_view line.entry)) state result) }
+    ensures follows { IfSome (F.told files.old) (λ told. Follows told (λ reader. include reader (below source.now.levels reader) (place_at spot.now) state.old (include_view line.entry)) state.old (seen (λ done. state.new) result)) }
     ensures counted { Counts (F.failed files.old) (F.failed files.new) result }
 {
     let names = include_names(source.levels, spot, &state.macros, line.names)?;
-    let state = state.owned(Owner::Nobody)?;
-    with_files(files, source.levels - 1, spot, line.optional, &names, state)
+    state.own(Owner::Nobody)?;
+    read_files(files, source.levels - 1, spot, line.optional, &names, state)
 }
 
-/// What is read after the files that an include line names, with so many levels below them.
+/// Reads the files that an include line names, with so many levels below them.
 #[cycle(read)]
-fn with_files<F: Files>(
+fn read_files<F: Files>(
     files: &mut F,
     levels: usize,
     spot: &Spot<'_>,
     optional: bool,
     names: &[String],
-    state: State,
-) -> Result<State, ReadFault>
+    state: &mut State,
+) -> Result<(), ReadFault>
     requires { F.failed files.old < 2 ^ 64 - 1 }
     ensures map { F.told files.new ≡ F.told files.old }
-    ensures follows { IfSome (F.told files.old) (λ told. Follows told (λ reader. all_files reader (read_below levels reader) (place_at spot.now) optional (map string_bytes names.now) state) state result) }
+    ensures follows { IfSome (F.told files.old) (λ told. Follows told (λ reader. all_files reader (read_below levels reader) (place_at spot.now) optional (map string_bytes names.now) state.old) state.old (seen (λ done. state.new) result)) }
     ensures counted { Counts (F.failed files.old) (F.failed files.new) result }
 {
-    let mut state = state;
     for name in names {
-        state = with_file(files, levels, spot, optional, name, state)?;
+        read_file(files, levels, spot, optional, name, state)?;
     }
-    Ok(state)
+    Ok(())
 }
 
 /// The text of a file that an include line names, where it is there. Fault 35 where the reader fails.
@@ -233,28 +233,28 @@ fn too_many(spot: &Spot<'_>) -> ReadFault
     }
 }
 
-/// What is read after a file that an include line names. Fault 36 where too many were read, 32 where
-/// the file isn't there and may not be passed over.
+/// Reads a file that an include line names. Fault 36 where too many were read, 32 where the file isn't
+/// there and may not be passed over.
 #[cycle(read)]
-fn with_file<F: Files>(
+fn read_file<F: Files>(
     files: &mut F,
     levels: usize,
     spot: &Spot<'_>,
     optional: bool,
     name: &str,
-    state: State,
-) -> Result<State, ReadFault>
+    state: &mut State,
+) -> Result<(), ReadFault>
     requires { F.failed files.old < 2 ^ 64 - 1 }
     ensures map { F.told files.new ≡ F.told files.old }
-    ensures follows { IfSome (F.told files.old) (λ told. Follows told (λ reader. one_file reader (read_below levels reader) (place_at spot.now) optional state name.now) state result) }
+    ensures follows { IfSome (F.told files.old) (λ told. Follows told (λ reader. one_file reader (read_below levels reader) (place_at spot.now) optional state.old name.now) state.old (seen (λ done. state.new) result)) }
     ensures counted { Counts (F.failed files.old) (F.failed files.new) result }
 {
     if state.is_full() {
         return Err(too_many(spot));
     }
     match text_at(files, spot, name)? {
-        Some(text) => with_found(files, levels, spot, name, &text, state),
-        None => without_file(spot, optional, name, state),
+        Some(text) => read_found(files, levels, spot, name, &text, state),
+        None => pass_over(spot, optional, name, state),
     }
 }
 
@@ -275,61 +275,46 @@ fn pass_over(
     Ok(state.note_missing(file)?)
 }
 
-/// What is read after a file that isn't there. Fault 32 where it may not be passed over.
-fn without_file(
-    spot: &Spot<'_>,
-    optional: bool,
-    name: &str,
-    state: State,
-) -> Result<State, ReadFault>
-    ensures exact { Gives (λ state. state) result (not_found (place_at spot.now) optional state name.now) }
-    ensures own { IfErr result IsOfText }
-{
-    let mut state = state;
-    pass_over(spot, optional, name, &mut state)?;
-    Ok(state)
-}
-
-/// What is read after the text of a file that an include line names.
+/// Reads the text of a file that an include line names.
 #[cycle(read)]
-fn with_found<F: Files>(
+fn read_found<F: Files>(
     files: &mut F,
     levels: usize,
     spot: &Spot<'_>,
     name: &str,
     text: &[u8],
-    state: State,
-) -> Result<State, ReadFault>
+    state: &mut State,
+) -> Result<(), ReadFault>
     requires { F.failed files.old < 2 ^ 64 - 1 }
     ensures map { F.told files.new ≡ F.told files.old }
-    ensures follows { IfSome (F.told files.old) (λ told. Follows told (λ reader. found_after (read_below levels reader) name.now text.now (text_more state name.now)) (text_more state name.now) result) }
+    ensures follows { IfSome (F.told files.old) (λ told. Follows told (λ reader. found_after (read_below levels reader) name.now text.now (text_more state.old name.now)) (text_more state.old name.now) (seen (λ done. state.new) result)) }
     ensures counted { Counts (F.failed files.old) (F.failed files.new) result }
 {
     let file = Name::new(spot.alloc, name)?;
-    let state = state.with_text(spot.alloc, name)?;
+    state.note_text(spot.alloc, name)?;
     let source = Source {
         alloc: spot.alloc,
         file: &file,
         default: false,
         levels,
     };
-    let state = with_text(files, &source, text, state)?;
-    Ok(state.owned(Owner::Nobody)?)
+    read_text(files, &source, text, state)?;
+    Ok(state.own(Owner::Nobody)?)
 }
 
-/// What is read after a text. The faults of its lines come before its lines.
+/// Reads a text. The faults of its lines come before its lines.
 #[cycle(read)]
-pub(crate) fn with_text<F: Files>(
+pub(crate) fn read_text<F: Files>(
     files: &mut F,
     source: &Source<'_>,
     text: &[u8],
-    state: State,
-) -> Result<State, ReadFault>
+    state: &mut State,
+) -> Result<(), ReadFault>
     requires { F.failed files.old < 2 ^ 64 - 1 }
     ensures map { F.told files.new ≡ F.told files.old }
-    ensures follows { IfSome (F.told files.old) (λ told. Follows told (λ reader. with_text reader (below source.now.levels reader) (text_of source.now) text.now state) state result) }
+    ensures follows { IfSome (F.told files.old) (λ told. Follows told (λ reader. with_text reader (below source.now.levels reader) (text_of source.now) text.now state.old) state.old (seen (λ done. state.new) result)) }
     ensures counted { Counts (F.failed files.old) (F.failed files.new) result }
 {
     let lines = lines_of(source, text)?;
-    with_lines(files, source, &lines, state)
+    read_lines(files, source, &lines, state)
 }

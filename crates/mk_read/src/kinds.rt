@@ -1,13 +1,14 @@
 //! The kinds of plain lines.
 
-ghost use Rattle.std.specs.Prelude.{◌≡◌, ◌<◌, length, IfSome};
+ghost use Rattle.std.specs.Prelude.{◌≡◌, ◌<◌, length, position, IfSome};
+ghost use Rattle.std.specs.List.{before_first, after_first};
+ghost use Rattle.mk_lines.specs.Bytes.{is_blank};
 ghost use Rattle.std.specs.Option.{option_map};
 ghost use Rattle.mk_read.specs.Kinds.{include_line, assigned, assignment_line, words_and_command, rule_line, by_parts, of_trimmed, kind_of, include_view, rule_view, kind_view, GivesKind};
 
-use crate::bytes::{cut_at_blank, trimmed, without_blanks};
 use crate::fault::KindFault;
-use mk_lines::first_outside;
-use mk_macros::Op;
+use mk_lines::{first_outside, is_blank, trimmed};
+use mk_macros::{Op, without_blanks};
 use std::alloc::Global;
 
 /// An include line.
@@ -52,6 +53,24 @@ pub enum Kind<'a> {
     Assignment(AssignmentLine<'a>),
     /// A rule line.
     Rule(RuleLine<'a>),
+}
+
+/// Where the first blank stands.
+fn blank_at(text: &[u8]) -> Option<usize>
+    ensures { result ≡ position is_blank text.now }
+{
+    text.iter().position(|b| is_blank(*b))
+}
+
+/// What stands before the first blank, and what stands behind it.
+fn cut_at_blank(text: &[u8]) -> (&[u8], &[u8])
+    ensures word { result.0.now ≡ before_first is_blank text.now }
+    ensures rest { result.1.now ≡ after_first is_blank text.now }
+{
+    match blank_at(text) {
+        Some(at) => (&text[..at], &text[at + 1..]),
+        None => (text, &[]),
+    }
 }
 
 /// A line that no blank leads as an include line, where its first word is `include` or `-include`.

@@ -1,7 +1,6 @@
 //! The reading of makefiles: their lines, the files that they include, and what they say.
 #![tactic(auto)]
 
-mod bytes;
 mod commands;
 pub mod default_laws;
 mod fault;

@@ -18,7 +18,7 @@ ghost use Rattle.mk_read.specs.Views.{IsUnread, begun, is_joined, second_text, s
 
 use crate::fault::{Place, ReadFault};
 use crate::files::{Files, FilesError};
-use crate::including::{Source, with_text};
+use crate::including::{Source, read_text};
 use crate::makefile::{Makefile, Rule};
 use crate::state::{Owner, RuleLines, State, with_last};
 use crate::suffix_list::SuffixList;
@@ -59,17 +59,21 @@ fn test_name(alloc: Global, name: Option<&Name>) -> Result<(), ReadFault>
     Ok(())
 }
 
-/// What is read after the default text, where it is asked for.
+/// Reads the default text, where it is asked for, before all else.
 #[tactic(auto, unfolding(crate::specs::Reading::after_default))]
-fn after_default<F: Files>(alloc: Global, files: &mut F, defaults: bool) -> Result<State, ReadFault>
+fn read_default<F: Files>(
+    alloc: Global,
+    files: &mut F,
+    defaults: bool,
+    state: &mut State,
+) -> Result<(), ReadFault>
     requires { F.failed files.old < 2 ^ 64 - 1 }
     ensures map { F.told files.new ≡ F.told files.old }
-    ensures follows { IfSome (F.told files.old) (λ told. Follows told (λ reader. after_default reader defaults) nothing_read result) }
+    ensures follows { IfSome (F.told files.old) (λ told. state.old ≡ nothing_read → Follows told (λ reader. after_default reader defaults) nothing_read (seen (λ done. state.new) result)) }
     ensures counted { Counts (F.failed files.old) (F.failed files.new) result }
 {
-    let state = State::new(alloc);
     if !defaults {
-        return Ok(state);
+        return Ok(());
     }
     let file = Name::new(alloc, "(default)")?;
     let source = Source {
@@ -78,45 +82,39 @@ fn after_default<F: Files>(alloc: Global, files: &mut F, defaults: bool) -> Resu
         default: true,
         levels: 0,
     };
-    with_text(files, &source, DEFAULT_TEXT, state)
+    read_text(files, &source, DEFAULT_TEXT, state)
 }
 
-/// The macros with an operand, of this number.
-fn with_operand(
+/// Fixes a macro by an operand, of this number.
+fn fix_operand(
     alloc: Global,
     number: usize,
-    macros: MacroTable,
+    macros: &mut MacroTable,
     operand: &Name,
-) -> Result<MacroTable, ReadFault>
-    ensures exact { Gives (λ table. table) result (at_place (record { file = codes "operand"; line = number }) (with_operand macros operand.now)) }
+) -> Result<(), ReadFault>
+    ensures exact { Gives (λ done. macros.new) result (at_place (record { file = codes "operand"; line = number }) (with_operand macros.old operand.now)) }
     ensures own { IfErr result IsOfText }
 {
-    let mut table = macros;
     let place = Place {
         file: Name::new(alloc, "operand")?,
         line: number,
     };
-    match table.fix(operand.as_str().as_bytes()) {
-        Ok(()) => Ok(table),
+    match macros.fix(operand.as_str().as_bytes()) {
+        Ok(()) => Ok(()),
         Err(MacroFault::Memory) => Err(ReadFault::Memory),
         Err(fault) => Err(ReadFault::Macro(place, fault)),
     }
 }
 
-/// The macros with the operands, one after another.
-fn with_operands(
-    alloc: Global,
-    macros: MacroTable,
-    operands: &[Name],
-) -> Result<MacroTable, ReadFault>
-    ensures exact { Gives (λ table. table) result (with_operands 1 operands.now macros) }
+/// Fixes macros by the operands, one after another.
+fn fix_operands(alloc: Global, macros: &mut MacroTable, operands: &[Name]) -> Result<(), ReadFault>
+    ensures exact { Gives (λ done. macros.new) result (with_operands 1 operands.now macros.old) }
     ensures own { IfErr result IsOfText }
 {
-    let mut table = macros;
     for (i, operand) in operands.iter().enumerate() {
-        table = with_operand(alloc, i + 1, table, operand)?;
+        fix_operand(alloc, i + 1, macros, operand)?;
     }
-    Ok(table)
+    Ok(())
 }
 
 /// The text of a makefile, where it is there. Fault 35 where the reader fails.
@@ -148,80 +146,78 @@ fn alone(alloc: Global, name: &str) -> Result<Vec<String>, AllocError>
     Ok(names)
 }
 
-/// What is read after the makefile's own text.
-fn with_own_text<F: Files>(
+/// Reads the makefile's own text.
+fn read_own_text<F: Files>(
     alloc: Global,
     files: &mut F,
     name: &str,
     text: &[u8],
-    state: State,
-) -> Result<State, ReadFault>
+    state: &mut State,
+) -> Result<(), ReadFault>
     requires { F.failed files.old < 2 ^ 64 - 1 }
     ensures map { F.told files.new ≡ F.told files.old }
-    ensures follows { IfSome (F.told files.old) (λ told. Follows told (λ reader. reading 16 reader name.now text.now (begun state name.now)) (begun state name.now) result) }
+    ensures follows { IfSome (F.told files.old) (λ told. Follows told (λ reader. reading 16 reader name.now text.now (begun state.old name.now)) (begun state.old name.now) (seen (λ done. state.new) result)) }
     ensures counted { Counts (F.failed files.old) (F.failed files.new) result }
 {
     let file = Name::new(alloc, name)?;
     let texts = alone(alloc, name)?;
-    let state = state.owned(Owner::Nobody)?;
-    let state = State { texts, ..state };
+    state.own(Owner::Nobody)?;
+    state.texts = texts;
     let source = Source {
         alloc,
         file: &file,
         default: false,
         levels: MAX_LEVELS,
     };
-    with_text(files, &source, text, state)
+    read_text(files, &source, text, state)
 }
 
-/// What is read after the makefile of this name. Fault 37 where it isn't there.
-fn from_name<F: Files>(
+/// Reads the makefile of this name. Fault 37 where it isn't there.
+fn read_named<F: Files>(
     alloc: Global,
     files: &mut F,
     name: &Name,
-    state: State,
-) -> Result<State, ReadFault>
+    state: &mut State,
+) -> Result<(), ReadFault>
     requires { F.failed files.old < 2 ^ 64 - 1 }
     ensures map { F.told files.new ≡ F.told files.old }
-    ensures follows { IfSome (F.told files.old) (λ told. IsUnread state → Follows told (λ reader. from_named reader state (Some name.now)) state result) }
+    ensures follows { IfSome (F.told files.old) (λ told. IsUnread state.old → Follows told (λ reader. from_named reader state.old (Some name.now)) state.old (seen (λ done. state.new) result)) }
     ensures counted { Counts (F.failed files.old) (F.failed files.new) result }
 {
     let text = name.as_str();
     let copy = Name::new(alloc, text)?;
     match makefile_at(alloc, files, text)? {
-        Some(bytes) => with_own_text(alloc, files, text, &bytes, state),
+        Some(bytes) => read_own_text(alloc, files, text, &bytes, state),
         None => Err(ReadFault::NoMakefile(Some(copy))),
     }
 }
 
-/// What is read after the second usual makefile, where the first isn't there. Fault 37 where it isn't
-/// there either.
-fn from_second<F: Files>(alloc: Global, files: &mut F, state: State) -> Result<State, ReadFault>
+/// Reads the second usual makefile, where the first isn't there. Fault 37 where it isn't there either.
+fn read_second<F: Files>(alloc: Global, files: &mut F, state: &mut State) -> Result<(), ReadFault>
     requires { F.failed files.old < 2 ^ 64 - 1 }
     ensures map { F.told files.new ≡ F.told files.old }
-    ensures follows { IfSome (F.told files.old) (λ told. state.texts ≡ [] → Follows told (λ reader. second_text reader state) (without_makefile state) result) }
+    ensures follows { IfSome (F.told files.old) (λ told. state.old.texts ≡ [] → Follows told (λ reader. second_text reader state.old) (without_makefile state.old) (seen (λ done. state.new) result)) }
     ensures counted { Counts (F.failed files.old) (F.failed files.new) result }
 {
     match makefile_at(alloc, files, "Makefile")? {
         Some(text) => {
-            let missing = alone(alloc, "makefile")?;
-            let state = State { missing, ..state };
-            with_own_text(alloc, files, "Makefile", &text, state)
+            state.missing = alone(alloc, "makefile")?;
+            read_own_text(alloc, files, "Makefile", &text, state)
         }
         None => Err(ReadFault::NoMakefile(None)),
     }
 }
 
-/// What is read after a usual makefile.
-fn from_usual<F: Files>(alloc: Global, files: &mut F, state: State) -> Result<State, ReadFault>
+/// Reads a usual makefile.
+fn read_usual<F: Files>(alloc: Global, files: &mut F, state: &mut State) -> Result<(), ReadFault>
     requires { F.failed files.old < 2 ^ 64 - 1 }
     ensures map { F.told files.new ≡ F.told files.old }
-    ensures follows { IfSome (F.told files.old) (λ told. IsUnread state → Follows told (λ reader. from_named reader state None) state result) }
+    ensures follows { IfSome (F.told files.old) (λ told. IsUnread state.old → Follows told (λ reader. from_named reader state.old None) state.old (seen (λ done. state.new) result)) }
     ensures counted { Counts (F.failed files.old) (F.failed files.new) result }
 {
     match makefile_at(alloc, files, "makefile")? {
-        Some(text) => with_own_text(alloc, files, "makefile", &text, state),
-        None => from_second(alloc, files, state),
+        Some(text) => read_own_text(alloc, files, "makefile", &text, state),
+        None => read_second(alloc, files, state),
     }
 }
 
@@ -318,26 +314,26 @@ fn makefile_of(alloc: Global, state: State) -> Result<Makefile, AllocError>
     })
 }
 
-/// What is read in all: the default text, where it is asked for, the operands, and the makefile.
-fn state_of<F: Files>(
+/// Reads all: the default text, where it is asked for, the operands, and the makefile.
+fn read_all<F: Files>(
     alloc: Global,
     files: &mut F,
     name: Option<&Name>,
     defaults: bool,
     operands: &[Name],
-) -> Result<State, ReadFault>
+    state: &mut State,
+) -> Result<(), ReadFault>
     requires { F.failed files.old < 2 ^ 64 - 1 }
     ensures map { F.told files.new ≡ F.told files.old }
-    ensures follows { IfSome (F.told files.old) (λ told. Follows told (λ reader. state_read reader (option_copied name.entry) defaults operands.now) nothing_read result) }
+    ensures follows { IfSome (F.told files.old) (λ told. state.old ≡ nothing_read → Follows told (λ reader. state_read reader (option_copied name.entry) defaults operands.now) nothing_read (seen (λ done. state.new) result)) }
     ensures counted { Counts (F.failed files.old) (F.failed files.new) result }
 {
     test_name(alloc, name)?;
-    let start = after_default(alloc, files, defaults)?;
-    let macros = with_operands(alloc, start.macros, operands)?;
-    let state = State { macros, ..start };
+    read_default(alloc, files, defaults, state)?;
+    fix_operands(alloc, &mut state.macros, operands)?;
     match name {
-        Some(name) => from_name(alloc, files, name, state),
-        None => from_usual(alloc, files, state),
+        Some(name) => read_named(alloc, files, name, state),
+        None => read_usual(alloc, files, state),
     }
 }
 
@@ -363,6 +359,7 @@ pub fn read_makefile<F: Files>(
     ensures answer { IfSome (F.told files.old) (λ told. Answers told (λ reader. makefile reader (option_copied name.entry) defaults operands.now) (seen (λ m. m) result)) }
     ensures counted { Counts (F.failed files.old) (F.failed files.new) result }
 {
-    let state = state_of(alloc, files, name, defaults, operands)?;
+    let mut state = State::new(alloc);
+    read_all(alloc, files, name, defaults, operands, &mut state)?;
     Ok(makefile_of(alloc, state)?)
 }

@@ -1,8 +1,8 @@
 //! Laws of rule lines and of operands, about the definitions alone.
 
-ghost use Rattle.mk_read.specs.RuleLaws.{OneLineHasTheCommands, CommandsAreOfTheOneLine, ElseCommandsAreOfTheDefaultText, WordsComeFromAllLines, OtherLinesGiveNoWords, NamingLinesGiveTheirWords, OperandsWinOverMakefiles, LastOperandWins, RuleLinesAreWellNamed};
+ghost use Rattle.mk_read.specs.RuleLaws.{OneLineHasTheCommands, CommandsAreOfTheOneLine, ElseCommandsAreOfTheDefaultText, WordsComeFromAllLines, OtherLinesGiveNoWords, NamingLinesGiveTheirWords, OperandsWinOverMakefiles, LastOperandWins, RuleLinesAreWellNamed, SuffixesAreSuffixes};
 
-use mk_macros::definition_laws::{operands_fix, operands_win};
+use mk_macros::definition_laws::{operands_fix, operands_leave_others, operands_win};
 
 /// In a makefile that is read, at most one rule line gives a name its commands.
 pub fn one_line_has_the_commands()
@@ -47,10 +47,16 @@ pub fn last_operand_wins()
 {
     operands_fix();
     operands_win();
+    operands_leave_others();
 }
 
 /// Each rule line of a makefile has a target, its targets and prerequisites are names, and no
 /// target of it is special.
 pub fn rule_lines_are_well_named()
     ensures { RuleLinesAreWellNamed }
+{}
+
+/// The words that a makefile lists as suffixes are suffixes.
+pub fn suffixes_are_suffixes()
+    ensures { SuffixesAreSuffixes }
 {}

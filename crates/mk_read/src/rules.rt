@@ -15,7 +15,6 @@ ghost use Rattle.mk_read.specs.Special.{is_suffix, listed, special_among, is_unk
 ghost use Rattle.mk_read.specs.Steps.{Gives, at_place};
 ghost use Rattle.mk_read.specs.Views.{IsMacroFault, assigned, expanded_text, place_at, ruled};
 
-use crate::bytes::without_blanks;
 use crate::fault::ReadFault;
 use crate::kinds::{AssignmentLine, RuleLine};
 use crate::makefile::{Command, Rule};
@@ -24,7 +23,7 @@ use crate::special::{Special, is_suffix, special_of};
 use crate::spot::Spot;
 use crate::state::{Owner, RuleLines, State};
 use crate::suffix_list::SuffixList;
-use mk_macros::{Locals, MacroFault, MacroTable};
+use mk_macros::{Locals, MacroFault, MacroTable, without_blanks};
 use std::alloc::{AllocError, Global};
 use std::borrow::CowSlice;
 use std::mem;
@@ -103,26 +102,16 @@ impl State {
     }
 
     /// An assignment, whose name is expanded first.
-    fn assign(&mut self, spot: &Spot<'_>, line: &AssignmentLine<'_>) -> Result<(), ReadFault>
+    pub(crate) fn assign(
+        &mut self,
+        spot: &Spot<'_>,
+        line: &AssignmentLine<'_>,
+    ) -> Result<(), ReadFault>
         ensures exact { Gives (λ done. self.new) result (assignment (place_at spot.now) self.old (assignment_view line.now)) }
         ensures own { IfErr result IsOfText }
     {
         let name = expanded_text(spot, &self.macros, line.name)?;
         self.assign_to(spot, &name, line)
-    }
-
-    /// What is read after an assignment.
-    pub(crate) fn with_assignment(
-        self,
-        spot: &Spot<'_>,
-        line: &AssignmentLine<'_>,
-    ) -> Result<State, ReadFault>
-        ensures exact { Gives (λ state. state) result (assignment (place_at spot.now) self (assignment_view line.now)) }
-        ensures own { IfErr result IsOfText }
-    {
-        let mut state = self;
-        state.assign(spot, line)?;
-        Ok(state)
     }
 }
 
@@ -330,7 +319,7 @@ impl State {
     /// A rule line: its targets are expanded and looked at, then its prerequisites. Where the targets
     /// expand to nothing, the rest and its commands are passed over.
     #[tactic(auto, unfolding(crate::specs::Rules::rule))]
-    fn add_rule(
+    pub(crate) fn add_rule(
         &mut self,
         spot: &Spot<'_>,
         default: bool,
@@ -345,20 +334,5 @@ impl State {
         }
         let words = names_in(spot, &self.macros, line.words)?;
         add_by_names(spot, default, self, targets, words, line.command)
-    }
-
-    /// What is read after a rule line.
-    pub(crate) fn with_rule(
-        self,
-        spot: &Spot<'_>,
-        default: bool,
-        line: &RuleLine<'_>,
-    ) -> Result<State, ReadFault>
-        ensures exact { Gives (λ state. state) result (rule default (place_at spot.now) self (rule_view line.now)) }
-        ensures own { IfErr result IsOfText }
-    {
-        let mut state = self;
-        state.add_rule(spot, default, line)?;
-        Ok(state)
     }
 }

@@ -142,16 +142,6 @@ impl State {
         Ok(())
     }
 
-    /// The same, with another owner of command lines, which has none so far.
-    pub(crate) fn owned(self, owner: Owner) -> Result<State, AllocError>
-        requires { IsBare (owner_view owner) }
-        ensures { IfOk result (λ state. state ≡ record self { read = owned (owner_view owner) self.read }) }
-    {
-        let mut state = self;
-        state.own(owner)?;
-        Ok(state)
-    }
-
     /// Whether no text more may be read.
     pub(crate) fn is_full(&self) -> bool
         ensures { result ≡ nat_le 1024 (length self.now.texts) }
@@ -160,20 +150,11 @@ impl State {
     }
 
     /// Notes a text more that is read.
-    fn note_text(&mut self, alloc: Global, file: &str) -> Result<(), AllocError>
+    pub(crate) fn note_text(&mut self, alloc: Global, file: &str) -> Result<(), AllocError>
         ensures { OnOk result (self.new ≡ record self.old { texts = self.old.texts ++ file.now ∷ [] }) }
     {
         self.texts.push(String::from_str(alloc, file)?)?;
         Ok(())
-    }
-
-    /// The same, with a text more that is read.
-    pub(crate) fn with_text(self, alloc: Global, file: &str) -> Result<State, AllocError>
-        ensures { IfOk result (λ state. state ≡ record self { texts = self.texts ++ file.now ∷ [] }) }
-    {
-        let mut state = self;
-        state.note_text(alloc, file)?;
-        Ok(state)
     }
 
     /// Notes a file more that isn't there and was passed over.

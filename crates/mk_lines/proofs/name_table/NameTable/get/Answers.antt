@@ -1,12 +1,12 @@
 use Rattle.std.proofs.Common.{◌≡◌, ◌<◌, ◌∙◌, ℕ, List, [], length, get_or, sym, ap, string_bytes, arith}
 use Rattle.std.specs.Prelude.{is_some}
 use Rattle.std.proofs.lemmas.List.{get_or-map, length-map}
-use Rattle.mk_infer.proofs.Places.{is_placed, named_at}
-use Rattle.mk_infer.proofs.exists.found_in.Goals as goal
+use Rattle.mk_lines.proofs.Places.{is_placed, named_at}
+use Rattle.mk_lines.proofs.name_table.NameTable.get.Goals as goal
 
 pub returns-in-Some : goal.returns-in-Some
 returns-in-Some c =
-    let names = c.args.table.now in
+    let names = c.args.self.now in
     let name = c.args.name.now in
     let place = c.in-Some.place in
     let at = sym c.in-Some.ensures.place in
@@ -18,4 +18,4 @@ returns-in-Some c =
     (sym spelled ∙ found, there)
 
 pub returns-in-None : goal.returns-in-None
-returns-in-None c = sym (is_placed 0 c.args.table.now c.args.name.now) ∙ ap is_some (sym c.in-None.ensures.place)
+returns-in-None c = sym (is_placed 0 c.args.self.now c.args.name.now) ∙ ap is_some (sym c.in-None.ensures.place)
