@@ -5,7 +5,7 @@
 
 PREFIX = /usr/local
 
-.PHONY: all demo check bench install clean
+.PHONY: all demo check growths bench install clean
 
 # rt looks by itself at what changed since the last build, so `all` is always
 # run and names no source. It proves the program, links it, and runs it once.
@@ -25,6 +25,10 @@ demo: all
 # last line, `N passed, M failed`, is to stay the last one that is printed.
 check:
 	@rt ci
+
+# Refuses each growth of the program in turn, over worked examples.
+growths: all
+	@python3 tests/growths/sweep.py
 
 bench: all
 	@python3 bench/run.py

@@ -1,6 +1,7 @@
 """Writes large makefiles, the same text each time for the same sizes."""
 
 import argparse
+import json
 import sys
 from collections.abc import Callable
 from dataclasses import dataclass, field
@@ -123,8 +124,12 @@ def macros(count: int) -> Generated:
     return Generated(text, nodes=count + len(leaves) + 1, recipes=count + len(leaves))
 
 
+# The footprints of `infer`, which say what is there before the make.
+BOOK = "infer/footprints.json"
+
+
 def infer(count: int) -> Generated:
-    """A program of `count` objects, each made by an inference rule, with ten headers."""
+    """A program of `count` objects, each made by an inference rule, with ten headers; and footprints of its sources."""
     numbers = range(1, count + 1)
     objects = [f"infer/x{number}.o" for number in numbers]
     headers = [f"infer/h{number}.h" for number in range(min(80, 7 * count + 3))]
@@ -132,7 +137,9 @@ def infer(count: int) -> Generated:
     rules = [f"{name}: {' '.join(chosen)}\n" for name, chosen in zip(objects, needed)]
     inference = ".SUFFIXES:\n.SUFFIXES: .o .c\n.c.o:\n\ttouch $@\n"
     text = "".join([inference, recipe("infer/program", objects), *rules])
-    files = dict.fromkeys([*headers, *(f"infer/x{number}.c" for number in numbers)], "")
+    sources = [*headers, *(f"infer/x{number}.c" for number in numbers)]
+    book = json.dumps({"format": 1, "fixed": [], "sources": sources, "records": []})
+    files = {**dict.fromkeys(sources, ""), BOOK: book}
     return Generated(text, nodes=2 * count + len(headers) + 1, recipes=count + 1, files=files)
 
 

@@ -69,7 +69,7 @@ def measure(case: Case, program: Path) -> tuple[Measure, Measure]:
     taken: tuple[list, list] = ([], [])
     for _ in range(RUNS):
         for tool, file, usages in ((own, own_file, taken[0]), (peer, peer_file, taken[1])):
-            usages.append(run(tool, str(file), Path(os.devnull)))
+            usages.append(run([tool.path, *tool.arguments, str(file)], Path(os.devnull)))
     return summary(taken[0]), summary(taken[1])
 
 

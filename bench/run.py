@@ -21,11 +21,15 @@ MEMORY_BOUND = 64
 
 @dataclass(frozen=True)
 class Case:
-    """A makefile to measure. The growth is the time against that of the case `smaller`."""
+    """A makefile to measure. The growth is the time against that of the case `smaller`.
+
+    mkcheck gets these words more, which the peers have no need of.
+    """
 
     label: str
     makefile: Generated
     smaller: str | None = None
+    words: tuple[str, ...] = ()
 
     @property
     def file(self) -> str:
@@ -40,6 +44,10 @@ class Tool:
     path: str
     arguments: tuple[str, ...]
     writes_nodes: bool = False
+
+    def command(self, case: Case) -> list[str]:
+        """The words of the command line."""
+        return [self.path, *self.arguments, case.file, *(case.words if self.writes_nodes else ())]
 
     def lines(self, makefile: Generated) -> int:
         """How many lines it writes: mkcheck one for each node, after that of the goals."""
@@ -81,14 +89,13 @@ def tools(program: Path) -> list[Tool]:
     return found
 
 
-def run(tool: Tool, file: str, output: Path) -> resource.struct_rusage:
-    """Runs the tool on the file, and ends the benchmark where it fails."""
-    command = [tool.path, *tool.arguments, file]
+def run(command: list[str], output: Path) -> resource.struct_rusage:
+    """Runs a command, and ends the benchmark where it fails."""
     # Nothing is handed down from a make that calls this script: its flags would change what the peers do.
     environment = {"PATH": os.environ.get("PATH", os.defpath), "LC_ALL": "C"}
     with output.open("wb") as stream:
         redirection = (os.POSIX_SPAWN_DUP2, stream.fileno(), 1)
-        pid = os.posix_spawn(tool.path, command, environment, file_actions=[redirection])
+        pid = os.posix_spawn(command[0], command, environment, file_actions=[redirection])
     _, status, usage = os.wait4(pid, 0)
     if status != 0:
         code = os.waitstatus_to_exitcode(status)
@@ -99,7 +106,7 @@ def run(tool: Tool, file: str, output: Path) -> resource.struct_rusage:
 def try_out(tool: Tool, case: Case) -> None:
     """One run before those that count, to see that the tool does the whole work."""
     output = DATA / "output"
-    run(tool, case.file, output)
+    run(tool.command(case), output)
     with output.open("rb") as stream:
         lines = sum(1 for _ in stream)
     wanted = tool.lines(case.makefile)
@@ -114,7 +121,7 @@ def measure(case: Case, measured: list[Tool]) -> dict[str, Measure]:
     usages: dict[str, list[resource.struct_rusage]] = {tool.name: [] for tool in measured}
     for _ in range(RUNS):
         for tool in measured:
-            usages[tool.name].append(run(tool, case.file, Path(os.devnull)))
+            usages[tool.name].append(run(tool.command(case), Path(os.devnull)))
     return {name: summary(taken) for name, taken in usages.items()}
 
 

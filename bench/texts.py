@@ -5,7 +5,7 @@ import subprocess
 import sys
 from dataclasses import dataclass
 
-from generate import Generated
+from generate import BOOK, Generated
 from run import DATA, HERE, RUNS, Case, Measure, Tool, asked, measure, ratio
 
 # What is to be reached. The table shows it; no figure makes the run fail.
@@ -14,7 +14,13 @@ GROWTH_BOUND = 2.3
 MEMORY_BOUND = 10.0
 
 # Each shape, and its largest size.
-SHAPES = {"long": 260, "includes": 990, "macros": 2800}
+SHAPES = {"long": 260, "includes": 990, "macros": 2800, "infer": 2000}
+
+# From this many megabytes on, a text is held against the memory: a process has some 13 before it reads one.
+LARGE = 2
+
+# What mkcheck is asked beside the makefile.
+WORDS = {"infer": ("-b", BOOK)}
 
 
 @dataclass(frozen=True)
@@ -31,7 +37,7 @@ def written(shape: str, count: int) -> Text:
     command = [sys.executable, HERE / "generate.py", "--into", Case(label, Generated("", 0, 0)).file, shape, str(count)]
     done = subprocess.run(command, capture_output=True, text=True, check=True)
     nodes, recipes, size = map(int, done.stdout.split())
-    return Text(Case(label, Generated("", nodes, recipes)), size / 2**20)
+    return Text(Case(label, Generated("", nodes, recipes), words=WORDS.get(shape, ())), size / 2**20)
 
 
 def row(text: Text, figures: dict[str, Measure], half: dict[str, Measure]) -> str:
@@ -39,8 +45,8 @@ def row(text: Text, figures: dict[str, Measure], half: dict[str, Measure]) -> st
     own = figures["mkcheck"]
     times = "".join(f"{figure.time:>11.1f}" for figure in figures.values())
     growth = own.time / half["mkcheck"].time
-    memory = f"{own.memory:>11.0f}{own.memory / text.size:>9.1f}"
-    return f"{text.case.label:<18}{text.size:>6.1f}{times}{ratio(figures):>8}{growth:>8.1f}{memory}"
+    by_text = f"{own.memory / text.size:>9.1f}" if text.size >= LARGE else ""
+    return f"{text.case.label:<18}{text.size:>6.1f}{times}{ratio(figures):>8}{growth:>8.1f}{own.memory:>11.0f}{by_text}"
 
 
 def show(shape: str, count: int, measured: list[Tool]) -> None:

@@ -1,0 +1,131 @@
+"""Refuses each growth of `mkcheck graph` in turn, over worked examples.
+
+The program must answer the whole text, or end with status 3 and say `want of memory`: never
+anything else, and never a text that is cut. It prints a line for each example, and ends with 1 where
+an answer was another one.
+"""
+
+import os
+import subprocess
+import sys
+import tempfile
+from pathlib import Path
+
+HERE = Path(__file__).resolve().parent
+PROGRAM = HERE.parent.parent / "bin" / "mkcheck"
+NO_BOOK = '{"format":1,"fixed":[],"sources":["a.c"],"records":[]}'
+
+
+def nested(last: str) -> dict[str, str]:
+    """A makefile and sixteen files, each of which includes the next one."""
+    files = {"makefile": "include f1\n"}
+    for level in range(1, 16):
+        files[f"f{level}"] = f"include f{level + 1}\n"
+    files["f16"] = last
+    return files
+
+
+# The files, the words of the command line, the status and what is printed.
+EXAMPLES = {
+    "plain rules": (
+        {"makefile": "p: a.o\n\tcc -o p a.o\na.o: a.c\n\tcc -c a.c\n"},
+        [],
+        0,
+        "goals p\na.c:\na.o recipe: a.c\np recipe: a.o\n",
+    ),
+    "a file that is written beside another": (
+        {
+            "makefile": "m.o: m.c y.tab.h\n\tcc -c m.c\ny.tab.h: y.tab.c\n"
+            "y.tab.c: gram.y\n\tyacc -d gram.y\n"
+        },
+        [],
+        0,
+        "goals m.o\nm.c:\ngram.y:\ny.tab.c recipe: gram.y\ny.tab.h: y.tab.c\n"
+        "m.o recipe: m.c y.tab.h\n",
+    ),
+    "a cycle": (
+        {"makefile": "a: b c\nc: d\nd: c a\n"},
+        [],
+        2,
+        "refused 42 c d c\n",
+    ),
+    "includes to the last level": (nested("a:\n"), [], 0, "goals a\na:\n"),
+    "an include too deep": (nested("include f17\n"), [], 2, "refused 33 f16:1\n"),
+    "a substitution": (
+        {"makefile": "S = a.c b.h\nall: $(S:%.c=obj/%.o)\n"},
+        [],
+        0,
+        "goals all\nobj/a.o:\nb.h:\nall: obj/a.o b.h\n",
+    ),
+    "an inference rule and commands": (
+        {"makefile": "p: a.o\n\t$(CC) -o $@ $^\na.o:\na.c:\n"},
+        ["-c", "CC=cc"],
+        0,
+        "goals p\na.c:\na.o recipe: a.c\n\tcc -O1 -c a.c\np recipe: a.o\n\tcc -o p a.o\n",
+    ),
+    "commands with footprints": (
+        {"makefile": "p: a.o\n\t$(CC) -o $@ $^\n", "B": NO_BOOK},
+        ["-c", "-b", "B", "CC=cc"],
+        0,
+        "goals p\na.c:\na.o recipe: a.c\n\tcc -O1 -c a.c\np recipe: a.o\n\tcc -o p a.o\n",
+    ),
+    "the suffixes in their order": (
+        {"makefile": ".SUFFIXES: .s\n.s.o:\n\tas -o $@ $<\nx.o:\nx.s:\nx.c:\n"},
+        [],
+        0,
+        "goals x.o\nx.c:\nx.o recipe: x.c\n",
+    ),
+}
+
+
+def answer(folder: str, shim: str, words: list[str], refused: int) -> tuple[int, str, str, int]:
+    """The status, both outputs, and how many growths were asked for."""
+    source, sink = os.pipe()
+    environment = {"LD_PRELOAD": shim, "REFUSED": str(refused), "COUNT_TO": str(sink)}
+    done = subprocess.run(
+        [PROGRAM, "graph", *words],
+        cwd=folder,
+        env=environment,
+        pass_fds=[sink],
+        capture_output=True,
+        text=True,
+        check=False,
+    )
+    os.close(sink)
+    with os.fdopen(source) as told:
+        asked = told.read()
+    return done.returncode, done.stdout, done.stderr, int(asked or 0)
+
+
+def sweep(name: str, shim: str) -> bool:
+    """Whether each run over this example answered as it must."""
+    files, words, status, printed = EXAMPLES[name]
+    with tempfile.TemporaryDirectory() as folder:
+        for file, text in files.items():
+            (Path(folder) / file).write_text(text)
+        whole = (status, printed, "")
+        wanting = (3, "", "want of memory\n")
+        asked = answer(folder, shim, words, 0)[3]
+        wanted = 0
+        for refused in range(asked + 1):
+            *got, _ = answer(folder, shim, words, refused)
+            if tuple(got) == wanting and refused > 0:
+                wanted += 1
+            elif tuple(got) != whole:
+                print(f"{name}: growth {refused} of {asked}: {got}")
+                return False
+    print(f"{name}: {asked} growths, {wanted} of them answered by want of memory")
+    return wanted > 0
+
+
+def main() -> None:
+    with tempfile.TemporaryDirectory() as folder:
+        shim = f"{folder}/refuse.so"
+        command = ["cc", "-O1", "-shared", "-fPIC", "-o", shim, str(HERE / "refuse.c")]
+        subprocess.run(command, check=True)
+        passed = [sweep(name, shim) for name in EXAMPLES]
+    sys.exit(0 if all(passed) else 1)
+
+
+if __name__ == "__main__":
+    main()
