@@ -229,7 +229,7 @@ fn finds_names(rt: HostRuntime) -> Result<(), Fail> {
     ] {
         assert_eq!(rt; table.place(name), place, "{name}");
         assert_eq!(rt; table.contains(name), place.is_some(), "{name}");
-        assert_eq!(rt; table.get(name), place.map(|_| name), "{name}");
+        assert_eq!(rt; table.get(name).unwrap_or(""), place.map_or("", |_| name));
     }
     assert!(rt; table.contains_bytes("é".as_bytes()));
     assert!(rt; !table.contains_bytes(b"\xc3"));

@@ -1,21 +1,11 @@
 -- The last operand of a name.
-use Rattle.std.proofs.Common.{◌≡◌, ℕ, ◌+◌, Bool, true, false, not, cond, ltb, List, [], ◌∷◌, ◌++◌, length, Option, None, Some, Result, Ok, Err, refl, sym, ap, ◌∙◌}
-use Rattle.std.specs.List.{list_any, before_first, after_first}
-use Rattle.std.specs.Str.{bytes_eq}
+use Rattle.std.proofs.Common.{◌≡◌, ℕ, ◌+◌, false, List, [], ◌∷◌, ◌++◌, Some, Result, Ok, Err, sym, ap, ◌∙◌}
+use Rattle.std.specs.List.{list_any}
 use Rattle.std.proofs.lemmas.Bool.{or_parts}
-use Rattle.std.proofs.lemmas.Slice.Eq.{bytes_eq-Decides}
-use Rattle.mk_lines.specs.Bytes.{is_byte, trimmed}
 use Rattle.mk_macros.specs.declared.fault.MacroFault.{MacroFault}
-use Rattle.mk_macros.specs.declared.fault.MacroFault.TheVariants.{BadMacroName, ValueTooLong}
-use Rattle.mk_macros.specs.declared.op.Op.{Op}
-use Rattle.mk_macros.specs.declared.op.Op.TheVariants.{Delay, Now, Double}
-use Rattle.mk_macros.specs.Definitions.{stored, operator_of, operand_set, with_operand, without_blanks}
-use Rattle.mk_macros.specs.Expansion.{expansion}
+use Rattle.mk_macros.specs.Definitions.{with_operand}
 use Rattle.mk_macros.specs.Laws.{OperandsFix, OperandsLeaveOthers, OperandsWin, operand_name}
-use Rattle.mk_macros.specs.Names.{is_macro_name}
-use Rattle.mk_macros.specs.Steps.{◌>>=◌}
-use Rattle.mk_macros.specs.Substitution.{ends_with, without_end}
-use Rattle.mk_macros.specs.Table.{Macro, is_called, macro_named, with_macro}
+use Rattle.mk_macros.specs.Table.{Macro, macro_named}
 use Rattle.mk_read.specs.declared.fault.Place.{Place}
 use Rattle.mk_read.specs.Reading.{with_operands}
 use Rattle.mk_read.specs.RuleLaws.{sets, LastOperandWins}

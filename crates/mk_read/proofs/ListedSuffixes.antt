@@ -1,21 +1,21 @@
 -- The suffixes that a makefile lists are suffixes.
-use Rattle.std.proofs.Common.{◌≡◌, ℕ, Bool, true, false, cond, not, List, [], ◌++◌, Option, None, Some, Result, Ok, Err, refl, subst}
+use Rattle.std.proofs.Common.{◌≡◌, ℕ, Bool, true, false, cond, not, List, [], ◌++◌, Option, None, Some, Ok, Err, refl, subst}
 use Rattle.std.specs.Prelude.{◌||◌, codes, length, ◌==◌}
 use Rattle.std.specs.List.{list_any, list_all}
 use Rattle.std.specs.Option.{option_map}
 use Rattle.mk_macros.specs.Definitions.{defined, without_blanks}
 use Rattle.mk_macros.specs.Expansion.{expansion}
 use Rattle.mk_read.specs.declared.fault.Place.{Place}
-use Rattle.mk_read.specs.declared.fault.ReadFault.TheVariants.{SpecialShape, UnknownSpecial}
+use Rattle.mk_read.specs.declared.fault.ReadFault.TheVariants.{SpecialShape}
 use Rattle.mk_read.specs.declared.special.Special.{Special}
 use Rattle.mk_read.specs.declared.special.Special.TheVariants.{Suffixes, Phony, NotParallel, Wordless, Unread}
 use Rattle.mk_read.specs.Kinds.{AssignmentLine, RuleLine}
 use Rattle.mk_read.specs.Names.{names_in, has_name, is_empty, once}
 use Rattle.mk_read.specs.Reading.{Makefile}
 use Rattle.mk_read.specs.RuleLaws.{SuffixesAreSuffixes}
-use Rattle.mk_read.specs.Rules.{has_some, command_line, assignment, special_words, special_rule, new_rule, commands_behind, by_special, by_names, by_targets, rule}
+use Rattle.mk_read.specs.Rules.{has_some, command_line, assignment, special_words, special_rule, new_rule, commands_behind, by_special, by_names, rule}
 use Rattle.mk_read.specs.Special.{is_suffix, is_unknown_special, listed, special_among}
-use Rattle.mk_read.specs.State.{RuleRead, SpecialTarget, PassedOver, State, owned}
+use Rattle.mk_read.specs.State.{RuleRead, SpecialTarget, State, owned}
 use Rattle.mk_read.specs.Steps.{at_place}
 use Rattle.mk_read.proofs.Kept.{Holds, holds_step, holds_if, IsKept, by_default, by_named}
 use Rattle.mk_read.proofs.OneLine.{parts_of}

@@ -1,4 +1,4 @@
-use Rattle.std.proofs.Common.{◌≡◌, Ok, sym, ap}
+use Rattle.std.proofs.Common.{Ok, sym, ap}
 use Rattle.mk_read.specs.Names.{name_of}
 use Rattle.mk_read.proofs.BracketFree.{name_without_brackets}
 use Rattle.mk_read.proofs.names.name_of.Goals as goal
