@@ -13,7 +13,11 @@ from pathlib import Path
 
 HERE = Path(__file__).resolve().parent
 PROGRAM = HERE.parent.parent / "bin" / "mkcheck"
-NO_BOOK = '{"format":1,"fixed":[],"sources":["a.c"],"records":[]}'
+PLAIN_RULES = "p: a.o\n\tcc -o p a.o\na.o: a.c\n\tcc -c a.c\n"
+PLAIN_GRAPH = "goals p\na.c:\na.o recipe: a.c\np recipe: a.o\n"
+NO_RECORDS = '{"format":1,"fixed":[],"sources":["a.c"],"records":[]}'
+SHARING = """{"format":2,"fixed":["/usr/"],"sources":["a.c","a.c"],"lists":{"l":["/usr/x.h"]},"groups":[
+{"goals":["p"],"records":[{"target":"a.o","commands":["cc -c a.c"],"reads":["a.c"],"writes":["a.o"],"shared":["l"]}]}]}"""
 
 
 def nested(last: str) -> dict[str, str]:
@@ -28,10 +32,10 @@ def nested(last: str) -> dict[str, str]:
 # The files, the words of the command line, the status and what is printed.
 EXAMPLES = {
     "plain rules": (
-        {"makefile": "p: a.o\n\tcc -o p a.o\na.o: a.c\n\tcc -c a.c\n"},
+        {"makefile": PLAIN_RULES},
         [],
         0,
-        "goals p\na.c:\na.o recipe: a.c\np recipe: a.o\n",
+        PLAIN_GRAPH,
     ),
     "a file that is written beside another": (
         {
@@ -64,10 +68,28 @@ EXAMPLES = {
         "goals p\na.c:\na.o recipe: a.c\n\tcc -O1 -c a.c\np recipe: a.o\n\tcc -o p a.o\n",
     ),
     "commands with footprints": (
-        {"makefile": "p: a.o\n\t$(CC) -o $@ $^\n", "B": NO_BOOK},
+        {"makefile": "p: a.o\n\t$(CC) -o $@ $^\n", "B": NO_RECORDS},
         ["-c", "-b", "B", "CC=cc"],
         0,
         "goals p\na.c:\na.o recipe: a.c\n\tcc -O1 -c a.c\np recipe: a.o\n\tcc -o p a.o\n",
+    ),
+    "footprints with shared lists": (
+        {"makefile": PLAIN_RULES, "B": SHARING},
+        ["-b", "B", "p"],
+        0,
+        PLAIN_GRAPH,
+    ),
+    "footprints of no JSON": (
+        {"makefile": PLAIN_RULES, "B": "{"},
+        ["-b", "B"],
+        2,
+        "refused 51\n",
+    ),
+    "a name without a rule": (
+        {"makefile": PLAIN_RULES, "B": '{"format":1,"fixed":[],"sources":[],"records":[]}'},
+        ["-b", "B"],
+        2,
+        "refused 41 a.c\n",
     ),
     "the suffixes in their order": (
         {"makefile": ".SUFFIXES: .s\n.s.o:\n\tas -o $@ $<\nx.o:\nx.s:\nx.c:\n"},
