@@ -16,6 +16,7 @@ a: b¶→@x \¶→→y¶→ -$(E)¶b:‖-c‖goals a¶b:¶a recipe: b¶→@x \¶
 a: b¶→$(E)¶b:‖-c‖goals a¶b:¶a recipe: b¶→¶
 a: b c¶b: d¶→b $(X)¶c:¶→c¶d: ; d $@¶X = 1‖-c X=2‖goals a¶d recipe:¶→d d¶b recipe: d¶→b 2¶c recipe:¶→c¶a: b c¶
 a:¶→x $(X)¶X = 1¶X = 2‖-c‖goals a¶a recipe:¶→x 2¶
+X = u;v # w¶a:;$(X)|‖-c‖goals a¶a recipe:¶→u;v |¶
 a: b c b¶→$< $^ $+ $(@D) $?¶b c:‖-c‖goals a¶b:¶c:¶a recipe: b c b¶→b b c b c b . ¶
 a:¶→$(X¶‖-c‖refused 13 makefile:2
 a:¶→$(X¶‖‖goals a¶a recipe:¶

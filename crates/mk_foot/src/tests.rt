@@ -137,6 +137,8 @@ const FIRST: &str = r#"{"format":1,"fixed":["usr"],"sources":[],"records":[]} =>
 {"format":1,"fixed":[],"sources":[],"records":[{"target":"t","commands":[0],"reads":[],"writes":[]}]} => refused 52 commands
 {"format":1,"fixed":[],"sources":[],"records":[{"target":"t","commands":[]}]} => refused 52 reads
 {"format":1,"fixed":[],"sources":[],"records":[{"target":"t","commands":[],"reads":[false],"writes":[]}]} => refused 52 reads
+{"format":1,"fixed":[],"sources":[],"records":[{"target":"t","commands":[],"reads":0,"writes":[]}]} => refused 52 reads
+{"format":1,"fixed":[],"sources":[],"records":[{"target":"t","commands":[],"reads":[],"writes":[0]}]} => refused 52 writes
 {"format":1,"fixed":[],"sources":[],"records":[{"target":"t","commands":[],"reads":[]}]} => refused 52 writes
 {"format":1,"fixed":[],"sources":[],"records":[{"target":"t","commands":[],"reads":[],"writes":{}}]} => refused 52 writes
 {"format":1,"fixed":[],"sources":[],"records":[{"target":"t","commands":[],"reads":[],"writes":[],"shared":[]}]} => refused 52 unknown
@@ -167,6 +169,16 @@ const FIRST: &str = r#"{"format":1,"fixed":["usr"],"sources":[],"records":[]} =>
 
 /// Files of format 2, and what they read as for the goal `p`.
 const SECOND: &str = r#"{"format":2,"fixed":[]} => refused 52 sources
+{"format":2,"fixed":"/"} => refused 52 fixed
+{"format":2,"fixed":[{}]} => refused 52 fixed
+{"format":2,"fixed":[],"sources":{}} => refused 52 sources
+{"format":2,"fixed":[],"sources":[null]} => refused 52 sources
+{"format":2,"fixed":[],"sources":[],"lists":{},"groups":[{"goals":["p"],"records":[{"target":1}]}]} => refused 52 target
+{"format":2,"fixed":[],"sources":[],"lists":{},"groups":[{"goals":["p"],"records":[{"target":"t","commands":{}}]}]} => refused 52 commands
+{"format":2,"fixed":[],"sources":[],"lists":{},"groups":[{"goals":["p"],"records":[{"target":"t","commands":[true]}]}]} => refused 52 commands
+{"format":2,"fixed":[],"sources":[],"lists":{},"groups":[{"goals":["p"],"records":[{"target":"t","commands":[],"reads":"r"}]}]} => refused 52 reads
+{"format":2,"fixed":[],"sources":[],"lists":{},"groups":[{"goals":["p"],"records":[{"target":"t","commands":[],"reads":[[]]}]}]} => refused 52 reads
+{"format":2,"fixed":[],"sources":[],"lists":{},"groups":[{"goals":["p"],"records":[{"target":"t","commands":[],"reads":[],"writes":[1]}]}]} => refused 52 writes
 {"format":2,"fixed":[],"sources":[]} => refused 52 lists
 {"format":2,"fixed":[],"sources":[],"lists":[],"groups":[]} => refused 52 lists
 {"format":2,"fixed":[],"sources":[],"lists":{"a":"b"},"groups":[]} => refused 52 lists

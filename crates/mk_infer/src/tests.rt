@@ -40,14 +40,14 @@ fn names(alloc: Global, words: &str) -> Result<Vec<String>, Fail> {
     Ok(names)
 }
 
-/// These sources and fixed prefixes.
+/// These sources and fixed prefixes, and `m.c` as a name more that counts as there.
 fn exists(alloc: Global, any_leaf: bool, sources: &str, fixed: &str) -> Result<Exists, Fail> {
     Ok(Exists {
         any_leaf,
         sources: table(alloc, sources)?,
         fixed: Prefixes::new(alloc, names(alloc, fixed)?)?,
         texts: table(alloc, "makefile")?,
-        more: table(alloc, "")?,
+        more: table(alloc, "m.c")?,
     })
 }
 
@@ -195,6 +195,8 @@ fn expect_graphs(rt: &impl Abort, alloc: Global, exists: &Exists, table: &str) -
 const GRAPHS: &str = r"p: a.o¶→$(CC) -o $@ $^¶a.o:¶a.c:‖p!| a.o¶a.o!| a.c¶a.c¶
 .SUFFIXES: .s¶.s.o:¶→as -o $@ $<¶x.o:¶x.s:¶x.c:‖x.o!| x.c¶x.c¶
 prog:¶prog.c:‖prog!| prog.c¶prog.c¶
+m.o:‖m.o!| m.c¶m.c¶
+n.o:‖n.o¶
 a.c:¶a.c.sh:‖a.c¶
 a.b.o:¶a.b.c:‖a.b.o!| a.b.c¶a.b.c¶
 a.o:;¶a.c:‖a.o¶
@@ -218,6 +220,8 @@ fn selects_graphs(rt: HostRuntime) -> Result<(), Fail> {
 /// The same where `a.c` is the one source, and what begins with `/usr/` is fixed.
 const GIVEN: &str = r"p: a.o‖p| a.o¶a.o!| a.c¶a.c¶
 p: b.o‖41 b.o
+p: m.o‖41 m.c
+p: m.c‖41 m.c
 p: a.c b.c‖41 b.c
 p: makefile‖p| makefile¶makefile¶
 p: /usr/a.o¶/usr/a.c:‖p| /usr/a.o¶/usr/a.o¶
@@ -270,7 +274,7 @@ fn has_choice(
 }
 
 /// A makefile whose last line defines a macro of its commands.
-const OBJECT: &[u8] = b"d/a.o: b b\n\techo $* $< $^ $+ $(X)\nb.o:\nb.c:\nX = 2\n";
+const OBJECT: &[u8] = b"d/a.o: b b\n\techo $* $< $^ $+ $(X)\nb.o:\nb.c:\nv: b\n\techo $?\nX = 2\n";
 
 /// Sees the commands of two names, and the inferred prerequisite of one.
 fn see_commands(
@@ -281,6 +285,8 @@ fn see_commands(
 ) -> Result<(), Fail> {
     let own = told(alloc, table, exists, "d/a.o")?;
     assert_eq!(rt; own.as_slice(), b"\necho d/a b b b b 2".as_slice());
+    let varying = told(alloc, table, exists, "v")?;
+    assert_eq!(rt; varying.as_slice(), b"?\necho ".as_slice());
     let inferred = told(alloc, table, exists, "b.o")?;
     assert_eq!(rt; inferred.as_slice(), b"\ncc -O1 -c b.c".as_slice());
     assert!(rt; has_choice(alloc, table, exists, "b.o", "b.c")?);
