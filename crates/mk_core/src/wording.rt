@@ -230,7 +230,7 @@ fn foot_fault_text(alloc: Global, fault: &FootFault) -> Result<Vec<u8>, AllocErr
 }
 
 /// The line that is printed of a fault, without a newline: `refused`, the number, then the words;
-/// of want of memory `want of memory`.
+/// of want of memory `want of memory`. The error is want of memory alone.
 #[tactic(auto, unfolding(crate::specs::FaultText::fault_text))]
 pub fn fault_text(alloc: Global, fault: &Fault) -> Result<Vec<u8>, AllocError>
     ensures { IfOk result (λ text. text.items ≡ fault_text fault.now) }

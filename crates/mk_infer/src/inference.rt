@@ -169,7 +169,7 @@ pub fn making<'m>(
 /// The inferred prerequisite of a name, where there is one: what stands before the name's known
 /// suffix, with the first suffix of the list behind it that has a rule with commands and makes a name
 /// that is there. A name with commands of its own has none, nor has a phony name, nor one under a
-/// fixed prefix (IEEE Std 1003.1-2024, XCU make, "Inference Rules").
+/// fixed prefix (the standard's `make`, "Inference Rules"). The error is want of memory alone.
 pub fn choice<'m>(
     alloc: Global,
     table: &RuleTable<'m>,

@@ -204,7 +204,7 @@ impl<'m> Model for RuleTable<'m> {
 }
 
 impl<'m> RuleTable<'m> {
-    /// The table of a makefile.
+    /// The table of a makefile. The error is want of memory alone.
     pub fn new(alloc: Global, makefile: &'m Makefile) -> Result<RuleTable<'m>, AllocError>
         ensures { IfOk result (λ table. table ≡ makefile.now) }
     {

@@ -22,7 +22,7 @@ impl Model for Name {
 }
 
 impl Name {
-    /// A name with a copy of the text.
+    /// A name with a copy of the text. The error is want of memory alone.
     pub fn new(alloc: Global, text: &str) -> Result<Name, AllocError>
         ensures { IfOk result (λ name. name ≡ text.now) }
     {

@@ -32,7 +32,7 @@ impl Model for NameTable {
 }
 
 impl NameTable {
-    /// The table of these names.
+    /// The table of these names. The error is want of memory alone.
     pub fn new(alloc: Global, names: Vec<String>) -> Result<NameTable, AllocError>
         ensures { IfOk result (λ table. table ≡ map string_bytes names.items) }
     {

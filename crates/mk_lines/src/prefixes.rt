@@ -54,7 +54,7 @@ fn has_front(table: &NameTable, lengths: &[usize], name: &[u8]) -> bool
 }
 
 impl Prefixes {
-    /// The table of these prefixes.
+    /// The table of these prefixes. The error is want of memory alone.
     pub fn new(alloc: Global, prefixes: Vec<String>) -> Result<Prefixes, AllocError>
         ensures { IfOk result (λ made. made ≡ map string_bytes prefixes.items) }
     {

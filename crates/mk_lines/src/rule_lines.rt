@@ -46,8 +46,8 @@ fn begins_with_rule_colon(text: &[u8]) -> bool
 }
 
 /// Whether a plain line is a rule line: it is no include line, and the first of `=`, `:`, `;`
-/// outside references is a colon with neither `:` nor `=` behind it. The error is want of memory
-/// alone.
+/// outside references is a colon with neither `:` nor `=` behind it (the standard's `make`, "Target
+/// Rules"). The error is want of memory alone.
 #[tactic(auto, unfolding(crate::specs::RuleLines::is_rule_line))]
 pub fn is_rule_line(alloc: Global, text: &[u8]) -> Result<bool, AllocError>
     ensures { IfOk result (λ is_rule. is_rule ≡ is_rule_line text.now) }

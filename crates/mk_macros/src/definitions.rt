@@ -188,7 +188,7 @@ impl MacroTable {
         }
     }
 
-    /// Takes a definition of the makefile.
+    /// Takes a definition of the makefile (the standard's `make`, "Macros").
     ///
     /// `BadMacroName` where the name isn't one or more of `A-Z a-z 0-9 . _ -`. A definition of a name
     /// that an operand has fixed is passed over, whatever its text. Then the first fault of the text,
@@ -209,7 +209,8 @@ impl MacroTable {
     }
 
     /// Takes a macro operand, which no later definition of the makefile overrides: a name, `=`, `::=`
-    /// or `:::=`, and a text, whose leading blanks are dropped.
+    /// or `:::=`, and a text, whose leading blanks are dropped (the standard's `make`, "Operands" and
+    /// "Macros").
     ///
     /// `BadMacroName` where the operand has no `=`, or what stands before the operator, without the
     /// blanks at its ends, is no macro name. Then as `define`.

@@ -57,7 +57,7 @@ impl MemFiles {
         }
     }
 
-    /// Adds a file behind the others.
+    /// Adds a file behind the others. The error is want of memory alone.
     pub fn add(&mut self, name: &str, text: &[u8]) -> Result<(), AllocError>
         ensures ok { OnOk result (told_by self.new ≡ told_by self.old ++ (name.now, text.now) ∷ []) }
         ensures err { OnErr result (told_by self.new ≡ told_by self.old) }
@@ -85,7 +85,8 @@ impl MemFiles {
     }
 
     /// Reads, as a `Files` does. The read that is to fail fails, and no other does; failures are
-    /// counted, and reads are, up to the greatest number and then no further.
+    /// counted, and reads are, up to the greatest number and then no further. Want of memory is no
+    /// failure.
     pub fn read_next(&mut self, alloc: Global, name: &str) -> Result<Option<Vec<u8>>, FilesError>
         requires { failures_of self.old < 2 ^ 64 - 1 }
         ensures files { told_by self.new ≡ told_by self.old }

@@ -12,17 +12,23 @@ ghost use Rattle.mk_read.specs.Following.{IsOfText};
 ghost use Rattle.mk_read.specs.Steps.{Gives};
 
 use crate::fault::{Place, ReadFault};
+use mk_lines::laws::{words_are_longest_parts, words_come_in_order};
 use mk_lines::{Name, is_plain_path};
 use std::alloc::{AllocError, Global};
 use std::str;
 
-/// The longest parts without spaces and tabs, in their order.
+/// The words of a text, each the slice at its span.
 pub fn words<'a>(alloc: Global, text: &'a [u8]) -> Result<Vec<&'a [u8]>, AllocError>
     ensures { IfOk result (λ found. map (λ word. word.now) found.items ≡ words text.now) }
 {
-    text.split(|b| *b == b' ' || *b == b'\t')
-        .filter(|word| !word.is_empty())
-        .collect(alloc)
+    words_are_longest_parts();
+    words_come_in_order();
+    let spans = mk_lines::words(alloc, text)?;
+    let mut found = Vec::new(alloc);
+    for span in &spans {
+        found.push(&text[span.start..span.end])?;
+    }
+    Ok(found)
 }
 
 /// Bytes as text.
@@ -96,7 +102,8 @@ fn make_name(word: &[u8]) -> Option<&str>
     }
 }
 
-/// A word as a name. Fault 28 where it holds a bracket, else 27 where it is no name.
+/// A word as a name (the standard's `make`, "Target Rules" and "Libraries"). Fault 28 where it holds a
+/// bracket, else 27 where it is no name; or want of memory for the fault's place.
 #[tactic(auto, unfolding(crate::specs::Names::name_of))]
 pub fn name_of<'a>(
     alloc: Global,
@@ -123,8 +130,8 @@ pub fn name_of<'a>(
     })
 }
 
-/// The names that a part of a line has, behind its expansion: of each word in turn fault 28 where it
-/// holds a bracket, else 27 where it is no name.
+/// The names that a part of a line has, behind its expansion (the standard's `make`, "Target Rules"): of
+/// each word in turn fault 28 where it holds a bracket, else 27 where it is no name; or want of memory.
 pub fn names_of(
     alloc: Global,
     file: &Name,
@@ -142,7 +149,8 @@ pub fn names_of(
     Ok(names)
 }
 
-/// Whether a name is a dot and three or more of `A-Z` and `_`.
+/// Whether a name is a dot and three or more of `A-Z` and `_`, as special targets are (the standard's
+/// `make`, "Target Rules").
 pub fn is_special(name: &str) -> bool
     ensures { result ≡ is_special name.now }
 {

@@ -137,7 +137,9 @@ fn answered<F: Files>(
     shown(alloc, answer)
 }
 
-/// Reads the words behind the program's name, and answers the request that they make.
+/// Reads the words behind the program's name, and answers the request that they make: with status 0 and
+/// a text, with 2 and a refusal or a fault of the words, with 0 and help or the version. The error is
+/// want of memory alone (the standard's `make`, "Options", "Operands" and "Exit Status").
 pub fn run<F: Files, S: AsStr>(
     alloc: Global,
     files: &mut F,
