@@ -37,3 +37,4 @@ mod DefaultRules
 mod WellNamed
 mod ListedSuffixes
 mod BracketFree
+mod Answered

@@ -1,11 +1,11 @@
 -- What calls that read files answer.
-use Rattle.std.specs.Prelude.{◌≡◌, ℕ, zero, suc, ◌<◌, ◌≤◌, Option, None, Some, Result, Ok, Err}
+use Rattle.std.specs.Prelude.{◌≡◌, ℕ, zero, suc, ◌<◌, ◌≤◌, Option, None, Some, Result, Ok, Err, if◌then◌else◌}
 use Rattle.mk_read.specs.declared.fault.ReadFault.{ReadFault}
-use Rattle.mk_read.specs.declared.fault.ReadFault.TheVariants.{ReadFailed}
+use Rattle.mk_read.specs.declared.fault.ReadFault.TheVariants.{Memory, ReadFailed}
 use Rattle.mk_read.specs.Files.{Told, text_at}
 use Rattle.mk_read.specs.Reading.{Reader, Deeper, reads, reading}
 use Rattle.mk_read.specs.State.{State}
-use Rattle.mk_read.specs.Steps.{Fails}
+use Rattle.mk_read.specs.Steps.{Fails, is_want_of_memory}
 
 -- the reader of these files, of whose reads one fails or none
 abbrev pub reader_of : Told → Option ℕ → Reader
@@ -44,6 +44,10 @@ Rises old new fault = new ≡ old
 abbrev pub Counts : {A : Type 0} → ℕ → ℕ → Result A ReadFault → Type 0
 Counts old new (Ok x) = new ≡ old
 Counts old new (Err fault) = Rises old new fault
+
+-- what a fault is answered as: want of memory in one way
+abbrev pub answered : ReadFault → ReadFault
+answered fault = if is_want_of_memory fault then Memory else fault
 
 -- a fault of a text or of the words: no read failed
 abbrev pub IsOfText : ReadFault → Type 0

@@ -1,6 +1,6 @@
 //! The reading of a makefile.
 
-ghost use Rattle.std.specs.Prelude.{◌≡◌, ◌⊎◌, ◌∷◌, [], ◌+◌, ◌<◌, ◌^◌, ◌-◌, ◌||◌, Some, None, codes, filter, map, IfOk, IfErr, IfSome};
+ghost use Rattle.std.specs.Prelude.{◌≡◌, ◌⊎◌, ◌∷◌, [], true, ◌+◌, ◌<◌, ◌^◌, ◌-◌, ◌||◌, Some, None, codes, filter, map, IfOk, IfErr, IfSome};
 ghost use Rattle.std.specs.List.{list_any};
 ghost use Rattle.std.specs.Option.{option_copied, option_map};
 ghost use Rattle.std.specs.Str.{bytes_eq};
@@ -8,12 +8,12 @@ ghost use Rattle.std.specs.String.{string_bytes};
 ghost use Rattle.mk_macros.specs.Definitions.{with_operand};
 ghost use Rattle.mk_read.specs.declared.fault.ReadFault.TheVariants.{Memory, ReadFailed};
 ghost use Rattle.mk_read.specs.Files.{text_at};
-ghost use Rattle.mk_read.specs.Following.{Answers, Counts, Follows, IsOfText};
+ghost use Rattle.mk_read.specs.Following.{Answers, Counts, Follows, IsOfText, answered};
 ghost use Rattle.mk_read.specs.Reading.{after_default, counts, from_named, makefile, makefile_of, named, reading, with_operands};
 ghost use Rattle.mk_read.specs.Special.{is_inference_name};
 ghost use Rattle.mk_read.specs.Names.{has_name};
 ghost use Rattle.mk_read.specs.State.{nothing_read};
-ghost use Rattle.mk_read.specs.Steps.{Gives, at_place, seen};
+ghost use Rattle.mk_read.specs.Steps.{Gives, at_place, is_want_of_memory, seen};
 ghost use Rattle.mk_read.specs.Views.{IsUnread, begun, is_joined, second_text, state_read, without_makefile};
 
 use crate::fault::{Place, ReadFault};
@@ -337,6 +337,16 @@ fn read_all<F: Files>(
     }
 }
 
+/// What a fault is answered as: want of memory in one way.
+fn answered(fault: ReadFault) -> ReadFault
+    ensures { result ≡ answered fault }
+{
+    if fault.is_want_of_memory() {
+        return ReadFault::Memory;
+    }
+    fault
+}
+
 /// What the makefile of a name says, or without a name `makefile`, else `Makefile`: behind the
 /// default text, where it is asked for, and the macro operands (the standard's `make`, "Makefile
 /// Syntax", "Target Rules", "Macros").
@@ -346,7 +356,8 @@ fn read_all<F: Files>(
 /// done in order, an include line with all lines of its files. In a line 21 to 26 and 33 come first,
 /// by number, then those of the targets or of the macro's name, then those of the rest, each expanded
 /// (11 to 17) and then looked at word by word (27, 28), then 29, 30, 31 and 34, then the reads (36, 35,
-/// 32). `ReadFailed` comes only where the reader has counted a failure in this call.
+/// 32). `ReadFailed` comes only where the reader has counted a failure in this call, and want of memory
+/// as `Memory` alone.
 pub fn read_makefile<F: Files>(
     alloc: Global,
     files: &mut F,
@@ -357,9 +368,12 @@ pub fn read_makefile<F: Files>(
     requires { F.failed files.old < 2 ^ 64 - 1 }
     ensures map { F.told files.new ≡ F.told files.old }
     ensures answer { IfSome (F.told files.old) (λ told. Answers told (λ reader. makefile reader (option_copied name.entry) defaults operands.now) (seen (λ m. m) result)) }
+    ensures memory { IfErr result (λ fault. is_want_of_memory fault ≡ true → fault ≡ Memory) }
     ensures counted { Counts (F.failed files.old) (F.failed files.new) result }
 {
     let mut state = State::new(alloc);
-    read_all(alloc, files, name, defaults, operands, &mut state)?;
-    Ok(makefile_of(alloc, state)?)
+    match read_all(alloc, files, name, defaults, operands, &mut state) {
+        Ok(()) => Ok(makefile_of(alloc, state)?),
+        Err(fault) => Err(answered(fault)),
+    }
 }
