@@ -16,8 +16,12 @@ PROGRAM = HERE.parent.parent / "bin" / "mkcheck"
 PLAIN_RULES = "p: a.o\n\tcc -o p a.o\na.o: a.c\n\tcc -c a.c\n"
 PLAIN_GRAPH = "goals p\na.c:\na.o recipe: a.c\np recipe: a.o\n"
 NO_RECORDS = '{"format":1,"fixed":[],"sources":["a.c"],"records":[]}'
-SHARING = """{"format":2,"fixed":["/usr/"],"sources":["a.c","a.c"],"lists":{"l":["/usr/x.h"]},"groups":[
-{"goals":["p"],"records":[{"target":"a.o","commands":["cc -c a.c"],"reads":["a.c"],"writes":["a.o"],"shared":["l"]}]}]}"""
+RECORDED = """{"format":1,"fixed":[],"sources":["a.c"],"records":[
+{"target":"p","commands":["cc -o p a.o"],"reads":["a.o"],"writes":["p"]},
+{"target":"a.o","commands":["cc -c a.c"],"reads":["a.c"],"writes":["a.o"]}]}"""
+SHARING = """{"format":2,"fixed":["/usr/"],"sources":["a.c","h.h","a.c"],"lists":{"hd":["h.h"]},"groups":[{"goals":["p"],"records":[
+{"target":"p","commands":["cc -o p a.o"],"reads":["a.o"],"writes":["p"],"shared":[]},
+{"target":"a.o","commands":["cc -c a.c"],"reads":["a.c"],"writes":["a.o"],"shared":["hd"]}]}]}"""
 
 
 def nested(last: str) -> dict[str, str]:
@@ -72,6 +76,12 @@ EXAMPLES = {
         ["-c", "-b", "B", "CC=cc"],
         0,
         "goals p\na.c:\na.o recipe: a.c\n\tcc -O1 -c a.c\np recipe: a.o\n\tcc -o p a.o\n",
+    ),
+    "footprints with records": (
+        {"makefile": PLAIN_RULES, "B": RECORDED},
+        ["-b", "B"],
+        0,
+        PLAIN_GRAPH,
     ),
     "footprints with shared lists": (
         {"makefile": PLAIN_RULES, "B": SHARING},
