@@ -11,7 +11,7 @@ use Rattle.mk_read.specs.State.{State, nothing_read}
 use Rattle.mk_read.specs.Steps.{◌>>=◌, Fails}
 use Rattle.mk_read.specs.Views.{IsUnread, begun, second_text, state_read, without_makefile}
 use Rattle.mk_read.proofs.DefaultText.{default_text_says_this}
-use Rattle.mk_read.proofs.Histories.{SoFar, begins, ends, some_with, some_at, steps, stops, text_fault}
+use Rattle.mk_read.proofs.Histories.{SoFar, begins, ends, some_with, some_at, steps, text_fault}
 use Rattle.mk_read.proofs.LineSteps.{memory_follows, reading_is}
 use Rattle.mk_read.proofs.OneFile.{eq_self, sound}
 
@@ -80,15 +80,8 @@ module _ (name : Option (List ℕ)) (defaults : Bool) (operands : List (List ℕ
   abbrev whole : Reader → Result State ReadFault
   whole reader = state_read reader name defaults operands
 
-  pub name_fails : (o : Option Told) (old : State) (fault : ReadFault) → Fails fault (named name) → IsOfText fault → IfSome o (λ told. old ≡ nothing_read → Follows told (λ reader. state_read reader name defaults operands) nothing_read (Err fault))
-  name_fails o old fault fails own = some_with _ o (λ told e none. pure_stop told whole (named name) (λ reader file. after_default reader defaults >>= λ start. with_operands 1 operands start.table >>= λ table. from_named reader (record start { table = table }) file) nothing_read nothing_read fault (begins told whole nothing_read) fails own)
-
   after_name : (told : Told) → named name ≡ Ok name → SoFar told whole (λ reader. after_default reader defaults >>= λ start. with_operands 1 operands start.table >>= λ table. from_named reader (record start { table = table }) name) nothing_read nothing_read
   after_name told is = pure_step told whole (named name) (λ reader file. after_default reader defaults >>= λ start. with_operands 1 operands start.table >>= λ table. from_named reader (record start { table = table }) file) nothing_read nothing_read name (begins told whole nothing_read) is
-
-  pub default_fails : (o : Option Told) (old : State) (fault : ReadFault) → named name ≡ Ok name → IfSome o (λ told. old ≡ nothing_read → Follows told (λ reader. after_default reader defaults) nothing_read (Err fault)) → IfSome o (λ told. old ≡ nothing_read → Follows told (λ reader. state_read reader name defaults operands) nothing_read (Err fault))
-  default_fails o old fault is went = some_with _ o (λ told e none. stops told whole (λ reader. after_default reader defaults) (λ reader start. with_operands 1 operands start.table >>= λ table. from_named reader (record start { table = table }) name) nothing_read nothing_read fault (after_name told is)
-      (some_at (λ t. old ≡ nothing_read → Follows t (λ reader. after_default reader defaults) nothing_read (Err fault)) o told e went none))
 
   module _ (start : State) where
     after_start : (told : Told) → named name ≡ Ok name → Follows told (λ reader. after_default reader defaults) nothing_read (Ok start) → SoFar told whole (λ reader. with_operands 1 operands start.table >>= λ table. from_named reader (record start { table = table }) name) nothing_read start
