@@ -4,8 +4,9 @@
 .POSIX:
 
 PREFIX = /usr/local
+CRATE =
 
-.PHONY: all demo check growths bench install clean
+.PHONY: all demo check edits growths bench install clean
 
 # rt looks by itself at what changed since the last build, so `all` is always
 # run and names no source. It proves the program, links it, and runs it once.
@@ -26,6 +27,11 @@ demo: all
 check:
 	@rt ci
 
+# Tries the wrong edits that the gate leaves out, those of all crates or of one:
+# the prover has to refuse each.
+edits:
+	@python3 tests/edits/run.py $(CRATE)
+
 # Refuses each growth of the program in turn, over worked examples.
 growths: all
 	@python3 tests/growths/sweep.py
@@ -35,6 +41,7 @@ bench: all
 	@python3 bench/texts.py
 	@python3 bench/reading.py
 	@python3 bench/footprint.py
+	@python3 bench/rows.py
 
 install: all
 	mkdir -p $(DESTDIR)$(PREFIX)/bin

@@ -143,6 +143,24 @@ def infer(count: int) -> Generated:
     return Generated(text, nodes=2 * count + len(headers) + 1, recipes=count + 1, files=files)
 
 
+# The footprints of `suffixes`, by which its objects are there.
+SUFFIXES_BOOK = "suffixes/footprints.json"
+
+
+def suffixes(count: int) -> Generated:
+    """A program of `count` objects that are there, for which twice as many suffixes come into question."""
+    numbers = range(1, 2 * count + 1)
+    names = [f".s{number}" for number in numbers]
+    objects = [f"suffixes/x{number}.o" for number in range(1, count + 1)]
+    starts = range(0, len(names), PREREQUISITES_A_LINE)
+    lists = [f".SUFFIXES: {' '.join(names[start : start + PREREQUISITES_A_LINE])}\n" for start in starts]
+    inference = [".SUFFIXES:\n", *lists, ".SUFFIXES: .c .o .a\n.c.o:\n\ttouch $@\n"]
+    others = [f"{name}.a:\n\ttouch $@\n" for name in names]
+    text = "".join([*inference, recipe("all", []), gather(objects), *others])
+    book = json.dumps({"format": 1, "fixed": [], "sources": objects, "records": []})
+    return Generated(text, nodes=count + 1, recipes=1, files={**dict.fromkeys(objects, ""), SUFFIXES_BOOK: book})
+
+
 # Each shape, and the sizes that it takes.
 SHAPES: dict[Callable[..., Generated], tuple[str, ...]] = {
     flat: ("count",),
@@ -152,6 +170,7 @@ SHAPES: dict[Callable[..., Generated], tuple[str, ...]] = {
     includes: ("count",),
     macros: ("count",),
     infer: ("count",),
+    suffixes: ("count",),
 }
 
 

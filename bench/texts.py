@@ -5,7 +5,7 @@ import subprocess
 import sys
 from dataclasses import dataclass
 
-from generate import BOOK, Generated
+from generate import BOOK, SUFFIXES_BOOK, Generated
 from run import DATA, HERE, RUNS, Case, Measure, Tool, asked, measure, ratio
 
 # What is to be reached. The table shows it; no figure makes the run fail.
@@ -14,13 +14,16 @@ GROWTH_BOUND = 2.3
 MEMORY_BOUND = 10.0
 
 # Each shape, and its largest size.
-SHAPES = {"long": 260, "includes": 990, "macros": 2800, "infer": 2000}
+SHAPES = {"long": 260, "includes": 990, "macros": 2800, "infer": 2000, "suffixes": 4000}
+
+# The shapes that mkcheck alone is measured on, since others take minutes.
+ALONE = {"suffixes"}
 
 # From this many megabytes on, a text is held against the memory: a process has some 13 before it reads one.
 LARGE = 2
 
 # What mkcheck is asked beside the makefile.
-WORDS = {"infer": ("-b", BOOK)}
+WORDS = {"infer": ("-b", BOOK), "suffixes": ("-b", SUFFIXES_BOOK)}
 
 
 @dataclass(frozen=True)
@@ -40,10 +43,11 @@ def written(shape: str, count: int) -> Text:
     return Text(Case(label, Generated("", nodes, recipes), words=WORDS.get(shape, ())), size / 2**20)
 
 
-def row(text: Text, figures: dict[str, Measure], half: dict[str, Measure]) -> str:
+def row(text: Text, measured: list[Tool], figures: dict[str, Measure], half: dict[str, Measure]) -> str:
     """The growth is against a makefile of half the size."""
     own = figures["mkcheck"]
-    times = "".join(f"{figure.time:>11.1f}" for figure in figures.values())
+    shown = [f"{figures[tool.name].time:.1f}" if tool.name in figures else "-" for tool in measured]
+    times = "".join(f"{time:>11}" for time in shown)
     growth = own.time / half["mkcheck"].time
     by_text = f"{own.memory / text.size:>9.1f}" if text.size >= LARGE else ""
     return f"{text.case.label:<18}{text.size:>6.1f}{times}{ratio(figures):>8}{growth:>8.1f}{own.memory:>11.0f}{by_text}"
@@ -51,9 +55,10 @@ def row(text: Text, figures: dict[str, Measure], half: dict[str, Measure]) -> st
 
 def show(shape: str, count: int, measured: list[Tool]) -> None:
     """Measures a shape at half of its largest size and at that, and prints a row."""
-    before = measure(written(shape, count // 2).case, measured)
+    taken = measured[:1] if shape in ALONE else measured
+    before = measure(written(shape, count // 2).case, taken)
     text = written(shape, count)
-    print(row(text, measure(text.case, measured), before), flush=True)
+    print(row(text, measured, measure(text.case, taken), before), flush=True)
 
 
 def main() -> None:

@@ -1,5 +1,5 @@
 -- What is answered where a step fails, and where all of them succeed.
-use Rattle.std.proofs.Common.{◌≡◌, ℕ, Bool, true, false, List, [], ◌∷◌, ◌++◌, Option, None, Some, Result, Ok, Err, Vec, ◌⊎◌, inl, inr, refl, sym, ap, subst, ◌∙◌}
+use Rattle.std.proofs.Common.{◌≡◌, ℕ, Bool, true, false, List, [], ◌∷◌, ◌++◌, Option, None, Some, Result, Ok, Err, Vec, inl, inr, refl, sym, ap, subst, ◌∙◌}
 use Rattle.std.specs.Option.{option_map_or}
 use Rattle.std.specs.declared.alloc.Global.{Global}
 use Rattle.mk_graph.specs.Graph as value
@@ -18,15 +18,14 @@ use Rattle.mk_read.specs.declared.fault.ReadFault.TheVariants as read
 use Rattle.mk_read.specs.Files.{Told, text_at}
 use Rattle.mk_read.specs.Following as following
 use Rattle.mk_read.specs.Reading.{Makefile, makefile}
-use Rattle.mk_read.specs.Steps as reading
 use Rattle.mk_core.specs.declared.fault.Fault.{Fault}
 use Rattle.mk_core.specs.declared.fault.Fault.TheVariants.{Read, Infer, Foot, FileReadFailed, NoFile, Memory}
 use Rattle.mk_core.specs.declared.request.Request.{Request}
 use Rattle.mk_core.specs.Answer.{Answers, Draws, DrawsGoals, DrawsGraph, DrawsThere, Prints, makefile_for}
-use Rattle.mk_core.specs.FilesThere.{FileReads, there_by, there_for, there_without_book}
-use Rattle.mk_core.specs.Views.{DrawsNamed, DrawsWords, FindsThere}
+use Rattle.mk_core.specs.FilesThere.{FileReads, there_by, there_for}
+use Rattle.mk_core.specs.Views.{AnswersOver, DrawsFor, DrawsOver, FindsThere}
 use Rattle.mk_core.specs.GraphText.{goals_text, graph_text, lines_of, nodes_text, shown_lines, shown_node, commands_text, node_text}
-use Rattle.mk_core.specs.Steps.{◌>>=◌, Fails, Gives, of_infer, of_read, seen}
+use Rattle.mk_core.specs.Steps.{◌>>=◌, Gives, of_infer, of_read, seen}
 use Rattle.mk_graph.specs.Serial.{serial_order}
 use Rattle.mk_graph.specs.Graph.{node}
 
@@ -81,58 +80,33 @@ module _ (asked : Bool) (m : Makefile) (e : Exists) where
 
   -- ---- the graph, and what is printed of it
 
-  module _ (words : List (List ℕ)) where
-    unnamed_words : (fault : InferFault) → goal_names m words ≡ Err fault → DrawsNamed asked m e (goal_names m words) (Err (Infer fault))
-    unnamed_words fault h = subst (λ (r : Result (List (List ℕ)) InferFault). DrawsNamed asked m e r (Err (Infer fault))) (sym h) refl
+  module _ (goals : List (List ℕ)) where
+    -- the goals have no graph
+    pub graph_fails : (fault : InferFault) → Selects m e goals (Err fault) → DrawsOver asked m e goals (Err (of_infer fault))
+    graph_fails infer.Memory s = tt
+    graph_fails (infer.BadGoal place) s = (Err (infer.BadGoal place), s, refl)
+    graph_fails (infer.GoalIsMember place) s = (Err (infer.GoalIsMember place), s, refl)
+    graph_fails (infer.NoRule name) s = (Err (infer.NoRule name), s, refl)
+    graph_fails infer.NoGoal s = (Err infer.NoGoal, s, refl)
+    graph_fails (infer.InferencePrerequisites place) s = (Err (infer.InferencePrerequisites place), s, refl)
+    graph_fails (infer.Macro place f) s = (Err (infer.Macro place f), s, refl)
+    graph_fails (infer.Graph f) s = (Err (infer.Graph f), s, refl)
 
-    -- the goals are refused
-    pub goals_fail : (fault : InferFault) → inferring.Fails fault (goal_names m words) → DrawsWords asked m e words (Err (of_infer fault))
-    goals_fail infer.Memory h = tt
-    goals_fail (infer.BadGoal place) (inl k) = absurd cc
-    goals_fail (infer.BadGoal place) (inr h) = unnamed_words (infer.BadGoal place) h
-    goals_fail (infer.GoalIsMember place) (inl k) = absurd cc
-    goals_fail (infer.GoalIsMember place) (inr h) = unnamed_words (infer.GoalIsMember place) h
-    goals_fail (infer.NoRule name) (inl k) = absurd cc
-    goals_fail (infer.NoRule name) (inr h) = unnamed_words (infer.NoRule name) h
-    goals_fail infer.NoGoal (inl k) = absurd cc
-    goals_fail infer.NoGoal (inr h) = unnamed_words infer.NoGoal h
-    goals_fail (infer.InferencePrerequisites place) (inl k) = absurd cc
-    goals_fail (infer.InferencePrerequisites place) (inr h) = unnamed_words (infer.InferencePrerequisites place) h
-    goals_fail (infer.Macro place f) (inl k) = absurd cc
-    goals_fail (infer.Macro place f) (inr h) = unnamed_words (infer.Macro place f) h
-    goals_fail (infer.Graph f) (inl k) = absurd cc
-    goals_fail (infer.Graph f) (inr h) = unnamed_words (infer.Graph f) h
-
-    module _ (goals : List (List ℕ)) (named : goal_names m words ≡ Ok goals) where
-      by_goals : (answer : Result (List ℕ) Fault) → DrawsGraph asked m e goals answer → DrawsNamed asked m e (goal_names m words) answer
-      by_goals answer d = subst (λ (r : Result (List (List ℕ)) InferFault). DrawsNamed asked m e r answer) (sym named) d
-
-      -- the goals have no graph
-      pub graph_fails : (fault : InferFault) → Selects m e goals (Err fault) → DrawsWords asked m e words (Err (of_infer fault))
-      graph_fails infer.Memory s = tt
-      graph_fails (infer.BadGoal place) s = by_goals _ (Err (infer.BadGoal place), s, refl)
-      graph_fails (infer.GoalIsMember place) s = by_goals _ (Err (infer.GoalIsMember place), s, refl)
-      graph_fails (infer.NoRule name) s = by_goals _ (Err (infer.NoRule name), s, refl)
-      graph_fails infer.NoGoal s = by_goals _ (Err infer.NoGoal, s, refl)
-      graph_fails (infer.InferencePrerequisites place) s = by_goals _ (Err (infer.InferencePrerequisites place), s, refl)
-      graph_fails (infer.Macro place f) s = by_goals _ (Err (infer.Macro place f), s, refl)
-      graph_fails (infer.Graph f) s = by_goals _ (Err (infer.Graph f), s, refl)
-
-      -- the graph is printed, or its commands have a fault
-      pub graph_drawn : (g : value.Graph) (found : Result (Vec ℕ Global) Fault) → Selects m e goals (Ok g)
-          → Gives (λ text. text.items) found (graph_text (shown_lines asked m e) g) → DrawsWords asked m e words (seen (λ text. text.items) found)
-      graph_drawn g (Ok text) s h = by_goals _ (Ok g, s, sym h)
-      graph_drawn g (Err Memory) s h = tt
-      graph_drawn g (Err (Read f)) s (inl k) = absurd cc
-      graph_drawn g (Err (Read f)) s (inr h) = by_goals _ (Ok g, s, sym h)
-      graph_drawn g (Err (Infer f)) s (inl k) = absurd cc
-      graph_drawn g (Err (Infer f)) s (inr h) = by_goals _ (Ok g, s, sym h)
-      graph_drawn g (Err (Foot f)) s (inl k) = absurd cc
-      graph_drawn g (Err (Foot f)) s (inr h) = by_goals _ (Ok g, s, sym h)
-      graph_drawn g (Err (FileReadFailed n)) s (inl k) = absurd cc
-      graph_drawn g (Err (FileReadFailed n)) s (inr h) = by_goals _ (Ok g, s, sym h)
-      graph_drawn g (Err (NoFile n)) s (inl k) = absurd cc
-      graph_drawn g (Err (NoFile n)) s (inr h) = by_goals _ (Ok g, s, sym h)
+    -- the graph is printed, or its commands have a fault
+    pub graph_drawn : (g : value.Graph) (found : Result (Vec ℕ Global) Fault) → Selects m e goals (Ok g)
+        → Gives (λ text. text.items) found (graph_text (shown_lines asked m e) g) → DrawsOver asked m e goals (seen (λ text. text.items) found)
+    graph_drawn g (Ok text) s h = (Ok g, s, sym h)
+    graph_drawn g (Err Memory) s h = tt
+    graph_drawn g (Err (Read f)) s (inl k) = absurd cc
+    graph_drawn g (Err (Read f)) s (inr h) = (Ok g, s, sym h)
+    graph_drawn g (Err (Infer f)) s (inl k) = absurd cc
+    graph_drawn g (Err (Infer f)) s (inr h) = (Ok g, s, sym h)
+    graph_drawn g (Err (Foot f)) s (inl k) = absurd cc
+    graph_drawn g (Err (Foot f)) s (inr h) = (Ok g, s, sym h)
+    graph_drawn g (Err (FileReadFailed n)) s (inl k) = absurd cc
+    graph_drawn g (Err (FileReadFailed n)) s (inr h) = (Ok g, s, sym h)
+    graph_drawn g (Err (NoFile n)) s (inl k) = absurd cc
+    graph_drawn g (Err (NoFile n)) s (inr h) = (Ok g, s, sym h)
 
   of_selected : (selected : Result value.Graph InferFault) (fault : Fault) → Prints asked m e selected (Err fault) → IsOfCommands fault
   unfolding of_error
@@ -146,11 +120,9 @@ module _ (asked : Bool) (m : Makefile) (e : Exists) where
   of_selected (Err (infer.Macro place f)) fault p = (infer.Macro place f, ap of_error p)
   of_selected (Err (infer.Graph f)) fault p = (infer.Graph f, ap of_error p)
 
-  -- a fault over the goals is one of goals, of their graph or of commands
-  pub of_named : (goals : Result (List (List ℕ)) InferFault) (fault : Fault) → DrawsNamed asked m e goals (Err fault) → IsOfCommands fault
-  unfolding of_error
-  of_named (Err f) fault d = (f, ap of_error d)
-  of_named (Ok goals) fault (selected, s, p) = of_selected selected fault p
+  -- a fault over the goals is one of their graph or of commands
+  pub of_graph : (goals : List (List ℕ)) (fault : Fault) → DrawsGraph asked m e goals (Err fault) → IsOfCommands fault
+  of_graph goals fault (selected, s, p) = of_selected selected fault p
 
 -- what is there has no fault of a makefile
 not_of_makefile : (files : Told) (book : Option (List ℕ)) (m : Makefile) (goals : List (List ℕ)) (f : ReadFault) → there_for files book m goals ≡ Err (Read f) → ⊥
@@ -164,6 +136,41 @@ not_of_makefile files (Some name) m goals f h = by (text_at files name) h
     by : (text : Option (List ℕ)) → option_map_or (λ bytes. there_by m (book_from goals bytes)) text (Err (NoFile name)) ≡ Err (Read f) → ⊥
     by None k = absurd cc
     by (Some bytes) k = of_book (book_from goals bytes) k
+
+-- no fault of commands is one of a makefile, nor a read that failed
+not_read_fault : (f : ReadFault) → IsOfCommands (Read f) → ⊥
+not_read_fault f (i, k) = absurd cc
+
+not_failed : (n : List ℕ) → IsOfCommands (FileReadFailed n) → ⊥
+not_failed n (i, k) = absurd cc
+
+-- the fault that is answered is the one that is found
+fault_same : {one other : Fault} → ◌≡◌ {A = Result (List ℕ) Fault} (Err one) (Err other) → one ≡ other
+unfolding of_error
+fault_same h = ap of_error h
+
+module _ (files : Told) (book : Option (List ℕ)) (asked : Bool) (m : Makefile) (goals : List (List ℕ)) where
+  by_there : (there : Result Exists Fault) → there_for files book m goals ≡ there → (answer : Result (List ℕ) Fault) → DrawsThere asked m there goals answer → DrawsThere asked m (there_for files book m goals) goals answer
+  by_there there h answer d = subst (λ (r : Result Exists Fault). DrawsThere asked m r goals answer) (sym h) d
+
+  -- what is there isn't found
+  pub not_there : (fault : Fault) → FindsThere files book m goals (Err fault) → DrawsFor files book asked m goals (Err fault)
+  not_there Memory h = tt
+  not_there (FileReadFailed name) h = h
+  not_there (Infer f) h = by_there (Err (Infer f)) h (Err (Infer f)) refl
+  not_there (Foot f) h = by_there (Err (Foot f)) h (Err (Foot f)) refl
+  not_there (NoFile name) h = by_there (Err (NoFile name)) h (Err (NoFile name)) refl
+  not_there (Read f) h = by_there (Err (Read f)) h (Err (Read f)) refl
+
+  -- the answer over the files that are there
+  pub drawn : (e : Exists) → FindsThere files book m goals (Ok e) → (answer : Result (List ℕ) Fault) → DrawsOver asked m e goals answer → DrawsFor files book asked m goals answer
+  drawn e h (Ok text) d = by_there (Ok e) h (Ok text) d
+  drawn e h (Err Memory) d = tt
+  drawn e h (Err (Infer f)) d = by_there (Ok e) h (Err (Infer f)) d
+  drawn e h (Err (Foot f)) d = by_there (Ok e) h (Err (Foot f)) d
+  drawn e h (Err (NoFile n)) d = by_there (Ok e) h (Err (NoFile n)) d
+  drawn e h (Err (Read f)) d = by_there (Ok e) h (Err (Read f)) d
+  drawn e h (Err (FileReadFailed n)) d = absurd (not_failed n (of_graph asked m e goals (FileReadFailed n) d))
 
 -- ---- the whole request
 
@@ -219,55 +226,65 @@ module _ (files : Told) (request : Request) (asked : Bool) where
     pub read_fails : (fault : ReadFault) → following.Answers files (λ reader. makefile reader name request.defaults operands) (Err fault) → Answers files request asked (Err (of_read fault))
     read_fails fault h = not_read fault (as_request fault h)
 
-  module _ (m : Makefile) (is : made ≡ Ok m) where
-    -- what is drawn over the goals
-    over : (answer : Result (List ℕ) Fault) → DrawsGoals files request asked m (goal_names m request.goals) answer → Draws files request asked made answer
-    over answer d = subst (λ (r : Result Makefile ReadFault). Draws files request asked r answer) (sym is) d
-
-    -- what is there isn't found
-    pub not_there : (fault : Fault) → FindsThere files request m (Err fault) → Answers files request asked (Err fault)
-    unfolding of_error
-    not_there Memory h = tt
-    not_there (FileReadFailed name) (goals, named, asks) = (m, goals, is, named, asks)
-    not_there (Infer f) h = over (Err (Infer f)) (h asked)
-    not_there (Foot f) h = over (Err (Foot f)) (h asked)
-    not_there (NoFile name) h = over (Err (NoFile name)) (h asked)
-    not_there (Read f) h = absurd (of_goals (goal_names m request.goals) (h asked))
+  module _ (m : Makefile) where
+    -- the answer over a makefile that is read
+    pub over : made ≡ Ok m → (answer : Result (List ℕ) Fault) → AnswersOver files request asked m answer → Answers files request asked answer
+    over is answer a = by answer a
       where
-        of_there : (goals : List (List ℕ)) (there : Result Exists Fault) → there_for files request.book m goals ≡ there → DrawsThere asked m there goals (Err (Read f)) → ⊥
-        of_there goals (Ok e) found (selected, s, p) = differs (of_selected asked m e selected (Read f) p)
-          where
-            differs : IsOfCommands (Read f) → ⊥
-            differs (i, k) = absurd cc
-        of_there goals (Err fault) found d = not_of_makefile files request.book m goals f (found ∙ ap (λ (x : Fault). Err x) (ap of_error (sym d)))
+        drawn_over : (answer : Result (List ℕ) Fault) → DrawsGoals files request asked m (goal_names m request.goals) answer → Draws files request asked made answer
+        drawn_over answer d = subst (λ (r : Result Makefile ReadFault). Draws files request asked r answer) (sym is) d
 
-        of_goals : (goals : Result (List (List ℕ)) InferFault) → DrawsGoals files request asked m goals (Err (Read f)) → ⊥
-        of_goals (Err fault) d = absurd cc
-        of_goals (Ok goals) d = of_there goals (there_for files request.book m goals) refl d
+        of_there : (goals : List (List ℕ)) (f : ReadFault) (there : Result Exists Fault) → there_for files request.book m goals ≡ there → DrawsThere asked m there goals (Err (Read f)) → ⊥
+        of_there goals f (Ok e) found d = not_read_fault f (of_graph asked m e goals (Read f) d)
+        of_there goals f (Err fault) found d = not_of_makefile files request.book m goals f (found ∙ ap (λ (x : Fault). Err x) (sym (fault_same d)))
 
-    module _ (e : Exists) (found : FindsThere files request m (Ok e)) where
-      named : (goals : Result (List (List ℕ)) InferFault) → goal_names m request.goals ≡ goals → (answer : Result (List ℕ) Fault) → DrawsNamed asked m e goals answer → DrawsGoals files request asked m goals answer
-      named (Err fault) k answer d = d
-      named (Ok goals) k answer d = subst (λ (r : Result Exists Fault). DrawsThere asked m r goals answer) (sym (found goals k)) d
+        of_goals : (goals : Result (List (List ℕ)) InferFault) (f : ReadFault) → DrawsGoals files request asked m goals (Err (Read f)) → ⊥
+        of_goals (Err fault) f d = absurd cc
+        of_goals (Ok goals) f d = of_there goals f (there_for files request.book m goals) refl d
 
-      at_last : (answer : Result (List ℕ) Fault) → DrawsNamed asked m e (goal_names m request.goals) answer → Draws files request asked made answer
-      at_last answer d = over answer (named (goal_names m request.goals) refl answer d)
+        by : (answer : Result (List ℕ) Fault) → AnswersOver files request asked m answer → Answers files request asked answer
+        by (Ok text) d = drawn_over (Ok text) d
+        by (Err Memory) d = tt
+        by (Err (Infer f)) d = drawn_over (Err (Infer f)) d
+        by (Err (Foot f)) d = drawn_over (Err (Foot f)) d
+        by (Err (NoFile n)) d = drawn_over (Err (NoFile n)) d
+        by (Err (FileReadFailed n)) (goals, named, asks) = (m, goals, is, named, asks)
+        by (Err (Read f)) d = absurd (of_goals (goal_names m request.goals) f d)
 
-      -- the answer over the files that are there
-      pub drawn : (answer : Result (List ℕ) Fault) → DrawsWords asked m e request.goals answer → Answers files request asked answer
-      drawn (Ok text) d = at_last (Ok text) d
-      drawn (Err Memory) d = tt
-      drawn (Err (Infer f)) d = at_last (Err (Infer f)) d
-      drawn (Err (Foot f)) d = at_last (Err (Foot f)) d
-      drawn (Err (NoFile n)) d = at_last (Err (NoFile n)) d
-      drawn (Err (Read f)) d = absurd (differs (of_named asked m e (goal_names m request.goals) (Read f) d))
-        where
-          differs : IsOfCommands (Read f) → ⊥
-          differs (i, k) = absurd cc
-      drawn (Err (FileReadFailed n)) d = absurd (differs (of_named asked m e (goal_names m request.goals) (FileReadFailed n) d))
-        where
-          differs : IsOfCommands (FileReadFailed n) → ⊥
-          differs (i, k) = absurd cc
+    unnamed : (fault : InferFault) → goal_names m request.goals ≡ Err fault → DrawsGoals files request asked m (goal_names m request.goals) (Err (Infer fault))
+    unnamed fault h = subst (λ (r : Result (List (List ℕ)) InferFault). DrawsGoals files request asked m r (Err (Infer fault))) (sym h) refl
+
+    -- the goals are refused
+    pub goals_fail : (fault : InferFault) → inferring.Fails fault (goal_names m request.goals) → AnswersOver files request asked m (Err (of_infer fault))
+    goals_fail infer.Memory h = tt
+    goals_fail (infer.BadGoal place) (inl k) = absurd cc
+    goals_fail (infer.BadGoal place) (inr h) = unnamed (infer.BadGoal place) h
+    goals_fail (infer.GoalIsMember place) (inl k) = absurd cc
+    goals_fail (infer.GoalIsMember place) (inr h) = unnamed (infer.GoalIsMember place) h
+    goals_fail (infer.NoRule name) (inl k) = absurd cc
+    goals_fail (infer.NoRule name) (inr h) = unnamed (infer.NoRule name) h
+    goals_fail infer.NoGoal (inl k) = absurd cc
+    goals_fail infer.NoGoal (inr h) = unnamed infer.NoGoal h
+    goals_fail (infer.InferencePrerequisites place) (inl k) = absurd cc
+    goals_fail (infer.InferencePrerequisites place) (inr h) = unnamed (infer.InferencePrerequisites place) h
+    goals_fail (infer.Macro place f) (inl k) = absurd cc
+    goals_fail (infer.Macro place f) (inr h) = unnamed (infer.Macro place f) h
+    goals_fail (infer.Graph f) (inl k) = absurd cc
+    goals_fail (infer.Graph f) (inr h) = unnamed (infer.Graph f) h
+
+    module _ (goals : List (List ℕ)) (named : goal_names m request.goals ≡ Ok goals) where
+      by_goals : (answer : Result (List ℕ) Fault) → DrawsThere asked m (there_for files request.book m goals) goals answer → DrawsGoals files request asked m (goal_names m request.goals) answer
+      by_goals answer d = subst (λ (r : Result (List (List ℕ)) InferFault). DrawsGoals files request asked m r answer) (sym named) d
+
+      -- the answer over the goals
+      pub over_goals : (answer : Result (List ℕ) Fault) → DrawsFor files request.book asked m goals answer → AnswersOver files request asked m answer
+      over_goals (Ok text) d = by_goals (Ok text) d
+      over_goals (Err Memory) d = tt
+      over_goals (Err (Infer f)) d = by_goals (Err (Infer f)) d
+      over_goals (Err (Foot f)) d = by_goals (Err (Foot f)) d
+      over_goals (Err (NoFile n)) d = by_goals (Err (NoFile n)) d
+      over_goals (Err (Read f)) d = by_goals (Err (Read f)) d
+      over_goals (Err (FileReadFailed n)) asks = (goals, named, asks)
 
 -- a makefile that is read
 pub read_well : (files : Told) (request : Request) (name : Option (List ℕ)) (operands : List (List ℕ)) → name ≡ request.makefile → operands ≡ request.operands → (m : Makefile)
@@ -278,67 +295,35 @@ read_well files request name operands n o m h =
 
 -- ---- the files that are there
 
-names_of : Result (List (List ℕ)) InferFault → List (List ℕ)
-names_of (Ok names) = names
-names_of (Err fault) = []
+module _ (files : Told) (m : Makefile) (goals : List (List ℕ)) (name : List ℕ) where
+  -- the file of footprints isn't read
+  pub found_unread : (fault : Fault) → FileReads files name (Err fault) → FindsThere files (Some name) m goals (Err fault)
+  found_unread Memory h = tt
+  found_unread (FileReadFailed other) (same) = ap (λ (n : List ℕ). Some n) (sym same)
+  found_unread (NoFile other) (same, none) = ap (λ (text : Option (List ℕ)). option_map_or (λ bytes. there_by m (book_from goals bytes)) text (Err (NoFile name))) none ∙ ap (λ (n : List ℕ). Err (NoFile n)) (sym same)
+  found_unread (Read f) h = absurd h
+  found_unread (Infer f) h = absurd h
+  found_unread (Foot f) h = absurd h
 
-module _ (files : Told) (request : Request) (m : Makefile) where
-  -- with no footprints
-  pub found_without : request.book ≡ None → FindsThere files request m (Ok (there_without_book m))
-  found_without none goals named = ap (λ (book : Option (List ℕ)). there_for files book m goals) none
+  module _ (bytes : List ℕ) (is : text_at files name ≡ Some bytes) where
+    is_read : there_for files (Some name) m goals ≡ there_by m (book_from goals bytes)
+    is_read = ap (λ (text : Option (List ℕ)). option_map_or (λ found. there_by m (book_from goals found)) text (Err (NoFile name))) is
 
-  -- the goals are refused
-  pub found_unnamed : (fault : InferFault) → inferring.Fails fault (goal_names m request.goals) → FindsThere files request m (Err (of_infer fault))
-  found_unnamed infer.Memory h = tt
-  found_unnamed (infer.BadGoal place) (inl k) = absurd cc
-  found_unnamed (infer.BadGoal place) (inr h) = λ asked. subst (λ (r : Result (List (List ℕ)) InferFault). DrawsGoals files request asked m r (Err (Infer (infer.BadGoal place)))) (sym h) refl
-  found_unnamed (infer.GoalIsMember place) (inl k) = absurd cc
-  found_unnamed (infer.GoalIsMember place) (inr h) = λ asked. subst (λ (r : Result (List (List ℕ)) InferFault). DrawsGoals files request asked m r (Err (Infer (infer.GoalIsMember place)))) (sym h) refl
-  found_unnamed (infer.NoRule name) (inl k) = absurd cc
-  found_unnamed (infer.NoRule name) (inr h) = λ asked. subst (λ (r : Result (List (List ℕ)) InferFault). DrawsGoals files request asked m r (Err (Infer (infer.NoRule name)))) (sym h) refl
-  found_unnamed infer.NoGoal (inl k) = absurd cc
-  found_unnamed infer.NoGoal (inr h) = λ asked. subst (λ (r : Result (List (List ℕ)) InferFault). DrawsGoals files request asked m r (Err (Infer infer.NoGoal))) (sym h) refl
-  found_unnamed (infer.InferencePrerequisites place) (inl k) = absurd cc
-  found_unnamed (infer.InferencePrerequisites place) (inr h) = λ asked. subst (λ (r : Result (List (List ℕ)) InferFault). DrawsGoals files request asked m r (Err (Infer (infer.InferencePrerequisites place)))) (sym h) refl
-  found_unnamed (infer.Macro place f) (inl k) = absurd cc
-  found_unnamed (infer.Macro place f) (inr h) = λ asked. subst (λ (r : Result (List (List ℕ)) InferFault). DrawsGoals files request asked m r (Err (Infer (infer.Macro place f)))) (sym h) refl
-  found_unnamed (infer.Graph f) (inl k) = absurd cc
-  found_unnamed (infer.Graph f) (inr h) = λ asked. subst (λ (r : Result (List (List ℕ)) InferFault). DrawsGoals files request asked m r (Err (Infer (infer.Graph f)))) (sym h) refl
-
-  module _ (goals : List (List ℕ)) (named : goal_names m request.goals ≡ Ok goals) (name : List ℕ) (asks : request.book ≡ Some name) where
-    there_is : (text : Option (List ℕ)) → text_at files name ≡ text → there_for files request.book m goals ≡ option_map_or (λ bytes. there_by m (book_from goals bytes)) text (Err (NoFile name))
-    there_is text is = ap (λ (book : Option (List ℕ)). there_for files book m goals) asks ∙ ap (λ (t : Option (List ℕ)). option_map_or (λ bytes. there_by m (book_from goals bytes)) t (Err (NoFile name))) is
-
-    the_fault : (fault : Fault) → there_for files request.book m goals ≡ Err fault → (asked : Bool) → DrawsGoals files request asked m (goal_names m request.goals) (Err fault)
-    the_fault fault h asked =
-        subst (λ (r : Result (List (List ℕ)) InferFault). DrawsGoals files request asked m r (Err fault)) (sym named)
-        (subst (λ (r : Result Exists Fault). DrawsThere asked m r goals (Err fault)) (sym h) refl)
-
-    -- the file of footprints isn't read
-    pub found_unread : (fault : Fault) → FileReads files name (Err fault) → FindsThere files request m (Err fault)
-    found_unread Memory h = tt
-    found_unread (FileReadFailed other) h = (goals, named, asks ∙ ap (λ (n : List ℕ). Some n) (sym h))
-    found_unread (NoFile other) (is, none) = the_fault (NoFile other) (there_is None none ∙ ap (λ (n : List ℕ). Err (NoFile n)) (sym is))
-    found_unread (Read f) h = absurd h
-    found_unread (Infer f) h = absurd h
-    found_unread (Foot f) h = absurd h
+    no_read : (n : List ℕ) (r : Result Book FootFault) → there_by m r ≡ Err (FileReadFailed n) → ⊥
+    no_read n (Ok book) k = absurd cc
+    no_read n (Err fault) k = absurd cc
 
     -- what the footprints say
-    pub found_by : (bytes : List ℕ) (found : Result Exists Fault) → text_at files name ≡ Some bytes → Gives (λ there. there) found (there_by m (book_from goals bytes)) → FindsThere files request m found
-    unfolding names_of
-    found_by bytes (Ok e) is h = λ others k. subst (λ (gs : List (List ℕ)). there_for files request.book m gs ≡ Ok e) (ap names_of (sym named ∙ k)) (there_is (Some bytes) is ∙ h)
-    found_by bytes (Err Memory) is h = tt
-    found_by bytes (Err (FileReadFailed n)) is (inl k) = absurd cc
-    found_by bytes (Err (FileReadFailed n)) is (inr h) = absurd (no_read (book_from goals bytes) h)
-      where
-        no_read : (r : Result Book FootFault) → there_by m r ≡ Err (FileReadFailed n) → ⊥
-        no_read (Ok book) k = absurd cc
-        no_read (Err fault) k = absurd cc
-    found_by bytes (Err (Read f)) is (inl k) = absurd cc
-    found_by bytes (Err (Read f)) is (inr h) = the_fault (Read f) (there_is (Some bytes) is ∙ h)
-    found_by bytes (Err (Infer f)) is (inl k) = absurd cc
-    found_by bytes (Err (Infer f)) is (inr h) = the_fault (Infer f) (there_is (Some bytes) is ∙ h)
-    found_by bytes (Err (Foot f)) is (inl k) = absurd cc
-    found_by bytes (Err (Foot f)) is (inr h) = the_fault (Foot f) (there_is (Some bytes) is ∙ h)
-    found_by bytes (Err (NoFile n)) is (inl k) = absurd cc
-    found_by bytes (Err (NoFile n)) is (inr h) = the_fault (NoFile n) (there_is (Some bytes) is ∙ h)
+    pub found_by : (found : Result Exists Fault) → Gives (λ there. there) found (there_by m (book_from goals bytes)) → FindsThere files (Some name) m goals found
+    found_by (Ok e) h = is_read ∙ h
+    found_by (Err Memory) h = tt
+    found_by (Err (FileReadFailed n)) (inl k) = absurd cc
+    found_by (Err (FileReadFailed n)) (inr h) = absurd (no_read n (book_from goals bytes) h)
+    found_by (Err (Read f)) (inl k) = absurd cc
+    found_by (Err (Read f)) (inr h) = is_read ∙ h
+    found_by (Err (Infer f)) (inl k) = absurd cc
+    found_by (Err (Infer f)) (inr h) = is_read ∙ h
+    found_by (Err (Foot f)) (inl k) = absurd cc
+    found_by (Err (Foot f)) (inr h) = is_read ∙ h
+    found_by (Err (NoFile n)) (inl k) = absurd cc
+    found_by (Err (NoFile n)) (inr h) = is_read ∙ h

@@ -1,22 +1,20 @@
 -- Where the count of failed reads stays.
-use Rattle.std.proofs.Common.{◌≡◌, ℕ, Bool, List, Option, None, Some, Result, Ok, Err, Vec, inl, inr, sym, ◌∙◌}
+use Rattle.std.proofs.Common.{◌≡◌, ℕ, Bool, List, Option, None, Some, Result, Ok, Err, Vec, inl, inr}
 use Rattle.std.specs.Prelude.{IfSome}
 use Rattle.std.specs.declared.alloc.Global.{Global}
 use Rattle.mk_foot.specs.Book.{Book}
 use Rattle.mk_foot.specs.declared.fault.FootFault.{FootFault}
-use Rattle.mk_infer.specs.Goals.{goal_names}
 use Rattle.mk_infer.specs.There.{Exists}
 use Rattle.mk_infer.specs.declared.fault.InferFault.{InferFault}
 use Rattle.mk_infer.specs.declared.fault.InferFault.TheVariants as infer
-use Rattle.mk_read.specs.declared.fault.ReadFault.{ReadFault}
 use Rattle.mk_read.specs.Reading.{Makefile}
 use Rattle.mk_core.specs.declared.fault.Fault.{Fault}
 use Rattle.mk_core.specs.declared.fault.Fault.TheVariants.{Read, Infer, Foot, FileReadFailed, NoFile, Memory}
 use Rattle.mk_core.specs.Answer.{Counts, Rises}
 use Rattle.mk_core.specs.FilesThere.{there_by}
 use Rattle.mk_core.specs.Steps.{Gives, of_infer, seen}
-use Rattle.mk_core.specs.Views.{DrawsNamed, DrawsWords}
-use Rattle.mk_core.proofs.Answering.{IsOfCommands, of_named}
+use Rattle.mk_core.specs.Views.{DrawsOver}
+use Rattle.mk_core.proofs.Answering.{IsOfCommands, of_graph}
 
 -- what holds of all files holds of those that are told
 pub some_all : {A : Type 0} {P : A → Type 0} (o : Option A) → ((x : A) → P x) → IfSome o P
@@ -64,17 +62,17 @@ stays_there old new m book (Err (FileReadFailed name)) (inr h) n = absurd (by bo
     by (Err fault) k = absurd cc
 
 -- what is drawn reads nothing
-pub stays_drawn : (old new : ℕ) (asked : Bool) (m : Makefile) (e : Exists) (words : List (List ℕ)) (found : Result (Vec ℕ Global) Fault) → DrawsWords asked m e words (seen (λ text. text.items) found) → new ≡ old → Counts old new found
-stays_drawn old new asked m e words (Ok text) d n = n
-stays_drawn old new asked m e words (Err Memory) d n = n
-stays_drawn old new asked m e words (Err (Infer f)) d n = n
-stays_drawn old new asked m e words (Err (Foot f)) d n = n
-stays_drawn old new asked m e words (Err (NoFile name)) d n = n
-stays_drawn old new asked m e words (Err (Read f)) d n = absurd (differs (of_named asked m e (goal_names m words) (Read f) d))
+pub stays_drawn : (old new : ℕ) (asked : Bool) (m : Makefile) (e : Exists) (goals : List (List ℕ)) (found : Result (Vec ℕ Global) Fault) → DrawsOver asked m e goals (seen (λ text. text.items) found) → new ≡ old → Counts old new found
+stays_drawn old new asked m e goals (Ok text) d n = n
+stays_drawn old new asked m e goals (Err Memory) d n = n
+stays_drawn old new asked m e goals (Err (Infer f)) d n = n
+stays_drawn old new asked m e goals (Err (Foot f)) d n = n
+stays_drawn old new asked m e goals (Err (NoFile name)) d n = n
+stays_drawn old new asked m e goals (Err (Read f)) d n = absurd (differs (of_graph asked m e goals (Read f) d))
   where
     differs : IsOfCommands (Read f) → ⊥
     differs (i, k) = absurd cc
-stays_drawn old new asked m e words (Err (FileReadFailed name)) d n = absurd (differs (of_named asked m e (goal_names m words) (FileReadFailed name) d))
+stays_drawn old new asked m e goals (Err (FileReadFailed name)) d n = absurd (differs (of_graph asked m e goals (FileReadFailed name) d))
   where
     differs : IsOfCommands (FileReadFailed name) → ⊥
     differs (i, k) = absurd cc

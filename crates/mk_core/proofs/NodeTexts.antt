@@ -1,14 +1,9 @@
 -- Nodes that are printed one after another, each with its commands.
-use Rattle.std.proofs.Common.{◌≡◌, ℕ, ◌+◌, ◌<◌, ◌≤◌, Bool, true, false, List, [], ◌∷◌, ◌++◌, length, get_or, drop, Result, Ok, Err, inl, inr, refl, sym, ap, ◌∙◌, append-nil, append_assoc}
+use Rattle.std.proofs.Common.{◌≡◌, ℕ, ◌+◌, ◌<◌, ◌≤◌, List, [], ◌∷◌, ◌++◌, length, get_or, drop, Result, Ok, Err, inl, inr, refl, sym, ap, ◌∙◌, append-nil, append_assoc}
 use Rattle.std.proofs.lemmas.List.{drop_more, drop_all}
-use Rattle.mk_graph.specs.Graph.{Graph, node}
-use Rattle.mk_infer.specs.Commands.{Commands, commands}
-use Rattle.mk_infer.specs.There.{Exists}
-use Rattle.mk_infer.specs.declared.fault.InferFault.{InferFault}
-use Rattle.mk_read.specs.Reading.{Makefile}
+use Rattle.mk_graph.specs.Graph.{Graph}
 use Rattle.mk_core.specs.declared.fault.Fault.{Fault}
-use Rattle.mk_core.specs.declared.fault.Fault.TheVariants.{Infer}
-use Rattle.mk_core.specs.GraphText.{commands_text, graph_text, goals_text, lines_of, node_text, nodes_text, shown_lines, shown_node}
+use Rattle.mk_core.specs.GraphText.{nodes_text, shown_node}
 use Rattle.mk_core.specs.Steps.{◌>>=◌, Fails}
 
 -- what was printed before, and what is then

@@ -1,5 +1,5 @@
 -- The answer to a request is one.
-use Rattle.std.proofs.Common.{◌≡◌, ℕ, Bool, List, None, Result, Ok, Err, refl, sym, ap, subst, ◌∙◌}
+use Rattle.std.proofs.Common.{◌≡◌, ℕ, Bool, List, None, Result, Ok, Err, sym, subst, ◌∙◌}
 use Rattle.mk_graph.specs.Graph as value
 use Rattle.mk_infer.specs.Goals.{goal_names}
 use Rattle.mk_infer.specs.Laws as inferring

@@ -13,11 +13,19 @@ use Rattle.mk_core.specs.declared.fault.Fault.TheVariants.{Foot, FileReadFailed,
 
 -- With no footprints the texts of the makefile are there, and each name without a rule is given.
 abbrev pub there_without_book : Makefile → Exists
-there_without_book m = record { any_leaf = true; sources = []; fixed = []; texts = m.texts; more = [] }
+there_without_book m =
+    record { any_leaf = true; sources = []; fixed = []; texts = m.texts; more = [] }
 
 -- with footprints, what these say, beside the texts of the makefile
 abbrev pub there_with_book : Makefile → Book → Exists
-there_with_book m book = record { any_leaf = false; sources = book.sources; fixed = book.fixed; texts = m.texts; more = [] }
+there_with_book m book =
+    record {
+      any_leaf = false;
+      sources = book.sources;
+      fixed = book.fixed;
+      texts = m.texts;
+      more = [];
+    }
 
 abbrev pub there_by : Makefile → Result Book FootFault → Result Exists Fault
 there_by m (Ok book) = Ok (there_with_book m book)
@@ -26,7 +34,9 @@ there_by m (Err fault) = Err (Foot fault)
 -- The files that are there before a make of these goals, or the fault of the file of footprints.
 abbrev pub there_for : Told → Option (List ℕ) → Makefile → List (List ℕ) → Result Exists Fault
 there_for files None m goals = Ok (there_without_book m)
-there_for files (Some name) m goals = option_map_or (λ bytes. there_by m (book_from goals bytes)) (text_at files name) (Err (NoFile name))
+there_for files (Some name) m goals =
+    option_map_or (λ bytes. there_by m (book_from goals bytes)) (text_at files name)
+    (Err (NoFile name))
 
 -- the text of a file, where it was read
 abbrev pub FileReads : Told → List ℕ → Result (Vec ℕ Global) Fault → Type 0

@@ -50,10 +50,12 @@ shown_lines asked m e name = if asked then lines_of (commands m e name) else Ok 
 
 -- the line of a node with its commands behind it, or the fault of its commands
 abbrev pub shown_node : (List ℕ → Result (List (List ℕ)) Fault) → Graph → ℕ → Result (List ℕ) Fault
-shown_node lines_for g n = lines_for (node g n).name >>= λ lines. Ok (node_text g n ++ commands_text lines)
+shown_node lines_for g n =
+    lines_for (node g n).name >>= λ lines. Ok (node_text g n ++ commands_text lines)
 
 -- the nodes in this order, or the first fault of their commands
-unfoldable pub nodes_text : (List ℕ → Result (List (List ℕ)) Fault) → Graph → List ℕ → Result (List ℕ) Fault
+unfoldable pub nodes_text : (List ℕ → Result (List (List ℕ)) Fault) → Graph → List ℕ →
+    Result (List ℕ) Fault
 nodes_text lines_for g [] = Ok []
 nodes_text lines_for g (n ∷ ns) = do
   text ← shown_node lines_for g n
@@ -62,4 +64,5 @@ nodes_text lines_for g (n ∷ ns) = do
 
 -- the goals on a line, then the nodes in serial order
 abbrev pub graph_text : (List ℕ → Result (List (List ℕ)) Fault) → Graph → Result (List ℕ) Fault
-graph_text lines_for g = nodes_text lines_for g (serial_order g) >>= λ nodes. Ok (goals_text g ++ nodes)
+graph_text lines_for g =
+    nodes_text lines_for g (serial_order g) >>= λ nodes. Ok (goals_text g ++ nodes)

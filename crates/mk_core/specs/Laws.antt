@@ -1,5 +1,5 @@
 -- Laws of the answer.
-use Rattle.std.specs.Prelude.{◌≡◌, Bool, List, ℕ, Result, Ok, Err}
+use Rattle.std.specs.Prelude.{◌≡◌, Bool, List, ℕ, Result, Err}
 use Rattle.mk_read.specs.declared.fault.ReadFault.TheVariants.{ReadFailed}
 use Rattle.mk_read.specs.Files.{Told}
 use Rattle.mk_core.specs.declared.fault.Fault.{Fault}
@@ -16,4 +16,7 @@ IsSettled answer = Unit {0}
 
 -- Over files that are told, a request has one answer, beside want of memory and failed reads.
 abbrev pub AnswerIsOne : Type 0
-AnswerIsOne = (files : Told) (request : Request) (asked : Bool) (one other : Result (List ℕ) Fault) → IsSettled one → IsSettled other → Answers files request asked one → Answers files request asked other → one ≡ other
+AnswerIsOne =
+    (files : Told) (request : Request) (asked : Bool) (one other : Result (List ℕ) Fault) →
+    IsSettled one → IsSettled other → Answers files request asked one →
+    Answers files request asked other → one ≡ other

@@ -1,5 +1,5 @@
 -- Results in steps: the first fault is the result.
-use Rattle.std.specs.Prelude.{◌≡◌, ◌⊎◌, ⊤, ℕ, Bool, true, false, List, ◌++◌, Result, Ok, Err}
+use Rattle.std.specs.Prelude.{◌≡◌, ⊤, ℕ, Bool, true, false, List, ◌++◌, Result, Ok, Err}
 use Rattle.mk_foot.specs.declared.fault.FootFault.{FootFault}
 use Rattle.mk_foot.specs.declared.fault.FootFault.TheVariants as foot
 use Rattle.mk_infer.specs.declared.fault.InferFault.{InferFault}
@@ -8,16 +8,8 @@ use Rattle.mk_read.specs.declared.fault.ReadFault.{ReadFault}
 use Rattle.mk_read.specs.declared.fault.ReadFault.TheVariants as read
 use Rattle.mk_core.specs.declared.fault.Fault.{Fault}
 use Rattle.mk_core.specs.declared.fault.Fault.TheVariants.{Read, Infer, Foot, Memory}
-
-infixl 10 ◌>>=◌
-abbrev pub ◌>>=◌ : {A B : Type 0} → Result A Fault → (A → Result B Fault) → Result B Fault
-(Ok x) >>= f = f x
-(Err e) >>= f = Err e
-
--- a result, seen by view
-abbrev pub seen : {X Y : Type 0} → (X → Y) → Result X Fault → Result Y Fault
-seen view (Ok x) = Ok (view x)
-seen view (Err fault) = Err fault
+pub use Rattle.mk_lines.specs.Results.{◌>>=◌, seen}
+use Rattle.mk_lines.specs.Results as results
 
 -- want of memory
 abbrev pub is_memory : Fault → Bool
@@ -41,12 +33,11 @@ of_foot fault = Foot fault
 
 -- A fault is the one that is defined, or want of memory, of which nothing is said.
 abbrev pub Fails : {Y : Type 0} → Fault → Result Y Fault → Type 0
-Fails fault defined = (fault ≡ Memory) ⊎ (defined ≡ Err fault)
+Fails = results.Fails Memory
 
--- What a function returned, seen by view, is what is defined, unless memory ran out.
+-- What a call returned, seen by view, is what is defined, unless memory ran out.
 abbrev pub Gives : {X Y : Type 0} → (X → Y) → Result X Fault → Result Y Fault → Type 0
-Gives view (Ok x) defined = defined ≡ Ok (view x)
-Gives view (Err fault) defined = Fails fault defined
+Gives = results.Gives Memory
 
 -- What is defined stands behind the old text in the new one, unless memory ran out.
 abbrev pub Extends : List ℕ → List ℕ → Result ⊤ Fault → Result (List ℕ) Fault → Type 0

@@ -11,8 +11,8 @@ use mk_read::ReadFault;
 use std::alloc::{AllocError, AllocFailed};
 use thiserror::Error;
 
-/// Why a request is refused: the first fault of the makefile, of the goals, of the footprints, of the
-/// graph, of the commands.
+/// Why a request is refused: the first fault of the makefile, of the goals, of the footprints, of
+/// the graph, of the commands.
 #[derive(Debug, Drop, Error)]
 pub enum Fault {
     /// The makefile is refused (faults 1 to 37). The fault is none of memory.

@@ -1,4 +1,5 @@
-//! The law of the answer. It is the contract of a function that does nothing: who calls it has the law.
+//! The law of the answer. It is the contract of a function that does nothing: who calls it has the
+//! law.
 
 ghost use Rattle.mk_core.specs.Laws.{AnswerIsOne};
 

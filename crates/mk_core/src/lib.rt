@@ -19,5 +19,5 @@ pub use answer::graph_text;
 pub use fault::Fault;
 pub use mk_lines::{Name, Names};
 pub use mk_read::{Files, FilesError, MemFiles};
-pub use request::{Request, split_words};
+pub use request::{Operands, Request, split_words};
 pub use wording::fault_text;

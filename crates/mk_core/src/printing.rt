@@ -12,7 +12,8 @@ use std::alloc::{AllocError, Global};
 
 /// The node with this number.
 fn node_at(graph: &Graph, number: usize) -> Option<&Node>
-    ensures { MatchOption result (node graph.now number ≡ no_node) (λ found. found.now ≡ node graph.now number) }
+    ensures { MatchOption result (node graph.now number ≡ no_node) (λ found. found.now ≡
+        node graph.now number) }
 {
     graph.nodes().get(number)
 }
@@ -40,7 +41,8 @@ fn push_names(out: &mut Vec<u8>, graph: &Graph, numbers: &[usize]) -> Result<(),
 
 /// Adds `.WAIT` and the names, for each group.
 fn push_waits(out: &mut Vec<u8>, graph: &Graph, groups: &[Vec<usize>]) -> Result<(), AllocError>
-    ensures { OnOk result (out.new.items ≡ out.old.items ++ waits_text graph.now (map (λ group. group.items) groups.now)) }
+    ensures { OnOk result (out.new.items ≡
+        out.old.items ++ waits_text graph.now (map (λ group. group.items) groups.now)) }
 {
     for group in groups {
         out.extend_from_slice(b" .WAIT")?;
@@ -51,7 +53,8 @@ fn push_waits(out: &mut Vec<u8>, graph: &Graph, groups: &[Vec<usize>]) -> Result
 
 /// Adds the names of the groups, with `.WAIT` between groups.
 fn push_groups(out: &mut Vec<u8>, graph: &Graph, groups: &[Vec<usize>]) -> Result<(), AllocError>
-    ensures { OnOk result (out.new.items ≡ out.old.items ++ groups_text graph.now (map (λ group. group.items) groups.now)) }
+    ensures { OnOk result (out.new.items ≡
+        out.old.items ++ groups_text graph.now (map (λ group. group.items) groups.now)) }
 {
     let Some((first, others)) = groups.split_first() else {
         return Ok(());
@@ -87,7 +90,8 @@ fn push_node(out: &mut Vec<u8>, graph: &Graph, number: usize) -> Result<(), Allo
 
 /// Adds each command behind a tab, on a line of its own.
 fn push_commands(out: &mut Vec<u8>, lines: &[Vec<u8>]) -> Result<(), AllocError>
-    ensures { OnOk result (out.new.items ≡ out.old.items ++ commands_text (map (λ line. line.items) lines.now)) }
+    ensures { OnOk result (out.new.items ≡
+        out.old.items ++ commands_text (map (λ line. line.items) lines.now)) }
 {
     for line in lines {
         out.push(b'\t')?;
@@ -100,12 +104,14 @@ fn push_commands(out: &mut Vec<u8>, lines: &[Vec<u8>]) -> Result<(), AllocError>
 /// The commands of a name as they are shown: none unless they are asked for.
 fn shown_lines<'m>(
     alloc: Global,
-    table: &RuleTable<'m>,
+    table: &'m RuleTable<'_>,
     exists: &'m Exists,
     name: &str,
     asked: bool,
 ) -> Result<Vec<Vec<u8>>, Fault>
-    ensures { Gives (λ lines. map (λ line. line.items) lines.items) result (shown_lines asked table.now exists.now name.now) }
+    ensures { Gives (λ lines.
+        map (λ line.
+        line.items) lines.items) result (shown_lines asked table.now exists.now name.now) }
 {
     if asked {
         Ok(commands(alloc, table, exists, name)?.lines)
@@ -118,7 +124,7 @@ fn shown_lines<'m>(
 fn push_shown<'m>(
     alloc: Global,
     out: &mut Vec<u8>,
-    table: &RuleTable<'m>,
+    table: &'m RuleTable<'_>,
     exists: &'m Exists,
     graph: &Graph,
     number: usize,
@@ -136,7 +142,7 @@ fn push_shown<'m>(
 fn push_nodes<'m>(
     alloc: Global,
     out: &mut Vec<u8>,
-    table: &RuleTable<'m>,
+    table: &'m RuleTable<'_>,
     exists: &'m Exists,
     graph: &Graph,
     numbers: &[usize],
@@ -160,16 +166,17 @@ fn push_goals(out: &mut Vec<u8>, graph: &Graph) -> Result<(), AllocError>
     Ok(())
 }
 
-/// The goals on a line, then a line for each node in serial order, with its commands behind it where
-/// they are asked for.
+/// The goals on a line, then a line for each node in serial order, with its commands behind it
+/// where they are asked for.
 pub fn text_of<'m>(
     alloc: Global,
-    table: &RuleTable<'m>,
+    table: &'m RuleTable<'_>,
     exists: &'m Exists,
     graph: &Graph,
     asked: bool,
 ) -> Result<Vec<u8>, Fault>
-    ensures { Gives (λ text. text.items) result (graph_text (shown_lines asked table.now exists.now) graph.now) }
+    ensures { Gives (λ text.
+        text.items) result (graph_text (shown_lines asked table.now exists.now) graph.now) }
 {
     let mut out = Vec::new(alloc);
     push_goals(&mut out, graph)?;

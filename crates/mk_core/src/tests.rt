@@ -626,10 +626,12 @@ fn spelled<'a>(alloc: Global, names: &'a Names) -> Result<Vec<&'a str>, Fail> {
 #[test]
 fn parts_words(rt: HostRuntime) -> Result<(), Fail> {
     let (operands, goals) = split_words(rt.alloc(), &["b=1", "a", "", "=", "a", "c::="])?;
-    assert_eq!(rt;
-        spelled(rt.alloc(), &operands)?.as_slice(),
-        ["b=1", "=", "c::="].as_slice()
-    );
+    let mut text = Vec::new(rt.alloc());
+    for operand in operands.as_slice() {
+        text.push(b' ')?;
+        text.extend_from_slice(operand)?;
+    }
+    assert_eq!(rt; text.as_slice(), b" b=1 = c::=".as_slice());
     assert_eq!(rt;
         spelled(rt.alloc(), &goals)?.as_slice(),
         ["a", "", "a"].as_slice()

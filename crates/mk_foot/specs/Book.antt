@@ -8,7 +8,8 @@ pub record Record : Type 0 where
   pub reads : List (List ℕ)
   pub writes : List (List ℕ)
 
--- the fronts of names of files that never change, the files that are there before a build, and what recipes do
+-- the fronts of names of files that never change, the files that are there before a build, and what
+-- recipes do
 pub record Book : Type 0 where
   pub fixed : List (List ℕ)
   pub sources : List (List ℕ)

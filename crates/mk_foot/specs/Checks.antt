@@ -34,7 +34,8 @@ group_is_plain group = do
 abbrev pub list_is_plain : SharedList → Result ⊤ FootFault
 list_is_plain list = are_plain keys.Lists list.names
 
--- all names: those of fixed, of sources, of the shared lists in the order of their names, and group by group
+-- all names: those of fixed, of sources, of the shared lists in the order of their names, and group
+-- by group
 unfoldable pub names_are_plain : Footprints → Result ⊤ FootFault
 names_are_plain file = do
   _ ← unless_holds (BadName keys.Fixed) (list_all is_prefix file.fixed)
@@ -49,7 +50,8 @@ unless_found fault (Some name) = Err (fault name)
 
 -- no target comes twice in a group
 abbrev pub targets_differ : Group → Result ⊤ FootFault
-targets_differ group = unless_found TwoRecords (first_again [] (map (λ (entry : Entry). entry.target) group.records))
+targets_differ group =
+    unless_found TwoRecords (first_again [] (map (λ (entry : Entry). entry.target) group.records))
 
 -- no source lies under a fixed prefix
 abbrev pub sources_are_free : Footprints → Result ⊤ FootFault
@@ -61,7 +63,9 @@ list_names file = map (λ (list : SharedList). list.name) file.lists
 
 -- each shared list that a record of the group names is among these
 abbrev pub lists_are_there : List (List ℕ) → Group → Result ⊤ FootFault
-lists_are_there names group = unless_holds NoList (list_all (λ (entry : Entry). list_all (has_name names) entry.shared) group.records)
+lists_are_there names group =
+    unless_holds NoList (list_all (λ (entry : Entry).
+    list_all (has_name names) entry.shared) group.records)
 
 -- all tests, in their order
 unfoldable pub test_all : Footprints → Result ⊤ FootFault
@@ -78,4 +82,5 @@ serves goals (Some own) = same_names goals own
 
 -- the first group that serves the goals
 abbrev pub group_for : List (List ℕ) → List Group → Result Group FootFault
-group_for goals groups = or_fault NoGroup (find (λ (group : Group). serves goals group.goals) groups)
+group_for goals groups =
+    or_fault NoGroup (find (λ (group : Group). serves goals group.goals) groups)

@@ -30,7 +30,13 @@ entry_in format value = do
   writes ← texts_at keys.Writes value
   shared ← shared_in format value
   _ ← has_only (entry_keys format) value
-  Ok (record { target = target; commands = commands; reads = reads; writes = writes; shared = shared })
+  Ok (record {
+    target = target;
+    commands = commands;
+    reads = reads;
+    writes = writes;
+    shared = shared;
+  })
 
 -- a group: its keys, then any other key, then its records
 unfoldable pub group_in : Data → Result Group FootFault
@@ -63,7 +69,12 @@ first_format whole = do
   records ← elements_at keys.Records whole
   _ ← has_only (keys.Format ∷ keys.Fixed ∷ keys.Sources ∷ keys.Records ∷ []) whole
   entries ← each (entry_in One) records
-  Ok (record { fixed = fixed; sources = sources; lists = []; groups = (record { goals = None; records = entries }) ∷ [] })
+  Ok (record {
+    fixed = fixed;
+    sources = sources;
+    lists = [];
+    groups = (record { goals = None; records = entries }) ∷ [];
+  })
 
 -- a file of format 2
 unfoldable pub second_format : Data → Result Footprints FootFault

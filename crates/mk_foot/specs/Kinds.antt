@@ -70,7 +70,8 @@ is_spelled known name = list_any (λ key. bytes_eq (spelling key) name) known
 unfoldable pub has_only : List Key → Data → Result ⊤ FootFault
 has_only known whole = do
   members ← pairs_of keys.Unknown whole
-  unless_holds (Shape keys.Unknown) (list_all (λ (pair : List ℕ × Data). is_spelled known pair.0) members)
+  unless_holds (Shape keys.Unknown) (list_all (λ (pair : List ℕ × Data).
+      is_spelled known pair.0) members)
 
 -- a whole number is the number of a format where it is 1 or 2
 abbrev pub format_of : Num → Result Format FootFault

@@ -9,8 +9,8 @@ use Rattle.mk_foot.specs.Names.{Has, has_name, once}
 use Rattle.mk_foot.specs.Reading.{json_of, book_in, book_from}
 use Rattle.mk_foot.specs.Setting.{Setting, is_given, is_editable}
 
--- A list of names, each once, has the same names. A name at the end of a list is kept, behind all others, just where it
--- doesn't stand before.
+-- A list of names, each once, has the same names. A name at the end of a list is kept, behind all
+-- others, just where it doesn't stand before.
 abbrev pub EachOnce : List (List ℕ) → Type 0
 EachOnce [] = Unit {0}
 EachOnce (name ∷ names) = (has_name names name ≡ false) × EachOnce names
@@ -18,14 +18,18 @@ EachOnce (name ∷ names) = (has_name names name ≡ false) × EachOnce names
 pub record KeepsFirst (names : List (List ℕ)) : Type 0 where
   pub same : (name : List ℕ) → has_name (once names) name ≡ has_name names name
   pub apart : EachOnce (once names)
-  pub order : (name : List ℕ) → once (names ++ name ∷ []) ≡ (if has_name names name then once names else once names ++ name ∷ [])
+  pub order : (name : List ℕ) →
+      once (names ++ name ∷ []) ≡
+      (if has_name names name then once names else once names ++ name ∷ [])
 
 abbrev pub OnceKeepsFirst : Type 0
 OnceKeepsFirst = (names : List (List ℕ)) → KeepsFirst names
 
 -- There is no JSON value exactly where the bytes are answered 51.
 abbrev pub OnlyTextWithoutValueIsNoJson : Type 0
-OnlyTextWithoutValueIsNoJson = (goals : List (List ℕ)) (bytes : List ℕ) → (book_from goals bytes ≡ Err NotJson) ↔ (json_of bytes ≡ None)
+OnlyTextWithoutValueIsNoJson =
+    (goals : List (List ℕ)) (bytes : List ℕ) → (book_from goals bytes ≡ Err NotJson) ↔
+    (json_of bytes ≡ None)
 
 -- an array, and an object, whose names are to be in the order of their bytes
 abbrev pub array_of : List Data → Data
@@ -47,39 +51,61 @@ pub record Values : Type 0 where
 
 -- a record of format 1
 abbrev pub plain_record : Values → Data
-plain_record v = object_of ((codes "commands", v.commands) ∷ (codes "reads", v.reads) ∷ (codes "target", v.target) ∷ (codes "writes", v.writes) ∷ [])
+plain_record v =
+    object_of ((codes "commands", v.commands) ∷ (codes "reads", v.reads) ∷
+    (codes "target", v.target) ∷ (codes "writes", v.writes) ∷ [])
 
 -- the same of format 2, without shared lists
 abbrev pub bare_record : Values → Data
-bare_record v = object_of ((codes "commands", v.commands) ∷ (codes "reads", v.reads) ∷ (codes "shared", array_of []) ∷ (codes "target", v.target) ∷ (codes "writes", v.writes) ∷ [])
+bare_record v =
+    object_of ((codes "commands", v.commands) ∷ (codes "reads", v.reads) ∷
+    (codes "shared", array_of []) ∷ (codes "target", v.target) ∷ (codes "writes", v.writes) ∷ [])
 
 -- a file of format 1
 abbrev pub plain_file : Data → Data → List Values → Data
-plain_file fixed sources records = object_of ((codes "fixed", fixed) ∷ (codes "format", number (unsigned 1)) ∷ (codes "records", array_of (map plain_record records)) ∷ (codes "sources", sources) ∷ [])
+plain_file fixed sources records =
+    object_of ((codes "fixed", fixed) ∷ (codes "format", number (unsigned 1)) ∷
+    (codes "records", array_of (map plain_record records)) ∷ (codes "sources", sources) ∷ [])
 
 -- the same of format 2, with one group of these goals and without shared lists
 abbrev pub one_group : List (List ℕ) → List Values → Data
-one_group goals records = object_of ((codes "goals", array_of (map string goals)) ∷ (codes "records", array_of (map bare_record records)) ∷ [])
+one_group goals records =
+    object_of ((codes "goals", array_of (map string goals)) ∷
+    (codes "records", array_of (map bare_record records)) ∷ [])
 
 abbrev pub grouped_file : List (List ℕ) → Data → Data → List Values → Data
-grouped_file goals fixed sources records = object_of ((codes "fixed", fixed) ∷ (codes "format", number (unsigned 2)) ∷ (codes "groups", array_of (one_group goals records ∷ [])) ∷ (codes "lists", object_of []) ∷ (codes "sources", sources) ∷ [])
+grouped_file goals fixed sources records =
+    object_of ((codes "fixed", fixed) ∷ (codes "format", number (unsigned 2)) ∷
+    (codes "groups", array_of (one_group goals records ∷ [])) ∷ (codes "lists", object_of []) ∷
+    (codes "sources", sources) ∷ [])
 
 -- For goals that are plain paths both give the same book, or the same fault.
 abbrev pub FormatsAgree : Type 0
-FormatsAgree = (goals : List (List ℕ)) (fixed sources : Data) (records : List Values) → list_all is_plain_path goals ≡ true → book_in goals (plain_file fixed sources records) ≡ book_in goals (grouped_file goals fixed sources records)
+FormatsAgree =
+    (goals : List (List ℕ)) (fixed sources : Data) (records : List Values) →
+    list_all is_plain_path goals ≡ true →
+    book_in goals (plain_file fixed sources records) ≡
+    book_in goals (grouped_file goals fixed sources records)
 
 -- the name begins with an entry of the list
 abbrev pub Under : List (List ℕ) → List ℕ → Type 0
-Under fixed name = (prefix : List ℕ) × Has fixed prefix × ((rest : List ℕ) × (name ≡ prefix ++ rest))
+Under fixed name =
+    (prefix : List ℕ) × Has fixed prefix × ((rest : List ℕ) × (name ≡ prefix ++ rest))
 
 -- A name is given exactly where it is a source, under a fixed prefix, or a makefile text.
 abbrev pub GivenExactly : Type 0
-GivenExactly = (setting : Setting) (name : List ℕ) → (is_given setting name ≡ true) ↔ (Has setting.sources name ⊎ (Under setting.fixed name ⊎ Has setting.texts name))
+GivenExactly =
+    (setting : Setting) (name : List ℕ) → (is_given setting name ≡ true) ↔
+    (Has setting.sources name ⊎ (Under setting.fixed name ⊎ Has setting.texts name))
 
 -- It is editable exactly where it is a source and no makefile text.
 abbrev pub EditableExactly : Type 0
-EditableExactly = (setting : Setting) (name : List ℕ) → (is_editable setting name ≡ true) ↔ (Has setting.sources name × (¬ Has setting.texts name))
+EditableExactly =
+    (setting : Setting) (name : List ℕ) → (is_editable setting name ≡ true) ↔
+    (Has setting.sources name × (¬ Has setting.texts name))
 
 -- What is editable is given.
 abbrev pub EditableIsGiven : Type 0
-EditableIsGiven = (setting : Setting) (name : List ℕ) → is_editable setting name ≡ true → is_given setting name ≡ true
+EditableIsGiven =
+    (setting : Setting) (name : List ℕ) → is_editable setting name ≡ true →
+    is_given setting name ≡ true

@@ -18,8 +18,8 @@ abbrev pub listed : List SharedList → List ℕ → List (List ℕ)
 listed [] name = []
 listed (list ∷ lists) name = if bytes_eq name list.name then list.names else listed lists name
 
--- A record reads its own files, then those of the shared lists that it names, in order, each once. What it writes comes
--- once too, and commands keep their repeats.
+-- A record reads its own files, then those of the shared lists that it names, in order, each once.
+-- What it writes comes once too, and commands keep their repeats.
 abbrev pub record_of : List SharedList → Entry → Record
 record_of lists entry = record {
   target = entry.target;
@@ -29,7 +29,12 @@ record_of lists entry = record {
 }
 
 abbrev pub book_of : Footprints → Group → Book
-book_of file group = record { fixed = once file.fixed; sources = once file.sources; records = map (record_of file.lists) group.records }
+book_of file group =
+    record {
+      fixed = once file.fixed;
+      sources = once file.sources;
+      records = map (record_of file.lists) group.records;
+    }
 
 -- the book of a JSON value: the tests of its shape, the others, and the choice of a group
 unfoldable pub book_in : List (List ℕ) → Data → Result Book FootFault

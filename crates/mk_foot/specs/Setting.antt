@@ -1,8 +1,8 @@
 -- What a build starts from: footprints, makefile texts, and names that the reading passed over.
-use Rattle.std.specs.Prelude.{ℕ, Bool, not, ◌&&◌, ◌||◌, List, [], find, Option, None, Some}
+use Rattle.std.specs.Prelude.{ℕ, Bool, List, [], find, Option, None, Some}
 use Rattle.std.specs.Str.{bytes_eq}
 use Rattle.mk_foot.specs.Book.{Record}
-use Rattle.mk_foot.specs.Names.{has_name, is_under}
+use Rattle.mk_lines.specs.Given as given
 
 pub record Setting : Type 0 where
   pub records : List Record
@@ -32,8 +32,8 @@ writes setting name = writes_in (record_for setting.records name)
 
 -- a source, a file under a fixed prefix, or a makefile text
 abbrev pub is_given : Setting → List ℕ → Bool
-is_given setting name = has_name setting.sources name || (is_under setting.fixed name || has_name setting.texts name)
+is_given setting name = given.is_given setting.sources setting.fixed setting.texts name
 
 -- a source that is no makefile text
 abbrev pub is_editable : Setting → List ℕ → Bool
-is_editable setting name = has_name setting.sources name && not (has_name setting.texts name)
+is_editable setting name = given.is_editable setting.sources setting.texts name

@@ -2,11 +2,8 @@
 use Rattle.std.specs.Prelude.{◌≡◌, ◌⊎◌, ⊤, List, [], ◌∷◌, Bool, if◌then◌else◌, Option, Some, None, Result, Ok, Err}
 use Rattle.mk_foot.specs.declared.fault.FootFault.{FootFault}
 use Rattle.mk_foot.specs.declared.fault.FootFault.TheVariants.{Memory}
-
-infixl 10 ◌>>=◌
-abbrev pub ◌>>=◌ : {A B : Type 0} → Result A FootFault → (A → Result B FootFault) → Result B FootFault
-(Ok x) >>= f = f x
-(Err e) >>= f = Err e
+pub use Rattle.mk_lines.specs.Results.{◌>>=◌}
+use Rattle.mk_lines.specs.Results as results
 
 -- what is there, or this fault
 abbrev pub or_fault : {A : Type 0} → FootFault → Option A → Result A FootFault
@@ -32,7 +29,6 @@ test_each test (x ∷ xs) = do
   _ ← test x
   test_each test xs
 
--- What a call returned, seen by view, is what is defined, unless memory ran out, of which nothing is said.
+-- What a call returned, seen by view, is what is defined, unless memory ran out.
 abbrev pub Gives : {X Y : Type 0} → (X → Y) → Result X FootFault → Result Y FootFault → Type 0
-Gives view (Ok x) defined = defined ≡ Ok (view x)
-Gives view (Err fault) defined = (fault ≡ Memory) ⊎ (defined ≡ Err fault)
+Gives = results.Gives Memory

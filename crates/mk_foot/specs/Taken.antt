@@ -15,7 +15,8 @@ object_view entries = object (members_view entries)
 -- the members without that of a name
 abbrev pub without_name : List ℕ → Members → Members
 without_name name no_members = no_members
-without_name name (member other value members) = if bytes_eq name other then members else member other value (without_name name members)
+without_name name (member other value members) =
+    if bytes_eq name other then members else member other value (without_name name members)
 
 -- an object without what stands under a key; other values stay
 unfoldable pub without : Key → Data → Data

@@ -22,7 +22,13 @@ impl Model for Record {
 
     ghost Value = { value.Record };
 
-    ghost view = { λ r. record { target = string_bytes r.target; commands = map string_bytes r.commands.items; reads = map string_bytes r.reads.items; writes = map string_bytes r.writes.items } };
+    ghost view = { λ r.
+        record {
+          target = string_bytes r.target;
+          commands = map string_bytes r.commands.items;
+          reads = map string_bytes r.reads.items;
+          writes = map string_bytes r.writes.items;
+        } };
 }
 
 /// What a file of footprints says for some goals. A contract sees lists of bytes.
@@ -43,5 +49,10 @@ impl Model for Book {
 
     ghost Value = { value.Book };
 
-    ghost view = { λ b. record { fixed = map string_bytes b.fixed.items; sources = map string_bytes b.sources.items; records = b.records.items } };
+    ghost view = { λ b.
+        record {
+          fixed = map string_bytes b.fixed.items;
+          sources = map string_bytes b.sources.items;
+          records = b.records.items;
+        } };
 }

@@ -11,10 +11,9 @@ ghost use Rattle.mk_foot.specs.Checks.{are_plain, entry_is_plain, goals_are_plai
 
 use crate::fault::FootFault;
 use crate::key::Key;
-use crate::name::Name;
-use crate::name_set::{NameSet, clones_of};
+use crate::names::clones_of;
 use crate::parts::{Entry, Footprints, Group, SharedList};
-use mk_lines::{NameTable, Prefixes, is_plain_path, is_plain_text_path};
+use mk_lines::{Name, NameSet, NameTable, Prefixes, is_plain_path, is_plain_text_path};
 use std::alloc::Global;
 
 /// Whether a text is `/`, or a plain path with `/` behind it.
@@ -137,7 +136,8 @@ fn names_are_plain(file: &Footprints) -> Result<(), FootFault>
 
 /// The first target that comes a second time.
 fn first_again(alloc: Global, entries: &[Entry]) -> Result<Option<&str>, FootFault>
-    ensures { Gives (λ found. option_map (λ name. name.now) found) result (Ok (first_again [] (map (λ entry. entry.target) entries.now))) }
+    ensures { Gives (λ found. option_map (λ name. name.now) found) result (Ok (first_again []
+        (map (λ entry. entry.target) entries.now))) }
 {
     let mut seen = NameSet::with_capacity(alloc, entries.len())?;
     for entry in entries {
@@ -171,7 +171,8 @@ fn all_targets_differ(alloc: Global, groups: &[Group]) -> Result<(), FootFault>
 
 /// The first source under a fixed prefix.
 fn first_fixed<'a>(fixed: &Prefixes, sources: &'a [String]) -> Option<&'a str>
-    ensures { option_map (λ name. name.now) result ≡ find (is_under fixed.now) (map string_bytes sources.now) }
+    ensures { option_map (λ name. name.now) result ≡
+        find (is_under fixed.now) (map string_bytes sources.now) }
 {
     for source in sources {
         if fixed.is_under(source.as_str()) {

@@ -4,7 +4,7 @@ ghost use Rattle.std.specs.Prelude.{◌≡◌};
 ghost use Rattle.mk_foot.specs.declared.fault.FootFault.TheVariants.{Memory};
 
 use crate::key::Key;
-use crate::name::Name;
+use mk_lines::Name;
 use std::alloc::{AllocError, AllocFailed};
 use thiserror::Error;
 
@@ -26,8 +26,8 @@ pub enum FootFault {
     /// This target comes a second time among the records of a group (fault 54).
     #[error("refused 54 {0}")]
     TwoRecords(Name),
-    /// A name under the key is no plain path, or an entry of `fixed` is neither `/` nor a plain path
-    /// with `/` behind it (fault 55).
+    /// A name under the key is no plain path, or an entry of `fixed` is neither `/` nor a plain
+    /// path with `/` behind it (fault 55).
     #[error("refused 55 {0}")]
     BadName(Key),
     /// This source begins with an entry of `fixed` (fault 56).

@@ -72,7 +72,8 @@ fn is_known(known: &[Key], name: &str) -> bool
 
 /// Whether the names of fields are among these keys.
 fn are_known(known: &[Key], fields: &Fields) -> bool
-    ensures { result ≡ list_all (λ pair. is_spelled known.now pair.0) (pairs (members_view fields.now.entries)) }
+    ensures { result ≡
+        list_all (λ pair. is_spelled known.now pair.0) (pairs (members_view fields.now.entries)) }
 {
     for name in fields.keys() {
         if !is_known(known, name.as_str()) {
@@ -85,7 +86,8 @@ fn are_known(known: &[Key], fields: &Fields) -> bool
 /// Whether an object has no keys but these.
 #[tactic(auto, unfolding(crate::specs::Kinds::has_only))]
 pub fn has_only(known: &[Key], fields: &Fields) -> bool
-    ensures { unless_holds (Shape Unknown) result ≡ has_only known.now (object_view fields.now.entries) }
+    ensures { unless_holds (Shape Unknown) result ≡
+        has_only known.now (object_view fields.now.entries) }
 {
     are_known(known, fields)
 }
@@ -125,7 +127,8 @@ pub fn take_text(key: Key, fields: &mut Fields) -> Result<String, FootFault>
 /// Takes the list of texts under a key out of an object.
 #[tactic(auto, unfolding(crate::specs::Kinds::texts_at))]
 pub fn take_texts(alloc: Global, key: Key, fields: &mut Fields) -> Result<Vec<String>, FootFault>
-    ensures texts { Gives (λ texts. map string_bytes texts.items) result (texts_at key (object_view fields.old.entries)) }
+    ensures texts { Gives (λ texts.
+        map string_bytes texts.items) result (texts_at key (object_view fields.old.entries)) }
     ensures left { object_view fields.new.entries ≡ without key (object_view fields.old.entries) }
 {
     let value = take(key, fields)?;
@@ -135,7 +138,8 @@ pub fn take_texts(alloc: Global, key: Key, fields: &mut Fields) -> Result<Vec<St
 /// Takes the values of the array under a key out of an object.
 #[tactic(auto, unfolding(crate::specs::Kinds::elements_at))]
 pub fn take_elements(key: Key, fields: &mut Fields) -> Result<Vec<Value>, FootFault>
-    ensures values { Gives (λ values. map view values.items) result (elements_at key (object_view fields.old.entries)) }
+    ensures values { Gives (λ values.
+        map view values.items) result (elements_at key (object_view fields.old.entries)) }
     ensures left { object_view fields.new.entries ≡ without key (object_view fields.old.entries) }
 {
     let value = take(key, fields)?;

@@ -34,7 +34,8 @@ pub fn elements_of(key: Key, value: Value) -> Result<Vec<Value>, FootFault>
 
 /// The members of the object that a value is.
 pub fn pairs_of(key: Key, value: Value) -> Result<Map<String, Value>, FootFault>
-    ensures { Gives (λ members. pairs (members_view members.entries)) result (pairs_of key (view value)) }
+    ensures { Gives (λ members.
+        pairs (members_view members.entries)) result (pairs_of key (view value)) }
 {
     match value {
         Value::Object(members) => Ok(members),
@@ -44,7 +45,8 @@ pub fn pairs_of(key: Key, value: Value) -> Result<Map<String, Value>, FootFault>
 
 /// The texts of values, which are to be texts.
 fn texts_in(alloc: Global, key: Key, values: Vec<Value>) -> Result<Vec<String>, FootFault>
-    ensures { Gives (λ texts. map string_bytes texts.items) result (each (text_of key) (map view values.items)) }
+    ensures { Gives (λ texts. map string_bytes texts.items) result (each (text_of key)
+        (map view values.items)) }
 {
     let mut texts = Vec::with_capacity(alloc, values.len())?;
     for value in values {

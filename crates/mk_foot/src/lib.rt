@@ -9,18 +9,14 @@ mod format;
 mod key;
 mod kinds;
 pub mod laws;
-mod name;
-mod name_set;
+mod names;
 mod parts;
 mod reading;
 mod setting;
 mod shapes;
-#[cfg(test)]
-mod tests;
 
 pub use book::{Book, Record};
 pub use fault::FootFault;
 pub use key::Key;
-pub use name::Name;
 pub use reading::read_book;
 pub use setting::Setting;

@@ -20,7 +20,14 @@ impl Model for Entry {
 
     ghost Value = { value.Entry };
 
-    ghost view = { λ e. record { target = string_bytes e.target; commands = map string_bytes e.commands.items; reads = map string_bytes e.reads.items; writes = map string_bytes e.writes.items; shared = map string_bytes e.shared.items } };
+    ghost view = { λ e.
+        record {
+          target = string_bytes e.target;
+          commands = map string_bytes e.commands.items;
+          reads = map string_bytes e.reads.items;
+          writes = map string_bytes e.writes.items;
+          shared = map string_bytes e.shared.items;
+        } };
 }
 
 /// Records, and the goals that they were made for. A contract sees lists of bytes.
@@ -39,7 +46,11 @@ impl Model for Group {
 
     ghost Value = { value.Group };
 
-    ghost view = { λ g. record { goals = option_map (λ goals. map string_bytes goals.items) g.goals; records = g.records.items } };
+    ghost view = { λ g.
+        record {
+          goals = option_map (λ goals. map string_bytes goals.items) g.goals;
+          records = g.records.items;
+        } };
 }
 
 /// A list that records share. A contract sees lists of bytes.
@@ -56,7 +67,11 @@ impl Model for SharedList {
 
     ghost Value = { value.SharedList };
 
-    ghost view = { λ s. record { name = string_bytes s.name; names = map string_bytes s.names.items } };
+    ghost view = { λ s.
+        record {
+          name = string_bytes s.name;
+          names = map string_bytes s.names.items;
+        } };
 }
 
 /// A file of footprints by its parts. A contract sees lists of bytes.
@@ -77,5 +92,11 @@ impl Model for Footprints {
 
     ghost Value = { value.Footprints };
 
-    ghost view = { λ f. record { fixed = map string_bytes f.fixed.items; sources = map string_bytes f.sources.items; lists = f.lists.items; groups = f.groups.items } };
+    ghost view = { λ f.
+        record {
+          fixed = map string_bytes f.fixed.items;
+          sources = map string_bytes f.sources.items;
+          lists = f.lists.items;
+          groups = f.groups.items;
+        } };
 }

@@ -12,10 +12,10 @@ ghost use Rattle.mk_foot.specs.Reading.{listed, record_of, book_in, json_of, boo
 use crate::book::{Book, Record};
 use crate::checks::{group_for, test_all};
 use crate::fault::FootFault;
-use crate::name_set::{NameSet, copied, insert_all, once};
+use crate::names::{copied, once};
 use crate::parts::{Entry, Footprints, Group, SharedList};
 use crate::shapes::footprints_in;
-use mk_lines::NameTable;
+use mk_lines::{NameSet, NameTable};
 use serde_json::Value;
 use std::alloc::{AllocError, Global};
 
@@ -43,7 +43,7 @@ fn insert_list<'a>(
     match names.place(name) {
         Some(place) => {
             let list = &lists[place];
-            insert_all(set, &list.names)
+            set.insert_all(&list.names)
         }
         None => Ok(()),
     }
@@ -57,7 +57,8 @@ fn insert_listed<'a>(
     shared: &[String],
 ) -> Result<(), AllocError>
     requires { names.now ≡ map (λ list. list.name) lists.now }
-    ensures { OnOk result (set.new ≡ fold with_name set.old (flat_map (listed lists.now) (map string_bytes shared.now))) }
+    ensures { OnOk result (set.new ≡
+        fold with_name set.old (flat_map (listed lists.now) (map string_bytes shared.now))) }
 {
     for name in shared {
         insert_list(set, names, lists, name.as_str())?;
@@ -74,13 +75,15 @@ fn reads_of(
     shared: &[String],
 ) -> Result<Vec<String>, AllocError>
     requires { names.now ≡ map (λ list. list.name) lists.now }
-    ensures { IfOk result (λ reads. map string_bytes reads.items ≡ all_once (map string_bytes own.items ++ flat_map (listed lists.now) (map string_bytes shared.now))) }
+    ensures { IfOk result (λ reads. map string_bytes reads.items ≡
+        all_once (map string_bytes own.items ++
+        flat_map (listed lists.now) (map string_bytes shared.now))) }
 {
     if shared.is_empty() {
         return once(alloc, own);
     }
     let mut set = NameSet::with_capacity(alloc, own.len())?;
-    insert_all(&mut set, &own)?;
+    set.insert_all(&own)?;
     insert_listed(&mut set, names, lists, shared)?;
     copied(alloc, set.as_slice())
 }

@@ -30,7 +30,14 @@ impl Model for Setting {
 
     ghost Value = { value.Setting };
 
-    ghost view = { λ s. record { records = s.records.items; sources = s.sources; texts = s.texts; fixed = s.fixed; passed_over = s.passed_over } };
+    ghost view = { λ s.
+        record {
+          records = s.records.items;
+          sources = s.sources;
+          texts = s.texts;
+          fixed = s.fixed;
+          passed_over = s.passed_over;
+        } };
 
     ghost invariant = { λ s. s.targets ≡ map (λ r. r.target) s.records.items };
 }
@@ -55,7 +62,14 @@ impl Setting {
         texts: Vec<String>,
         passed_over: Vec<String>,
     ) -> Result<Setting, AllocError>
-        ensures { IfOk result (λ setting. setting ≡ record { records = book.records; sources = book.sources; texts = map string_bytes texts.items; fixed = book.fixed; passed_over = map string_bytes passed_over.items }) }
+        ensures { IfOk result (λ setting. setting ≡
+            record {
+              records = book.records;
+              sources = book.sources;
+              texts = map string_bytes texts.items;
+              fixed = book.fixed;
+              passed_over = map string_bytes passed_over.items;
+            }) }
     {
         let Book {
             fixed,

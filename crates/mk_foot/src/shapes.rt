@@ -41,7 +41,8 @@ fn entry_keys(format: Format) -> &'static [Key]
 /// Takes the shared lists that a record names.
 #[tactic(auto, unfolding(crate::specs::Footprints::shared_in))]
 fn shared_in(alloc: Global, format: Format, fields: &mut Fields) -> Result<Vec<String>, FootFault>
-    ensures { Gives (λ texts. map string_bytes texts.items) result (shared_in format (object_view fields.old.entries)) }
+    ensures { Gives (λ texts.
+        map string_bytes texts.items) result (shared_in format (object_view fields.old.entries)) }
 {
     match format {
         Format::One => Ok(Vec::new(alloc)),
@@ -73,7 +74,8 @@ fn entry_in(alloc: Global, format: Format, value: Value) -> Result<Entry, FootFa
 
 /// Records, one after another.
 fn entries_in(alloc: Global, format: Format, values: Vec<Value>) -> Result<Vec<Entry>, FootFault>
-    ensures { Gives (λ entries. entries.items) result (each (entry_in format) (map view values.items)) }
+    ensures { Gives (λ entries. entries.items) result (each (entry_in format)
+        (map view values.items)) }
 {
     let mut entries = Vec::with_capacity(alloc, values.len())?;
     for value in values {
@@ -112,7 +114,8 @@ fn groups_in(alloc: Global, values: Vec<Value>) -> Result<Vec<Group>, FootFault>
 
 /// The shared lists that are the members of an object.
 fn members_in(alloc: Global, members: Map<String, Value>) -> Result<Vec<SharedList>, FootFault>
-    ensures { Gives (λ lists. lists.items) result (each list_in (pairs (members_view members.entries))) }
+    ensures { Gives (λ lists.
+        lists.items) result (each list_in (pairs (members_view members.entries))) }
 {
     let mut lists = Vec::new(alloc);
     for (name, value) in members {
@@ -125,7 +128,8 @@ fn members_in(alloc: Global, members: Map<String, Value>) -> Result<Vec<SharedLi
 /// Takes the shared lists, in the order of their names.
 #[tactic(auto, unfolding(crate::specs::Footprints::lists_in))]
 fn lists_in(alloc: Global, fields: &mut Fields) -> Result<Vec<SharedList>, FootFault>
-    ensures lists { Gives (λ lists. lists.items) result (lists_in (object_view fields.old.entries)) }
+    ensures lists { Gives (λ lists.
+        lists.items) result (lists_in (object_view fields.old.entries)) }
     ensures left { object_view fields.new.entries ≡ without Lists (object_view fields.old.entries) }
 {
     let value = take(Key::Lists, fields)?;

@@ -1,11 +1,11 @@
 -- What can be done without one node decides which nodes it is before.
 use Rattle.std.proofs.Common.{true, ◌≡◌, ℕ, zero, suc, ◌<◌, List, [], ◌∷◌, length, inl, inr, ⊎_elim, ◌⊎◌, refl, sym, subst, arith}
-use Rattle.mk_graph.specs.Membership.{Has}
+use Rattle.mk_graph.specs.Membership.{Has, IsWithin}
 use Rattle.mk_graph.specs.Graph.{Graph, node, prerequisites, Reached, goal, onward, Leads, one, then, IsSound, IsGraph}
 use Rattle.mk_graph.specs.Turns.{HasAll, InOpenGroup, Wanted, goal as wanted_goal, onward as wanted_onward, MayTurn, Turns, IsPart, Before}
 use Rattle.mk_graph.specs.Without.{IsFree, AreFree, joined}
 use Rattle.mk_graph.proofs.Members.{cases_Has, Has-append_left, Has-append_right}
-use Rattle.mk_graph.proofs.Parts.{IsWithin, HasAll-from_Has, Has-from_HasAll, HasAll-grows, Wanted-grows}
+use Rattle.mk_graph.proofs.Parts.{HasAll-from_Has, Has-from_HasAll, HasAll-grows, Wanted-grows}
 use Rattle.mk_graph.proofs.Loops.{HasAll-append}
 
 -- a path goes over a prerequisite of its first node

@@ -4,24 +4,25 @@ use Rattle.std.proofs.lemmas.Bool.{cases_eq}
 use Rattle.mk_graph.specs.Membership.{Has}
 use Rattle.mk_graph.specs.Graph.{Graph, node}
 use Rattle.mk_graph.specs.Setting.{FileName, Setting}
-use Rattle.mk_graph.specs.World.{Disk, Making}
+use Rattle.mk_graph.specs.World.{Disk, Making, Busy}
 use Rattle.mk_graph.specs.Turns.{Before}
-use Rattle.mk_graph.specs.Schedule.{Ready, begun, changed_at}
+use Rattle.mk_graph.specs.Schedule.{Begin, Ready, begun}
+use Rattle.mk_graph.specs.Runs.{Runs, runs_after}
 use Rattle.mk_graph.proofs.Changes.{changed_at_here, changed_at_there}
 use Rattle.mk_graph.proofs.InOrder.{runs_not_done, begun_in_order}
-use Rattle.mk_graph.proofs.Invariant.{Past, WasThrough, Fits, InMake, IsUpToDate, Holds}
+use Rattle.mk_graph.proofs.Invariant.{WasThrough, Fits, InMake, AreUpToDate, Holds}
 
--- the past after a recipe began
-pub past_begun : Past → ℕ → ℕ → Past
-past_begun p x clock = record { began = changed_at p.began x clock; saw = p.saw }
+module _ (g : Graph) (s : Setting) (p : Runs) (start : ℕ) (m : Making) (d : Disk) (fits : Fits g s p m.running d) (is : InMake g s p start m d) (x : ℕ) (ready : Ready g m x) (recipe : (node g x).recipe ≡ true) where
+  -- the runs after the begin
+  abbrev now : Runs
+  now = runs_after (Busy m d) (Begin x) p
 
-module _ (g : Graph) (s : Setting) (p : Past) (start : ℕ) (m : Making) (d : Disk) (fits : Fits g s p m.running d) (is : InMake g s p start m d) (x : ℕ) (ready : Ready g m x) (recipe : (node g x).recipe ≡ true) where
   -- the begin of another recipe stays
-  began_there : (t : ℕ) → ¬ (x ≡ t) → changed_at p.began x d.clock t ≡ p.began t
+  began_there : (t : ℕ) → ¬ (x ≡ t) → now.began t ≡ p.began t
   began_there t differ = changed_at_there p.began x t d.clock differ
 
   -- its own is now
-  began_here : (t : ℕ) → x ≡ t → changed_at p.began x d.clock t ≡ d.clock
+  began_here : (t : ℕ) → x ≡ t → now.began t ≡ d.clock
   began_here t same = changed_at_here p.began x t d.clock same
 
   -- what doesn't run now is another one, and didn't run before
@@ -29,26 +30,28 @@ module _ (g : Graph) (s : Setting) (p : Past) (start : ℕ) (m : Making) (d : Di
   other t stopped same = stopped (inl same)
 
   -- a recipe that was through is through, unless it began now
-  through_there : (t clock : ℕ) → ¬ (x ≡ t) → WasThrough g s m.running d t clock → WasThrough g s (x ∷ m.running) d t clock
-  through_there t clock differ was = record { stopped = λ h. ⊎_elim differ was.stopped h; early = was.early }
+  through_there : (t clock : ℕ) → ¬ (x ≡ t) → WasThrough g s (p.last t) m.running d t clock → WasThrough g s (p.last t) (x ∷ m.running) d t clock
+  through_there t clock differ was = record { stopped = λ h. ⊎_elim differ was.stopped h; early = was.early; ended = was.ended }
 
   -- at this clock all is through that doesn't run
-  through_now : (t clock : ℕ) → ¬ (x ≡ t) → ¬ (Has m.running t) → clock ≡ d.clock → WasThrough g s (x ∷ m.running) d t clock
-  through_now t clock differ stopped now = record { stopped = λ h. ⊎_elim differ stopped h; early = λ f stamp wrote has. let came = fits.stamped f stamp has in omega arith }
+  through_now : (t clock : ℕ) → ¬ (x ≡ t) → ¬ (Has m.running t) → clock ≡ d.clock → WasThrough g s (p.last t) (x ∷ m.running) d t clock
+  through_now t clock differ stopped at = record { stopped = λ h. ⊎_elim differ stopped h; early = λ f stamp wrote has. let came = fits.stamped f stamp has in omega arith; ended = λ run is_last. let came = fits.ended t run is_last in omega arith }
 
   -- of two of which one is before the other, one was through when the other last began
-  apart_begun : (o t : ℕ) → Before g o t → WasThrough g s (x ∷ m.running) d o (changed_at p.began x d.clock t) ⊎ WasThrough g s (x ∷ m.running) d t (changed_at p.began x d.clock o)
+  apart_begun : (o t : ℕ) → Before g o t → WasThrough g s (p.last o) (x ∷ m.running) d o (now.began t) ⊎ WasThrough g s (p.last t) (x ∷ m.running) d t (now.began o)
   apart_begun o t before =
-      ⊎_elim (λ same. let o_done : Has m.done o = subst (λ (k : ℕ). Before g o k) (sym same) before recipe m.goals m.done is.order.part is.order.turns ready.0 in inl (through_now o (changed_at p.began x d.clock t) (λ here. ready.0.not_done (subst (λ (k : ℕ). Has m.done k) (sym here) o_done)) (λ runs. runs_not_done g m is.order o runs o_done) (began_here t same))) (λ differ. ⊎_elim (λ same. inr (through_now t (changed_at p.began x d.clock o) differ (λ runs. ready.0.not_done (subst (λ (k : ℕ). Has m.done k) (sym same) (before (is.order.recipes t runs) m.goals m.done is.order.part is.order.turns (is.order.running t runs)))) (began_here o same))) (λ apart. ⊎_elim (λ one. inl (subst (λ (k : ℕ). WasThrough g s (x ∷ m.running) d o k) (sym (began_there t differ)) (through_there o (p.began t) apart one))) (λ two. inr (subst (λ (k : ℕ). WasThrough g s (x ∷ m.running) d t k) (sym (began_there o apart)) (through_there t (p.began o) differ two))) (fits.apart o t before)) (cases_eq x o)) (cases_eq x t)
+      ⊎_elim (λ same. let o_done : Has m.done o = subst (λ (k : ℕ). Before g o k) (sym same) before recipe m.goals m.done is.order.part is.order.turns ready.0 in inl (through_now o (now.began t) (λ here. ready.0.not_done (subst (λ (k : ℕ). Has m.done k) (sym here) o_done)) (λ runs. runs_not_done g m is.order o runs o_done) (began_here t same))) (λ differ. ⊎_elim (λ same. inr (through_now t (now.began o) differ (λ runs. ready.0.not_done (subst (λ (k : ℕ). Has m.done k) (sym same) (before (is.order.recipes t runs) m.goals m.done is.order.part is.order.turns (is.order.running t runs)))) (began_here o same))) (λ apart. ⊎_elim (λ one. inl (subst (λ (k : ℕ). WasThrough g s (p.last o) (x ∷ m.running) d o k) (sym (began_there t differ)) (through_there o (p.began t) apart one))) (λ two. inr (subst (λ (k : ℕ). WasThrough g s (p.last t) (x ∷ m.running) d t k) (sym (began_there o apart)) (through_there t (p.began o) differ two))) (fits.apart o t before)) (cases_eq x o)) (cases_eq x t)
 
-  -- the disk fits the past after the begin
-  fits_begun : Fits g s (past_begun p x d.clock) (x ∷ m.running) d
-  unfolding past_begun
+  -- the disk fits the runs after the begin
+  fits_begun : Fits g s now (x ∷ m.running) d
   fits_begun = record {
     stamped = fits.stamped;
-    began = λ t. ⊎_elim (λ same. let now = began_here t same in omega arith) (λ differ. let same = began_there t differ in let came = fits.began t in omega arith) (cases_eq x t);
+    began = λ t. ⊎_elim (λ same. let at = began_here t same in omega arith) (λ differ. let same = began_there t differ in let came = fits.began t in omega arith) (cases_eq x t);
+    ended = fits.ended;
+    last_begun = λ t run stopped is_last. fits.last_begun t run (λ runs. stopped (inr runs)) is_last ∙ sym (began_there t (other t stopped));
     after_begin = λ t f stamp stopped wrote has. let same = began_there t (other t stopped) in let late = fits.after_begin t f stamp (λ runs. stopped (inr runs)) wrote has in omega arith;
-    whole = λ t stopped. ⊎_elim (λ none. inl none) (λ whole. inr (record { written = whole.written; known = whole.known; holds = whole.holds; reads = whole.reads })) (fits.whole t (λ runs. stopped (inr runs)));
+    whole = λ t stopped. fits.whole t (λ runs. stopped (inr runs));
+    saw = fits.saw;
     apart = apart_begun;
   }
 
@@ -70,23 +73,21 @@ module _ (g : Graph) (s : Setting) (p : Past) (start : ℕ) (m : Making) (d : Di
   done_differs : (t : ℕ) → Has m.done t → ¬ (x ≡ t)
   done_differs t done same = ready.0.not_done (subst (λ (k : ℕ). Has m.done k) (sym same) done)
 
-  -- and stays up to date
-  done_begun : (t : ℕ) → Has m.done t → (node g t).recipe ≡ true → IsUpToDate g s (past_begun p x d.clock) start d t
-  unfolding past_begun
-  done_begun t t_done t_recipe =
-      let up = is.done t t_done t_recipe in
+  -- what is done stays up to date
+  pub begin_settled : AreUpToDate g s p start m d → AreUpToDate g s now start (begun m x) d
+  begin_settled up t t_done t_recipe =
+      let old = up t t_done t_recipe in
       record {
-        whole = record { written = up.whole.written; known = up.whole.known; holds = up.whole.holds; reads = up.whole.reads };
-        sees = up.sees;
-        settled = ⊎_elim (λ need_not. inl need_not) (λ late. inr (let same = began_there t (done_differs t t_done) in omega arith)) up.settled;
+        run = old.run;
+        is_last = old.is_last;
+        whole = old.whole;
+        sees = old.sees;
+        settled = ⊎_elim (λ need_not. inl need_not) (λ late. inr (let same = began_there t (done_differs t t_done) in omega arith)) old.settled;
       }
 
   -- the invariant after the begin of a recipe
-  pub begin_holds : Holds g s (begun m x) d
-  unfolding past_begun
+  pub begin_holds : Holds g s now start (begun m x) d
   begin_holds = record {
-    past = past_begun p x d.clock;
-    start = start;
     fits = fits_begun;
     make = record {
       order = begun_in_order g m is.order x ready recipe;
@@ -95,7 +96,6 @@ module _ (g : Graph) (s : Setting) (p : Past) (start : ℕ) (m : Making) (d : Di
       put = λ t f c runs wrote e. let old = put_before t f c e in is.put t f c (ran t old.0 runs) wrote old.1;
       put_late = λ t f c stamp runs wrote e has. let old = put_before t f c e in let same = began_there t old.0 in let late = is.put_late t f c stamp (ran t old.0 runs) wrote old.1 has in omega arith;
       waits = λ t not_done stopped. let same = began_there t (other t stopped) in let early = is.waits t not_done (λ runs. stopped (inr runs)) in omega arith;
-      runs = λ t runs. ⊎_elim (λ same. let now = began_here t same in let came = is.start_came in omega arith) (λ differ. let same = began_there t differ in let late = is.runs t (ran t differ runs) in omega arith) (cases_eq x t);
-      done = done_begun;
+      runs = λ t runs. ⊎_elim (λ same. let at = began_here t same in let came = is.start_came in omega arith) (λ differ. let same = began_there t differ in let late = is.runs t (ran t differ runs) in omega arith) (cases_eq x t);
     };
   }

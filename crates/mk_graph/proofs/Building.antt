@@ -18,7 +18,7 @@ use Rattle.mk_graph.proofs.Acyclic.{no_cycle}
 use Rattle.mk_graph.proofs.SerialOrder.{serial_is}
 
 -- a mapped list at a place, with the mapped default
-get_or-map_default : {X Y : Type 0} (f : X → Y) (xs : List X) (n : ℕ) (d : X) → get_or (map f xs) n (f d) ≡ f (get_or xs n d)
+pub get_or-map_default : {X Y : Type 0} (f : X → Y) (xs : List X) (n : ℕ) (d : X) → get_or (map f xs) n (f d) ≡ f (get_or xs n d)
 get_or-map_default f [] n d = refl
 get_or-map_default f (x ∷ xs) zero d = refl
 get_or-map_default f (x ∷ xs) (suc n) d = get_or-map_default f xs n d

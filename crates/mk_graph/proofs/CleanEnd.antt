@@ -11,7 +11,7 @@ use Rattle.mk_graph.specs.Setting.{FileName, Setting, is_given, reads, writes}
 use Rattle.mk_graph.specs.World.{Disk, content, changed, outcome}
 use Rattle.mk_graph.specs.Turns.{HasAll, InOpenGroup, Wanted, goal as wanted_goal, onward as wanted_onward, MayTurn, Turns, IsPart}
 use Rattle.mk_graph.specs.Clean.{Contents, given_contents, put_all, run_clean, make_clean, make_all_clean, ReachedFrom, IsBuilt}
-use Rattle.mk_graph.specs.Right.{AreSound}
+use Rattle.mk_graph.specs.Right.{AreSound, HaveNoRace}
 use Rattle.mk_graph.proofs.Members.{Has-append_left, Has-append_right}
 use Rattle.mk_graph.proofs.Changes.{cases_name, changed_here, changed_there}
 use Rattle.mk_graph.proofs.Turning.{HasAll-has, turn_has_prerequisites}
@@ -53,7 +53,7 @@ pub record IsFresh (g : Graph) (s : Setting) (d : Disk) (t : ℕ) : Type 0 where
   pub known : outcome d.known t (map (content d) (reads g s t)) ≡ Some written
   pub holds : map (content d) (writes g s t) ≡ map (λ c. Some c) written
 
-module _ (g : Graph) (s : Setting) (graph : IsGraph g) (sound : AreSound g s) (d : Disk) (goals : List ℕ) (part : IsPart goals g.goals) where
+module _ (g : Graph) (s : Setting) (graph : IsGraph g) (sound : AreSound g s) (no_race : HaveNoRace g s) (d : Disk) (goals : List ℕ) (part : IsPart goals g.goals) where
   -- the contents agree with the disk in given files and in what these nodes write
   Agrees : Contents → List ℕ → Type 0
   Agrees at ns = (f : FileName) → (is_given s f ≡ true) ⊎ ((o : ℕ) × Has ns o × Has (writes g s o) f) → at f ≡ content d f
@@ -78,7 +78,7 @@ module _ (g : Graph) (s : Setting) (graph : IsGraph g) (sound : AreSound g s) (d
     -- its recipe sees what the disk holds
     sees_disk : map before.0 (reads g s n) ≡ map (content d) (reads g s n)
     unfolding Agrees
-    sees_disk = map_same before.0 (content d) (reads g s n) (λ f read. before.2 f (⊎_elim (λ given. inl given) (λ wrote. inr (wrote.0, writer_is_before g s graph sound n wrote.0 f read wrote.1 (reader n f read) goals ns part turns may, wrote.1)) (sound.known n f read))) where
+    sees_disk = map_same before.0 (content d) (reads g s n) (λ f read. before.2 f (⊎_elim (λ given. inl given) (λ wrote. inr (wrote.0, writer_is_before g s graph sound no_race n wrote.0 f read wrote.1 (reader n f read) goals ns part turns may, wrote.1)) (sound.known n f read))) where
       reader : (t : ℕ) (f : FileName) → Has (reads g s t) f → (node g t).recipe ≡ true
       reader t f read = reader_has_recipe g s t f read
 

@@ -9,7 +9,7 @@ use Rattle.mk_graph.specs.Turns.{HasAll, InOpenGroup, Wanted, MayTurn, Turns, Be
 use Rattle.mk_graph.specs.Without.{AreFree}
 use Rattle.mk_graph.specs.BuildLaws.{NotBeforeIsShown}
 use Rattle.mk_graph.proofs.Members.{cases_Has, Has-append_left, Has-append_right, Has-append_cases}
-use Rattle.mk_graph.proofs.AllButOne.{is_before, turn_comes, wanted_part}
+use Rattle.mk_graph.proofs.AllButOne.{is_before, is_not_before, turn_comes, wanted_part}
 use Rattle.mk_graph.proofs.Rounds.{AreFreeUpTo, free_joins, free_stays, all_free, AreWantedFrom, goals_wanted, opens_this, passes_this, all_wanted}
 use Rattle.mk_graph.proofs.BareBuilds.{begins_last}
 
@@ -56,27 +56,41 @@ module _ (g : Graph) (is : IsGraph g) where
 
   module _ (done : List ℕ) where
     -- what else is wanted, from a place on
-    wanted_from : (place : ℕ) → place ≤ length order → (wanted : List ℕ) → AreWantedFrom g order done place wanted → (all : List ℕ) × AreWantedFrom g order done 0 all
+    wanted_from : (place : ℕ) → place ≤ length order → (wanted : List ℕ) → AreWantedFrom g g.goals order done place wanted → (all : List ℕ) × AreWantedFrom g g.goals order done 0 all
     wanted_from zero low wanted are = (wanted, are)
     wanted_from (suc place) low wanted are =
         let this = get_or order place 0 in
         let inside : place < length order = omega arith in
-        let are' : AreWantedFrom g order done (place + 1) wanted = subst (λ k. AreWantedFrom g order done k wanted) (sym (add-one place)) are in
+        let are' : AreWantedFrom g g.goals order done (place + 1) wanted = subst (λ k. AreWantedFrom g g.goals order done k wanted) (sym (add-one place)) are in
         let more = opened done (node g this).groups in
-        elim (cases_Has wanted this) [ inl here ↦ wanted_from place (omega arith) (more.0 ++ wanted) (opens_this g is order refl done place inside wanted (more.0 ++ wanted) are' here (λ n. (λ h. ⊎_elim (λ there. inl ((more.1 n).0 there)) (λ had. inr had) ((joins_list more.0 wanted n).0 h), λ h. (joins_list more.0 wanted n).1 (⊎_elim (λ stands. inl ((more.1 n).1 stands)) (λ had. inr had) h)))) | inr out ↦ wanted_from place (omega arith) wanted (passes_this g is order refl done place inside wanted are' out) ]
+        elim (cases_Has wanted this) [ inl here ↦ wanted_from place (omega arith) (more.0 ++ wanted) (opens_this g is order refl g.goals done place inside wanted (more.0 ++ wanted) are' here (λ n. (λ h. ⊎_elim (λ there. inl ((more.1 n).0 there)) (λ had. inr had) ((joins_list more.0 wanted n).0 h), λ h. (joins_list more.0 wanted n).1 (⊎_elim (λ stands. inl ((more.1 n).1 stands)) (λ had. inr had) h)))) | inr out ↦ wanted_from place (omega arith) wanted (passes_this g is order refl g.goals done place inside wanted are' out) ]
 
     -- all that is wanted
     wanted_nodes : (wanted : List ℕ) × ((n : ℕ) → Has wanted n ↔ Wanted g g.goals done n)
     wanted_nodes =
-        let all = wanted_from (length order) (omega arith) g.goals (goals_wanted g is order refl done g.goals (length order) (omega arith) (λ n. (λ h. h, λ h. h))) in
-        (all.0, all_wanted g is order refl done all.0 all.1)
+        let all = wanted_from (length order) (omega arith) g.goals (goals_wanted g is order refl g.goals done is.sound.goals g.goals (length order) (omega arith) (λ n. (λ h. h, λ h. h))) in
+        (all.0, all_wanted g is order refl g.goals done all.0 all.1)
+
+  -- o is before t or isn't
+  pub cases_Before : (o t : ℕ) → Before g o t ⊎ (¬ (Before g o t))
+  cases_Before o t =
+      let free = free_nodes o in
+      let wanted = wanted_nodes free.0 in
+      let past : (¬ (Wanted g g.goals free.0 t × HasAll free.0 (prerequisites g t))) → Before g o t ⊎ (¬ (Before g o t)) = λ cannot. inl (is_before g o is free.0 free.1 t cannot) in
+      ⊎_elim (λ recipe. elim (cases_Has wanted.0 t) [ inl here ↦ (elim (cases_HasAll free.0 (prerequisites g t)) [ inl all ↦ inr (is_not_before g o is free.0 free.1 t recipe ((wanted.1 t).0 here) all) | inr out ↦ past (λ both. out both.1) ]) | inr out ↦ past (λ both. out ((wanted.1 t).1 both.0)) ]) (λ none. inl (λ recipe. absurd (false≢true (sym none ∙ recipe)))) (cases_Bool (node g t).recipe)
+
+  -- where o isn't before t, t would be wanted once all free nodes are done, and needs what is free
+  pub would_turn : (o t : ℕ) (free : List ℕ) → AreFree g o free → ¬ (Before g o t) → Wanted g g.goals free t × HasAll free (prerequisites g t)
+  would_turn o t free are not_before =
+      let wanted = wanted_nodes free in
+      elim (cases_Has wanted.0 t) [ inl here ↦ (elim (cases_HasAll free (prerequisites g t)) [ inl all ↦ ((wanted.1 t).0 here, all) | inr out ↦ absurd (not_before (is_before g o is free are t (λ both. out both.1))) ]) | inr out ↦ absurd (not_before (is_before g o is free are t (λ both. out ((wanted.1 t).1 both.0)))) ]
 
   -- where o isn't before t, the turn of t comes without o
   comes_without : (o t : ℕ) → ¬ (Before g o t) → (ns : List ℕ) × Turns g g.goals ns × (¬ (Has ns o)) × MayTurn g g.goals ns t
   comes_without o t not_before =
       let free = free_nodes o in
-      let wanted = wanted_nodes free.0 in
-      elim (cases_Has wanted.0 t) [ inl here ↦ (elim (cases_HasAll free.0 (prerequisites g t)) [ inl all ↦ turn_comes g o is free.0 free.1 t ((wanted.1 t).0 here) all | inr out ↦ absurd (not_before (is_before g o is free.0 free.1 t (λ both. out both.1))) ]) | inr out ↦ absurd (not_before (is_before g o is free.0 free.1 t (λ both. out ((wanted.1 t).1 both.0)))) ]
+      let would = would_turn o t free.0 free.1 not_before in
+      turn_comes g o is free.0 free.1 t would.0 would.1
 
 -- and t has a recipe
 has_recipe : (g : Graph) (o t : ℕ) → ¬ (Before g o t) → (node g t).recipe ≡ true

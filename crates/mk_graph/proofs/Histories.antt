@@ -1,22 +1,24 @@
 -- The invariant holds in each state of each legal history, and at the end of a make its goals are built.
-use Rattle.std.proofs.Common.{◌≡◌, ℕ, List, [], true, Option, Some, None, inl, ⊎_elim, refl, sym, ◌∙◌, ap, subst, arith}
+use Rattle.std.proofs.Common.{◌≡◌, ℕ, List, [], ◌∷◌, true, Option, Some, None, inl, inr, ⊎_elim, refl, sym, ◌∙◌, ap, subst, arith}
 use Rattle.std.specs.Option.{option_map}
 use Rattle.std.proofs.lemmas.Bool.{true≢false}
 use Rattle.mk_graph.specs.Membership.{Has}
 use Rattle.mk_graph.specs.Graph.{Graph, node, IsGraph}
 use Rattle.mk_graph.specs.Setting.{FileName, Setting, is_editable, reads, writes}
-use Rattle.mk_graph.specs.World.{File, Disk, Making, World, Idle, Busy, IsStart, content, HasStamp, written, outcome}
+use Rattle.mk_graph.specs.World.{File, Disk, Making, World, Idle, Busy, IsStart, content, HasStamp, written, disk_of, outcome}
 use Rattle.mk_graph.specs.Turns.{IsPart}
-use Rattle.mk_graph.specs.Schedule.{Step, Edit, Make, Begin, Look, Put, End, Pass, Stop, EndMake, MustRun, Ready, Allowed, after, make_of, IsLegal, after_all}
-use Rattle.mk_graph.specs.Right.{AreSound, HaveWays, IsRightAt}
-use Rattle.mk_graph.proofs.InOrder.{kept}
+use Rattle.mk_graph.specs.Schedule.{Step, Edit, Make, Begin, Look, Put, End, Pass, Stop, EndMake, MustRun, Ready, Allowed, after, make_of, finished, IsLegal, after_all, disk_after}
+use Rattle.mk_graph.specs.Runs.{WholeRun, Runs, no_runs, runs_after, runs_after_all, runs_of}
+use Rattle.mk_graph.specs.Ways.{Carries}
+use Rattle.mk_graph.specs.Right.{AreSound, HaveNoRace, HaveWays, IsRightAt}
+use Rattle.mk_graph.specs.RunLaws.{SawOrWasWrittenAfter, RanBefore}
 use Rattle.mk_graph.proofs.Sound.{editable_is_not_written}
-use Rattle.mk_graph.proofs.Invariant.{Past, IsUntouched, Fits, InMake, IsUpToDate, Holds, Rests, IsInvariant}
+use Rattle.mk_graph.proofs.Invariant.{IsUntouched, SawOrLater, Fits, IsUpToDate, AreUpToDate, Holds, IsInvariant, IsSettled, start_after}
 use Rattle.mk_graph.proofs.Writing.{map_same, fits_written}
-use Rattle.mk_graph.proofs.Putting.{put_holds, look_holds}
-use Rattle.mk_graph.proofs.Passing.{cases_file, passed_is_up_to_date}
-use Rattle.mk_graph.proofs.Beginning.{begin_holds}
-use Rattle.mk_graph.proofs.Ending.{end_holds, pass_holds}
+use Rattle.mk_graph.proofs.Putting.{put_holds, put_settled, look_holds}
+use Rattle.mk_graph.proofs.Passing.{cases_file, ready_ran_after, passed_is_up_to_date}
+use Rattle.mk_graph.proofs.Beginning.{begin_holds, begin_settled}
+use Rattle.mk_graph.proofs.Ending.{end_holds, end_settled, pass_holds, pass_settled}
 use Rattle.mk_graph.proofs.CleanEnd.{IsFresh, is_built}
 
 -- a file with a stamp is there
@@ -25,6 +27,12 @@ stamped_file d f stamp has = cases (d.files f) refl where
   cases : (o : Option File) → d.files f ≡ o → (file : File) × (d.files f ≡ Some file) × (file.stamp ≡ stamp)
   cases None e = let gone : None ≡ Some stamp = sym (ap (λ (x : Option File). option_map (λ (y : File). y.stamp) x) e) ∙ has in absurd (cc)
   cases (Some file) e = let same : Some file.stamp ≡ Some stamp = sym (ap (λ (x : Option File). option_map (λ (y : File). y.stamp) x) e) ∙ has in let is : file.stamp ≡ stamp = cc in (file, e, is)
+
+module _ (g : Graph) (s : Setting) where
+  -- what each allowed step keeps, beside the runs so far, each legal history keeps
+  pub kept_with_runs : (P : Runs → ℕ → World → Type 0) → ((p : Runs) (start : ℕ) (w : World) (step : Step) → P p start w → Allowed g s w step → P (runs_after w step p) (start_after w step start) (after g s w step)) → (p : Runs) (start : ℕ) (w : World) (steps : List Step) → P p start w → IsLegal g s w steps → (now : ℕ) × P (runs_after_all g s w steps p) now (after_all g s w steps)
+  kept_with_runs P keeps p start w [] is legal = (start, is)
+  kept_with_runs P keeps p start w (step ∷ steps) is legal = kept_with_runs P keeps (runs_after w step p) (start_after w step start) (after g s w step) steps (keeps p start w step is legal.0) legal.1
 
 module _ (g : Graph) (s : Setting) (graph : IsGraph g) (sound : AreSound g s) where
   -- nothing that recipes write is there at a start
@@ -36,89 +44,152 @@ module _ (g : Graph) (s : Setting) (graph : IsGraph g) (sound : AreSound g s) wh
   no_stamp : (d : Disk) (t : ℕ) → IsUntouched g s d t → (f : FileName) (stamp : ℕ) → Has (writes g s t) f → ¬ (HasStamp d f stamp)
   no_stamp d t none f stamp wrote has = let gone : None ≡ Some stamp = sym (ap (λ (x : Option File). option_map (λ (y : File). y.stamp) x) (none f wrote)) ∙ has in cc
 
+  -- no recipe has a last run at first
+  no_last : {A : Type 0} (run : WholeRun) → None ≡ Some run → A
+  no_last run e = absurd (cc)
+
   -- the invariant at a start
-  pub start_rests : (d : Disk) → IsStart s d → Rests g s d
-  start_rests d start = record {
-    past = record { began = λ t. 0; saw = λ t f. None };
-    fits = record {
-      stamped = λ f stamp has. let is = stamped_file d f stamp has in let early = start.stamped f is.0 is.1 in let same = is.2 in omega arith;
-      began = λ t. omega arith;
-      after_begin = λ t f stamp stopped wrote has. absurd (no_stamp d t (untouched_at_start d start t) f stamp wrote has);
-      whole = λ t stopped. inl (untouched_at_start d start t);
-      apart = λ o t before. inl (record { stopped = λ h. h; early = λ f stamp wrote has. absurd (no_stamp d o (untouched_at_start d start o) f stamp wrote has) });
-    };
+  pub start_fits : (d : Disk) → IsStart s d → Fits g s no_runs [] d
+  start_fits d start = record {
+    stamped = λ f stamp has. let is = stamped_file d f stamp has in let early = start.stamped f is.0 is.1 in let same = is.2 in omega arith;
+    began = λ t. omega arith;
+    ended = λ t run e. no_last run e;
+    last_begun = λ t run stopped e. no_last run e;
+    after_begin = λ t f stamp stopped wrote has. absurd (no_stamp d t (untouched_at_start d start t) f stamp wrote has);
+    whole = λ t stopped. inl (untouched_at_start d start t);
+    saw = λ t run e. no_last run e;
+    apart = λ o t before. inl (record { stopped = λ h. h; early = λ f stamp wrote has. absurd (no_stamp d o (untouched_at_start d start o) f stamp wrote has); ended = λ run e. no_last run e });
   }
 
   -- after an edit
-  pub edit_rests : (d : Disk) (f : FileName) (c : ℕ) → Rests g s d → is_editable s f ≡ true → Rests g s (written d f c)
-  edit_rests d f c is editable = record {
-    past = is.past;
-    fits = fits_written g s is.past [] d is.fits f c (inl editable) (λ t wrote. absurd (editable_is_not_written g s graph sound t f editable wrote));
-  }
+  edit_fits : (p : Runs) (d : Disk) (f : FileName) (c : ℕ) → Fits g s p [] d → is_editable s f ≡ true → Fits g s p [] (written d f c)
+  edit_fits p d f c fits editable = fits_written g s p [] d fits f c (inl editable) (λ t wrote. absurd (editable_is_not_written g s graph sound t f editable wrote))
 
   -- after the begin of a make
-  pub make_holds : (d : Disk) (jobs : ℕ) (goals : List ℕ) → Rests g s d → IsPart goals g.goals → Holds g s (make_of jobs goals) d
-  make_holds d jobs goals is part = record {
-    past = is.past;
-    start = d.clock;
-    fits = is.fits;
+  pub make_holds : (p : Runs) (d : Disk) (jobs : ℕ) (goals : List ℕ) → Fits g s p [] d → IsPart goals g.goals → Holds g s p d.clock (make_of jobs goals) d
+  make_holds p d jobs goals fits part = record {
+    fits = fits;
     make = record {
       order = record { part = part; turns = tt; recipes = λ t h. absurd h; running = λ t h. absurd h };
       start_came = omega arith;
       seen = λ t f c runs. absurd runs;
       put = λ t f c runs. absurd runs;
       put_late = λ t f c stamp runs. absurd runs;
-      waits = λ t not_done stopped. is.fits.began t;
+      waits = λ t not_done stopped. fits.began t;
       runs = λ t runs. absurd runs;
-      done = λ t done. absurd done;
     };
   }
 
   -- after a make in which nothing runs
-  pub rest_after : (m : Making) (d : Disk) → Holds g s m d → m.running ≡ [] → Rests g s d
-  rest_after m d is none = record { past = is.past; fits = subst (λ (l : List ℕ). Fits g s is.past l d) none is.fits }
+  rest_after : (p : Runs) (start : ℕ) (m : Making) (d : Disk) → Holds g s p start m d → m.running ≡ [] → Fits g s p [] d
+  rest_after p start m d is none = subst (λ (l : List ℕ). Fits g s p l d) none is.fits
 
-  -- a node may be passed where it is up to date, if it has a recipe
-  abbrev pub PassesUpToDate : Making → Disk → Type 0
-  PassesUpToDate m d = (p : Past) (start : ℕ) → Fits g s p m.running d → InMake g s p start m d → (n : ℕ) → Ready g m n → (node g n).recipe ≡ true → ¬ (MustRun g d n) → IsUpToDate g s p start d n
+  module _ (no_race : HaveNoRace g s) where
+    -- each step keeps the invariant
+    pub step_keeps : (p : Runs) (start : ℕ) (w : World) (step : Step) → IsInvariant g s p start w → Allowed g s w step → IsInvariant g s (runs_after w step p) (start_after w step start) (after g s w step)
+    step_keeps p start (Idle d) (Edit f c) is may = edit_fits p d f c is may.0
+    step_keeps p start (Idle d) (Make jobs goals) is may = make_holds p d jobs goals is may.1
+    step_keeps p start (Idle d) (Begin t) is may = absurd may
+    step_keeps p start (Idle d) (Look t f) is may = absurd may
+    step_keeps p start (Idle d) (Put t f c) is may = absurd may
+    step_keeps p start (Idle d) (End t) is may = absurd may
+    step_keeps p start (Idle d) (Pass t) is may = absurd may
+    step_keeps p start (Idle d) Stop is may = absurd may
+    step_keeps p start (Idle d) EndMake is may = absurd may
+    step_keeps p start (Busy m d) (Edit f c) is may = absurd may
+    step_keeps p start (Busy m d) (Make jobs goals) is may = absurd may
+    step_keeps p start (Busy m d) (Begin t) is may = begin_holds g s p start m d is.fits is.make t may.0 may.1
+    step_keeps p start (Busy m d) (Look t f) is may = look_holds g s p start m d is.fits is.make t f
+    step_keeps p start (Busy m d) (Put t f c) is may = put_holds g s graph sound no_race p start m d is.fits is.make t f c may.0 may.1
+    step_keeps p start (Busy m d) (End t) is may = end_holds g s p start m d is.fits is.make t may
+    step_keeps p start (Busy m d) (Pass n) is may = pass_holds g s p start m d is.fits is.make n may.0
+    step_keeps p start (Busy m d) Stop is may = rest_after p start m d is may
+    step_keeps p start (Busy m d) EndMake is may = rest_after p start m d is may.1
 
-  -- the invariant after a node was passed
-  pub pass_may : (m : Making) (d : Disk) (n : ℕ) → PassesUpToDate m d → Holds g s m d → Allowed g s (Busy m d) (Pass n) → IsInvariant g s (after g s (Busy m d) (Pass n))
-  pass_may m d n passes is may = pass_holds g s is.past is.start m d is.fits is.make n may.0 (λ recipe. ⊎_elim (λ none. absurd (true≢false (sym recipe ∙ none))) (λ need_not. passes is.past is.start is.fits is.make n may.0 recipe need_not) may.1)
+    -- the invariant after a legal history
+    pub history_fits : (d : Disk) (steps : List Step) → IsStart s d → IsLegal g s (Idle d) steps → (start : ℕ) × IsInvariant g s (runs_of g s d steps) start (after_all g s (Idle d) steps)
+    history_fits d steps start legal = kept_with_runs g s (IsInvariant g s) step_keeps no_runs 0 (Idle d) steps (start_fits d start) legal
 
-  -- each step keeps the invariant, where what is passed is up to date
-  pub step_keeps : ((m : Making) (d : Disk) → Holds g s m d → PassesUpToDate m d) → (w : World) (step : Step) → IsInvariant g s w → Allowed g s w step → IsInvariant g s (after g s w step)
-  step_keeps passes (Idle d) (Edit f c) is may = edit_rests d f c is may.0
-  step_keeps passes (Idle d) (Make jobs goals) is may = make_holds d jobs goals is may.1
-  step_keeps passes (Idle d) (Begin t) is may = absurd may
-  step_keeps passes (Idle d) (Look t f) is may = absurd may
-  step_keeps passes (Idle d) (Put t f c) is may = absurd may
-  step_keeps passes (Idle d) (End t) is may = absurd may
-  step_keeps passes (Idle d) (Pass t) is may = absurd may
-  step_keeps passes (Idle d) Stop is may = absurd may
-  step_keeps passes (Idle d) EndMake is may = absurd may
-  step_keeps passes (Busy m d) (Edit f c) is may = absurd may
-  step_keeps passes (Busy m d) (Make jobs goals) is may = absurd may
-  step_keeps passes (Busy m d) (Begin t) is may = begin_holds g s is.past is.start m d is.fits is.make t may.0 may.1
-  step_keeps passes (Busy m d) (Look t f) is may = look_holds g s is.past is.start m d is.fits is.make t f
-  step_keeps passes (Busy m d) (Put t f c) is may = put_holds g s graph sound is.past is.start m d is.fits is.make t f c may.0 may.1
-  step_keeps passes (Busy m d) (End t) is may = end_holds g s is.past is.start m d is.fits is.make t may
-  step_keeps passes (Busy m d) (Pass n) is may = pass_may m d n (passes m d is) is may
-  step_keeps passes (Busy m d) Stop is may = rest_after m d is may
-  step_keeps passes (Busy m d) EndMake is may = rest_after m d is may.1
+    -- the disk of a world fits the runs
+    saw_in : (p : Runs) (start : ℕ) (w : World) → IsInvariant g s p start w → (t : ℕ) (run : WholeRun) → p.last t ≡ Some run → SawOrLater g s run (disk_of w) t
+    saw_in p start (Idle d) is = is.saw
+    saw_in p start (Busy m d) is = is.fits.saw
 
-  -- what is up to date is fresh
-  fresh_from : (m : Making) (d : Disk) → Holds g s m d → (n : ℕ) → Has m.done n → (node g n).recipe ≡ true → IsFresh g s d n
-  fresh_from m d is n done recipe =
-      let up = is.make.done n done recipe in
-      record { written = up.whole.written; known = subst (λ (l : List (Option ℕ)). outcome d.known n l ≡ Some up.whole.written) (sym (map_same (content d) (is.past.saw n) (reads g s n) up.sees)) up.whole.known; holds = up.whole.holds }
+    -- so last runs saw what is there, or it was written since
+    pub last_runs_saw : (d : Disk) (steps : List Step) → IsStart s d → IsLegal g s (Idle d) steps → (t : ℕ) (run : WholeRun) → (runs_of g s d steps).last t ≡ Some run → (f : FileName) → Has (reads g s t) f → SawOrWasWrittenAfter run (disk_after g s d steps) f
+    last_runs_saw d steps start legal t run is_last f read =
+        let is = history_fits d steps start legal in
+        ⊎_elim (λ sees. inl sees) (λ late. inr late.1) (saw_in (runs_of g s d steps) is.0 (after_all g s (Idle d) steps) is.1 t run is_last f read)
 
-  -- at the end of a make its goals are built
-  pub right_at : (w : World) → IsInvariant g s w → IsRightAt g s w
-  right_at (Idle d) is = tt
-  right_at (Busy m d) is = λ may. is_built g s graph sound d m.goals is.make.order.part m.done is.make.order.turns may.0 (fresh_from m d is)
+    -- a node may be passed where it is up to date, if it has a recipe
+    abbrev pub PassesUpToDate : Runs → ℕ → Making → Disk → Type 0
+    PassesUpToDate p start m d = (n : ℕ) → Ready g m n → (node g n).recipe ≡ true → ¬ (MustRun g d n) → IsUpToDate g s p start d n
 
-  -- each legal history is right, where each read that needs a way has one
-  pub history_is_right : HaveWays g s → (d : Disk) (steps : List Step) → IsStart s d → IsLegal g s (Idle d) steps → IsRightAt g s (after_all g s (Idle d) steps)
-  history_is_right ways d steps start legal =
-      right_at (after_all g s (Idle d) steps) (kept g s (IsInvariant g s) (step_keeps (λ m at is p begun fits make n ready recipe need_not. passed_is_up_to_date g s graph sound p begun m at fits make ways n ready recipe need_not)) (Idle d) steps (start_rests d start) legal)
+    -- what is done is up to date after a node was passed
+    pub pass_keeps_settled : (p : Runs) (start : ℕ) (m : Making) (d : Disk) (n : ℕ) → Holds g s p start m d → AreUpToDate g s p start m d → PassesUpToDate p start m d → Allowed g s (Busy m d) (Pass n) → AreUpToDate g s p start (finished m n) d
+    pass_keeps_settled p start m d n is are passes may =
+        pass_settled g s p start m d is.fits is.make n may.0 (λ recipe. ⊎_elim (λ none. absurd (true≢false (sym recipe ∙ none))) (λ need_not. passes n may.0 recipe need_not) may.1) are
+
+    -- the invariant, with what is done up to date
+    abbrev pub IsWhole : Runs → ℕ → World → Type 0
+    IsWhole p start w = IsInvariant g s p start w × IsSettled g s p start w
+
+    -- what is done stays up to date over each step, where what is passed is
+    pub step_settles : ((p : Runs) (start : ℕ) (m : Making) (d : Disk) → Holds g s p start m d → AreUpToDate g s p start m d → PassesUpToDate p start m d) → (p : Runs) (start : ℕ) (w : World) (step : Step) → IsWhole p start w → Allowed g s w step → IsSettled g s (runs_after w step p) (start_after w step start) (after g s w step)
+    step_settles passes p start (Idle d) (Edit f c) is may = tt
+    step_settles passes p start (Idle d) (Make jobs goals) is may = λ t done. absurd done
+    step_settles passes p start (Idle d) (Begin t) is may = absurd may
+    step_settles passes p start (Idle d) (Look t f) is may = absurd may
+    step_settles passes p start (Idle d) (Put t f c) is may = absurd may
+    step_settles passes p start (Idle d) (End t) is may = absurd may
+    step_settles passes p start (Idle d) (Pass t) is may = absurd may
+    step_settles passes p start (Idle d) Stop is may = absurd may
+    step_settles passes p start (Idle d) EndMake is may = absurd may
+    step_settles passes p start (Busy m d) (Edit f c) is may = absurd may
+    step_settles passes p start (Busy m d) (Make jobs goals) is may = absurd may
+    step_settles passes p start (Busy m d) (Begin t) is may = begin_settled g s p start m d is.0.fits is.0.make t may.0 may.1 is.1
+    step_settles passes p start (Busy m d) (Look t f) is may = is.1
+    step_settles passes p start (Busy m d) (Put t f c) is may = put_settled g s graph sound no_race p start m d is.0.fits is.0.make t f c may.0 may.1 is.1
+    step_settles passes p start (Busy m d) (End t) is may = end_settled g s p start m d is.0.fits is.0.make t may is.1
+    step_settles passes p start (Busy m d) (Pass n) is may = pass_keeps_settled p start m d n is.0 is.1 (passes p start m d is.0 is.1) may
+    step_settles passes p start (Busy m d) Stop is may = tt
+    step_settles passes p start (Busy m d) EndMake is may = tt
+
+    -- what is up to date is fresh
+    fresh_from : (p : Runs) (start : ℕ) (m : Making) (d : Disk) → AreUpToDate g s p start m d → (n : ℕ) → Has m.done n → (node g n).recipe ≡ true → IsFresh g s d n
+    fresh_from p start m d are n done recipe =
+        let up = are n done recipe in
+        record { written = up.whole.written; known = subst (λ (l : List (Option ℕ)). outcome d.known n l ≡ Some up.whole.written) (sym (map_same (content d) up.run.saw (reads g s n) up.sees)) up.whole.known; holds = up.whole.holds }
+
+    -- at the end of a make its goals are built
+    pub right_at : (p : Runs) (start : ℕ) (w : World) → IsWhole p start w → IsRightAt g s w
+    right_at p start (Idle d) is = tt
+    right_at p start (Busy m d) is = λ may. is_built g s graph sound no_race d m.goals is.0.make.order.part m.done is.0.make.order.turns may.0 (fresh_from p start m d is.1)
+
+    module _ (ways : HaveWays g s) where
+      -- each step keeps all of it, where each read that needs a way has one
+      whole_keeps : (p : Runs) (start : ℕ) (w : World) (step : Step) → IsWhole p start w → Allowed g s w step → IsWhole (runs_after w step p) (start_after w step start) (after g s w step)
+      whole_keeps p start w step is may =
+          (step_keeps p start w step is.0 may, step_settles (λ q begun m d at are n ready recipe need_not. passed_is_up_to_date g s graph sound q begun m d at.fits at.make are n ready recipe need_not ways) p start w step is may)
+
+      -- so does each legal history
+      history_is_whole : (d : Disk) (steps : List Step) → IsStart s d → IsLegal g s (Idle d) steps → (start : ℕ) × IsWhole (runs_of g s d steps) start (after_all g s (Idle d) steps)
+      history_is_whole d steps start legal = kept_with_runs g s IsWhole whole_keeps no_runs 0 (Idle d) steps (start_fits d start, tt) legal
+
+      -- each legal history is right
+      pub history_is_right : (d : Disk) (steps : List Step) → IsStart s d → IsLegal g s (Idle d) steps → IsRightAt g s (after_all g s (Idle d) steps)
+      history_is_right d steps start legal =
+          let is = history_is_whole d steps start legal in
+          right_at (runs_of g s d steps) is.0 (after_all g s (Idle d) steps) is.1
+
+      -- the last run of what a recipe carries lies before its own, where it may be passed
+      ran_in : (p : Runs) (start : ℕ) (w : World) → IsWhole p start w → (t o : ℕ) → (node g t).recipe ≡ true → Allowed g s w (Pass t) → Carries g s t o → RanBefore p o t
+      ran_in p start (Idle d) is t o recipe may carries = absurd may
+      ran_in p start (Busy m d) is t o recipe may carries =
+          ⊎_elim (λ none. absurd (true≢false (sym recipe ∙ none))) (λ need_not. ready_ran_after g s graph sound p start m d is.0.fits is.0.make is.1 t may.0 recipe need_not o carries) may.1
+
+      -- so in each legal history
+      pub carried_ran_before : (d : Disk) (steps : List Step) → IsStart s d → IsLegal g s (Idle d) steps → (t o : ℕ) → (node g t).recipe ≡ true → Allowed g s (after_all g s (Idle d) steps) (Pass t) → Carries g s t o → RanBefore (runs_of g s d steps) o t
+      carried_ran_before d steps start legal t o recipe may carries =
+          let is = history_is_whole d steps start legal in
+          ran_in (runs_of g s d steps) is.0 (after_all g s (Idle d) steps) is.1 t o recipe may carries

@@ -3,60 +3,61 @@ use Rattle.std.proofs.Common.{◌≡◌, ℕ, ◌<◌, ◌≤◌, List, [], true
 use Rattle.mk_graph.specs.Membership.{Has}
 use Rattle.mk_graph.specs.Graph.{Graph, node}
 use Rattle.mk_graph.specs.Setting.{FileName, Setting, reads, writes}
-use Rattle.mk_graph.specs.World.{Disk, Making, World, Idle, Busy, content, HasStamp, outcome}
+use Rattle.mk_graph.specs.World.{Disk, Making, World, Idle, Busy, content, HasStamp, WasWrittenAfter, outcome}
 use Rattle.mk_graph.specs.Turns.{Before}
-use Rattle.mk_graph.specs.Schedule.{MustRun}
+use Rattle.mk_graph.specs.Schedule.{Step, Make, MustRun}
+use Rattle.mk_graph.specs.Runs.{WholeRun, Runs}
 use Rattle.mk_graph.specs.Ways.{CanChange}
 use Rattle.mk_graph.proofs.InOrder.{InOrder}
 
--- The past of the recipes: the clock when each last began, and what its last whole run saw.
-pub record Past : Type 0 where
-  pub began : ℕ → ℕ
-  pub saw : ℕ → FileName → Option ℕ
-
--- the file is there with a later stamp than all files of the recipe
-pub record IsLater (g : Graph) (s : Setting) (d : Disk) (t : ℕ) (f : FileName) : Type 0 where
-  pub stamp : ℕ
-  pub has : HasStamp d f stamp
-  pub later : (h : FileName) (old : ℕ) → Has (writes g s t) h → HasStamp d h old → old < stamp
-
--- The recipe has run whole: what it wrote is there, as the outcome of what it saw, and each file that it read holds
--- what it saw, or can change and is later than all that it wrote.
-pub record HasRunWhole (g : Graph) (s : Setting) (p : Past) (d : Disk) (t : ℕ) : Type 0 where
+-- The recipe is as its last whole run left it: what it wrote is there, as the outcome of what it saw, and no later than
+-- the end of the run.
+pub record HasRunWhole (g : Graph) (s : Setting) (run : WholeRun) (d : Disk) (t : ℕ) : Type 0 where
   pub written : List ℕ
-  pub known : outcome d.known t (map (p.saw t) (reads g s t)) ≡ Some written
+  pub known : outcome d.known t (map run.saw (reads g s t)) ≡ Some written
   pub holds : map (content d) (writes g s t) ≡ map (λ c. Some c) written
-  pub reads : (f : FileName) → Has (reads g s t) f → (content d f ≡ p.saw t f) ⊎ (CanChange s f × IsLater g s d t f)
+  pub early : (f : FileName) (stamp : ℕ) → Has (writes g s t) f → HasStamp d f stamp → stamp ≤ run.ended
 
 -- none of its files is there
 abbrev pub IsUntouched : Graph → Setting → Disk → ℕ → Type 0
 IsUntouched g s d t = (f : FileName) → Has (writes g s t) f → d.files f ≡ None
 
--- The recipe was through at this clock: it isn't running, and what it wrote is no later.
-pub record WasThrough (g : Graph) (s : Setting) (running : List ℕ) (d : Disk) (t clock : ℕ) : Type 0 where
+-- The recipe was through at this clock: it isn't running, and what it wrote and its last whole run are no later.
+pub record WasThrough (g : Graph) (s : Setting) (last : Option WholeRun) (running : List ℕ) (d : Disk) (t clock : ℕ) : Type 0 where
   pub stopped : ¬ (Has running t)
   pub early : (f : FileName) (stamp : ℕ) → Has (writes g s t) f → HasStamp d f stamp → stamp ≤ clock
+  pub ended : (run : WholeRun) → last ≡ Some run → run.ended ≤ clock
 
--- The disk fits the past, while these recipes run: stamps and begins have come, what a recipe wrote is later than its
--- last begin, a recipe has run whole or not at all, and of two of which one is before the other, one was through when
--- the other last began.
-pub record Fits (g : Graph) (s : Setting) (p : Past) (running : List ℕ) (d : Disk) : Type 0 where
+-- Each file that a recipe reads holds what its last whole run saw, or can change and was written after that run.
+abbrev pub SawOrLater : Graph → Setting → WholeRun → Disk → ℕ → Type 0
+SawOrLater g s run d t = (f : FileName) → Has (reads g s t) f → (content d f ≡ run.saw f) ⊎ (CanChange s f × WasWrittenAfter d f run.ended)
+
+-- The disk fits the runs so far, while these recipes run: stamps, begins and ends have come; what a recipe wrote is
+-- later than its last begin; a recipe that doesn't run has last begun its last whole run, or has none of its files; what
+-- last runs saw is there or was written since; and of two of which one is before the other, one was through when the
+-- other last began.
+pub record Fits (g : Graph) (s : Setting) (p : Runs) (running : List ℕ) (d : Disk) : Type 0 where
   pub stamped : (f : FileName) (stamp : ℕ) → HasStamp d f stamp → stamp ≤ d.clock
   pub began : (t : ℕ) → p.began t ≤ d.clock
+  pub ended : (t : ℕ) (run : WholeRun) → p.last t ≡ Some run → run.ended ≤ d.clock
+  pub last_begun : (t : ℕ) (run : WholeRun) → ¬ (Has running t) → p.last t ≡ Some run → run.began ≡ p.began t
   pub after_begin : (t : ℕ) (f : FileName) (stamp : ℕ) → ¬ (Has running t) → Has (writes g s t) f → HasStamp d f stamp → p.began t < stamp
-  pub whole : (t : ℕ) → ¬ (Has running t) → IsUntouched g s d t ⊎ HasRunWhole g s p d t
-  pub apart : (o t : ℕ) → Before g o t → WasThrough g s running d o (p.began t) ⊎ WasThrough g s running d t (p.began o)
+  pub whole : (t : ℕ) → ¬ (Has running t) → IsUntouched g s d t ⊎ ((run : WholeRun) × (p.last t ≡ Some run) × HasRunWhole g s run d t)
+  pub saw : (t : ℕ) (run : WholeRun) → p.last t ≡ Some run → SawOrLater g s run d t
+  pub apart : (o t : ℕ) → Before g o t → WasThrough g s (p.last o) running d o (p.began t) ⊎ WasThrough g s (p.last t) running d t (p.began o)
 
--- A done recipe is up to date: it has run whole, each file that it read holds what it saw, and it need not run or has
--- run since the make began.
-pub record IsUpToDate (g : Graph) (s : Setting) (p : Past) (start : ℕ) (d : Disk) (t : ℕ) : Type 0 where
-  pub whole : HasRunWhole g s p d t
-  pub sees : (f : FileName) → Has (reads g s t) f → content d f ≡ p.saw t f
+-- A done recipe is up to date: it is as its last whole run left it, each file that it read holds what it saw, and it
+-- need not run or has run since the make began.
+pub record IsUpToDate (g : Graph) (s : Setting) (p : Runs) (start : ℕ) (d : Disk) (t : ℕ) : Type 0 where
+  pub run : WholeRun
+  pub is_last : p.last t ≡ Some run
+  pub whole : HasRunWhole g s run d t
+  pub sees : (f : FileName) → Has (reads g s t) f → content d f ≡ run.saw f
   pub settled : (¬ (MustRun g d t)) ⊎ (start ≤ p.began t)
 
 -- A make in progress that began at this clock: what running recipes have seen and put is still there, put since they
--- began; what waits began no later than the make, what runs no earlier; and what is done is up to date.
-pub record InMake (g : Graph) (s : Setting) (p : Past) (start : ℕ) (m : Making) (d : Disk) : Type 0 where
+-- began; what waits began no later than the make, and what runs no earlier.
+pub record InMake (g : Graph) (s : Setting) (p : Runs) (start : ℕ) (m : Making) (d : Disk) : Type 0 where
   pub order : InOrder g m
   pub start_came : start ≤ d.clock
   pub seen : (t : ℕ) (f : FileName) (c : Option ℕ) → Has m.running t → Has (reads g s t) f → m.seen t f ≡ Some c → content d f ≡ c
@@ -64,21 +65,27 @@ pub record InMake (g : Graph) (s : Setting) (p : Past) (start : ℕ) (m : Making
   pub put_late : (t : ℕ) (f : FileName) (c stamp : ℕ) → Has m.running t → Has (writes g s t) f → m.put t f ≡ Some c → HasStamp d f stamp → p.began t < stamp
   pub waits : (t : ℕ) → ¬ (Has m.done t) → ¬ (Has m.running t) → p.began t ≤ start
   pub runs : (t : ℕ) → Has m.running t → start ≤ p.began t
-  pub done : (t : ℕ) → Has m.done t → (node g t).recipe ≡ true → IsUpToDate g s p start d t
 
--- the invariant of a make in progress
-pub record Holds (g : Graph) (s : Setting) (m : Making) (d : Disk) : Type 0 where
-  pub past : Past
-  pub start : ℕ
-  pub fits : Fits g s past m.running d
-  pub make : InMake g s past start m d
+-- the invariant of a make in progress, of which nothing is asked that is done
+pub record Holds (g : Graph) (s : Setting) (p : Runs) (start : ℕ) (m : Making) (d : Disk) : Type 0 where
+  pub fits : Fits g s p m.running d
+  pub make : InMake g s p start m d
 
--- the invariant of a disk with no make in progress
-pub record Rests (g : Graph) (s : Setting) (d : Disk) : Type 0 where
-  pub past : Past
-  pub fits : Fits g s past [] d
+-- what is done is up to date
+abbrev pub AreUpToDate : Graph → Setting → Runs → ℕ → Making → Disk → Type 0
+AreUpToDate g s p start m d = (t : ℕ) → Has m.done t → (node g t).recipe ≡ true → IsUpToDate g s p start d t
 
--- the invariant of a world
-abbrev pub IsInvariant : Graph → Setting → World → Type 0
-IsInvariant g s (Idle d) = Rests g s d
-IsInvariant g s (Busy m d) = Holds g s m d
+-- the invariant of a world, after these runs
+abbrev pub IsInvariant : Graph → Setting → Runs → ℕ → World → Type 0
+IsInvariant g s p start (Idle d) = Fits g s p [] d
+IsInvariant g s p start (Busy m d) = Holds g s p start m d
+
+-- what is done in a world is up to date
+abbrev pub IsSettled : Graph → Setting → Runs → ℕ → World → Type 0
+IsSettled g s p start (Idle d) = Unit {0}
+IsSettled g s p start (Busy m d) = AreUpToDate g s p start m d
+
+-- the clock when the make in progress began, after a step
+abbrev pub start_after : World → Step → ℕ → ℕ
+start_after (Idle d) (Make jobs goals) start = d.clock
+start_after world other start = start

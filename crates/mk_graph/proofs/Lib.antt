@@ -9,7 +9,6 @@ pub mod SerialOrder
 pub mod Building
 pub mod Orders
 pub mod Cycles
-pub mod Fixtures
 pub mod Turning
 pub mod Changes
 pub mod InOrder
@@ -38,3 +37,14 @@ pub mod Deciding
 pub mod MakesBut
 pub mod StaleHistory
 pub mod StaleExists
+pub mod TurnLists
+pub mod Overlap
+pub mod Stopping
+pub mod OneNode
+pub mod ListLaws
+pub mod ChainWays
+pub mod TurnPast
+pub mod TurnLoops
+pub mod BitWords
+pub mod RowBits
+pub mod Settling

@@ -6,21 +6,21 @@ use Rattle.std.proofs.lemmas.Bool.{cases_Bool, true≢false}
 use Rattle.std.proofs.lemmas.List.{length-map}
 use Rattle.mk_graph.specs.Membership.{Has, has}
 use Rattle.mk_graph.specs.Graph.{Graph, node}
-use Rattle.mk_graph.specs.Setting.{FileName, Setting, reads, writes}
+use Rattle.mk_graph.specs.Setting.{FileName, Setting, reads, writes, writings}
 use Rattle.mk_graph.specs.World.{File, Outcome, Disk, World, Busy, HasStamp, content, last_stamp, outcome, disk_of}
 use Rattle.mk_graph.specs.Turns.{MayTurn}
 use Rattle.mk_graph.specs.Schedule.{changed_at, Step, Pass, MustRun, after, noted, IsLegal, after_all}
 use Rattle.mk_graph.specs.SerialMake.{whole_run}
 use Rattle.mk_graph.specs.Right.{AreSound}
-use Rattle.mk_graph.specs.Stale.{next_stamps, to_put, MakesBut, ends, passes, runs}
+use Rattle.mk_graph.specs.InTurn.{next_stamps, to_put, MakesBut, ends, passes, runs}
 use Rattle.mk_graph.proofs.Sound.{writer_has_recipe}
 use Rattle.mk_graph.proofs.Outcomes.{cases_outcome, noted_cases}
 use Rattle.mk_graph.proofs.Writing.{one_stamp}
 use Rattle.mk_graph.proofs.WholeRuns.{legal_append, after_append, quiet, Agree, Ran, whole_run_legal}
-use Rattle.mk_graph.proofs.SerialHistory.{writes_of, TurnOn, done_behind, clock_behind}
+use Rattle.mk_graph.proofs.SerialHistory.{TurnOn, done_behind, clock_behind}
 
 -- so many stamps are as many
-next_stamps_many : (clock many : ℕ) → length (next_stamps clock many) ≡ many
+pub next_stamps_many : (clock many : ℕ) → length (next_stamps clock many) ≡ many
 next_stamps_many clock zero = refl
 next_stamps_many clock (suc many) = ap suc (next_stamps_many (clock + 1) many)
 
@@ -58,7 +58,7 @@ module _ (g : Graph) (s : Setting) where
     pub seen : ℕ → FileName → Option (Option ℕ)
     pub put : ℕ → FileName → Option ℕ
     pub disk : Disk
-    pub is : w ≡ Busy (quiet g s g.goals done seen put) disk
+    pub is : w ≡ Busy (quiet g s 1 g.goals done seen put) disk
     pub left : Left passed done before limit disk
 
   module _ (sound : AreSound g s) (passed : ℕ → Type 0) (before : Disk) where
@@ -86,7 +86,7 @@ module _ (g : Graph) (s : Setting) where
           (λ x h k stamp early x_in x_run n_run wrote k_wrote has k_has. old.0 x h k stamp early x_in x_run n_run wrote k_wrote (other_stamp n h stamp (within n (inl refl)) wrote has) (other_stamp x k early (within x (inr x_in)) k_wrote k_has), ascends_still ns (λ m there. within m (inr there)) old.1)
 
     -- after a whole run
-    left_ran : (t : ℕ) (done cs : List ℕ) (limit : ℕ) (d : Disk) (w : World) → ¬ (passed t) → ¬ (Has done t) → Left passed done before limit d → (ran : Ran g s g.goals done t cs d w) → Left passed (t ∷ done) before (limit + length (writes g s t)) (noted ran.disk ran.result)
+    left_ran : (t : ℕ) (done cs : List ℕ) (limit : ℕ) (d : Disk) (w : World) → ¬ (passed t) → ¬ (Has done t) → Left passed done before limit d → (ran : Ran g s 1 g.goals done t cs d w) → Left passed (t ∷ done) before (limit + length (writes g s t)) (noted ran.disk ran.result)
     left_ran t done cs limit d w run new left ran =
         let now = ran.clock in
         let began = left.grown in
@@ -121,8 +121,8 @@ module _ (g : Graph) (s : Setting) where
       one_run t done limit w recipe run may room goes =
           let fits = to_put_fits goes.disk t goes.left.by_name in
           let low = goes.left.low in
-          let now = whole_run_legal g s g.goals t done (to_put g s goes.disk t) goes.seen goes.put goes.disk fits.0 (omega arith) may recipe fits.1 in
-          subst (λ (k : World). IsLegal g s k (whole_run g s t (to_put g s (disk_of k) t)) × Goes passed (t ∷ done) before (limit + length (writes g s t)) (after_all g s k (whole_run g s t (to_put g s (disk_of k) t)))) (sym goes.is) (now.0, record { seen = now.1.seen; put = now.1.put; disk = noted now.1.disk now.1.result; is = now.1.is; left = left_ran t done (to_put g s goes.disk t) limit goes.disk (after_all g s (Busy (quiet g s g.goals done goes.seen goes.put) goes.disk) (whole_run g s t (to_put g s goes.disk t))) run may.not_done goes.left now.1 })
+          let now = whole_run_legal g s 1 g.goals t done (to_put g s goes.disk t) goes.seen goes.put goes.disk fits.0 (omega arith) may recipe fits.1 (omega arith) in
+          subst (λ (k : World). IsLegal g s k (whole_run g s t (to_put g s (disk_of k) t)) × Goes passed (t ∷ done) before (limit + length (writes g s t)) (after_all g s k (whole_run g s t (to_put g s (disk_of k) t)))) (sym goes.is) (now.0, record { seen = now.1.seen; put = now.1.put; disk = noted now.1.disk now.1.result; is = now.1.is; left = left_ran t done (to_put g s goes.disk t) limit goes.disk (after_all g s (Busy (quiet g s 1 g.goals done goes.seen goes.put) goes.disk) (whole_run g s t (to_put g s goes.disk t))) run may.not_done goes.left now.1 })
 
       -- a pass
       one_pass : (n : ℕ) (done : List ℕ) (limit : ℕ) (w : World) → ((node g n).recipe ≡ false) ⊎ passed n → MayTurn g g.goals done n → Goes passed done before limit w → IsLegal g s w (Pass n ∷ []) × Goes passed (n ∷ done) before (limit + length (writes g s n)) (after g s w (Pass n))
@@ -131,18 +131,18 @@ module _ (g : Graph) (s : Setting) where
           subst (λ (k : World). IsLegal g s k (Pass n ∷ []) × Goes passed (n ∷ done) before (limit + length (writes g s n)) (after g s k (Pass n))) (sym goes.is) ((((may, λ h. h), may_pass), tt), record { seen = changed_at goes.seen n (λ f. None); put = changed_at goes.put n (λ f. None); disk = goes.disk; is = refl; left = left_passed n done limit goes.disk why goes.left })
 
       -- one node, and then others
-      then_others : (n : ℕ) (ns done : List ℕ) (first rest : List Step) (w : World) (limit : ℕ) → IsLegal g s w first → IsLegal g s (after_all g s w first) rest × Goes passed (reverse ns ++ (n ∷ done)) before ((limit + length (writes g s n)) + writes_of g s ns) (after_all g s (after_all g s w first) rest) → IsLegal g s w (first ++ rest) × Goes passed (reverse (n ∷ ns) ++ done) before (limit + writes_of g s (n ∷ ns)) (after_all g s w (first ++ rest))
+      then_others : (n : ℕ) (ns done : List ℕ) (first rest : List Step) (w : World) (limit : ℕ) → IsLegal g s w first → IsLegal g s (after_all g s w first) rest × Goes passed (reverse ns ++ (n ∷ done)) before ((limit + length (writes g s n)) + writings g s ns) (after_all g s (after_all g s w first) rest) → IsLegal g s w (first ++ rest) × Goes passed (reverse (n ∷ ns) ++ done) before (limit + writings g s (n ∷ ns)) (after_all g s w (first ++ rest))
       then_others n ns done first rest w limit legal more =
-          (legal_append g s w first rest legal more.0, subst (λ (k : World). Goes passed (reverse (n ∷ ns) ++ done) before (limit + writes_of g s (n ∷ ns)) k) (sym (after_append g s w first rest)) (subst (λ (l : List ℕ). Goes passed l before (limit + writes_of g s (n ∷ ns)) (after_all g s (after_all g s w first) rest)) (done_behind g s [] g.goals n ns done) (subst (λ (k : ℕ). Goes passed (reverse ns ++ (n ∷ done)) before k (after_all g s (after_all g s w first) rest)) (clock_behind g s [] g.goals limit n ns) more.1)))
+          (legal_append g s w first rest legal more.0, subst (λ (k : World). Goes passed (reverse (n ∷ ns) ++ done) before (limit + writings g s (n ∷ ns)) k) (sym (after_append g s w first rest)) (subst (λ (l : List ℕ). Goes passed l before (limit + writings g s (n ∷ ns)) (after_all g s (after_all g s w first) rest)) (done_behind g s [] 1 g.goals n ns done) (subst (λ (k : ℕ). Goes passed (reverse ns ++ (n ∷ done)) before k (after_all g s (after_all g s w first) rest)) (clock_behind g s [] 1 g.goals limit n ns) more.1)))
 
       -- all nodes
-      pub makes_legal : {w : World} {ns : List ℕ} {steps : List Step} → MakesBut g s passed w ns steps → (done : List ℕ) (limit : ℕ) → TurnOn g g.goals done ns → limit + writes_of g s ns ≤ last_stamp → Goes passed done before limit w → IsLegal g s w steps × Goes passed (reverse ns ++ done) before (limit + writes_of g s ns) (after_all g s w steps)
+      pub makes_legal : {w : World} {ns : List ℕ} {steps : List Step} → MakesBut g s passed w ns steps → (done : List ℕ) (limit : ℕ) → TurnOn g g.goals done ns → limit + writings g s ns ≤ last_stamp → Goes passed done before limit w → IsLegal g s w steps × Goes passed (reverse ns ++ done) before (limit + writings g s ns) (after_all g s w steps)
       makes_legal (ends {w = w}) done limit turns room goes = (tt, subst (λ (k : ℕ). Goes passed done before k w) (omega arith) goes)
       makes_legal (passes {w = w} {n = n} {ns = ns} {steps = steps} why more) done limit turns room goes =
           let now = one_pass n done limit w why turns.0 goes in
-          let behind = clock_behind g s [] g.goals limit n ns in
+          let behind = clock_behind g s [] 1 g.goals limit n ns in
           then_others n ns done (Pass n ∷ []) steps w limit now.0 (makes_legal more (n ∷ done) (limit + length (writes g s n)) turns.1 (omega arith) now.1)
       makes_legal (runs {w = w} {t = t} {ns = ns} {steps = steps} recipe run more) done limit turns room goes =
-          let behind = clock_behind g s [] g.goals limit t ns in
+          let behind = clock_behind g s [] 1 g.goals limit t ns in
           let now = one_run t done limit w recipe run turns.0 (omega arith) goes in
           then_others t ns done (whole_run g s t (to_put g s (disk_of w) t)) steps w limit now.0 (makes_legal more (t ∷ done) (limit + length (writes g s t)) turns.1 (omega arith) now.1)

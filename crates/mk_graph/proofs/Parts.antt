@@ -1,13 +1,9 @@
 -- What is wanted grows with the goals and with what is done, so a turn list of a part of the goals is one of all.
 use Rattle.std.proofs.Common.{ℕ, List, [], ◌∷◌, inl, inr, refl, subst}
-use Rattle.mk_graph.specs.Membership.{Has}
+use Rattle.mk_graph.specs.Membership.{Has, IsWithin}
 use Rattle.mk_graph.specs.Graph.{Graph, node}
 use Rattle.mk_graph.specs.Turns.{HasAll, InOpenGroup, Wanted, goal, onward, MayTurn, Turns, IsPart}
 use Rattle.mk_graph.specs.BuildLaws.{AllGoalsSuffice}
-
--- each element of the one list stands in the other
-abbrev pub IsWithin : List ℕ → List ℕ → Type 0
-IsWithin ns ms = (n : ℕ) → Has ns n → Has ms n
 
 -- all of a list stands there, element by element
 pub HasAll-from_Has : (ns ms : List ℕ) → IsWithin ms ns → HasAll ns ms

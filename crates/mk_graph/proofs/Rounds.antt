@@ -4,13 +4,13 @@ use Rattle.std.specs.Prelude.{◌↔◌}
 use Rattle.std.proofs.lemmas.Bool.{cases_Bool, false≢true}
 use Rattle.std.proofs.lemmas.List.{take_more, take-append-drop, drop_more, take_all, get_or_default}
 use Rattle.mk_graph.specs.declared.node.Node.{Node}
-use Rattle.mk_graph.specs.Membership.{Has}
+use Rattle.mk_graph.specs.Membership.{Has, IsWithin}
 use Rattle.mk_graph.specs.Graph.{Graph, no_node, node, prerequisites, IsGraph}
 use Rattle.mk_graph.specs.Serial.{serial_order}
 use Rattle.mk_graph.specs.Turns.{HasAll, InOpenGroup, Wanted, goal as wanted_goal, onward as wanted_onward, Before}
 use Rattle.mk_graph.specs.Without.{IsFree, AreFree, joined}
 use Rattle.mk_graph.proofs.Members.{Has-append_left, Has-append_right, Has-append_cases, Has-get_or}
-use Rattle.mk_graph.proofs.Parts.{IsWithin, Has-from_HasAll, HasAll-from_Has}
+use Rattle.mk_graph.proofs.Parts.{Has-from_HasAll, HasAll-from_Has}
 use Rattle.mk_graph.proofs.Orders.{serial_reaches_each_once, prerequisites_come_first}
 use Rattle.mk_graph.proofs.AllButOne.{free_needs, free_made, open_joined, reached_is_node, is_before, is_not_before}
 
@@ -27,9 +27,9 @@ abbrev pub AreFreeUpTo : Graph → (order : List ℕ) → (o i : ℕ) → List �
 AreFreeUpTo g order o i free = (n : ℕ) → Has free n ↔ (Has (take i order) n × IsFree g o n)
 
 -- Of what is wanted the goals are known, and what stands in open groups of known nodes from this place on.
-pub record AreWantedFrom (g : Graph) (order done : List ℕ) (place : ℕ) (wanted : List ℕ) : Type 0 where
-  pub sound : (n : ℕ) → Has wanted n → Wanted g g.goals done n
-  pub goals : IsWithin g.goals wanted
+pub record AreWantedFrom (g : Graph) (goals order done : List ℕ) (place : ℕ) (wanted : List ℕ) : Type 0 where
+  pub sound : (n : ℕ) → Has wanted n → Wanted g goals done n
+  pub all_goals : IsWithin goals wanted
   pub rest : (p : ℕ) → Has wanted p → Has (take place order) p ⊎ ((n : ℕ) → InOpenGroup done (node g p).groups n → Has wanted n)
 
 module _ (g : Graph) (is : IsGraph g) (order : List ℕ) (order_is : order ≡ serial_order g) where
@@ -78,41 +78,41 @@ module _ (g : Graph) (is : IsGraph g) (order : List ℕ) (order_is : order ≡ s
           λ h. (are n).1 (subst (λ (l : List ℕ). Has l n) (sym whole) ((in_order n).1 h.0), h.1),
         )
 
-  module _ (done : List ℕ) where
+  module _ (goals done : List ℕ) where
     -- the goals alone
-    pub goals_wanted : (wanted : List ℕ) (place : ℕ) → length order ≤ place → ((n : ℕ) → Has wanted n ↔ Has g.goals n) → AreWantedFrom g order done place wanted
-    goals_wanted wanted place past are = record {
+    pub goals_wanted : ((n : ℕ) → Has goals n → n < length g.nodes) → (wanted : List ℕ) (place : ℕ) → length order ≤ place → ((n : ℕ) → Has wanted n ↔ Has goals n) → AreWantedFrom g goals order done place wanted
+    goals_wanted low wanted place past are = record {
       sound = λ n h. wanted_goal ((are n).0 h);
-      goals = λ n h. (are n).1 h;
-      rest = λ p h. inl (subst (λ (l : List ℕ). Has l p) (sym (take_all place order past)) ((in_order p).1 (is.sound.goals p ((are p).0 h))));
+      all_goals = λ n h. (are n).1 h;
+      rest = λ p h. inl (subst (λ (l : List ℕ). Has l p) (sym (take_all place order past)) ((in_order p).1 (low p ((are p).0 h))));
     }
 
     module _ (place : ℕ) (low : place < length order) where
       -- the node at the place is wanted
-      pub opens_this : (wanted new : List ℕ) → AreWantedFrom g order done (place + 1) wanted → Has wanted (get_or order place 0) → ((n : ℕ) → Has new n ↔ (InOpenGroup done (node g (get_or order place 0)).groups n ⊎ Has wanted n)) → AreWantedFrom g order done place new
+      pub opens_this : (wanted new : List ℕ) → AreWantedFrom g goals order done (place + 1) wanted → Has wanted (get_or order place 0) → ((n : ℕ) → Has new n ↔ (InOpenGroup done (node g (get_or order place 0)).groups n ⊎ Has wanted n)) → AreWantedFrom g goals order done place new
       opens_this wanted new are here joins =
           let this = get_or order place 0 in
           record {
             sound = λ n h. ⊎_elim (λ stands. wanted_onward (are.sound this here) stands) (λ had. are.sound n had) ((joins n).0 h);
-            goals = λ n h. (joins n).1 (inr (are.goals n h));
+            all_goals = λ n h. (joins n).1 (inr (are.all_goals n h));
             rest = λ p h. elim ((joins p).0 h) [ inl stands ↦ inl (needs_before place p low (open_joined done (node g this).groups p stands)) | inr had ↦ (elim (are.rest p had) [ inl before ↦ (elim ((Has-take_more order place p low).0 before) [ inl earlier ↦ inl earlier | inr same ↦ inr (λ n stands. (joins n).1 (inl (subst (λ k. InOpenGroup done (node g k).groups n) same stands))) ]) | inr closed ↦ inr (λ n stands. (joins n).1 (inr (closed n stands))) ]) ];
           }
 
       -- it isn't
-      pub passes_this : (wanted : List ℕ) → AreWantedFrom g order done (place + 1) wanted → ¬ (Has wanted (get_or order place 0)) → AreWantedFrom g order done place wanted
+      pub passes_this : (wanted : List ℕ) → AreWantedFrom g goals order done (place + 1) wanted → ¬ (Has wanted (get_or order place 0)) → AreWantedFrom g goals order done place wanted
       passes_this wanted are out = record {
         sound = are.sound;
-        goals = are.goals;
+        all_goals = are.all_goals;
         rest = λ p h. elim (are.rest p h) [ inl before ↦ (elim ((Has-take_more order place p low).0 before) [ inl earlier ↦ inl earlier | inr same ↦ absurd (out (subst (λ k. Has wanted k) same h)) ]) | inr closed ↦ inr closed ];
       }
 
     -- from the first place on, all that is wanted is known
-    known_wanted : (wanted : List ℕ) → AreWantedFrom g order done 0 wanted → (n : ℕ) → Wanted g g.goals done n → Has wanted n
-    known_wanted wanted are n (wanted_goal h) = are.goals n h
+    known_wanted : (wanted : List ℕ) → AreWantedFrom g goals order done 0 wanted → (n : ℕ) → Wanted g goals done n → Has wanted n
+    known_wanted wanted are n (wanted_goal h) = are.all_goals n h
     known_wanted wanted are n (wanted_onward {p} w stands) = ⊎_elim (λ none. absurd none) (λ closed. closed n stands) (are.rest p (known_wanted wanted are p w))
 
     -- and nothing else
-    pub all_wanted : (wanted : List ℕ) → AreWantedFrom g order done 0 wanted → (n : ℕ) → Has wanted n ↔ Wanted g g.goals done n
+    pub all_wanted : (wanted : List ℕ) → AreWantedFrom g goals order done 0 wanted → (n : ℕ) → Has wanted n ↔ Wanted g goals done n
     all_wanted wanted are n = (are.sound n, known_wanted wanted are n)
 
 -- the groups that the code reads of a node

@@ -3,14 +3,14 @@ use Rattle.std.proofs.Common.{◌≡◌, ℕ, zero, suc, ◌<◌, List, [], ◌�
 use Rattle.std.specs.List.{flat_map}
 use Rattle.std.proofs.lemmas.Bool.{cases_Bool, cond-true, cond-false}
 use Rattle.std.proofs.lemmas.List.{reverse-reverse}
-use Rattle.mk_graph.specs.Membership.{Has, has}
+use Rattle.mk_graph.specs.Membership.{Has, has, IsWithin}
 use Rattle.mk_graph.specs.Graph.{Graph, node, prerequisites, HasNoCycle}
 use Rattle.mk_graph.specs.Serial.{visit, visits, serial_from}
 use Rattle.mk_graph.specs.Turns.{HasAll, InOpenGroup, Wanted, goal, onward, MayTurn, Turns}
 use Rattle.mk_graph.specs.Clean.{order_of}
 use Rattle.mk_graph.proofs.Members.{Has-from_has, not-from_has, Has-append_right}
 use Rattle.mk_graph.proofs.SerialOrder.{visit_old, visit_new, cut_height, cut_low, cut_falls}
-use Rattle.mk_graph.proofs.Turning.{IsWithin, HasAll-from, Wanted-grow}
+use Rattle.mk_graph.proofs.Turning.{HasAll-from, Wanted-grow}
 
 -- a list that begins in the first of two joined lists, or goes beyond it
 data Splits (group rest : List ℕ) (n : ℕ) (front : List ℕ) : Type 0 where

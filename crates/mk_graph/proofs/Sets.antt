@@ -37,7 +37,7 @@ abbrev pub bit_of : List ℕ → ℕ → ℕ
 bit_of words n = bit_at (get_or words (n / 64) 0) (n % 64)
 
 -- beyond the words no bit is set
-bit_beyond : (words : List ℕ) (n : ℕ) → length words ≤ n / 64 → bit_of words n ≡ 0
+pub bit_beyond : (words : List ℕ) (n : ℕ) → length words ≤ n / 64 → bit_of words n ≡ 0
 bit_beyond words n past = ap (λ w. bit_at w (n % 64)) (get_or_past words (n / 64) 0 past) ∙ bit_at-zero (n % 64)
 
 -- members are the numbers whose bits are set
@@ -73,14 +73,14 @@ module _ (words : List ℕ) (k : ℕ) (low : k / 64 < length words) where
   other_word n apart = ap (λ w. bit_at w (n % 64)) (get_or-set_other words (k / 64) (n / 64) (bit_or (get_or words (k / 64) 0) (1 * 2 ^ (k % 64) % 18446744073709551616)) 0 apart)
 
   -- its bit is set
-  set_there : bit_of (with_bit words k) k ≡ 1
+  pub set_there : bit_of (with_bit words k) k ≡ 1
   set_there =
       let one = bit_at-pow_same (k % 64) in
       let small = bit_at-lt (get_or words (k / 64) 0) (k % 64) in
       same_word k refl ∙ omega arith
 
   -- the bits of others stay
-  kept_elsewhere : (n : ℕ) → n ≢ k → bit_of (with_bit words k) n ≡ bit_of words n
+  pub kept_elsewhere : (n : ℕ) → n ≢ k → bit_of (with_bit words k) n ≡ bit_of words n
   kept_elsewhere n ne =
       elim (cases_eq (n / 64) (k / 64)) [ inl same ↦ (let apart : n % 64 ≢ k % 64 = λ e. ne (omega arith) in let none = bit_at-pow_other (k % 64) (n % 64) apart in same_word n same ∙ omega arith) | inr other ↦ other_word n other ]
 

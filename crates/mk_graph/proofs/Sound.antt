@@ -2,12 +2,13 @@
 use Rattle.std.proofs.Common.{◌≡◌, ℕ, List, [], true, inr, ⊎_elim, sym, ◌∙◌, subst}
 use Rattle.std.specs.Prelude.{not, ◌||◌}
 use Rattle.std.proofs.lemmas.Bool.{cases_Bool, cond-false, true≢false, and_parts, or_left}
+use Rattle.mk_lines.specs.Names.{has_name}
 use Rattle.mk_graph.specs.Membership.{Has}
 use Rattle.mk_graph.specs.Graph.{Graph, node, prerequisites, IsGraph}
-use Rattle.mk_graph.specs.Setting.{FileName, Setting, is_given, is_editable, has_name, name, reads, writes}
+use Rattle.mk_graph.specs.Setting.{FileName, Setting, is_given, is_editable, name, reads, writes}
 use Rattle.mk_graph.specs.Turns.{Before}
 use Rattle.mk_graph.specs.Ways.{Carries, CanChange}
-use Rattle.mk_graph.specs.Right.{AreSound}
+use Rattle.mk_graph.specs.Right.{AreSound, HaveNoRace}
 use Rattle.mk_graph.proofs.Turning.{HasAll-has, turn_has_prerequisites}
 
 -- who writes a file has a recipe
@@ -22,7 +23,7 @@ reader_has_recipe g s t f h =
 
 -- an editable file is given
 pub editable_is_given : (s : Setting) (f : FileName) → is_editable s f ≡ true → is_given s f ≡ true
-editable_is_given s f e = or_left (has_name s.sources f || has_name s.texts f) _ (or_left (has_name s.sources f) (has_name s.texts f) (and_parts (has_name s.sources f) (not (has_name s.texts f)) e).0)
+editable_is_given s f e = or_left (has_name s.sources f) _ (and_parts (has_name s.sources f) (not (has_name s.texts f)) e).0
 
 module _ (g : Graph) (s : Setting) (graph : IsGraph g) (sound : AreSound g s) where
   -- a recipe that is carried is before the one that it carries
@@ -39,6 +40,6 @@ module _ (g : Graph) (s : Setting) (graph : IsGraph g) (sound : AreSound g s) wh
   pub editable_is_not_written : (t : ℕ) (f : FileName) → is_editable s f ≡ true → ¬ (Has (writes g s t) f)
   editable_is_not_written t f e h = true≢false (sym (editable_is_given s f e) ∙ sound.not_given t f h)
 
-  -- who writes what a recipe reads is before it
-  pub writer_is_before : (t o : ℕ) (f : FileName) → Has (reads g s t) f → Has (writes g s o) f → Before g o t
-  writer_is_before t o f read wrote = sound.no_race t o f (λ same. sound.not_own t f read (subst (λ (k : ℕ). Has (writes g s k) f) same wrote)) read wrote
+  -- who writes what a recipe reads is before it, where races are none
+  pub writer_is_before : HaveNoRace g s → (t o : ℕ) (f : FileName) → Has (reads g s t) f → Has (writes g s o) f → Before g o t
+  writer_is_before no_race t o f read wrote = no_race t o f (λ same. sound.not_own t f read (subst (λ (k : ℕ). Has (writes g s k) f) same wrote)) read wrote

@@ -8,10 +8,11 @@ use Rattle.mk_graph.specs.World.{Disk, World, Idle, Busy, disk_of}
 use Rattle.mk_graph.specs.Turns.{MayTurn, Turns, IsPart}
 use Rattle.mk_graph.specs.Schedule.{Step, Edit, Pass, make_of, after, after_all}
 use Rattle.mk_graph.specs.Clean.{order_of}
-use Rattle.mk_graph.specs.SerialMake.{whole_run}
+use Rattle.mk_graph.specs.SerialMake.{one_make, whole_run}
 use Rattle.mk_graph.specs.Ways.{Carries}
 use Rattle.mk_graph.specs.Right.{AreSound}
-use Rattle.mk_graph.specs.Stale.{Chain, here, further, to_put, MakesBut, ends, passes, runs, make_with, IsEditOf, ShowsStale}
+use Rattle.mk_graph.specs.InTurn.{to_put, MakesBut, ends, passes, runs}
+use Rattle.mk_graph.specs.Stale.{Chain, here, further, IsEditOf, ShowsStale}
 use Rattle.mk_graph.proofs.Turning.{turn_has_before}
 use Rattle.mk_graph.proofs.Sound.{writer_has_recipe, reader_has_recipe, carried_is_before}
 use Rattle.mk_graph.proofs.CleanEnd.{cases_among}
@@ -68,7 +69,7 @@ module _ (g : Graph) (s : Setting) (graph : IsGraph g) (sound : AreSound g s) (t
   told_of n recipe = told_down (all_nodes g s graph sound) [] (all_turns g s graph sound).0 (all_goals g s graph sound t (recipe_is_node g t t_recipe)) (λ m m_recipe. inr (recipe_among g s graph sound m m_recipe)) (λ m h. absurd h) n (recipe_among g s graph sound n recipe)
 
 -- where it is told which recipes are to be passed, there is a make that passes just these
-makes_exist : (g : Graph) (s : Setting) (passed : ℕ → Type 0) → ((n : ℕ) → (node g n).recipe ≡ true → passed n ⊎ (¬ (passed n))) → (w : World) (ns : List ℕ) → (steps : List Step) × MakesBut g s passed w ns steps
+pub makes_exist : (g : Graph) (s : Setting) (passed : ℕ → Type 0) → ((n : ℕ) → (node g n).recipe ≡ true → passed n ⊎ (¬ (passed n))) → (w : World) (ns : List ℕ) → (steps : List Step) × MakesBut g s passed w ns steps
 makes_exist g s passed told w [] = ([], ends)
 makes_exist g s passed told w (n ∷ ns) =
     let passing : ((node g n).recipe ≡ false) ⊎ passed n → (steps : List Step) × MakesBut g s passed w (n ∷ ns) steps = λ why. let rest = makes_exist g s passed told (after g s w (Pass n)) ns in (Pass n ∷ rest.0, passes why rest.1) in
@@ -82,6 +83,6 @@ edit_exists s f d = ⊎_elim (λ editable. (Edit f (d.clock + 1) ∷ [], inl (ed
 pub stale_exists : (g : Graph) (s : Setting) → IsGraph g → AreSound g s → (t : ℕ) (f : FileName) → Has (reads g s t) f → (d : Disk) → (first edit second : List Step) × ShowsStale g s t f d first edit second
 stale_exists g s graph sound t f read d =
     let first = makes_exist g s (λ n. ⊥) (λ n recipe. inr (λ none. none)) (Busy (make_of 1 g.goals) d) (order_of g g.goals) in
-    let edit = edit_exists s f (disk_of (after_all g s (Idle d) (make_with g first.0))) in
-    let second = makes_exist g s (Chain g s t) (told_of g s graph sound t (reader_has_recipe g s t f read)) (Busy (make_of 1 g.goals) (disk_of (after_all g s (Idle d) (make_with g first.0 ++ edit.0)))) (order_of g g.goals) in
+    let edit = edit_exists s f (disk_of (after_all g s (Idle d) (one_make g.goals first.0))) in
+    let second = makes_exist g s (Chain g s t) (told_of g s graph sound t (reader_has_recipe g s t f read)) (Busy (make_of 1 g.goals) (disk_of (after_all g s (Idle d) (one_make g.goals first.0 ++ edit.0)))) (order_of g g.goals) in
     (first.0, edit.0, second.0, record { makes_all = first.1; edits = edit.1; makes_again = second.1 })

@@ -6,14 +6,17 @@ use Rattle.std.proofs.lemmas.List.{get_or_past}
 use Rattle.mk_graph.specs.declared.node.Node.{Node}
 use Rattle.mk_graph.specs.Membership.{Has, has}
 use Rattle.mk_graph.specs.Graph.{Graph, node, no_node, prerequisites, Reached, goal, onward, IsGraph}
-use Rattle.mk_graph.specs.Setting.{FileName, Setting, is_editable, name, reads, writes}
+use Rattle.mk_graph.specs.Setting.{FileName, Setting, is_editable, name, reads, writes, writings}
 use Rattle.mk_graph.specs.World.{File, Outcome, Disk, World, Idle, Busy, IsStart, HasStamp, written, last_stamp, outcome, disk_of}
 use Rattle.mk_graph.specs.Turns.{HasAll, MayTurn, Turns, IsPart, Before}
 use Rattle.mk_graph.specs.Schedule.{Step, EndMake, MustRun, make_of, IsLegal, after_all}
 use Rattle.mk_graph.specs.Clean.{order_of}
-use Rattle.mk_graph.specs.Ways.{Carries, Way, over, written as written_way, source, always, CanChange}
+use Rattle.mk_graph.specs.Ways.{Carries, Way, written as written_way, source, always, CanChange}
 use Rattle.mk_graph.specs.Right.{AreSound}
-use Rattle.mk_graph.specs.Stale.{Chain, here, further, MakesBut, make_with, IsEditOf, ShowsStale, IsLaterThanAll}
+use Rattle.mk_graph.specs.SerialMake.{one_make}
+use Rattle.mk_graph.specs.InTurn.{MakesBut}
+use Rattle.mk_graph.specs.Stale.{Chain, here, further, IsEditOf, ShowsStale, IsLaterThanAll}
+use Rattle.mk_graph.proofs.ChainWays.{way_over}
 use Rattle.mk_graph.proofs.Changes.{cases_name, changed_there}
 use Rattle.mk_graph.proofs.Turning.{HasAll-has, HasAll-from, turn_has_prerequisites}
 use Rattle.mk_graph.proofs.Sound.{writer_has_recipe, reader_has_recipe, editable_is_not_written, carried_is_before}
@@ -22,7 +25,7 @@ use Rattle.mk_graph.proofs.Writing.{one_stamp, stamp_here, stamp_is, stamp_there
 use Rattle.mk_graph.proofs.Histories.{stamped_file}
 use Rattle.mk_graph.proofs.CleanEnd.{cases_among}
 use Rattle.mk_graph.proofs.WholeRuns.{legal_append, after_append}
-use Rattle.mk_graph.proofs.SerialHistory.{writes_of, turn_on}
+use Rattle.mk_graph.proofs.SerialHistory.{turn_on}
 use Rattle.mk_graph.proofs.MakesBut.{same_stamp, AreByName, Ascends, Keeps, Left, Goes, makes_legal}
 
 -- what has a recipe is a node
@@ -79,17 +82,17 @@ module _ (g : Graph) (s : Setting) (graph : IsGraph g) (sound : AreSound g s) wh
   ascends_at (n ∷ ns) d turns up part o t h k stamp old before recipe (inr there) wrote k_wrote has k_has =
       ascends_at ns d turns.1 up.1 part o t h k stamp old before recipe there wrote k_wrote has k_has
 
-  module _ (passed : ℕ → Type 0) (before : Disk) (part : IsPart g.goals g.goals) (stamped : (h : FileName) (stamp : ℕ) → HasStamp before h stamp → stamp ≤ before.clock) (by_name : AreByName g s before) (room : before.clock + writes_of g s (order_of g g.goals) ≤ last_stamp) (need_not : (n : ℕ) (now : Disk) → passed n → (node g n).recipe ≡ true → Keeps g s passed before now → ¬ (MustRun g now n)) (steps : List Step) (makes : MakesBut g s passed (Busy (make_of 1 g.goals) before) (order_of g g.goals) steps) where
+  module _ (passed : ℕ → Type 0) (before : Disk) (part : IsPart g.goals g.goals) (stamped : (h : FileName) (stamp : ℕ) → HasStamp before h stamp → stamp ≤ before.clock) (by_name : AreByName g s before) (room : before.clock + writings g s (order_of g g.goals) ≤ last_stamp) (need_not : (n : ℕ) (now : Disk) → passed n → (node g n).recipe ≡ true → Keeps g s passed before now → ¬ (MustRun g now n)) (steps : List Step) (makes : MakesBut g s passed (Busy (make_of 1 g.goals) before) (order_of g g.goals) steps) where
     -- the make at its begin
     at_begin : Goes g s passed [] before before.clock (Busy (make_of 1 g.goals) before)
     at_begin = record { seen = λ t f. None; put = λ t f. None; disk = before; is = refl; left = record { stamped = stamped; grown = omega arith; low = omega arith; by_name = by_name; keeps = λ h all. refl; fresh = λ x h done. absurd done; ascends = tt } }
 
     -- the make up to its end
-    up_to_end : IsLegal g s (Busy (make_of 1 g.goals) before) steps × Goes g s passed all_nodes before (before.clock + writes_of g s (order_of g g.goals)) (after_all g s (Busy (make_of 1 g.goals) before) steps)
+    up_to_end : IsLegal g s (Busy (make_of 1 g.goals) before) steps × Goes g s passed all_nodes before (before.clock + writings g s (order_of g g.goals)) (after_all g s (Busy (make_of 1 g.goals) before) steps)
     up_to_end = makes_legal g s sound passed before need_not makes [] before.clock (turn_on g g.goals (order_of g g.goals) [] all_turns.0) room at_begin
 
     -- What the whole make leaves.
-    pub make_leaves : IsLegal g s (Idle before) (make_with g steps) × (now : Disk) × (after_all g s (Idle before) (make_with g steps) ≡ Idle now) × Left g s passed all_nodes before (before.clock + writes_of g s (order_of g g.goals)) now
+    pub make_leaves : IsLegal g s (Idle before) (one_make g.goals steps) × (now : Disk) × (after_all g s (Idle before) (one_make g.goals steps) ≡ Idle now) × Left g s passed all_nodes before (before.clock + writings g s (order_of g g.goals)) now
     make_leaves =
         let begin = Busy (make_of 1 g.goals) before in
         let goes = up_to_end.1 in
@@ -98,17 +101,12 @@ module _ (g : Graph) (s : Setting) (graph : IsGraph g) (sound : AreSound g s) wh
 
   -- The two makes and the edit between them.
   module _ (t : ℕ) (f : FileName) (read : Has (reads g s t) f) (can : CanChange s f) (no_way : ¬ (Way g s f t)) where
-    -- a way from what the recipe reaches is one from it
-    way_back : {n : ℕ} → Chain g s t n → Way g s f n → Way g s f t
-    way_back here way = way
-    way_back (further {o = o} n chain carries) way = way_back chain (over o carries way)
-
     -- who writes the file isn't reached
     writer_not_reached : (o : ℕ) → Has (writes g s o) f → ¬ (Chain g s t o)
     writer_not_reached o wrote chain = not_here o chain wrote where
       not_here : (n : ℕ) → Chain g s t n → ¬ (Has (writes g s n) f)
       not_here n here own = sound.not_own t f read own
-      not_here n (further {o = m} k back carries) own = no_way (way_back back (written_way m carries own))
+      not_here n (further {o = m} k back carries) own = no_way (way_over g s t f back (written_way m carries own))
 
     -- what the first make left, what the second began with, and what it has left so far
     module _ (before first start now : Disk) (limit : ℕ) (begin_stamped : (h : FileName) (stamp : ℕ) → HasStamp before h stamp → stamp ≤ before.clock) (made : Left g s (λ n. ⊥) all_nodes before limit first) (stays : (h : FileName) → (¬ (f ≡ h)) ⊎ (is_editable s f ≡ false) → start.files h ≡ first.files h) (keeps : Keeps g s (Chain g s t) start now) (part : IsPart g.goals g.goals) where
@@ -122,10 +120,10 @@ module _ (g : Graph) (s : Setting) (graph : IsGraph g) (sound : AreSound g s) wh
 
       -- it need not run
       pub reached_need_not : (n : ℕ) → Chain g s t n → (node g n).recipe ≡ true → ¬ (MustRun g now n)
-      reached_need_not n chain recipe (inl made_always) = no_way (way_back chain (always made_always))
+      reached_need_not n chain recipe (inl made_always) = no_way (way_over g s t f chain (always made_always))
       reached_need_not n chain recipe (inr why) = on_disk why where
         not_phony : (node g n).phony ≡ false
-        not_phony = ⊎_elim (λ e. absurd (no_way (way_back chain (always (inl e))))) (λ e. e) (cases_Bool (node g n).phony)
+        not_phony = ⊎_elim (λ e. absurd (no_way (way_over g s t f chain (always (inl e))))) (λ e. e) (cases_Bool (node g n).phony)
 
         own : Has (writes g s n) (name g n)
         own = sound.target n recipe not_phony
@@ -135,7 +133,7 @@ module _ (g : Graph) (s : Setting) (graph : IsGraph g) (sound : AreSound g s) wh
 
         later_one : (q stamp late : ℕ) → Has (prerequisites g n) q → HasStamp first (name g n) stamp → HasStamp now (name g q) late → stamp < late → ⊥
         later_one q stamp late need has has_late less =
-            ⊎_elim (λ some. let carries : Carries g s n some.0 = (q, need, some.1) in let at_first = same_stamp now first (name g q) late (sym (reached_stays some.0 (name g q) (further n chain carries) some.1)) has_late in let up = ascends_at all_nodes first all_turns.0 made.ascends part some.0 n (name g n) (name g q) stamp late (carried_is_before g s graph sound n some.0 carries) recipe (recipe_among n recipe) own some.1 has at_first in omega arith) (λ none. ⊎_elim (λ same_name. ⊎_elim (λ editable. no_way (way_back chain (source editable (q, need, sym same_name)))) (λ fixed. given_one q stamp late none (inr fixed) has has_late less) (cases_Bool (is_editable s f))) (λ differ. given_one q stamp late none (inl differ) has has_late less) (cases_name f (name g q))) (cases_writer g s (name g q)) where
+            ⊎_elim (λ some. let carries : Carries g s n some.0 = (q, need, some.1) in let at_first = same_stamp now first (name g q) late (sym (reached_stays some.0 (name g q) (further n chain carries) some.1)) has_late in let up = ascends_at all_nodes first all_turns.0 made.ascends part some.0 n (name g n) (name g q) stamp late (carried_is_before g s graph sound n some.0 carries) recipe (recipe_among n recipe) own some.1 has at_first in omega arith) (λ none. ⊎_elim (λ same_name. ⊎_elim (λ editable. no_way (way_over g s t f chain (source editable (q, need, sym same_name)))) (λ fixed. given_one q stamp late none (inr fixed) has has_late less) (cases_Bool (is_editable s f))) (λ differ. given_one q stamp late none (inl differ) has has_late less) (cases_name f (name g q))) (cases_writer g s (name g q)) where
               given_one : (q stamp late : ℕ) → ((o : ℕ) → ¬ (Has (writes g s o) (name g q))) → (¬ (f ≡ name g q)) ⊎ (is_editable s f ≡ false) → HasStamp first (name g n) stamp → HasStamp now (name g q) late → stamp < late → ⊥
               given_one q stamp late none spare has has_late less =
                   let at_first = same_stamp now first (name g q) late (sym (keeps (name g q) (λ x wrote. absurd (none x wrote)) ∙ stays (name g q) spare)) has_late in
@@ -199,7 +197,7 @@ module _ (g : Graph) (s : Setting) (graph : IsGraph g) (sound : AreSound g s) wh
     edited = λ e. absurd (true≢false (sym e ∙ not));
   })
 
-  module _ (t : ℕ) (f : FileName) (read : Has (reads g s t) f) (can : CanChange s f) (no_way : ¬ (Way g s f t)) (d : Disk) (first edit second : List Step) (is_start : IsStart s d) (room : d.clock + 2 * writes_of g s (order_of g g.goals) + 1 ≤ last_stamp) (shows : ShowsStale g s t f d first edit second) where
+  module _ (t : ℕ) (f : FileName) (read : Has (reads g s t) f) (can : CanChange s f) (no_way : ¬ (Way g s f t)) (d : Disk) (first edit second : List Step) (is_start : IsStart s d) (room : d.clock + 2 * writings g s (order_of g g.goals) + 1 ≤ last_stamp) (shows : ShowsStale g s t f d first edit second) where
     -- the recipe is a node, so there are goals
     part : IsPart g.goals g.goals
     part = all_goals t (recipe_is_node g t (reader_has_recipe g s t f read))
@@ -213,7 +211,7 @@ module _ (g : Graph) (s : Setting) (graph : IsGraph g) (sound : AreSound g s) wh
     start_by_name x saw w e = let none : None ≡ Some w = sym (ap (λ (l : List Outcome). outcome l x saw) is_start.nothing_known) ∙ e in absurd (cc)
 
     -- the first make
-    first_make : IsLegal g s (Idle d) (make_with g first) × (now : Disk) × (after_all g s (Idle d) (make_with g first) ≡ Idle now) × Left g s (λ n. ⊥) all_nodes d (d.clock + writes_of g s (order_of g g.goals)) now
+    first_make : IsLegal g s (Idle d) (one_make g.goals first) × (now : Disk) × (after_all g s (Idle d) (one_make g.goals first) ≡ Idle now) × Left g s (λ n. ⊥) all_nodes d (d.clock + writings g s (order_of g g.goals)) now
     first_make = make_leaves (λ n. ⊥) d part start_stamped start_by_name (omega arith) (λ n now none. absurd none) first shows.makes_all
 
     -- what it leaves
@@ -225,19 +223,19 @@ module _ (g : Graph) (s : Setting) (graph : IsGraph g) (sound : AreSound g s) wh
     the_edit = let left = first_make.3 in let low = left.low in edit_leaves f one edit left.stamped left.by_name (omega arith) (subst (λ (w : World). IsEditOf s f (disk_of w) edit) first_make.2 shows.edits)
 
     -- both together
-    both_leave : after_all g s (Idle d) (make_with g first ++ edit) ≡ Idle the_edit.start
-    both_leave = after_append g s (Idle d) (make_with g first) edit ∙ (ap (λ (w : World). after_all g s w edit) first_make.2 ∙ the_edit.leaves)
+    both_leave : after_all g s (Idle d) (one_make g.goals first ++ edit) ≡ Idle the_edit.start
+    both_leave = after_append g s (Idle d) (one_make g.goals first) edit ∙ (ap (λ (w : World). after_all g s w edit) first_make.2 ∙ the_edit.leaves)
 
     -- the second make
-    second_make : IsLegal g s (Idle the_edit.start) (make_with g second) × (now : Disk) × (after_all g s (Idle the_edit.start) (make_with g second) ≡ Idle now) × Left g s (Chain g s t) all_nodes the_edit.start (the_edit.start.clock + writes_of g s (order_of g g.goals)) now
+    second_make : IsLegal g s (Idle the_edit.start) (one_make g.goals second) × (now : Disk) × (after_all g s (Idle the_edit.start) (one_make g.goals second) ≡ Idle now) × Left g s (Chain g s t) all_nodes the_edit.start (the_edit.start.clock + writings g s (order_of g g.goals)) now
     second_make =
         let low = first_make.3.low in
         let more = the_edit.low in
-        make_leaves (Chain g s t) the_edit.start part the_edit.stamped the_edit.by_name (omega arith) (λ n now chain recipe keeps. reached_need_not t f read can no_way d one the_edit.start now (d.clock + writes_of g s (order_of g g.goals)) start_stamped first_make.3 the_edit.stays keeps part n chain recipe) second (subst (λ (w : World). MakesBut g s (Chain g s t) (Busy (make_of 1 g.goals) (disk_of w)) (order_of g g.goals) second) both_leave shows.makes_again)
+        make_leaves (Chain g s t) the_edit.start part the_edit.stamped the_edit.by_name (omega arith) (λ n now chain recipe keeps. reached_need_not t f read can no_way d one the_edit.start now (d.clock + writings g s (order_of g g.goals)) start_stamped first_make.3 the_edit.stays keeps part n chain recipe) second (subst (λ (w : World). MakesBut g s (Chain g s t) (Busy (make_of 1 g.goals) (disk_of w)) (order_of g g.goals) second) both_leave shows.makes_again)
 
     -- the history is legal, and shows the read to be stale
-    pub shown : IsLegal g s (Idle d) (make_with g first ++ (edit ++ make_with g second)) × IsLaterThanAll g s (disk_of (after_all g s (Idle d) (make_with g first ++ (edit ++ make_with g second)))) f t
+    pub shown : IsLegal g s (Idle d) (one_make g.goals first ++ (edit ++ one_make g.goals second)) × IsLaterThanAll g s (disk_of (after_all g s (Idle d) (one_make g.goals first ++ (edit ++ one_make g.goals second)))) f t
     shown =
-        let behind : after_all g s (Idle d) (make_with g first ++ (edit ++ make_with g second)) ≡ Idle second_make.1 = after_append g s (Idle d) (make_with g first) (edit ++ make_with g second) ∙ (ap (λ (w : World). after_all g s w (edit ++ make_with g second)) first_make.2 ∙ (after_append g s (Idle one) edit (make_with g second) ∙ (ap (λ (w : World). after_all g s w (make_with g second)) the_edit.leaves ∙ second_make.2))) in
-        let rest : IsLegal g s (Idle one) (edit ++ make_with g second) = legal_append g s (Idle one) edit (make_with g second) the_edit.legal (subst (λ (w : World). IsLegal g s w (make_with g second)) (sym the_edit.leaves) second_make.0) in
-        (legal_append g s (Idle d) (make_with g first) (edit ++ make_with g second) first_make.0 (subst (λ (w : World). IsLegal g s w (edit ++ make_with g second)) (sym first_make.2) rest), subst (λ (w : World). IsLaterThanAll g s (disk_of w) f t) (sym behind) (later_than_all t f read can no_way d one the_edit.start second_make.1 (d.clock + writes_of g s (order_of g g.goals)) (the_edit.start.clock + writes_of g s (order_of g g.goals)) first_make.3 the_edit.grown the_edit.stays the_edit.edited second_make.3))
+        let behind : after_all g s (Idle d) (one_make g.goals first ++ (edit ++ one_make g.goals second)) ≡ Idle second_make.1 = after_append g s (Idle d) (one_make g.goals first) (edit ++ one_make g.goals second) ∙ (ap (λ (w : World). after_all g s w (edit ++ one_make g.goals second)) first_make.2 ∙ (after_append g s (Idle one) edit (one_make g.goals second) ∙ (ap (λ (w : World). after_all g s w (one_make g.goals second)) the_edit.leaves ∙ second_make.2))) in
+        let rest : IsLegal g s (Idle one) (edit ++ one_make g.goals second) = legal_append g s (Idle one) edit (one_make g.goals second) the_edit.legal (subst (λ (w : World). IsLegal g s w (one_make g.goals second)) (sym the_edit.leaves) second_make.0) in
+        (legal_append g s (Idle d) (one_make g.goals first) (edit ++ one_make g.goals second) first_make.0 (subst (λ (w : World). IsLegal g s w (edit ++ one_make g.goals second)) (sym first_make.2) rest), subst (λ (w : World). IsLaterThanAll g s (disk_of w) f t) (sym behind) (later_than_all t f read can no_way d one the_edit.start second_make.1 (d.clock + writings g s (order_of g g.goals)) (the_edit.start.clock + writings g s (order_of g g.goals)) first_make.3 the_edit.grown the_edit.stays the_edit.edited second_make.3))

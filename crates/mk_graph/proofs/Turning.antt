@@ -1,12 +1,8 @@
 -- What is wanted and whose turn may come, as more is done, and what stands in a turn list.
 use Rattle.std.proofs.Common.{◌≡◌, ℕ, List, [], ◌∷◌, true, inl, inr, refl, sym, subst}
-use Rattle.mk_graph.specs.Membership.{Has}
+use Rattle.mk_graph.specs.Membership.{Has, IsWithin}
 use Rattle.mk_graph.specs.Graph.{Graph, node, prerequisites}
 use Rattle.mk_graph.specs.Turns.{HasAll, InOpenGroup, Wanted, goal, onward, MayTurn, Turns, IsPart, Before}
-
--- each of the list stands in the other
-abbrev pub IsWithin : List ℕ → List ℕ → Type 0
-IsWithin ns ms = (n : ℕ) → Has ns n → Has ms n
 
 -- one of a list that stands wholly in another
 pub HasAll-has : (ns ms : List ℕ) (m : ℕ) → HasAll ns ms → Has ms m → Has ns m

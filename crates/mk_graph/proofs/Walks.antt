@@ -70,7 +70,7 @@ module _ (needs : ℕ → List ℕ) where
   apart_after n new apart w m u (inr there) = elim (stays_under w m there) [ inl was ↦ apart m (inr u) was | inr out ↦ out (inr u) ]
 
   -- a walk that comes through closes no path
-  through_closes : {A : Type 0} (finished path : List ℕ) → Through finished ≡ Closes path → A
+  pub through_closes : {A : Type 0} (finished path : List ℕ) → Through finished ≡ Closes path → A
   through_closes finished path e = absurd (cc)
 
   -- one end has one list of finished nodes

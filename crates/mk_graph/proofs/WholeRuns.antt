@@ -1,4 +1,4 @@
--- A whole run of a recipe, in a make with one job in which nothing else runs.
+-- A whole run of a recipe, in a make in which nothing else runs.
 use Rattle.std.proofs.Common.{◌≡◌, ℕ, ◌+◌, ◌<◌, ◌≤◌, List, [], ◌∷◌, ◌++◌, length, true, Option, Some, None, map, filter, ◌⊎◌, inl, inr, ⊎_elim, refl, sym, ◌∙◌, ap, subst, arith}
 use Rattle.std.specs.Prelude.{nat_eq, not, IfSome, unwrap_or}
 use Rattle.std.specs.Option.{option_flatten}
@@ -149,9 +149,9 @@ module _ (g : Graph) (s : Setting) where
   writings t (f ∷ files) (c ∷ cs) m d many room runs wrote =
       one_writing t f files c cs m d runs (wrote f (inl refl)) (omega arith) (writings t files cs (has_put m t f c) (written d f c) (omega arith) (omega arith) runs (λ h there. wrote h (inr there)))
 
-  -- a make with one job in which nothing runs
-  abbrev pub quiet : (goals done : List ℕ) (seen : ℕ → FileName → Option (Option ℕ)) (put : ℕ → FileName → Option ℕ) → Making
-  quiet goals done seen put = record { jobs = 1; goals = goals; done = done; running = []; seen = seen; put = put }
+  -- a make in which nothing runs
+  abbrev pub quiet : (jobs : ℕ) (goals done : List ℕ) (seen : ℕ → FileName → Option (Option ℕ)) (put : ℕ → FileName → Option ℕ) → Making
+  quiet jobs goals done seen put = record { jobs = jobs; goals = goals; done = done; running = []; seen = seen; put = put }
 
   -- The contents that a recipe is to put agree with what is known: nothing is of a run that sees the same, or these are,
   -- one content for each name.
@@ -159,12 +159,12 @@ module _ (g : Graph) (s : Setting) where
   Agree t cs d = (outcome d.known t (map (content d) (reads g s t)) ≡ None) ⊎ ((φ : FileName → ℕ) × (outcome d.known t (map (content d) (reads g s t)) ≡ Some cs) × (cs ≡ map φ (writes g s t)))
 
   -- What a whole run leaves: the recipe is done, its files are written, other files stay, and its outcome is noted.
-  pub record Ran (goals done : List ℕ) (t : ℕ) (cs : List ℕ) (d : Disk) (w : World) : Type 0 where
+  pub record Ran (jobs : ℕ) (goals done : List ℕ) (t : ℕ) (cs : List ℕ) (d : Disk) (w : World) : Type 0 where
     pub seen : ℕ → FileName → Option (Option ℕ)
     pub put : ℕ → FileName → Option ℕ
     pub disk : Disk
     pub result : Outcome
-    pub is : w ≡ Busy (quiet goals (t ∷ done) seen put) (noted disk result)
+    pub is : w ≡ Busy (quiet jobs goals (t ∷ done) seen put) (noted disk result)
     pub result_recipe : result.recipe ≡ t
     pub result_saw : result.seen ≡ map (content d) (reads g s t)
     pub result_is : (φ : FileName → ℕ) × (result.written ≡ map φ (writes g s t))
@@ -179,10 +179,10 @@ module _ (g : Graph) (s : Setting) where
   none_left : (t : ℕ) → filter (λ n. not (nat_eq t n)) (t ∷ []) ≡ []
   none_left t = cond-false (not (nat_eq t t)) (t ∷ []) [] (ap not ((Decides-eqb t t).1 refl))
 
-  module _ (goals : List ℕ) (t : ℕ) (done : List ℕ) (cs : List ℕ) (seen : ℕ → FileName → Option (Option ℕ)) (put : ℕ → FileName → Option ℕ) (d : Disk) (many : length cs ≡ length (writes g s t)) (room : d.clock + length (writes g s t) ≤ last_stamp) where
+  module _ (jobs : ℕ) (goals : List ℕ) (t : ℕ) (done : List ℕ) (cs : List ℕ) (seen : ℕ → FileName → Option (Option ℕ)) (put : ℕ → FileName → Option ℕ) (d : Disk) (many : length cs ≡ length (writes g s t)) (room : d.clock + length (writes g s t) ≤ last_stamp) where
     -- the make when the recipe has begun
     running : Making
-    running = begun (quiet goals done seen put) t
+    running = begun (quiet jobs goals done seen put) t
 
     -- the looks of a recipe that has begun
     its_looks : Looks t (reads g s t) running d
@@ -212,7 +212,7 @@ module _ (g : Graph) (s : Setting) where
     result : Outcome
     result = record { recipe = t; seen = seen_by g s full t; written = put_by g s full t }
 
-    module _ (may : MayTurn g goals done t) (recipe : (node g t).recipe ≡ true) (agree : Agree t cs d) where
+    module _ (may : MayTurn g goals done t) (recipe : (node g t).recipe ≡ true) (agree : Agree t cs d) (free : 0 < jobs) where
       -- what is known of a run that saw the same
       known_now : outcome its_writes.disk.known t (seen_by g s full t) ≡ outcome d.known t (map (content d) (reads g s t))
       known_now = ap (λ (l : List Outcome). outcome l t (seen_by g s full t)) its_writes.known ∙ ap (λ (l : List (Option ℕ)). outcome d.known t l) it_saw
@@ -232,14 +232,14 @@ module _ (g : Graph) (s : Setting) where
       }
 
       -- where it ends
-      ended : Ran goals done t cs d (after g s (Busy full its_writes.disk) (End t))
+      ended : Ran jobs goals done t cs d (after g s (Busy full its_writes.disk) (End t))
       unfolding full running result
       ended = record {
         seen = changed_at its_looks.seen t (λ f. None);
         put = changed_at its_writes.put t (λ f. None);
         disk = its_writes.disk;
         result = result;
-        is = ap (λ (l : List ℕ). Busy (record { jobs = 1; goals = goals; done = t ∷ done; running = l; seen = changed_at its_looks.seen t (λ f. None); put = changed_at its_writes.put t (λ f. None) }) (noted its_writes.disk result)) (none_left t);
+        is = ap (λ (l : List ℕ). Busy (record { jobs = jobs; goals = goals; done = t ∷ done; running = l; seen = changed_at its_looks.seen t (λ f. None); put = changed_at its_writes.put t (λ f. None) }) (noted its_writes.disk result)) (none_left t);
         result_recipe = refl;
         result_saw = it_saw;
         result_is = (λ f. unwrap_or (its_writes.put t f) 0, refl);
@@ -256,16 +256,16 @@ module _ (g : Graph) (s : Setting) where
       ending = puts t (writes g s t) cs ++ End t ∷ []
 
       -- they are legal after the looks
-      ending_legal : IsLegal g s (Busy (record running { seen = its_looks.seen }) d) ending × Ran goals done t cs d (after_all g s (Busy (record running { seen = its_looks.seen }) d) ending)
+      ending_legal : IsLegal g s (Busy (record running { seen = its_looks.seen }) d) ending × Ran jobs goals done t cs d (after_all g s (Busy (record running { seen = its_looks.seen }) d) ending)
       unfolding ending full running
       ending_legal =
           let start = Busy (record running { seen = its_looks.seen }) d in
-          (legal_append start (puts t (writes g s t) cs) (End t ∷ []) its_writes.legal (subst (λ (w : World). IsLegal g s w (End t ∷ [])) (sym its_writes.leaves) (its_end, tt)), subst (λ (w : World). Ran goals done t cs d w) (sym (after_append start (puts t (writes g s t) cs) (End t ∷ []))) (subst (λ (w : World). Ran goals done t cs d (after_all g s w (End t ∷ []))) (sym its_writes.leaves) ended))
+          (legal_append start (puts t (writes g s t) cs) (End t ∷ []) its_writes.legal (subst (λ (w : World). IsLegal g s w (End t ∷ [])) (sym its_writes.leaves) (its_end, tt)), subst (λ (w : World). Ran jobs goals done t cs d w) (sym (after_append start (puts t (writes g s t) cs) (End t ∷ []))) (subst (λ (w : World). Ran jobs goals done t cs d (after_all g s w (End t ∷ []))) (sym its_writes.leaves) ended))
 
       -- a whole run is legal
-      pub whole_run_legal : IsLegal g s (Busy (quiet goals done seen put) d) (whole_run g s t cs) × Ran goals done t cs d (after_all g s (Busy (quiet goals done seen put) d) (whole_run g s t cs))
+      pub whole_run_legal : IsLegal g s (Busy (quiet jobs goals done seen put) d) (whole_run g s t cs) × Ran jobs goals done t cs d (after_all g s (Busy (quiet jobs goals done seen put) d) (whole_run g s t cs))
       unfolding ending running
       whole_run_legal =
           let start = Busy running d in
           let looking = map (λ f. Look t f) (reads g s t) in
-          ((((may, λ h. h), recipe, omega arith), legal_append start looking ending its_looks.legal (subst (λ (w : World). IsLegal g s w ending) (sym its_looks.leaves) ending_legal.0)), subst (λ (w : World). Ran goals done t cs d w) (sym (after_append start looking ending)) (subst (λ (w : World). Ran goals done t cs d (after_all g s w ending)) (sym its_looks.leaves) ending_legal.1))
+          ((((may, λ h. h), recipe, omega arith), legal_append start looking ending its_looks.legal (subst (λ (w : World). IsLegal g s w ending) (sym its_looks.leaves) ending_legal.0)), subst (λ (w : World). Ran jobs goals done t cs d w) (sym (after_append start looking ending)) (subst (λ (w : World). Ran jobs goals done t cs d (after_all g s w ending)) (sym its_looks.leaves) ending_legal.1))

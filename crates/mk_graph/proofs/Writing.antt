@@ -6,9 +6,10 @@ use Rattle.mk_graph.specs.Graph.{Graph, prerequisites}
 use Rattle.mk_graph.specs.Setting.{FileName, Setting, name, writes}
 use Rattle.mk_graph.specs.World.{File, Disk, content, HasStamp, written}
 use Rattle.mk_graph.specs.Schedule.{MustRun}
+use Rattle.mk_graph.specs.Runs.{WholeRun, Runs}
 use Rattle.mk_graph.specs.Ways.{CanChange}
 use Rattle.mk_graph.proofs.Changes.{cases_name, changed_here, changed_there}
-use Rattle.mk_graph.proofs.Invariant.{Past, IsLater, HasRunWhole, WasThrough, Fits}
+use Rattle.mk_graph.proofs.Invariant.{HasRunWhole, WasThrough, SawOrLater, Fits}
 
 -- two lists of what is found at names are equal where it is equal at each
 pub map_same : {A : Type 0} (one other : FileName → A) (files : List FileName) → ((f : FileName) → Has files f → one f ≡ other f) → map one files ≡ map other files
@@ -44,7 +45,7 @@ module _ (d : Disk) (f : FileName) (c : ℕ) where
   pub stamp_kept : (h : FileName) (stamp : ℕ) → ¬ (f ≡ h) → HasStamp d h stamp → HasStamp (written d f c) h stamp
   stamp_kept h stamp differ has = ap (λ o. option_map (λ (file : File). file.stamp) o) (changed_there d.files f h (Some (record { content = c; stamp = d.clock + 1 })) differ) ∙ has
 
-module _ (g : Graph) (s : Setting) (p : Past) (running : List ℕ) (d : Disk) (fits : Fits g s p running d) (f : FileName) (c : ℕ) (can : CanChange s f) (only : (t : ℕ) → Has (writes g s t) f → Has running t) where
+module _ (g : Graph) (s : Setting) (p : Runs) (running : List ℕ) (d : Disk) (fits : Fits g s p running d) (f : FileName) (c : ℕ) (can : CanChange s f) (only : (t : ℕ) → Has (writes g s t) f → Has running t) where
   -- what isn't running doesn't write the file
   not_here : (t : ℕ) (h : FileName) → ¬ (Has running t) → Has (writes g s t) h → ¬ (f ≡ h)
   not_here t h stopped wrote same = stopped (only t (subst (λ (k : FileName). Has (writes g s t) k) (sym same) wrote))
@@ -53,42 +54,34 @@ module _ (g : Graph) (s : Setting) (p : Past) (running : List ℕ) (d : Disk) (f
   own_stamp : (t : ℕ) (h : FileName) (stamp : ℕ) → ¬ (Has running t) → Has (writes g s t) h → HasStamp (written d f c) h stamp → HasStamp d h stamp
   own_stamp t h stamp stopped wrote has = stamp_there d f c h stamp (not_here t h stopped wrote) has
 
-  -- a file that is written now is later than all of it
-  later_here : (t : ℕ) (h : FileName) → ¬ (Has running t) → f ≡ h → IsLater g s (written d f c) t h
-  later_here t h stopped same = record {
-    stamp = d.clock + 1;
-    has = stamp_here d f c h same;
-    later = λ k old wrote has. let came = fits.stamped k old (own_stamp t k old stopped wrote has) in omega arith;
-  }
-
-  -- a file that was later stays so
-  later_there : (t : ℕ) (h : FileName) → ¬ (Has running t) → ¬ (f ≡ h) → IsLater g s d t h → IsLater g s (written d f c) t h
-  later_there t h stopped differ is = record {
-    stamp = is.stamp;
-    has = stamp_kept d f c h is.stamp differ is.has;
-    later = λ k old wrote has. is.later k old wrote (own_stamp t k old stopped wrote has);
-  }
-
-  -- what has run whole has run whole
-  pub whole_written : (t : ℕ) → ¬ (Has running t) → HasRunWhole g s p d t → HasRunWhole g s p (written d f c) t
-  whole_written t stopped is = record {
+  -- what is as its last whole run left it is so still
+  pub whole_written : (t : ℕ) (run : WholeRun) → ¬ (Has running t) → HasRunWhole g s run d t → HasRunWhole g s run (written d f c) t
+  whole_written t run stopped is = record {
     written = is.written;
     known = is.known;
     holds = map_same (content (written d f c)) (content d) (writes g s t) (λ h wrote. content_there d f c h (not_here t h stopped wrote)) ∙ is.holds;
-    reads = λ h read. ⊎_elim (λ same. inr (subst (λ (k : FileName). CanChange s k) same can, later_here t h stopped same)) (λ differ. ⊎_elim (λ sees. inl (content_there d f c h differ ∙ sees)) (λ late. inr (late.0, later_there t h stopped differ late.1)) (is.reads h read)) (cases_name f h);
+    early = λ h stamp wrote has. is.early h stamp wrote (own_stamp t h stamp stopped wrote has);
   }
 
-  -- what was through was through
-  through_written : (t clock : ℕ) → WasThrough g s running d t clock → WasThrough g s running (written d f c) t clock
-  through_written t clock is = record { stopped = is.stopped; early = λ h stamp wrote has. is.early h stamp wrote (own_stamp t h stamp is.stopped wrote has) }
+  -- the file that is written was written after each whole run; of others it stays what last runs saw
+  saw_written : (t : ℕ) (run : WholeRun) → p.last t ≡ Some run → SawOrLater g s run (written d f c) t
+  saw_written t run is_last h read =
+      ⊎_elim (λ same. let ended = fits.ended t run is_last in inr (subst (λ (k : FileName). CanChange s k) same can, (d.clock + 1, stamp_here d f c h same, omega arith))) (λ differ. ⊎_elim (λ sees. inl (content_there d f c h differ ∙ sees)) (λ late. inr (late.0, (late.1.0, stamp_kept d f c h late.1.0 differ late.1.1, late.1.2))) (fits.saw t run is_last h read)) (cases_name f h)
 
-  -- the disk fits the past after the writing
+  -- what was through was through
+  through_written : (t clock : ℕ) → WasThrough g s (p.last t) running d t clock → WasThrough g s (p.last t) running (written d f c) t clock
+  through_written t clock is = record { stopped = is.stopped; early = λ h stamp wrote has. is.early h stamp wrote (own_stamp t h stamp is.stopped wrote has); ended = is.ended }
+
+  -- the disk fits the runs after the writing
   pub fits_written : Fits g s p running (written d f c)
   fits_written = record {
     stamped = λ h stamp has. ⊎_elim (λ same. let new = stamp_is d f c h stamp same has in omega arith) (λ differ. let came = fits.stamped h stamp (stamp_there d f c h stamp differ has) in omega arith) (cases_name f h);
     began = λ t. let came = fits.began t in omega arith;
+    ended = λ t run is_last. let came = fits.ended t run is_last in omega arith;
+    last_begun = fits.last_begun;
     after_begin = λ t h stamp stopped wrote has. fits.after_begin t h stamp stopped wrote (own_stamp t h stamp stopped wrote has);
-    whole = λ t stopped. ⊎_elim (λ none. inl (λ h wrote. changed_there d.files f h (Some (record { content = c; stamp = d.clock + 1 })) (not_here t h stopped wrote) ∙ none h wrote)) (λ is. inr (whole_written t stopped is)) (fits.whole t stopped);
+    whole = λ t stopped. ⊎_elim (λ none. inl (λ h wrote. changed_there d.files f h (Some (record { content = c; stamp = d.clock + 1 })) (not_here t h stopped wrote) ∙ none h wrote)) (λ is. inr (is.0, is.1, whole_written t is.0 stopped is.2)) (fits.whole t stopped);
+    saw = saw_written;
     apart = λ o t before. ⊎_elim (λ one. inl (through_written o (p.began t) one)) (λ other. inr (through_written t (p.began o) other)) (fits.apart o t before);
   }
 

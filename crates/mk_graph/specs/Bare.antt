@@ -9,13 +9,15 @@ use Rattle.mk_graph.specs.Schedule.{Step, Make, Begin, End, Pass, IsLegal, after
 
 -- the setting without given files in which no recipe reads or writes
 abbrev pub empty_setting : Setting
-empty_setting = record { reads = λ name. []; writes = λ name. []; sources = []; texts = []; fixed = [] }
+empty_setting =
+    record { reads = λ name. []; writes = λ name. []; sources = []; texts = []; fixed = [] }
 
 -- the disk without files, on which no outcome is known
 abbrev pub empty_disk : Disk
 empty_disk = record { files = λ f. None; clock = 0; known = [] }
 
--- A node's turn: its recipe is run, without a look or a writing, or the node is passed where it has none.
+-- A node's turn: its recipe is run, without a look or a writing, or the node is passed where it has
+-- none.
 abbrev pub turn_steps : Graph → ℕ → List Step
 turn_steps g n = if (node g n).recipe then Begin n ∷ End n ∷ [] else (Pass n ∷ [])
 
@@ -24,7 +26,8 @@ abbrev pub steps_of : Graph → List ℕ → List Step
 steps_of g [] = []
 steps_of g (n ∷ ns) = steps_of g ns ++ turn_steps g n
 
--- a make of these goals with one job, in which these nodes have their turns, and then the recipe of t begins
+-- a make of these goals with one job, in which these nodes have their turns, and then the recipe of
+-- t begins
 abbrev pub steps_until : Graph → (goals ns : List ℕ) → ℕ → List Step
 steps_until g goals ns t = Make 1 goals ∷ (steps_of g ns ++ Begin t ∷ [])
 
@@ -33,7 +36,8 @@ abbrev pub IsUndone : ℕ → World → Type 0
 IsUndone n (Idle d) = ⊥
 IsUndone n (Busy m d) = ¬ (Has m.done n)
 
--- A make of these goals from the bare start in which these nodes have their turns: it can begin t, and o isn't done.
+-- A make of these goals from the bare start in which these nodes have their turns: it can begin t,
+-- and o isn't done.
 pub record ShowsNotBefore (g : Graph) (o t : ℕ) (goals ns : List ℕ) : Type 0 where
   pub part : IsPart goals g.goals
   pub turns : Turns g goals ns

@@ -9,10 +9,14 @@ use Rattle.mk_graph.specs.Walk.{WalkEnd, Through, Closes, Walks}
 abbrev pub WalksAll : Graph → WalkEnd → Type 0
 WalksAll g end = Walks (prerequisites g) [] [] g.goals end
 
--- Over 4,096 nodes are too many. Else the walk closes a path, whose names the fault has, or it comes through,
--- and the graph is the one that was handed in. Nothing is said of want of memory.
+-- Over 4,096 nodes are too many. Else the walk closes a path, whose names the fault has, or it
+-- comes through, and the graph is the one that was handed in. Nothing is said of want of memory.
 abbrev pub Builds : Graph → Result Graph GraphFault → Type 0
 Builds handed (Err TooManyNodes) = 4096 < length handed.nodes
-Builds handed (Err (Cycle names)) = (length handed.nodes ≤ 4096) × (path : List ℕ) × WalksAll handed (Closes path) × (names ≡ map (λ n. (node handed n).name) path)
-Builds handed (Ok g) = (length handed.nodes ≤ 4096) × (finished : List ℕ) × WalksAll handed (Through finished) × (g ≡ handed)
+Builds handed (Err (Cycle names)) =
+    (length handed.nodes ≤ 4096) × (path : List ℕ) × WalksAll handed (Closes path) ×
+    (names ≡ map (λ n. (node handed n).name) path)
+Builds handed (Ok g) =
+    (length handed.nodes ≤ 4096) × (finished : List ℕ) × WalksAll handed (Through finished) ×
+    (g ≡ handed)
 Builds handed (Err Memory) = Unit {0}

@@ -29,13 +29,15 @@ pub data Leads (g : Graph) : ℕ → ℕ → Type 0 where
   one : {n p : ℕ} → Has (prerequisites g n) p → Leads g n p
   then : {n m p : ℕ} → Leads g n m → Has (prerequisites g m) p → Leads g n p
 
--- Nodes have heights below their number that fall along prerequisites, so no path leads from a node to itself.
+-- Nodes have heights below their number that fall along prerequisites, so no path leads from a node
+-- to itself.
 pub record HasNoCycle (g : Graph) : Type 0 where
   pub height : ℕ → ℕ
   pub low : (n : ℕ) → n < length g.nodes → height n < length g.nodes
   pub falls : (n p : ℕ) → Has (prerequisites g n) p → height p < height n
 
--- What the maker of a graph owes: names that differ, numbers of nodes, and nothing beside what the goals reach.
+-- What the maker of a graph owes: names that differ, numbers of nodes, and nothing beside what the
+-- goals reach.
 pub record IsSound (g : Graph) : Type 0 where
   pub names : IsDistinct (map (λ (n : Node). n.name) g.nodes)
   pub goals : (n : ℕ) → Has g.goals n → n < length g.nodes

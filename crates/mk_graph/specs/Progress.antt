@@ -1,6 +1,8 @@
 -- How far the code's walk has come: marks of nodes, and how it ended.
-use Rattle.std.specs.Prelude.{ℕ, ◌<◌, List, [], length, map, slice_index_or, Option, Some, None, Vec, reverse}
+use Rattle.std.specs.Prelude.{◌≡◌, ℕ, ◌<◌, List, [], length, map, slice_index_or, Option, Some, None, Vec, reverse}
+use Rattle.std.specs.List.{flat_map}
 use Rattle.std.specs.declared.alloc.Global.{Global}
+use Rattle.mk_graph.specs.declared.node.Node.{Node}
 use Rattle.mk_graph.specs.declared.walk.Mark.{Mark}
 use Rattle.mk_graph.specs.declared.walk.Mark.TheVariants.{New, UnderWay, Finished}
 use Rattle.mk_graph.specs.declared.walk.End.{End}
@@ -11,6 +13,12 @@ use Rattle.mk_graph.specs.Walk.{WalkEnd, Through, Closes}
 -- the row of a node, and no row for what is no node
 abbrev pub row : List (Vec ℕ Global) → ℕ → List ℕ
 row rows n = slice_index_or (map (λ (r : Vec ℕ Global). r.items) rows) n []
+
+-- a row for each node: its prerequisites, in the order of its groups
+abbrev pub AreRowsOf : List (Vec ℕ Global) → List Node → Type 0
+AreRowsOf rows nodes =
+    map (λ (r : Vec ℕ Global). r.items) rows ≡
+    map (λ (n : Node). flat_map (λ group. group) n.groups) nodes
 
 -- each row holds numbers of rows
 abbrev pub AreRows : List (Vec ℕ Global) → Type 0
@@ -24,7 +32,8 @@ IsMark Finished under finished n = Has finished n
 
 -- the mark of each node says what it is
 abbrev pub AreMarks : List Mark → (under finished : List ℕ) → Type 0
-AreMarks marks under finished = (n : ℕ) → n < length marks → IsMark (slice_index_or marks n New) under finished n
+AreMarks marks under finished =
+    (n : ℕ) → n < length marks → IsMark (slice_index_or marks n New) under finished n
 
 -- how a walk ended that found this path, or else has finished these nodes, the last one first
 abbrev pub ending : Option (Vec ℕ Global) → List ℕ → WalkEnd

@@ -9,10 +9,14 @@ use Rattle.mk_graph.specs.Schedule.{Step, EndMake, Allowed, IsLegal, after_all}
 use Rattle.mk_graph.specs.Clean.{IsBuilt}
 use Rattle.mk_graph.specs.Ways.{Way, CanChange}
 
--- The footprints are sound: for nodes and their files none of the findings on footprints holds, and there is no race.
+-- The footprints are sound: for nodes and their files none of the findings on footprints holds.
+-- This leaves out what speaks of more than nodes and their files: that each recipe has a record,
+-- with the commands that the makefile gives it and without `$?` in them; names that are phony, or
+-- that the reading passed over, and are no nodes; and the choice of inference rules.
 pub record AreSound (g : Graph) (s : Setting) : Type 0 where
   -- a recipe that isn't phony writes its target
-  pub target : (t : ℕ) → (node g t).recipe ≡ true → (node g t).phony ≡ false → Has (writes g s t) (name g t)
+  pub target : (t : ℕ) → (node g t).recipe ≡ true → (node g t).phony ≡ false →
+      Has (writes g s t) (name g t)
   -- a file has one writer
   pub one_writer : (o t : ℕ) (f : FileName) → Has (writes g s o) f → Has (writes g s t) f → o ≡ t
   -- no given file is written
@@ -22,11 +26,16 @@ pub record AreSound (g : Graph) (s : Setting) : Type 0 where
   -- no recipe reads what it writes
   pub not_own : (t : ℕ) (f : FileName) → Has (reads g s t) f → ¬ (Has (writes g s t) f)
   -- what is read is given or written
-  pub known : (t : ℕ) (f : FileName) → Has (reads g s t) f → (is_given s f ≡ true) ⊎ ((o : ℕ) × Has (writes g s o) f)
+  pub known : (t : ℕ) (f : FileName) → Has (reads g s t) f → (is_given s f ≡ true) ⊎
+      ((o : ℕ) × Has (writes g s o) f)
   -- who writes a node without a recipe is its direct prerequisite
-  pub not_loose : (n o : ℕ) → n < length g.nodes → (node g n).recipe ≡ false → Has (writes g s o) (name g n) → Has (prerequisites g n) o
-  -- who writes what another recipe reads is before it
-  pub no_race : (t o : ℕ) (f : FileName) → ¬ (o ≡ t) → Has (reads g s t) f → Has (writes g s o) f → Before g o t
+  pub not_loose : (n o : ℕ) → n < length g.nodes → (node g n).recipe ≡ false →
+      Has (writes g s o) (name g n) → Has (prerequisites g n) o
+
+-- Races are none: who writes what another recipe reads is before it.
+abbrev pub HaveNoRace : Graph → Setting → Type 0
+HaveNoRace g s =
+    (t o : ℕ) (f : FileName) → ¬ (o ≡ t) → Has (reads g s t) f → Has (writes g s o) f → Before g o t
 
 -- Each read of a file that can change has a way.
 abbrev pub HaveWays : Graph → Setting → Type 0
@@ -39,4 +48,6 @@ IsRightAt g s (Busy m d) = Allowed g s (Busy m d) EndMake → IsBuilt g s d m.go
 
 -- From each start, wherever a legal history comes to the end of a make, its goals are built.
 abbrev pub IsRight : Graph → Setting → Type 0
-IsRight g s = (d : Disk) (steps : List Step) → IsStart s d → IsLegal g s (Idle d) steps → IsRightAt g s (after_all g s (Idle d) steps)
+IsRight g s =
+    (d : Disk) (steps : List Step) → IsStart s d → IsLegal g s (Idle d) steps →
+    IsRightAt g s (after_all g s (Idle d) steps)

@@ -4,11 +4,12 @@ use Rattle.std.specs.Option.{option_flatten}
 use Rattle.mk_graph.specs.Membership.{Has}
 use Rattle.mk_graph.specs.Graph.{Graph, node, prerequisites}
 use Rattle.mk_graph.specs.Setting.{FileName, Setting, is_editable, name, reads, writes, IsAlwaysMade}
-use Rattle.mk_graph.specs.World.{Outcome, Disk, Making, World, Idle, Busy, content, HasStamp, changed, last_stamp, written, outcome}
+use Rattle.mk_graph.specs.World.{Outcome, Disk, Making, World, Idle, Busy, disk_of, content, HasStamp, changed, last_stamp, written, outcome}
 use Rattle.mk_graph.specs.Turns.{HasAll, MayTurn, IsPart}
 
--- What can happen: an edit of a file, the begin of a make, and in a make the begin of a recipe, its look at a file,
--- its writing of a file, its end, the passing of a node, the stop and the end of the make.
+-- What can happen: an edit of a file, the begin of a make, and in a make the begin of a recipe, its
+-- look at a file, its writing of a file, its end, the passing of a node, the stop and the end of
+-- the make.
 pub data Step : Type 0 where
   Edit : (file : FileName) (content : ℕ) → Step
   Make : (jobs : ℕ) (goals : List ℕ) → Step
@@ -20,9 +21,13 @@ pub data Step : Type 0 where
   Stop : Step
   EndMake : Step
 
--- A node is out of date where it is always made, is absent, or is older than a direct prerequisite that is there.
+-- A node is out of date where it is always made, is absent, or is older than a direct prerequisite
+-- that is there.
 abbrev pub MustRun : Graph → Disk → ℕ → Type 0
-MustRun g d t = IsAlwaysMade g t ⊎ (d.files (name g t) ≡ None) ⊎ ((p stamp later : ℕ) × Has (prerequisites g t) p × HasStamp d (name g t) stamp × HasStamp d (name g p) later × (stamp < later))
+MustRun g d t =
+    IsAlwaysMade g t ⊎ (d.files (name g t) ≡ None) ⊎
+    ((p stamp later : ℕ) × Has (prerequisites g t) p × HasStamp d (name g t) stamp ×
+    HasStamp d (name g p) later × (stamp < later))
 
 -- A node is ready where its turn may come and it isn't running.
 abbrev pub Ready : Graph → Making → ℕ → Type 0
@@ -36,19 +41,32 @@ seen_by g s m t = map (λ f. option_flatten (m.seen t f)) (reads g s t)
 abbrev pub put_by : Graph → Setting → Making → ℕ → List ℕ
 put_by g s m t = map (λ f. unwrap_or (m.put t f) 0) (writes g s t)
 
--- A recipe that runs has come to its end: it has seen all its reads and put all its writes, and has put what is known
--- of a run that saw the same.
+-- the recipe has seen each of its reads in this run
+abbrev pub HasSeenAll : Graph → Setting → Making → ℕ → Type 0
+HasSeenAll g s m t = (f : FileName) → Has (reads g s t) f → ¬ (m.seen t f ≡ None)
+
+-- it has put each of its writes
+abbrev pub HasPutAll : Graph → Setting → Making → ℕ → Type 0
+HasPutAll g s m t = (f : FileName) → Has (writes g s t) f → ¬ (m.put t f ≡ None)
+
+-- it has put what is known of a run that saw the same, if that is known
+abbrev pub HasPutWhatIsKnown : Graph → Setting → Making → Disk → ℕ → Type 0
+HasPutWhatIsKnown g s m d t =
+    IfSome (outcome d.known t (seen_by g s m t)) (λ known. known ≡ put_by g s m t)
+
+-- A recipe that runs has come to its end.
 pub record MayEnd (g : Graph) (s : Setting) (m : Making) (d : Disk) (t : ℕ) : Type 0 where
   pub runs : Has m.running t
-  pub seen : (f : FileName) → Has (reads g s t) f → ¬ (m.seen t f ≡ None)
-  pub put : (f : FileName) → Has (writes g s t) f → ¬ (m.put t f ≡ None)
-  pub agrees : IfSome (outcome d.known t (seen_by g s m t)) (λ known. known ≡ put_by g s m t)
+  pub seen : HasSeenAll g s m t
+  pub put : HasPutAll g s m t
+  pub agrees : HasPutWhatIsKnown g s m d t
 
 -- The step is allowed in the world.
 abbrev pub Allowed : Graph → Setting → World → Step → Type 0
 Allowed g s (Idle d) (Edit f c) = (is_editable s f ≡ true) × (d.clock < last_stamp)
 Allowed g s (Idle d) (Make jobs goals) = (0 < jobs) × IsPart goals g.goals
-Allowed g s (Busy m d) (Begin t) = Ready g m t × ((node g t).recipe ≡ true) × (length m.running < m.jobs)
+Allowed g s (Busy m d) (Begin t) =
+    Ready g m t × ((node g t).recipe ≡ true) × (length m.running < m.jobs)
 Allowed g s (Busy m d) (Look t f) = Has m.running t × Has (reads g s t) f
 Allowed g s (Busy m d) (Put t f c) = Has m.running t × Has (writes g s t) f × (d.clock < last_stamp)
 Allowed g s (Busy m d) (End t) = MayEnd g s m d t
@@ -63,11 +81,26 @@ changed_at at t new other = if nat_eq t other then new else at other
 
 -- a make of these goals at its begin
 abbrev pub make_of : (jobs : ℕ) (goals : List ℕ) → Making
-make_of jobs goals = record { jobs = jobs; goals = goals; done = []; running = []; seen = λ t f. None; put = λ t f. None }
+make_of jobs goals =
+    record {
+      jobs = jobs;
+      goals = goals;
+      done = [];
+      running = [];
+      seen = λ t f. None;
+      put = λ t f.
+          None;
+    }
 
 -- the make after a recipe began, having seen and put nothing
 abbrev pub begun : Making → ℕ → Making
-begun m t = record m { running = t ∷ m.running; seen = changed_at m.seen t (λ f. None); put = changed_at m.put t (λ f. None) }
+begun m t =
+    record m {
+      running = t ∷
+          m.running;
+      seen = changed_at m.seen t (λ f. None);
+      put = changed_at m.put t (λ f. None);
+    }
 
 -- after a running recipe saw the present content of a file, or its absence
 abbrev pub looked : Making → ℕ → FileName → Option ℕ → Making
@@ -79,11 +112,19 @@ has_put m t f c = record m { put = changed_at m.put t (changed (m.put t) f (Some
 
 -- after a node was done: if it ran, it no longer does, and what it has seen and put is forgotten
 abbrev pub finished : Making → ℕ → Making
-finished m t = record m { done = t ∷ m.done; running = filter (λ n. not (nat_eq t n)) m.running; seen = changed_at m.seen t (λ f. None); put = changed_at m.put t (λ f. None) }
+finished m t =
+    record m {
+      done = t ∷
+          m.done;
+      running = filter (λ n. not (nat_eq t n)) m.running;
+      seen = changed_at m.seen t (λ f. None);
+      put = changed_at m.put t (λ f. None);
+    }
 
 -- the disk after an outcome was seen, which is noted if nothing was known
 abbrev pub noted : Disk → Outcome → Disk
-noted d o = record d { known = if is_some (outcome d.known o.recipe o.seen) then d.known else o ∷ d.known }
+noted d o =
+    record d { known = if is_some (outcome d.known o.recipe o.seen) then d.known else o ∷ d.known }
 
 -- the world that an allowed step leaves
 abbrev pub after : Graph → Setting → World → Step → World
@@ -92,13 +133,19 @@ after g s (Idle d) (Make jobs goals) = Busy (make_of jobs goals) d
 after g s (Busy m d) (Begin t) = Busy (begun m t) d
 after g s (Busy m d) (Look t f) = Busy (looked m t f (content d f)) d
 after g s (Busy m d) (Put t f c) = Busy (has_put m t f c) (written d f c)
-after g s (Busy m d) (End t) = Busy (finished m t) (noted d (record { recipe = t; seen = seen_by g s m t; written = put_by g s m t }))
+after g s (Busy m d) (End t) =
+    Busy (finished m t) (noted d (record {
+      recipe = t;
+      seen = seen_by g s m t;
+      written = put_by g s m t;
+    }))
 after g s (Busy m d) (Pass n) = Busy (finished m n) d
 after g s (Busy m d) Stop = Idle d
 after g s (Busy m d) EndMake = Idle d
 after g s world other = world
 
--- A legal history: the first step is allowed in this world, and each next one in the world that those before it leave.
+-- A legal history: the first step is allowed in this world, and each next one in the world that
+-- those before it leave.
 abbrev pub IsLegal : Graph → Setting → World → List Step → Type 0
 IsLegal g s world [] = Unit {0}
 IsLegal g s world (step ∷ steps) = Allowed g s world step × IsLegal g s (after g s world step) steps
@@ -106,3 +153,7 @@ IsLegal g s world (step ∷ steps) = Allowed g s world step × IsLegal g s (afte
 -- the world that the steps leave
 abbrev pub after_all : Graph → Setting → World → List Step → World
 after_all g s world steps = fold (after g s) world steps
+
+-- the disk that the steps leave, from a disk with no make in progress
+abbrev pub disk_after : Graph → Setting → Disk → List Step → Disk
+disk_after g s d steps = disk_of (after_all g s (Idle d) steps)

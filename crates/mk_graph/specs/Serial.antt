@@ -3,12 +3,13 @@ use Rattle.std.specs.Prelude.{ℕ, zero, suc, List, [], ◌∷◌, length, fold,
 use Rattle.mk_graph.specs.Graph.{Graph, prerequisites}
 use Rattle.mk_graph.specs.Membership.{has}
 
--- What has been visited after a visit of n, the last one first: nothing more where n was visited before,
--- else what its prerequisites bring, one after another, and then n. Paths are followed down to a depth
--- that no path of a graph without cycles reaches.
+-- What has been visited after a visit of n, the last one first: nothing more where n was visited
+-- before, else what its prerequisites bring, one after another, and then n. Paths are followed down
+-- to a depth that no path of a graph without cycles reaches.
 unfoldable pub visit : (ℕ → List ℕ) → ℕ → List ℕ → ℕ → List ℕ
 visit needs zero visited n = visited
-visit needs (suc deep) visited n = if has visited n then visited else n ∷ fold (visit needs deep) visited (needs n)
+visit needs (suc deep) visited n =
+    if has visited n then visited else n ∷ fold (visit needs deep) visited (needs n)
 
 -- what has been visited after visits of these nodes, one after another, the last one first
 unfoldable pub visits : Graph → List ℕ → List ℕ → List ℕ

@@ -3,7 +3,7 @@ use Rattle.std.specs.Prelude.{◌≡◌, ℕ, List, [], ◌∷◌, ◌++◌, map
 use Rattle.mk_graph.specs.Graph.{Graph, node}
 use Rattle.mk_graph.specs.Setting.{FileName, Setting, reads, writes}
 use Rattle.mk_graph.specs.World.{Outcome, outcome}
-use Rattle.mk_graph.specs.Schedule.{Step, Begin, Look, Put, End, Pass}
+use Rattle.mk_graph.specs.Schedule.{Step, Make, Begin, Look, Put, End, Pass, EndMake}
 use Rattle.mk_graph.specs.Clean.{Contents, put_all}
 
 -- a recipe puts these contents into these files, one after another
@@ -11,13 +11,29 @@ abbrev pub puts : ℕ → List FileName → List ℕ → List Step
 puts t (f ∷ files) (c ∷ cs) = Put t f c ∷ puts t files cs
 puts t files cs = []
 
--- a whole run: a recipe begins, looks at each of its reads, puts these contents into its writes, and ends
-abbrev pub whole_run : Graph → Setting → ℕ → List ℕ → List Step
-whole_run g s t cs = Begin t ∷ (map (λ f. Look t f) (reads g s t) ++ (puts t (writes g s t) cs ++ End t ∷ []))
+-- what a recipe does in a whole run behind its begin: it looks at each of its reads, puts these
+-- contents into its writes, and ends
+abbrev pub rest_of_run : Graph → Setting → ℕ → List ℕ → List Step
+rest_of_run g s t cs = map (λ f. Look t f) (reads g s t) ++ (puts t (writes g s t) cs ++ End t ∷ [])
 
--- Each recipe of these nodes is run whole, with its outcome for what files hold then; the other nodes are passed. The
--- steps lead from the first contents to the last.
-pub data RunsSerially (g : Graph) (s : Setting) (outcomes : List Outcome) : Contents → List ℕ → List Step → Contents → Type 0 where
+-- a whole run
+abbrev pub whole_run : Graph → Setting → ℕ → List ℕ → List Step
+whole_run g s t cs = Begin t ∷ rest_of_run g s t cs
+
+-- a make of these goals with one job that takes these steps and ends
+abbrev pub one_make : (goals : List ℕ) → List Step → List Step
+one_make goals steps = Make 1 goals ∷ (steps ++ EndMake ∷ [])
+
+-- Each recipe of these nodes is run whole, with its outcome for what files hold then; the other
+-- nodes are passed. The steps lead from the first contents to the last.
+pub data RunsSerially (g : Graph) (s : Setting) (outcomes : List Outcome) : Contents → List ℕ →
+    List Step → Contents → Type 0 where
   ends : {at : Contents} → RunsSerially g s outcomes at [] [] at
-  passes : {at end : Contents} {n : ℕ} {ns : List ℕ} {steps : List Step} → (node g n).recipe ≡ false → RunsSerially g s outcomes at ns steps end → RunsSerially g s outcomes at (n ∷ ns) (Pass n ∷ steps) end
-  runs : {at end : Contents} {t : ℕ} {ns : List ℕ} {steps : List Step} (cs : List ℕ) (new : Contents) → (node g t).recipe ≡ true → outcome outcomes t (map at (reads g s t)) ≡ Some cs → put_all at (writes g s t) cs ≡ Some new → RunsSerially g s outcomes new ns steps end → RunsSerially g s outcomes at (t ∷ ns) (whole_run g s t cs ++ steps) end
+  passes : {at end : Contents} {n : ℕ} {ns : List ℕ} {steps : List Step} →
+      (node g n).recipe ≡ false → RunsSerially g s outcomes at ns steps end →
+      RunsSerially g s outcomes at (n ∷ ns) (Pass n ∷ steps) end
+  runs : {at end : Contents} {t : ℕ} {ns : List ℕ} {steps : List Step} (cs : List ℕ)
+      (new : Contents) → (node g t).recipe ≡ true →
+      outcome outcomes t (map at (reads g s t)) ≡ Some cs →
+      put_all at (writes g s t) cs ≡ Some new → RunsSerially g s outcomes new ns steps end →
+      RunsSerially g s outcomes at (t ∷ ns) (whole_run g s t cs ++ steps) end

@@ -1,4 +1,5 @@
--- In which orders the nodes of a make may be done, and which node is done before which in each of them.
+-- In which orders the nodes of a make may be done, and which node is done before which in each of
+-- them.
 use Rattle.std.specs.Prelude.{◌≡◌, ℕ, List, [], ◌∷◌, true, ◌⊎◌}
 use Rattle.mk_graph.specs.Membership.{Has}
 use Rattle.mk_graph.specs.Graph.{Graph, node, prerequisites}
@@ -13,10 +14,12 @@ abbrev pub InOpenGroup : (done : List ℕ) → List (List ℕ) → ℕ → Type 
 InOpenGroup done [] n = ⊥
 InOpenGroup done (group ∷ groups) n = Has group n ⊎ (HasAll done group × InOpenGroup done groups n)
 
--- A node is wanted in a make of these goals: it is a goal, or stands in an open group of a wanted node.
+-- A node is wanted in a make of these goals: it is a goal, or stands in an open group of a wanted
+-- node.
 pub data Wanted (g : Graph) (goals done : List ℕ) : ℕ → Type 0 where
   goal : {n : ℕ} → Has goals n → Wanted g goals done n
-  onward : {p n : ℕ} → Wanted g goals done p → InOpenGroup done (node g p).groups n → Wanted g goals done n
+  onward : {p n : ℕ} → Wanted g goals done p → InOpenGroup done (node g p).groups n →
+      Wanted g goals done n
 
 -- The node's turn may come: it is wanted, not done, and all its prerequisites are done.
 pub record MayTurn (g : Graph) (goals done : List ℕ) (n : ℕ) : Type 0 where
@@ -36,4 +39,6 @@ pub record IsPart (goals all : List ℕ) : Type 0 where
 
 -- In makes of any part of the goals, o is done whenever the turn of t may come, if t has a recipe.
 abbrev pub Before : Graph → (o t : ℕ) → Type 0
-Before g o t = (node g t).recipe ≡ true → (goals ns : List ℕ) → IsPart goals g.goals → Turns g goals ns → MayTurn g goals ns t → Has ns o
+Before g o t =
+    (node g t).recipe ≡ true → (goals ns : List ℕ) → IsPart goals g.goals → Turns g goals ns →
+    MayTurn g goals ns t → Has ns o

@@ -16,15 +16,22 @@ path_from n (m ∷ under) = if m == n then m ∷ [] else path_from n under ++ m 
 abbrev pub closed_path : ℕ → List ℕ → List ℕ
 closed_path n under = path_from n under ++ n ∷ []
 
--- With these nodes under way, the innermost first, and these finished, a walk of the nodes to do ends so.
+-- With these nodes under way, the innermost first, and these finished, a walk of the nodes to do
+-- ends so.
 pub data Walks (needs : ℕ → List ℕ) : (under finished todo : List ℕ) → WalkEnd → Type 0 where
   -- nothing is to do
   ends : {under finished : List ℕ} → Walks needs under finished [] (Through finished)
   -- a finished node is passed over
-  passes : {under finished todo : List ℕ} {n : ℕ} {end : WalkEnd} → Has finished n → Walks needs under finished todo end → Walks needs under finished (n ∷ todo) end
+  passes : {under finished todo : List ℕ} {n : ℕ} {end : WalkEnd} → Has finished n →
+      Walks needs under finished todo end → Walks needs under finished (n ∷ todo) end
   -- a node that is under way closes a path
-  closes : {under finished todo : List ℕ} {n : ℕ} → Has under n → Walks needs under finished (n ∷ todo) (Closes (closed_path n under))
+  closes : {under finished todo : List ℕ} {n : ℕ} → Has under n →
+      Walks needs under finished (n ∷ todo) (Closes (closed_path n under))
   -- a new node's prerequisites close a path
-  breaks : {under finished todo path : List ℕ} {n : ℕ} → ¬ (Has under n) → ¬ (Has finished n) → Walks needs (n ∷ under) finished (needs n) (Closes path) → Walks needs under finished (n ∷ todo) (Closes path)
+  breaks : {under finished todo path : List ℕ} {n : ℕ} → ¬ (Has under n) → ¬ (Has finished n) →
+      Walks needs (n ∷ under) finished (needs n) (Closes path) →
+      Walks needs under finished (n ∷ todo) (Closes path)
   -- a new node is finished behind its prerequisites
-  finishes : {under finished todo middle : List ℕ} {n : ℕ} {end : WalkEnd} → ¬ (Has under n) → ¬ (Has finished n) → Walks needs (n ∷ under) finished (needs n) (Through middle) → Walks needs under (n ∷ middle) todo end → Walks needs under finished (n ∷ todo) end
+  finishes : {under finished todo middle : List ℕ} {n : ℕ} {end : WalkEnd} → ¬ (Has under n) →
+      ¬ (Has finished n) → Walks needs (n ∷ under) finished (needs n) (Through middle) →
+      Walks needs under (n ∷ middle) todo end → Walks needs under finished (n ∷ todo) end

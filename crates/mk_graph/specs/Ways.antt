@@ -8,8 +8,9 @@ use Rattle.mk_graph.specs.Setting.{FileName, Setting, is_given, is_editable, nam
 abbrev pub Carries : Graph → Setting → (t o : ℕ) → Type 0
 Carries g s t o = (p : ℕ) × Has (prerequisites g t) p × Has (writes g s o) (name g p)
 
--- A way from the recipe t to the file f. It goes over recipes, each of which carries the next, and ends at one that
--- writes f and is carried; at one of which f, which is editable, is a direct prerequisite; or at one that is always made.
+-- A way from the recipe t to the file f. It goes over recipes, each of which carries the next, and
+-- ends at one that writes f and is carried; at one of which f, which is editable, is a direct
+-- prerequisite; or at one that is always made.
 pub data Way (g : Graph) (s : Setting) (f : FileName) : ℕ → Type 0 where
   over : {t : ℕ} (o : ℕ) → Carries g s t o → Way g s f o → Way g s f t
   written : {t : ℕ} (o : ℕ) → Carries g s t o → Has (writes g s o) f → Way g s f t

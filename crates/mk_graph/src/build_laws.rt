@@ -1,6 +1,6 @@
 //! Laws of builds. Each is the contract of a function that does nothing: who calls it has the law.
 
-ghost use Rattle.mk_graph.specs.BuildLaws.{FirstIsAStart, SerialOrderIsATurnList, SerialMakeIsLegal, AllGoalsSuffice, BeforeHoldsInHistories, NotBeforeIsShown, ReadyRecipesRunTogether, OneBuildIsRight, AcceptedIsRight, StaleIsShown, StaleHistoryExists};
+ghost use Rattle.mk_graph.specs.BuildLaws.{FirstIsAStart, SerialOrderIsATurnList, SerialMakeIsLegal, AllGoalsSuffice, BeforeIsDecided, BeforeHoldsInHistories, NotBeforeIsShown, ReadyRecipesRunTogether, OneBuildIsRight, AcceptedIsRight, StaleIsShown, StaleHistoryExists, TurnListsRun, TurnListHistoryExists, RecipesOverlap, MakesCanBeStopped};
 
 /// The first disk of a world, on which just its given names are there, numbered in the order of
 /// their bytes, is a start in the sense of the other laws.
@@ -26,6 +26,11 @@ pub fn all_goals_suffice()
     ensures { AllGoalsSuffice }
 {}
 
+/// Of each two nodes of a graph one is before the other or isn't.
+pub fn before_is_decided()
+    ensures { BeforeIsDecided }
+{}
+
 /// Where a node is before a recipe, it is done in the make whenever the recipe is ready, in each
 /// legal history of each setting.
 pub fn before_holds_in_histories()
@@ -38,8 +43,8 @@ pub fn ready_recipes_run_together()
     ensures { ReadyRecipesRunTogether }
 {}
 
-/// Where a node isn't before another one, a legal history shows it: a make with one job in which the
-/// other one begins, and the node isn't done.
+/// Where a node isn't before another one, a legal history shows it: a make with one job in which
+/// the other one begins, and the node isn't done.
 pub fn not_before_is_shown()
     ensures { NotBeforeIsShown }
 {}
@@ -55,9 +60,10 @@ pub fn accepted_is_right()
     ensures { AcceptedIsRight }
 {}
 
-/// Where footprints are sound and a read of a file that can change has no way, a legal history shows
-/// it: all is made, the file is edited if it is editable, and all is made again but for the recipe
-/// and those that it reaches by carrying. At its end the file is later than all that the recipe wrote.
+/// Where footprints are sound and a read of a file that can change has no way, a legal history
+/// shows it: all is made, the file is edited if it is editable, and all is made again but for the
+/// recipe and those that it reaches by carrying. At its end the file is later than all that the
+/// recipe wrote.
 pub fn stale_is_shown()
     ensures { StaleIsShown }
 {}
@@ -65,4 +71,30 @@ pub fn stale_is_shown()
 /// There is a history of the shape that `stale_is_shown` speaks of, for each read.
 pub fn stale_history_exists()
     ensures { StaleHistoryExists }
+{}
+
+/// A turn list can be run in any setting: from a start, a make of a part of the goals with one job
+/// is legal in which the recipes of the list run whole, in its order, the other nodes are passed,
+/// and then a recipe begins whose turn may come, if there are stamps enough. Nothing is asked of
+/// the footprints.
+pub fn turn_lists_run()
+    ensures { TurnListsRun }
+{}
+
+/// There is a history of the shape that `turn_lists_run` speaks of, for each list of nodes.
+pub fn turn_list_history_exists()
+    ensures { TurnListHistoryExists }
+{}
+
+/// Steps really overlap: from a start, in a make of two jobs or more, behind a turn list whose
+/// recipes have run whole, two recipes whose turns may come both begin, and then look, put and end
+/// in any order of their steps.
+pub fn recipes_overlap()
+    ensures { RecipesOverlap }
+{}
+
+/// Wherever a legal history comes to a make in which nothing runs, the make may be stopped, which
+/// changes no file, and any part of the goals may be made again.
+pub fn makes_can_be_stopped()
+    ensures { MakesCanBeStopped }
 {}

@@ -4,14 +4,13 @@
 //! one. One round over the serial order finds these nodes, and a round backwards finds what a make
 //! wants once they are done.
 
-ghost use Rattle.std.specs.Prelude.{◌≡◌, ℕ, ◌<◌, ◌⊎◌, ◌↔◌, length, map};
-ghost use Rattle.mk_graph.specs.Membership.{Has};
-ghost use Rattle.mk_graph.specs.Turns.{InOpenGroup, Wanted};
-ghost use Rattle.mk_graph.specs.Without.{AreFree, joined};
+ghost use Rattle.std.specs.Prelude.{◌≡◌};
+ghost use Rattle.mk_graph.specs.Without.{AreFree};
 
 use crate::graph::Graph;
 use crate::node_set::NodeSet;
 use crate::order::Order;
+use crate::wanted::wanted_with;
 use std::marker::Model;
 
 /// The order of a graph. It finishes all that can be done without one node, as a make of all goals
@@ -52,7 +51,7 @@ impl<'a> Order for Greedy<'a> {
             return true;
         }
         let free = free_of(graph, o);
-        let wanted = wanted_with(graph, &free);
+        let wanted = wanted_with(graph, graph.goals(), &free);
         if !wanted.has(t) {
             return true;
         }
@@ -61,7 +60,7 @@ impl<'a> Order for Greedy<'a> {
 }
 
 /// The nodes that can be done without `o`.
-fn free_of(graph: &Graph, o: usize) -> NodeSet
+pub fn free_of(graph: &Graph, o: usize) -> NodeSet
     ensures { AreFree graph.now o result }
 {
     let nodes = graph.nodes();
@@ -75,36 +74,4 @@ fn free_of(graph: &Graph, o: usize) -> NodeSet
         }
     }
     free
-}
-
-/// The nodes that a make of all goals wants once these are done.
-fn wanted_with(graph: &Graph, done: &NodeSet) -> NodeSet
-    ensures { (n : ℕ) → Has result n ↔ Wanted graph.now graph.now.goals done.now n }
-{
-    let nodes = graph.nodes();
-    let order = graph.order();
-    let mut wanted = NodeSet::new();
-    wanted.insert_all(graph.goals());
-    let mut place = order.len();
-    while place > 0 {
-        place -= 1;
-        let n = order[place];
-        if wanted.has(n) {
-            want_open(&mut wanted, done, nodes[n].groups.as_slice());
-        }
-    }
-    wanted
-}
-
-/// Adds what stands in open groups.
-fn want_open(wanted: &mut NodeSet, done: &NodeSet, groups: &[Vec<usize>])
-    requires { (n : ℕ) → Has (joined (map (λ group. group.items) groups.now)) n → n < 4096 }
-    ensures { (n : ℕ) → Has wanted.new n ↔ InOpenGroup done.now (map (λ group. group.items) groups.now) n ⊎ Has wanted.old n }
-{
-    for group in groups {
-        wanted.insert_all(group);
-        if !done.has_all(group) {
-            return;
-        }
-    }
 }

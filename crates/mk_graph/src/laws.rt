@@ -1,7 +1,7 @@
 //! Laws of graphs, of their walks and of the serial order. Each is the contract of a function that
 //! does nothing: who calls it has the law.
 
-ghost use Rattle.mk_graph.specs.Laws.{SerialReachesEachOnce, PrerequisitesComeFirst, GoalsDecideWhatComesFirst, WalkHasAnEnd, WalkHasOneEnd, ClosesOnlyCycles, ComesThroughWithoutCycles, HeightsForbidCycles, NoCycleGivesHeights};
+ghost use Rattle.mk_graph.specs.Laws.{SerialReachesEachOnce, PrerequisitesComeFirst, GoalsDecideWhatComesFirst, SerialOrderOfOne, OrderOfAllGoals, WalkHasAnEnd, WalkHasOneEnd, ClosesOnlyCycles, ComesThroughWithoutCycles, HeightsForbidCycles, NoCycleGivesHeights};
 
 /// In a graph without cycles each node that the goals reach stands in the serial order, once, and
 /// no other does.
@@ -21,6 +21,18 @@ pub fn goals_decide_what_comes_first()
     ensures { GoalsDecideWhatComesFirst }
 {}
 
+/// In a graph without cycles the serial order of one node is what its prerequisites give, left to
+/// right, and then the node. With `goals_decide_what_comes_first` it says what the order is of any
+/// goals.
+pub fn serial_order_of_one()
+    ensures { SerialOrderOfOne }
+{}
+
+/// The order of all goals is the serial order of the graph.
+pub fn order_of_all_goals()
+    ensures { OrderOfAllGoals }
+{}
+
 /// A walk depth first, left to right, from the goals of a sound graph has an end.
 pub fn walk_has_an_end()
     ensures { WalkHasAnEnd }
@@ -37,7 +49,8 @@ pub fn closes_only_cycles()
     ensures { ClosesOnlyCycles }
 {}
 
-/// Where a walk of a sound graph comes through, no path of prerequisites leads from a node to itself.
+/// Where a walk of a sound graph comes through, no path of prerequisites leads from a node to
+/// itself.
 pub fn comes_through_without_cycles()
     ensures { ComesThroughWithoutCycles }
 {}

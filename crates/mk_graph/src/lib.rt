@@ -1,28 +1,34 @@
 //! Graphs of makefile targets: nodes, cycles and the serial order.
 #![tactic(auto)]
 
+mod bit_rows;
+mod bit_words;
 pub mod build_laws;
 mod fault;
 mod graph;
 mod greedy;
 mod groups;
+pub mod growth_laws;
 pub mod laws;
+pub mod list_laws;
 mod node;
 mod node_set;
 mod order;
 mod prerequisites;
+mod rows;
+pub mod run_laws;
+mod turn_list;
 mod walk;
+mod wanted;
 
+pub use bit_rows::BitRows;
+pub use bit_words::{meet, unite};
 pub use fault::GraphFault;
 pub use graph::{Graph, MAX_NODES};
 pub use greedy::Greedy;
 pub use groups::Groups;
 pub use node::Node;
+pub use node_set::NodeSet;
 pub use order::Order;
-
-#[cfg(test)]
-mod clean_tests;
-#[cfg(test)]
-mod order_tests;
-#[cfg(test)]
-mod tests;
+pub use turn_list::turn_list_past;
+pub use wanted::wanted_with;

@@ -63,7 +63,8 @@ impl NodeSet {
 
     /// Whether all numbers of all groups are members.
     pub fn has_groups(&self, groups: &[Vec<usize>]) -> bool
-        ensures { (result ≡ true) ↔ HasAll self.now (joined (map (λ group. group.items) groups.now)) }
+        ensures { (result ≡ true) ↔
+            HasAll self.now (joined (map (λ group. group.items) groups.now)) }
     {
         for group in groups {
             if !self.has_all(group) {

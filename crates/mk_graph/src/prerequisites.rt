@@ -2,13 +2,14 @@
 
 ghost use Rattle.std.specs.Prelude.{◌≡◌, map, IfOk};
 ghost use Rattle.std.specs.List.{flat_map};
+ghost use Rattle.mk_graph.specs.Progress.{AreRowsOf};
 
 use crate::node::Node;
 use std::alloc::{AllocError, Global};
 
 /// A row for each node: its prerequisites, in the order of its groups.
 pub fn rows_of(alloc: Global, nodes: &[Node]) -> Result<Vec<Vec<usize>>, AllocError>
-    ensures { IfOk result (λ rows. map (λ row. row.items) rows.items ≡ map (λ node. flat_map (λ group. group) node.groups) nodes.now) }
+    ensures { IfOk result (λ rows. AreRowsOf rows.items nodes.now) }
 {
     let mut rows = Vec::with_capacity(alloc, nodes.len())?;
     for node in nodes {
@@ -19,7 +20,8 @@ pub fn rows_of(alloc: Global, nodes: &[Node]) -> Result<Vec<Vec<usize>>, AllocEr
 
 /// The members of all groups, one group after another.
 fn joined(alloc: Global, groups: &[Vec<usize>]) -> Result<Vec<usize>, AllocError>
-    ensures { IfOk result (λ row. row.items ≡ flat_map (λ group. group) (map (λ group. group.items) groups.now)) }
+    ensures { IfOk result (λ row. row.items ≡
+        flat_map (λ group. group) (map (λ group. group.items) groups.now)) }
 {
     let mut row = Vec::new(alloc);
     for group in groups {

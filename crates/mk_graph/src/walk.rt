@@ -63,8 +63,10 @@ fn walk_from(
     requires goal { goal < length rows.now }
     requires sizes { length marks.old ≡ length rows.now }
     requires marks { AreMarks marks.old [] (reverse order.old.items) }
-    ensures end { IfOk result (λ path. Walks (row rows.now) [] (reverse order.old.items) (goal ∷ []) (ending path (reverse order.new.items))) }
-    ensures marks { IfOk result (λ path. IfNone path (AreMarks marks.new [] (reverse order.new.items))) }
+    ensures end { IfOk result (λ path. Walks (row rows.now) [] (reverse order.old.items) (goal ∷
+        []) (ending path (reverse order.new.items))) }
+    ensures marks { IfOk result (λ path. IfNone path (AreMarks marks.new []
+        (reverse order.new.items))) }
 {
     if let Mark::Finished = marks[goal] {
         return Ok(None);
@@ -95,7 +97,8 @@ fn walk_from(
 /// Begins a node.
 fn enter(frames: &mut Vec<Frame>, marks: &mut [Mark], node: usize) -> Result<(), AllocError>
     requires { node < length marks.old }
-    ensures frames { IfOk result (λ _. frames.new.items ≡ frames.old.items ++ record { node = node; walked = 0 } ∷ []) }
+    ensures frames { IfOk result (λ _. frames.new.items ≡
+        frames.old.items ++ record { node = node; walked = 0 } ∷ []) }
     ensures marks { IfOk result (λ _. marks.new ≡ slice_set marks.old node Mark.UnderWay) }
 {
     marks[node] = Mark::UnderWay;
@@ -109,7 +112,8 @@ fn closed_path_from(
     mut frames: Vec<Frame>,
     node: usize,
 ) -> Result<Vec<usize>, AllocError>
-    ensures { IfOk result (λ path. path.items ≡ closed_path node (map (λ frame. frame.node) (reverse frames.items))) }
+    ensures { IfOk result (λ path. path.items ≡
+        closed_path node (map (λ frame. frame.node) (reverse frames.items))) }
 {
     let mut path = vec![in alloc; node]?;
     while let Some(frame) = frames.pop() {

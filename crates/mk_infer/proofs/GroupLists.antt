@@ -4,7 +4,7 @@ use Rattle.std.specs.Prelude.{filter}
 use Rattle.std.specs.Borrow.{Bor}
 use Rattle.std.proofs.lemmas.List.{drop_more, drop_all}
 use Rattle.mk_read.specs.Needs.{is_wait, in_first, has_words, cut, groups}
-use Rattle.mk_infer.specs.Names.{number_of}
+use Rattle.mk_lines.specs.Names.{number_of}
 use Rattle.mk_infer.specs.Selection.{numbered}
 use Rattle.mk_infer.specs.Table.{has_numbers}
 use Rattle.mk_infer.proofs.NameLists.{texts}

@@ -33,7 +33,7 @@ or_true : (b : Bool) → (b || true) ≡ true
 or_true true = refl
 or_true false = refl
 
-found : {A : Type 0} (p : A → Bool) (xs : List A) (x : A) → Has xs x → p x ≡ true → list_any p xs ≡ true
+pub found : {A : Type 0} (p : A → Bool) (xs : List A) (x : A) → Has xs x → p x ≡ true → list_any p xs ≡ true
 found p [] x h e = absurd h
 found p (y ∷ xs) x (inl same) e = ap (λ b. b || list_any p xs) (ap p same ∙ e)
 found p (y ∷ xs) x (inr h) e = ap (λ b. p y || b) (found p xs x h e) ∙ or_true (p y)
@@ -51,7 +51,7 @@ each_passes p [] x h k = absurd k
 each_passes p (y ∷ xs) x h (inl e) = ap p (sym e) ∙ (both_are (p y) (list_all p xs) h).0
 each_passes p (y ∷ xs) x h (inr k) = each_passes p xs x (both_are (p y) (list_all p xs) h).1 k
 
-same_tests : (a b : Bool) → (a ≡ true → b ≡ true) → (b ≡ true → a ≡ true) → a ≡ b
+pub same_tests : (a b : Bool) → (a ≡ true → b ≡ true) → (b ≡ true → a ≡ true) → a ≡ b
 same_tests true b f g = sym (f refl)
 same_tests false true f g = g refl
 same_tests false false f g = refl

@@ -44,11 +44,11 @@ pub record IsLastDot (name : List ℕ) (place : ℕ) : Type 0 where
   pub after : (i : ℕ) → place < i → i < length name → get_or name i 0 ≢ 46
 
 -- there is one at most
-one_last : (name : List ℕ) (k place : ℕ) → IsLastDot name k → IsLastDot name place → k ≡ place
+pub one_last : (name : List ℕ) (k place : ℕ) → IsLastDot name k → IsLastDot name place → k ≡ place
 one_last name k place p q = ⊎_elim (λ e. e) (λ o. ⊎_elim (λ lt. absurd (p.after place lt q.within q.dot)) (λ lt. absurd (q.after k lt p.within p.dot)) o) (cases_order k place)
 
 -- the bytes behind a suffix's dot are none
-no_dots : (rest : List ℕ) → list_all is_suffix_byte rest ≡ true → (i : ℕ) → i < length rest → get_or rest i 0 ≢ 46
+pub no_dots : (rest : List ℕ) → list_all is_suffix_byte rest ≡ true → (i : ℕ) → i < length rest → get_or rest i 0 ≢ 46
 no_dots [] h i lt e = absurd (omega arith)
 no_dots (b ∷ rest) h zero lt e =
     let free : not (b == 46) ≡ true = (both_are (not (b == 46)) (not (b == 47)) (both_are (is_suffix_byte b) (list_all is_suffix_byte rest) h).0).0 in
@@ -58,7 +58,7 @@ no_dots (b ∷ rest) h zero lt e =
 no_dots (b ∷ rest) h (suc i) lt e = no_dots rest (both_are (is_suffix_byte b) (list_all is_suffix_byte rest) h).1 i (omega arith) e
 
 -- a suffix at the end of a name begins at the last dot
-begins : (name suffix : List ℕ) → is_suffix suffix ≡ true → length suffix < length name → drop (length name - length suffix) name ≡ suffix → IsLastDot name (length name - length suffix)
+pub begins : (name suffix : List ℕ) → is_suffix suffix ≡ true → length suffix < length name → drop (length name - length suffix) name ≡ suffix → IsLastDot name (length name - length suffix)
 begins name suffix h lt same =
     let k = length name - length suffix in
     let d = dotted suffix h in

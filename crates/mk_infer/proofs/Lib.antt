@@ -22,3 +22,8 @@ pub mod InferenceNames
 pub mod LastDots
 pub mod OneSelection
 pub mod Writes
+mod Ending
+mod Staying
+mod Sources
+mod Keeping
+mod GoalsDiffer

@@ -6,7 +6,7 @@ use Rattle.std.specs.Prelude.{position, Some, None}
 use Rattle.std.specs.List.{list_any, position_or_len}
 use Rattle.std.proofs.lemmas.List.{map_push}
 use Rattle.mk_read.specs.Names.{has_name}
-use Rattle.mk_infer.specs.Names.{number_of}
+use Rattle.mk_lines.specs.Names.{number_of}
 use Rattle.mk_infer.proofs.ListTests.{list_any_map, position_some, position_none}
 use Rattle.mk_infer.proofs.NameLists.{texts}
 

@@ -13,7 +13,7 @@ use Rattle.mk_read.specs.Rules.{gives_commands, has_some}
 use Rattle.mk_read.specs.Special.{is_inference_name}
 use Rattle.mk_read.specs.State.{RuleRead}
 use Rattle.mk_infer.specs.Goals.{own_targets}
-use Rattle.mk_infer.specs.Names.{number_of}
+use Rattle.mk_lines.specs.Names.{number_of}
 use Rattle.mk_infer.specs.Selection.{numbered}
 use Rattle.mk_infer.specs.Targets.{prerequisites_of}
 use Rattle.mk_infer.specs.Table.{counts_for, lines_of, targets_in}

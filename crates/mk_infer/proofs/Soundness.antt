@@ -10,7 +10,7 @@ use Rattle.std.proofs.lemmas.Slice.Eq.{bytes_eq-Decides}
 use Rattle.mk_graph.specs.declared.node.Node.{Node}
 use Rattle.mk_graph.specs.Graph.{IsSound, Reached, goal, onward, node, no_node, prerequisites}
 use Rattle.mk_graph.specs.Membership.{Has, IsDistinct}
-use Rattle.mk_infer.specs.Names.{number_of}
+use Rattle.mk_lines.specs.Names.{number_of}
 use Rattle.mk_read.specs.Laws.{GroupsKeepTheirWords, joined}
 use Rattle.mk_read.specs.Needs.{groups}
 use Rattle.mk_read.specs.Reading.{Makefile}
@@ -28,7 +28,7 @@ Name = List ℕ
 
 -- ---- membership
 
-Has_map : {A B : Type 0} (f : A → B) (xs : List A) (y : B) → Has (map f xs) y → (x : A) × Has xs x × (f x ≡ y)
+pub Has_map : {A B : Type 0} (f : A → B) (xs : List A) (y : B) → Has (map f xs) y → (x : A) × Has xs x × (f x ≡ y)
 Has_map f [] y h = absurd h
 Has_map f (x ∷ xs) y (inl e) = (x, inl refl, e)
 Has_map f (x ∷ xs) y (inr h) = let k = Has_map f xs y h in (k.0, inr k.1, k.2)
@@ -38,7 +38,7 @@ map_Has f [] x h = absurd h
 map_Has f (y ∷ xs) x (inl e) = inl (ap f e)
 map_Has f (y ∷ xs) x (inr h) = inr (map_Has f xs x h)
 
-Has_get_or : {A : Type 0} (xs : List A) (i : ℕ) (d : A) → i < length xs → Has xs (get_or xs i d)
+pub Has_get_or : {A : Type 0} (xs : List A) (i : ℕ) (d : A) → i < length xs → Has xs (get_or xs i d)
 Has_get_or [] i d lt = absurd (omega arith)
 Has_get_or (x ∷ xs) zero d lt = inl refl
 Has_get_or (x ∷ xs) (suc i) d lt = inr (Has_get_or xs i d (omega arith))
@@ -46,7 +46,7 @@ Has_get_or (x ∷ xs) (suc i) d lt = inr (Has_get_or xs i d (omega arith))
 -- ---- places of names
 
 -- the place of a name that stands in the list is within it
-number_below : (names : List Name) (name : Name) → Has names name → number_of names name < length names
+pub number_below : (names : List Name) (name : Name) → Has names name → number_of names name < length names
 number_below [] name h = absurd h
 number_below (other ∷ names) name h = by_first (bytes_eq name other) refl h (number_below names name)
   where
@@ -56,7 +56,7 @@ number_below (other ∷ names) name h = by_first (bytes_eq name other) refl h (n
     by_first false f (inr k) ih = omega (arith, ih k)
 
 -- the name stands at its place
-get_number : (names : List Name) (name d : Name) → Has names name → get_or names (number_of names name) d ≡ name
+pub get_number : (names : List Name) (name d : Name) → Has names name → get_or names (number_of names name) d ≡ name
 get_number [] name d h = absurd h
 get_number (other ∷ names) name d h = by_first (bytes_eq name other) refl h (get_number names name d)
   where
@@ -89,18 +89,18 @@ names_of_nodes m e all (name ∷ names) = ap (λ ns. name ∷ ns) (names_of_node
 
 module _ (keeps : GroupsKeepTheirWords) (m : Makefile) (e : Exists) (goals all : List Name) where
   -- the groups hold what the name needs
-  grouped : (name : Name) → joined (groups_of m e name) ≡ needs m e name
+  pub grouped : (name : Name) → joined (groups_of m e name) ≡ needs m e name
   grouped name = joined_with m.not_parallel (choice m e name) (groups m.not_parallel (words_for m name)) ∙ ap (λ ns. option_to_list (choice m e name) ++ ns) (keeps m.not_parallel (words_for m name))
 
   -- what a number's node is
-  node_is : (n : ℕ) → n < length all → node (graph_of m e goals all) n ≡ node_of m e all (get_or all n [])
+  pub node_is : (n : ℕ) → n < length all → node (graph_of m e goals all) n ≡ node_of m e all (get_or all n [])
   node_is n lt = get_or-map (node_of m e all) all n [] no_node lt
 
-  prerequisites_are : (n : ℕ) → n < length all → prerequisites (graph_of m e goals all) n ≡ map (number_of all) (needs m e (get_or all n []))
+  pub prerequisites_are : (n : ℕ) → n < length all → prerequisites (graph_of m e goals all) n ≡ map (number_of all) (needs m e (get_or all n []))
   prerequisites_are n lt = ap (λ (x : Node). flat_map (λ group. group) x.groups) (node_is n lt) ∙ (flat_numbered all (groups_of m e (get_or all n [])) ∙ ap (map (number_of all)) (grouped (get_or all n [])))
 
   -- a number past the nodes has no prerequisites
-  none_past : (n p : ℕ) → length all ≤ n → Has (prerequisites (graph_of m e goals all) n) p → ⊥
+  pub none_past : (n p : ℕ) → length all ≤ n → Has (prerequisites (graph_of m e goals all) n) p → ⊥
   none_past n p le h =
       let past : node (graph_of m e goals all) n ≡ no_node = get_or_past (map (node_of m e all) all) n no_node (omega (arith, length-map all (node_of m e all))) in
       subst (λ (x : Node). Has (flat_map (λ group. group) x.groups) p) past h
@@ -109,7 +109,7 @@ module _ (keeps : GroupsKeepTheirWords) (m : Makefile) (e : Exists) (goals all :
   count = length-map all (node_of m e all)
 
   -- a prerequisite's number, from the name's
-  edge : (name word : Name) → Has all name → Has (needs m e name) word → Has (prerequisites (graph_of m e goals all) (number_of all name)) (number_of all word)
+  pub edge : (name word : Name) → Has all name → Has (needs m e name) word → Has (prerequisites (graph_of m e goals all) (number_of all name)) (number_of all word)
   edge name word h k =
       let at : prerequisites (graph_of m e goals all) (number_of all name) ≡ map (number_of all) (needs m e name) =
       prerequisites_are (number_of all name) (number_below all name h) ∙ ap (λ n. map (number_of all) (needs m e n)) (get_number all name [] h) in

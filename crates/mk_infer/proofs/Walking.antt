@@ -54,7 +54,7 @@ abbrev pub Covers : (List ℕ → List (List ℕ)) → List (List ℕ) → Type 
 Covers needs names = (name : List ℕ) → has_name names name ≡ false → needs name ≡ []
 
 -- at each new name what it needs comes in place of what it weighed
-falls : (needs : List ℕ → List (List ℕ)) (names : List (List ℕ)) → Covers needs names → (met : List (List ℕ)) (name : List ℕ) → has_name met name ≡ false → weight needs (met ++ name ∷ []) names + length (needs name) ≤ weight needs met names
+pub falls : (needs : List ℕ → List (List ℕ)) (names : List (List ℕ)) → Covers needs names → (met : List (List ℕ)) (name : List ℕ) → has_name met name ≡ false → weight needs (met ++ name ∷ []) names + length (needs name) ≤ weight needs met names
 falls needs names covers met name h =
     elim (cases_Bool (has_name names name)) [
       | inl t ↦ weight_falls needs met name names h t
@@ -86,7 +86,7 @@ has_name_Has (other ∷ names) name (inr h) = ap (λ b. bytes_eq name other || b
 abbrev pub Continues : (List ℕ → List (List ℕ)) → List (List ℕ) → List (Bor (List ℕ)) → List (List ℕ) → Type 0
 Continues needs met todo goals = (all : List (List ℕ)) → Stack needs met (texts (reverse todo)) all → Stack needs [] goals all
 
-reverse_last : (todo rest : List (Bor (List ℕ))) (name : Bor (List ℕ)) → todo ≡ rest ++ name ∷ [] → texts (reverse todo) ≡ name.now ∷ texts (reverse rest)
+pub reverse_last : (todo rest : List (Bor (List ℕ))) (name : Bor (List ℕ)) → todo ≡ rest ++ name ∷ [] → texts (reverse todo) ≡ name.now ∷ texts (reverse rest)
 reverse_last todo rest name e = ap (λ ns. texts (reverse ns)) e ∙ ap texts (reverse-append rest (name ∷ []))
 
 -- a name that is met already

@@ -17,8 +17,8 @@ use Rattle.mk_infer.specs.declared.fault.InferFault.{InferFault}
 use Rattle.mk_infer.specs.declared.fault.InferFault.TheVariants.{BadGoal, GoalIsMember, NoRule, NoGoal, InferencePrerequisites, Macro, Graph as Refused, Memory}
 use Rattle.mk_infer.specs.Commands.{commands, expanded, no_commands, recipe_for}
 use Rattle.mk_infer.specs.Inference.{choice, chosen_commands, chosen_suffix, commands_by, commands_from, fits, may_infer, stem}
-use Rattle.mk_infer.specs.Names.{number_of}
-use Rattle.mk_infer.specs.Laws.{IsReached, WritesChangeNothing, with_more}
+use Rattle.mk_lines.specs.Names.{number_of}
+use Rattle.mk_infer.specs.Laws.{IsReached, MoreTakesNoChoiceAway, WritesChangeNothing, with_more}
 use Rattle.mk_infer.specs.Selection.{BuiltUnless, Selects, graph_of, groups_of, is_lacking, lacking, needs, node_of, numbered, with_choice}
 use Rattle.mk_infer.specs.Targets.{have_text, is_target, prerequisites_of, words_for}
 use Rattle.mk_infer.specs.There.{Exists, is_given, is_there}
@@ -81,8 +81,28 @@ module _ {A : Type 0} where
       by_first false true false t h k l ih = let s : false ≡ true = k refl in absurd cc
       by_first false false false t h k l ih = ih l
 
+  -- a test that passes more finds something where another one does
+  find_more : (p q : A → Bool) → ((x : A) → p x ≡ true → q x ≡ true) → (xs : List A) (x : A) → find p xs ≡ Some x → (y : A) × (find q xs ≡ Some y)
+  find_more p q f [] x e = absurd cc
+  find_more p q f (x ∷ xs) z e = by_first (p x) (q x) refl refl (f x) e (find_more p q f xs z)
+    where
+      by_first : (a b : Bool) → p x ≡ a → q x ≡ b → (p x ≡ true → q x ≡ true) → cond a (Some x) (find p xs) ≡ Some z → (find p xs ≡ Some z → (y : A) × (find q xs ≡ Some y)) → (y : A) × (cond b (Some x) (find q xs) ≡ Some y)
+      by_first a true s t h k ih = (x, refl)
+      by_first true false s t h k ih = let u : q x ≡ true = h s in absurd cc
+      by_first false false s t h k ih = ih k
+
+  -- what is mapped was there
+  mapped_was : {B : Type 0} (f : A → B) (o : Option A) (y : B) → option_map f o ≡ Some y → (x : A) × (o ≡ Some x)
+  mapped_was f None y e = absurd cc
+  mapped_was f (Some x) y e = (x, refl)
+
+  -- what is there under a test is there under it still
+  cond_more : (b : Bool) (o p : Option A) (x : A) → cond b o None ≡ Some x → (o ≡ Some x → (y : A) × (p ≡ Some y)) → (y : A) × (cond b p None ≡ Some y)
+  cond_more true o p x e f = f e
+  cond_more false o p x e f = absurd cc
+
   -- tests that agree on the list find the same
-  find_same : (p q : A → Bool) (xs : List A) → ((x : A) → Has xs x → p x ≡ q x) → find p xs ≡ find q xs
+  pub find_same : (p q : A → Bool) (xs : List A) → ((x : A) → Has xs x → p x ≡ q x) → find p xs ≡ find q xs
   find_same p q [] h = refl
   find_same p q (x ∷ xs) h = ap (λ b. cond b (Some x) (find p xs)) (h x (inl refl)) ∙ ap (cond (q x) (Some x)) (find_same p q xs (λ y k. h y (inr k)))
 
@@ -91,7 +111,7 @@ module _ {A : Type 0} where
   map_same f g (x ∷ xs) h = ap (λ y. y ∷ map f xs) (h x (inl refl)) ∙ ap (λ ys. g x ∷ ys) (map_same f g xs (λ y k. h y (inr k)))
 
   -- a front of the list has no more
-  take_Has : (n : ℕ) (xs : List A) (x : A) → Has (take n xs) x → Has xs x
+  pub take_Has : (n : ℕ) (xs : List A) (x : A) → Has (take n xs) x → Has xs x
   take_Has zero xs x h = absurd h
   take_Has (suc n) [] x h = absurd h
   take_Has (suc n) (y ∷ xs) x (inl e) = inl e
@@ -125,11 +145,19 @@ module _ (m : Makefile) (e : Exists) where
   suffix_of_choice few many name same = option_map_one (λ suffix. stem m name ++ suffix) (λ s t h. append_cancel_left (stem m name) s t h) (chosen_suffix m (with_more e few) name) (chosen_suffix m (with_more e many) name) same
 
   -- a part of the names chooses what none and all of them choose
-  part_chooses : (writes part : List Name) → ((name : Name) → Has part name → Has writes name) → (name : Name) → choice m (with_more e []) name ≡ choice m (with_more e writes) name → chosen_suffix m (with_more e part) name ≡ chosen_suffix m (with_more e []) name
+  pub part_chooses : (writes part : List Name) → ((name : Name) → Has part name → Has writes name) → (name : Name) → choice m (with_more e []) name ≡ choice m (with_more e writes) name → chosen_suffix m (with_more e part) name ≡ chosen_suffix m (with_more e []) name
   part_chooses writes part within name same =
       cond_between (may_infer m e name) (find (fits m (with_more e []) name) m.suffixes) (find (fits m (with_more e part) name) m.suffixes) (find (fits m (with_more e writes) name) m.suffixes)
       (found_between (fits m (with_more e []) name) (fits m (with_more e part) name) (fits m (with_more e writes) name) (fits_more [] part (λ n h. absurd h) name) (fits_more part writes within name) m.suffixes)
       (suffix_of_choice [] writes name same)
+
+  -- more names take no choice away
+  pub more_chooses : (few many : List Name) → ((name : Name) → Has few name → Has many name) → (name found : Name) → choice m (with_more e few) name ≡ Some found → (other : Name) × (choice m (with_more e many) name ≡ Some other)
+  unfolding choice
+  more_chooses few many within name found e_few =
+      let was = mapped_was (λ suffix. stem m name ++ suffix) (chosen_suffix m (with_more e few) name) found e_few in
+      let more = cond_more (may_infer m e name) (find (fits m (with_more e few) name) m.suffixes) (find (fits m (with_more e many) name) m.suffixes) was.0 was.1 (find_more (fits m (with_more e few) name) (fits m (with_more e many) name) (fits_more few many within name) m.suffixes was.0) in
+      (stem m name ++ more.0, ap (option_map (λ suffix. stem m name ++ suffix)) more.1)
 
 -- ---- the graph and the commands, where the same suffix is chosen
 
@@ -143,7 +171,7 @@ module _ (m : Makefile) (e : Exists) (one other : List Name) where
   abbrev IsSame : Name → Type 0
   IsSame name = chosen_suffix m first name ≡ chosen_suffix m second name
 
-  same_choice : (name : Name) → IsSame name → choice m first name ≡ choice m second name
+  pub same_choice : (name : Name) → IsSame name → choice m first name ≡ choice m second name
   unfolding choice
   same_choice name s = ap (option_map (λ suffix. stem m name ++ suffix)) s
 
@@ -223,3 +251,7 @@ writes_change_nothing m e goals writes part within stay =
     part_same : (all : List Name) → Meets (needs m (with_more e part)) [] goals all → (name : Name) → Has all name → chosen_suffix m (with_more e part) name ≡ chosen_suffix m (with_more e []) name
     part_same all w name h =
         sym (reached_same name (meets_reached (needs m (with_more e [])) (needs m (with_more e part)) goals all (λ n r. same_needs m e [] part n (reached_same n r)) w name h))
+
+-- so it is of each makefile
+pub more_takes_no_choice_away : MoreTakesNoChoiceAway
+more_takes_no_choice_away m e few many within name found same = more_chooses m e few many within name found same

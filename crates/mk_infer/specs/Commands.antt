@@ -28,10 +28,19 @@ expanded macros recipe (command ∷ commands) = do
   rest ← expanded macros recipe commands
   Ok (record { lines = first.text ∷ rest.lines; varying = first.varying || rest.varying })
 
--- What the commands of a name speak of. The first prerequisite is the inferred one, where there is one.
+-- What the commands of a name speak of. The first prerequisite is the inferred one, where there is
+-- one.
 abbrev pub recipe_for : Makefile → Exists → List ℕ → Recipe
-recipe_for m e name = record { target = name; stem = stem m name; first = slice_get (needs m e name) 0; all = needs m e name }
+recipe_for m e name =
+    record {
+      target = name;
+      stem = stem m name;
+      first = slice_get (needs m e name) 0;
+      all = needs m e name;
+    }
 
 -- the commands of a name, expanded with the macros after all reading
 unfoldable pub commands : Makefile → Exists → List ℕ → Result Commands InferFault
-commands m e name = option_map_or (expanded m.macros (Some (recipe_for m e name))) (chosen_commands m e name) (Ok no_commands)
+commands m e name =
+    option_map_or (expanded m.macros (Some (recipe_for m e name))) (chosen_commands m e name)
+    (Ok no_commands)

@@ -1,6 +1,7 @@
 -- The goals of a request.
-use Rattle.std.specs.Prelude.{ℕ, ◌+◌, not, ◌&&◌, List, [], ◌∷◌, Bool, filter, find, codes, Option, None, Some, Result, Ok, Err, if◌then◌else◌}
+use Rattle.std.specs.Prelude.{◌≡◌, ℕ, ◌+◌, not, ◌&&◌, List, [], ◌∷◌, Bool, filter, find, codes, Option, None, Some, Result, Ok, Err, if◌then◌else◌}
 use Rattle.std.specs.List.{flat_map, list_any}
+use Rattle.mk_graph.specs.Membership.{IsDistinct}
 use Rattle.mk_read.specs.declared.fault.Place.{Place}
 use Rattle.mk_read.specs.Names.{has_name, is_bracket, is_make_name, once}
 use Rattle.mk_read.specs.Needs.{is_wait}
@@ -36,7 +37,9 @@ goals_from number (word ∷ rest) = do
 
 -- the targets of the makefile's own rule lines, in order
 abbrev pub own_targets : List RuleRead → List (List ℕ)
-own_targets rules = flat_map (λ (rule : RuleRead). rule.targets) (filter (λ (rule : RuleRead). not rule.default) rules)
+own_targets rules =
+    flat_map (λ (rule : RuleRead). rule.targets)
+    (filter (λ (rule : RuleRead). not rule.default) rules)
 
 -- neither special nor an inference name
 abbrev pub is_plain_target : List (List ℕ) → List ℕ → Bool
@@ -57,13 +60,23 @@ given_or_first (name ∷ names) m = Ok (once (name ∷ names))
 
 -- the rule line gives an inference name prerequisites
 abbrev pub gives_prerequisites : List (List ℕ) → RuleRead → Bool
-gives_prerequisites suffixes rule = list_any (is_inference_name suffixes) rule.targets && list_any (λ word. not (is_wait word)) rule.words
+gives_prerequisites suffixes rule =
+    list_any (is_inference_name suffixes) rule.targets &&
+    list_any (λ word. not (is_wait word)) rule.words
 
 -- no rule line does, else the first one is the fault
 abbrev pub unless_found : {A : Type 0} → Option RuleRead → Result A InferFault → Result A InferFault
 unless_found None rest = rest
 unless_found (Some rule) rest = Err (InferencePrerequisites rule.place)
 
--- The goals, or the first fault: of the inference names, of the words in their order, or that there is no goal.
+-- The goals, or the first fault: of the inference names, of the words in their order, or that there
+-- is no goal.
 unfoldable pub goal_names : Makefile → List (List ℕ) → Result (List (List ℕ)) InferFault
-goal_names m goals = unless_found (find (gives_prerequisites m.suffixes) m.rules) (goals_from 1 goals >>= λ names. given_or_first names m)
+goal_names m goals =
+    unless_found (find (gives_prerequisites m.suffixes) m.rules)
+    (goals_from 1 goals >>= λ names. given_or_first names m)
+
+-- Names that differ, and that some words name as goals over some makefile.
+pub record AreGoals (names : List (List ℕ)) : Type 0 where
+  pub differ : IsDistinct names
+  pub are_named : (m : Makefile) × (words : List (List ℕ)) × (goal_names m words ≡ Ok names)

@@ -17,7 +17,9 @@ but_last count name = take (length name - count) name
 
 -- the name ends in the suffix, with a rest before it
 abbrev pub ends_in : List ℕ → List ℕ → Bool
-ends_in name suffix = nat_lt (length suffix) (length name) && bytes_eq (drop (length name - length suffix) name) suffix
+ends_in name suffix =
+    nat_lt (length suffix) (length name) &&
+    bytes_eq (drop (length name - length suffix) name) suffix
 
 -- the known suffix of a name, or nothing where it has none
 abbrev pub ending : Makefile → List ℕ → List ℕ
@@ -27,17 +29,20 @@ ending m name = option_map_or (λ suffix. suffix) (find (ends_in name) m.suffixe
 abbrev pub stem : Makefile → List ℕ → List ℕ
 stem m name = but_last (length (ending m name)) name
 
--- the commands of the inference rule that makes the name from one with this suffix in place of its own
+-- the commands of the inference rule that makes the name from one with this suffix in place of its
+-- own
 abbrev pub commands_from : Makefile → List ℕ → List ℕ → Option (List Command)
 commands_from m name suffix = commands_of m.rules (suffix ++ ending m name)
 
 -- the suffix has a rule with commands, and the prerequisite by it is there
 abbrev pub fits : Makefile → Exists → List ℕ → List ℕ → Bool
-fits m e name suffix = has_some (commands_from m name suffix) && is_there m e (stem m name ++ suffix)
+fits m e name suffix =
+    has_some (commands_from m name suffix) && is_there m e (stem m name ++ suffix)
 
 -- a name gets no inference rule that has commands, is phony or is under a fixed prefix
 abbrev pub may_infer : Makefile → Exists → List ℕ → Bool
-may_infer m e name = not (has_some (own_commands m name) || (has_name m.phony name || is_under e.fixed name))
+may_infer m e name =
+    not (has_some (own_commands m name) || (has_name m.phony name || is_under e.fixed name))
 
 -- the first suffix of the list that fits
 abbrev pub chosen_suffix : Makefile → Exists → List ℕ → Option (List ℕ)

@@ -2,7 +2,6 @@ pub use Rattle.mk_graph.specs.Graph
 pub use Rattle.mk_graph.specs.Membership
 pub use Rattle.mk_graph.specs.Build
 pub mod Steps
-pub mod Names
 pub mod There
 pub mod Targets
 pub mod Inference

@@ -10,7 +10,7 @@ use Rattle.mk_read.specs.Reading.{Makefile}
 use Rattle.mk_read.specs.Rules.{has_some}
 use Rattle.mk_infer.specs.declared.fault.InferFault.{InferFault}
 use Rattle.mk_infer.specs.declared.fault.InferFault.TheVariants.{NoRule, Graph as Refused, Memory}
-use Rattle.mk_infer.specs.Names.{number_of}
+use Rattle.mk_lines.specs.Names.{number_of}
 use Rattle.mk_infer.specs.Targets.{is_target, words_for, prerequisites_of, have_text}
 use Rattle.mk_infer.specs.There.{Exists, is_given}
 use Rattle.mk_infer.specs.Inference.{choice, chosen_commands}
@@ -20,30 +20,42 @@ use Rattle.mk_infer.specs.Walk.{Meets}
 abbrev pub needs : Makefile → Exists → List ℕ → List (List ℕ)
 needs m e name = option_to_list (choice m e name) ++ prerequisites_of m name
 
--- The inferred prerequisite as the first member of the first group. Where nothing runs side by side it is a group of
--- its own.
+-- The inferred prerequisite as the first member of the first group. Where nothing runs side by side
+-- it is a group of its own.
 abbrev pub with_choice : Bool → Option (List ℕ) → List (List (List ℕ)) → List (List (List ℕ))
 with_choice not_parallel None groups = groups
-with_choice not_parallel (Some name) groups = if not_parallel then (name ∷ []) ∷ groups else in_first name groups
+with_choice not_parallel (Some name) groups =
+    if not_parallel then (name ∷ []) ∷ groups else in_first name groups
 
 -- the prerequisites of a name, in groups
 abbrev pub groups_of : Makefile → Exists → List ℕ → List (List (List ℕ))
-groups_of m e name = with_choice m.not_parallel (choice m e name) (groups m.not_parallel (words_for m name))
+groups_of m e name =
+    with_choice m.not_parallel (choice m e name) (groups m.not_parallel (words_for m name))
 
 -- the numbers of the names in groups
 abbrev pub numbered : List (List ℕ) → List (List (List ℕ)) → List (List ℕ)
 numbered all groups = map (map (number_of all)) groups
 
 abbrev pub node_of : Makefile → Exists → List (List ℕ) → List ℕ → Node
-node_of m e all name = record { name = name; groups = numbered all (groups_of m e name); recipe = have_text (chosen_commands m e name); phony = has_name m.phony name }
+node_of m e all name =
+    record {
+      name = name;
+      groups = numbered all (groups_of m e name);
+      recipe = have_text (chosen_commands m e name);
+      phony = has_name m.phony name;
+    }
 
 -- the graph of these names, each numbered by its place
 abbrev pub graph_of : Makefile → Exists → List (List ℕ) → List (List ℕ) → Graph
-graph_of m e goals all = record { nodes = map (node_of m e all) all; goals = map (number_of all) goals }
+graph_of m e goals all =
+    record { nodes = map (node_of m e all) all; goals = map (number_of all) goals }
 
 -- nothing makes the name: it is no target, has no inference rule, isn't phony and isn't given
 abbrev pub is_lacking : Makefile → Exists → List ℕ → Bool
-is_lacking m e name = not (e.any_leaf || (is_target m name || (has_some (choice m e name) || (has_name m.phony name || is_given e name))))
+is_lacking m e name =
+    not (e.any_leaf ||
+    (is_target m name ||
+    (has_some (choice m e name) || (has_name m.phony name || is_given e name))))
 
 -- the first of the names that lacks a rule, among as many as a graph may have
 abbrev pub lacking : Makefile → Exists → List (List ℕ) → Option (List ℕ)
@@ -61,8 +73,10 @@ abbrev pub BuiltUnless : Option (List ℕ) → Graph → Result Graph InferFault
 BuiltUnless (Some name) handed answer = answer ≡ Err (NoRule name)
 BuiltUnless None handed answer = Built handed answer
 
--- What becomes of the goals: the graph of the names that a walk from them meets, or its first fault. Nothing is said
--- of want of memory.
+-- What becomes of the goals: the graph of the names that a walk from them meets, or its first
+-- fault. Nothing is said of want of memory.
 abbrev pub Selects : Makefile → Exists → List (List ℕ) → Result Graph InferFault → Type 0
 Selects m e goals (Err Memory) = Unit {0}
-Selects m e goals answer = (all : List (List ℕ)) × Meets (needs m e) [] goals all × BuiltUnless (lacking m e all) (graph_of m e goals all) answer
+Selects m e goals answer =
+    (all : List (List ℕ)) × Meets (needs m e) [] goals all ×
+    BuiltUnless (lacking m e all) (graph_of m e goals all) answer

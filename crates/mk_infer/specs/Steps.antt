@@ -1,16 +1,13 @@
 -- Results in steps: the first fault is the result.
-use Rattle.std.specs.Prelude.{◌≡◌, ◌⊎◌, Result, Ok, Err}
+use Rattle.std.specs.Prelude.{Result, Ok, Err}
 use Rattle.mk_graph.specs.declared.fault.GraphFault.{GraphFault}
 use Rattle.mk_graph.specs.declared.fault.GraphFault.TheVariants as graph
 use Rattle.mk_macros.specs.declared.fault.MacroFault.{MacroFault}
 use Rattle.mk_read.specs.declared.fault.Place.{Place}
 use Rattle.mk_infer.specs.declared.fault.InferFault.{InferFault}
 use Rattle.mk_infer.specs.declared.fault.InferFault.TheVariants.{Macro, Graph, Memory}
-
-infixl 10 ◌>>=◌
-abbrev pub ◌>>=◌ : {A B : Type 0} → Result A InferFault → (A → Result B InferFault) → Result B InferFault
-(Ok x) >>= f = f x
-(Err e) >>= f = Err e
+pub use Rattle.mk_lines.specs.Results.{◌>>=◌}
+use Rattle.mk_lines.specs.Results as results
 
 -- the fault of a macro is one at this place
 abbrev pub at_place : {A : Type 0} → Place → Result A MacroFault → Result A InferFault
@@ -24,9 +21,8 @@ of_graph fault = Graph fault
 
 -- A fault is the one that is defined, or want of memory, of which nothing is said.
 abbrev pub Fails : {Y : Type 0} → InferFault → Result Y InferFault → Type 0
-Fails fault defined = (fault ≡ Memory) ⊎ (defined ≡ Err fault)
+Fails = results.Fails Memory
 
--- What a function returned, seen by view, is what is defined, unless memory ran out.
+-- What a call returned, seen by view, is what is defined, unless memory ran out.
 abbrev pub Gives : {X Y : Type 0} → (X → Y) → Result X InferFault → Result Y InferFault → Type 0
-Gives view (Ok x) defined = defined ≡ Ok (view x)
-Gives view (Err fault) defined = Fails fault defined
+Gives = results.Gives Memory

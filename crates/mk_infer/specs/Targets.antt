@@ -7,7 +7,8 @@ use Rattle.mk_read.specs.Reading.{Makefile}
 use Rattle.mk_read.specs.Special.{is_inference_name}
 use Rattle.mk_read.specs.State.{Command, RuleRead}
 
--- The rule lines among which those of a name are looked up. An inference name is no target of theirs.
+-- The rule lines among which those of a name are looked up. An inference name is no target of
+-- theirs.
 abbrev pub rules_for : Makefile → List ℕ → List RuleRead
 rules_for m name = if is_inference_name m.suffixes name then [] else m.rules
 

@@ -29,20 +29,28 @@ impl Model for Exists {
 
     ghost Value = { value.Exists };
 
-    ghost view = { λ e. record { any_leaf = e.any_leaf; sources = e.sources; fixed = e.fixed; texts = e.texts; more = e.more } };
+    ghost view = { λ e.
+        record {
+          any_leaf = e.any_leaf;
+          sources = e.sources;
+          fixed = e.fixed;
+          texts = e.texts;
+          more = e.more;
+        } };
 }
 
 impl Exists {
-    /// Whether a name is given: a source, a text of the makefile, or under a fixed prefix.
+    /// Whether a name is given: a source, under a fixed prefix, or a text of the makefile.
     pub(crate) fn is_given(&self, name: &str) -> bool
         ensures { result ≡ is_given self.now name.now }
     {
-        self.sources.contains(name) || self.texts.contains(name) || self.fixed.is_under(name)
+        self.sources.contains(name) || self.fixed.is_under(name) || self.texts.contains(name)
     }
 
     /// The name itself, where it is a source, a text of the makefile, or one of the names more.
     pub(crate) fn listed(&self, name: &str) -> Option<&str>
-        ensures { MatchOption result (is_listed self.now name.now ≡ false) (λ found. (found.now ≡ name.now) × (is_listed self.now name.now ≡ true)) }
+        ensures { MatchOption result (is_listed self.now name.now ≡
+            false) (λ found. (found.now ≡ name.now) × (is_listed self.now name.now ≡ true)) }
     {
         if let Some(found) = self.sources.get(name) {
             return Some(found);

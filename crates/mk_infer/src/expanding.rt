@@ -29,7 +29,11 @@ impl Model for Commands {
 
     ghost Value = { value.Commands };
 
-    ghost view = { λ c. record { lines = map (λ line. line.items) c.lines.items; varying = c.varying } };
+    ghost view = { λ c.
+        record {
+          lines = map (λ line. line.items) c.lines.items;
+          varying = c.varying;
+        } };
 }
 
 /// The fault of a macro at a place.
@@ -52,7 +56,8 @@ fn expanded_command(
     locals: &Locals,
     command: &Command,
 ) -> Result<(Vec<u8>, bool), InferFault>
-    ensures { Gives (λ line. (line.0.items, line.1)) result (at_place command.now.place (told (expansion macros.now (recipe_of locals.now) command.now.text))) }
+    ensures { Gives (λ line.
+        (line.0.items, line.1)) result (at_place command.now.place (told (expansion macros.now (recipe_of locals.now) command.now.text))) }
 {
     match macros.expand(alloc, &command.text, locals) {
         Ok(found) => Ok((found.text.into_owned(alloc)?, found.varying)),
@@ -68,7 +73,8 @@ pub fn expanded(
     locals: &Locals,
     commands: &[Command],
 ) -> Result<Commands, InferFault>
-    ensures { Gives (λ found. found) result (expanded macros.now (recipe_of locals.now) commands.now) }
+    ensures { Gives (λ found.
+        found) result (expanded macros.now (recipe_of locals.now) commands.now) }
 {
     let mut lines = Vec::new(alloc);
     let mut varying = false;

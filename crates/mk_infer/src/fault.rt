@@ -14,15 +14,15 @@ use thiserror::Error;
 /// Why goals have no graph, and why commands aren't expanded.
 #[derive(Debug, Drop, Error)]
 pub enum InferFault {
-    /// A goal is no name of a target, `.WAIT` or `-` (fault 27). The place's file is `goal`, and its
-    /// line counts the goals as given, from 1.
+    /// A goal is no name of a target, `.WAIT` or `-` (fault 27). The place's file is `goal`, and
+    /// its line counts the goals as given, from 1.
     #[error("a goal is no name")]
     BadGoal(Place),
     /// A goal holds `(` or `)` (fault 28). The place is as above.
     #[error("a goal names an archive's member")]
     GoalIsMember(Place),
-    /// Nothing makes this name: it is no target, has no inference rule, isn't phony, and isn't given
-    /// (fault 41).
+    /// Nothing makes this name: it is no target, has no inference rule, isn't phony, and isn't
+    /// given (fault 41).
     #[error("a name has no rule and isn't given")]
     NoRule(Name),
     /// No goal was given, and the makefile has no target that is one (fault 44).

@@ -7,15 +7,53 @@ ghost use Rattle.std.specs.String.{string_bytes};
 ghost use Rattle.mk_read.specs.Names.{once};
 ghost use Rattle.mk_read.specs.Needs.{is_wait};
 ghost use Rattle.mk_read.specs.Special.{is_inference_name};
-ghost use Rattle.mk_infer.specs.Goals.{first_target, given_or_first, gives_prerequisites, goal_names, goal_of, goals_from, is_no_goal, is_plain_target, own_targets};
+ghost use Rattle.mk_infer.specs.Goals.{AreGoals, first_target, given_or_first, gives_prerequisites, goal_names, goal_of, goals_from, is_no_goal, is_plain_target, own_targets};
 ghost use Rattle.mk_infer.specs.Steps.{Gives};
 
 use crate::fault::InferFault;
-use crate::name_set::NameSet;
 use crate::rule_table::RuleTable;
-use mk_lines::Name;
+use mk_lines::{Name, NameSet};
 use mk_read::{Place, ReadFault, Rule, is_special, name_of};
 use std::alloc::{AllocError, Global};
+use std::marker::Model;
+
+/// Goals: names that differ. Only `goal_names` makes them. A contract sees a list of names.
+#[derive(Debug, Drop)]
+pub struct Goals {
+    names: Vec<Name>,
+}
+
+impl Model for Goals {
+    ghost use Rattle.std.specs.Prelude.{List, ℕ};
+    ghost use Rattle.mk_infer.specs.Goals.{AreGoals};
+
+    ghost Value = { List (List ℕ) };
+
+    ghost view = { λ g. g.names.items };
+
+    ghost invariant = { λ g. AreGoals g.names.items };
+}
+
+impl Goals {
+    /// The goals, in their order. They differ, and some words name them over some makefile.
+    pub fn as_slice(&self) -> &[Name]
+        ensures exact { result.now ≡ self.now }
+        ensures goals { AreGoals self.now }
+    {
+        self.names.as_slice()
+    }
+
+    /// The goals as text.
+    pub(crate) fn texts(&self, alloc: Global) -> Result<Vec<&str>, AllocError>
+        ensures { IfOk result (λ texts. map (λ text. text.now) texts.items ≡ self.now) }
+    {
+        let mut texts = Vec::new(alloc);
+        for name in self.as_slice() {
+            texts.push(name.as_str())?;
+        }
+        Ok(texts)
+    }
+}
 
 /// Whether a word is `.WAIT` or `-`, which are names elsewhere.
 fn is_no_goal(word: &str) -> bool
@@ -71,8 +109,9 @@ fn is_plain_target(table: &RuleTable<'_>, name: &str) -> bool
 }
 
 /// The first such target of a rule line.
-fn first_plain<'m>(table: &RuleTable<'m>, targets: &'m [String]) -> Option<&'m str>
-    ensures { option_map (λ target. target.now) result ≡ find (is_plain_target table.now.suffixes) (map string_bytes targets.now) }
+fn first_plain<'m>(table: &'m RuleTable<'_>, targets: &'m [String]) -> Option<&'m str>
+    ensures { option_map (λ target. target.now) result ≡
+        find (is_plain_target table.now.suffixes) (map string_bytes targets.now) }
 {
     for target in targets {
         if is_plain_target(table, target) {
@@ -83,8 +122,9 @@ fn first_plain<'m>(table: &RuleTable<'m>, targets: &'m [String]) -> Option<&'m s
 }
 
 /// The first such target of the makefile's own rule lines.
-fn first_target<'m>(table: &RuleTable<'m>, rules: &'m [Rule]) -> Option<&'m str>
-    ensures { option_map (λ target. target.now) result ≡ find (is_plain_target table.now.suffixes) (own_targets rules.now) }
+fn first_target<'m>(table: &'m RuleTable<'_>, rules: &'m [Rule]) -> Option<&'m str>
+    ensures { option_map (λ target. target.now) result ≡
+        find (is_plain_target table.now.suffixes) (own_targets rules.now) }
 {
     for rule in rules {
         if rule.default {
@@ -99,7 +139,8 @@ fn first_target<'m>(table: &RuleTable<'m>, rules: &'m [Rule]) -> Option<&'m str>
 
 /// Whether one of the targets is an inference name.
 fn has_inference_name(table: &RuleTable<'_>, targets: &[String]) -> bool
-    ensures { result ≡ list_any (is_inference_name table.now.suffixes) (map string_bytes targets.now) }
+    ensures { result ≡
+        list_any (is_inference_name table.now.suffixes) (map string_bytes targets.now) }
 {
     for target in targets {
         if table.is_inference_name(target) {
@@ -122,7 +163,7 @@ fn has_prerequisites(words: &[String]) -> bool
 }
 
 /// The first rule line that gives an inference name prerequisites.
-fn first_with_prerequisites<'m>(table: &RuleTable<'m>) -> Option<&'m Rule>
+fn first_with_prerequisites<'m>(table: &'m RuleTable<'_>) -> Option<&'m Rule>
     ensures { option_copied result ≡ find (gives_prerequisites table.now.suffixes) table.now.rules }
 {
     for rule in table.rules() {
@@ -133,37 +174,47 @@ fn first_with_prerequisites<'m>(table: &RuleTable<'m>) -> Option<&'m Rule>
     None
 }
 
+/// Names that own their texts.
+fn owned(alloc: Global, names: &[&str]) -> Result<Vec<Name>, AllocError>
+    ensures { IfOk result (λ copies. copies.items ≡ map (λ name. name.now) names.now) }
+{
+    let mut copies = Vec::new(alloc);
+    for name in names {
+        copies.push(Name::new(alloc, name)?)?;
+    }
+    Ok(copies)
+}
+
 /// The goals that were given, each once, else the first target that is neither special nor an
 /// inference name.
-fn given_or_first<'m>(
+fn given_or_first(
     alloc: Global,
-    table: &RuleTable<'m>,
-    names: &[&'m str],
-) -> Result<NameSet<'m>, InferFault>
-    ensures { Gives (λ set. set) result (given_or_first (map (λ name. name.now) names.now) table.now) }
+    table: &RuleTable<'_>,
+    names: &[&str],
+) -> Result<Vec<Name>, InferFault>
+    ensures { Gives (λ goals.
+        goals.items) result (given_or_first (map (λ name. name.now) names.now) table.now) }
 {
     if !names.is_empty() {
-        return Ok(once(alloc, names)?);
+        let set = once(alloc, names)?;
+        return Ok(owned(alloc, set.as_slice())?);
     }
     let Some(target) = first_target(table, table.rules()) else {
         return Err(InferFault::NoGoal);
     };
-    Ok(once(alloc, &[target])?)
+    Ok(owned(alloc, &[target])?)
 }
 
-/// The goals: those that are given, each once, else the first target of the makefile that is neither
-/// special nor an inference name (IEEE Std 1003.1-2024, XCU make, "Operands" and "Target Rules").
+/// The goals: those that are given, each once, else the first target of the makefile that is
+/// neither special nor an inference name (IEEE Std 1003.1-2024, XCU make, "Operands" and "Target
+/// Rules").
 ///
 /// Fault 45 at the first rule line that gives an inference name prerequisites; else of the goals in
-/// turn 28 for one that holds a bracket, 27 for one that is no name, `.WAIT` or `-`; else 44 where no
-/// goal is given and there is no such target.
+/// turn 28 for one that holds a bracket, 27 for one that is no name, `.WAIT` or `-`; else 44 where
+/// no goal is given and there is no such target.
 #[tactic(auto, unfolding(crate::specs::Goals::goal_names))]
-pub fn goal_names<'m>(
-    alloc: Global,
-    table: &RuleTable<'m>,
-    goals: &'m [Name],
-) -> Result<NameSet<'m>, InferFault>
-    ensures { Gives (λ set. set) result (goal_names table.now goals.now) }
+pub fn goal_names(alloc: Global, table: &RuleTable<'_>, goals: &[Name]) -> Result<Goals, InferFault>
+    ensures { Gives (λ goals. goals) result (goal_names table.now goals.now) }
 {
     if let Some(rule) = first_with_prerequisites(table) {
         let place = &rule.place;
@@ -171,6 +222,7 @@ pub fn goal_names<'m>(
         let line = place.line;
         return Err(InferFault::InferencePrerequisites(Place { file, line }));
     }
-    let names = goals_from(alloc, goals)?;
-    given_or_first(alloc, table, &names)
+    let words = goals_from(alloc, goals)?;
+    let names = given_or_first(alloc, table, &words)?;
+    Ok(Goals { names })
 }

@@ -3,20 +3,21 @@
 ghost use Rattle.std.specs.Prelude.{◌≡◌, ◌∷◌, ◌++◌, [], false, map, filter, OnOk, IfOk};
 ghost use Rattle.std.specs.Option.{option_map};
 ghost use Rattle.mk_read.specs.Needs.{groups};
-ghost use Rattle.mk_infer.specs.Names.{number_of};
+ghost use Rattle.mk_lines.specs.Names.{number_of};
 ghost use Rattle.mk_infer.specs.Selection.{numbered, with_choice};
 ghost use Rattle.mk_infer.specs.Table.{has_numbers, with_number};
 ghost use Rattle.mk_infer.specs.Targets.{words_for};
 
-use crate::name_set::NameSet;
 use crate::rule_table::RuleTable;
 use mk_graph::Groups;
+use mk_lines::NameSet;
 use std::alloc::{AllocError, Global};
 use std::mem;
 
 /// The numbers of names: the places at which they were first met.
 pub fn numbers(alloc: Global, met: &NameSet<'_>, names: &[&str]) -> Result<Vec<usize>, AllocError>
-    ensures { IfOk result (λ found. found.items ≡ map (number_of met.now) (map (λ name. name.now) names.now)) }
+    ensures { IfOk result (λ found. found.items ≡
+        map (number_of met.now) (map (λ name. name.now) names.now)) }
 {
     let mut numbers = Vec::new(alloc);
     for name in names {
@@ -27,7 +28,8 @@ pub fn numbers(alloc: Global, met: &NameSet<'_>, names: &[&str]) -> Result<Vec<u
 
 /// A group more, unless it is empty.
 fn push_group(groups: &mut Vec<Vec<usize>>, group: Vec<usize>) -> Result<(), AllocError>
-    ensures { OnOk result (map (λ group. group.items) groups.new.items ≡ map (λ group. group.items) groups.old.items ++ filter has_numbers (group.items ∷ [])) }
+    ensures { OnOk result (map (λ group. group.items) groups.new.items ≡
+        map (λ group. group.items) groups.old.items ++ filter has_numbers (group.items ∷ [])) }
 {
     if !group.is_empty() {
         groups.push(group)?;
@@ -41,7 +43,8 @@ fn cut_groups(
     met: &NameSet<'_>,
     words: &[&str],
 ) -> Result<Vec<Vec<usize>>, AllocError>
-    ensures { IfOk result (λ found. map (λ group. group.items) found.items ≡ numbered met.now (groups false (map (λ word. word.now) words.now))) }
+    ensures { IfOk result (λ found. map (λ group. group.items) found.items ≡
+        numbered met.now (groups false (map (λ word. word.now) words.now))) }
 {
     let mut groups = Vec::new(alloc);
     let mut group = Vec::new(alloc);
@@ -63,7 +66,8 @@ fn single_groups(
     met: &NameSet<'_>,
     names: &[&str],
 ) -> Result<Vec<Vec<usize>>, AllocError>
-    ensures { IfOk result (λ found. map (λ group. group.items) found.items ≡ map (λ name. number_of met.now name ∷ []) (map (λ name. name.now) names.now)) }
+    ensures { IfOk result (λ found. map (λ group. group.items) found.items ≡
+        map (λ name. number_of met.now name ∷ []) (map (λ name. name.now) names.now)) }
 {
     let mut groups = Vec::new(alloc);
     for name in names {
@@ -79,7 +83,8 @@ fn with_number(
     apart: bool,
     number: usize,
 ) -> Result<Vec<Vec<usize>>, AllocError>
-    ensures { IfOk result (λ found. map (λ group. group.items) found.items ≡ with_number apart number (map (λ group. group.items) groups.items)) }
+    ensures { IfOk result (λ found. map (λ group. group.items) found.items ≡
+        with_number apart number (map (λ group. group.items) groups.items)) }
 {
     let mut groups = groups;
     match groups.first_mut() {
@@ -96,7 +101,8 @@ fn rule_groups(
     met: &NameSet<'_>,
     name: &str,
 ) -> Result<Vec<Vec<usize>>, AllocError>
-    ensures { IfOk result (λ found. map (λ group. group.items) found.items ≡ numbered met.now (groups table.now.not_parallel (words_for table.now name.now))) }
+    ensures { IfOk result (λ found. map (λ group. group.items) found.items ≡
+        numbered met.now (groups table.now.not_parallel (words_for table.now name.now))) }
 {
     if table.not_parallel() {
         let names = table.prerequisites_of(alloc, name)?;
@@ -114,7 +120,9 @@ pub fn groups_with(
     choice: Option<&str>,
     name: &str,
 ) -> Result<Groups, AllocError>
-    ensures { IfOk result (λ found. found ≡ numbered met.now (with_choice table.now.not_parallel (option_map (λ name. name.now) choice.entry) (groups table.now.not_parallel (words_for table.now name.now)))) }
+    ensures { IfOk result (λ found. found ≡
+        numbered met.now (with_choice table.now.not_parallel (option_map (λ name.
+        name.now) choice.entry) (groups table.now.not_parallel (words_for table.now name.now)))) }
 {
     let groups = rule_groups(alloc, table, met, name)?;
     let Some(inferred) = choice else {

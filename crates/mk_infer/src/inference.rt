@@ -1,6 +1,6 @@
 //! The choice of an inference rule.
 
-ghost use Rattle.std.specs.Prelude.{◌≡◌, ◌++◌, true, false, None, Some, find, length, MatchOption, IfOk, if◌then◌else◌};
+ghost use Rattle.std.specs.Prelude.{◌≡◌, ◌++◌, true, false, None, Some, find, length, map, MatchOption, IfOk, if◌then◌else◌};
 ghost use Rattle.std.specs.Option.{option_map};
 ghost use Rattle.std.specs.String.{string_bytes};
 ghost use Rattle.mk_infer.specs.Inference.{choice, chosen_suffix, ending, may_infer, stem};
@@ -52,8 +52,9 @@ fn joined(alloc: Global, front: &str, back: &str) -> Result<String, AllocError>
 }
 
 /// The name itself, where it is there.
-fn found_there<'m>(table: &RuleTable<'m>, exists: &'m Exists, name: &str) -> Option<&'m str>
-    ensures { MatchOption result (is_there table.now exists.now name.now ≡ false) (λ found. (found.now ≡ name.now) × (is_there table.now exists.now name.now ≡ true)) }
+fn found_there<'m>(table: &'m RuleTable<'_>, exists: &'m Exists, name: &str) -> Option<&'m str>
+    ensures { MatchOption result (is_there table.now exists.now name.now ≡
+        false) (λ found. (found.now ≡ name.now) × (is_there table.now exists.now name.now ≡ true)) }
 {
     if let Some(found) = exists.listed(name) {
         return Some(found);
@@ -61,17 +62,18 @@ fn found_there<'m>(table: &RuleTable<'m>, exists: &'m Exists, name: &str) -> Opt
     table.target(name)
 }
 
-/// What the inference rule with this suffix gives a name, where it has commands and its prerequisite
-/// is there.
+/// What the inference rule with this suffix gives a name, where it has commands and its
+/// prerequisite is there.
 fn chosen_by<'m>(
     alloc: Global,
-    table: &RuleTable<'m>,
+    table: &'m RuleTable<'_>,
     exists: &'m Exists,
     stem: &str,
     ending: &str,
     suffix: &str,
 ) -> Result<Option<Chosen<'m>>, AllocError>
-    ensures { IfOk result (λ chosen. chosen ≡ (if fits_by table.now exists.now stem.now ending.now suffix.now then Some (chosen_by table.now stem.now ending.now suffix.now) else None)) }
+    ensures { IfOk result (λ chosen. chosen ≡
+        (if fits_by table.now exists.now stem.now ending.now suffix.now then Some (chosen_by table.now stem.now ending.now suffix.now) else None)) }
 {
     let rule = joined(alloc, suffix, ending)?;
     let Some(commands) = table.rule_commands(&rule) else {
@@ -84,17 +86,21 @@ fn chosen_by<'m>(
     Ok(Some(Chosen { name, commands }))
 }
 
-/// What the first fitting inference rule gives a name, in the order of the suffixes.
+/// What the first of the suffixes gives a name whose rule with it fits.
 fn first_fitting<'m>(
     alloc: Global,
-    table: &RuleTable<'m>,
+    table: &'m RuleTable<'_>,
     exists: &'m Exists,
     stem: &str,
     ending: &str,
+    suffixes: &[&str],
 ) -> Result<Option<Chosen<'m>>, AllocError>
-    ensures { IfOk result (λ chosen. chosen ≡ option_map (chosen_by table.now stem.now ending.now) (find (fits_by table.now exists.now stem.now ending.now) table.now.suffixes)) }
+    ensures { IfOk result (λ chosen. chosen ≡
+        option_map (chosen_by table.now stem.now ending.now)
+        (find (fits_by table.now exists.now stem.now ending.now)
+        (map (λ suffix. suffix.now) suffixes.now))) }
 {
-    for suffix in table.suffixes() {
+    for suffix in suffixes {
         if let Some(chosen) = chosen_by(alloc, table, exists, stem, ending, suffix)? {
             return Ok(Some(chosen));
         }
@@ -113,17 +119,22 @@ fn may_infer(table: &RuleTable<'_>, exists: &Exists, name: &str) -> bool
 /// What the inference rule of a name gives it, where it gets one.
 fn inferred<'m>(
     alloc: Global,
-    table: &RuleTable<'m>,
+    table: &'m RuleTable<'_>,
     exists: &'m Exists,
     name: &str,
 ) -> Result<Option<Chosen<'m>>, AllocError>
-    ensures { IfOk result (λ chosen. chosen ≡ option_map (chosen_by table.now (stem table.now name.now) (ending table.now name.now)) (chosen_suffix table.now exists.now name.now)) }
+    ensures { IfOk result (λ chosen. chosen ≡
+        option_map (chosen_by table.now (stem table.now name.now) (ending table.now name.now))
+        (chosen_suffix table.now exists.now name.now)) }
 {
     if !may_infer(table, exists, name) {
         return Ok(None);
     }
     let (stem, ending) = parted(table, name);
-    first_fitting(alloc, table, exists, stem, ending)
+    let Some(sources) = table.sources_for(ending) else {
+        return Ok(None);
+    };
+    first_fitting(alloc, table, exists, stem, ending, sources)
 }
 
 /// What makes a name. A contract sees lists.
@@ -142,13 +153,17 @@ impl<'m> Model for Maker<'m> {
 
     ghost Value = { value.Making };
 
-    ghost view = { λ m. record { choice = option_map (λ name. name.now) m.choice; commands = option_map (λ commands. commands.now) m.commands } };
+    ghost view = { λ m.
+        record {
+          choice = option_map (λ name. name.now) m.choice;
+          commands = option_map (λ commands. commands.now) m.commands;
+        } };
 }
 
 /// What makes a name: an inference rule, where one is chosen, else its own commands.
 pub fn making<'m>(
     alloc: Global,
-    table: &RuleTable<'m>,
+    table: &'m RuleTable<'_>,
     exists: &'m Exists,
     name: &str,
 ) -> Result<Maker<'m>, AllocError>
@@ -167,16 +182,18 @@ pub fn making<'m>(
 }
 
 /// The inferred prerequisite of a name, where there is one: what stands before the name's known
-/// suffix, with the first suffix of the list behind it that has a rule with commands and makes a name
-/// that is there. A name with commands of its own has none, nor has a phony name, nor one under a
-/// fixed prefix (the standard's `make`, "Inference Rules"). The error is want of memory alone.
+/// suffix, with the first suffix of the list behind it that has a rule with commands and makes a
+/// name that is there. A name with commands of its own has none, nor has a phony name, nor one
+/// under a fixed prefix (the standard's `make`, "Inference Rules"). The error is want of memory
+/// alone.
 pub fn choice<'m>(
     alloc: Global,
-    table: &RuleTable<'m>,
+    table: &'m RuleTable<'_>,
     exists: &'m Exists,
     name: &str,
 ) -> Result<Option<&'m str>, AllocError>
-    ensures { IfOk result (λ found. option_map (λ name. name.now) found ≡ choice table.now exists.now name.now) }
+    ensures { IfOk result (λ found. option_map (λ name. name.now) found ≡
+        choice table.now exists.now name.now) }
 {
     Ok(making(alloc, table, exists, name)?.choice)
 }

@@ -1,9 +1,12 @@
-//! Laws of what goals reach, of their graph, and of writes that count as there. Each is the contract
-//! of a function that does nothing: who calls it has the law.
+//! Laws of what goals reach, of their graph, and of writes that count as there. Each is the
+//! contract of a function that does nothing: who calls it has the law.
 
-ghost use Rattle.mk_infer.specs.Laws.{MeetsWhatIsReached, SelectionIsOne, WalkIsOne, WritesChangeNothing};
+ghost use Rattle.mk_infer.specs.Laws.{GraphStaysSelected, MeetsWhatIsReached, MoreTakesNoChoiceAway, PartsStaySelected, SelectionExists, SelectionIsOne, WalkExists, WalkIsOne, WritesChangeNothing};
 
-use mk_graph::laws::walk_has_one_end;
+use mk_graph::laws::{
+    closes_only_cycles, comes_through_without_cycles, walk_has_an_end, walk_has_one_end,
+};
+use mk_read::laws::groups_keep_their_words;
 
 /// A walk from goals meets the goals and what those reach by what names need, each name once, and
 /// nothing else. It holds whatever names need.
@@ -30,3 +33,44 @@ pub fn selection_is_one()
 pub fn writes_change_nothing()
     ensures { WritesChangeNothing }
 {}
+
+/// A name that has an inferred prerequisite has one, this or another, where more names are there.
+pub fn more_takes_no_choice_away()
+    ensures { MoreTakesNoChoiceAway }
+{}
+
+/// There is a walk from goals, whatever they are: the names that need something are targets of rule
+/// lines, and names that an inference rule makes from one that is there.
+pub fn walk_exists()
+    ensures { WalkExists }
+{}
+
+/// A makefile, the files that are there and goals have an answer, a graph or a fault, that is no
+/// want of memory.
+pub fn selection_exists()
+    ensures { SelectionExists }
+{
+    walk_has_an_end();
+    groups_keep_their_words();
+}
+
+/// Where each node of the graph of these goals has the same inferred prerequisite with no writes
+/// and with all of them there, the goals have this graph whatever part of the writes is there, and
+/// its nodes have the same inferred prerequisites and commands.
+pub fn graph_stays_selected()
+    ensures { GraphStaysSelected }
+{
+    groups_keep_their_words();
+}
+
+/// Then any of the goals, in any order, have a graph of which the same holds, and each of its nodes
+/// is one of the graph of all goals: with the same name, the same prerequisites by name, in the
+/// same groups, and as much a recipe and phony.
+pub fn parts_stay_selected()
+    ensures { PartsStaySelected }
+{
+    walk_has_an_end();
+    closes_only_cycles();
+    comes_through_without_cycles();
+    groups_keep_their_words();
+}

@@ -12,14 +12,14 @@ use crate::rule_table::RuleTable;
 use mk_macros::Locals;
 use std::alloc::Global;
 
-/// The commands that make a name, expanded with the macros after all reading; none where it has none.
-/// Faults 11 to 17 at the place of the first command that can't be expanded.
+/// The commands that make a name, expanded with the macros after all reading; none where it has
+/// none. Faults 11 to 17 at the place of the first command that can't be expanded.
 ///
-/// `$<` is the inferred prerequisite, or in a target rule the first one, and `$*` the name without its
-/// known suffix (IEEE Std 1003.1-2024, XCU make, "Internal Macros").
+/// `$<` is the inferred prerequisite, or in a target rule the first one, and `$*` the name without
+/// its known suffix (IEEE Std 1003.1-2024, XCU make, "Internal Macros").
 pub fn commands<'m>(
     alloc: Global,
-    table: &RuleTable<'m>,
+    table: &'m RuleTable<'_>,
     exists: &'m Exists,
     name: &str,
 ) -> Result<Commands, InferFault>

@@ -1,6 +1,6 @@
 //! A makefile whose names are looked up.
 
-ghost use Rattle.std.specs.Prelude.{◌≡◌, ◌∷◌, ◌++◌, [], List, ℕ, length, map, filter, find, not, slice_get, true, false, None, Some, MatchOption, OnOk, IfOk, if◌then◌else◌};
+ghost use Rattle.std.specs.Prelude.{◌≡◌, ◌∷◌, ◌++◌, [], List, ℕ, length, map, filter, find, not, ◌||◌, slice_get, true, false, None, Some, MatchOption, OnOk, IfOk, if◌then◌else◌};
 ghost use Rattle.std.specs.Option.{option_copied, option_map, option_map_or};
 ghost use Rattle.std.specs.List.{list_any};
 ghost use Rattle.std.specs.Str.{bytes_eq};
@@ -9,13 +9,14 @@ ghost use Rattle.indexmap.specs.IndexMap.{get_by};
 ghost use Rattle.mk_read.specs.Names.{has_name};
 ghost use Rattle.mk_read.specs.Needs.{commands_in, commands_of, is_wait};
 ghost use Rattle.mk_read.specs.Special.{is_inference_name};
-ghost use Rattle.mk_infer.specs.Inference.{but_last, ends_in};
+ghost use Rattle.mk_infer.specs.Inference.{but_last, ending, ends_in};
 ghost use Rattle.mk_infer.specs.Targets.{is_target, own_commands, prerequisites_of, rules_for, words_for};
-ghost use Rattle.mk_infer.specs.Table.{HasLines, HoldsNames, counts_for, lines_at, lines_of, places_at, targets_in, words_in};
+ghost use Rattle.mk_infer.specs.Table.{AreSources, HasLines, HoldsNames, counts_for, lines_at, lines_of, places_at, targets_in, words_in};
 
-use crate::name_set::{NameSet, insert_all};
+use crate::source_suffixes::{Sources, sources_among};
 use crate::suffix_set::{SuffixSet, suffixes_among};
 use indexmap::IndexMap;
+use mk_lines::NameSet;
 use mk_macros::MacroTable;
 use mk_read::{Command, Makefile, Rule};
 use std::alloc::{AllocError, Global};
@@ -71,6 +72,17 @@ fn lines_among<'m>(alloc: Global, rules: &'m [Rule]) -> Result<Lines<'m>, AllocE
     Ok(lines)
 }
 
+/// Adds names, each unless it is there already.
+fn insert_all<'a>(set: &mut NameSet<'a>, names: &'a [String]) -> Result<(), AllocError>
+    ensures { OnOk result ((name : List ℕ) → has_name set.new name ≡
+        (has_name set.old name || has_name (map string_bytes names.entry.now) name)) }
+{
+    for name in names {
+        set.insert(name)?;
+    }
+    Ok(())
+}
+
 /// Names, each once.
 fn names_among<'m>(alloc: Global, names: &'m [String]) -> Result<NameSet<'m>, AllocError>
     ensures { IfOk result (λ set. HoldsNames set (map string_bytes names.now)) }
@@ -82,14 +94,16 @@ fn names_among<'m>(alloc: Global, names: &'m [String]) -> Result<NameSet<'m>, Al
 
 /// The rule line at a place.
 fn rule_at(rules: &[Rule], place: usize) -> Option<&Rule>
-    ensures { MatchOption result (slice_get rules.now place ≡ None) (λ rule. slice_get rules.now place ≡ Some rule.now) }
+    ensures { MatchOption result (slice_get rules.now place ≡ None) (λ rule. slice_get rules.now place ≡
+        Some rule.now) }
 {
     rules.get(place)
 }
 
 /// Words behind others.
 fn push_words<'m>(words: &mut Vec<&'m str>, more: &'m [String]) -> Result<(), AllocError>
-    ensures { OnOk result (map (λ word. word.now) words.new.items ≡ map (λ word. word.now) words.old.items ++ map string_bytes more.now) }
+    ensures { OnOk result (map (λ word. word.now) words.new.items ≡
+        map (λ word. word.now) words.old.items ++ map string_bytes more.now) }
 {
     for word in more {
         words.push(word.as_str())?;
@@ -103,7 +117,8 @@ fn words_at<'m>(
     rules: &'m [Rule],
     places: &[usize],
 ) -> Result<Vec<&'m str>, AllocError>
-    ensures { IfOk result (λ words. map (λ word. word.now) words.items ≡ words_in (lines_at rules.now places.now)) }
+    ensures { IfOk result (λ words. map (λ word. word.now) words.items ≡
+        words_in (lines_at rules.now places.now)) }
 {
     let mut words = Vec::new(alloc);
     for place in places {
@@ -140,7 +155,8 @@ fn commanded_at<'m>(rules: &'m [Rule], places: &[usize], own: bool) -> Option<&'
 
 /// The words but `.WAIT`.
 fn without_waits<'m>(alloc: Global, words: &[&'m str]) -> Result<Vec<&'m str>, AllocError>
-    ensures { IfOk result (λ found. map (λ word. word.now) found.items ≡ filter (λ word. not (is_wait word)) (map (λ word. word.now) words.now)) }
+    ensures { IfOk result (λ found. map (λ word. word.now) found.items ≡
+        filter (λ word. not (is_wait word)) (map (λ word. word.now) words.now)) }
 {
     let mut found = Vec::new(alloc);
     for word in words {
@@ -153,7 +169,8 @@ fn without_waits<'m>(alloc: Global, words: &[&'m str]) -> Result<Vec<&'m str>, A
 
 /// The commands of a rule line, where it has any.
 fn commands_in<'m>(rule: Option<&'m Rule>, other: Option<&'m Rule>) -> Option<&'m [Command]>
-    ensures { option_map (λ commands. commands.now) result ≡ commands_in (option_copied rule.entry) (option_copied other.entry) }
+    ensures { option_map (λ commands. commands.now) result ≡
+        commands_in (option_copied rule.entry) (option_copied other.entry) }
 {
     match &rule.or(other)?.commands {
         Some(commands) => Some(commands.as_slice()),
@@ -164,7 +181,9 @@ fn commands_in<'m>(rule: Option<&'m Rule>, other: Option<&'m Rule>) -> Option<&'
 /// The commands at these places: those of the makefile's own rule line before those of the default
 /// text's.
 fn commands_at<'m>(rules: &'m [Rule], places: &[usize]) -> Option<&'m [Command]>
-    ensures { option_map (λ commands. commands.now) result ≡ commands_in (find (counts_for true) (lines_at rules.now places.now)) (find (counts_for false) (lines_at rules.now places.now)) }
+    ensures { option_map (λ commands. commands.now) result ≡
+        commands_in (find (counts_for true) (lines_at rules.now places.now))
+        (find (counts_for false) (lines_at rules.now places.now)) }
 {
     let own = commanded_at(rules, places, true);
     let any = commanded_at(rules, places, false);
@@ -190,6 +209,7 @@ pub struct RuleTable<'m> {
     phony: NameSet<'m>,
     targets: NameSet<'m>,
     lines: Lines<'m>,
+    sources: Sources<'m>,
 }
 
 impl<'m> Model for RuleTable<'m> {
@@ -200,7 +220,8 @@ impl<'m> Model for RuleTable<'m> {
 
     ghost view = { λ t. t.makefile.now };
 
-    ghost invariant = { λ t. IsTableOf t.makefile.now t.suffixes t.phony t.targets t.lines };
+    ghost invariant = { λ t.
+        IsTableOf t.makefile.now t.suffixes t.phony t.targets t.lines t.sources };
 }
 
 impl<'m> RuleTable<'m> {
@@ -214,25 +235,43 @@ impl<'m> RuleTable<'m> {
             phony: names_among(alloc, makefile.phony())?,
             targets: targets_among(alloc, makefile.rules())?,
             lines: lines_among(alloc, makefile.rules())?,
+            sources: sources_among(alloc, makefile)?,
         })
     }
 
+    /// The names of the makefile's texts.
+    pub fn texts(&self) -> &[String]
+        ensures { map string_bytes result.now ≡ self.now.texts }
+    {
+        self.makefile.texts()
+    }
+
     /// The rule lines, in their order.
-    pub(crate) fn rules(&self) -> &'m [Rule]
+    pub(crate) fn rules<'t>(&'t self) -> &'t [Rule]
+    where
+        'm: 't,
         ensures { result.now ≡ self.now.rules }
     {
         self.makefile.rules()
     }
 
-    /// The known suffixes, in their order.
-    pub(crate) fn suffixes(&self) -> &'m [String]
-        ensures { map string_bytes result.now ≡ self.now.suffixes }
+    /// The suffixes with a rule with commands for names with this ending, in their order, where
+    /// there are any.
+    pub(crate) fn sources_for(&self, end: &str) -> Option<&[&'m str]>
+        ensures { (name : List ℕ) → end.now ≡ ending self.now name →
+            AreSources self.now name (option_map_or (λ sources.
+            map (λ source. source.now) sources.now) result []) }
     {
-        self.makefile.suffixes()
+        match self.sources.get(end) {
+            Some(sources) => Some(sources.as_slice()),
+            None => None,
+        }
     }
 
     /// The macros after all reading.
-    pub(crate) fn macros(&self) -> &'m MacroTable
+    pub(crate) fn macros<'t>(&'t self) -> &'t MacroTable
+    where
+        'm: 't,
         ensures { result.now ≡ self.now.macros }
     {
         self.makefile.macros()
@@ -255,7 +294,9 @@ impl<'m> RuleTable<'m> {
     /// A name, cut before its known suffix, where it has one and a rest before it. A known suffix
     /// holds one dot, so it can only begin at the last one of the name.
     pub(crate) fn cut_before_suffix<'a>(&self, name: &'a str) -> Option<(&'a str, &'a str)>
-        ensures { MatchOption result (find (ends_in name.now) self.now.suffixes ≡ None) (λ parts. (parts.0.now ≡ but_last (length parts.1.now) name.now) × (find (ends_in name.now) self.now.suffixes ≡ Some parts.1.now)) }
+        ensures { MatchOption result (find (ends_in name.now) self.now.suffixes ≡
+            None) (λ parts. (parts.0.now ≡ but_last (length parts.1.now) name.now) ×
+            (find (ends_in name.now) self.now.suffixes ≡ Some parts.1.now)) }
     {
         let known = &self.suffixes;
         let Some(at) = name.rfind('.') else {
@@ -276,13 +317,19 @@ impl<'m> RuleTable<'m> {
     }
 
     /// The name itself, where it is the target of a target rule.
-    pub(crate) fn target(&self, name: &str) -> Option<&'m str>
-        ensures { MatchOption result (is_target self.now name.now ≡ false) (λ found. (found.now ≡ name.now) × (is_target self.now name.now ≡ true)) }
+    pub(crate) fn target<'t>(&'t self, name: &str) -> Option<&'t str>
+    where
+        'm: 't,
+        ensures { MatchOption result (is_target self.now name.now ≡
+            false) (λ found. (found.now ≡ name.now) × (is_target self.now name.now ≡ true)) }
     {
         if self.is_inference_name(name) {
             return None;
         }
-        self.targets.get(name)
+        match self.targets.get(name) {
+            Some(target) => Some(target),
+            None => None,
+        }
     }
 
     /// The places of the rule lines that name a target, be it an inference name or not.
@@ -297,7 +344,8 @@ impl<'m> RuleTable<'m> {
 
     /// The places of a name's rule lines. An inference name is no target of theirs.
     fn lines_for(&self, name: &str) -> &[usize]
-        ensures { lines_at self.now.rules result.now ≡ lines_of (rules_for self.now name.now) name.now }
+        ensures { lines_at self.now.rules result.now ≡
+            lines_of (rules_for self.now name.now) name.now }
     {
         if self.is_inference_name(name) {
             return &[];
@@ -306,34 +354,49 @@ impl<'m> RuleTable<'m> {
     }
 
     /// The words of a name's rule lines, `.WAIT` among them.
-    pub(crate) fn words_for(&self, alloc: Global, name: &str) -> Result<Vec<&'m str>, AllocError>
-        ensures { IfOk result (λ words. map (λ word. word.now) words.items ≡ words_for self.now name.now) }
+    pub(crate) fn words_for<'t>(
+        &'t self,
+        alloc: Global,
+        name: &str,
+    ) -> Result<Vec<&'t str>, AllocError>
+    where
+        'm: 't,
+        ensures { IfOk result (λ words. map (λ word. word.now) words.items ≡
+            words_for self.now name.now) }
     {
         words_at(alloc, self.rules(), self.lines_for(name))
     }
 
     /// The prerequisites of a name, in their order.
-    pub(crate) fn prerequisites_of(
-        &self,
+    pub(crate) fn prerequisites_of<'t>(
+        &'t self,
         alloc: Global,
         name: &str,
-    ) -> Result<Vec<&'m str>, AllocError>
-        ensures { IfOk result (λ words. map (λ word. word.now) words.items ≡ prerequisites_of self.now name.now) }
+    ) -> Result<Vec<&'t str>, AllocError>
+    where
+        'm: 't,
+        ensures { IfOk result (λ words. map (λ word. word.now) words.items ≡
+            prerequisites_of self.now name.now) }
     {
         let words = self.words_for(alloc, name)?;
         without_waits(alloc, &words)
     }
 
     /// The commands of a name's own rule lines.
-    pub(crate) fn own_commands(&self, name: &str) -> Option<&'m [Command]>
+    pub(crate) fn own_commands<'t>(&'t self, name: &str) -> Option<&'t [Command]>
+    where
+        'm: 't,
         ensures { option_map (λ commands. commands.now) result ≡ own_commands self.now name.now }
     {
         commands_at(self.rules(), self.lines_for(name))
     }
 
     /// The commands of a rule line for a name, be it an inference name or not.
-    pub(crate) fn rule_commands(&self, name: &str) -> Option<&'m [Command]>
-        ensures { option_map (λ commands. commands.now) result ≡ commands_of self.now.rules name.now }
+    pub(crate) fn rule_commands<'t>(&'t self, name: &str) -> Option<&'t [Command]>
+    where
+        'm: 't,
+        ensures { option_map (λ commands. commands.now) result ≡
+            commands_of self.now.rules name.now }
     {
         commands_at(self.rules(), self.places_of(name))
     }

@@ -55,7 +55,9 @@ impl<'m> SuffixSet<'m> {
 
     /// Adds a suffix, unless it is there already.
     fn insert(&mut self, suffix: &'m [u8]) -> Result<(), AllocError>
-        ensures { OnOk result (self.new ≡ (if has_name self.old suffix.entry.now then self.old else self.old ++ suffix.entry.now ∷ [])) }
+        ensures { OnOk result (self.new ≡
+            (if has_name self.old suffix.entry.now then self.old else self.old ++
+            suffix.entry.now ∷ [])) }
     {
         self.suffixes.insert(suffix)?;
         Ok(())

@@ -23,3 +23,4 @@ pub mod Places
 pub mod Texts
 pub mod Fronts
 pub mod NoReference
+pub mod NameSets

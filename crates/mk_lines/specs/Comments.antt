@@ -11,7 +11,8 @@ or_length text (Some at) = at
 
 -- where the text begins that stays as it is: at the first `;` outside references of a rule line
 abbrev pub spared_at : List ℕ → ℕ
-spared_at text = if is_rule_line text then or_length text (first_outside (is_byte 59) text) else length text
+spared_at text =
+    if is_rule_line text then or_length text (first_outside (is_byte 59) text) else length text
 
 -- what is read, and what stays as it is
 abbrev pub read_part : List ℕ → List ℕ
@@ -37,7 +38,8 @@ begins_with_hash (b ∷ text) = b == 35
 -- the text with `#` for each `\#`
 unfoldable pub unescaped : List ℕ → List ℕ
 unescaped [] = []
-unescaped (b ∷ text) = if (b == 92) && begins_with_hash text then unescaped text else b ∷ unescaped text
+unescaped (b ∷ text) =
+    if (b == 92) && begins_with_hash text then unescaped text else b ∷ unescaped text
 
 -- the text holds `\#`
 unfoldable pub has_escaped_hash : List ℕ → Bool
@@ -46,10 +48,11 @@ has_escaped_hash (b ∷ text) = ((b == 92) && begins_with_hash text) || has_esca
 
 -- what stands before the comment, of the part that is read
 abbrev pub before_comment : List ℕ → List ℕ
-before_comment text = take (or_length (read_part text) (comment_at (read_part text))) (read_part text)
+before_comment text =
+    take (or_length (read_part text) (comment_at (read_part text))) (read_part text)
 
--- a plain line without its comment: what is read of it before the comment or, where none begins there, that and what
--- stays as it is
+-- a plain line without its comment: what is read of it before the comment or, where none begins
+-- there, that and what stays as it is
 abbrev pub without_comment : List ℕ → Option ℕ → List ℕ
 without_comment text (Some at) = unescaped (before_comment text)
 without_comment text None = unescaped (before_comment text) ++ spared_part text

@@ -12,9 +12,11 @@ use Rattle.mk_lines.specs.declared.spans.Span.{Span}
 abbrev pub plain : ℕ × List ℕ → Line
 plain (number, piece) = record { first = number; command = false; text = piece }
 
--- Without backslashes, tabs and pieces of blanks alone, the lines of a text are its pieces, numbered from 1.
+-- Without backslashes, tabs and pieces of blanks alone, the lines of a text are its pieces,
+-- numbered from 1.
 abbrev pub PlainTextsAreTheirPieces : Type 0
-PlainTextsAreTheirPieces = (text : List ℕ) → list_any (is_byte 92) text ≡ false → list_any (is_byte 9) text ≡ false
+PlainTextsAreTheirPieces =
+    (text : List ℕ) → list_any (is_byte 92) text ≡ false → list_any (is_byte 9) text ≡ false
     → list_any is_blank_alone (slice_split (is_byte 10) text) ≡ false
     → lines_of text ≡ map plain (enumerate_from 1 (slice_split (is_byte 10) text))
 
@@ -30,30 +32,38 @@ FirstLinesGrow = (text : List ℕ) → Grow 0 (map (λ line. line.first) (lines_
 abbrev pub moved_on : ℕ → Line → Line
 moved_on by line = record line { first = by + line.first }
 
--- Where a text ends at a newline that isn't escaped, the lines of it followed by another text are its lines, then the
--- other's, with their numbers moved on by its physical lines.
+-- Where a text ends at a newline that isn't escaped, the lines of it followed by another text are
+-- its lines, then the other's, with their numbers moved on by its physical lines.
 abbrev pub LinesOfTwoTexts : Type 0
 LinesOfTwoTexts = (front other : List ℕ) → escapes front ≡ false
     → lines_of ((front ++ 10 ∷ []) ++ other)
-    ≡ lines_of (front ++ 10 ∷ []) ++ map (moved_on (length (slice_split (is_byte 10) front))) (lines_of other)
+    ≡ lines_of (front ++ 10 ∷ []) ++
+    map (moved_on (length (slice_split (is_byte 10) front))) (lines_of other)
 
--- What the search outside references finds, said without a place: for bytes other than `$`, `(` and `{`.
+-- What the search outside references finds, said without a place: for bytes other than `$`, `(` and
+-- `{`.
 abbrev pub SearchFindsFirstOutside : Type 0
-SearchFindsFirstOutside = (wanted : ℕ → Bool) → ((b : ℕ) → is_drawn b ≡ true → wanted b ≡ false) → (text : List ℕ) → (k : ℕ)
+SearchFindsFirstOutside =
+    (wanted : ℕ → Bool) → ((b : ℕ) → is_drawn b ≡ true → wanted b ≡ false) → (text : List ℕ) →
+    (k : ℕ)
     → (first_outside wanted text ≡ Some k) ↔ FirstOutside wanted text k
 
 -- A span is among the words exactly where it is a longest part without blanks.
 abbrev pub WordsAreLongestParts : Type 0
-WordsAreLongestParts = (text : List ℕ) → (span : Span) → Contains (word_spans text) span ↔ IsWordAt text span
+WordsAreLongestParts =
+    (text : List ℕ) → (span : Span) → Contains (word_spans text) span ↔ IsWordAt text span
 
 -- spans from left to right, each behind the end of the one before it
 unfoldable pub Rise : ℕ → List Span → Type 0
 Rise before [] = Unit {0}
-Rise before (span ∷ spans) = (before ≤ span.start) × (span.start < span.end) × Rise (suc span.end) spans
+Rise before (span ∷ spans) =
+    (before ≤ span.start) × (span.start < span.end) × Rise (suc span.end) spans
 
 -- The words come in order and don't overlap, and what stands there are the words.
 abbrev pub WordsComeInOrder : Type 0
-WordsComeInOrder = (text : List ℕ) → Rise 0 (word_spans text) × (map (bytes_at text) (word_spans text) ≡ words text)
+WordsComeInOrder =
+    (text : List ℕ) → Rise 0 (word_spans text) ×
+    (map (bytes_at text) (word_spans text) ≡ words text)
 
 -- A plain line without `#` has no comment to lose.
 abbrev pub NothingToUncomment : Type 0

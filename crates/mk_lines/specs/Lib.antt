@@ -7,5 +7,6 @@ pub mod Lines
 pub mod Paths
 pub mod Words
 pub mod Names
-pub mod Gives
+pub mod Results
 pub mod Laws
+pub mod Given

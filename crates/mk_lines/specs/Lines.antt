@@ -8,8 +8,8 @@ use Rattle.mk_lines.specs.declared.fault.LineFault.{LineFault}
 use Rattle.mk_lines.specs.declared.fault.LineFault.TheVariants.{NulByte, LineTooLong, TooManyLines}
 use Rattle.mk_lines.specs.declared.lines.Line as code
 
--- a logical line: the number of its first physical line, counted from 1; whether it is a command line; its text, of a
--- command line without the tab
+-- a logical line: the number of its first physical line, counted from 1; whether it is a command
+-- line; its text, of a command line without the tab
 pub record Line : Type 0 where
   pub first : ℕ
   pub command : Bool
@@ -23,20 +23,23 @@ backslashes piece = prefix_len (is_byte 92) (reverse piece)
 abbrev pub escapes : List ℕ → Bool
 escapes piece = backslashes piece % 2 == 1
 
--- Pieces in runs: a piece whose newline is escaped goes on in the next one. The last piece has no newline.
+-- Pieces in runs: a piece whose newline is escaped goes on in the next one. The last piece has no
+-- newline.
 abbrev pub goes_on_in : List ℕ → List (List (List ℕ)) → List (List (List ℕ))
 goes_on_in piece [] = (piece ∷ []) ∷ []
 goes_on_in piece (run ∷ runs) = (piece ∷ run) ∷ runs
 
 unfoldable pub runs : List (List ℕ) → List (List (List ℕ))
 runs [] = []
-runs (piece ∷ pieces) = if escapes piece then goes_on_in piece (runs pieces) else (piece ∷ []) ∷ runs pieces
+runs (piece ∷ pieces) =
+    if escapes piece then goes_on_in piece (runs pieces) else (piece ∷ []) ∷ runs pieces
 
 -- the text without its last byte
 abbrev pub without_last : List ℕ → List ℕ
 without_last text = take (length text - 1) text
 
--- In a plain line the last backslash, the escaped newline and the blanks that lead the next piece become one space.
+-- In a plain line the last backslash, the escaped newline and the blanks that lead the next piece
+-- become one space.
 unfoldable pub plain_text : List ℕ → List (List ℕ) → List ℕ
 plain_text piece [] = piece
 plain_text piece (next ∷ pieces) = without_last piece ++ 32 ∷ plain_text (trimmed next) pieces
@@ -73,13 +76,19 @@ pub record Run : Type 0 where
 
 unfoldable pub numbered : ℕ → List (List (List ℕ)) → List Run
 numbered number [] = []
-numbered number (run ∷ runs) = record { first = number; pieces = run } ∷ numbered (number + length run) runs
+numbered number (run ∷ runs) =
+    record { first = number; pieces = run } ∷ numbered (number + length run) runs
 
 -- pieces as a line: a command line where the first begins with a tab
 abbrev pub joined : ℕ → List (List ℕ) → Line
 joined number [] = record { first = number; command = false; text = [] }
 joined number (piece ∷ pieces) =
-    if is_command piece then record { first = number; command = true; text = command_text (drop 1 piece) pieces }
+    if is_command piece then record {
+      first =
+          number;
+      command = true;
+      text = command_text (drop 1 piece) pieces;
+    }
     else record { first = number; command = false; text = plain_text piece pieces }
 
 abbrev pub line_of : Run → Line
@@ -97,7 +106,8 @@ runs_of text = filter is_kept (numbered 1 (runs (slice_split (is_byte 10) text))
 abbrev pub lines_of : List ℕ → List Line
 lines_of text = map line_of (runs_of text)
 
--- what is wrong with a line, before which so many stand in its text: the lowest number of its faults
+-- what is wrong with a line, before which so many stand in its text: the lowest number of its
+-- faults
 abbrev pub line_fault : ℕ → Line → Option LineFault
 line_fault before line =
     if list_any (is_byte 0) line.text then Some (NulByte line.first)
@@ -112,7 +122,8 @@ or_else None other = other
 -- what is wrong with the first faulty line
 unfoldable pub first_fault : ℕ → List Line → Option LineFault
 first_fault before [] = None
-first_fault before (line ∷ lines) = or_else (line_fault before line) (first_fault (before + 1) lines)
+first_fault before (line ∷ lines) =
+    or_else (line_fault before line) (first_fault (before + 1) lines)
 
 abbrev pub unless : {A : Type 0} → Option LineFault → A → Result A LineFault
 unless (Some fault) x = Err fault
@@ -124,7 +135,8 @@ logical_lines text = unless (first_fault 0 (lines_of text)) (lines_of text)
 
 -- a line of the code
 abbrev pub line_view : code.Line → Line
-line_view line = record { first = line.first; command = line.command; text = cow_slice_items line.text }
+line_view line =
+    record { first = line.first; command = line.command; text = cow_slice_items line.text }
 
 -- a line of one physical line
 abbrev pub is_whole : Run → Bool

@@ -1,6 +1,6 @@
 -- Names in lists.
 use Rattle.std.specs.Prelude.{ℕ, ◌+◌, Bool, not, List, [], ◌∷◌, ◌++◌, filter, nat_eq, Option, None, Some, if◌then◌else◌}
-use Rattle.std.specs.List.{list_any, starts_with}
+use Rattle.std.specs.List.{list_any, position_or_len, starts_with}
 use Rattle.std.specs.Str.{bytes_eq}
 
 -- the name stands among the names
@@ -19,7 +19,12 @@ once (name ∷ names) = name ∷ filter (λ other. not (bytes_eq name other)) (o
 -- the place at which a name first stands, counted from n
 unfoldable pub place_from : ℕ → List (List ℕ) → List ℕ → Option ℕ
 place_from n [] name = None
-place_from n (other ∷ names) name = if bytes_eq name other then Some n else place_from (n + 1) names name
+place_from n (other ∷ names) name =
+    if bytes_eq name other then Some n else place_from (n + 1) names name
+
+-- the place at which a name first stands, else the number of the names
+abbrev pub number_of : List (List ℕ) → List ℕ → ℕ
+number_of names name = position_or_len (λ other. bytes_eq name other) names
 
 -- a place, else this one where the test holds
 abbrev pub else_last : Option ℕ → Bool → ℕ → Option ℕ

@@ -10,7 +10,8 @@ is_visible b = nat_lt 32 b && not (b == 127)
 
 -- a component other than the empty one, `.` and `..`
 abbrev pub is_proper : List ℕ → Bool
-is_proper part = not (length part == 0) && (not (bytes_eq part (46 ∷ [])) && not (bytes_eq part (46 ∷ 46 ∷ [])))
+is_proper part =
+    not (length part == 0) && (not (bytes_eq part (46 ∷ [])) && not (bytes_eq part (46 ∷ 46 ∷ [])))
 
 abbrev pub is_up : List ℕ → Bool
 is_up part = bytes_eq part (46 ∷ 46 ∷ [])
@@ -18,16 +19,22 @@ is_up part = bytes_eq part (46 ∷ 46 ∷ [])
 -- proper components, behind nothing but `..`
 abbrev pub goes_up_first : List (List ℕ) → Bool
 goes_up_first [] = true
-goes_up_first (part ∷ parts) = if is_up part then goes_up_first parts else is_proper part && list_all is_proper parts
+goes_up_first (part ∷ parts) =
+    if is_up part then goes_up_first parts else is_proper part && list_all is_proper parts
 
 -- an empty component stands before the leading slash alone
 abbrev pub are_components : List (List ℕ) → Bool
 are_components [] = false
-are_components (part ∷ parts) = if length part == 0 then not (length parts == 0) && list_all is_proper parts else goes_up_first (part ∷ parts)
+are_components (part ∷ parts) =
+    if length part == 0 then not (length parts == 0) &&
+    list_all is_proper parts else goes_up_first (part ∷ parts)
 
 -- 1 to 4,096 visible bytes, without a second spelling of one place
 abbrev pub has_path_shape : List ℕ → Bool
-has_path_shape name = nat_lt 0 (length name) && (nat_le (length name) 4096 && (list_all is_visible name && are_components (slice_split (is_byte 47) name)))
+has_path_shape name =
+    nat_lt 0 (length name) &&
+    (nat_le (length name) 4096 &&
+    (list_all is_visible name && are_components (slice_split (is_byte 47) name)))
 
 -- the same, and UTF-8
 unfoldable pub is_plain_path : List ℕ → Bool

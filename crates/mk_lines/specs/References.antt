@@ -1,15 +1,16 @@
 -- What stands outside references.
 --
--- A reference is `$(` up to the first `)` outside an inner reference, or `${` up to the first `}` outside one; one
--- without an end reaches to the end of the text. `$$` is passed over as two bytes. Any other `$` is one byte.
+-- A reference is `$(` up to the first `)` outside an inner reference, or `${` up to the first `}`
+-- outside one; one without an end reaches to the end of the text. `$$` is passed over as two bytes.
+-- Any other `$` is one byte.
 use Rattle.std.specs.Prelude.{◌≡◌, ℕ, suc, ◌==◌, Bool, true, false, ◌&&◌, ◌||◌, List, [], ◌∷◌, ◌++◌, length, drop, reverse, Option, None, Some, if◌then◌else◌}
 use Rattle.std.specs.List.{list_any}
 use Rattle.std.specs.Option.{option_map}
 use Rattle.mk_lines.specs.Bytes.{is_byte}
 use Rattle.mk_lines.specs.declared.references.Place as code
 
--- a place between the bytes of a text: the closing bytes of the references that are open there, innermost first, and
--- whether a `$` stands just before it that isn't the second of `$$`
+-- a place between the bytes of a text: the closing bytes of the references that are open there,
+-- innermost first, and whether a `$` stands just before it that isn't the second of `$$`
 pub record Place : Type 0 where
   pub ends : List ℕ
   pub dollar : Bool
@@ -69,14 +70,20 @@ abbrev pub StandsAlone : List ℕ → Type 0
 StandsAlone [] = Unit {0}
 StandsAlone (b ∷ text) = is_drawn b ≡ false
 
--- A text, said without a place: it has no wanted byte outside references, and each reference in it has an end.
+-- A text, said without a place: it has no wanted byte outside references, and each reference in it
+-- has an end.
 pub data HasNoneOutside : (ℕ → Bool) → List ℕ → Type 0 where
   Nothing : (wanted : ℕ → Bool) → HasNoneOutside wanted []
-  Byte : (wanted : ℕ → Bool) → (b : ℕ) → (text : List ℕ) → wanted b ≡ false → (b == 36) ≡ false → HasNoneOutside wanted text → HasNoneOutside wanted (b ∷ text)
-  Dollars : (wanted : ℕ → Bool) → (text : List ℕ) → HasNoneOutside wanted text → HasNoneOutside wanted (36 ∷ 36 ∷ text)
-  Dollar : (wanted : ℕ → Bool) → (text : List ℕ) → StandsAlone text → HasNoneOutside wanted text → HasNoneOutside wanted (36 ∷ text)
-  Round : (wanted : ℕ → Bool) → (inside text : List ℕ) → HasNoneOutside (is_byte 41) inside → HasNoneOutside wanted text → HasNoneOutside wanted (36 ∷ 40 ∷ inside ++ 41 ∷ text)
-  Curly : (wanted : ℕ → Bool) → (inside text : List ℕ) → HasNoneOutside (is_byte 125) inside → HasNoneOutside wanted text → HasNoneOutside wanted (36 ∷ 123 ∷ inside ++ 125 ∷ text)
+  Byte : (wanted : ℕ → Bool) → (b : ℕ) → (text : List ℕ) → wanted b ≡ false → (b == 36) ≡ false →
+      HasNoneOutside wanted text → HasNoneOutside wanted (b ∷ text)
+  Dollars : (wanted : ℕ → Bool) → (text : List ℕ) → HasNoneOutside wanted text →
+      HasNoneOutside wanted (36 ∷ 36 ∷ text)
+  Dollar : (wanted : ℕ → Bool) → (text : List ℕ) → StandsAlone text → HasNoneOutside wanted text →
+      HasNoneOutside wanted (36 ∷ text)
+  Round : (wanted : ℕ → Bool) → (inside text : List ℕ) → HasNoneOutside (is_byte 41) inside →
+      HasNoneOutside wanted text → HasNoneOutside wanted (36 ∷ 40 ∷ inside ++ 41 ∷ text)
+  Curly : (wanted : ℕ → Bool) → (inside text : List ℕ) → HasNoneOutside (is_byte 125) inside →
+      HasNoneOutside wanted text → HasNoneOutside wanted (36 ∷ 123 ∷ inside ++ 125 ∷ text)
 
 -- The first wanted byte outside references stands at k.
 pub record FirstOutside (wanted : ℕ → Bool) (text : List ℕ) (k : ℕ) : Type 0 where

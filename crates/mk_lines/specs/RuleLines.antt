@@ -10,7 +10,8 @@ first_word text = before_first is_blank (trimmed text)
 
 -- the first word is `include` or `-include`
 abbrev pub is_include : List ℕ → Bool
-is_include text = bytes_eq (first_word text) (codes "include") || bytes_eq (first_word text) (codes "-include")
+is_include text =
+    bytes_eq (first_word text) (codes "include") || bytes_eq (first_word text) (codes "-include")
 
 -- one of `=`, `:`, `;`
 abbrev pub is_decisive : ℕ → Bool
@@ -19,13 +20,14 @@ is_decisive b = b == 61 || (b == 58 || b == 59)
 -- a colon with neither `:` nor `=` behind it
 abbrev pub begins_with_rule_colon : List ℕ → Bool
 begins_with_rule_colon [] = false
-begins_with_rule_colon (b ∷ text) = b == 58 && (not (slice_index text 0 == 58) && not (slice_index text 0 == 61))
+begins_with_rule_colon (b ∷ text) =
+    b == 58 && (not (slice_index text 0 == 58) && not (slice_index text 0 == 61))
 
 abbrev pub is_rule_colon_at : List ℕ → Option ℕ → Bool
 is_rule_colon_at text None = false
 is_rule_colon_at text (Some at) = begins_with_rule_colon (drop at text)
 
--- A plain line is a rule line where it is no include line, and the first of `=`, `:`, `;` outside references is a colon
--- with neither `:` nor `=` behind it.
+-- A plain line is a rule line where it is no include line, and the first of `=`, `:`, `;` outside
+-- references is a colon with neither `:` nor `=` behind it.
 unfoldable pub is_rule_line : List ℕ → Bool
 is_rule_line text = not (is_include text) && is_rule_colon_at text (first_outside is_decisive text)

@@ -13,7 +13,8 @@ words text = filter is_word (slice_split is_blank text)
 -- where parts stand in a text that begins at this index, one byte between each two
 unfoldable pub spans_from : ℕ → List (List ℕ) → List Span
 spans_from at [] = []
-spans_from at (part ∷ parts) = record { start = at; end = at + length part } ∷ spans_from (suc (at + length part)) parts
+spans_from at (part ∷ parts) =
+    record { start = at; end = at + length part } ∷ spans_from (suc (at + length part)) parts
 
 -- the span isn't empty
 abbrev pub has_bytes : Span → Bool
@@ -27,7 +28,8 @@ word_spans text = filter has_bytes (spans_from 0 (slice_split is_blank text))
 abbrev pub bytes_at : List ℕ → Span → List ℕ
 bytes_at text span = take (span.end - span.start) (drop span.start text)
 
--- A longest part without blanks: it isn't empty, has no blank, and stands between blanks or the ends of the text.
+-- A longest part without blanks: it isn't empty, has no blank, and stands between blanks or the
+-- ends of the text.
 pub record IsWordAt (text : List ℕ) (span : Span) : Type 0 where
   pub not_empty : span.start < span.end
   pub within : span.end ≤ length text

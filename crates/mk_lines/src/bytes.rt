@@ -10,9 +10,11 @@ use bstr::ByteSlice;
 /// The part up to the first separator, and what follows that separator.
 pub fn cut(text: &[u8], separator: u8) -> (&[u8], Option<&[u8]>)
     ensures shorter { IfSome result.1 (λ rest. length rest.now < length text.now) }
-    ensures whole { MatchOption result.1 (result.0.now ≡ text.now) (λ rest. text.now ≡ result.0.now ++ separator ∷ rest.now) }
+    ensures whole { MatchOption result.1 (result.0.now ≡ text.now) (λ rest. text.now ≡
+        result.0.now ++ separator ∷ rest.now) }
     ensures clean { All (λ b. is_byte separator b ≡ false) result.0.now }
-    ensures parts { slice_split (is_byte separator) text.now ≡ result.0.now ∷ parts_left separator (option_map (λ rest. rest.now) result.1) }
+    ensures parts { slice_split (is_byte separator) text.now ≡
+        result.0.now ∷ parts_left separator (option_map (λ rest. rest.now) result.1) }
 {
     match text.find_byte(separator) {
         Some(at) => (&text[..at], Some(&text[at + 1..])),
@@ -34,8 +36,8 @@ pub fn is_blank_alone(text: &[u8]) -> bool
     text.iter().all(|b| is_blank(*b))
 }
 
-/// The text behind the blanks that lead it, all of it that is left: the standard's `make`, "Makefile
-/// Syntax" and "Macros", drops them there.
+/// The text behind the blanks that lead it, all of it that is left: the standard's `make`,
+/// "Makefile Syntax" and "Macros", drops them there.
 pub fn trimmed(text: &[u8]) -> &[u8]
     ensures { result.now ≡ trimmed text.now }
 {

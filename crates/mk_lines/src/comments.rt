@@ -81,7 +81,8 @@ fn push_unescaped(into: &mut Vec<u8>, text: &[u8]) -> Result<(), AllocError>
 /// memory alone.
 pub fn uncomment<'a>(alloc: Global, text: &'a [u8]) -> Result<CowSlice<'a, u8>, AllocError>
     ensures exact { IfOk result (λ line. cow_slice_items line ≡ uncomment text.now) }
-    ensures lends { IfOk result (λ line. has_escaped_hash (before_comment text.now) ≡ false → is_borrowed line ≡ true) }
+    ensures lends { IfOk result (λ line. has_escaped_hash (before_comment text.now) ≡ false →
+        is_borrowed line ≡ true) }
 {
     // Most lines need no look at their references.
     if !text.contains(&b'#') {

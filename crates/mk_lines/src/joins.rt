@@ -69,8 +69,10 @@ fn join_command(alloc: Global, run: &[u8]) -> Result<Vec<u8>, AllocError>
 /// The pieces of a run joined, the tab of a command line aside: a slice of the run where it is one
 /// piece.
 pub fn joined(alloc: Global, command: bool, run: &[u8]) -> Result<CowSlice<'_, u8>, AllocError>
-    ensures exact { IfOk result (λ text. cow_slice_items text ≡ text_of command (slice_split (is_byte 10) run.now)) }
-    ensures lends { IfOk result (λ text. is_borrowed text ≡ (length (slice_split (is_byte 10) run.now) == 1)) }
+    ensures exact { IfOk result (λ text. cow_slice_items text ≡
+        text_of command (slice_split (is_byte 10) run.now)) }
+    ensures lends { IfOk result (λ text. is_borrowed text ≡
+        (length (slice_split (is_byte 10) run.now) == 1)) }
 {
     let (_, behind) = cut(run, b'\n');
     if behind.is_none() {

@@ -9,6 +9,7 @@ mod joins;
 pub mod laws;
 mod lines;
 mod name;
+mod name_set;
 mod name_table;
 mod paths;
 mod prefixes;
@@ -16,14 +17,13 @@ mod references;
 mod rule_lines;
 mod runs;
 mod spans;
-#[cfg(test)]
-mod tests;
 
 pub use bytes::{is_blank, trimmed};
 pub use comments::uncomment;
 pub use fault::LineFault;
 pub use lines::{Line, logical_lines};
 pub use name::{Name, Names};
+pub use name_set::NameSet;
 pub use name_table::NameTable;
 pub use paths::{is_plain_path, is_plain_text_path};
 pub use prefixes::Prefixes;

@@ -6,7 +6,7 @@ ghost use Rattle.std.specs.Cow.{cow_slice_items};
 ghost use Rattle.mk_lines.specs.Borrowed.{is_borrowed};
 ghost use Rattle.mk_lines.specs.Bytes.{is_byte};
 ghost use Rattle.mk_lines.specs.Lines.{is_command, joined, line_view, line_fault, unless, logical_lines, is_lent, is_whole, runs_of};
-ghost use Rattle.mk_lines.specs.Gives.{Gives};
+ghost use Rattle.mk_lines.specs.Results.{Gives};
 
 use crate::bytes::is_blank_alone;
 use crate::fault::LineFault;
@@ -42,8 +42,10 @@ fn is_command(run: &[u8]) -> bool
 
 /// The line of a run of pieces that escaped newlines join.
 fn line_from(alloc: Global, first: usize, run: &[u8]) -> Result<Line<'_>, AllocError>
-    ensures exact { IfOk result (λ line. line_view line ≡ joined first (slice_split (is_byte 10) run.now)) }
-    ensures lends { IfOk result (λ line. is_lent line ≡ (length (slice_split (is_byte 10) run.now) == 1)) }
+    ensures exact { IfOk result (λ line. line_view line ≡
+        joined first (slice_split (is_byte 10) run.now)) }
+    ensures lends { IfOk result (λ line. is_lent line ≡
+        (length (slice_split (is_byte 10) run.now) == 1)) }
 {
     let command = is_command(run);
     let text = joined(alloc, command, without_tab(run))?;
@@ -79,8 +81,10 @@ fn test_line(before: usize, line: &Line) -> Result<(), LineFault>
 /// there is want of memory alone.
 #[tactic(auto, unfolding(crate::specs::Lines::logical_lines))]
 pub fn logical_lines<'a>(alloc: Global, text: &'a [u8]) -> Result<Vec<Line<'a>>, LineFault>
-    ensures exact { Gives (λ lines. map line_view lines.items) result (logical_lines text.now) }
-    ensures lends { IfOk result (λ lines. map is_lent lines.items ≡ map is_whole (runs_of text.now)) }
+    ensures exact { Gives LineFault.Memory (λ lines.
+        map line_view lines.items) result (logical_lines text.now) }
+    ensures lends { IfOk result (λ lines. map is_lent lines.items ≡
+        map is_whole (runs_of text.now)) }
 {
     let mut lines = Vec::new(alloc);
     let mut rest = Some(text);

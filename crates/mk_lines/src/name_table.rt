@@ -28,7 +28,8 @@ impl Model for NameTable {
 
     ghost view = { λ t. map string_bytes t.names.items };
 
-    ghost invariant = { λ t. (q : List ℕ) → get_by_text t.places q ≡ place_from 0 (map string_bytes t.names.items) q };
+    ghost invariant = { λ t. (q : List ℕ) →
+        get_by_text t.places q ≡ place_from 0 (map string_bytes t.names.items) q };
 }
 
 impl NameTable {
@@ -50,7 +51,8 @@ impl NameTable {
 
     /// The name itself, where it is there.
     pub fn get(&self, name: &str) -> Option<&str>
-        ensures { MatchOption result (has_name self.now name.now ≡ false) (λ found. (found.now ≡ name.now) × (has_name self.now name.now ≡ true)) }
+        ensures { MatchOption result (has_name self.now name.now ≡
+            false) (λ found. (found.now ≡ name.now) × (has_name self.now name.now ≡ true)) }
     {
         match self.place(name) {
             Some(place) => Some(self.as_slice()[place].as_str()),
@@ -91,7 +93,8 @@ fn note_place(
     name: &str,
     place: usize,
 ) -> Result<(), AllocError>
-    ensures { OnOk result ((q : List ℕ) → get_by_text places.new q ≡ else_last (get_by_text places.old q) (bytes_eq q name.now) place) }
+    ensures { OnOk result ((q : List ℕ) →
+        get_by_text places.new q ≡ else_last (get_by_text places.old q) (bytes_eq q name.now) place) }
 {
     if places.contains_key(name) {
         return Ok(());
@@ -103,7 +106,8 @@ fn note_place(
 
 /// The place at which each name first stands.
 fn places_of(alloc: Global, names: &[String]) -> Result<IndexMap<String, usize>, AllocError>
-    ensures { IfOk result (λ places. (q : List ℕ) → get_by_text places q ≡ place_from 0 (map string_bytes names.now) q) }
+    ensures { IfOk result (λ places. (q : List ℕ) →
+        get_by_text places q ≡ place_from 0 (map string_bytes names.now) q) }
 {
     let mut places = IndexMap::with_capacity(alloc, names.len())?;
     for (i, name) in names.iter().enumerate() {

@@ -69,7 +69,8 @@ fn is_visible_throughout(name: &[u8]) -> bool
 }
 
 /// Whether a name has the shape of a path at a glance, by one look at each byte: visible bytes, no
-/// dot before all, no slash behind all, and neither slash nor dot behind a slash. Most paths have it.
+/// dot before all, no slash behind all, and neither slash nor dot behind a slash. Most paths have
+/// it.
 fn is_tidy(name: &[u8]) -> bool
     ensures visible { result ≡ true → list_all is_visible name.now ≡ true }
     ensures components { result ≡ true → are_components (slice_split (is_byte 47) name.now) ≡ true }
@@ -100,8 +101,9 @@ fn has_path_shape(name: &[u8]) -> bool
 }
 
 /// Whether bytes are a plain path: UTF-8 of 1 to 4,096 bytes without spaces and control bytes, in
-/// which no component is empty save a first one before a leading slash, none is `.`, and `..` stands
-/// only at the front of a relative path, after nothing but `..`. So a file has no second spelling.
+/// which no component is empty save a first one before a leading slash, none is `.`, and `..`
+/// stands only at the front of a relative path, after nothing but `..`. So a file has no second
+/// spelling.
 #[tactic(auto, unfolding(crate::specs::Paths::is_plain_path))]
 pub fn is_plain_path(name: &[u8]) -> bool
     ensures { result ≡ is_plain_path name.now }
@@ -109,8 +111,8 @@ pub fn is_plain_path(name: &[u8]) -> bool
     has_path_shape(name) && str::from_utf8(name).is_ok()
 }
 
-/// Whether a text is a plain path. It answers as `is_plain_path` of the text's bytes, which need not
-/// be looked at again to be UTF-8.
+/// Whether a text is a plain path. It answers as `is_plain_path` of the text's bytes, which need
+/// not be looked at again to be UTF-8.
 #[tactic(auto, unfolding(crate::specs::Paths::is_plain_path))]
 pub fn is_plain_text_path(name: &str) -> bool
     ensures { result ≡ is_plain_path name.now }

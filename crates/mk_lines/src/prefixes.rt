@@ -27,12 +27,15 @@ impl Model for Prefixes {
 
     ghost view = { λ p. p.table };
 
-    ghost invariant = { λ p. (prefix : List ℕ) → has_name p.table prefix ≡ true → contains nat_eq p.lengths (length prefix) ≡ true };
+    ghost invariant = { λ p. (prefix : List ℕ) → has_name p.table prefix ≡ true →
+        contains nat_eq p.lengths (length prefix) ≡ true };
 }
 
 /// The lengths of names, each once.
 fn lengths_of(alloc: Global, names: &[String]) -> Result<IndexSet<usize>, AllocError>
-    ensures { IfOk result (λ lengths. (name : List ℕ) → has_name (map string_bytes names.now) name ≡ true → contains nat_eq lengths (length name) ≡ true) }
+    ensures { IfOk result (λ lengths. (name : List ℕ) →
+        has_name (map string_bytes names.now) name ≡ true →
+        contains nat_eq lengths (length name) ≡ true) }
 {
     let mut lengths = IndexSet::new(alloc);
     for name in names {
@@ -43,7 +46,9 @@ fn lengths_of(alloc: Global, names: &[String]) -> Result<IndexSet<usize>, AllocE
 
 /// Whether a front of one of these lengths stands in the table.
 fn has_front(table: &NameTable, lengths: &[usize], name: &[u8]) -> bool
-    ensures { result ≡ list_any (λ n. nat_le n (length name.now) && has_name table.now (take n name.now)) lengths.now }
+    ensures { result ≡
+        list_any (λ n. nat_le n (length name.now) &&
+        has_name table.now (take n name.now)) lengths.now }
 {
     for n in lengths {
         if *n <= name.len() && table.contains_bytes(&name[..*n]) {
@@ -65,8 +70,8 @@ impl Prefixes {
         })
     }
 
-    /// Whether a name begins with one of the prefixes. It takes a look-up for each of their lengths,
-    /// and no memory.
+    /// Whether a name begins with one of the prefixes. It takes a look-up for each of their
+    /// lengths, and no memory.
     pub fn is_under(&self, name: &str) -> bool
         ensures { result ≡ is_under self.now name.now }
     {

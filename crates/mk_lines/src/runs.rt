@@ -26,9 +26,12 @@ fn escapes(piece: &[u8]) -> bool
 /// The first run of pieces between newlines, in which each newline is escaped; the text behind it
 /// and its newline; and how many pieces it has.
 pub fn take_run(text: &[u8]) -> (&[u8], Option<&[u8]>, usize)
-    ensures first { runs (slice_split (is_byte 10) text.now) ≡ slice_split (is_byte 10) result.0.now ∷ runs (parts_left 10 (option_map (λ rest. rest.now) result.1)) }
+    ensures first { runs (slice_split (is_byte 10) text.now) ≡
+        slice_split (is_byte 10) result.0.now ∷
+        runs (parts_left 10 (option_map (λ rest. rest.now) result.1)) }
     ensures count { result.2 ≡ length (slice_split (is_byte 10) result.0.now) }
-    ensures shorter { MatchOption result.1 (result.2 ≤ length text.now + 1) (λ rest. result.2 + length rest.now ≤ length text.now) }
+    ensures shorter { MatchOption result.1 (result.2 ≤ length text.now + 1)
+        (λ rest. result.2 + length rest.now ≤ length text.now) }
 {
     let mut rest = text;
     let mut end = 0;

@@ -16,8 +16,8 @@ pub struct Span {
 }
 
 /// Where the words of a text stand: its longest parts without spaces and tabs, from left to right.
-/// They aren't empty and don't overlap (the standard's `make`, "Target Rules"). The error is want of
-/// memory alone.
+/// They aren't empty and don't overlap (the standard's `make`, "Target Rules"). The error is want
+/// of memory alone.
 pub fn words(alloc: Global, text: &[u8]) -> Result<Vec<Span>, AllocError>
     ensures exact { IfOk result (λ spans. spans.items ≡ word_spans text.now) }
 {

@@ -23,9 +23,15 @@ names_in (going.Under' name p others) = name.now ∷ names_in others
 
 -- a text that was expanded for itself
 abbrev pub piece_view : Piece → Expanded
-piece_view piece = record { text = cow_slice_items piece.text; references = piece.used.references; varying = piece.used.varying }
+piece_view piece =
+    record {
+      text = cow_slice_items piece.text;
+      references = piece.used.references;
+      varying = piece.used.varying;
+    }
 
--- How the text of a reference is expanded, with so many levels below that in which the reference stands.
+-- How the text of a reference is expanded, with so many levels below that in which the reference
+-- stands.
 abbrev pub below : ℕ → Scope → Deeper
 below zero scope = refused
 below (suc levels) scope = expanded levels scope
@@ -36,25 +42,37 @@ within room value = if nat_lt room (length value.text) then Err ValueTooLong els
 
 -- what a form gives, within a room
 abbrev pub form_within : Scope → Deeper → List (List ℕ) → ℕ → ℕ → Form → Result Expanded MacroFault
-form_within scope deeper going references room form = given scope deeper going references form >>= within room
+form_within scope deeper going references room form =
+    given scope deeper going references form >>= within room
 
 -- what a reference gives, within a room
-abbrev pub reference_within : Scope → Deeper → List (List ℕ) → ℕ → ℕ → List ℕ → Result Expanded MacroFault
-reference_within scope deeper going references room inside = form_within scope deeper going references room (Reference inside)
+abbrev pub reference_within : Scope → Deeper → List (List ℕ) → ℕ → ℕ → List ℕ →
+    Result Expanded MacroFault
+reference_within scope deeper going references room inside =
+    form_within scope deeper going references room (Reference inside)
 
 -- what a reference gives behind its name, within a room
-abbrev pub behind_name : Scope → Deeper → List (List ℕ) → ℕ → Expanded → Option (List ℕ × List ℕ) → Result Expanded MacroFault
+abbrev pub behind_name : Scope → Deeper → List (List ℕ) → ℕ → Expanded → Option (List ℕ × List ℕ) →
+    Result Expanded MacroFault
 behind_name scope deeper going room name texts = (do
   ends ← ends_of deeper going name.references texts
   value ← value_of scope deeper going ends.references name.text (internal_of name.text)
-  Ok (record { text = with_ends ends.texts value.text; references = value.references; varying = name.varying || (ends.varying || value.varying) })) >>= within room
+  Ok (record {
+    text = with_ends ends.texts value.text;
+    references = value.references;
+    varying = name.varying || (ends.varying || value.varying);
+  })) >>= within room
 
 -- A run of bytes went behind what stood in a buffer, or there was no room for it.
 abbrev pub AppendsRun : {U : Type 0} → ℕ → List ℕ → List ℕ → List ℕ → Result U MacroFault → Type 0
 AppendsRun room run old new (Ok done) = (length run ≤ room) × (new ≡ old ++ run)
-AppendsRun room run old new (Err fault) = (fault ≡ Memory) ⊎ ((fault ≡ ValueTooLong) × (room < length run))
+AppendsRun room run old new (Err fault) =
+    (fault ≡ Memory) ⊎ ((fault ≡ ValueTooLong) × (room < length run))
 
--- What a call put behind what stood in a buffer is what is defined, unless memory ran out, of which nothing is said.
+-- What a call put behind what stood in a buffer is what is defined, unless memory ran out, of which
+-- nothing is said.
 abbrev pub Appends : List ℕ → List ℕ → Result Used MacroFault → Result Expanded MacroFault → Type 0
-Appends old new (Ok used) defined = (text : List ℕ) × (new ≡ old ++ text) × (defined ≡ Ok (record { text = text; references = used.references; varying = used.varying }))
+Appends old new (Ok used) defined =
+    (text : List ℕ) × (new ≡ old ++ text) ×
+    (defined ≡ Ok (record { text = text; references = used.references; varying = used.varying }))
 Appends old new (Err fault) defined = (fault ≡ Memory) ⊎ (defined ≡ Err fault)

@@ -21,7 +21,8 @@ doubled text = flat_map doubled_byte text
 
 -- the table with a macro of at most 1,048,576 bytes
 abbrev pub stored : List Macro → Macro → Result (List Macro) MacroFault
-stored table macro = if nat_lt 1048576 (length macro.text) then Err ValueTooLong else Ok (with_macro table macro)
+stored table macro =
+    if nat_lt 1048576 (length macro.text) then Err ValueTooLong else Ok (with_macro table macro)
 
 -- the text that an expansion gives
 abbrev pub value_text : Result Expanded MacroFault → Result (List ℕ) MacroFault
@@ -38,21 +39,35 @@ more_stored table more (Some macro) = stored table (appended macro more)
 
 -- `+=`: as `=` where the name is undefined; on an immediate macro the new text is expanded at once
 abbrev pub with_more : List Macro → List ℕ → List ℕ → Option Macro → Result (List Macro) MacroFault
-with_more table name text None = stored table (record { name = name; text = text; immediate = false; fixed = false })
+with_more table name text None =
+    stored table (record { name = name; text = text; immediate = false; fixed = false })
 with_more table name text (Some macro) =
-    if macro.immediate then (expansion table None text >>= λ more. stored table (appended macro more.text))
+    if macro.immediate then (expansion table None text >>= λ more.
+    stored table (appended macro more.text))
     else stored table (appended macro text)
 
 -- `?=`: as `=` where the name is undefined
 abbrev pub if_unset : List Macro → List ℕ → List ℕ → Option Macro → Result (List Macro) MacroFault
-if_unset table name text None = stored table (record { name = name; text = text; immediate = false; fixed = false })
+if_unset table name text None =
+    stored table (record { name = name; text = text; immediate = false; fixed = false })
 if_unset table name text (Some macro) = Ok table
 
--- the table after a definition of this name, by a line of the makefile or by an operand, which fixes it
+-- the table after a definition of this name, by a line of the makefile or by an operand, which
+-- fixes it
 abbrev pub set : List Macro → List ℕ → Bool → Op → List ℕ → Result (List Macro) MacroFault
-set table name by_operand Delay text = stored table (record { name = name; text = text; immediate = false; fixed = by_operand })
-set table name by_operand Now text = expansion table None text >>= λ value. stored table (record { name = name; text = value.text; immediate = true; fixed = by_operand })
-set table name by_operand Double text = expansion table None text >>= λ value. stored table (record { name = name; text = doubled value.text; immediate = false; fixed = by_operand })
+set table name by_operand Delay text =
+    stored table (record { name = name; text = text; immediate = false; fixed = by_operand })
+set table name by_operand Now text =
+    expansion table None text >>= λ value.
+    stored table (record { name = name; text = value.text; immediate = true; fixed = by_operand })
+set table name by_operand Double text =
+    expansion table None text >>= λ value.
+    stored table (record {
+      name = name;
+      text = doubled value.text;
+      immediate = false;
+      fixed = by_operand;
+    })
 set table name by_operand IfUnset text = if_unset table name text (macro_named table name)
 set table name by_operand Append text = with_more table name text (macro_named table name)
 
@@ -60,7 +75,8 @@ abbrev pub is_fixed : Option Macro → Bool
 is_fixed None = false
 is_fixed (Some macro) = macro.fixed
 
--- A definition of the makefile: a bad name is refused first, and one that an operand has fixed is passed over.
+-- A definition of the makefile: a bad name is refused first, and one that an operand has fixed is
+-- passed over.
 unfoldable pub defined : List Macro → List ℕ → Op → List ℕ → Result (List Macro) MacroFault
 defined table name op text =
     if not (is_macro_name name) then Err BadMacroName
@@ -71,7 +87,8 @@ defined table name op text =
 abbrev pub without_blanks : List ℕ → List ℕ
 without_blanks text = reverse (trimmed (reverse (trimmed text)))
 
--- the operator of an operand, and what stands before it: `:::=` and `::=` by the colons before the first `=`
+-- the operator of an operand, and what stands before it: `:::=` and `::=` by the colons before the
+-- first `=`
 abbrev pub operator_of : List ℕ → Op × List ℕ
 operator_of before =
     if ends_with (58 ∷ 58 ∷ 58 ∷ []) before then (Double, without_end 3 before)
@@ -87,4 +104,5 @@ operand_set table operator text =
 unfoldable pub with_operand : List Macro → List ℕ → Result (List Macro) MacroFault
 with_operand table operand =
     if not (list_any (is_byte 61) operand) then Err BadMacroName
-    else operand_set table (operator_of (before_first (is_byte 61) operand)) (trimmed (after_first (is_byte 61) operand))
+    else operand_set table (operator_of (before_first (is_byte 61) operand))
+    (trimmed (after_first (is_byte 61) operand))

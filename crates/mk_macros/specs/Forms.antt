@@ -13,8 +13,8 @@ use Rattle.mk_macros.specs.declared.fault.MacroFault.{MacroFault}
 use Rattle.mk_macros.specs.declared.fault.MacroFault.TheVariants.{BadMacroName}
 use Rattle.mk_macros.specs.Names.{is_name_byte}
 
--- a plain byte; `$$`; a reference, `$(..)`, `${..}` or `$c`, with what stands inside it; a reference without an end; a `$`
--- that begins none of these
+-- a plain byte; `$$`; a reference, `$(..)`, `${..}` or `$c`, with what stands inside it; a
+-- reference without an end; a `$` that begins none of these
 pub data Form : Type 0 where
   Byte : ℕ → Form
   Dollars : Form
@@ -58,20 +58,25 @@ some_forms (suc n) (b ∷ text) = (first_form b text).0 ∷ some_forms n (first_
 abbrev pub forms : List ℕ → List Form
 forms text = some_forms (length text) text
 
--- what stands inside a reference: the text of the name and, behind a colon, the two texts round a `=`
+-- what stands inside a reference: the text of the name and, behind a colon, the two texts round a
+-- `=`
 pub record Parts : Type 0 where
   pub name : List ℕ
   pub ends : Option (List ℕ × List ℕ)
 
 abbrev pub parts_round : List ℕ → List ℕ → Option ℕ → Result Parts MacroFault
 parts_round name rest None = Err BadMacroName
-parts_round name rest (Some at) = Ok (record { name = name; ends = Some (take at rest, drop (suc at) rest) })
+parts_round name rest (Some at) =
+    Ok (record { name = name; ends = Some (take at rest, drop (suc at) rest) })
 
 abbrev pub parts_behind : List ℕ → Option ℕ → Result Parts MacroFault
 parts_behind inside None = Ok (record { name = inside; ends = None })
-parts_behind inside (Some at) = parts_round (take at inside) (drop (suc at) inside) (first_outside (is_byte 61) (drop (suc at) inside))
+parts_behind inside (Some at) =
+    parts_round (take at inside) (drop (suc at) inside)
+    (first_outside (is_byte 61) (drop (suc at) inside))
 
--- The first `:` outside an inner reference ends the name, and the first later `=` outside one parts the two texts.
+-- The first `:` outside an inner reference ends the name, and the first later `=` outside one parts
+-- the two texts.
 unfoldable pub parts_of : List ℕ → Result Parts MacroFault
 parts_of inside = parts_behind inside (first_outside (is_byte 58) inside)
 

@@ -11,8 +11,8 @@ use Rattle.mk_macros.specs.declared.locals.Locals as code
 use Rattle.mk_macros.specs.declared.locals.Locals.TheVariants as variant
 use Rattle.mk_macros.specs.Forms.{is_internal}
 
--- what a command speaks of: its target, the target without its known suffix, the first or the inferred prerequisite,
--- and all prerequisites
+-- what a command speaks of: its target, the target without its known suffix, the first or the
+-- inferred prerequisite, and all prerequisites
 pub record Recipe : Type 0 where
   pub target : List ℕ
   pub stem : List ℕ
@@ -84,4 +84,10 @@ internal_of (b ∷ c ∷ d ∷ text) = None
 -- the locals of the code
 abbrev pub recipe_of : code.Locals → Option Recipe
 recipe_of variant.Empty = None
-recipe_of (variant.Recipe target stem first all) = Some (record { target = target.now; stem = stem.now; first = option_map (λ name. name.now) first; all = map (λ name. name.now) all.now })
+recipe_of (variant.Recipe target stem first all) =
+    Some (record {
+      target = target.now;
+      stem = stem.now;
+      first = option_map (λ name. name.now) first;
+      all = map (λ name. name.now) all.now;
+    })

@@ -5,7 +5,10 @@ use Rattle.std.specs.Str.{bytes_eq}
 
 -- A-Z a-z 0-9 . _ -
 abbrev pub is_name_byte : ℕ → Bool
-is_name_byte b = (nat_le 65 b && nat_le b 90) || ((nat_le 97 b && nat_le b 122) || ((nat_le 48 b && nat_le b 57) || (b == 46 || (b == 95 || b == 45))))
+is_name_byte b =
+    (nat_le 65 b && nat_le b 90) ||
+    ((nat_le 97 b && nat_le b 122) ||
+    ((nat_le 48 b && nat_le b 57) || (b == 46 || (b == 95 || b == 45))))
 
 -- one or more of these bytes
 abbrev pub is_macro_name : List ℕ → Bool

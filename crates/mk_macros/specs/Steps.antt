@@ -2,13 +2,9 @@
 use Rattle.std.specs.Prelude.{◌≡◌, ◌⊎◌, Result, Ok, Err}
 use Rattle.mk_macros.specs.declared.fault.MacroFault.{MacroFault}
 use Rattle.mk_macros.specs.declared.fault.MacroFault.TheVariants.{Memory}
+pub use Rattle.mk_lines.specs.Results.{◌>>=◌}
+use Rattle.mk_lines.specs.Results as results
 
-infixl 10 ◌>>=◌
-abbrev pub ◌>>=◌ : {A B : Type 0} → Result A MacroFault → (A → Result B MacroFault) → Result B MacroFault
-(Ok x) >>= f = f x
-(Err e) >>= f = Err e
-
--- What a call returned, seen by view, is what is defined, unless memory ran out, of which nothing is said.
+-- What a call returned, seen by view, is what is defined, unless memory ran out.
 abbrev pub Gives : {X Y : Type 0} → (X → Y) → Result X MacroFault → Result Y MacroFault → Type 0
-Gives view (Ok x) defined = defined ≡ Ok (view x)
-Gives view (Err fault) defined = (fault ≡ Memory) ⊎ (defined ≡ Err fault)
+Gives = results.Gives Memory

@@ -16,29 +16,37 @@ abbrev pub without_end : ℕ → List ℕ → List ℕ
 without_end n text = take (length text - n) text
 
 abbrev pub ends_with : List ℕ → List ℕ → Bool
-ends_with back text = nat_le (length back) (length text) && bytes_eq (drop (length text - length back) text) back
+ends_with back text =
+    nat_le (length back) (length text) && bytes_eq (drop (length text - length back) text) back
 
 -- A text without `%`: where a word ends in it, that end is replaced.
 abbrev pub with_end_replaced : List ℕ → List ℕ → List ℕ → List ℕ
-with_end_replaced old new word = if ends_with old word then without_end (length old) word ++ new else word
+with_end_replaced old new word =
+    if ends_with old word then without_end (length old) word ++ new else word
 
 -- the text with its first `%` replaced by a stem
 abbrev pub with_stem : List ℕ → List ℕ → List ℕ
-with_stem stem new = if list_any is_percent new then before_first is_percent new ++ stem ++ after_first is_percent new else new
+with_stem stem new =
+    if list_any is_percent new then before_first is_percent new ++ stem ++
+    after_first is_percent new else new
 
 -- the word begins and ends so, without overlap
 abbrev pub is_between : List ℕ → List ℕ → List ℕ → Bool
-is_between front back word = nat_le (length front + length back) (length word) && (begins_with front word && ends_with back word)
+is_between front back word =
+    nat_le (length front + length back) (length word) &&
+    (begins_with front word && ends_with back word)
 
--- Round a `%`: where a word has both ends without overlap, it becomes the new text, with what stands between them as
--- its stem.
+-- Round a `%`: where a word has both ends without overlap, it becomes the new text, with what
+-- stands between them as its stem.
 abbrev pub with_pattern_replaced : List ℕ → List ℕ → List ℕ → List ℕ → List ℕ
 with_pattern_replaced front back new word =
-    if is_between front back word then with_stem (drop (length front) (without_end (length back) word)) new else word
+    if is_between front back word then with_stem (drop (length front)
+    (without_end (length back) word)) new else word
 
 abbrev pub replaced : List ℕ → List ℕ → List ℕ → List ℕ
 replaced old new word =
-    if list_any is_percent old then with_pattern_replaced (before_first is_percent old) (after_first is_percent old) new word
+    if list_any is_percent old then with_pattern_replaced (before_first is_percent old)
+    (after_first is_percent old) new word
     else with_end_replaced old new word
 
 -- the words of a value, each replaced or kept, joined by one space

@@ -4,8 +4,8 @@ use Rattle.std.specs.Str.{bytes_eq}
 use Rattle.std.specs.declared.alloc.Global.{Global}
 use Rattle.mk_macros.specs.declared.table.Macro as code
 
--- a macro: its name, its text, whether the text is its value as it stands (immediate) or is expanded at each use
--- (delayed), and whether an operand has fixed it
+-- a macro: its name, its text, whether the text is its value as it stands (immediate) or is
+-- expanded at each use (delayed), and whether an operand has fixed it
 pub record Macro : Type 0 where
   pub name : List ℕ
   pub text : List ℕ
@@ -22,16 +22,24 @@ macro_named table name = find (is_called name) table
 -- the table with a macro in place of the one of its name, or behind all others
 unfoldable pub with_macro : List Macro → Macro → List Macro
 with_macro [] macro = macro ∷ []
-with_macro (other ∷ table) macro = if is_called macro.name other then macro ∷ table else other ∷ with_macro table macro
+with_macro (other ∷ table) macro =
+    if is_called macro.name other then macro ∷ table else other ∷ with_macro table macro
 
 -- the table with a space and more text behind the text of this macro, if there is one
 abbrev pub with_text_behind : List Macro → List ℕ → Option Macro → List Macro
 with_text_behind table more None = table
-with_text_behind table more (Some macro) = with_macro table (record macro { text = macro.text ++ 32 ∷ more })
+with_text_behind table more (Some macro) =
+    with_macro table (record macro { text = macro.text ++ 32 ∷ more })
 
 -- a macro of the code, of this name
 abbrev pub macro_of : List ℕ → code.Macro → Macro
-macro_of name macro = record { name = name; text = macro.text.items; immediate = macro.immediate; fixed = macro.fixed }
+macro_of name macro =
+    record {
+      name = name;
+      text = macro.text.items;
+      immediate = macro.immediate;
+      fixed = macro.fixed;
+    }
 
 -- an entry of the code's table
 abbrev pub entry_view : Vec ℕ Global × code.Macro → Macro

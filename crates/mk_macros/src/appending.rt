@@ -50,7 +50,8 @@ pub fn append_text(
     text: &[u8],
     into: &mut Vec<u8>,
 ) -> Result<Used, MacroFault>
-    ensures { Appends into.old.items into.new.items result (expanded deep (scope_view scope.now) (names_in going.now) references text.now) }
+    ensures { Appends into.old.items into.new.items result (expanded deep (scope_view scope.now)
+        (names_in going.now) references text.now) }
 {
     let start = into.len();
     let mut used = Used {
@@ -84,7 +85,9 @@ fn append_form(
     form: Form<'_>,
     into: &mut Vec<u8>,
 ) -> Result<Used, MacroFault>
-    ensures { Appends into.old.items into.new.items result (form_within (scope_view scope.now) (below deep (scope_view scope.now)) (names_in going.now) references room (form_view form.entry)) }
+    ensures { Appends into.old.items into.new.items result (form_within (scope_view scope.now)
+        (below deep (scope_view scope.now))
+        (names_in going.now) references room (form_view form.entry)) }
 {
     match form {
         Form::Dollars => {
@@ -114,7 +117,8 @@ fn append_reference(
     inside: &[u8],
     into: &mut Vec<u8>,
 ) -> Result<Used, MacroFault>
-    ensures { Appends into.old.items into.new.items result (reference_within (scope_view scope.now) (below deep (scope_view scope.now)) (names_in going.now) references room inside.now) }
+    ensures { Appends into.old.items into.new.items result (reference_within (scope_view scope.now)
+        (below deep (scope_view scope.now)) (names_in going.now) references room inside.now) }
 {
     let parts = parts_of(scope.alloc, inside)?;
     let name = expanded_piece(scope, deep, going, references, parts.name)?;
@@ -134,7 +138,8 @@ fn append_named(
     name: &Piece<'_>,
     into: &mut Vec<u8>,
 ) -> Result<Used, MacroFault>
-    ensures { Appends into.old.items into.new.items result (behind_name (scope_view scope.now) (below deep (scope_view scope.now)) (names_in going.now) room (piece_view name.now) None) }
+    ensures { Appends into.old.items into.new.items result (behind_name (scope_view scope.now)
+        (below deep (scope_view scope.now)) (names_in going.now) room (piece_view name.now) None) }
 {
     let start = into.len();
     let value = append_value(
@@ -165,7 +170,9 @@ fn append_replaced(
     ends: Ends<'_>,
     into: &mut Vec<u8>,
 ) -> Result<Used, MacroFault>
-    ensures { Appends into.old.items into.new.items result (behind_name (scope_view scope.now) (below deep (scope_view scope.now)) (names_in going.now) room (piece_view name.now) (Some (ends_view ends.entry))) }
+    ensures { Appends into.old.items into.new.items result (behind_name (scope_view scope.now)
+        (below deep (scope_view scope.now)) (names_in going.now) room (piece_view name.now)
+        (Some (ends_view ends.entry))) }
 {
     let old = expanded_piece(scope, deep, going, name.used.references, ends.old)?;
     let new = expanded_piece(scope, deep, going, old.used.references, ends.new)?;
@@ -195,7 +202,9 @@ fn append_value(
     name: &[u8],
     into: &mut Vec<u8>,
 ) -> Result<Used, MacroFault>
-    ensures { Appends into.old.items into.new.items result (value_of (scope_view scope.now) (below deep (scope_view scope.now)) (names_in going.now) references name.now (internal_of name.now)) }
+    ensures { Appends into.old.items into.new.items result (value_of (scope_view scope.now)
+        (below deep (scope_view scope.now))
+        (names_in going.now) references name.now (internal_of name.now)) }
 {
     if let Some((byte, part)) = internal_of(name) {
         return append_internal(scope, references, byte, part, into);
@@ -270,7 +279,8 @@ fn expanded_piece<'a>(
     references: usize,
     text: &'a [u8],
 ) -> Result<Piece<'a>, MacroFault>
-    ensures { Gives piece_view result (below deep (scope_view scope.now) (names_in going.now) references text.now) }
+    ensures { Gives piece_view result (below deep (scope_view scope.now)
+        (names_in going.now) references text.now) }
 {
     let (_run, behind) = cut_at_dollar(text);
     if deep > 0 && behind.is_none() {
@@ -294,7 +304,8 @@ fn append_deeper(
     text: &[u8],
     into: &mut Vec<u8>,
 ) -> Result<Used, MacroFault>
-    ensures { Appends into.old.items into.new.items result (below deep (scope_view scope.now) (names_in going.now) references text.now) }
+    ensures { Appends into.old.items into.new.items result (below deep (scope_view scope.now)
+        (names_in going.now) references text.now) }
 {
     if deep == 0 {
         return Err(MacroFault::TooManyReferences);

@@ -50,7 +50,8 @@ fn operator_of(before: &[u8]) -> (Op, &[u8])
 impl MacroTable {
     /// The value of a text that is no command.
     fn value_of(&self, text: &[u8]) -> Result<Vec<u8>, MacroFault>
-        ensures { Gives (λ value. value.items) result (value_text (expansion self.now None text.now)) }
+        ensures { Gives (λ value.
+            value.items) result (value_text (expansion self.now None text.now)) }
     {
         let found = self.expand(self.alloc, text, &Locals::Empty)?;
         Ok(found.text.into_owned(self.alloc)?)
@@ -70,7 +71,13 @@ impl MacroTable {
 
     /// Stores a copy of a text that is expanded at each use.
     fn delay(&mut self, name: &[u8], text: &[u8], fixed: bool) -> Result<(), MacroFault>
-        ensures exact { Gives (λ _. self.new) result (stored self.old (record { name = name.now; text = text.now; immediate = false; fixed = fixed })) }
+        ensures exact { Gives (λ _.
+            self.new) result (stored self.old (record {
+              name = name.now;
+              text = text.now;
+              immediate = false;
+              fixed = fixed;
+            })) }
         ensures unchanged { OnErr result (self.new ≡ self.old) }
     {
         if text.len() > MAX_LENGTH {
@@ -99,10 +106,11 @@ impl MacroTable {
         }
     }
 
-    /// Puts a space and more text behind the text of a macro, where it is defined and both are of at
-    /// most 1,048,576 bytes.
+    /// Puts a space and more text behind the text of a macro, where it is defined and both are of
+    /// at most 1,048,576 bytes.
     fn store_more(&mut self, name: &[u8], more: &[u8]) -> Result<(), MacroFault>
-        ensures exact { Gives (λ _. self.new) result (more_stored self.old more.now (macro_named self.old name.now)) }
+        ensures exact { Gives (λ _.
+            self.new) result (more_stored self.old more.now (macro_named self.old name.now)) }
         ensures unchanged { OnErr result (self.new ≡ self.old) }
     {
         let Some(entry) = self.get(name) else {
@@ -117,7 +125,8 @@ impl MacroTable {
 
     /// Takes a text with `+=`.
     fn set_more(&mut self, name: &[u8], text: &[u8]) -> Result<(), MacroFault>
-        ensures exact { Gives (λ _. self.new) result (with_more self.old name.now text.now (macro_named self.old name.now)) }
+        ensures exact { Gives (λ _.
+            self.new) result (with_more self.old name.now text.now (macro_named self.old name.now)) }
         ensures unchanged { OnErr result (self.new ≡ self.old) }
     {
         let Some(entry) = self.get(name) else {
@@ -132,7 +141,8 @@ impl MacroTable {
 
     /// Takes a text with `?=`.
     fn set_if_unset(&mut self, name: &[u8], text: &[u8]) -> Result<(), MacroFault>
-        ensures exact { Gives (λ _. self.new) result (if_unset self.old name.now text.now (macro_named self.old name.now)) }
+        ensures exact { Gives (λ _.
+            self.new) result (if_unset self.old name.now text.now (macro_named self.old name.now)) }
         ensures unchanged { OnErr result (self.new ≡ self.old) }
     {
         if self.get(name).is_some() {
@@ -176,7 +186,8 @@ impl MacroTable {
 
     /// Takes a definition of a good name that isn't fixed, or that a later operand sets.
     fn set(&mut self, name: &[u8], by_operand: bool, op: Op, text: &[u8]) -> Result<(), MacroFault>
-        ensures exact { Gives (λ _. self.new) result (set self.old name.now by_operand op text.now) }
+        ensures exact { Gives (λ _.
+            self.new) result (set self.old name.now by_operand op text.now) }
         ensures unchanged { OnErr result (self.new ≡ self.old) }
     {
         match op {
@@ -190,10 +201,11 @@ impl MacroTable {
 
     /// Takes a definition of the makefile (the standard's `make`, "Macros").
     ///
-    /// `BadMacroName` where the name isn't one or more of `A-Z a-z 0-9 . _ -`. A definition of a name
-    /// that an operand has fixed is passed over, whatever its text. Then the first fault of the text,
-    /// where the operator has it expanded at once, and `ValueTooLong` where more than 1,048,576 bytes
-    /// would be stored. The table stays as it was after any fault, want of memory too.
+    /// `BadMacroName` where the name isn't one or more of `A-Z a-z 0-9 . _ -`. A definition of a
+    /// name that an operand has fixed is passed over, whatever its text. Then the first fault of
+    /// the text, where the operator has it expanded at once, and `ValueTooLong` where more than
+    /// 1,048,576 bytes would be stored. The table stays as it was after any fault, want of memory
+    /// too.
     #[tactic(auto, unfolding(crate::specs::Definitions::defined))]
     pub fn define(&mut self, name: &[u8], op: Op, text: &[u8]) -> Result<(), MacroFault>
         ensures exact { Gives (λ _. self.new) result (defined self.old name.now op text.now) }
@@ -208,9 +220,9 @@ impl MacroTable {
         self.set(name, false, op, text)
     }
 
-    /// Takes a macro operand, which no later definition of the makefile overrides: a name, `=`, `::=`
-    /// or `:::=`, and a text, whose leading blanks are dropped (the standard's `make`, "Operands" and
-    /// "Macros").
+    /// Takes a macro operand, which no later definition of the makefile overrides: a name, `=`,
+    /// `::=` or `:::=`, and a text, whose leading blanks are dropped (the standard's `make`,
+    /// "Operands" and "Macros").
     ///
     /// `BadMacroName` where the operand has no `=`, or what stands before the operator, without the
     /// blanks at its ends, is no macro name. Then as `define`.

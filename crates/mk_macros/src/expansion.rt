@@ -42,7 +42,8 @@ impl MacroTable {
         locals: &Locals,
     ) -> Result<Expansion<'a>, MacroFault>
         ensures exact { Gives expansion_view result (told (expansion self.now (recipe_of locals.now) text.now)) }
-        ensures lends { IfOk result (λ found. is_borrowed found.text ≡ not (list_any (is_byte 36) text.now)) }
+        ensures lends { IfOk result (λ found. is_borrowed found.text ≡
+            not (list_any (is_byte 36) text.now)) }
     {
         let (_run, behind) = cut_at_dollar(text);
         if behind.is_none() {
@@ -65,7 +66,8 @@ impl MacroTable {
 /// A text without `$` as its own expansion.
 fn lent(text: &[u8]) -> Result<Expansion<'_>, MacroFault>
     requires { IsPlain text.now }
-    ensures exact { (table : List Macro) → (recipe : Option Recipe) → Gives expansion_view result (told (expansion table recipe text.now)) }
+    ensures exact { (table : List Macro) → (recipe : Option Recipe) →
+        Gives expansion_view result (told (expansion table recipe text.now)) }
     ensures lends { IfOk result (λ found. is_borrowed found.text ≡ true) }
 {
     if text.len() > MAX_LENGTH {

@@ -57,7 +57,8 @@ pub fn dollar_form(alloc: Global, text: &[u8]) -> Result<(Form<'_>, &[u8]), Allo
 
 /// A reference up to its closing byte, and the text behind it.
 fn closed_at(alloc: Global, close: u8, text: &[u8]) -> Result<(Form<'_>, &[u8]), AllocError>
-    ensures { IfOk result (λ found. (form_view found.0, found.1.now) ≡ closed_at text.now (first_outside (is_byte close) text.now)) }
+    ensures { IfOk result (λ found. (form_view found.0, found.1.now) ≡
+        closed_at text.now (first_outside (is_byte close) text.now)) }
 {
     let Some((inside, behind)) = cut_outside(alloc, close, text)? else {
         return Ok((Form::Endless, &[]));
@@ -67,7 +68,8 @@ fn closed_at(alloc: Global, close: u8, text: &[u8]) -> Result<(Form<'_>, &[u8]),
 
 /// What stands before a byte and behind it, where it first stands outside references.
 fn cut_outside(alloc: Global, byte: u8, text: &[u8]) -> Result<Option<(&[u8], &[u8])>, AllocError>
-    ensures { IfOk result (λ found. option_map pair_view found ≡ round text.now (first_outside (is_byte byte) text.now)) }
+    ensures { IfOk result (λ found. option_map pair_view found ≡
+        round text.now (first_outside (is_byte byte) text.now)) }
 {
     let Some(at) = place_outside(alloc, byte, text)? else {
         return Ok(None);
@@ -75,8 +77,8 @@ fn cut_outside(alloc: Global, byte: u8, text: &[u8]) -> Result<Option<(&[u8], &[
     Ok(Some(halves(text, at)))
 }
 
-/// Where a byte first stands outside references. Where no `$` stands before its first place, that is
-/// the one.
+/// Where a byte first stands outside references. Where no `$` stands before its first place, that
+/// is the one.
 fn place_outside(alloc: Global, byte: u8, text: &[u8]) -> Result<Option<usize>, AllocError>
     ensures exact { IfOk result (λ at. at ≡ first_outside (is_byte byte) text.now) }
     ensures within { IfOk result (λ at. IfSome at (λ k. k < length text.now)) }

@@ -5,8 +5,6 @@ mod appending;
 mod blanks;
 mod bytes;
 pub mod definition_laws;
-#[cfg(test)]
-mod definition_tests;
 mod definitions;
 mod expansion;
 mod fault;
@@ -20,8 +18,6 @@ mod piece;
 mod room;
 mod substitution;
 mod table;
-#[cfg(test)]
-mod tests;
 
 pub use blanks::without_blanks;
 pub use expansion::Expansion;

@@ -33,8 +33,8 @@ pub enum Locals<'a> {
 pub enum Part {
     /// The name as it stands.
     Whole,
-    /// What stands before the last slash, `D`: `.` without a slash, `/` where the only one stands at
-    /// the front.
+    /// What stands before the last slash, `D`: `.` without a slash, `/` where the only one stands
+    /// at the front.
     Directory,
     /// What stands behind the last slash, `F`: the whole name without one.
     File,
@@ -104,7 +104,8 @@ fn part_of(part: Part, name: &[u8]) -> &[u8]
 
 /// Appends a word, with a space before it where it isn't the first.
 fn push_next(into: &mut Vec<u8>, is_first: bool, word: &[u8]) -> Result<(), AllocError>
-    ensures { OnOk result (into.new.items ≡ into.old.items ++ (if is_first then word.now else 32 ∷ word.now)) }
+    ensures { OnOk result (into.new.items ≡
+        into.old.items ++ (if is_first then word.now else 32 ∷ word.now)) }
 {
     if !is_first {
         into.push(b' ')?;
@@ -115,7 +116,8 @@ fn push_next(into: &mut Vec<u8>, is_first: bool, word: &[u8]) -> Result<(), Allo
 
 /// The parts of names, with a space between each two.
 fn joined(alloc: Global, names: &[&str], part: Part) -> Result<Vec<u8>, AllocError>
-    ensures { IfOk result (λ value. value.items ≡ join_with_byte 32 (map (part_of part) (map (λ name. name.now) names.now))) }
+    ensures { IfOk result (λ value. value.items ≡
+        join_with_byte 32 (map (part_of part) (map (λ name. name.now) names.now))) }
 {
     let mut value = Vec::new(alloc);
     for (i, name) in names.iter().enumerate() {
@@ -126,7 +128,8 @@ fn joined(alloc: Global, names: &[&str], part: Part) -> Result<Vec<u8>, AllocErr
 
 /// The names, each where it comes first.
 fn distinct<'a>(alloc: Global, names: &[&'a str]) -> Result<IndexSet<&'a str>, AllocError>
-    ensures { IfOk result (λ set. map (λ name. name.now) set.keys ≡ distinct (map (λ name. name.now) names.now)) }
+    ensures { IfOk result (λ set. map (λ name. name.now) set.keys ≡
+        distinct (map (λ name. name.now) names.now)) }
 {
     let mut set = IndexSet::new(alloc);
     for name in names {

@@ -23,7 +23,8 @@ pub struct Piece<'a> {
 /// A text without `$` as its own expansion, whatever the names mean.
 pub fn lent(references: usize, text: &[u8]) -> Result<Piece<'_>, MacroFault>
     requires { IsPlain text.now }
-    ensures { (levels : ℕ) → (scope : Scope) → (going : List (List ℕ)) → Gives piece_view result (expanded levels scope going references text.now) }
+    ensures { (levels : ℕ) → (scope : Scope) → (going : List (List ℕ)) →
+        Gives piece_view result (expanded levels scope going references text.now) }
 {
     if text.len() > MAX_LENGTH {
         return Err(MacroFault::ValueTooLong);

@@ -28,7 +28,9 @@ impl<'a> Model for Cut<'a> {
 
     ghost view = { λ cut. cut.text.now };
 
-    ghost invariant = { λ cut. (cut.has_percent ≡ list_any is_percent cut.text.now) × (cut.before.now ≡ before_first is_percent cut.text.now) × (cut.after.now ≡ after_first is_percent cut.text.now) };
+    ghost invariant = { λ cut. (cut.has_percent ≡ list_any is_percent cut.text.now) ×
+        (cut.before.now ≡ before_first is_percent cut.text.now) ×
+        (cut.after.now ≡ after_first is_percent cut.text.now) };
 }
 
 impl<'a> Cut<'a> {
@@ -111,7 +113,8 @@ fn push_by_pattern(
     new: &Cut,
     word: &[u8],
 ) -> Result<(), AllocError>
-    ensures { OnOk result (into.new.items ≡ into.old.items ++ with_pattern_replaced front.now back.now new.now word.now) }
+    ensures { OnOk result (into.new.items ≡
+        into.old.items ++ with_pattern_replaced front.now back.now new.now word.now) }
 {
     if !is_between(front, back, word) {
         into.extend_from_slice(word)?;
@@ -124,7 +127,8 @@ fn push_by_pattern(
 
 /// Appends a word, with its end replaced where it ends in the old text.
 fn push_by_end(into: &mut Vec<u8>, old: &[u8], new: &[u8], word: &[u8]) -> Result<(), AllocError>
-    ensures { OnOk result (into.new.items ≡ into.old.items ++ with_end_replaced old.now new.now word.now) }
+    ensures { OnOk result (into.new.items ≡
+        into.old.items ++ with_end_replaced old.now new.now word.now) }
 {
     if !ends_with(old, word) {
         into.extend_from_slice(word)?;
@@ -155,7 +159,10 @@ fn push_next(
     new: &Cut,
     word: &[u8],
 ) -> Result<(), AllocError>
-    ensures { OnOk result (into.new.items ≡ into.old.items ++ (if is_first then replaced old.now new.now word.now else 32 ∷ replaced old.now new.now word.now)) }
+    ensures { OnOk result (into.new.items ≡
+        into.old.items ++
+        (if is_first then replaced old.now new.now word.now else 32 ∷
+        replaced old.now new.now word.now)) }
 {
     if !is_first {
         into.push(b' ')?;
@@ -164,8 +171,8 @@ fn push_next(
     Ok(())
 }
 
-/// Appends the words of a value, each with its end `old` replaced by `new`, or by a pattern with `%`,
-/// joined by one space: `$(N:old=new)`. Words that don't end so stay.
+/// Appends the words of a value, each with its end `old` replaced by `new`, or by a pattern with
+/// `%`, joined by one space: `$(N:old=new)`. Words that don't end so stay.
 ///
 /// The fault is `ValueTooLong` exactly where that text is over `room` bytes, found no later than a
 /// word behind it, or want of memory. What `into` holds after a fault isn't said.
@@ -176,9 +183,11 @@ pub fn push_substituted(
     new: &[u8],
     value: &[u8],
 ) -> Result<(), MacroFault>
-    ensures ok { OnOk result (into.new.items ≡ into.old.items ++ substituted old.now new.now value.now) }
+    ensures ok { OnOk result (into.new.items ≡
+        into.old.items ++ substituted old.now new.now value.now) }
     ensures fits { OnOk result (length (substituted old.now new.now value.now) ≤ room) }
-    ensures err { IfErr result (λ fault. (fault ≡ Memory) ⊎ ((fault ≡ ValueTooLong) × (room < length (substituted old.now new.now value.now)))) }
+    ensures err { IfErr result (λ fault. (fault ≡ Memory) ⊎
+        ((fault ≡ ValueTooLong) × (room < length (substituted old.now new.now value.now)))) }
 {
     let old_cut = Cut::new(old);
     let new_cut = Cut::new(new);

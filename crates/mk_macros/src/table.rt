@@ -50,7 +50,8 @@ impl MacroTable {
 
     /// The macro of a name, where it is defined.
     pub(crate) fn get(&self, name: &[u8]) -> Option<&Macro>
-        ensures { option_map (λ found. macro_of name.now found.now) result ≡ macro_named self.now name.now }
+        ensures { option_map (λ found. macro_of name.now found.now) result ≡
+            macro_named self.now name.now }
     {
         self.macros.get(name)
     }
@@ -68,7 +69,8 @@ impl MacroTable {
     /// Puts a space and more text behind the text of the macro of a name, where it is defined. The
     /// text grows in place, so that many appends cost no more than the text they make.
     pub(crate) fn append(&mut self, name: &[u8], more: &[u8]) -> Result<(), AllocError>
-        ensures ok { OnOk result (self.new ≡ with_text_behind self.old more.now (macro_named self.old name.now)) }
+        ensures ok { OnOk result (self.new ≡
+            with_text_behind self.old more.now (macro_named self.old name.now)) }
         ensures err { OnErr result (self.new ≡ self.old) }
     {
         let Some(entry) = self.macros.get_mut(name) else {

@@ -42,10 +42,10 @@ pub record IsKept (P : State → Type 0) (Allows : Bool → Type 0) : Type 0 whe
   pub by_missing : (state : State) (missing : List (List ℕ)) → P state → P (record state { missing = missing })
 
 module _ (P : State → Type 0) (Allows : Bool → Type 0) (kept : IsKept P Allows) (reader : Reader) where
-  abbrev KeepsTexts : (List ℕ → List ℕ → State → Result State ReadFault) → Type 0
+  abbrev pub KeepsTexts : (List ℕ → List ℕ → State → Result State ReadFault) → Type 0
   KeepsTexts read = (name bytes : List ℕ) (state : State) → P state → Holds P (read name bytes state)
 
-  abbrev KeepsDeeper : Deeper → Type 0
+  abbrev pub KeepsDeeper : Deeper → Type 0
   KeepsDeeper None = Unit {0}
   KeepsDeeper (Some read) = KeepsTexts read
 
@@ -85,7 +85,7 @@ module _ (P : State → Type 0) (Allows : Bool → Type 0) (kept : IsKept P Allo
   by_text : (deeper : Deeper) → KeepsDeeper deeper → (text : Text) → Allows text.default → (bytes : List ℕ) (state : State) → P state → Holds P (with_text reader deeper text bytes state)
   by_text deeper keeps text allows bytes state p = holds_step P (in_file text.file (logical_lines bytes)) _ (λ lines. by_lines deeper keeps text allows lines state p)
 
-  by_reading : (levels : ℕ) → KeepsTexts (reading levels reader)
+  pub by_reading : (levels : ℕ) → KeepsTexts (reading levels reader)
   unfolding reading
   by_reading zero name bytes state p = by_text None tt _ kept.own bytes state p
   by_reading (suc levels) name bytes state p = by_text (Some (reading levels reader)) (by_reading levels) _ kept.own bytes state p

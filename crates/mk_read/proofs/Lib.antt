@@ -38,3 +38,4 @@ mod WellNamed
 mod ListedSuffixes
 mod BracketFree
 mod Answered
+mod Blocks

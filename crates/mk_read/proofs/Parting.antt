@@ -98,7 +98,7 @@ module _ (reader : Reader) (deeper : Deeper) (text : Text) where
   parted_plain place state (Err fault) other = refl
 
   -- but for command lines and comments, lines don't ask what command lines belong to
-  parted_line : (state : State) (line : Line) → line.command ≡ false → is_comment_line line ≡ false → with_line reader deeper text (parted state) line ≡ with_line reader deeper text state line
+  pub parted_line : (state : State) (line : Line) → line.command ≡ false → is_comment_line line ≡ false → with_line reader deeper text (parted state) line ≡ with_line reader deeper text state line
   unfolding with_line
   parted_line state line plain other = at line.command plain other
     where

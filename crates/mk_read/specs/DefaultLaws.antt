@@ -9,37 +9,57 @@ abbrev pub default_macro : List ℕ → List ℕ → Macro
 default_macro name text = record { name = name; text = text; immediate = false; fixed = false }
 
 abbrev pub default_command : ℕ → List ℕ → Command
-default_command line text = record { text = text; place = record { file = codes "(default)"; line = line } }
+default_command line text =
+    record { text = text; place = record { file = codes "(default)"; line = line } }
 
 abbrev pub default_rule : ℕ → List ℕ → List Command → RuleRead
-default_rule line target commands = record { targets = target ∷ []; words = []; commands = Some commands; place = record { file = codes "(default)"; line = line }; default = true }
+default_rule line target commands =
+    record {
+      targets = target ∷
+          [];
+      words = [];
+      commands = Some commands;
+      place = record { file = codes "(default)"; line = line };
+      default = true;
+    }
 
 abbrev pub default_state : State
 default_state = record {
-  table = default_macro (codes "MAKE") (codes "make") ∷ default_macro (codes "CC") (codes "c17") ∷ default_macro (codes "CFLAGS") (codes "-O1") ∷ default_macro (codes "LDFLAGS") [] ∷ [];
+  table =
+      default_macro (codes "MAKE") (codes "make") ∷ default_macro (codes "CC") (codes "c17") ∷
+      default_macro (codes "CFLAGS") (codes "-O1") ∷ default_macro (codes "LDFLAGS") [] ∷ [];
   suffixes = codes ".o" ∷ codes ".c" ∷ codes ".sh" ∷ [];
   phony = [];
   not_parallel = false;
   read = record {
-    earlier = default_rule 6 (codes ".c") (default_command 7 (codes "$(CC) $(CFLAGS) $(LDFLAGS) -o $@ $<") ∷ [])
-        ∷ default_rule 8 (codes ".sh") (default_command 9 (codes "cp $< $@") ∷ default_command 10 (codes "chmod a+x $@") ∷ []) ∷ [];
-    owner = Last (default_rule 11 (codes ".c.o") (default_command 12 (codes "$(CC) $(CFLAGS) -c $<") ∷ []));
+    earlier =
+        default_rule 6 (codes ".c")
+        (default_command 7 (codes "$(CC) $(CFLAGS) $(LDFLAGS) -o $@ $<") ∷ [])
+        ∷ default_rule 8 (codes ".sh") (default_command 9 (codes "cp $< $@") ∷
+        default_command 10 (codes "chmod a+x $@") ∷ []) ∷ [];
+    owner =
+        Last (default_rule 11 (codes ".c.o") (default_command 12 (codes "$(CC) $(CFLAGS) -c $<") ∷
+        []));
   };
   texts = [];
   missing = [];
 }
 
--- The default text is read without a fault: three suffixes, four macros, and a rule line with commands for each of `.c`,
--- `.sh` and `.c.o`.
+-- The default text is read without a fault: three suffixes, four macros, and a rule line with
+-- commands for each of `.c`, `.sh` and `.c.o`.
 abbrev pub DefaultTextSaysThis : Type 0
 DefaultTextSaysThis = (reader : Reader) → after_default reader true ≡ Ok default_state
 
--- The rule lines of the default text, in a makefile that is read: those three of which, by the suffixes after all reading,
--- a target is an inference name, as they stand in the default text.
+-- The rule lines of the default text, in a makefile that is read: those three of which, by the
+-- suffixes after all reading, a target is an inference name, as they stand in the default text.
 abbrev pub DefaultRulesStay : Type 0
-DefaultRulesStay = (reader : Reader) → (file : Option (List ℕ)) → (operands : List (List ℕ)) → (m : Makefile) → makefile reader file true operands ≡ Ok m
+DefaultRulesStay =
+    (reader : Reader) → (file : Option (List ℕ)) → (operands : List (List ℕ)) → (m : Makefile) →
+    makefile reader file true operands ≡ Ok m
     → of_default_text m.rules ≡ filter (counts m.suffixes) (rules_of default_state.read)
 
 -- Without the default text there is no rule line of it.
 abbrev pub NoDefaultRules : Type 0
-NoDefaultRules = (reader : Reader) → (file : Option (List ℕ)) → (operands : List (List ℕ)) → (m : Makefile) → makefile reader file false operands ≡ Ok m → of_default_text m.rules ≡ []
+NoDefaultRules =
+    (reader : Reader) → (file : Option (List ℕ)) → (operands : List (List ℕ)) → (m : Makefile) →
+    makefile reader file false operands ≡ Ok m → of_default_text m.rules ≡ []

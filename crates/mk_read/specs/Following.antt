@@ -21,21 +21,30 @@ abbrev pub Later : ℕ → Option ℕ → Type 0
 Later n None = Unit {0}
 Later n (Some k) = n < k
 
--- A step of reading over files that are told, from a state. Its answer is what is defined, where no read fails up to
--- there. A failed read is what is defined where the read of some later number fails. Nothing is said of want of memory.
-abbrev pub Follows : Told → (Reader → Result State ReadFault) → State → Result State ReadFault → Type 0
-Follows told step old (Ok new) = (reads old ≤ reads new) × ((failing : Option ℕ) → Later (reads new) failing → step (reader_of told failing) ≡ Ok new)
-Follows told step old (Err (ReadFailed place name)) = (k : ℕ) × (reads old < k) × (step (reader_of told (Some k)) ≡ Err (ReadFailed place name))
+-- A step of reading over files that are told, from a state. Its answer is what is defined, where no
+-- read fails up to there. A failed read is what is defined where the read of some later number
+-- fails. Nothing is said of want of memory.
+abbrev pub Follows : Told → (Reader → Result State ReadFault) → State → Result State ReadFault →
+    Type 0
+Follows told step old (Ok new) =
+    (reads old ≤ reads new) ×
+    ((failing : Option ℕ) → Later (reads new) failing → step (reader_of told failing) ≡ Ok new)
+Follows told step old (Err (ReadFailed place name)) =
+    (k : ℕ) × (reads old < k) × (step (reader_of told (Some k)) ≡ Err (ReadFailed place name))
 Follows told step old (Err fault) = Fails fault (step (reader_of told None))
 
--- The answer of a whole reading over files that are told: what is defined where no read fails. A failed read is what is
--- defined where the read of some number fails. Nothing is said of want of memory.
-abbrev pub Answers : {A : Type 0} → Told → (Reader → Result A ReadFault) → Result A ReadFault → Type 0
+-- The answer of a whole reading over files that are told: what is defined where no read fails. A
+-- failed read is what is defined where the read of some number fails. Nothing is said of want of
+-- memory.
+abbrev pub Answers : {A : Type 0} → Told → (Reader → Result A ReadFault) → Result A ReadFault →
+    Type 0
 Answers told reads_as (Ok x) = reads_as (reader_of told None) ≡ Ok x
-Answers told reads_as (Err (ReadFailed place name)) = (k : ℕ) × (reads_as (reader_of told (Some k)) ≡ Err (ReadFailed place name))
+Answers told reads_as (Err (ReadFailed place name)) =
+    (k : ℕ) × (reads_as (reader_of told (Some k)) ≡ Err (ReadFailed place name))
 Answers told reads_as (Err fault) = Fails fault (reads_as (reader_of told None))
 
--- the count of failed reads, old and new, with a fault: it rises where a read failed, and nowhere else
+-- the count of failed reads, old and new, with a fault: it rises where a read failed, and nowhere
+-- else
 abbrev pub Rises : ℕ → ℕ → ReadFault → Type 0
 Rises old new (ReadFailed place name) = old < new
 Rises old new fault = new ≡ old

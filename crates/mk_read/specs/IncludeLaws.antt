@@ -8,23 +8,32 @@ use Rattle.mk_read.specs.State.{State}
 
 -- A line `include NAME` includes the lines of the file of this name, whatever was read before it.
 abbrev pub SpelledLinesIncludeTheirFile : Type 0
-SpelledLinesIncludeTheirFile = (reader : Reader) → (text : Text) → (line : Line) → (name : List ℕ) → (lines : List Line) → (state : State)
-    → line.command ≡ false → line.text ≡ codes "include " ++ name → is_make_name name ≡ true → FileHolds reader name lines
+SpelledLinesIncludeTheirFile =
+    (reader : Reader) → (text : Text) → (line : Line) → (name : List ℕ) → (lines : List Line) →
+    (state : State)
+    → line.command ≡ false → line.text ≡ codes "include " ++ name → is_make_name name ≡ true →
+    FileHolds reader name lines
     → IncludesLines reader text line lines state
 
 -- a makefile without places and the names of its texts
 abbrev pub content : Makefile → Makefile
 content m = record (unplaced m) { texts = [] }
 
--- Two makefiles lie beside each other: one has an include line, and the other has in its place the lines of the files
--- that it includes. Where the first is read, so is the second, and they are the same but for places and the names of
--- texts. No read fails, and neither the files nor what follows the include line begin with a command line.
+-- Two makefiles lie beside each other: one has an include line, and the other has in its place the
+-- lines of the files that it includes. Where the first is read, so is the second, and they are the
+-- same but for places and the names of texts. No read fails, and neither the files nor what follows
+-- the include line begin with a command line.
 abbrev pub MakefilesMayHaveTheLinesInPlace : Type 0
-MakefilesMayHaveTheLinesInPlace = (reader : Reader) → (including inlined one other : List ℕ) → (defaults : Bool) → (operands : List (List ℕ)) → (m : Makefile) → (before lines after : List Line) → (line : Line)
+MakefilesMayHaveTheLinesInPlace =
+    (reader : Reader) → (including inlined one other : List ℕ) → (defaults : Bool) →
+    (operands : List (List ℕ)) → (m : Makefile) → (before lines after : List Line) → (line : Line)
     → reader.failing ≡ None → named (Some inlined) ≡ Ok (Some inlined)
     → reader.text including ≡ Some one → logical_lines one ≡ Ok (before ++ line ∷ after)
-    → reader.text inlined ≡ Some other → lines_said (logical_lines other) ≡ lines_said (Ok (before ++ lines ++ after))
-    → ((state : State) → IncludesLines reader (record { file = including; default = false }) line lines state)
+    → reader.text inlined ≡ Some other →
+    lines_said (logical_lines other) ≡ lines_said (Ok (before ++ lines ++ after))
+    → ((state : State) →
+    IncludesLines reader (record { file = including; default = false }) line lines state)
     → begins_without_command after ≡ true
     → makefile reader (Some including) defaults operands ≡ Ok m
-    → (n : Makefile) × (makefile reader (Some inlined) defaults operands ≡ Ok n) × (content n ≡ content m)
+    → (n : Makefile) × (makefile reader (Some inlined) defaults operands ≡ Ok n) ×
+    (content n ≡ content m)

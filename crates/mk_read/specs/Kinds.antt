@@ -18,7 +18,8 @@ use Rattle.mk_read.specs.declared.kinds.IncludeLine as include
 use Rattle.mk_read.specs.declared.kinds.AssignmentLine as assignment
 use Rattle.mk_read.specs.declared.kinds.RuleLine as rule
 
--- an include line: whether a file that isn't there is passed over, and the text with the names of the files
+-- an include line: whether a file that isn't there is passed over, and the text with the names of
+-- the files
 pub record IncludeLine : Type 0 where
   pub optional : Bool
   pub names : List ℕ
@@ -29,7 +30,8 @@ pub record AssignmentLine : Type 0 where
   pub op : Op
   pub value : List ℕ
 
--- a rule line: the text with the targets, that with the prerequisites, and the command behind the `;`, where there is one
+-- a rule line: the text with the targets, that with the prerequisites, and the command behind the
+-- `;`, where there is one
 pub record RuleLine : Type 0 where
   pub targets : List ℕ
   pub words : List ℕ
@@ -44,13 +46,16 @@ pub data Kind : Type 0 where
 -- a line whose first word is `include` or `-include`
 abbrev pub include_line : List ℕ → Option IncludeLine
 include_line line =
-    if bytes_eq (before_first is_blank line) (codes "include") then Some (record { optional = false; names = after_first is_blank line })
-    else (if bytes_eq (before_first is_blank line) (codes "-include") then Some (record { optional = true; names = after_first is_blank line })
+    if bytes_eq (before_first is_blank line)
+    (codes "include") then Some (record { optional = false; names = after_first is_blank line })
+    else (if bytes_eq (before_first is_blank line)
+    (codes "-include") then Some (record { optional = true; names = after_first is_blank line })
     else None)
 
 -- Blanks beside the operator are dropped, and those at the end of the text stay.
 abbrev pub assigned : List ℕ → Op → List ℕ → Kind
-assigned name op value = Assignment (record { name = without_blanks name; op = op; value = trimmed value })
+assigned name op value =
+    Assignment (record { name = without_blanks name; op = op; value = trimmed value })
 
 -- `=`, or with the byte before it `?=`, `+=` or `!=`, of which the last is refused
 abbrev pub assignment_line : List ℕ → List ℕ → Result Kind KindFault
@@ -60,13 +65,18 @@ assignment_line before value =
     else (if ends_with (codes "+") before then Ok (assigned (without_end 1 before) Append value)
     else Ok (assigned before Delay value)))
 
--- what stands behind the colon, at the first `=` or `;` outside references: an `=` is refused, and a `;` ends the
--- prerequisites
+-- what stands behind the colon, at the first `=` or `;` outside references: an `=` is refused, and
+-- a `;` ends the prerequisites
 abbrev pub words_and_command : List ℕ → List ℕ → Option ℕ → Result RuleLine KindFault
-words_and_command targets rest None = Ok (record { targets = targets; words = rest; command = None })
+words_and_command targets rest None =
+    Ok (record { targets = targets; words = rest; command = None })
 words_and_command targets rest (Some at) =
     if slice_index rest at == 61 then Err TargetMacro
-    else Ok (record { targets = targets; words = take at rest; command = Some (trimmed (drop (suc at) rest)) })
+    else Ok (record {
+      targets = targets;
+      words = take at rest;
+      command = Some (trimmed (drop (suc at) rest));
+    })
 
 -- `=` or `;`
 abbrev pub is_end_of_words : ℕ → Bool
@@ -78,9 +88,11 @@ with_targets (Err fault) = Err fault
 with_targets (Ok rule) = if length rule.targets == 0 then Err NotALine else Ok (Rule rule)
 
 abbrev pub rule_line : List ℕ → List ℕ → Result Kind KindFault
-rule_line targets rest = with_targets (words_and_command targets rest (first_outside is_end_of_words rest))
+rule_line targets rest =
+    with_targets (words_and_command targets rest (first_outside is_end_of_words rest))
 
--- A line by what stands before its first `=`, `:` or `;` outside references, and by what begins there.
+-- A line by what stands before its first `=`, `:` or `;` outside references, and by what begins
+-- there.
 abbrev pub by_parts : List ℕ → List ℕ → Result Kind KindFault
 by_parts before from =
     if begins_with (codes "=") from then assignment_line before (drop 1 from)
@@ -95,7 +107,8 @@ abbrev pub by_byte : List ℕ → Option ℕ → Result Kind KindFault
 by_byte line None = Err NotALine
 by_byte line (Some at) = by_parts (take at line) (drop at line)
 
--- A line that isn't empty: its first word decides, else the first of `=`, `:`, `;` outside references.
+-- A line that isn't empty: its first word decides, else the first of `=`, `:`, `;` outside
+-- references.
 abbrev pub by_word : List ℕ → Option IncludeLine → Result Kind KindFault
 by_word line (Some include) = Ok (Include include)
 by_word line None = by_byte line (first_outside is_decisive line)
@@ -112,7 +125,12 @@ abbrev pub include_view : include.IncludeLine → IncludeLine
 include_view line = record { optional = line.optional; names = line.names.now }
 
 abbrev pub rule_view : rule.RuleLine → RuleLine
-rule_view line = record { targets = line.targets.now; words = line.words.now; command = option_map (λ command. command.now) line.command }
+rule_view line =
+    record {
+      targets = line.targets.now;
+      words = line.words.now;
+      command = option_map (λ command. command.now) line.command;
+    }
 
 abbrev pub assignment_view : assignment.AssignmentLine → AssignmentLine
 assignment_view line = record { name = line.name.now; op = line.op; value = line.value.now }
@@ -123,7 +141,8 @@ kind_view (kinds.Include line) = Include (include_view line)
 kind_view (kinds.Assignment line) = Assignment (assignment_view line)
 kind_view (kinds.Rule line) = Rule (rule_view line)
 
--- What a call returned, seen by view, is what is defined, unless memory ran out, of which nothing is said.
+-- What a call returned, seen by view, is what is defined, unless memory ran out, of which nothing
+-- is said.
 abbrev pub GivesKind : {X Y : Type 0} → (X → Y) → Result X KindFault → Result Y KindFault → Type 0
 GivesKind view (Ok x) defined = defined ≡ Ok (view x)
 GivesKind view (Err fault) defined = (fault ≡ Memory) ⊎ (defined ≡ Err fault)

@@ -10,9 +10,12 @@ use Rattle.mk_read.specs.Reading.{Reader, Deeper, Text, with_lines}
 
 -- A line of a comment alone changes nothing: what is read with it is what is read without it.
 abbrev pub CommentLinesChangeNothing : Type 0
-CommentLinesChangeNothing = (reader : Reader) → (deeper : Deeper) → (text : Text) → (before after : List Line) → (line : Line) → (state : State)
+CommentLinesChangeNothing =
+    (reader : Reader) → (deeper : Deeper) → (text : Text) → (before after : List Line) →
+    (line : Line) → (state : State)
     → line.command ≡ false → kind_of (uncomment line.text) ≡ Ok Comment
-    → with_lines reader deeper text (before ++ line ∷ after) state ≡ with_lines reader deeper text (before ++ after) state
+    → with_lines reader deeper text (before ++ line ∷ after) state ≡
+    with_lines reader deeper text (before ++ after) state
 
 -- groups in one list
 abbrev pub joined : List (List (List ℕ)) → List (List ℕ)
@@ -20,4 +23,6 @@ joined groups = flat_map (λ group. group) groups
 
 -- Groups hold the words in their order, without `.WAIT`.
 abbrev pub GroupsKeepTheirWords : Type 0
-GroupsKeepTheirWords = (not_parallel : Bool) → (words : List (List ℕ)) → joined (groups not_parallel words) ≡ filter (λ word. not (is_wait word)) words
+GroupsKeepTheirWords =
+    (not_parallel : Bool) → (words : List (List ℕ)) →
+    joined (groups not_parallel words) ≡ filter (λ word. not (is_wait word)) words

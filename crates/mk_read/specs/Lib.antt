@@ -16,3 +16,4 @@ pub mod PlaceLaws
 pub mod TextLaws
 pub mod IncludeLaws
 pub mod DefaultLaws
+pub mod BlockLaws

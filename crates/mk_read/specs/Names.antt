@@ -14,7 +14,9 @@ use Rattle.mk_read.specs.Steps.{◌>>=◌, at_place}
 
 -- the bytes % * ? [ ] : ; = # $ \ " ' ` | & < > ( )
 abbrev pub reserved : List ℕ
-reserved = 37 ∷ 42 ∷ 63 ∷ 91 ∷ 93 ∷ 58 ∷ 59 ∷ 61 ∷ 35 ∷ 36 ∷ 92 ∷ 34 ∷ 39 ∷ 96 ∷ 124 ∷ 38 ∷ 60 ∷ 62 ∷ 40 ∷ 41 ∷ []
+reserved =
+    37 ∷ 42 ∷ 63 ∷ 91 ∷ 93 ∷ 58 ∷ 59 ∷ 61 ∷ 35 ∷ 36 ∷ 92 ∷ 34 ∷ 39 ∷ 96 ∷ 124 ∷ 38 ∷ 60 ∷ 62 ∷ 40 ∷
+    41 ∷ []
 
 abbrev pub is_reserved : ℕ → Bool
 is_reserved b = list_any (λ r. r == b) reserved
@@ -43,7 +45,8 @@ names_of place (word ∷ rest) = do
 
 -- the names of a part of a line: it is expanded, and then looked at word by word
 abbrev pub names_in : Place → List Macro → List ℕ → Result (List (List ℕ)) ReadFault
-names_in place table text = at_place place (expansion table None text) >>= λ expanded. names_of place (words expanded.text)
+names_in place table text =
+    at_place place (expansion table None text) >>= λ expanded. names_of place (words expanded.text)
 
 -- there are none
 abbrev pub is_empty : {A : Type 0} → List A → Bool

@@ -8,7 +8,9 @@ use Rattle.mk_read.specs.Rules.{has_some, gives_commands}
 
 -- the words of all rule lines that name it, joined in order
 abbrev pub words_of : List RuleRead → List ℕ → List (List ℕ)
-words_of rules name = flat_map (λ (rule : RuleRead). rule.words) (filter (λ (rule : RuleRead). has_name rule.targets name) rules)
+words_of rules name =
+    flat_map (λ (rule : RuleRead). rule.words)
+    (filter (λ (rule : RuleRead). has_name rule.targets name) rules)
 
 abbrev pub is_wait : List ℕ → Bool
 is_wait word = bytes_eq word (codes ".WAIT")
@@ -27,7 +29,8 @@ abbrev pub has_words : List (List ℕ) → Bool
 has_words [] = false
 has_words (word ∷ words) = true
 
--- Groups of prerequisites: cut at `.WAIT`, or each of its own where nothing runs side by side. Empty ones vanish.
+-- Groups of prerequisites: cut at `.WAIT`, or each of its own where nothing runs side by side.
+-- Empty ones vanish.
 abbrev pub groups : Bool → List (List ℕ) → List (List (List ℕ))
 groups not_parallel words =
     if not_parallel then map (λ word. word ∷ []) (filter (λ word. not (is_wait word)) words)
@@ -44,4 +47,5 @@ commands_in None None = None
 
 -- the commands of the makefile's rule line for it that has any, else those of the default text's
 abbrev pub commands_of : List RuleRead → List ℕ → Option (List Command)
-commands_of rules name = commands_in (find (gives_commands name) rules) (find (has_commands name) rules)
+commands_of rules name =
+    commands_in (find (gives_commands name) rules) (find (has_commands name) rules)

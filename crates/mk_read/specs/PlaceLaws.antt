@@ -23,7 +23,8 @@ abbrev pub unplaced_command : Command → Command
 unplaced_command command = record command { place = nowhere }
 
 abbrev pub unplaced_rule : RuleRead → RuleRead
-unplaced_rule rule = record rule { commands = option_map (map unplaced_command) rule.commands; place = nowhere }
+unplaced_rule rule =
+    record rule { commands = option_map (map unplaced_command) rule.commands; place = nowhere }
 
 -- a makefile without the places of its rule lines and commands
 abbrev pub unplaced : Makefile → Makefile
@@ -51,7 +52,8 @@ unplaced_fault (fault.TwoRecipes place name) = fault.TwoRecipes nowhere name
 unplaced_fault (fault.IncludeMissing place name) = fault.IncludeMissing nowhere name
 unplaced_fault (fault.IncludeDepth place) = fault.IncludeDepth nowhere
 unplaced_fault (fault.IncludeEmpty place) = fault.IncludeEmpty nowhere
-unplaced_fault (fault.ReadFailed place name) = fault.ReadFailed (option_map (λ place. nowhere) place) name
+unplaced_fault (fault.ReadFailed place name) =
+    fault.ReadFailed (option_map (λ place. nowhere) place) name
 unplaced_fault (fault.TooManyFiles place) = fault.TooManyFiles nowhere
 unplaced_fault (fault.NoMakefile name) = fault.NoMakefile name
 unplaced_fault fault.Memory = fault.Memory
@@ -82,19 +84,24 @@ unnumbered line = record line { first = 0 }
 
 -- the lines of a text but for comments and numbers, or its fault but for the number
 abbrev pub lines_said : Result (List Line) LineFault → Result (List Line) LineFault
-lines_said (Ok lines) = Ok (map unnumbered (filter (λ (line : Line). not (is_comment_line line)) lines))
+lines_said (Ok lines) =
+    Ok (map unnumbered (filter (λ (line : Line). not (is_comment_line line)) lines))
 lines_said (Err why) = Err (unnumbered_fault why)
 
 -- what a text says, if there is one
 abbrev pub text_said : Option (List ℕ) → Option (Result (List Line) LineFault)
 text_said text = option_map (λ bytes. lines_said (logical_lines bytes)) text
 
--- Where the texts of two readers have the same lines, but for comments and for the numbers of lines, both give the same
--- makefile or the same fault, but for places.
+-- Where the texts of two readers have the same lines, but for comments and for the numbers of
+-- lines, both give the same makefile or the same fault, but for places.
 abbrev pub CommentsAndNumbersChangeOnlyPlaces : Type 0
-CommentsAndNumbersChangeOnlyPlaces = (reader other : Reader) → (file : Option (List ℕ)) → (defaults : Bool) → (operands : List (List ℕ))
-    → reader.failing ≡ other.failing → ((name : List ℕ) → text_said (reader.text name) ≡ text_said (other.text name))
-    → but_places unplaced (makefile reader file defaults operands) ≡ but_places unplaced (makefile other file defaults operands)
+CommentsAndNumbersChangeOnlyPlaces =
+    (reader other : Reader) → (file : Option (List ℕ)) → (defaults : Bool) →
+    (operands : List (List ℕ))
+    → reader.failing ≡ other.failing →
+    ((name : List ℕ) → text_said (reader.text name) ≡ text_said (other.text name))
+    → but_places unplaced (makefile reader file defaults operands) ≡
+    but_places unplaced (makefile other file defaults operands)
 
 -- no line is an include line
 abbrev pub includes_nothing : List Line → Bool
@@ -103,7 +110,8 @@ includes_nothing lines = not (list_any is_include_line lines)
 -- the first line that isn't of a comment alone, if there is one, is no command line
 unfoldable pub begins_without_command : List Line → Bool
 begins_without_command [] = true
-begins_without_command (line ∷ lines) = if is_comment_line line then begins_without_command lines else not line.command
+begins_without_command (line ∷ lines) =
+    if is_comment_line line then begins_without_command lines else not line.command
 
 -- the makefile that has been read so far, without places and the names of its texts
 abbrev pub said : State → Makefile
@@ -119,34 +127,51 @@ pub record FileHolds (reader : Reader) (name : List ℕ) (lines : List Line) : T
 -- files that hold these lines together, in their order
 abbrev pub FilesHold : Reader → List (List ℕ) → List Line → Type 0
 FilesHold reader [] lines = lines ≡ []
-FilesHold reader (name ∷ names) lines = (own : List Line) × (rest : List Line) × FileHolds reader name own × (lines ≡ own ++ rest) × FilesHold reader names rest
+FilesHold reader (name ∷ names) lines =
+    (own : List Line) × (rest : List Line) × FileHolds reader name own × (lines ≡ own ++ rest) ×
+    FilesHold reader names rest
 
 -- an include line whose files hold these lines, from a state
-pub record IncludesLines (reader : Reader) (text : Text) (line : Line) (lines : List Line) (state : State) : Type 0 where
+pub record IncludesLines (reader : Reader) (text : Text) (line : Line) (lines : List Line)
+    (state : State) : Type 0 where
   pub include : IncludeLine
   pub plain : line.command ≡ false
   pub kind : kind_of (uncomment line.text) ≡ Ok (Include include)
   pub names : List (List ℕ)
-  pub expands : names_in (record { file = text.file; line = line.first }) state.table include.names ≡ Ok names
+  pub expands : names_in (record {
+    file = text.file;
+    line = line.first;
+  }) state.table include.names ≡ Ok names
   pub files : FilesHold reader names lines
 
--- Where a text is read, an include line stands for the lines of its files: with these lines in its place the text is
--- read too, and says the same but for places and the names of texts. No read fails, the files are there, and neither
--- they nor what follows the include line begin with a command line. They may include others.
+-- Where a text is read, an include line stands for the lines of its files: with these lines in its
+-- place the text is read too, and says the same but for places and the names of texts. No read
+-- fails, the files are there, and neither they nor what follows the include line begin with a
+-- command line. They may include others.
 abbrev pub IncludeLinesStandForTheirLines : Type 0
-IncludeLinesStandForTheirLines = (reader : Reader) → (levels : ℕ) → (text : Text) → (before lines after : List Line) → (line : Line) → (start read : State)
+IncludeLinesStandForTheirLines =
+    (reader : Reader) → (levels : ℕ) → (text : Text) → (before lines after : List Line) →
+    (line : Line) → (start read : State)
     → reader.failing ≡ None → text.default ≡ false
-    → ((state : State) → with_lines reader (Some (reading levels reader)) text before start ≡ Ok state → IncludesLines reader text line lines state)
+    → ((state : State) →
+    with_lines reader (Some (reading levels reader)) text before start ≡ Ok state →
+    IncludesLines reader text line lines state)
     → begins_without_command after ≡ true
     → with_lines reader (Some (reading levels reader)) text (before ++ line ∷ after) start ≡ Ok read
-    → (same : State) × (with_lines reader (Some (reading levels reader)) text (before ++ lines ++ after) start ≡ Ok same) × (said same ≡ said read)
+    → (same : State) ×
+    (with_lines reader (Some (reading levels reader)) text (before ++ lines ++ after) start ≡
+    Ok same) × (said same ≡ said read)
 
 -- an include line that names one file, from a state where that can be read
-pub record NamesOneFile (reader : Reader) (text : Text) (line : Line) (name : List ℕ) (state : State) : Type 0 where
+pub record NamesOneFile (reader : Reader) (text : Text) (line : Line) (name : List ℕ)
+    (state : State) : Type 0 where
   pub include : IncludeLine
   pub plain : line.command ≡ false
   pub kind : kind_of (uncomment line.text) ≡ Ok (Include include)
-  pub one_name : names_in (record { file = text.file; line = line.first }) state.table include.names ≡ Ok (name ∷ [])
+  pub one_name : names_in (record {
+    file = text.file;
+    line = line.first;
+  }) state.table include.names ≡ Ok (name ∷ [])
   pub not_too_many : length state.texts < 1024
 
 -- lines that can stand elsewhere: they include nothing, and don't begin with a command line
@@ -154,13 +179,21 @@ pub record StandAlone (lines : List Line) : Type 0 where
   pub including : includes_nothing lines ≡ true
   pub beginning : begins_without_command lines ≡ true
 
--- Faults too: a text in which an include line stands for the lines of its file reads as the text with those lines in its
--- place, or has the same fault, but for places and the names of texts. Here the file includes nothing itself, nor does
--- what follows the include line; neither begins with a command line; no read fails.
+-- Faults too: a text in which an include line stands for the lines of its file reads as the text
+-- with those lines in its place, or has the same fault, but for places and the names of texts. Here
+-- the file includes nothing itself, nor does what follows the include line; neither begins with a
+-- command line; no read fails.
 abbrev pub IncludeLinesFailAsTheirLines : Type 0
-IncludeLinesFailAsTheirLines = (reader : Reader) → (levels : ℕ) → (text : Text) → (before lines after : List Line) → (line : Line) → (name bytes : List ℕ) → (start : State)
+IncludeLinesFailAsTheirLines =
+    (reader : Reader) → (levels : ℕ) → (text : Text) → (before lines after : List Line) →
+    (line : Line) → (name bytes : List ℕ) → (start : State)
     → reader.failing ≡ None → text.default ≡ false
-    → ((state : State) → with_lines reader (Some (reading levels reader)) text before start ≡ Ok state → NamesOneFile reader text line name state)
-    → reader.text name ≡ Some bytes → logical_lines bytes ≡ Ok lines → StandAlone lines → StandAlone after
-    → but_places said (with_lines reader (Some (reading levels reader)) text (before ++ line ∷ after) start)
-    ≡ but_places said (with_lines reader (Some (reading levels reader)) text (before ++ lines ++ after) start)
+    → ((state : State) →
+    with_lines reader (Some (reading levels reader)) text before start ≡ Ok state →
+    NamesOneFile reader text line name state)
+    → reader.text name ≡ Some bytes → logical_lines bytes ≡ Ok lines → StandAlone lines →
+    StandAlone after
+    → but_places said (with_lines reader (Some (reading levels reader)) text (before ++
+    line ∷ after) start)
+    ≡ but_places said (with_lines reader (Some (reading levels reader)) text (before ++ lines ++
+    after) start)

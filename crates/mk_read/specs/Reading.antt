@@ -1,7 +1,7 @@
 -- The reading of a makefile.
 --
--- Lines are read one after another over a state: what has been defined, listed and read so far. An include line stands
--- for the lines of its files. The first fault is the answer.
+-- Lines are read one after another over a state: what has been defined, listed and read so far. An
+-- include line stands for the lines of its files. The first fault is the answer.
 use Rattle.std.specs.Prelude.{ℕ, zero, suc, ◌+◌, ◌==◌, Bool, true, false, not, ◌||◌, List, [], ◌∷◌, ◌++◌, codes, length, filter, nat_le, Option, None, Some, Result, Ok, Err, if◌then◌else◌}
 use Rattle.std.specs.List.{list_any, flat_map}
 use Rattle.std.specs.Str.{bytes_eq}
@@ -20,7 +20,8 @@ use Rattle.mk_read.specs.State.{RuleRead, State, nothing_read, rules_of, parted}
 use Rattle.mk_read.specs.Rules.{command_line, assignment, rule}
 use Rattle.mk_read.specs.Steps.{◌>>=◌, in_file, at_place, of_kind}
 
--- a reader of files: the text of each name that has one, and the number of the read that fails, if one does
+-- a reader of files: the text of each name that has one, and the number of the read that fails, if
+-- one does
 pub record Reader : Type 0 where
   pub text : List ℕ → Option (List ℕ)
   pub failing : Option ℕ
@@ -46,21 +47,30 @@ pub record Text : Type 0 where
 abbrev pub Deeper : Type 0
 Deeper = Option (List ℕ → List ℕ → State → Result State ReadFault)
 
--- A file that an include line names, or nothing in its place where it isn't there and may be passed over.
-abbrev pub found : (List ℕ → List ℕ → State → Result State ReadFault) → Place → Bool → State → List ℕ → Option (List ℕ) → Result State ReadFault
-found read place optional state name None = if optional then Ok (record state { missing = state.missing ++ name ∷ [] }) else Err (IncludeMissing place name)
-found read place optional state name (Some text) = read name text (record state { texts = state.texts ++ name ∷ [] }) >>= λ after. Ok (parted after)
+-- A file that an include line names, or nothing in its place where it isn't there and may be passed
+-- over.
+abbrev pub found : (List ℕ → List ℕ → State → Result State ReadFault) → Place → Bool → State →
+    List ℕ → Option (List ℕ) → Result State ReadFault
+found read place optional state name None =
+    if optional then Ok (record state { missing = state.missing ++
+    name ∷ [] }) else Err (IncludeMissing place name)
+found read place optional state name (Some text) =
+    read name text (record state { texts = state.texts ++
+    name ∷ [] }) >>= λ after. Ok (parted after)
 
-unfoldable pub one_file : Reader → (List ℕ → List ℕ → State → Result State ReadFault) → Place → Bool → State → List ℕ → Result State ReadFault
+unfoldable pub one_file : Reader → (List ℕ → List ℕ → State → Result State ReadFault) → Place →
+    Bool → State → List ℕ → Result State ReadFault
 one_file reader read place optional state name =
     if nat_le 1024 (length state.texts) then Err (TooManyFiles place)
     else (if fails reader state then Err (ReadFailed (Some place) name)
     else found read place optional state name (reader.text name))
 
 -- the files of an include line, in order
-unfoldable pub files : Reader → (List ℕ → List ℕ → State → Result State ReadFault) → Place → Bool → List (List ℕ) → State → Result State ReadFault
+unfoldable pub files : Reader → (List ℕ → List ℕ → State → Result State ReadFault) → Place → Bool →
+    List (List ℕ) → State → Result State ReadFault
 files reader read place optional [] state = Ok state
-files reader read place optional (name ∷ names) state = one_file reader read place optional state name >>= files reader read place optional names
+files reader read place optional (name ∷ names) state =
+    one_file reader read place optional state name >>= files reader read place optional names
 
 abbrev pub include : Reader → Deeper → Place → State → IncludeLine → Result State ReadFault
 include reader None place state line = Err (IncludeDepth place)
@@ -84,31 +94,37 @@ with_line reader deeper text state line =
 -- what is read after these lines
 unfoldable pub with_lines : Reader → Deeper → Text → List Line → State → Result State ReadFault
 with_lines reader deeper text [] state = Ok state
-with_lines reader deeper text (line ∷ lines) state = with_line reader deeper text state line >>= with_lines reader deeper text lines
+with_lines reader deeper text (line ∷ lines) state =
+    with_line reader deeper text state line >>= with_lines reader deeper text lines
 
 -- what is read after a text: its lines' faults come before its lines
 abbrev pub with_text : Reader → Deeper → Text → List ℕ → State → Result State ReadFault
-with_text reader deeper text bytes state = in_file text.file (logical_lines bytes) >>= λ lines. with_lines reader deeper text lines state
+with_text reader deeper text bytes state =
+    in_file text.file (logical_lines bytes) >>= λ lines. with_lines reader deeper text lines state
 
 -- the same for a text of the makefile, with so many levels of include lines below it
 unfoldable pub reading : ℕ → Reader → List ℕ → List ℕ → State → Result State ReadFault
-reading zero reader file bytes state = with_text reader None (record { file = file; default = false }) bytes state
-reading (suc levels) reader file bytes state = with_text reader (Some (reading levels reader)) (record { file = file; default = false }) bytes state
+reading zero reader file bytes state =
+    with_text reader None (record { file = file; default = false }) bytes state
+reading (suc levels) reader file bytes state =
+    with_text reader (Some (reading levels reader))
+    (record { file = file; default = false }) bytes state
 
 -- The default text, a line each.
 abbrev pub default_lines : List (List ℕ)
 default_lines =
-    codes ".SUFFIXES: .o .c .sh" ∷ codes "MAKE = make" ∷ codes "CC = c17" ∷ codes "CFLAGS = -O1" ∷ codes "LDFLAGS ="
-    ∷ codes ".c:" ∷ (9 ∷ codes "$(CC) $(CFLAGS) $(LDFLAGS) -o $@ $<")
-    ∷ codes ".sh:" ∷ (9 ∷ codes "cp $< $@") ∷ (9 ∷ codes "chmod a+x $@")
-    ∷ codes ".c.o:" ∷ (9 ∷ codes "$(CC) $(CFLAGS) -c $<") ∷ []
+    codes ".SUFFIXES: .o .c .sh" ∷ codes "MAKE = make" ∷ codes "CC = c17" ∷ codes "CFLAGS = -O1" ∷
+    codes "LDFLAGS =" ∷ codes ".c:" ∷ (9 ∷ codes "$(CC) $(CFLAGS) $(LDFLAGS) -o $@ $<") ∷
+    codes ".sh:" ∷ (9 ∷ codes "cp $< $@") ∷ (9 ∷ codes "chmod a+x $@") ∷
+    codes ".c.o:" ∷ (9 ∷ codes "$(CC) $(CFLAGS) -c $<") ∷ []
 
 abbrev pub default_text : List ℕ
 default_text = flat_map (λ line. line ++ 10 ∷ []) default_lines
 
 unfoldable pub after_default : Reader → Bool → Result State ReadFault
 after_default reader defaults =
-    if defaults then with_text reader None (record { file = codes "(default)"; default = true }) default_text nothing_read
+    if defaults then with_text reader None (record { file = codes "(default)";
+        default = true }) default_text nothing_read
     else Ok nothing_read
 
 -- the table with the operands from this number on
@@ -119,26 +135,32 @@ with_operands number (operand ∷ operands) table = do
   with_operands (number + 1) operands after
 
 -- The makefile's own text, where it is there.
-abbrev pub text_or : Reader → State → List ℕ → Result State ReadFault → Option (List ℕ) → Result State ReadFault
+abbrev pub text_or : Reader → State → List ℕ → Result State ReadFault → Option (List ℕ) →
+    Result State ReadFault
 text_or reader state name other None = other
-text_or reader state name other (Some bytes) = reading 16 reader name bytes (record (parted state) { texts = name ∷ [] })
+text_or reader state name other (Some bytes) =
+    reading 16 reader name bytes (record (parted state) { texts = name ∷ [] })
 
 unfoldable pub own_text : Reader → State → List ℕ → Result State ReadFault → Result State ReadFault
-own_text reader state name other = if fails reader state then Err (ReadFailed None name) else text_or reader state name other (reader.text name)
+own_text reader state name other =
+    if fails reader state then Err (ReadFailed None name) else text_or reader state name other (reader.text name)
 
 unfoldable pub from_named : Reader → State → Option (List ℕ) → Result State ReadFault
 from_named reader state (Some name) = own_text reader state name (Err (NoMakefile (Some name)))
 from_named reader state None =
     own_text reader state (codes "makefile")
-    (own_text reader (record state { missing = codes "makefile" ∷ [] }) (codes "Makefile") (Err (NoMakefile None)))
+    (own_text reader (record state { missing = codes "makefile" ∷
+        [] }) (codes "Makefile") (Err (NoMakefile None)))
 
 -- the name of the makefile is a plain path, and not `-`
 abbrev pub named : Option (List ℕ) → Result (Option (List ℕ)) ReadFault
 named None = Ok None
-named (Some name) = if not (is_plain_path name) || bytes_eq name (codes "-") then Err (BadMakefileName name) else Ok (Some name)
+named (Some name) =
+    if not (is_plain_path name) ||
+    bytes_eq name (codes "-") then Err (BadMakefileName name) else Ok (Some name)
 
--- A rule line of the default text counts where one of its targets is an inference name, by the suffixes after all
--- reading.
+-- A rule line of the default text counts where one of its targets is an inference name, by the
+-- suffixes after all reading.
 abbrev pub counts : List (List ℕ) → RuleRead → Bool
 counts suffixes rule = not rule.default || list_any (is_inference_name suffixes) rule.targets
 
@@ -153,10 +175,16 @@ pub record Makefile : Type 0 where
   pub passed_over : List (List ℕ)
 
 abbrev pub makefile_of : State → Makefile
-makefile_of state = record { rules = filter (counts state.suffixes) (rules_of state.read); suffixes = state.suffixes; phony = state.phony; not_parallel = state.not_parallel; macros = state.table; texts = state.texts; passed_over = state.missing }
+makefile_of state =
+    record { rules = filter (counts state.suffixes)
+    (rules_of state.read); suffixes = state.suffixes; phony = state.phony;
+    not_parallel = state.not_parallel; macros = state.table; texts = state.texts;
+    passed_over = state.missing }
 
--- The makefile of this name, or a usual one, behind the default text, where it is asked for, and the operands.
-unfoldable pub makefile : Reader → Option (List ℕ) → Bool → List (List ℕ) → Result Makefile ReadFault
+-- The makefile of this name, or a usual one, behind the default text, where it is asked for, and
+-- the operands.
+unfoldable pub makefile : Reader → Option (List ℕ) → Bool → List (List ℕ) →
+    Result Makefile ReadFault
 makefile reader name defaults operands = do
   file ← named name
   start ← after_default reader defaults

@@ -12,45 +12,65 @@ use Rattle.mk_read.specs.Rules.{gives_commands, is_commanded}
 use Rattle.mk_read.specs.Special.{is_special, is_suffix}
 use Rattle.mk_read.specs.State.{RuleRead, State}
 
--- Of two rule lines of a makefile that is read, at most one gives a name its commands: where one does, none behind it
--- does.
+-- Of two rule lines of a makefile that is read, at most one gives a name its commands: where one
+-- does, none behind it does.
 abbrev pub OneLineHasTheCommands : Type 0
-OneLineHasTheCommands = (reader : Reader) → (file : Option (List ℕ)) → (defaults : Bool) → (operands : List (List ℕ)) → (m : Makefile) → makefile reader file defaults operands ≡ Ok m
-    → (before between after : List RuleRead) → (one other : RuleRead) → (name : List ℕ) → m.rules ≡ before ++ one ∷ between ++ other ∷ after
+OneLineHasTheCommands =
+    (reader : Reader) → (file : Option (List ℕ)) → (defaults : Bool) → (operands : List (List ℕ)) →
+    (m : Makefile) → makefile reader file defaults operands ≡ Ok m
+    → (before between after : List RuleRead) → (one other : RuleRead) → (name : List ℕ) →
+    m.rules ≡ before ++ one ∷ between ++ other ∷ after
     → gives_commands name one ≡ true → gives_commands name other ≡ false
 
 -- The commands of a name are those of the rule line of the makefile that gives it any.
 abbrev pub CommandsAreOfTheOneLine : Type 0
-CommandsAreOfTheOneLine = (reader : Reader) → (file : Option (List ℕ)) → (defaults : Bool) → (operands : List (List ℕ)) → (m : Makefile) → makefile reader file defaults operands ≡ Ok m
-    → (before after : List RuleRead) → (rule : RuleRead) → (name : List ℕ) → m.rules ≡ before ++ rule ∷ after
+CommandsAreOfTheOneLine =
+    (reader : Reader) → (file : Option (List ℕ)) → (defaults : Bool) → (operands : List (List ℕ)) →
+    (m : Makefile) → makefile reader file defaults operands ≡ Ok m
+    → (before after : List RuleRead) → (rule : RuleRead) → (name : List ℕ) →
+    m.rules ≡ before ++ rule ∷ after
     → gives_commands name rule ≡ true → commands_of m.rules name ≡ rule.commands
 
 -- the rule lines of the default text
 abbrev pub of_default_text : List RuleRead → List RuleRead
 of_default_text rules = filter (λ (rule : RuleRead). rule.default) rules
 
--- Where no rule line of the makefile gives a name commands, it has those that the default text gives it.
+-- Where no rule line of the makefile gives a name commands, it has those that the default text
+-- gives it.
 abbrev pub ElseCommandsAreOfTheDefaultText : Type 0
-ElseCommandsAreOfTheDefaultText = (rules : List RuleRead) → (name : List ℕ) → is_commanded rules name ≡ false → commands_of rules name ≡ commands_of (of_default_text rules) name
+ElseCommandsAreOfTheDefaultText =
+    (rules : List RuleRead) → (name : List ℕ) → is_commanded rules name ≡ false →
+    commands_of rules name ≡ commands_of (of_default_text rules) name
 
--- The prerequisites of a name by two lists of rule lines are those by the one, then those by the other.
+-- The prerequisites of a name by two lists of rule lines are those by the one, then those by the
+-- other.
 abbrev pub WordsComeFromAllLines : Type 0
-WordsComeFromAllLines = (before after : List RuleRead) → (name : List ℕ) → words_of (before ++ after) name ≡ words_of before name ++ words_of after name
+WordsComeFromAllLines =
+    (before after : List RuleRead) → (name : List ℕ) →
+    words_of (before ++ after) name ≡ words_of before name ++ words_of after name
 
 -- A rule line that doesn't name it gives a name no prerequisites.
 abbrev pub OtherLinesGiveNoWords : Type 0
-OtherLinesGiveNoWords = (before after : List RuleRead) → (rule : RuleRead) → (name : List ℕ) → has_name rule.targets name ≡ false
+OtherLinesGiveNoWords =
+    (before after : List RuleRead) → (rule : RuleRead) → (name : List ℕ) →
+    has_name rule.targets name ≡ false
     → words_of (before ++ rule ∷ after) name ≡ words_of (before ++ after) name
 
 -- A rule line that names it gives a name its words, in its place.
 abbrev pub NamingLinesGiveTheirWords : Type 0
-NamingLinesGiveTheirWords = (before after : List RuleRead) → (rule : RuleRead) → (name : List ℕ) → has_name rule.targets name ≡ true
-    → words_of (before ++ rule ∷ after) name ≡ words_of before name ++ (rule.words ++ words_of after name)
+NamingLinesGiveTheirWords =
+    (before after : List RuleRead) → (rule : RuleRead) → (name : List ℕ) →
+    has_name rule.targets name ≡ true
+    → words_of (before ++ rule ∷ after) name ≡
+    words_of before name ++ (rule.words ++ words_of after name)
 
 -- A macro that stands fixed behind the operands stands in the makefile as it is.
 abbrev pub OperandsWinOverMakefiles : Type 0
-OperandsWinOverMakefiles = (reader : Reader) → (file : Option (List ℕ)) → (defaults : Bool) → (operands : List (List ℕ)) → (m : Makefile) → makefile reader file defaults operands ≡ Ok m
-    → (start : State) → (table : List Macro) → after_default reader defaults ≡ Ok start → with_operands 1 operands start.table ≡ Ok table
+OperandsWinOverMakefiles =
+    (reader : Reader) → (file : Option (List ℕ)) → (defaults : Bool) → (operands : List (List ℕ)) →
+    (m : Makefile) → makefile reader file defaults operands ≡ Ok m
+    → (start : State) → (table : List Macro) → after_default reader defaults ≡ Ok start →
+    with_operands 1 operands start.table ≡ Ok table
     → (name : List ℕ) → (macro : Macro) → macro_named table name ≡ Some macro → macro.fixed ≡ true
     → macro_named m.macros name ≡ Some macro
 
@@ -58,24 +78,37 @@ OperandsWinOverMakefiles = (reader : Reader) → (file : Option (List ℕ)) → 
 abbrev pub sets : List ℕ → List ℕ → Bool
 sets name operand = bytes_eq name (operand_name operand)
 
--- A macro that an operand sets, and no later one does, stands in the makefile as that operand set it, whatever the
--- makefile assigns.
+-- A macro that an operand sets, and no later one does, stands in the makefile as that operand set
+-- it, whatever the makefile assigns.
 abbrev pub LastOperandWins : Type 0
-LastOperandWins = (reader : Reader) → (file : Option (List ℕ)) → (defaults : Bool) → (operands : List (List ℕ)) → (m : Makefile) → makefile reader file defaults operands ≡ Ok m
-    → (start : State) → (before after : List (List ℕ)) → (operand : List ℕ) → (table set : List Macro) → after_default reader defaults ≡ Ok start → operands ≡ before ++ operand ∷ after
-    → with_operands 1 before start.table ≡ Ok table → with_operand table operand ≡ Ok set → list_any (sets (operand_name operand)) after ≡ false
+LastOperandWins =
+    (reader : Reader) → (file : Option (List ℕ)) → (defaults : Bool) → (operands : List (List ℕ)) →
+    (m : Makefile) → makefile reader file defaults operands ≡ Ok m
+    → (start : State) → (before after : List (List ℕ)) → (operand : List ℕ) →
+    (table set : List Macro) → after_default reader defaults ≡ Ok start →
+    operands ≡ before ++ operand ∷ after
+    → with_operands 1 before start.table ≡ Ok table → with_operand table operand ≡ Ok set →
+    list_any (sets (operand_name operand)) after ≡ false
     → macro_named m.macros (operand_name operand) ≡ macro_named set (operand_name operand)
 
--- The rule line has a target, its targets and its prerequisites are names, and no target is special.
+-- The rule line has a target, its targets and its prerequisites are names, and no target is
+-- special.
 abbrev pub is_well_named : RuleRead → Bool
-is_well_named rule = not (is_empty rule.targets) && (list_all is_make_name rule.targets && (list_all is_make_name rule.words && not (list_any is_special rule.targets)))
+is_well_named rule =
+    not (is_empty rule.targets) &&
+    (list_all is_make_name rule.targets &&
+    (list_all is_make_name rule.words && not (list_any is_special rule.targets)))
 
 -- So is each rule line of a makefile that is read.
 abbrev pub RuleLinesAreWellNamed : Type 0
-RuleLinesAreWellNamed = (reader : Reader) → (file : Option (List ℕ)) → (defaults : Bool) → (operands : List (List ℕ)) → (m : Makefile) → makefile reader file defaults operands ≡ Ok m
+RuleLinesAreWellNamed =
+    (reader : Reader) → (file : Option (List ℕ)) → (defaults : Bool) → (operands : List (List ℕ)) →
+    (m : Makefile) → makefile reader file defaults operands ≡ Ok m
     → list_all is_well_named m.rules ≡ true
 
 -- The words that a makefile lists as suffixes are suffixes.
 abbrev pub SuffixesAreSuffixes : Type 0
-SuffixesAreSuffixes = (reader : Reader) → (file : Option (List ℕ)) → (defaults : Bool) → (operands : List (List ℕ)) → (m : Makefile) → makefile reader file defaults operands ≡ Ok m
+SuffixesAreSuffixes =
+    (reader : Reader) → (file : Option (List ℕ)) → (defaults : Bool) → (operands : List (List ℕ)) →
+    (m : Makefile) → makefile reader file defaults operands ≡ Ok m
     → list_all is_suffix m.suffixes ≡ true

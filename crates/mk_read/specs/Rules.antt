@@ -20,9 +20,11 @@ abbrev pub has_some : {A : Type 0} → Option A → Bool
 has_some None = false
 has_some (Some x) = true
 
--- The makefile's rule line has commands and names the target. Those of the default text don't count.
+-- The makefile's rule line has commands and names the target. Those of the default text don't
+-- count.
 abbrev pub gives_commands : List ℕ → RuleRead → Bool
-gives_commands name rule = not rule.default && (has_some rule.commands && has_name rule.targets name)
+gives_commands name rule =
+    not rule.default && (has_some rule.commands && has_name rule.targets name)
 
 -- one of the rule lines does
 abbrev pub is_commanded : List RuleRead → List ℕ → Bool
@@ -52,7 +54,11 @@ is_comment text = slice_index (trimmed text) 0 == 35
 
 -- A command line, without the blanks that lead it.
 unfoldable pub command_line : Place → List ℕ → List RuleRead → Owner → Result Read ReadFault
-command_line place text earlier Nobody = if is_comment text then Ok (record { earlier = earlier; owner = Nobody }) else Err (StrayCommand place)
+command_line place text earlier Nobody =
+    if is_comment text then Ok (record {
+      earlier = earlier;
+      owner = Nobody;
+    }) else Err (StrayCommand place)
 command_line place text earlier SpecialTarget = Err (SpecialShape place)
 command_line place text earlier PassedOver = Ok (record { earlier = earlier; owner = PassedOver })
 command_line place text earlier (Last rule) =
@@ -69,33 +75,49 @@ assignment place state line = do
 
 -- What a special target does with its words.
 abbrev pub special_words : Place → State → List (List ℕ) → Special → Result State ReadFault
-special_words place state words Suffixes = if list_all is_suffix words then Ok (record state { suffixes = listed state.suffixes words }) else Err (SpecialShape place)
+special_words place state words Suffixes =
+    if list_all is_suffix words then Ok (record state { suffixes = listed state.suffixes words }) else Err (SpecialShape place)
 special_words place state words Phony = Ok (record state { phony = state.phony ++ words })
-special_words place state words NotParallel = if is_empty words then Ok (record state { not_parallel = true }) else Err (SpecialShape place)
-special_words place state words Wordless = if is_empty words then Ok state else Err (SpecialShape place)
+special_words place state words NotParallel =
+    if is_empty words then Ok (record state { not_parallel = true }) else Err (SpecialShape place)
+special_words place state words Wordless =
+    if is_empty words then Ok state else Err (SpecialShape place)
 special_words place state words Unread = Ok state
 
 -- a special target stands alone, without commands and without `.WAIT`
-unfoldable pub special_rule : Place → State → List (List ℕ) → List (List ℕ) → Bool → Special → Result State ReadFault
+unfoldable pub special_rule : Place → State → List (List ℕ) → List (List ℕ) → Bool → Special →
+    Result State ReadFault
 special_rule place state targets words commands special =
-    if not (length targets == 1) || (commands || has_name words (codes ".WAIT")) then Err (SpecialShape place)
+    if not (length targets == 1) ||
+    (commands || has_name words (codes ".WAIT")) then Err (SpecialShape place)
     else special_words place (record state { read = owned SpecialTarget state.read }) words special
 
 -- a rule line more
 unfoldable pub new_rule : RuleRead → Read → Result Read ReadFault
-new_rule rule read = if has_some rule.commands then unless_taken (taken (rules_of read) rule) rule (rules_of read) else Ok (owned (Last rule) read)
+new_rule rule read =
+    if has_some rule.commands then unless_taken (taken (rules_of read) rule) rule (rules_of read) else Ok (owned (Last rule) read)
 
 -- a command behind a `;`, where it has some text
 abbrev pub commands_behind : Place → List ℕ → List Command
-commands_behind place text = if is_empty text then [] else record { text = text; place = place } ∷ []
+commands_behind place text =
+    if is_empty text then [] else record { text = text; place = place } ∷ []
 
 -- A rule line by its names.
-abbrev pub by_special : Bool → Place → State → List (List ℕ) → List (List ℕ) → Option (List ℕ) → Option Special → Result State ReadFault
-by_special default place state targets words command (Some special) = special_rule place state targets words (has_some command) special
+abbrev pub by_special : Bool → Place → State → List (List ℕ) → List (List ℕ) → Option (List ℕ) →
+    Option Special → Result State ReadFault
+by_special default place state targets words command (Some special) =
+    special_rule place state targets words (has_some command) special
 by_special default place state targets words command None =
-    new_rule (record { targets = targets; words = words; commands = option_map (commands_behind place) command; place = place; default = default }) state.read >>= λ read. Ok (record state { read = read })
+    new_rule (record {
+      targets = targets;
+      words = words;
+      commands = option_map (commands_behind place) command;
+      place = place;
+      default = default;
+    }) state.read >>= λ read. Ok (record state { read = read })
 
-unfoldable pub by_names : Bool → Place → State → List (List ℕ) → Option (List ℕ) → List (List ℕ) → Result State ReadFault
+unfoldable pub by_names : Bool → Place → State → List (List ℕ) → Option (List ℕ) → List (List ℕ) →
+    Result State ReadFault
 by_names default place state targets command words =
     if list_any is_unknown_special targets then Err (UnknownSpecial place)
     else by_special default place state targets words command (special_among targets)
@@ -107,4 +129,5 @@ by_targets default place state line targets =
     else (names_in place state.table line.words >>= by_names default place state targets line.command)
 
 unfoldable pub rule : Bool → Place → State → RuleLine → Result State ReadFault
-rule default place state line = names_in place state.table line.targets >>= by_targets default place state line
+rule default place state line =
+    names_in place state.table line.targets >>= by_targets default place state line

@@ -13,7 +13,8 @@ special_of name =
     else (if bytes_eq name (codes ".PHONY") then Some Phony
     else (if bytes_eq name (codes ".NOTPARALLEL") then Some NotParallel
     else (if has_name (codes ".POSIX" ∷ codes ".WAIT" ∷ []) name then Some Wordless
-    else (if has_name (codes ".IGNORE" ∷ codes ".SILENT" ∷ codes ".PRECIOUS" ∷ []) name then Some Unread
+    else (if has_name (codes ".IGNORE" ∷ codes ".SILENT" ∷ codes ".PRECIOUS" ∷
+    []) name then Some Unread
     else None))))
 
 -- the first special one of the targets
@@ -56,4 +57,5 @@ listed suffixes words = if is_empty words then [] else once (suffixes ++ words)
 
 -- an inference name: a known suffix, or two in a row
 abbrev pub is_inference_name : List (List ℕ) → List ℕ → Bool
-is_inference_name suffixes name = list_any (λ s. bytes_eq name s || list_any (λ t. bytes_eq name (s ++ t)) suffixes) suffixes
+is_inference_name suffixes name =
+    list_any (λ s. bytes_eq name s || list_any (λ t. bytes_eq name (s ++ t)) suffixes) suffixes

@@ -8,8 +8,8 @@ pub record Command : Type 0 where
   pub text : List ℕ
   pub place : Place
 
--- a rule line: its targets, its prerequisites with `.WAIT` among them, its commands, where it has any, its place, and
--- whether it is of the default text
+-- a rule line: its targets, its prerequisites with `.WAIT` among them, its commands, where it has
+-- any, its place, and whether it is of the default text
 pub record RuleRead : Type 0 where
   pub targets : List (List ℕ)
   pub words : List (List ℕ)
@@ -17,7 +17,8 @@ pub record RuleRead : Type 0 where
   pub place : Place
   pub default : Bool
 
--- what a command line belongs to: nothing, the last rule line, a special target, or a rule line that was passed over
+-- what a command line belongs to: nothing, the last rule line, a special target, or a rule line
+-- that was passed over
 pub data Owner : Type 0 where
   Nobody : Owner
   Last : RuleRead → Owner
@@ -43,8 +44,9 @@ rules_of read = read.earlier ++ last_rule read.owner
 abbrev pub owned : Owner → Read → Read
 owned owner read = record { earlier = rules_of read; owner = owner }
 
--- What was read so far: the macros, the suffixes, the phony names, whether nothing runs side by side, the rule lines,
--- the names of the texts, and those that were passed over because they aren't there.
+-- What was read so far: the macros, the suffixes, the phony names, whether nothing runs side by
+-- side, the rule lines, the names of the texts, and those that were passed over because they aren't
+-- there.
 pub record State : Type 0 where
   pub table : List Macro
   pub suffixes : List (List ℕ)
@@ -55,7 +57,16 @@ pub record State : Type 0 where
   pub missing : List (List ℕ)
 
 abbrev pub nothing_read : State
-nothing_read = record { table = []; suffixes = []; phony = []; not_parallel = false; read = record { earlier = []; owner = Nobody }; texts = []; missing = [] }
+nothing_read =
+    record {
+      table = [];
+      suffixes = [];
+      phony = [];
+      not_parallel = false;
+      read = record { earlier = []; owner = Nobody };
+      texts = [];
+      missing = [];
+    }
 
 -- from here on command lines belong to nothing
 abbrev pub parted : State → State

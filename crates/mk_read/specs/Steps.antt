@@ -1,5 +1,5 @@
 -- Results in steps: the first fault is the result.
-use Rattle.std.specs.Prelude.{◌≡◌, ◌⊎◌, Bool, true, false, ℕ, List, Result, Ok, Err}
+use Rattle.std.specs.Prelude.{Bool, true, false, ℕ, List, Result, Ok, Err}
 use Rattle.mk_lines.specs.declared.fault.LineFault.{LineFault}
 use Rattle.mk_lines.specs.declared.fault.LineFault.TheVariants as line
 use Rattle.mk_macros.specs.declared.fault.MacroFault.{MacroFault}
@@ -9,11 +9,8 @@ use Rattle.mk_read.specs.declared.fault.KindFault.TheVariants as kind
 use Rattle.mk_read.specs.declared.fault.Place.{Place}
 use Rattle.mk_read.specs.declared.fault.ReadFault.{ReadFault}
 use Rattle.mk_read.specs.declared.fault.ReadFault.TheVariants.{Line, Macro, Kind, Memory}
-
-infixl 10 ◌>>=◌
-abbrev pub ◌>>=◌ : {A B : Type 0} → Result A ReadFault → (A → Result B ReadFault) → Result B ReadFault
-(Ok x) >>= f = f x
-(Err e) >>= f = Err e
+pub use Rattle.mk_lines.specs.Results.{◌>>=◌, seen}
+use Rattle.mk_lines.specs.Results as results
 
 -- want of memory, of each kind
 abbrev pub is_want_of_memory : ReadFault → Bool
@@ -39,14 +36,8 @@ of_kind place (Err fault) = Err (Kind place fault)
 
 -- A fault is the one that is defined, or want of memory, of which nothing is said.
 abbrev pub Fails : {Y : Type 0} → ReadFault → Result Y ReadFault → Type 0
-Fails fault defined = (fault ≡ Memory) ⊎ (defined ≡ Err fault)
+Fails = results.Fails Memory
 
 -- What a call returned, seen by view, is what is defined, unless memory ran out.
 abbrev pub Gives : {X Y : Type 0} → (X → Y) → Result X ReadFault → Result Y ReadFault → Type 0
-Gives view (Ok x) defined = defined ≡ Ok (view x)
-Gives view (Err fault) defined = Fails fault defined
-
--- a result, seen by view
-abbrev pub seen : {X Y : Type 0} → (X → Y) → Result X ReadFault → Result Y ReadFault
-seen view (Ok x) = Ok (view x)
-seen view (Err fault) = Err fault
+Gives = results.Gives Memory

@@ -47,11 +47,14 @@ IsMacroFault place found answer = (answer ≡ fault.Memory) ⊎ (answer ≡ faul
 
 -- what a text of a line expands to
 abbrev pub expanded_text : Place → List Macro → List ℕ → Result (List ℕ) ReadFault
-expanded_text place table text = at_place place (expansion table None text) >>= λ expanded. Ok expanded.text
+expanded_text place table text =
+    at_place place (expansion table None text) >>= λ expanded. Ok expanded.text
 
 -- what an assignment to a name does that was expanded
 unfoldable pub assigned : Place → State → AssignmentLine → List ℕ → Result State ReadFault
-assigned place state line name = at_place place (defined state.table (without_blanks name) line.op line.value) >>= λ table. Ok (record (parted state) { table = table })
+assigned place state line name =
+    at_place place (defined state.table (without_blanks name) line.op line.value) >>= λ table.
+    Ok (record (parted state) { table = table })
 
 -- what was read with a rule line more
 abbrev pub ruled : RuleRead → State → Result State ReadFault
@@ -59,7 +62,9 @@ ruled rule state = new_rule rule state.read >>= λ read. Ok (record state { read
 
 -- what a command line does
 abbrev pub behind_commands : Place → List ℕ → State → Result State ReadFault
-behind_commands place text state = command_line place text state.read.earlier state.read.owner >>= λ read. Ok (record state { read = read })
+behind_commands place text state =
+    command_line place text state.read.earlier state.read.owner >>= λ read.
+    Ok (record state { read = read })
 
 -- the text that is read
 abbrev pub text_of : source.Source → Text
@@ -70,14 +75,16 @@ abbrev pub read_below : ℕ → Reader → List ℕ → List ℕ → State → R
 read_below levels reader = reading levels reader
 
 -- what is read after the text of a file that an include line names
-abbrev pub found_after : (List ℕ → List ℕ → State → Result State ReadFault) → List ℕ → List ℕ → State → Result State ReadFault
+abbrev pub found_after : (List ℕ → List ℕ → State → Result State ReadFault) → List ℕ → List ℕ →
+    State → Result State ReadFault
 found_after read name text state = read name text state >>= λ after. Ok (parted after)
 
 -- the names of the files of an include line, with so many levels below it
 abbrev pub include_names : ℕ → Place → List Macro → List ℕ → Result (List (List ℕ)) ReadFault
 include_names levels place table text =
     if levels == 0 then Err (fault.IncludeDepth place)
-    else (names_in place table text >>= λ names. if is_empty names then Err (fault.IncludeEmpty place) else Ok names)
+    else (names_in place table text >>= λ names.
+    if is_empty names then Err (fault.IncludeEmpty place) else Ok names)
 
 -- the fault where too many texts were read, unless memory ran out
 abbrev pub IsTooMany : Place → ReadFault → Type 0
@@ -92,7 +99,8 @@ missing_more state name = record state { missing = state.missing ++ name ∷ [] 
 
 -- what is read after a file that isn't there
 abbrev pub not_found : Place → Bool → State → List ℕ → Result State ReadFault
-not_found place optional state name = if optional then Ok (missing_more state name) else Err (fault.IncludeMissing place name)
+not_found place optional state name =
+    if optional then Ok (missing_more state name) else Err (fault.IncludeMissing place name)
 
 -- the state in which the makefile's own text is read
 abbrev pub begun : State → List ℕ → State
@@ -108,11 +116,13 @@ without_makefile state = record state { missing = codes "makefile" ∷ [] }
 
 -- what is read after the second usual makefile
 abbrev pub second_text : Reader → State → Result State ReadFault
-second_text reader state = own_text reader (without_makefile state) (codes "Makefile") (Err (fault.NoMakefile None))
+second_text reader state =
+    own_text reader (without_makefile state) (codes "Makefile") (Err (fault.NoMakefile None))
 
 -- the name is this suffix, or this suffix with another one behind it
 abbrev pub is_joined : List (List ℕ) → List ℕ → List ℕ → Bool
-is_joined suffixes name suffix = bytes_eq name suffix || list_any (λ other. bytes_eq name (suffix ++ other)) suffixes
+is_joined suffixes name suffix =
+    bytes_eq name suffix || list_any (λ other. bytes_eq name (suffix ++ other)) suffixes
 
 -- what is read in all
 abbrev pub state_read : Reader → Option (List ℕ) → Bool → List (List ℕ) → Result State ReadFault

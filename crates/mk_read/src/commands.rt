@@ -27,7 +27,8 @@ fn is_comment(text: &[u8]) -> bool
 
 /// The first of the names that is in the set.
 fn first_in<'a>(set: &NameSet, names: &'a [String]) -> Option<&'a str>
-    ensures { MatchOption result (find (has_name set.now) (map string_bytes names.now) ≡ None) (λ name. find (has_name set.now) (map string_bytes names.now) ≡ Some name.now) }
+    ensures { MatchOption result (find (has_name set.now) (map string_bytes names.now) ≡
+        None) (λ name. find (has_name set.now) (map string_bytes names.now) ≡ Some name.now) }
 {
     for name in names {
         if set.contains(name) {
@@ -39,7 +40,8 @@ fn first_in<'a>(set: &NameSet, names: &'a [String]) -> Option<&'a str>
 
 /// The set with these names.
 fn with_names(alloc: Global, set: NameSet, names: &[String]) -> Result<NameSet, AllocError>
-    ensures { IfOk result (λ all. (name : List ℕ) → has_name all name ≡ (has_name set name || has_name (map string_bytes names.now) name)) }
+    ensures { IfOk result (λ all. (name : List ℕ) →
+        has_name all name ≡ (has_name set name || has_name (map string_bytes names.now) name)) }
 {
     let mut all = set;
     for name in names {
@@ -58,7 +60,8 @@ fn with_commanded(
 ) -> Result<RuleLines, ReadFault>
     requires commands { has_some rule.commands ≡ true }
     requires known { KnowsCommands known earlier.items }
-    ensures exact { Gives (λ lines. lines) result (unless_taken (taken earlier.items rule) rule earlier.items) }
+    ensures exact { Gives (λ lines.
+        lines) result (unless_taken (taken earlier.items rule) rule earlier.items) }
     ensures own { IfErr result IsOfText }
 {
     if rule.default {
@@ -86,7 +89,8 @@ fn with_one_more(
     commands: Option<Vec<Command>>,
     command: Command,
 ) -> Result<Vec<Command>, AllocError>
-    ensures { IfOk result (λ all. all.items ≡ with_command (option_map (λ commands. commands.items) commands) command) }
+    ensures { IfOk result (λ all. all.items ≡
+        with_command (option_map (λ commands. commands.items) commands) command) }
 {
     let mut all = commands.unwrap_or(Vec::new(alloc));
     all.push(command)?;
@@ -105,12 +109,13 @@ fn with_command(alloc: Global, rule: Rule, command: Command) -> Result<Rule, All
 }
 
 impl RuleLines {
-    /// A command line, without the blanks that lead it. Fault 26 where it belongs to nothing and is no
-    /// comment, 30 where it belongs to a special target, 31 where it is the first of a rule line and
-    /// the makefile has commands of an earlier one for a target.
+    /// A command line, without the blanks that lead it. Fault 26 where it belongs to nothing and is
+    /// no comment, 30 where it belongs to a special target, 31 where it is the first of a rule line
+    /// and the makefile has commands of an earlier one for a target.
     #[tactic(auto, unfolding(crate::specs::Rules::command_line))]
     pub(crate) fn with_command(self, spot: &Spot<'_>, text: &[u8]) -> Result<RuleLines, ReadFault>
-        ensures exact { Gives (λ lines. lines) result (command_line (place_at spot.now) text.now self.earlier self.owner) }
+        ensures exact { Gives (λ lines.
+            lines) result (command_line (place_at spot.now) text.now self.earlier self.owner) }
         ensures own { IfErr result IsOfText }
     {
         let RuleLines {
@@ -139,8 +144,8 @@ impl RuleLines {
         }
     }
 
-    /// A rule line more. Fault 31 where it has commands and the makefile has commands of an earlier one
-    /// for a target.
+    /// A rule line more. Fault 31 where it has commands and the makefile has commands of an earlier
+    /// one for a target.
     #[tactic(auto, unfolding(crate::specs::Rules::new_rule))]
     pub(crate) fn with_rule(self, alloc: Global, rule: Rule) -> Result<RuleLines, ReadFault>
         ensures exact { Gives (λ lines. lines) result (new_rule rule self) }
@@ -167,8 +172,12 @@ fn behind_rule(
     known: NameSet,
     text: &[u8],
 ) -> Result<RuleLines, ReadFault>
-    requires { KnowsCommands known (rules_of (record { earlier = earlier.items; owner = Last rule })) }
-    ensures exact { Gives (λ lines. lines) result (command_line (place_at spot.now) text.now earlier.items (Last rule)) }
+    requires { KnowsCommands known (rules_of (record {
+      earlier = earlier.items;
+      owner = Last rule;
+    })) }
+    ensures exact { Gives (λ lines.
+        lines) result (command_line (place_at spot.now) text.now earlier.items (Last rule)) }
     ensures own { IfErr result IsOfText }
 {
     let command = Command {

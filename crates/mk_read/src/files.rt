@@ -32,7 +32,8 @@ pub trait Files {
     fn read(&mut self, alloc: Global, name: &str) -> Result<Option<Vec<u8>>, FilesError>
         requires { failed self.old < 2 ^ 64 - 1 }
         ensures map { told self.new ≡ told self.old }
-        ensures text { IfOk result (λ text. IfSome (told self.old) (λ files. option_map (λ bytes. bytes.items) text ≡ text_at files name.now)) }
+        ensures text { IfOk result (λ text. IfSome (told self.old)
+            (λ files. option_map (λ bytes. bytes.items) text ≡ text_at files name.now)) }
         ensures ok { OnOk result (failed self.new ≡ failed self.old) }
         ensures memory { IsErrOf result FilesError.Memory → failed self.new ≡ failed self.old }
         ensures counted { IsErrOf result FilesError.ReadFailed → failed self.old < failed self.new };

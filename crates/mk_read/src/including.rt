@@ -40,7 +40,8 @@ pub(crate) struct Source<'a> {
 
 /// The logical lines of a text, or their first fault in this file.
 fn lines_of<'a>(source: &Source<'_>, text: &'a [u8]) -> Result<Vec<Line<'a>>, ReadFault>
-    ensures exact { Gives (λ lines. map line_view lines.items) result (in_file source.now.file.now (logical_lines text.now)) }
+    ensures exact { Gives (λ lines.
+        map line_view lines.items) result (in_file source.now.file.now (logical_lines text.now)) }
     ensures own { IfErr result IsOfText }
 {
     match logical_lines(source.alloc, text) {
@@ -64,7 +65,8 @@ fn kind_at<'a>(spot: &Spot<'_>, text: &'a [u8]) -> Result<Kind<'a>, ReadFault>
 
 /// Reads a command line.
 fn read_command(spot: &Spot<'_>, state: &mut State, text: &[u8]) -> Result<(), ReadFault>
-    ensures exact { Gives (λ done. state.new) result (behind_commands (place_at spot.now) text.now state.old) }
+    ensures exact { Gives (λ done.
+        state.new) result (behind_commands (place_at spot.now) text.now state.old) }
     ensures own { IfErr result IsOfText }
 {
     let lines = mem::replace(&mut state.lines, RuleLines::new(spot.alloc));
@@ -82,7 +84,10 @@ fn read_lines<F: Files>(
 ) -> Result<(), ReadFault>
     requires { F.failed files.old < 2 ^ 64 - 1 }
     ensures map { F.told files.new ≡ F.told files.old }
-    ensures follows { IfSome (F.told files.old) (λ told. Follows told (λ reader. with_lines reader (below source.now.levels reader) (text_of source.now) (map line_view lines.now) state.old) state.old (seen (λ done. state.new) result)) }
+    ensures follows { IfSome (F.told files.old)
+        (λ told. Follows told (λ reader. with_lines reader (below source.now.levels reader)
+        (text_of source.now)
+        (map line_view lines.now) state.old) state.old (seen (λ done. state.new) result)) }
     ensures counted { Counts (F.failed files.old) (F.failed files.new) result }
 {
     for line in lines {
@@ -101,7 +106,10 @@ fn read_line<F: Files>(
 ) -> Result<(), ReadFault>
     requires { F.failed files.old < 2 ^ 64 - 1 }
     ensures map { F.told files.new ≡ F.told files.old }
-    ensures follows { IfSome (F.told files.old) (λ told. Follows told (λ reader. with_line reader (below source.now.levels reader) (text_of source.now) state.old (line_view line.now)) state.old (seen (λ done. state.new) result)) }
+    ensures follows { IfSome (F.told files.old)
+        (λ told. Follows told (λ reader. with_line reader (below source.now.levels reader)
+        (text_of source.now) state.old (line_view line.now)) state.old (seen (λ done.
+        state.new) result)) }
     ensures counted { Counts (F.failed files.old) (F.failed files.new) result }
 {
     let spot = Spot {
@@ -128,7 +136,10 @@ fn read_kind<F: Files>(
 ) -> Result<(), ReadFault>
     requires { F.failed files.old < 2 ^ 64 - 1 }
     ensures map { F.told files.new ≡ F.told files.old }
-    ensures follows { IfSome (F.told files.old) (λ told. Follows told (λ reader. plain_line reader (below source.now.levels reader) source.now.default (place_at spot.now) state.old (kind_view kind.entry)) state.old (seen (λ done. state.new) result)) }
+    ensures follows { IfSome (F.told files.old)
+        (λ told.
+        Follows told (λ reader.
+        plain_line reader (below source.now.levels reader) source.now.default (place_at spot.now) state.old (kind_view kind.entry)) state.old (seen (λ done. state.new) result)) }
     ensures counted { Counts (F.failed files.old) (F.failed files.new) result }
 {
     match kind {
@@ -147,7 +158,8 @@ fn include_names(
     macros: &MacroTable,
     text: &[u8],
 ) -> Result<Vec<String>, ReadFault>
-    ensures exact { Gives (λ names. map string_bytes names.items) result (include_names levels (place_at spot.now) macros.now text.now) }
+    ensures exact { Gives (λ names.
+        map string_bytes names.items) result (include_names levels (place_at spot.now) macros.now text.now) }
     ensures levels { IfOk result (λ _. 0 < levels) }
     ensures own { IfErr result IsOfText }
 {
@@ -172,7 +184,10 @@ fn read_include<F: Files>(
 ) -> Result<(), ReadFault>
     requires { F.failed files.old < 2 ^ 64 - 1 }
     ensures map { F.told files.new ≡ F.told files.old }
-    ensures follows { IfSome (F.told files.old) (λ told. Follows told (λ reader. include reader (below source.now.levels reader) (place_at spot.now) state.old (include_view line.entry)) state.old (seen (λ done. state.new) result)) }
+    ensures follows { IfSome (F.told files.old)
+        (λ told. Follows told (λ reader. include reader (below source.now.levels reader)
+        (place_at spot.now) state.old (include_view line.entry)) state.old (seen (λ done.
+        state.new) result)) }
     ensures counted { Counts (F.failed files.old) (F.failed files.new) result }
 {
     let names = include_names(source.levels, spot, &state.macros, line.names)?;
@@ -192,7 +207,9 @@ fn read_files<F: Files>(
 ) -> Result<(), ReadFault>
     requires { F.failed files.old < 2 ^ 64 - 1 }
     ensures map { F.told files.new ≡ F.told files.old }
-    ensures follows { IfSome (F.told files.old) (λ told. Follows told (λ reader. all_files reader (read_below levels reader) (place_at spot.now) optional (map string_bytes names.now) state.old) state.old (seen (λ done. state.new) result)) }
+    ensures follows { IfSome (F.told files.old)
+        (λ told. Follows told (λ reader. all_files reader (read_below levels reader)
+        (place_at spot.now) optional (map string_bytes names.now) state.old) state.old (seen (λ done. state.new) result)) }
     ensures counted { Counts (F.failed files.old) (F.failed files.new) result }
 {
     for name in names {
@@ -201,7 +218,8 @@ fn read_files<F: Files>(
     Ok(())
 }
 
-/// The text of a file that an include line names, where it is there. Fault 35 where the reader fails.
+/// The text of a file that an include line names, where it is there. Fault 35 where the reader
+/// fails.
 fn text_at<F: Files>(
     files: &mut F,
     spot: &Spot<'_>,
@@ -209,8 +227,10 @@ fn text_at<F: Files>(
 ) -> Result<Option<Vec<u8>>, ReadFault>
     requires { F.failed files.old < 2 ^ 64 - 1 }
     ensures map { F.told files.new ≡ F.told files.old }
-    ensures text { IfOk result (λ found. IfSome (F.told files.old) (λ told. option_map (λ text. text.items) found ≡ text_at told name.now)) }
-    ensures fault { IfErr result (λ fault. (fault ≡ Memory) ⊎ (fault ≡ ReadFailed (Some (place_at spot.now)) name.now)) }
+    ensures text { IfOk result (λ found. IfSome (F.told files.old)
+        (λ told. option_map (λ text. text.items) found ≡ text_at told name.now)) }
+    ensures fault { IfErr result (λ fault. (fault ≡ Memory) ⊎
+        (fault ≡ ReadFailed (Some (place_at spot.now)) name.now)) }
     ensures counted { Counts (F.failed files.old) (F.failed files.new) result }
 {
     let place = spot.place()?;
@@ -233,8 +253,8 @@ fn too_many(spot: &Spot<'_>) -> ReadFault
     }
 }
 
-/// Reads a file that an include line names. Fault 36 where too many were read, 32 where the file isn't
-/// there and may not be passed over.
+/// Reads a file that an include line names. Fault 36 where too many were read, 32 where the file
+/// isn't there and may not be passed over.
 #[cycle(read)]
 fn read_file<F: Files>(
     files: &mut F,
@@ -246,7 +266,10 @@ fn read_file<F: Files>(
 ) -> Result<(), ReadFault>
     requires { F.failed files.old < 2 ^ 64 - 1 }
     ensures map { F.told files.new ≡ F.told files.old }
-    ensures follows { IfSome (F.told files.old) (λ told. Follows told (λ reader. one_file reader (read_below levels reader) (place_at spot.now) optional state.old name.now) state.old (seen (λ done. state.new) result)) }
+    ensures follows { IfSome (F.told files.old)
+        (λ told. Follows told (λ reader. one_file reader (read_below levels reader)
+        (place_at spot.now) optional state.old name.now) state.old (seen (λ done.
+        state.new) result)) }
     ensures counted { Counts (F.failed files.old) (F.failed files.new) result }
 {
     if state.is_full() {
@@ -265,7 +288,8 @@ fn pass_over(
     name: &str,
     state: &mut State,
 ) -> Result<(), ReadFault>
-    ensures exact { Gives (λ done. state.new) result (not_found (place_at spot.now) optional state.old name.now) }
+    ensures exact { Gives (λ done.
+        state.new) result (not_found (place_at spot.now) optional state.old name.now) }
     ensures own { IfErr result IsOfText }
 {
     let file = Name::new(spot.alloc, name)?;
@@ -287,7 +311,11 @@ fn read_found<F: Files>(
 ) -> Result<(), ReadFault>
     requires { F.failed files.old < 2 ^ 64 - 1 }
     ensures map { F.told files.new ≡ F.told files.old }
-    ensures follows { IfSome (F.told files.old) (λ told. Follows told (λ reader. found_after (read_below levels reader) name.now text.now (text_more state.old name.now)) (text_more state.old name.now) (seen (λ done. state.new) result)) }
+    ensures follows { IfSome (F.told files.old)
+        (λ told.
+        Follows told (λ reader.
+        found_after (read_below levels reader) name.now text.now (text_more state.old name.now))
+        (text_more state.old name.now) (seen (λ done. state.new) result)) }
     ensures counted { Counts (F.failed files.old) (F.failed files.new) result }
 {
     let file = Name::new(spot.alloc, name)?;
@@ -312,7 +340,9 @@ pub(crate) fn read_text<F: Files>(
 ) -> Result<(), ReadFault>
     requires { F.failed files.old < 2 ^ 64 - 1 }
     ensures map { F.told files.new ≡ F.told files.old }
-    ensures follows { IfSome (F.told files.old) (λ told. Follows told (λ reader. with_text reader (below source.now.levels reader) (text_of source.now) text.now state.old) state.old (seen (λ done. state.new) result)) }
+    ensures follows { IfSome (F.told files.old)
+        (λ told. Follows told (λ reader. with_text reader (below source.now.levels reader)
+        (text_of source.now) text.now state.old) state.old (seen (λ done. state.new) result)) }
     ensures counted { Counts (F.failed files.old) (F.failed files.new) result }
 {
     let lines = lines_of(source, text)?;

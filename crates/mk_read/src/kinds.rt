@@ -110,8 +110,8 @@ fn assignment_line<'a>(before: &'a [u8], value: &'a [u8]) -> Result<Kind<'a>, Ki
     }
 }
 
-/// A rule line by what stands before and behind its colon, and by where the first `=` or `;` outside
-/// references stands behind it.
+/// A rule line by what stands before and behind its colon, and by where the first `=` or `;`
+/// outside references stands behind it.
 fn words_and_command<'a>(
     targets: &'a [u8],
     rest: &'a [u8],

@@ -15,16 +15,12 @@ mod name_set;
 mod names;
 pub mod place_laws;
 mod reading;
-#[cfg(test)]
-mod reading_tests;
 pub mod rule_laws;
 mod rules;
 mod special;
 mod spot;
 mod state;
 mod suffix_list;
-#[cfg(test)]
-mod tests;
 pub mod text_laws;
 
 pub use fault::{KindFault, Place, ReadFault};

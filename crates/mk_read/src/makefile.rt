@@ -51,7 +51,14 @@ impl Model for Rule {
 
     ghost Value = { value.RuleRead };
 
-    ghost view = { λ r. record { targets = map string_bytes r.targets.items; words = map string_bytes r.words.items; commands = option_map (λ commands. commands.items) r.commands; place = r.place; default = r.default } };
+    ghost view = { λ r.
+        record {
+          targets = map string_bytes r.targets.items;
+          words = map string_bytes r.words.items;
+          commands = option_map (λ commands. commands.items) r.commands;
+          place = r.place;
+          default = r.default;
+        } };
 }
 
 /// What a makefile says. A contract sees lists.
@@ -73,7 +80,16 @@ impl Model for Makefile {
 
     ghost Value = { value.Makefile };
 
-    ghost view = { λ m. record { rules = m.rules.items; suffixes = m.suffixes; phony = map string_bytes m.phony.items; not_parallel = m.not_parallel; macros = m.macros; texts = map string_bytes m.texts.items; passed_over = map string_bytes m.passed_over.items } };
+    ghost view = { λ m.
+        record {
+          rules = m.rules.items;
+          suffixes = m.suffixes;
+          phony = map string_bytes m.phony.items;
+          not_parallel = m.not_parallel;
+          macros = m.macros;
+          texts = map string_bytes m.texts.items;
+          passed_over = map string_bytes m.passed_over.items;
+        } };
 }
 
 impl Makefile {

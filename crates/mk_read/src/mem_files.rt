@@ -59,7 +59,8 @@ impl MemFiles {
 
     /// Adds a file behind the others. The error is want of memory alone.
     pub fn add(&mut self, name: &str, text: &[u8]) -> Result<(), AllocError>
-        ensures ok { OnOk result (told_by self.new ≡ told_by self.old ++ (name.now, text.now) ∷ []) }
+        ensures ok { OnOk result (told_by self.new ≡
+            told_by self.old ++ (name.now, text.now) ∷ []) }
         ensures err { OnErr result (told_by self.new ≡ told_by self.old) }
         ensures failures { failures_of self.new ≡ failures_of self.old }
         ensures failing { failing_of self.new ≡ failing_of self.old }
@@ -92,9 +93,11 @@ impl MemFiles {
         ensures files { told_by self.new ≡ told_by self.old }
         ensures failing { failing_of self.new ≡ failing_of self.old }
         ensures reads { reads_of self.new ≡ next_read self.old }
-        ensures text { IfOk result (λ text. option_map (λ bytes. bytes.items) text ≡ text_at (told_by self.old) name.now) }
+        ensures text { IfOk result (λ text. option_map (λ bytes. bytes.items) text ≡
+            text_at (told_by self.old) name.now) }
         ensures fails { IsErrOf result ReadFailed ↔ IsToFail self.old }
-        ensures counted { IsErrOf result ReadFailed → failures_of self.new ≡ failures_of self.old + 1 }
+        ensures counted { IsErrOf result ReadFailed →
+            failures_of self.new ≡ failures_of self.old + 1 }
         ensures ok { OnOk result (failures_of self.new ≡ failures_of self.old) }
         ensures memory { IsErrOf result Memory → failures_of self.new ≡ failures_of self.old }
     {

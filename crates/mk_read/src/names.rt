@@ -33,14 +33,16 @@ pub fn words<'a>(alloc: Global, text: &'a [u8]) -> Result<Vec<&'a [u8]>, AllocEr
 
 /// Bytes as text.
 fn utf8(bytes: &[u8]) -> Option<&str>
-    ensures { MatchOption result (is_utf8 bytes.now ≡ false) (λ text. (text.now ≡ bytes.now) × (is_utf8 bytes.now ≡ true)) }
+    ensures { MatchOption result (is_utf8 bytes.now ≡ false) (λ text. (text.now ≡ bytes.now) ×
+        (is_utf8 bytes.now ≡ true)) }
 {
     str::from_utf8(bytes).ok()
 }
 
 /// Bytes as a plain path.
 fn plain_path(name: &[u8]) -> Option<&str>
-    ensures { MatchOption result (is_plain_path name.now ≡ false) (λ text. (text.now ≡ name.now) × (is_plain_path name.now ≡ true)) }
+    ensures { MatchOption result (is_plain_path name.now ≡ false) (λ text. (text.now ≡ name.now) ×
+        (is_plain_path name.now ≡ true)) }
 {
     if is_plain_path(name) {
         utf8(name)
@@ -93,7 +95,8 @@ fn has_bracket(word: &[u8]) -> bool
 /// A name that a makefile may have: a plain path without the reserved bytes.
 #[tactic(auto, unfolding(crate::specs::Names::is_make_name))]
 fn make_name(word: &[u8]) -> Option<&str>
-    ensures { MatchOption result (is_make_name word.now ≡ false) (λ name. (name.now ≡ word.now) × (is_make_name word.now ≡ true)) }
+    ensures { MatchOption result (is_make_name word.now ≡ false) (λ name. (name.now ≡ word.now) ×
+        (is_make_name word.now ≡ true)) }
 {
     if has_reserved(word) {
         None
@@ -102,8 +105,8 @@ fn make_name(word: &[u8]) -> Option<&str>
     }
 }
 
-/// A word as a name (the standard's `make`, "Target Rules" and "Libraries"). Fault 28 where it holds a
-/// bracket, else 27 where it is no name; or want of memory for the fault's place.
+/// A word as a name (the standard's `make`, "Target Rules" and "Libraries"). Fault 28 where it
+/// holds a bracket, else 27 where it is no name; or want of memory for the fault's place.
 #[tactic(auto, unfolding(crate::specs::Names::name_of))]
 pub fn name_of<'a>(
     alloc: Global,
@@ -111,7 +114,8 @@ pub fn name_of<'a>(
     line: usize,
     word: &'a [u8],
 ) -> Result<&'a str, ReadFault>
-    ensures exact { Gives (λ name. name.now) result (name_of (record { file = file.now; line = line }) word.now) }
+    ensures exact { Gives (λ name.
+        name.now) result (name_of (record { file = file.now; line = line }) word.now) }
     ensures own { IfErr result IsOfText }
 {
     // A name holds no bracket.
@@ -130,15 +134,18 @@ pub fn name_of<'a>(
     })
 }
 
-/// The names that a part of a line has, behind its expansion (the standard's `make`, "Target Rules"): of
-/// each word in turn fault 28 where it holds a bracket, else 27 where it is no name; or want of memory.
+/// The names that a part of a line has, behind its expansion (the standard's `make`, "Target
+/// Rules"): of each word in turn fault 28 where it holds a bracket, else 27 where it is no name; or
+/// want of memory.
 pub fn names_of(
     alloc: Global,
     file: &Name,
     line: usize,
     text: &[u8],
 ) -> Result<Vec<String>, ReadFault>
-    ensures exact { Gives (λ found. map string_bytes found.items) result (names_of (record { file = file.now; line = line }) (words text.now)) }
+    ensures exact { Gives (λ found.
+        map string_bytes found.items) result (names_of (record { file = file.now; line = line })
+        (words text.now)) }
     ensures own { IfErr result IsOfText }
 {
     let mut names = Vec::new(alloc);
@@ -149,8 +156,8 @@ pub fn names_of(
     Ok(names)
 }
 
-/// Whether a name is a dot and three or more of `A-Z` and `_`, as special targets are (the standard's
-/// `make`, "Target Rules").
+/// Whether a name is a dot and three or more of `A-Z` and `_`, as special targets are (the
+/// standard's `make`, "Target Rules").
 pub fn is_special(name: &str) -> bool
     ensures { result ≡ is_special name.now }
 {

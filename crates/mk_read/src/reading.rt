@@ -46,7 +46,8 @@ const MAX_LEVELS: usize = 16;
 
 /// Whether the name of a makefile is a plain path other than `-`; else fault 27.
 fn test_name(alloc: Global, name: Option<&Name>) -> Result<(), ReadFault>
-    ensures exact { Gives (λ _. option_copied name.entry) result (named (option_copied name.entry)) }
+    ensures exact { Gives (λ _.
+        option_copied name.entry) result (named (option_copied name.entry)) }
     ensures own { IfErr result IsOfText }
 {
     let Some(name) = name else {
@@ -69,7 +70,9 @@ fn read_default<F: Files>(
 ) -> Result<(), ReadFault>
     requires { F.failed files.old < 2 ^ 64 - 1 }
     ensures map { F.told files.new ≡ F.told files.old }
-    ensures follows { IfSome (F.told files.old) (λ told. state.old ≡ nothing_read → Follows told (λ reader. after_default reader defaults) nothing_read (seen (λ done. state.new) result)) }
+    ensures follows { IfSome (F.told files.old) (λ told. state.old ≡ nothing_read →
+        Follows told (λ reader.
+        after_default reader defaults) nothing_read (seen (λ done. state.new) result)) }
     ensures counted { Counts (F.failed files.old) (F.failed files.new) result }
 {
     if !defaults {
@@ -90,16 +93,18 @@ fn fix_operand(
     alloc: Global,
     number: usize,
     macros: &mut MacroTable,
-    operand: &Name,
+    operand: &[u8],
 ) -> Result<(), ReadFault>
-    ensures exact { Gives (λ done. macros.new) result (at_place (record { file = codes "operand"; line = number }) (with_operand macros.old operand.now)) }
+    ensures exact { Gives (λ done.
+        macros.new) result (at_place (record { file = codes "operand"; line = number })
+        (with_operand macros.old operand.now)) }
     ensures own { IfErr result IsOfText }
 {
     let place = Place {
         file: Name::new(alloc, "operand")?,
         line: number,
     };
-    match macros.fix(operand.as_str().as_bytes()) {
+    match macros.fix(operand) {
         Ok(()) => Ok(()),
         Err(MacroFault::Memory) => Err(ReadFault::Memory),
         Err(fault) => Err(ReadFault::Macro(place, fault)),
@@ -107,8 +112,14 @@ fn fix_operand(
 }
 
 /// Fixes macros by the operands, one after another.
-fn fix_operands(alloc: Global, macros: &mut MacroTable, operands: &[Name]) -> Result<(), ReadFault>
-    ensures exact { Gives (λ done. macros.new) result (with_operands 1 operands.now macros.old) }
+fn fix_operands(
+    alloc: Global,
+    macros: &mut MacroTable,
+    operands: &[Vec<u8>],
+) -> Result<(), ReadFault>
+    ensures exact { Gives (λ done.
+        macros.new) result (with_operands 1 (map (λ operand.
+        operand.items) operands.now) macros.old) }
     ensures own { IfErr result IsOfText }
 {
     for (i, operand) in operands.iter().enumerate() {
@@ -125,7 +136,8 @@ fn makefile_at<F: Files>(
 ) -> Result<Option<Vec<u8>>, ReadFault>
     requires { F.failed files.old < 2 ^ 64 - 1 }
     ensures map { F.told files.new ≡ F.told files.old }
-    ensures text { IfOk result (λ found. IfSome (F.told files.old) (λ told. option_map (λ text. text.items) found ≡ text_at told name.now)) }
+    ensures text { IfOk result (λ found. IfSome (F.told files.old)
+        (λ told. option_map (λ text. text.items) found ≡ text_at told name.now)) }
     ensures fault { IfErr result (λ fault. (fault ≡ Memory) ⊎ (fault ≡ ReadFailed None name.now)) }
     ensures counted { Counts (F.failed files.old) (F.failed files.new) result }
 {
@@ -156,7 +168,10 @@ fn read_own_text<F: Files>(
 ) -> Result<(), ReadFault>
     requires { F.failed files.old < 2 ^ 64 - 1 }
     ensures map { F.told files.new ≡ F.told files.old }
-    ensures follows { IfSome (F.told files.old) (λ told. Follows told (λ reader. reading 16 reader name.now text.now (begun state.old name.now)) (begun state.old name.now) (seen (λ done. state.new) result)) }
+    ensures follows { IfSome (F.told files.old)
+        (λ told.
+        Follows told (λ reader. reading 16 reader name.now text.now (begun state.old name.now))
+        (begun state.old name.now) (seen (λ done. state.new) result)) }
     ensures counted { Counts (F.failed files.old) (F.failed files.new) result }
 {
     let file = Name::new(alloc, name)?;
@@ -181,7 +196,9 @@ fn read_named<F: Files>(
 ) -> Result<(), ReadFault>
     requires { F.failed files.old < 2 ^ 64 - 1 }
     ensures map { F.told files.new ≡ F.told files.old }
-    ensures follows { IfSome (F.told files.old) (λ told. IsUnread state.old → Follows told (λ reader. from_named reader state.old (Some name.now)) state.old (seen (λ done. state.new) result)) }
+    ensures follows { IfSome (F.told files.old) (λ told. IsUnread state.old →
+        Follows told (λ reader.
+        from_named reader state.old (Some name.now)) state.old (seen (λ done. state.new) result)) }
     ensures counted { Counts (F.failed files.old) (F.failed files.new) result }
 {
     let text = name.as_str();
@@ -192,11 +209,14 @@ fn read_named<F: Files>(
     }
 }
 
-/// Reads the second usual makefile, where the first isn't there. Fault 37 where it isn't there either.
+/// Reads the second usual makefile, where the first isn't there. Fault 37 where it isn't there
+/// either.
 fn read_second<F: Files>(alloc: Global, files: &mut F, state: &mut State) -> Result<(), ReadFault>
     requires { F.failed files.old < 2 ^ 64 - 1 }
     ensures map { F.told files.new ≡ F.told files.old }
-    ensures follows { IfSome (F.told files.old) (λ told. state.old.texts ≡ [] → Follows told (λ reader. second_text reader state.old) (without_makefile state.old) (seen (λ done. state.new) result)) }
+    ensures follows { IfSome (F.told files.old) (λ told. state.old.texts ≡ [] →
+        Follows told (λ reader. second_text reader state.old) (without_makefile state.old)
+        (seen (λ done. state.new) result)) }
     ensures counted { Counts (F.failed files.old) (F.failed files.new) result }
 {
     match makefile_at(alloc, files, "Makefile")? {
@@ -212,7 +232,9 @@ fn read_second<F: Files>(alloc: Global, files: &mut F, state: &mut State) -> Res
 fn read_usual<F: Files>(alloc: Global, files: &mut F, state: &mut State) -> Result<(), ReadFault>
     requires { F.failed files.old < 2 ^ 64 - 1 }
     ensures map { F.told files.new ≡ F.told files.old }
-    ensures follows { IfSome (F.told files.old) (λ told. IsUnread state.old → Follows told (λ reader. from_named reader state.old None) state.old (seen (λ done. state.new) result)) }
+    ensures follows { IfSome (F.told files.old) (λ told. IsUnread state.old →
+        Follows told (λ reader.
+        from_named reader state.old None) state.old (seen (λ done. state.new) result)) }
     ensures counted { Counts (F.failed files.old) (F.failed files.new) result }
 {
     match makefile_at(alloc, files, "makefile")? {
@@ -258,7 +280,8 @@ fn is_inference_name(suffixes: &[String], name: &str) -> bool
 
 /// Whether one of the targets is an inference name.
 fn has_inference_name(suffixes: &[String], targets: &[String]) -> bool
-    ensures { result ≡ list_any (is_inference_name (map string_bytes suffixes.now)) (map string_bytes targets.now) }
+    ensures { result ≡
+        list_any (is_inference_name (map string_bytes suffixes.now)) (map string_bytes targets.now) }
 {
     for target in targets {
         if is_inference_name(suffixes, target) {
@@ -320,12 +343,15 @@ fn read_all<F: Files>(
     files: &mut F,
     name: Option<&Name>,
     defaults: bool,
-    operands: &[Name],
+    operands: &[Vec<u8>],
     state: &mut State,
 ) -> Result<(), ReadFault>
     requires { F.failed files.old < 2 ^ 64 - 1 }
     ensures map { F.told files.new ≡ F.told files.old }
-    ensures follows { IfSome (F.told files.old) (λ told. state.old ≡ nothing_read → Follows told (λ reader. state_read reader (option_copied name.entry) defaults operands.now) nothing_read (seen (λ done. state.new) result)) }
+    ensures follows { IfSome (F.told files.old) (λ told. state.old ≡ nothing_read →
+        Follows told (λ reader.
+        state_read reader (option_copied name.entry) defaults (map (λ operand.
+        operand.items) operands.now)) nothing_read (seen (λ done. state.new) result)) }
     ensures counted { Counts (F.failed files.old) (F.failed files.new) result }
 {
     test_name(alloc, name)?;
@@ -351,23 +377,27 @@ fn answered(fault: ReadFault) -> ReadFault
 /// default text, where it is asked for, and the macro operands (the standard's `make`, "Makefile
 /// Syntax", "Target Rules", "Macros").
 ///
-/// The first fault is the answer: 27 the makefile's name; those of the operands, in order; 35 and 37
-/// the makefile; then its text. A text's faults of lines (1 to 3) come before its lines, which are
-/// done in order, an include line with all lines of its files. In a line 21 to 26 and 33 come first,
-/// by number, then those of the targets or of the macro's name, then those of the rest, each expanded
-/// (11 to 17) and then looked at word by word (27, 28), then 29, 30, 31 and 34, then the reads (36, 35,
-/// 32). `ReadFailed` comes only where the reader has counted a failure in this call, and want of memory
-/// as `Memory` alone.
+/// The first fault is the answer: 27 the makefile's name; those of the operands, in order; 35 and
+/// 37 the makefile; then its text. A text's faults of lines (1 to 3) come before its lines, which
+/// are done in order, an include line with all lines of its files. In a line 21 to 26 and 33 come
+/// first, by number, then those of the targets or of the macro's name, then those of the rest, each
+/// expanded (11 to 17) and then looked at word by word (27, 28), then 29, 30, 31 and 34, then the
+/// reads (36, 35, 32). `ReadFailed` comes only where the reader has counted a failure in this call,
+/// and want of memory as `Memory` alone.
 pub fn read_makefile<F: Files>(
     alloc: Global,
     files: &mut F,
     name: Option<&Name>,
     defaults: bool,
-    operands: &[Name],
+    operands: &[Vec<u8>],
 ) -> Result<Makefile, ReadFault>
     requires { F.failed files.old < 2 ^ 64 - 1 }
     ensures map { F.told files.new ≡ F.told files.old }
-    ensures answer { IfSome (F.told files.old) (λ told. Answers told (λ reader. makefile reader (option_copied name.entry) defaults operands.now) (seen (λ m. m) result)) }
+    ensures answer { IfSome (F.told files.old)
+        (λ told.
+        Answers told (λ reader.
+        makefile reader (option_copied name.entry) defaults (map (λ operand.
+        operand.items) operands.now)) (seen (λ m. m) result)) }
     ensures memory { IfErr result (λ fault. is_want_of_memory fault ≡ true → fault ≡ Memory) }
     ensures counted { Counts (F.failed files.old) (F.failed files.new) result }
 {

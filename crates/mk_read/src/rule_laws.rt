@@ -1,8 +1,16 @@
 //! Laws of rule lines and of operands, about the definitions alone.
 
+ghost use Rattle.mk_read.specs.BlockLaws.{BlocksGiveTheirRules};
 ghost use Rattle.mk_read.specs.RuleLaws.{OneLineHasTheCommands, CommandsAreOfTheOneLine, ElseCommandsAreOfTheDefaultText, WordsComeFromAllLines, OtherLinesGiveNoWords, NamingLinesGiveTheirWords, OperandsWinOverMakefiles, LastOperandWins, RuleLinesAreWellNamed, SuffixesAreSuffixes};
 
 use mk_macros::definition_laws::{operands_fix, operands_leave_others, operands_win};
+
+/// In a text of the makefile the commands of a rule line are the one behind its `;` and those of
+/// the command lines that follow it, with nothing but lines of comments between. Lines of blanks
+/// alone are dropped before.
+pub fn blocks_give_their_rules()
+    ensures { BlocksGiveTheirRules }
+{}
 
 /// In a makefile that is read, at most one rule line gives a name its commands.
 pub fn one_line_has_the_commands()

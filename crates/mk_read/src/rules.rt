@@ -61,7 +61,8 @@ pub(crate) fn names_in(
     macros: &MacroTable,
     text: &[u8],
 ) -> Result<Vec<String>, ReadFault>
-    ensures exact { Gives (λ found. map string_bytes found.items) result (names_in (place_at spot.now) macros.now text.now) }
+    ensures exact { Gives (λ found.
+        map string_bytes found.items) result (names_in (place_at spot.now) macros.now text.now) }
     ensures own { IfErr result IsOfText }
 {
     let found = expanded_text(spot, macros, text)?;
@@ -75,7 +76,8 @@ fn define(
     name: &[u8],
     line: &AssignmentLine<'_>,
 ) -> Result<(), ReadFault>
-    ensures exact { Gives (λ done. macros.new) result (at_place (place_at spot.now) (defined macros.old name.now line.now.op line.now.value.now)) }
+    ensures exact { Gives (λ done. macros.new) result (at_place (place_at spot.now)
+        (defined macros.old name.now line.now.op line.now.value.now)) }
     ensures own { IfErr result IsOfText }
 {
     match macros.define(name, line.op, line.value) {
@@ -94,7 +96,8 @@ impl State {
         name: &[u8],
         line: &AssignmentLine<'_>,
     ) -> Result<(), ReadFault>
-        ensures exact { Gives (λ done. self.new) result (assigned (place_at spot.now) self.old (assignment_view line.now) name.now) }
+        ensures exact { Gives (λ done.
+            self.new) result (assigned (place_at spot.now) self.old (assignment_view line.now) name.now) }
         ensures own { IfErr result IsOfText }
     {
         self.own(Owner::Nobody)?;
@@ -107,7 +110,8 @@ impl State {
         spot: &Spot<'_>,
         line: &AssignmentLine<'_>,
     ) -> Result<(), ReadFault>
-        ensures exact { Gives (λ done. self.new) result (assignment (place_at spot.now) self.old (assignment_view line.now)) }
+        ensures exact { Gives (λ done.
+            self.new) result (assignment (place_at spot.now) self.old (assignment_view line.now)) }
         ensures own { IfErr result IsOfText }
     {
         let name = expanded_text(spot, &self.macros, line.name)?;
@@ -143,7 +147,8 @@ fn add_suffixes(
     suffixes: &mut SuffixList,
     words: &[String],
 ) -> Result<(), ReadFault>
-    ensures exact { Gives (λ done. suffixes.new) result (if list_all is_suffix (map string_bytes words.now) then Ok (listed suffixes.old (map string_bytes words.now)) else Err (SpecialShape (place_at spot.now))) }
+    ensures exact { Gives (λ done.
+        suffixes.new) result (if list_all is_suffix (map string_bytes words.now) then Ok (listed suffixes.old (map string_bytes words.now)) else Err (SpecialShape (place_at spot.now))) }
     ensures own { IfErr result IsOfText }
 {
     if !are_suffixes(words) {
@@ -156,7 +161,8 @@ fn add_suffixes(
 
 /// Puts words behind others.
 fn append(names: &mut Vec<String>, words: Vec<String>) -> Result<(), AllocError>
-    ensures { OnOk result (map string_bytes names.new.items ≡ map string_bytes names.old.items ++ map string_bytes words.items) }
+    ensures { OnOk result (map string_bytes names.new.items ≡
+        map string_bytes names.old.items ++ map string_bytes words.items) }
 {
     let mut words = words;
     names.append(&mut words)?;
@@ -165,7 +171,8 @@ fn append(names: &mut Vec<String>, words: Vec<String>) -> Result<(), AllocError>
 
 /// Fault 30 where there are words.
 fn unless_words(spot: &Spot<'_>, words: &[String]) -> Result<(), ReadFault>
-    ensures exact { Gives (λ done. done) result (if is_empty (map string_bytes words.now) then Ok tt else Err (SpecialShape (place_at spot.now))) }
+    ensures exact { Gives (λ done.
+        done) result (if is_empty (map string_bytes words.now) then Ok tt else Err (SpecialShape (place_at spot.now))) }
     ensures own { IfErr result IsOfText }
 {
     if !words.is_empty() {
@@ -181,7 +188,8 @@ fn note_words(
     words: Vec<String>,
     special: Special,
 ) -> Result<(), ReadFault>
-    ensures exact { Gives (λ done. state.new) result (special_words (place_at spot.now) state.old (map string_bytes words.items) special) }
+    ensures exact { Gives (λ done.
+        state.new) result (special_words (place_at spot.now) state.old (map string_bytes words.items) special) }
     ensures own { IfErr result IsOfText }
 {
     match special {
@@ -221,7 +229,9 @@ fn add_special(
     commands: bool,
     special: Special,
 ) -> Result<(), ReadFault>
-    ensures exact { Gives (λ done. state.new) result (special_rule (place_at spot.now) state.old (map string_bytes targets.now) (map string_bytes words.items) commands special) }
+    ensures exact { Gives (λ done.
+        state.new) result (special_rule (place_at spot.now) state.old (map string_bytes targets.now)
+        (map string_bytes words.items) commands special) }
     ensures own { IfErr result IsOfText }
 {
     if !is_alone(targets) || commands || has_wait(&words) {
@@ -233,7 +243,8 @@ fn add_special(
 
 /// The commands of a `;`: the text behind it, where there is some.
 fn commands_behind(spot: &Spot<'_>, text: &[u8]) -> Result<Vec<Command>, AllocError>
-    ensures { IfOk result (λ commands. commands.items ≡ commands_behind (place_at spot.now) text.now) }
+    ensures { IfOk result (λ commands. commands.items ≡
+        commands_behind (place_at spot.now) text.now) }
 {
     let mut commands = Vec::new(spot.alloc);
     if !text.is_empty() {
@@ -277,7 +288,9 @@ fn push_rule(alloc: Global, state: &mut State, rule: Rule) -> Result<(), ReadFau
 
 /// The commands of a rule line: those behind its `;`, where it has one.
 fn commands_of(spot: &Spot<'_>, command: Option<&[u8]>) -> Result<Option<Vec<Command>>, AllocError>
-    ensures { IfOk result (λ commands. option_map (λ commands. commands.items) commands ≡ option_map (commands_behind (place_at spot.now)) (option_map (λ text. text.now) command.entry)) }
+    ensures { IfOk result (λ commands. option_map (λ commands. commands.items) commands ≡
+        option_map (commands_behind (place_at spot.now))
+        (option_map (λ text. text.now) command.entry)) }
 {
     match command {
         Some(text) => Ok(Some(commands_behind(spot, text)?)),
@@ -295,7 +308,8 @@ fn add_by_names(
     words: Vec<String>,
     command: Option<&[u8]>,
 ) -> Result<(), ReadFault>
-    ensures exact { Gives (λ done. state.new) result (by_names default (place_at spot.now) state.old (map string_bytes targets.items) (option_map (λ text. text.now) command.entry) (map string_bytes words.items)) }
+    ensures exact { Gives (λ done.
+        state.new) result (by_names default (place_at spot.now) state.old (map string_bytes targets.items) (option_map (λ text. text.now) command.entry) (map string_bytes words.items)) }
     ensures own { IfErr result IsOfText }
 {
     if has_unknown(&targets) {
@@ -316,8 +330,8 @@ fn add_by_names(
 }
 
 impl State {
-    /// A rule line: its targets are expanded and looked at, then its prerequisites. Where the targets
-    /// expand to nothing, the rest and its commands are passed over.
+    /// A rule line: its targets are expanded and looked at, then its prerequisites. Where the
+    /// targets expand to nothing, the rest and its commands are passed over.
     #[tactic(auto, unfolding(crate::specs::Rules::rule))]
     pub(crate) fn add_rule(
         &mut self,
@@ -325,7 +339,8 @@ impl State {
         default: bool,
         line: &RuleLine<'_>,
     ) -> Result<(), ReadFault>
-        ensures exact { Gives (λ done. self.new) result (rule default (place_at spot.now) self.old (rule_view line.now)) }
+        ensures exact { Gives (λ done.
+            self.new) result (rule default (place_at spot.now) self.old (rule_view line.now)) }
         ensures own { IfErr result IsOfText }
     {
         let targets = names_in(spot, &self.macros, line.targets)?;

@@ -19,7 +19,8 @@ pub enum Special {
     Unread,
 }
 
-/// What a name does as a special target, where it is a known one (the standard's `make`, "Target Rules").
+/// What a name does as a special target, where it is a known one (the standard's `make`, "Target
+/// Rules").
 pub fn special_of(name: &str) -> Option<Special>
     ensures { result ≡ special_of name.now }
 {
@@ -40,8 +41,8 @@ fn has_no_part(bytes: &[u8]) -> bool
     bytes.iter().all(|b| *b != b'.' && *b != b'/')
 }
 
-/// Whether a word is a suffix: a dot, and one or more bytes other than `.` and `/` (the standard's `make`,
-/// "Inference Rules"). A word that is handed in is a name, whose bytes are tested before.
+/// Whether a word is a suffix: a dot, and one or more bytes other than `.` and `/` (the standard's
+/// `make`, "Inference Rules"). A word that is handed in is a name, whose bytes are tested before.
 pub fn is_suffix(word: &str) -> bool
     ensures { result ≡ is_suffix word.now }
 {

@@ -49,7 +49,11 @@ impl Model for RuleLines {
 
     ghost view = { λ r. record { earlier = r.earlier.items; owner = owner_view r.owner } };
 
-    ghost invariant = { λ r. KnowsCommands r.commanded (rules_of (record { earlier = r.earlier.items; owner = owner_view r.owner })) };
+    ghost invariant = { λ r.
+        KnowsCommands r.commanded (rules_of (record {
+          earlier = r.earlier.items;
+          owner = owner_view r.owner;
+        })) };
 }
 
 /// What was read so far. A contract sees lists.
@@ -71,7 +75,16 @@ impl Model for State {
 
     ghost Value = { value.State };
 
-    ghost view = { λ s. record { table = s.macros; suffixes = s.suffixes; phony = map string_bytes s.phony.items; not_parallel = s.not_parallel; read = s.lines; texts = map string_bytes s.texts.items; missing = map string_bytes s.missing.items } };
+    ghost view = { λ s.
+        record {
+          table = s.macros;
+          suffixes = s.suffixes;
+          phony = map string_bytes s.phony.items;
+          not_parallel = s.not_parallel;
+          read = s.lines;
+          texts = map string_bytes s.texts.items;
+          missing = map string_bytes s.missing.items;
+        } };
 }
 
 /// The rule lines with the last one behind them.
@@ -134,7 +147,8 @@ impl State {
     /// Gives command lines another owner, which has none so far.
     pub(crate) fn own(&mut self, owner: Owner) -> Result<(), AllocError>
         requires { IsBare (owner_view owner) }
-        ensures { OnOk result (self.new ≡ record self.old { read = owned (owner_view owner) self.old.read }) }
+        ensures { OnOk result (self.new ≡
+            record self.old { read = owned (owner_view owner) self.old.read }) }
     {
         let alloc = *self.texts.allocator();
         let lines = mem::replace(&mut self.lines, RuleLines::new(alloc));
@@ -151,7 +165,8 @@ impl State {
 
     /// Notes a text more that is read.
     pub(crate) fn note_text(&mut self, alloc: Global, file: &str) -> Result<(), AllocError>
-        ensures { OnOk result (self.new ≡ record self.old { texts = self.old.texts ++ file.now ∷ [] }) }
+        ensures { OnOk result (self.new ≡
+            record self.old { texts = self.old.texts ++ file.now ∷ [] }) }
     {
         self.texts.push(String::from_str(alloc, file)?)?;
         Ok(())
@@ -159,7 +174,8 @@ impl State {
 
     /// Notes a file more that isn't there and was passed over.
     pub(crate) fn note_missing(&mut self, file: Name) -> Result<(), AllocError>
-        ensures { OnOk result (self.new ≡ record self.old { missing = self.old.missing ++ file ∷ [] }) }
+        ensures { OnOk result (self.new ≡
+            record self.old { missing = self.old.missing ++ file ∷ [] }) }
     {
         self.missing.push(file.into_string())?;
         Ok(())

@@ -11,7 +11,8 @@ makefile_option = record (new_rule (codes "makefile")) { short = Some 102; value
 
 -- `-r`, any number of times
 abbrev pub no_defaults_option : Rule
-no_defaults_option = record (new_rule (codes "no-defaults")) { short = Some 114; action = Some Count }
+no_defaults_option =
+    record (new_rule (codes "no-defaults")) { short = Some 114; action = Some Count }
 
 -- `-b BOOK`, once at most
 abbrev pub book_option : Rule
@@ -23,7 +24,11 @@ commands_option = record (new_rule (codes "commands")) { short = Some 99; action
 
 -- `[WORD..]`
 abbrev pub words_argument : Rule
-words_argument = record (new_rule (codes "words")) { range = Some (record { start_inclusive = 0; end_inclusive = 18446744073709551615 }); value_names = 1 }
+words_argument =
+    record (new_rule (codes "words")) {
+      range = Some (record { start_inclusive = 0; end_inclusive = 18446744073709551615 });
+      value_names = 1;
+    }
 
 -- `graph`
 abbrev pub named_graph : App
@@ -43,11 +48,19 @@ graph_command = with_rule options_command words_argument
 
 -- `mkcheck`, with a version
 abbrev pub named_program : App
-named_program = let app = new_app (codes "mkcheck") in record app { top = record (app.top) { has_version = true } }
+named_program =
+    let app = new_app (codes "mkcheck") in record app {
+      top = record (app.top)
+          { has_version = true };
+    }
 
 -- the words stand behind the program's name, and one of them is the name of a subcommand
 abbrev pub program : App
-program = record named_program { top = record (named_program.top) { no_binary_name = true; subcommand_required = true; disable_help_subcommand = true } }
+program =
+    record named_program {
+      top = record (named_program.top)
+          { no_binary_name = true; subcommand_required = true; disable_help_subcommand = true };
+    }
 
 -- `mkcheck graph [-f F] [-r] [-b BOOK] [-c] [WORD..]`
 abbrev pub command_line : App

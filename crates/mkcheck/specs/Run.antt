@@ -22,7 +22,8 @@ pub record Written : Type 0 where
   pub status : ℕ
 
 abbrev pub written : Outcome → Written
-written outcome = record { out = outcome.out.items; err = string_bytes outcome.err; status = outcome.status }
+written outcome =
+    record { out = outcome.out.items; err = string_bytes outcome.err; status = outcome.status }
 
 -- ---- what the words ask
 
@@ -38,9 +39,19 @@ rows_of_graph words = option_map_or (λ met. met.1) (subcommand_of command_line 
 abbrev pub Wish : Type 0
 Wish = Request × Bool
 
--- the graph of this makefile, with macro operands and goals, the default text, no footprints and no commands
+-- the graph of this makefile, with macro operands and goals, the default text, no footprints and no
+-- commands
 abbrev pub asking : Option (List ℕ) → List Text → Wish
-asking makefile words = (record { makefile = makefile; defaults = true; operands = operands_of words; goals = goals_of words; book = None }, false)
+asking makefile words = (
+  record {
+    makefile = makefile;
+    defaults = true;
+    operands = operands_of words;
+    goals = goals_of words;
+    book = None;
+  },
+  false,
+)
 
 -- the option stands there, once or more
 abbrev pub is_set : Text → List Row → Bool
@@ -48,7 +59,10 @@ is_set id rows = nat_lt 0 (count_of id rows)
 
 -- the request that these values make
 abbrev pub requested : List Row → Request
-requested rows = record ((asking (first_of (codes "makefile") rows) (unwrap_or (all_of (codes "words") rows) [])).0) { defaults = not (is_set (codes "no-defaults") rows); book = first_of (codes "book") rows }
+requested rows =
+    record ((asking (first_of (codes "makefile") rows)
+    (unwrap_or (all_of (codes "words") rows) [])).0)
+    { defaults = not (is_set (codes "no-defaults") rows); book = first_of (codes "book") rows }
 
 -- what they ask
 abbrev pub asked_by : List Row → Wish
@@ -60,22 +74,24 @@ wish_of words = asked_by (rows_of_graph words)
 
 -- ---- what is written
 
--- An answer is written to standard output: the text, and status 0; or a refusal on a line, and status 2.
--- Want of memory is not written here.
+-- An answer is written to standard output: the text, and status 0; or a refusal on a line, and
+-- status 2. Want of memory is not written here.
 abbrev pub Shows : Result (List ℕ) Fault → Written → Type 0
 Shows (Ok text) w = w ≡ record { out = text; err = []; status = 0 }
-Shows (Err fault) w = (is_memory fault ≡ false) × (w ≡ record { out = fault_text fault ++ 10 ∷ []; err = []; status = 2 })
+Shows (Err fault) w =
+    (is_memory fault ≡ false) ×
+    (w ≡ record { out = fault_text fault ++ 10 ∷ []; err = []; status = 2 })
 
--- There is an answer to what is asked, which is written. Over files that are told, it is that of the definitions,
--- and it is a failed read only where the count of failures rose.
+-- There is an answer to what is asked, which is written. Over files that are told, it is that of
+-- the definitions, and it is a failed read only where the count of failures rose.
 pub record IsAnswered (told : Option Told) (old new : ℕ) (wish : Wish) (w : Written) : Type 0 where
   pub answer : Result (List ℕ) Fault
   pub answers : IfSome told (λ files. Answers files wish.0 wish.1 answer)
   pub counts : Counts old new answer
   pub shows : Shows answer w
 
--- Help and the version are written to standard output, with status 0; what is wrong with the words to standard
--- error, with status 2; and nothing to the other.
+-- Help and the version are written to standard output, with status 0; what is wrong with the words
+-- to standard error, with status 2; and nothing to the other.
 abbrev pub Explains : ErrorKind → Written → Type 0
 Explains DisplayHelp w = (w.err ≡ []) × (w.status ≡ 0)
 Explains DisplayVersion w = (w.err ≡ []) × (w.status ≡ 0)

@@ -116,8 +116,8 @@ fn program<'a>(alloc: Global) -> Command<'a>
         .disable_help_subcommand(true)
 }
 
-/// The command line of the program: `graph [-f F] [-r] [-b BOOK] [-c] [WORD..]`, `--help` and `--version`. It reads
-/// the words behind the program's name. The error is want of memory alone.
+/// The command line of the program: `graph [-f F] [-r] [-b BOOK] [-c] [WORD..]`, `--help` and
+/// `--version`. It reads the words behind the program's name. The error is want of memory alone.
 pub fn command_line<'a>(alloc: Global) -> Result<Command<'a>, AllocError>
     ensures app { IfOk result (λ c. app_of c ≡ command_line) }
     ensures local { IfOk result (λ c. (fields_of c).has_globals ≡ false) }

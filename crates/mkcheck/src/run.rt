@@ -12,7 +12,7 @@ use crate::command::command_line;
 use crate::ending::FAULT;
 use clap::error::ErrorKind;
 use clap::{ArgMatches, Error};
-use mk_core::{Fault, Files, Name, Names, Request, fault_text, graph_text, split_words};
+use mk_core::{Fault, Files, Name, Names, Operands, Request, fault_text, graph_text, split_words};
 use std::alloc::{AllocError, Global};
 use std::convert::AsStr;
 
@@ -93,9 +93,11 @@ fn named(alloc: Global, matches: &ArgMatches<'_>, id: &str) -> Result<Option<Nam
 }
 
 // The macro operands and the goals among the words.
-fn given_words(alloc: Global, matches: &ArgMatches<'_>) -> Result<(Names, Names), AllocError>
-    ensures operands { IfOk result (λ r. r.0 ≡ operands_of (unwrap_or (all_of (codes "words") (rows_of (found_of matches.now))) [])) }
-    ensures goals { IfOk result (λ r. r.1 ≡ goals_of (unwrap_or (all_of (codes "words") (rows_of (found_of matches.now))) [])) }
+fn given_words(alloc: Global, matches: &ArgMatches<'_>) -> Result<(Operands, Names), AllocError>
+    ensures operands { IfOk result (λ r. r.0 ≡
+        operands_of (unwrap_or (all_of (codes "words") (rows_of (found_of matches.now))) [])) }
+    ensures goals { IfOk result (λ r. r.1 ≡
+        goals_of (unwrap_or (all_of (codes "words") (rows_of (found_of matches.now))) [])) }
 {
     match matches.get_strs("words") {
         Some(words) => split_words(alloc, words),
@@ -137,9 +139,9 @@ fn answered<F: Files>(
     shown(alloc, answer)
 }
 
-/// Reads the words behind the program's name, and answers the request that they make: with status 0 and
-/// a text, with 2 and a refusal or a fault of the words, with 0 and help or the version. The error is
-/// want of memory alone (the standard's `make`, "Options", "Operands" and "Exit Status").
+/// Reads the words behind the program's name, and answers the request that they make: with status 0
+/// and a text, with 2 and a refusal or a fault of the words, with 0 and help or the version. The
+/// error is want of memory alone (the standard's `make`, "Options", "Operands" and "Exit Status").
 pub fn run<F: Files, S: AsStr>(
     alloc: Global,
     files: &mut F,

@@ -24,7 +24,8 @@ fn zeros(alloc: Global, count: usize) -> Result<Vec<u8>, AllocError>
 /// All that a reader has left, in at most 16,777,217 reads. A reader that has over 16,777,216
 /// bytes left, and one that fails, is `ReadFailed`; a read that was interrupted is tried again.
 pub fn slurp<R: Read>(alloc: Global, reader: &mut R) -> Result<Vec<u8>, FilesError>
-    ensures bytes { IfOk result (λ text. IfSome (R.remaining reader.old) (λ left. text.items ≡ left)) }
+    ensures bytes { IfOk result (λ text. IfSome (R.remaining reader.old) (λ left. text.items ≡
+        left)) }
     ensures limit { IfOk result (λ text. vec_len text ≤ MAX_FILE) }
     ensures end { OnOk result (IsAtEnd (R.remaining reader.new)) }
 

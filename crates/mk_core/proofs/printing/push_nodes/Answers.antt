@@ -1,6 +1,6 @@
-use Rattle.std.proofs.Common.{◌≡◌, ◌<◌, ◌≤◌, ◌∙◌, ◌++◌, length, ap, sym, append_assoc, arith}
+use Rattle.std.proofs.Common.{◌<◌, ◌≤◌, ◌∙◌, ◌++◌, length, ap, append_assoc, arith}
 use Rattle.std.proofs.lemmas.Result.{err_from_is_err_and}
-use Rattle.mk_core.specs.GraphText.{nodes_text, shown_lines}
+use Rattle.mk_core.specs.GraphText.{shown_lines}
 use Rattle.mk_core.proofs.NodeTexts.{nodes_more, nodes_fail, nodes_end}
 use Rattle.mk_core.proofs.printing.push_nodes.Goals as goal
 

@@ -1,4 +1,4 @@
-use Rattle.std.proofs.Common.{◌≡◌, take}
+use Rattle.std.proofs.Common.{◌≡◌, map, take}
 use Rattle.mk_core.specs.Words.{operands_of, goals_of}
 use Rattle.mk_core.proofs.NameLists.{texts}
 use Rattle.mk_core.proofs.request.split_words.Given as goal
@@ -6,6 +6,6 @@ use Rattle.mk_core.proofs.request.split_words.Given as goal
 -- the words so far, parted
 abbrev pub invariant-loop-word : goal.invariant-loop-word
 invariant-loop-word l = record {
-  operands : l.operands.items ≡ operands_of (texts (take l.word-index l.words));
+  operands : map (λ word. word.items) l.operands.items ≡ operands_of (texts (take l.word-index l.words));
   goals : l.goals.items ≡ goals_of (texts (take l.word-index l.words));
 }

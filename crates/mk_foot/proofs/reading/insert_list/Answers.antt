@@ -11,7 +11,7 @@ returns-in-Some c =
     let there = listed_there c.args.lists.now c.args.names.now c.args.name.now c.in-Some.place c.index-lists-place.result c.requires c.in-Some.ensures.place in
     let list : map string_bytes c.deref.result.now ≡ c.index-lists-place.result.names = ap (map string_bytes) c.deref.ensures.value ∙ ap (λ (l : SharedList). l.names) c.list.view_is in
     let kept : map string_bytes c.deref.result.now ≡ listed c.args.lists.now c.args.name.now = list ∙ (ap (λ (l : SharedList). l.names) c.index-lists-place.is ∙ sym there) in
-    subst (λ (ns : List (List ℕ)). OnOk c.insert_all.result (c.insert_all.new.set ≡ fold with_name c.args.set.now ns)) kept c.insert_all.ensures
+    subst (λ (ns : List (List ℕ)). OnOk c.insert_all.result (c.insert_all.new.self ≡ fold with_name c.args.set.now ns)) kept c.insert_all.ensures
 
 pub returns-in-None : goal.returns-in-None
 returns-in-None c = sym (ap (fold with_name c.args.set.now) (listed_nowhere c.args.lists.now c.args.names.now c.args.name.now c.requires c.in-None.ensures.place))

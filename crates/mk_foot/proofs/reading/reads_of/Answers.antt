@@ -10,7 +10,7 @@ pub returns : goal.returns
 returns c =
     let own : map string_bytes c.deref.result.now ≡ map string_bytes c.args.own.items = ap (map string_bytes) c.deref.ensures.value in
     let listed_too = flat_map (listed c.args.lists.now) (map string_bytes c.args.shared.now) in
-    let first : c.insert_all.new.set ≡ fold with_name [] (map string_bytes c.args.own.items) = c.in_ok-insert_all.ensures ∙ (ap (λ (s : List (List ℕ)). fold with_name s (map string_bytes c.deref.result.now)) c.in_ok-set.ensures ∙ ap (fold with_name []) own) in
+    let first : c.insert_all.new.self ≡ fold with_name [] (map string_bytes c.args.own.items) = c.in_ok-insert_all.ensures ∙ (ap (λ (s : List (List ℕ)). fold with_name s (map string_bytes c.deref.result.now)) c.in_ok-set.ensures ∙ ap (fold with_name []) own) in
     let both : c.insert_listed.new.set ≡ fold with_name (fold with_name [] (map string_bytes c.args.own.items)) listed_too = c.in_ok-insert_listed.ensures ∙ ap (λ (s : List (List ℕ)). fold with_name s listed_too) first in
     let kept = c.as_slice.ensures ∙ (both ∙ once_of_two (map string_bytes c.args.own.items) listed_too) in
     subst (λ (ns : List (List ℕ)). IfOk c.copied.result (λ reads. map string_bytes reads.items ≡ ns)) kept c.copied.ensures

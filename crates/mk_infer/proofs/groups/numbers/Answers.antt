@@ -1,5 +1,5 @@
 use Rattle.std.proofs.Common.{◌<◌, length, arith}
-use Rattle.mk_infer.specs.Names.{number_of}
+use Rattle.mk_lines.specs.Names.{number_of}
 use Rattle.mk_infer.proofs.NameLists.{mapped_more}
 use Rattle.mk_infer.proofs.groups.numbers.Goals as goal
 

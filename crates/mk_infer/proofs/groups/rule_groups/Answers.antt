@@ -1,7 +1,7 @@
 use Rattle.std.proofs.Common.{◌≡◌, ◌∙◌, ◌∷◌, [], List, ℕ, Bool, sym, ap, map, subst}
 use Rattle.std.specs.Prelude.{IfOk}
 use Rattle.mk_read.specs.Needs.{groups}
-use Rattle.mk_infer.specs.Names.{number_of}
+use Rattle.mk_lines.specs.Names.{number_of}
 use Rattle.mk_infer.specs.Selection.{numbered}
 use Rattle.mk_infer.specs.Targets.{prerequisites_of, words_for}
 use Rattle.mk_infer.proofs.RuleNeeds.{single_numbered}

@@ -1,6 +1,6 @@
 use Rattle.std.proofs.Common.{◌<◌, ◌∷◌, [], ◌∙◌, map, ap, length, arith}
 use Rattle.std.proofs.lemmas.List.{map_push}
-use Rattle.mk_infer.specs.Names.{number_of}
+use Rattle.mk_lines.specs.Names.{number_of}
 use Rattle.mk_infer.proofs.NameLists.{mapped_more}
 use Rattle.mk_infer.proofs.groups.single_groups.Goals as goal
 

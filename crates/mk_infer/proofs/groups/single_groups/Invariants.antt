@@ -1,5 +1,5 @@
 use Rattle.std.proofs.Common.{◌≡◌, [], ◌∷◌, map, take}
-use Rattle.mk_infer.specs.Names.{number_of}
+use Rattle.mk_lines.specs.Names.{number_of}
 use Rattle.mk_infer.proofs.NameLists.{texts}
 use Rattle.mk_infer.proofs.groups.single_groups.Given as goal
 

@@ -15,7 +15,8 @@ pub invariant_of-result : goal.invariant_of-result
 invariant_of-result c =
     let g : Graph = record { nodes = c.args.nodes.items; goals = c.args.goals.items } in
     let few : length c.args.nodes.items ≤ 4096 = omega (arith, c.args.nodes.ok.0) in
-    is_graph g c.in-Order.order.items c.requires few (walked g c.in_ok-rows.rows.items c.deref-2.result.now c.deref.result.now c.deref-3.result.now (Order c.in-Order.order) c.in_ok-order.field-0 c.deref-2.ensures.value c.in_ok-rows.ensures c.deref.ensures.value c.deref-3.ensures.value c.in-Order.is c.in_ok-order.ensures)
+    let both = is_graph g c.in-Order.order.items c.requires few (walked g c.in_ok-rows.rows.items c.deref-2.result.now c.deref.result.now c.deref-3.result.now (Order c.in-Order.order) c.in_ok-order.field-0 c.deref-2.ensures.value c.in_ok-rows.ensures c.deref.ensures.value c.deref-3.ensures.value c.in-Order.is c.in_ok-order.ensures) in
+    (both.0, both.1, c.in_ok-rows.ensures ∙ ap (λ (l : List Node). map joined_groups l) c.deref.ensures.value)
 
 pub returns-in-Order : goal.returns-in-Order
 returns-in-Order c =

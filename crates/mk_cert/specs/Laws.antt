@@ -1,0 +1,50 @@
+-- Laws of findings: of their lists, and of what it means that there are none.
+use Rattle.std.specs.Prelude.{◌≡◌, ℕ, List, [], ◌↔◌, map}
+use Rattle.mk_graph.specs.Membership.{Has}
+use Rattle.mk_graph.specs.Graph.{IsGraph}
+use Rattle.mk_graph.specs.Right.{AreSound, HaveNoRace, HaveWays, IsRight}
+use Rattle.mk_infer.specs.Laws.{StaysSelected}
+use Rattle.mk_cert.specs.Subject.{Subject, IsSubject, footprints, name_of}
+use Rattle.mk_cert.specs.Conditions.{all_writes}
+use Rattle.mk_cert.specs.Candidates.{Candidate, Holds, static_candidates, race_candidates}
+use Rattle.mk_cert.specs.Listing.{Lists}
+
+-- There is one such list of candidates.
+abbrev pub ListIsOne : Type 0
+ListIsOne =
+    (x : Subject) (all one other : List Candidate) → Lists x all one → Lists x all other →
+    one ≡ other
+
+-- What is listed are the candidates of which the condition holds.
+abbrev pub ListedExactly : Type 0
+ListedExactly =
+    (x : Subject) (all kept : List Candidate) → Lists x all kept →
+    (c : Candidate) → Has kept c ↔ (Has all c × Holds x c)
+
+-- Where nothing static is found, footprints are sound.
+abbrev pub NothingFoundIsSound : Type 0
+NothingFoundIsSound =
+    (x : Subject) → IsGraph x.graph → IsSubject x →
+    Lists x (static_candidates x) [] → AreSound x.graph (footprints x.setting)
+
+-- Then the graph is the one that is selected too, whatever part of the files that its recipes write
+-- is there, with the same inferred prerequisites and commands.
+abbrev pub NothingFoundIsSelected : Type 0
+NothingFoundIsSelected =
+    (x : Subject) → IsGraph x.graph → IsSubject x →
+    Lists x (static_candidates x) [] →
+    StaysSelected x.makefile x.there (all_writes x) (map (name_of x) x.graph.goals) x.graph
+
+-- Where no race is found, there is none.
+abbrev pub NoRaceFoundIsNone : Type 0
+NoRaceFoundIsNone =
+    (x : Subject) → IsGraph x.graph →
+    Lists x (race_candidates x) [] → HaveNoRace x.graph (footprints x.setting)
+
+-- So where neither is found, and each read of a file that can change has a way, every legal history
+-- is right.
+abbrev pub NothingFoundIsRight : Type 0
+NothingFoundIsRight =
+    (x : Subject) → IsGraph x.graph → IsSubject x →
+    Lists x (static_candidates x) [] → Lists x (race_candidates x) [] →
+    HaveWays x.graph (footprints x.setting) → IsRight x.graph (footprints x.setting)

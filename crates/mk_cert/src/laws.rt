@@ -1,0 +1,53 @@
+//! Laws of findings. Each is the contract of a function that calls laws alone: who calls it has the
+//! law.
+
+ghost use Rattle.mk_cert.specs.Laws.{ListIsOne, ListedExactly, NothingFoundIsSound, NothingFoundIsSelected, NoRaceFoundIsNone, NothingFoundIsRight};
+
+use mk_graph::build_laws::{accepted_is_right, before_is_decided};
+use mk_graph::laws::serial_reaches_each_once;
+use mk_infer::laws::{graph_stays_selected, more_takes_no_choice_away};
+
+/// There is one list of those candidates of which the condition holds.
+pub fn list_is_one()
+    ensures { ListIsOne }
+{}
+
+/// Where no race is found, there is none.
+pub fn no_race_found_is_none()
+    ensures { NoRaceFoundIsNone }
+{
+    before_is_decided();
+    serial_reaches_each_once();
+}
+
+/// What is listed are the candidates of which the condition holds.
+pub fn listed_exactly()
+    ensures { ListedExactly }
+{}
+
+/// Where nothing is found in footprints alone, they are sound.
+pub fn nothing_found_is_sound()
+    ensures { NothingFoundIsSound }
+{
+    serial_reaches_each_once();
+}
+
+/// Where nothing is found in footprints alone, the graph is the one that is selected whatever part
+/// of the files that recipes write is there.
+pub fn nothing_found_is_selected()
+    ensures { NothingFoundIsSelected }
+{
+    serial_reaches_each_once();
+    more_takes_no_choice_away();
+    graph_stays_selected();
+}
+
+/// Where nothing is found in footprints alone and no race is, and each read of a file that can
+/// change has a way, every legal history is right.
+pub fn nothing_found_is_right()
+    ensures { NothingFoundIsRight }
+{
+    nothing_found_is_sound();
+    no_race_found_is_none();
+    accepted_is_right();
+}

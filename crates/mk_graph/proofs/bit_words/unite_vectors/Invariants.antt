@@ -1,0 +1,10 @@
+use Rattle.std.proofs.Common.{◌-◌, length}
+use Rattle.std.specs.Prelude.{bit_or}
+use Rattle.mk_graph.specs.BitWords.{AreCombined}
+use Rattle.mk_graph.proofs.bit_words.unite_vectors.Given as goal
+
+abbrev pub invariant-loop-words : goal.invariant-loop-words
+invariant-loop-words l = AreCombined bit_or l.fn.words l.others l.place l.words
+
+abbrev pub decreases-loop-words : goal.decreases-loop-words
+decreases-loop-words l = length l.initial.words - l.place

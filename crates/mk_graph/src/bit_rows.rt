@@ -1,0 +1,264 @@
+//! An order that is worked out once for a graph, as rows of bits.
+//!
+//! Each node has two rows: the first row holds what is done whenever the node is wanted, and the
+//! done row what is done whenever the node is done. A group of a node's prerequisites is behind a
+//! gate: the node's first row, united with the done rows of its earlier groups. A first row is the
+//! intersection of the gates of all groups in which the node stands, and a done row is the first
+//! row united with the node and the done rows of its prerequisites. All rows begin full, and rounds
+//! over the serial order clear bits until one round clears none.
+
+ghost use Rattle.std.specs.Prelude.{◌≡◌, ℕ, ◌+◌, ◌*◌, ◌^◌, ◌<◌, ◌≤◌, ◌↔◌, false};
+ghost use Rattle.std.specs.Prelude.{length, sum, slice_index, IfOk};
+ghost use Rattle.mk_graph.specs.Membership.{Has};
+ghost use Rattle.mk_graph.specs.Graph.{IsGraph};
+ghost use Rattle.mk_graph.specs.BitRows.{Lacks, RowLacks, RowsLack, LackMore, HaveRows, IsSized};
+ghost use Rattle.mk_graph.specs.BitRows.{lists, listed, GateLacks, TargetLacks, Stays, PassesGates};
+ghost use Rattle.mk_graph.specs.BitRows.{PassesTargets, OnlyIfWanted, OnlyIfFree, AreSettled};
+
+use crate::graph::Graph;
+use crate::order::Order;
+use crate::rows::{has, insert, meet_row, meet_rows, row, some_has, unite_rows};
+use std::alloc::{AllocError, Global};
+use std::marker::Model;
+
+/// The order of a graph, in two rows of bits for each node.
+#[derive(Drop)]
+pub struct BitRows<'a> {
+    graph: &'a Graph,
+    stride: usize,
+    first: Vec<u64>,
+    done: Vec<u64>,
+    rounds: usize,
+}
+
+impl<'a> Model for BitRows<'a> {
+    ghost use Rattle.mk_graph.specs.Graph as value;
+    ghost use Rattle.mk_graph.specs.BitRows.{AreRowsOf};
+
+    ghost Value = { value.Graph };
+
+    ghost view = { λ it. it.graph.now };
+
+    ghost invariant = { λ it.
+        AreRowsOf it.graph.now it.stride it.first.items it.done.items it.rounds };
+}
+
+impl<'a> BitRows<'a> {
+    /// The order of this graph. A round takes time in proportion to the prerequisites of all nodes
+    /// times the words of a row, one for each 64 nodes; the rows take 4 MB for 4,096 nodes.
+    ///
+    /// It fails for want of memory alone.
+    pub fn new(alloc: Global, graph: &'a Graph) -> Result<BitRows<'a>, AllocError>
+        ensures { IfOk result (λ order. order ≡ graph.now) }
+    {
+        let count = graph.nodes().len();
+        let stride = (count + 63) / 64;
+        let mut first = vec![in alloc; u64::MAX; count * stride]?;
+        let mut done = vec![in alloc; u64::MAX; count * stride]?;
+        let rounds = settle(graph, stride, &mut first, &mut done);
+        Ok(BitRows {
+            graph,
+            stride,
+            first,
+            done,
+            rounds,
+        })
+    }
+
+    /// How many rounds were taken, at least one. The last one found nothing to clear.
+    pub fn rounds(&self) -> usize
+        ensures { 0 < result }
+    {
+        self.rounds
+    }
+}
+
+impl<'a> Order for BitRows<'a> {
+    ghost graph_of = { λ it. it };
+
+    /// The time is linear in the prerequisites of `t`. It takes no memory.
+    fn before(&self, o: usize, t: usize) -> bool {
+        let Some(node) = self.graph.nodes().get(t) else {
+            return true;
+        };
+        if !node.recipe {
+            return true;
+        }
+        if has(&self.first, self.stride, t, o) {
+            return true;
+        }
+        groups_have(&self.done, self.stride, node.groups.as_slice(), o)
+    }
+}
+
+/// Whether a member stands in the row of some number of these groups.
+fn groups_have(words: &[u64], stride: usize, groups: &[Vec<usize>], member: usize) -> bool
+    requires { HaveRows stride words.now (listed groups.now) }
+    ensures { (result ≡ false) ↔ RowsLack stride words.now (listed groups.now) member }
+{
+    for group in groups {
+        if some_has(words, stride, group, member) {
+            return true;
+        }
+    }
+    false
+}
+
+/// Adds to the gate what stands in the rows of all numbers of these groups.
+fn unite_groups(gate: &mut [u64], words: &[u64], stride: usize, groups: &[Vec<usize>])
+    requires rows { HaveRows stride words.now (listed groups.now) }
+    requires size { length gate.old ≡ stride }
+    ensures { (o : ℕ) → Lacks gate.new o
+        ↔ Lacks gate.old o × RowsLack stride words.now (listed groups.now) o }
+{
+    for group in groups {
+        unite_rows(gate, words, stride, group);
+    }
+}
+
+/// Takes from the first rows of a node's prerequisites what its own first row and the done rows of
+/// earlier groups lack.
+fn pass_gates(first: &mut [u64], done: &[u64], stride: usize, number: usize, groups: &[Vec<usize>])
+    requires narrow { stride ≤ 64 }
+    requires own { number * stride + stride ≤ length first.old }
+    requires sizes { length done.now ≡ length first.old }
+    requires rows { HaveRows stride done.now (listed groups.now) }
+    ensures { LackMore stride first.old first.new
+        (GateLacks stride first.old done.now number (lists groups.now)) }
+{
+    let mut words = [0u64; 64];
+    let gate = &mut words[..stride];
+    gate.copy_from_slice(row(first, stride, number));
+    for (place, group) in groups.iter().enumerate() {
+        meet_rows(first, stride, group, gate);
+        if place + 1 < groups.len() {
+            unite_rows(gate, done, stride, group);
+        }
+    }
+}
+
+/// Takes from the done row of a node what its first row and the done rows of its prerequisites
+/// lack, save the node itself.
+fn pass_target(first: &[u64], done: &mut [u64], stride: usize, number: usize, groups: &[Vec<usize>])
+    requires narrow { stride ≤ 64 }
+    requires own { number * stride + stride ≤ length first.now }
+    requires bit { number < 64 * stride }
+    requires sizes { length done.old ≡ length first.now }
+    requires rows { HaveRows stride done.old (listed groups.now) }
+    ensures { LackMore stride done.old done.new
+        (λ n o. (n ≡ number) × TargetLacks stride first.now done.old number (listed groups.now) o) }
+{
+    let mut words = [0u64; 64];
+    let gate = &mut words[..stride];
+    gate.copy_from_slice(row(first, stride, number));
+    insert(gate, number);
+    unite_groups(gate, done, stride, groups);
+    meet_row(done, stride, number, gate);
+}
+
+/// Empties the first rows of the goals.
+fn clear_goals(graph: &Graph, stride: usize, first: &mut [u64])
+    requires { IsSized graph.now stride first.old }
+    ensures { LackMore stride first.old first.new (λ n o. Has graph.now.goals n) }
+{
+    let words = [0u64; 64];
+    meet_rows(first, stride, graph.goals(), &words[..stride]);
+}
+
+/// Passes the gates of all nodes, each after those that list it.
+fn pass_backwards(graph: &Graph, stride: usize, first: &mut [u64], done: &[u64])
+    requires first { IsSized graph.now stride first.old }
+    requires done { IsSized graph.now stride done.now }
+    requires wanted { OnlyIfWanted graph.now (RowLacks stride first.old) }
+    requires free { OnlyIfFree graph.now (RowLacks stride done.now) }
+    ensures stays { Stays (RowLacks stride first.old) (RowLacks stride first.new) }
+    ensures gates { PassesGates graph.now (RowLacks stride first.old) (RowLacks stride done.now)
+        (RowLacks stride first.new) }
+    ensures wanted { OnlyIfWanted graph.now (RowLacks stride first.new) }
+{
+    let nodes = graph.nodes();
+    let order = graph.order();
+    let mut place = order.len();
+    while place > 0 {
+        place -= 1;
+        let n = order[place];
+        pass_gates(first, done, stride, n, nodes[n].groups.as_slice());
+    }
+}
+
+/// Passes all targets, each after its prerequisites.
+fn pass_forwards(graph: &Graph, stride: usize, first: &[u64], done: &mut [u64])
+    requires first { IsSized graph.now stride first.now }
+    requires done { IsSized graph.now stride done.old }
+    requires free { OnlyIfFree graph.now (RowLacks stride done.old) }
+    ensures stays { Stays (RowLacks stride done.old) (RowLacks stride done.new) }
+    ensures targets { PassesTargets graph.now (RowLacks stride first.now) (RowLacks stride done.old)
+        (RowLacks stride done.new) }
+    ensures free { OnlyIfFree graph.now (RowLacks stride done.new) }
+{
+    let nodes = graph.nodes();
+    for n in graph.order() {
+        pass_target(first, done, stride, *n, nodes[*n].groups.as_slice());
+    }
+}
+
+/// The sum of words, as numbers.
+fn sum_of(words: &[u64]) -> u128
+    requires { length words.now ≤ 262144 }
+    ensures value { result ≡ sum words.now }
+    ensures bound { result ≤ 262144 * 18446744073709551615 }
+    ensures fits { (k : ℕ) → slice_index words.now k < 2 ^ 64 }
+{
+    let mut total: u128 = 0;
+    for word in words {
+        total += *word as u128;
+    }
+    total
+}
+
+/// Settles all rows, and says how many rounds that took.
+///
+/// In the first round the done rows are still full and would hide what stands behind them, so its
+/// gates take what their members lead to: what is in a member's first row is in its gate anyway.
+/// Thus gates behind gates take no further rounds.
+fn settle(graph: &Graph, stride: usize, first: &mut [u64], done: &mut [u64]) -> usize
+    requires graph { IsGraph graph.now }
+    requires first { IsSized graph.now stride first.old }
+    requires done { IsSized graph.now stride done.old }
+    ensures settled { AreSettled graph.now (RowLacks stride first.new) (RowLacks stride done.new) }
+    ensures taken { 0 < result }
+{
+    first.fill(0);
+    done.fill(u64::MAX);
+    pass_forwards(graph, stride, first, done);
+    first.fill(u64::MAX);
+    clear_goals(graph, stride, first);
+    pass_backwards(graph, stride, first, done);
+    done.fill(u64::MAX);
+    pass_forwards(graph, stride, first, done);
+    take_rounds(graph, stride, first, done).saturating_add(1)
+}
+
+/// Takes rounds until one clears nothing, and says how many.
+fn take_rounds(graph: &Graph, stride: usize, first: &mut [u64], done: &mut [u64]) -> usize
+    requires first { IsSized graph.now stride first.old }
+    requires done { IsSized graph.now stride done.old }
+    requires goals { (n o : ℕ) → Has graph.now.goals n → RowLacks stride first.old n o }
+    requires wanted { OnlyIfWanted graph.now (RowLacks stride first.old) }
+    requires free { OnlyIfFree graph.now (RowLacks stride done.old) }
+    ensures settled { AreSettled graph.now (RowLacks stride first.new) (RowLacks stride done.new) }
+    ensures taken { 0 < result }
+{
+    let mut rounds: usize = 0;
+    let mut before = sum_of(first) + sum_of(done);
+    loop {
+        pass_backwards(graph, stride, first, done);
+        pass_forwards(graph, stride, first, done);
+        rounds = rounds.saturating_add(1);
+        let after = sum_of(first) + sum_of(done);
+        if after == before {
+            return rounds;
+        }
+        before = after;
+    }
+}

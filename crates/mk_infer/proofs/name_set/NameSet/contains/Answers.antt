@@ -1,9 +1,0 @@
-use Rattle.std.proofs.Common.{List, ℕ, sym, ap, ◌∙◌}
-use Rattle.std.specs.Str.{bytes_eq}
-use Rattle.mk_read.specs.Names.{has_name}
-use Rattle.mk_infer.proofs.ListTests.{list_any_map}
-use Rattle.mk_infer.proofs.name_set.NameSet.contains.Goals as goal
-
-pub returns : goal.returns
-returns c =
-    c.contains.ensures ∙ (sym (list_any_map (λ (other : List ℕ). bytes_eq c.args.name.now other) (λ name. name.now) c.self.inside.names.keys) ∙ ap (λ names. has_name names c.args.name.now) c.self.view_is)

@@ -1,0 +1,158 @@
+//! From which suffixes inference rules make a name, by what the name ends in.
+
+ghost use Rattle.std.specs.Prelude.{◌≡◌, ◌∷◌, ◌++◌, [], List, ℕ, map, IfOk, OnOk, if◌then◌else◌};
+ghost use Rattle.std.specs.Option.{option_map_or};
+ghost use Rattle.std.specs.Str.{bytes_eq};
+ghost use Rattle.std.specs.String.{string_bytes};
+ghost use Rattle.indexmap.specs.IndexMap.{get_by};
+ghost use Rattle.mk_infer.specs.Table.{HasBacks, HasSources, HoldsDotted, IsCut, commanded_in, given, is_dotted, sources_by, texts_at};
+
+use indexmap::IndexMap;
+use mk_lines::NameSet;
+use mk_read::{Makefile, Rule};
+use std::alloc::{AllocError, Global};
+
+/// For each ending the suffixes that stand before it in the names of rules with commands, in the
+/// order of the list of suffixes.
+pub type Sources<'m> = IndexMap<&'m str, Vec<&'m str>>;
+
+/// For the fronts of names what stands behind them.
+type Backs<'m> = IndexMap<&'m str, Vec<&'m str>>;
+
+/// Whether a name begins with a dot, as each inference name does.
+fn is_dotted(name: &[u8]) -> bool
+    ensures { result ≡ is_dotted name.now }
+{
+    match name {
+        [first, ..] => *first == b'.',
+        [] => false,
+    }
+}
+
+/// A name, cut before its last dot, where something stands before that; else the whole name, and
+/// nothing behind it. So a suffix, and two in a row, are cut behind the first suffix.
+fn cut(name: &str) -> (&str, &str)
+    ensures whole { result.0.now ++ result.1.now ≡ name.now }
+    ensures parts { IsCut name.now result.0.now result.1.now }
+{
+    match name.rfind('.') {
+        Some(at) if at > 0 => (&name[..at], &name[at..]),
+        _ => (name, ""),
+    }
+}
+
+/// Adds the names that begin with a dot, each unless it is there already.
+fn insert_dotted<'m>(set: &mut NameSet<'m>, names: &'m [String]) -> Result<(), AllocError>
+    ensures { OnOk result (HoldsDotted set.old (map string_bytes names.now) set.new) }
+{
+    for name in names {
+        if is_dotted(name.as_bytes()) {
+            set.insert(name)?;
+        }
+    }
+    Ok(())
+}
+
+/// The targets of rule lines with commands that begin with a dot, each once.
+fn commanded_among<'m>(alloc: Global, rules: &'m [Rule]) -> Result<NameSet<'m>, AllocError>
+    ensures { IfOk result (λ set. HoldsDotted [] (commanded_in rules.now) set) }
+{
+    let mut set = NameSet::new(alloc);
+    for rule in rules {
+        if rule.commands.is_some() {
+            insert_dotted(&mut set, &rule.targets)?;
+        }
+    }
+    Ok(set)
+}
+
+/// One more back of a front.
+fn add_back<'m>(
+    alloc: Global,
+    backs: &mut Backs<'m>,
+    front: &'m str,
+    back: &'m str,
+) -> Result<(), AllocError>
+    ensures { OnOk result ((name : List ℕ) →
+        option_map_or (λ texts. texts.items) (get_by (λ k. bytes_eq name k.now) backs.new) []
+        ≡ (if bytes_eq name front.entry.now then option_map_or (λ texts. texts.items) (get_by (λ k. bytes_eq name k.now) backs.old) [] ++ back.entry ∷ [] else option_map_or (λ texts. texts.items) (get_by (λ k. bytes_eq name k.now) backs.old) [])) }
+{
+    let behind = backs.entry(front)?.or_insert(Vec::new(alloc));
+    behind.push(back)?;
+    Ok(())
+}
+
+/// The names, each cut in two.
+fn backs_among<'m>(alloc: Global, names: &NameSet<'m>) -> Result<Backs<'m>, AllocError>
+    ensures { IfOk result (λ backs. HasBacks names.now backs) }
+{
+    let mut backs = IndexMap::new(alloc);
+    for name in names.as_slice() {
+        let (front, back) = cut(name);
+        add_back(alloc, &mut backs, front, back)?;
+    }
+    Ok(backs)
+}
+
+/// One more suffix for an ending.
+fn add_source<'m>(
+    alloc: Global,
+    sources: &mut Sources<'m>,
+    ending: &'m str,
+    suffix: &'m str,
+) -> Result<(), AllocError>
+    ensures { OnOk result ((name : List ℕ) →
+        option_map_or (λ texts. texts.items) (get_by (λ k. bytes_eq name k.now) sources.new) []
+        ≡ (if bytes_eq name ending.entry.now then option_map_or (λ texts. texts.items) (get_by (λ k. bytes_eq name k.now) sources.old) [] ++ suffix.entry ∷ [] else option_map_or (λ texts. texts.items) (get_by (λ k. bytes_eq name k.now) sources.old) [])) }
+{
+    let before = sources.entry(ending)?.or_insert(Vec::new(alloc));
+    before.push(suffix)?;
+    Ok(())
+}
+
+/// One more suffix for each of these endings.
+fn add_sources<'m>(
+    alloc: Global,
+    sources: &mut Sources<'m>,
+    endings: &[&'m str],
+    suffix: &'m str,
+) -> Result<(), AllocError>
+    ensures { OnOk result ((name : List ℕ) →
+        texts_at sources.new name ≡
+        texts_at sources.old name ++
+        given suffix.entry.now name (map (λ ending. ending.now) endings.now)) }
+{
+    for ending in endings {
+        add_source(alloc, sources, ending, suffix)?;
+    }
+    Ok(())
+}
+
+/// For each ending the suffixes that have it among their backs.
+fn sources_by<'m>(
+    alloc: Global,
+    suffixes: &'m [String],
+    backs: &Backs<'m>,
+) -> Result<Sources<'m>, AllocError>
+    ensures { IfOk result (λ sources. (name : List ℕ) →
+        texts_at sources name ≡
+        sources_by (texts_at backs.now) name (map string_bytes suffixes.now)) }
+{
+    let mut sources = IndexMap::new(alloc);
+    for suffix in suffixes {
+        if let Some(endings) = backs.get(suffix.as_str()) {
+            add_sources(alloc, &mut sources, endings, suffix)?;
+        }
+    }
+    Ok(sources)
+}
+
+/// For each ending of a name, a known suffix or nothing, the suffixes with a rule with commands
+/// that makes the name, in their order. It takes as long as there are suffixes and targets.
+pub fn sources_among<'m>(alloc: Global, makefile: &'m Makefile) -> Result<Sources<'m>, AllocError>
+    ensures { IfOk result (λ sources. HasSources makefile.now sources) }
+{
+    let names = commanded_among(alloc, makefile.rules())?;
+    let backs = backs_among(alloc, &names)?;
+    sources_by(alloc, makefile.suffixes(), &backs)
+}

@@ -1,0 +1,76 @@
+//! What tests of several libraries share: texts, names, rows of tables, makefiles in memory.
+
+ghost use Rattle.std.specs.Prelude.{◌≡◌, IfOk};
+ghost use Rattle.mk_read.specs.MemFiles.{failures_of};
+
+use mk_read::MemFiles;
+use std::alloc::{AllocError, Global};
+use std::process::Abort;
+
+/// Sees that two texts are the same, and else says the front of the row that they are of.
+pub fn same(rt: &impl Abort, got: &str, want: &str, row: &str) {
+    let front = row.get(..80).unwrap_or(row);
+    assert_eq!(rt; got, want, "at {front}");
+}
+
+/// A text, and so many units behind it.
+pub fn long(alloc: Global, front: &[u8], unit: &[u8], count: usize) -> Result<Vec<u8>, AllocError> {
+    let mut text = Vec::from_slice(alloc, front)?;
+    for _ in 0..count {
+        text.extend_from_slice(unit)?;
+    }
+    Ok(text)
+}
+
+/// The words of a text, each as a name.
+pub fn names(alloc: Global, words: &str) -> Result<Vec<String>, AllocError> {
+    let mut names = Vec::new(alloc);
+    for word in words.split_whitespace() {
+        names.push(String::from_str(alloc, word)?)?;
+    }
+    Ok(names)
+}
+
+/// Adds names, each behind a space.
+pub fn add_names(shown: &mut String, names: &[String]) -> Result<(), AllocError> {
+    for name in names {
+        shown.push(' ')?;
+        shown.push_str(name.as_str())?;
+    }
+    Ok(())
+}
+
+/// A text of a row, in which `¶` stands for a newline and `→` for a tab.
+pub fn unfolded(alloc: Global, text: &str) -> Result<String, AllocError> {
+    let mut out = String::new(alloc);
+    for c in text.chars() {
+        match c {
+            '¶' => out.push('\n')?,
+            '→' => out.push('\t')?,
+            other => out.push(other)?,
+        }
+    }
+    Ok(out)
+}
+
+/// What stands in a row, between `‖`.
+pub fn fields_of(alloc: Global, row: &str) -> Result<Vec<&str>, AllocError> {
+    Ok(row.split("‖").collect(alloc)?)
+}
+
+/// A field of a row, with its newlines and tabs.
+pub fn field(alloc: Global, fields: &[&str], at: usize) -> Result<String, AllocError> {
+    match fields.get(at) {
+        Some(text) => unfolded(alloc, text),
+        None => Ok(String::new(alloc)),
+    }
+}
+
+/// A file of this name and text.
+pub fn file_of(alloc: Global, name: &str, text: &[u8]) -> Result<MemFiles, AllocError>
+    ensures { IfOk result (λ files. failures_of files ≡ 0) }
+{
+    let mut files = MemFiles::new(alloc);
+    files.add(name, text)?;
+    Ok(files)
+}

@@ -1,0 +1,94 @@
+//! What is wanted, which turns may come, and turn lists that lead past a node.
+
+use crate::graph_fixtures::{are_below, graph_of, told};
+use mk_graph::{Graph, Greedy, NodeSet, turn_list_past, wanted_with};
+use std::alloc::{AllocError, Global};
+use std::process::Abort;
+use std::test::Fail;
+
+/// `all: first second`, `first: gate hidden`, `second: early .WAIT late`, `hidden: late`.
+const GATED: &str = "all:14 first:2|3 gate! hidden!:6 second:5|6 early! late!";
+
+/// Whether the turn of a node may come: it is wanted, and its prerequisites are done.
+fn may_turn(graph: &Graph, done: &NodeSet, number: usize) -> bool {
+    let wanted = wanted_with(graph, graph.goals(), done);
+    wanted.has(number) && !done.has(number) && done.has_all(graph.prerequisites(number))
+}
+
+/// Each node of the list may have its turn behind those before it, and then `t` may.
+fn leads(graph: &Graph, turns: &[usize], t: usize) -> bool {
+    let mut done = NodeSet::new();
+    for number in turns {
+        if *number >= 4096 || !may_turn(graph, &done, *number) {
+            return false;
+        }
+        done.insert(*number);
+    }
+    may_turn(graph, &done, t)
+}
+
+#[test]
+fn prerequisites_are_one_row(rt: HostRuntime) -> Result<(), Fail> {
+    let alloc = rt.alloc();
+    let graph = graph_of(&rt, alloc, GATED)?;
+    let none: &[usize] = &[];
+    assert_eq!(rt; graph.prerequisites(4), [5, 6].as_slice());
+    assert_eq!(rt; graph.prerequisites(5), none);
+    assert_eq!(rt; graph.prerequisites(7), none);
+    Ok(())
+}
+
+/// Whether a make of these goals wants a node, once these are done.
+fn is_wanted(
+    rt: &impl Abort,
+    graph: &Graph,
+    goals: &[usize],
+    done: &NodeSet,
+    number: usize,
+) -> bool {
+    assert!(rt; are_below(goals, graph.nodes().len()));
+    wanted_with(graph, goals, done).has(number)
+}
+
+#[test]
+fn what_is_behind_a_wait_is_wanted_later(rt: HostRuntime) -> Result<(), Fail> {
+    let graph = graph_of(&rt, rt.alloc(), GATED)?;
+    let mut done = NodeSet::new();
+    assert!(rt; is_wanted(&rt, &graph, graph.goals(), &done, 5));
+    assert!(rt; !is_wanted(&rt, &graph, graph.goals(), &done, 6));
+    done.insert(5);
+    assert!(rt; is_wanted(&rt, &graph, graph.goals(), &done, 6));
+    assert!(rt; !is_wanted(&rt, &graph, &[1], &done, 6));
+    Ok(())
+}
+
+/// Sees that a turn list leads to `t` past `o` exactly where `o` isn't before it.
+fn see_turns(
+    rt: &impl Abort,
+    alloc: Global,
+    graph: &Graph,
+    o: usize,
+    t: usize,
+) -> Result<(), AllocError> {
+    let is_before = told(&Greedy::new(graph), o, t);
+    match turn_list_past(alloc, graph, o, t)? {
+        None => assert!(rt; is_before, "{o} before {t}"),
+        Some(turns) => {
+            assert!(rt; !is_before, "{o} not before {t}");
+            assert!(rt; !turns.contains(&o), "{o} in the list for {t}");
+            assert!(rt; leads(graph, &turns, t), "to {t} past {o}");
+        }
+    }
+    Ok(())
+}
+
+#[test]
+fn a_turn_list_leads_past(rt: HostRuntime) -> Result<(), Fail> {
+    let graph = graph_of(&rt, rt.alloc(), GATED)?;
+    for o in 0usize..8 {
+        for t in 0usize..8 {
+            see_turns(&rt, rt.alloc(), &graph, o, t)?;
+        }
+    }
+    Ok(())
+}

@@ -1,0 +1,33 @@
+//! Tests of the libraries by their public calls: what no clause says, and worked examples.
+#![tactic(auto)]
+
+#[cfg(test)]
+mod bit_rows;
+#[cfg(test)]
+mod clean_builds;
+#[cfg(test)]
+mod fixtures;
+#[cfg(test)]
+mod foot;
+#[cfg(test)]
+mod graph_fixtures;
+#[cfg(test)]
+mod graph_orders;
+#[cfg(test)]
+mod graph_turns;
+#[cfg(test)]
+mod graphs;
+#[cfg(test)]
+mod infer;
+#[cfg(test)]
+mod lines;
+#[cfg(test)]
+mod macro_definitions;
+#[cfg(test)]
+mod macro_rows;
+#[cfg(test)]
+mod macros;
+#[cfg(test)]
+mod read_lines;
+#[cfg(test)]
+mod read_makefiles;

@@ -1,0 +1,123 @@
+//! Rows over a table of macros: definitions, operands, and texts that are expanded.
+
+use crate::fixtures::{fields_of, same, unfolded};
+use mk_macros::{Locals, MacroFault, MacroTable, Op};
+use std::alloc::Global;
+use std::process::Abort;
+use std::str;
+use std::test::Fail;
+
+/// The operator of this spelling.
+fn op_of(word: &str) -> Op {
+    match word {
+        "::=" => Op::Now,
+        ":::=" => Op::Double,
+        "?=" => Op::IfUnset,
+        "+=" => Op::Append,
+        _ => Op::Delay,
+    }
+}
+
+/// The words of a fault; want of memory ends the test.
+fn words_of(alloc: Global, fault: MacroFault) -> Result<String, Fail> {
+    match fault {
+        MacroFault::Memory => Err(MacroFault::Memory.into()),
+        MacroFault::Recursive(name) => {
+            let name = str::from_utf8(name.as_bytes()).unwrap_or("?");
+            Ok(format!(in alloc; "a loop of {name}")?)
+        }
+        other => Ok(format!(in alloc; "{other}")?),
+    }
+}
+
+/// The words of a fault, or nothing.
+pub fn told(alloc: Global, outcome: Result<(), MacroFault>) -> Result<String, Fail> {
+    match outcome {
+        Ok(()) => Ok(String::new(alloc)),
+        Err(fault) => words_of(alloc, fault),
+    }
+}
+
+/// What a text expands to, behind a `~` where it is varying; or the words of the fault.
+pub fn expanded(
+    alloc: Global,
+    macros: &MacroTable,
+    locals: &Locals<'_>,
+    text: &str,
+) -> Result<String, Fail> {
+    let found = match macros.expand(alloc, text.as_bytes(), locals) {
+        Ok(found) => found,
+        Err(fault) => return words_of(alloc, fault),
+    };
+    let mark = if found.varying { "~" } else { "" };
+    let mut shown = String::from_str(alloc, mark)?;
+    shown.push_str(str::from_utf8(found.text.as_slice()).unwrap_or("?"))?;
+    Ok(shown)
+}
+
+/// What is said of a definition.
+fn defined(
+    alloc: Global,
+    macros: &mut MacroTable,
+    name: &str,
+    op: &str,
+    text: &str,
+) -> Result<String, Fail> {
+    let done = macros.define(name.as_bytes(), op_of(op), text.as_bytes());
+    told(alloc, done)
+}
+
+/// What is said of a row, whose last field says what should be.
+fn outcome(
+    alloc: Global,
+    macros: &mut MacroTable,
+    locals: &Locals<'_>,
+    fields: &[&str],
+) -> Result<String, Fail> {
+    match fields {
+        [text, _] => expanded(alloc, macros, locals, text),
+        [_, operand, _] => told(alloc, macros.fix(operand.as_bytes())),
+        [name, op, text, _] => defined(alloc, macros, name, op, text),
+        _ => Ok(String::from_str(alloc, "no row")?),
+    }
+}
+
+/// Sees what is said of a row.
+fn follow_row(
+    rt: &impl Abort,
+    alloc: Global,
+    macros: &mut MacroTable,
+    locals: &Locals<'_>,
+    row: &str,
+) -> Result<(), Fail> {
+    let unfolded = unfolded(alloc, row)?;
+    let fields = fields_of(alloc, unfolded.as_str())?;
+    let said = outcome(alloc, macros, locals, &fields)?;
+    same(
+        rt,
+        said.as_str(),
+        fields.last().copied().unwrap_or("?"),
+        row,
+    );
+    Ok(())
+}
+
+/// Sees what is said of each row, behind those before it. `TEXT‖WANT` expands a text,
+/// `fix‖OPERAND‖WANT` takes an operand, `NAME‖OP‖TEXT‖WANT` defines a macro: it wants the words of a
+/// fault, or nothing. A blank row begins anew.
+pub fn follow(
+    rt: &impl Abort,
+    alloc: Global,
+    macros: &mut MacroTable,
+    locals: &Locals<'_>,
+    rows: &str,
+) -> Result<(), Fail> {
+    for row in rows.lines() {
+        if row.is_empty() {
+            *macros = MacroTable::new(alloc);
+        } else {
+            follow_row(rt, alloc, macros, locals, row)?;
+        }
+    }
+    Ok(())
+}

@@ -1,0 +1,129 @@
+//! Makefiles that are read from memory.
+
+ghost use Rattle.std.specs.Prelude.{◌≡◌, IfOk};
+ghost use Rattle.mk_read.specs.MemFiles.{failures_of};
+
+use crate::fixtures::{add_names, file_of, unfolded};
+use mk_read::{Command, Files, Makefile, MemFiles, read_makefile};
+use std::alloc::{AllocError, Global};
+use std::process::Abort;
+use std::str;
+use std::test::Fail;
+
+/// Adds commands, each behind a semicolon.
+fn add_commands(shown: &mut String, commands: &[Command]) -> Result<(), AllocError> {
+    for command in commands {
+        shown.push(';')?;
+        shown.push_str(str::from_utf8(&command.text).unwrap_or("?"))?;
+    }
+    Ok(())
+}
+
+/// A line for each rule line: its targets, its prerequisites and its commands.
+fn rules_text(alloc: Global, makefile: &Makefile) -> Result<String, AllocError> {
+    let mut shown = String::new(alloc);
+    for rule in makefile.rules() {
+        add_names(&mut shown, &rule.targets)?;
+        shown.push(':')?;
+        add_names(&mut shown, &rule.words)?;
+        if let Some(commands) = &rule.commands {
+            add_commands(&mut shown, commands)?;
+        }
+        shown.push('\n')?;
+    }
+    Ok(shown)
+}
+
+/// The lists of names, parted by bars.
+fn lists_text(alloc: Global, makefile: &Makefile) -> Result<String, AllocError> {
+    let mut shown = String::new(alloc);
+    add_names(&mut shown, makefile.suffixes())?;
+    shown.push_str(" |")?;
+    add_names(&mut shown, makefile.phony())?;
+    shown.push_str(" |")?;
+    add_names(&mut shown, makefile.texts())?;
+    shown.push_str(" |")?;
+    add_names(&mut shown, makefile.passed_over())?;
+    Ok(shown)
+}
+
+/// A makefile that includes another one, with `→` for a tab.
+const INCLUDING: &str = r".SUFFIXES: .s .c .s
+.PHONY: all
+.NOTPARALLEL:
+all: $(OUT) .WAIT b
+include more.mk
+-include gone.mk
+b:;echo $@
+# a comment
+→echo done
+";
+
+/// Its rule lines.
+const INCLUDING_RULES: &str = " all: a.out .WAIT b\n x y: z;cp z $@\n b:;echo $@;echo done\n";
+
+/// Both of them.
+fn files(alloc: Global) -> Result<MemFiles, AllocError>
+    ensures { IfOk result (λ files. failures_of files ≡ 0) }
+{
+    let text = unfolded(alloc, INCLUDING)?;
+    let mut files = file_of(alloc, "makefile", text.as_bytes())?;
+    files.add("more.mk", b"x y: z\n\tcp z $@\n")?;
+    Ok(files)
+}
+
+/// Sees the rule lines and the lists of a makefile.
+fn see(
+    rt: &impl Abort,
+    alloc: Global,
+    makefile: &Makefile,
+    rules: &str,
+    lists: &str,
+) -> Result<(), Fail> {
+    let found = rules_text(alloc, makefile)?;
+    assert_eq!(rt; found.as_str(), rules);
+    let found = lists_text(alloc, makefile)?;
+    assert_eq!(rt; found.as_str(), lists);
+    Ok(())
+}
+
+/// Reads both of them with an operand, and sees what they say.
+fn see_both(
+    rt: &impl Abort,
+    alloc: Global,
+    files: &mut MemFiles,
+    operands: &[Vec<u8>],
+) -> Result<(), Fail>
+    requires { failures_of files.old ≡ 0 }
+{
+    let makefile = read_makefile(alloc, files, None, false, operands)?;
+    let lists = " .s .c | all | makefile more.mk | gone.mk";
+    see(rt, alloc, &makefile, INCLUDING_RULES, lists)?;
+    assert!(rt; makefile.not_parallel());
+    assert_eq!(rt; files.failures(), 0);
+    Ok(())
+}
+
+#[test]
+fn reads_makefiles(rt: HostRuntime) -> Result<(), Fail> {
+    let operand = b"OUT=a.out".to_vec(rt.alloc())?;
+    let mut files = files(rt.alloc())?;
+    see_both(&rt, rt.alloc(), &mut files, &[operand])
+}
+
+/// The rule lines of the default text, and one of the makefile.
+const DEFAULT_RULES: &str = " .c:;$(CC) $(CFLAGS) $(LDFLAGS) -o $@ $<
+ .sh:;cp $< $@;chmod a+x $@
+ .c.o:;$(CC) $(CFLAGS) -c $<
+ .c.o:;cc -c $<
+";
+
+#[test]
+fn reads_the_default_text(rt: HostRuntime) -> Result<(), Fail> {
+    let alloc = rt.alloc();
+    let text = b".SUFFIXES: .x\n.c.o:\n\tcc -c $<\n";
+    let mut files = file_of(alloc, "Makefile", text)?;
+    let makefile = read_makefile(alloc, &mut files, None, true, &[])?;
+    let lists = " .o .c .sh .x | | Makefile | makefile";
+    see(&rt, alloc, &makefile, DEFAULT_RULES, lists)
+}

@@ -1,0 +1,11 @@
+pub mod Tables
+pub mod Makes
+pub mod Disks
+pub mod Judged
+pub mod Found
+pub mod Loops
+pub mod Changes
+pub mod Ascending
+pub mod FirstDisk
+pub mod Listings
+pub mod StepTests

@@ -1,0 +1,48 @@
+-- The first disk of a world in tables.
+use Rattle.std.specs.Prelude.{◌≡◌, ℕ, ◌+◌, List, [], ◌∷◌, Option, Some, None, length, filter, if◌then◌else◌, ◌⊎◌}
+use Rattle.std.specs.List.Sorted.{IsStrictlySortedBy}
+use Rattle.std.specs.Ordering.{nat_cmp}
+use Rattle.std.specs.Cmp.Lexicographic.{slice_cmp}
+use Rattle.mk_foot.specs.Setting as recorded
+use Rattle.mk_graph.specs.declared.node.Node.{Node}
+use Rattle.mk_graph.specs.Membership.{Has}
+use Rattle.mk_graph.specs.Setting.{FileName}
+use Rattle.mk_world.specs.State.{DiskState}
+use Rattle.mk_world.specs.declared.file.File.{File}
+
+-- the given ones of these names
+abbrev pub given_among : recorded.Setting → List FileName → List FileName
+given_among s names = filter (recorded.is_given s) names
+
+-- the files of these names, where the given ones are numbered on from this number
+abbrev pub first_files : recorded.Setting → ℕ → List FileName → List (Option File)
+first_files s n [] = []
+first_files s n (f ∷ names) =
+    if recorded.is_given s f
+    then Some (record { content = n + 1; stamp = n + 1 }) ∷ first_files s (n + 1) names
+    else (None ∷ first_files s n names)
+
+-- what a node's recipe reads and writes, if it has one
+abbrev pub reads_of : recorded.Setting → Node → List FileName
+reads_of s n = if n.recipe then recorded.reads s n.name else []
+
+abbrev pub writes_of : recorded.Setting → Node → List FileName
+writes_of s n = if n.recipe then recorded.writes s n.name else []
+
+-- the name is that of the node, or of a file that its recipe reads or writes
+abbrev pub IsNameOf : recorded.Setting → Node → FileName → Type 0
+IsNameOf s n f = (n.name ≡ f) ⊎ Has (reads_of s n) f ⊎ Has (writes_of s n) f
+
+-- the first disk of a world of these names
+abbrev pub first_disk : recorded.Setting → List FileName → DiskState
+first_disk s names =
+    record {
+      names = names;
+      files = first_files s 0 names;
+      clock = length (given_among s names);
+      known = [];
+    }
+
+-- the names stand in the order of their bytes, each once
+abbrev pub AreSorted : List FileName → Type 0
+AreSorted names = IsStrictlySortedBy (slice_cmp nat_cmp) names

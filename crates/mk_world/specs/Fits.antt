@@ -1,0 +1,50 @@
+-- What holds of the parts of a world in the code.
+use Rattle.std.specs.Prelude.{◌≡◌, ℕ, ◌<◌, List, [], length, true, Option, None, Some, slice_index_or, ◌⊎◌, ◌↔◌}
+use Rattle.mk_lines.specs.Names.{has_name}
+use Rattle.mk_graph.specs.Membership.{Has}
+use Rattle.mk_graph.specs.Graph.{Graph}
+use Rattle.mk_graph.specs.Setting.{FileName, Setting, reads, writes}
+use Rattle.mk_graph.specs.World.{Disk, HasStamp, IsOfWorld}
+use Rattle.mk_graph.specs.declared.node.Node.{Node}
+use Rattle.mk_world.specs.declared.footprints.Footprint.{Footprint}
+use Rattle.mk_world.specs.First.{AreSorted}
+use Rattle.mk_world.specs.State.{Scene, MakeState, setting, run_at}
+
+abbrev pub no_footprint : Footprint
+no_footprint = record { reads = []; writes = [] }
+
+-- what the recipe of a node reads and writes
+abbrev pub footprint : Graph → Setting → ℕ → Footprint
+footprint g s t = record { reads = reads g s t; writes = writes g s t }
+
+-- the footprints of all nodes, at their numbers
+pub record AreFootprints (g : Graph) (s : Setting) (all : List Footprint) : Type 0 where
+  pub many : length all ≡ length g.nodes
+  pub each : (t : ℕ) → slice_index_or all t no_footprint ≡ footprint g s t
+
+-- a make in progress: its goals and what runs are nodes, and there is room for what a running
+-- recipe sees and puts
+pub record Fits (scene : Scene) (m : MakeState) : Type 0 where
+  pub goals : (n : ℕ) → Has m.goals n → n < length scene.graph.nodes
+  pub many : length m.runs ≡ length scene.graph.nodes
+  pub nodes : (t : ℕ) → Has m.running t → t < length scene.graph.nodes
+  pub looks : (t : ℕ) → Has m.running t →
+      length (run_at m.runs t).looks ≡ length (reads scene.graph (setting scene) t)
+  pub puts : (t : ℕ) → Has m.running t →
+      length (run_at m.runs t).puts ≡ length (writes scene.graph (setting scene) t)
+
+-- the make that is in progress, if one is, fits
+abbrev pub FitsIn : Scene → Option MakeState → Type 0
+FitsIn scene None = Unit {0}
+FitsIn scene (Some m) = Fits scene m
+
+-- the names are those of the world, in the order of their bytes
+pub record AreNamesOf (scene : Scene) (names : List FileName) : Type 0 where
+  pub sorted : AreSorted names
+  pub all : (f : FileName) → (has_name names f ≡ true) ↔ IsOfWorld scene.graph (setting scene) f
+
+-- A direct prerequisite makes a node out of date whose file has this stamp: it is phony, or there
+-- with a greater one.
+abbrev pub Forces : Node → Disk → (stamp : ℕ) → Type 0
+Forces before d stamp =
+    (before.phony ≡ true) ⊎ ((later : ℕ) × HasStamp d before.name later × (stamp < later))

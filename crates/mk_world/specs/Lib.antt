@@ -1,0 +1,9 @@
+pub mod Tables
+pub mod State
+pub mod Known
+pub mod First
+pub mod Listing
+pub mod Fits
+pub mod Faults
+pub mod Steps
+pub mod StepLaws

@@ -1,0 +1,13 @@
+-- Laws of steps and their tests.
+use Rattle.std.specs.Prelude.{◌↔◌}
+use Rattle.mk_graph.specs.Graph.{Graph}
+use Rattle.mk_graph.specs.Setting.{Setting}
+use Rattle.mk_graph.specs.World.{World}
+use Rattle.mk_graph.specs.Schedule.{Step, Allowed}
+use Rattle.mk_world.specs.Faults.{checks, AllHold}
+
+-- A step is allowed exactly where all that it is asked holds.
+abbrev pub AllowedWhereAllHolds : Type 0
+AllowedWhereAllHolds =
+    (g : Graph) (s : Setting) (w : World) (step : Step) →
+    Allowed g s w step ↔ AllHold (checks g s w step)

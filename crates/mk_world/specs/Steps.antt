@@ -1,0 +1,54 @@
+-- Steps by names, and what becomes of a world where one is asked for.
+use Rattle.std.specs.Prelude.{◌≡◌, map, None, Result, Ok, Err, OnErr, ◌⊎◌}
+use Rattle.mk_foot.specs.Setting as recorded
+use Rattle.mk_graph.specs.Graph.{Graph}
+use Rattle.mk_graph.specs.Setting.{Setting}
+use Rattle.mk_graph.specs.World.{World, IsFirst}
+use Rattle.mk_graph.specs.Schedule as model
+use Rattle.mk_world.specs.declared.step.Step.{Step}
+use Rattle.mk_world.specs.declared.step.Step.TheVariants.{Edit, Make, Begin, Look, Put, End, Pass, Stop, EndMake}
+use Rattle.mk_world.specs.declared.fault.StepFault.{StepFault}
+use Rattle.mk_world.specs.declared.fault.StepFault.TheVariants.{Memory}
+use Rattle.mk_world.specs.State.{State, Scene, setting, setting_of, disk_of, world_of, number_of}
+use Rattle.mk_world.specs.Faults.{checks, FirstFails}
+
+-- the step with numbers for the names of nodes
+abbrev pub step_of : Graph → Step → model.Step
+step_of g (Edit f c) = model.Edit f c
+step_of g (Make jobs goals) = model.Make jobs (map (number_of g) goals)
+step_of g (Begin n) = model.Begin (number_of g n)
+step_of g (Look n f) = model.Look (number_of g n) f
+step_of g (Put n f c) = model.Put (number_of g n) f c
+step_of g (End n) = model.End (number_of g n)
+step_of g (Pass n) = model.Pass (number_of g n)
+step_of g Stop = model.Stop
+step_of g EndMake = model.EndMake
+
+-- the step is allowed in the first world, and leaves the second one
+pub record Takes (g : Graph) (s : Setting) (old new : World) (step : model.Step) : Type 0 where
+  pub allowed : model.Allowed g s old step
+  pub leaves : new ≡ model.after g s old step
+
+-- memory ran out, or the fault is that of the first test which fails
+abbrev pub IsFaultOf : Graph → Setting → World → model.Step → StepFault → Type 0
+IsFaultOf g s w step fault = (fault ≡ Memory) ⊎ FirstFails (checks g s w step) fault
+
+-- the step is taken, or its fault is answered
+abbrev pub Judges : Scene → (old new : World) → model.Step → Result Unit StepFault → Type 0
+Judges scene old new step (Ok done) = Takes scene.graph (setting scene) old new step
+Judges scene old new step (Err fault) = IsFaultOf scene.graph (setting scene) old step fault
+
+-- What asking for a step does: where it is taken the graph and the setting stay, and where it isn't
+-- nothing changes.
+pub record Answers (old new : State) (step : model.Step) (result : Result Unit StepFault) : Type 0
+  where
+    pub scene : new.scene ≡ old.scene
+    pub judged : Judges old.scene (world_of old) (world_of new) step result
+    pub unchanged : OnErr result (new ≡ old)
+
+-- The world of a graph and what is recorded at its beginning: no make is in progress, and the disk
+-- is a first one.
+pub record IsFirstOf (g : Graph) (s : recorded.Setting) (w : State) : Type 0 where
+  pub scene : w.scene ≡ record { graph = g; recorded = s }
+  pub idle : w.make ≡ None
+  pub first : IsFirst g (setting_of s) (disk_of w.disk)

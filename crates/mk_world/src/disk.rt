@@ -1,0 +1,159 @@
+//! What is there, how old it is, and what recipes are known to give.
+
+ghost use Rattle.std.specs.Prelude.{◌≡◌, ◌<◌, ◌↔◌, length, true, map, option_map, IfOk, IfSome, OnOk, OnErr};
+ghost use Rattle.std.specs.String.{string_bytes};
+ghost use Rattle.mk_lines.specs.Names.{has_name};
+ghost use Rattle.mk_world.specs.First.{first_disk};
+ghost use Rattle.mk_world.specs.Listing.{listing};
+ghost use Rattle.mk_graph.specs.World.{content, written, last_stamp, outcome};
+ghost use Rattle.mk_graph.specs.Schedule.{noted};
+ghost use Rattle.mk_world.specs.State.{disk_of, finished};
+
+use crate::file::{File, Listed};
+use crate::first::first_files;
+use crate::making::Making;
+use crate::outcomes::{Outcomes, Sight};
+use crate::table::{get, set};
+use mk_foot::Setting;
+use mk_lines::{Name, NameTable};
+use std::alloc::{AllocError, Global};
+use std::marker::Model;
+
+/// What is there, how old it is, and what recipes are known to give.
+#[derive(Drop)]
+pub struct Disk {
+    names: NameTable,
+    files: Vec<Option<File>>,
+    clock: u64,
+    known: Outcomes,
+}
+
+impl Model for Disk {
+    ghost use Rattle.std.specs.Prelude.{◌≡◌, length};
+    ghost use Rattle.mk_world.specs.State as state;
+
+    ghost Value = { state.DiskState };
+
+    ghost view = { λ d. record { names = d.names; files = d.files.items; clock = d.clock; known = d.known } };
+
+    ghost invariant = { λ d. length d.files.items ≡ length d.names };
+}
+
+impl Disk {
+    /// A first disk: just the given ones of these names are there, each with its number among them
+    /// as content and stamp.
+    pub fn first(alloc: Global, setting: &Setting, names: Vec<String>) -> Result<Disk, AllocError>
+        ensures { IfOk result (λ d. d ≡ first_disk setting.now (map string_bytes names.items)) }
+    {
+        let (files, clock) = first_files(alloc, setting, &names)?;
+        Ok(Disk {
+            names: NameTable::new(alloc, names)?,
+            files,
+            clock,
+            known: Outcomes::new(alloc),
+        })
+    }
+
+    /// Whether the name is one of the world.
+    pub fn has(&self, file: &str) -> bool
+        ensures { result ≡ has_name self.now.names file.now }
+    {
+        self.names.contains(file)
+    }
+
+    /// Whether a stamp is left.
+    pub fn has_stamp(&self) -> bool
+        ensures { (result ≡ true) ↔ (self.now.clock < last_stamp) }
+    {
+        self.clock < u64::MAX
+    }
+
+    /// What a file holds, if it is there.
+    pub fn content(&self, file: &str) -> Option<u64>
+        ensures { result ≡ content (disk_of self.now) file.now }
+    {
+        match get(&self.names, &self.files, file) {
+            Some(found) => Some(found.content),
+            None => None,
+        }
+    }
+
+    /// The stamp of a file's last writing, if it is there.
+    pub fn stamp(&self, file: &str) -> Option<u64>
+        ensures { result ≡ option_map (λ found. found.stamp) ((disk_of self.now).files file.now) }
+    {
+        match get(&self.names, &self.files, file) {
+            Some(found) => Some(found.stamp),
+            None => None,
+        }
+    }
+
+    /// The files that are there, by the bytes of their names.
+    pub fn files(&self, alloc: Global) -> Result<Vec<Listed>, AllocError>
+        ensures { IfOk result (λ files. files.items ≡ listing self.now) }
+    {
+        let mut files = Vec::new(alloc);
+        for name in self.names.as_slice() {
+            let text = name.as_str();
+            let Some(file) = get(&self.names, &self.files, text) else {
+                continue;
+            };
+            let copy = Name::new(alloc, text)?;
+            files.push(Listed {
+                name: copy,
+                content: file.content,
+                stamp: file.stamp,
+            })?;
+        }
+        Ok(files)
+    }
+
+    /// Writes a content into a file, which takes the next stamp.
+    pub fn write(&mut self, file: &str, content: u64)
+        requires stamp { self.old.clock < last_stamp }
+        requires name { has_name self.old.names file.now ≡ true }
+        ensures disk { disk_of self.new ≡ written (disk_of self.old) file.now content }
+        ensures names { self.new.names ≡ self.old.names }
+    {
+        self.clock += 1;
+        let stamp = self.clock;
+        let entry = File { content, stamp };
+        set(&self.names, &mut self.files, file, entry);
+    }
+    /// Whether a recipe put what is known of a run that saw the same, if that is known.
+    pub fn agrees(&self, sight: &Sight, written: &[u64]) -> bool
+        ensures { (result ≡ true) ↔ IfSome (outcome self.now.known sight.now.recipe
+            sight.now.seen.items) (λ known. known ≡ written.now) }
+    {
+        match self.known.get(sight) {
+            Some(known) => known == written,
+            None => true,
+        }
+    }
+
+    /// Notes what a recipe wrote, unless that is known, as it ends.
+    pub fn end(
+        &mut self,
+        sight: Sight,
+        written: Vec<u64>,
+        making: &mut Making,
+    ) -> Result<(), AllocError>
+        requires node { sight.recipe < length making.old.runs }
+        requires small { sight.recipe < 4096 }
+        ensures noted { OnOk result (disk_of self.new ≡ noted (disk_of self.old) (record {
+          recipe = sight.recipe;
+          seen = sight.seen.items;
+          written = written.items;
+        })) }
+        ensures names { self.new.names ≡ self.old.names }
+        ensures done { OnOk result (making.new ≡ finished making.old sight.recipe) }
+        ensures err { OnErr result (self.new ≡ self.old) }
+        ensures making_err { OnErr result (making.new ≡ making.old) }
+    {
+        if self.known.get(&sight).is_some() {
+            making.finish(sight.recipe)?;
+            return Ok(());
+        }
+        self.known.note(sight, written, making)
+    }
+}

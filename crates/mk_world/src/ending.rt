@@ -1,0 +1,78 @@
+//! The end of a recipe.
+
+ghost use Rattle.std.specs.Prelude.{◌≡◌, ◌<◌, ◌⊎◌, length, map, Some, None, IfOk, OnOk, OnErr, MatchOption};
+ghost use Rattle.mk_graph.specs.Membership.{Has};
+ghost use Rattle.mk_graph.specs.Setting.{FileName};
+ghost use Rattle.mk_graph.specs.Schedule as model;
+ghost use Rattle.mk_world.specs.Tables.{look};
+ghost use Rattle.mk_world.specs.State.{busy};
+ghost use Rattle.mk_world.specs.Fits.{Fits};
+ghost use Rattle.mk_world.specs.Steps.{Judges};
+
+use crate::disk::Disk;
+use crate::fault::StepFault;
+use crate::making::Making;
+use crate::outcomes::Sight;
+use crate::scene::Scene;
+use crate::table::get;
+use mk_lines::NameTable;
+use std::alloc::{AllocError, Global};
+
+/// What is known of each name, if something is known of all.
+fn all_of<T: Copy + Drop>(
+    alloc: Global,
+    names: &NameTable,
+    values: &[Option<T>],
+) -> Result<Option<Vec<T>>, AllocError>
+    requires { length values.now ≡ length names.now }
+    ensures { IfOk result (λ found. MatchOption found
+        ((f : FileName) × Has names.now f × (look names.now values.now f ≡ None))
+        (λ all. map (look names.now values.now) names.now ≡ map (λ x. Some x) all.items)) }
+{
+    let mut all = Vec::with_capacity(alloc, values.len())?;
+    for name in names.as_slice() {
+        match get(names, values, name.as_str()) {
+            Some(value) => all.push(value)?,
+            None => return Ok(None),
+        }
+    }
+    Ok(Some(all))
+}
+
+/// A running recipe ends.
+pub fn end(
+    alloc: Global,
+    scene: &Scene,
+    disk: &mut Disk,
+    making: &mut Making,
+    number: usize,
+) -> Result<(), StepFault>
+    requires { Fits scene.now making.old }
+    ensures fits { Fits scene.now making.new }
+    ensures names { disk.new.names ≡ disk.old.names }
+    ensures err { OnErr result (making.new ≡ making.old) }
+    ensures disk_err { OnErr result (disk.new ≡ disk.old) }
+    ensures judged { Judges scene.now (busy scene.now making.old disk.old)
+        (busy scene.now making.new disk.new) (model.End number) result }
+{
+    if !making.is_running(number) {
+        return Err(StepFault::NotRunning);
+    }
+    let footprint = scene.footprint(number);
+    let run = making.run(number);
+    let Some(seen) = all_of(alloc, &footprint.reads, run.looks())? else {
+        return Err(StepFault::NotAllDone);
+    };
+    let Some(written) = all_of(alloc, &footprint.writes, run.puts())? else {
+        return Err(StepFault::NotAllDone);
+    };
+    let sight = Sight {
+        recipe: number,
+        seen,
+    };
+    if !disk.agrees(&sight, &written) {
+        return Err(StepFault::OtherOutcome);
+    }
+    disk.end(sight, written, making)?;
+    Ok(())
+}

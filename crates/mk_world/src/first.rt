@@ -1,0 +1,76 @@
+//! The first disk of a world.
+
+ghost use Rattle.std.specs.Prelude.{◌≡◌, ℕ, List, ◌⊎◌, ◌↔◌, map, length, IfOk, OnOk};
+ghost use Rattle.std.specs.String.{string_bytes};
+ghost use Rattle.mk_graph.specs.Membership.{Has};
+ghost use Rattle.mk_graph.specs.World.{IsOfWorld};
+ghost use Rattle.mk_world.specs.State.{setting_of};
+ghost use Rattle.mk_world.specs.First.{AreSorted, first_files, given_among, IsNameOf};
+
+use crate::file::File;
+use crate::sorted::SortedNames;
+use mk_foot::Setting;
+use mk_graph::{Graph, Node};
+use std::alloc::{AllocError, Global};
+
+/// The files of a first disk: each given one has its number among the given ones as content and
+/// stamp.
+pub fn first_files(
+    alloc: Global,
+    setting: &Setting,
+    names: &[String],
+) -> Result<(Vec<Option<File>>, u64), AllocError>
+    ensures files { IfOk result (λ r. r.0.items ≡
+        first_files setting.now 0 (map string_bytes names.now)) }
+    ensures clock { IfOk result (λ r. r.1 ≡
+        length (given_among setting.now (map string_bytes names.now))) }
+{
+    let mut files = Vec::with_capacity(alloc, names.len())?;
+    let mut clock: u64 = 0;
+    for name in names {
+        if !setting.is_given(name.as_str()) {
+            files.push(None)?;
+            continue;
+        }
+        clock += 1;
+        files.push(Some(File {
+            content: clock,
+            stamp: clock,
+        }))?;
+    }
+    Ok((files, clock))
+}
+
+/// Adds the name of a node, and of the files that its recipe reads and writes.
+fn add_node<'a>(
+    names: &mut SortedNames<'a>,
+    setting: &'a Setting,
+    node: &'a Node,
+) -> Result<(), AllocError>
+    ensures { OnOk result ((f : List ℕ) → Has names.new f ↔
+        (Has names.old f ⊎ IsNameOf setting.entry.now node.entry.now f)) }
+{
+    names.insert(node.name.as_str())?;
+    if !node.recipe {
+        return Ok(());
+    }
+    let Some(record) = setting.record_of(node.name.as_str()) else {
+        return Ok(());
+    };
+    names.insert_all(&record.reads)?;
+    names.insert_all(&record.writes)
+}
+
+/// The names of a world, in the order of their bytes.
+pub fn names_of(alloc: Global, graph: &Graph, setting: &Setting) -> Result<Vec<String>, AllocError>
+    ensures sorted { IfOk result (λ names. AreSorted (map string_bytes names.items)) }
+    ensures all { IfOk result (λ names. (f : List ℕ) → Has (map string_bytes names.items) f ↔
+        IsOfWorld graph.now (setting_of setting.now) f) }
+{
+    let mut names = SortedNames::new(alloc);
+    names.insert_all(setting.sources())?;
+    for node in graph.nodes() {
+        add_node(&mut names, setting, node)?;
+    }
+    names.copied(alloc)
+}

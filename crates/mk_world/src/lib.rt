@@ -1,0 +1,26 @@
+//! Worlds in which steps of builds are taken, and plans of such steps.
+#![tactic(auto)]
+
+mod disk;
+mod ending;
+mod fault;
+mod file;
+mod first;
+mod footprints;
+mod judging;
+pub mod laws;
+mod making;
+mod names;
+mod outcomes;
+mod recipes;
+mod run;
+mod scene;
+mod sorted;
+mod step;
+mod table;
+mod world;
+
+pub use fault::StepFault;
+pub use file::Listed;
+pub use step::Step;
+pub use world::World;

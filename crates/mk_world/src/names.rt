@@ -1,0 +1,45 @@
+//! Names of a world, and numbers of goals.
+
+ghost use Rattle.std.specs.Prelude.{◌≡◌, map, IfOk, MatchOption};
+ghost use Rattle.mk_graph.specs.Turns.{IsPart};
+ghost use Rattle.mk_world.specs.State.{number_of};
+
+use crate::scene::Scene;
+use mk_graph::NodeSet;
+use mk_lines::Name;
+use std::alloc::{AllocError, Global};
+
+/// The numbers of names.
+fn numbers_of(alloc: Global, scene: &Scene, names: &[Name]) -> Result<Vec<usize>, AllocError>
+    ensures { IfOk result (λ numbers. numbers.items ≡
+        map (number_of scene.now.graph) names.now) }
+{
+    let mut numbers = Vec::with_capacity(alloc, names.len())?;
+    for name in names {
+        numbers.push(scene.number(name.as_str()))?;
+    }
+    Ok(numbers)
+}
+
+/// The numbers of these names, if they are goals of the graph and one at least.
+pub fn goals_of(
+    alloc: Global,
+    scene: &Scene,
+    names: &[Name],
+) -> Result<Option<Vec<usize>>, AllocError>
+    ensures { IfOk result (λ found. MatchOption found
+        (¬ (IsPart (map (number_of scene.now.graph) names.now) scene.now.graph.goals))
+        (λ numbers. (numbers.items ≡ map (number_of scene.now.graph) names.now) ×
+        IsPart numbers.items scene.now.graph.goals)) }
+{
+    if names.is_empty() {
+        return Ok(None);
+    }
+    let mut goals = NodeSet::new();
+    goals.insert_all(scene.graph().goals());
+    let numbers = numbers_of(alloc, scene, names)?;
+    if !goals.has_all(&numbers) {
+        return Ok(None);
+    }
+    Ok(Some(numbers))
+}

@@ -1,0 +1,98 @@
+//! What a running recipe has seen and put.
+
+ghost use Rattle.std.specs.Prelude.{◌≡◌, IfOk, length, replicate, None, Some};
+ghost use Rattle.mk_lines.specs.Names.{has_name};
+ghost use Rattle.mk_graph.specs.World.{changed};
+ghost use Rattle.mk_world.specs.Tables.{look};
+ghost use Rattle.std.specs.Bool.{OnTrue, OnFalse};
+ghost use Rattle.mk_world.specs.State.{no_run};
+
+use crate::table::set;
+use mk_lines::NameTable;
+use std::alloc::{AllocError, Global};
+use std::marker::Model;
+
+/// What a running recipe has seen, beside the names that it reads, and put, beside those that it
+/// writes.
+#[derive(Drop)]
+pub struct Run {
+    looks: Vec<Option<Option<u64>>>,
+    puts: Vec<Option<u64>>,
+}
+
+impl Model for Run {
+    ghost use Rattle.mk_world.specs.State as state;
+
+    ghost Value = { state.RunState };
+
+    ghost view = { λ r. record { looks = r.looks.items; puts = r.puts.items } };
+}
+
+impl Run {
+    /// The run of a recipe that doesn't run.
+    pub fn none(alloc: Global) -> Run
+        ensures { result ≡ no_run }
+    {
+        Run {
+            looks: Vec::new(alloc),
+            puts: Vec::new(alloc),
+        }
+    }
+
+    /// A run that has seen and put nothing, of a recipe that reads and writes so many files.
+    pub fn new(alloc: Global, reads: usize, writes: usize) -> Result<Run, AllocError>
+        ensures { IfOk result (λ run. run ≡
+            record { looks = replicate reads None; puts = replicate writes None }) }
+    {
+        Ok(Run {
+            looks: vec![in alloc; None; reads]?,
+            puts: vec![in alloc; None; writes]?,
+        })
+    }
+    /// What it has seen.
+    pub fn looks(&self) -> &[Option<Option<u64>>]
+        ensures { result.now ≡ self.now.looks }
+    {
+        self.looks.as_slice()
+    }
+
+    /// What it has put.
+    pub fn puts(&self) -> &[Option<u64>]
+        ensures { result.now ≡ self.now.puts }
+    {
+        self.puts.as_slice()
+    }
+
+    /// Notes a look at a file, if the recipe reads it. Answers whether it does.
+    pub fn look(&mut self, reads: &NameTable, file: &str, content: Option<u64>) -> bool
+        requires { length self.old.looks ≡ length reads.now }
+        ensures there { result ≡ has_name reads.now file.now }
+        ensures len { length self.new.looks ≡ length self.old.looks }
+        ensures noted { OnTrue result (look reads.now self.new.looks ≡
+            changed (look reads.now self.old.looks) file.now (Some content)) }
+        ensures puts { self.new.puts ≡ self.old.puts }
+        ensures same { OnFalse result (self.new ≡ self.old) }
+    {
+        set(reads, &mut self.looks, file, content)
+    }
+
+    /// Notes what was put into a file, if the recipe writes it. Answers whether it does.
+    pub fn put(&mut self, writes: &NameTable, file: &str, content: u64) -> bool
+        requires { length self.old.puts ≡ length writes.now }
+        ensures there { result ≡ has_name writes.now file.now }
+        ensures len { length self.new.puts ≡ length self.old.puts }
+        ensures noted { OnTrue result (look writes.now self.new.puts ≡
+            changed (look writes.now self.old.puts) file.now (Some content)) }
+        ensures looks { self.new.looks ≡ self.old.looks }
+        ensures same { OnFalse result (self.new ≡ self.old) }
+    {
+        set(writes, &mut self.puts, file, content)
+    }
+    /// Forgets what it has seen and put.
+    pub fn clear(&mut self)
+        ensures { self.new ≡ no_run }
+    {
+        self.looks.clear();
+        self.puts.clear();
+    }
+}

@@ -1,0 +1,92 @@
+//! The graph and what is recorded, which no step changes.
+
+ghost use Rattle.std.specs.Prelude.{◌≡◌, ◌<◌, ◌≤◌, length, IfOk};
+ghost use Rattle.mk_foot.specs.Setting as recorded;
+ghost use Rattle.mk_world.specs.State.{number_of, setting};
+ghost use Rattle.mk_world.specs.Fits.{footprint};
+
+use crate::footprints::{Footprint, footprints_of, names_of_nodes};
+use mk_foot::Setting;
+use mk_graph::Graph;
+use mk_lines::NameTable;
+use std::alloc::{AllocError, Global};
+use std::marker::Model;
+
+/// The graph and what is recorded, with the numbers of nodes by their names, and the footprints by
+/// numbers.
+#[derive(Drop)]
+pub struct Scene<'a> {
+    graph: &'a Graph,
+    recorded: &'a Setting,
+    numbers: NameTable,
+    footprints: Vec<Footprint>,
+}
+
+impl<'a> Model for Scene<'a> {
+    ghost use Rattle.std.specs.Prelude.{◌≡◌, map};
+    ghost use Rattle.mk_graph.specs.declared.node.Node.{Node};
+    ghost use Rattle.mk_graph.specs.Graph.{IsGraph};
+    ghost use Rattle.mk_world.specs.State as state;
+    ghost use Rattle.mk_world.specs.Fits.{AreFootprints};
+
+    ghost Value = { state.Scene };
+
+    ghost view = { λ s. record { graph = s.graph.now; recorded = s.recorded.now } };
+
+    ghost invariant = { λ s. IsGraph s.graph.now ×
+        (s.numbers ≡ map (λ (n : Node). n.name) s.graph.now.nodes) ×
+        AreFootprints s.graph.now (state.setting_of s.recorded.now) s.footprints.items };
+}
+
+impl<'a> Scene<'a> {
+    /// The scene of a graph and what is recorded. The error is want of memory alone.
+    pub fn new(
+        alloc: Global,
+        graph: &'a Graph,
+        recorded: &'a Setting,
+    ) -> Result<Scene<'a>, AllocError>
+        ensures { IfOk result (λ scene. scene ≡
+            record { graph = graph.entry.now; recorded = recorded.entry.now }) }
+    {
+        let nodes = graph.nodes();
+        Ok(Scene {
+            graph,
+            recorded,
+            numbers: NameTable::new(alloc, names_of_nodes(alloc, nodes)?)?,
+            footprints: footprints_of(alloc, recorded, nodes)?,
+        })
+    }
+
+    /// The graph.
+    pub fn graph(&self) -> &'a Graph
+        ensures { result.now ≡ self.now.graph }
+    {
+        self.graph
+    }
+
+    /// Whether a file is editable.
+    pub fn is_editable(&self, file: &str) -> bool
+        ensures { result ≡ recorded.is_editable self.now.recorded file.now }
+    {
+        self.recorded.is_editable(file)
+    }
+
+    /// The number of a node by its name, or, where it is no node's, how many nodes there are.
+    pub fn number(&self, name: &str) -> usize
+        ensures { result ≡ number_of self.now.graph name.now }
+    {
+        match self.numbers.place(name) {
+            Some(number) => number,
+            None => self.graph.nodes().len(),
+        }
+    }
+
+    /// The files that the recipe of a node reads and writes.
+    pub fn footprint(&self, number: usize) -> &Footprint
+        requires { number < length self.now.graph.nodes }
+        ensures value { result.now ≡ footprint self.now.graph (setting self.now) number }
+        ensures few { length self.now.graph.nodes ≤ 4096 }
+    {
+        &self.footprints[number]
+    }
+}

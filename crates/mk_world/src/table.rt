@@ -1,0 +1,38 @@
+//! Tables: names, with what is known of each beside them.
+
+ghost use Rattle.std.specs.Prelude.{◌≡◌, length, true, Some, OnOk, IfOk, None};
+ghost use Rattle.std.specs.Bool.{OnTrue, OnFalse};
+ghost use Rattle.mk_lines.specs.Names.{has_name};
+ghost use Rattle.mk_graph.specs.World.{changed};
+ghost use Rattle.mk_world.specs.Tables.{look};
+
+use mk_lines::NameTable;
+
+/// What is known of a name.
+pub fn get<T: Copy>(names: &NameTable, values: &[Option<T>], name: &str) -> Option<T>
+    requires { length values.now ≡ length names.now }
+    ensures { result ≡ look names.now values.now name.now }
+{
+    match names.place(name) {
+        Some(place) => values[place],
+        None => None,
+    }
+}
+
+/// Notes what is known of a name that is there. Answers whether it is.
+pub fn set<T: Copy>(names: &NameTable, values: &mut Vec<Option<T>>, name: &str, value: T) -> bool
+    requires { length values.old.items ≡ length names.now }
+    ensures there { result ≡ has_name names.now name.now }
+    ensures len { length values.new.items ≡ length values.old.items }
+    ensures noted { OnTrue result (look names.now values.new.items ≡
+        changed (look names.now values.old.items) name.now (Some value)) }
+    ensures same { OnFalse result (values.new.items ≡ values.old.items) }
+{
+    match names.place(name) {
+        Some(place) => {
+            values[place] = Some(value);
+            true
+        }
+        None => false,
+    }
+}

@@ -1,0 +1,230 @@
+//! Worlds, in which steps are taken.
+
+ghost use Rattle.std.specs.Prelude.{◌≡◌, map, IfOk};
+ghost use Rattle.mk_graph.specs.Schedule as model;
+ghost use Rattle.mk_world.specs.State.{number_of};
+ghost use Rattle.mk_world.specs.Listing.{listing};
+ghost use Rattle.mk_world.specs.Steps.{Answers, IsFirstOf, step_of};
+
+use crate::disk::Disk;
+use crate::fault::StepFault;
+use crate::file::Listed;
+use crate::first::names_of;
+use crate::making::Making;
+use crate::names::goals_of;
+use crate::scene::Scene;
+use crate::step::Step;
+use crate::{ending, recipes};
+use mk_foot::Setting;
+use mk_graph::Graph;
+use mk_lines::Name;
+use std::alloc::{AllocError, Global};
+use std::marker::Model;
+
+/// A world: what is there, how old it is, what recipes are known to give, and the make in progress,
+/// if one is. A contract sees its parts as lists, of which `specs.State` makes the world of
+/// mk_graph.
+#[derive(Drop)]
+pub struct World<'a> {
+    alloc: Global,
+    scene: Scene<'a>,
+    disk: Disk,
+    make: Option<Making>,
+}
+
+impl<'a> Model for World<'a> {
+    ghost use Rattle.mk_world.specs.State as state;
+    ghost use Rattle.mk_world.specs.Fits.{FitsIn, AreNamesOf};
+
+    ghost Value = { state.State };
+
+    ghost view = { λ w. record { scene = w.scene; disk = w.disk; make = w.make } };
+
+    ghost invariant = { λ w. FitsIn w.scene w.make × AreNamesOf w.scene w.disk.names };
+}
+
+impl<'a> World<'a> {
+    /// The world of a graph and what is recorded, with no make in progress: its names are those of
+    /// nodes and sources, and those that recipes of the graph read or write. Just the given ones
+    /// are there, and in the order of their bytes the first has content and stamp 1, the next 2,
+    /// and so on. The error is want of memory alone.
+    pub fn new(
+        alloc: Global,
+        graph: &'a Graph,
+        setting: &'a Setting,
+    ) -> Result<World<'a>, AllocError>
+        ensures { IfOk result (λ w. IsFirstOf graph.entry.now setting.entry.now w) }
+    {
+        let names = names_of(alloc, graph, setting)?;
+        let disk = Disk::first(alloc, setting, names)?;
+        Ok(World {
+            alloc,
+            scene: Scene::new(alloc, graph, setting)?,
+            disk,
+            make: None,
+        })
+    }
+
+    /// The files that are there, by the bytes of their names. The error is want of memory alone.
+    pub fn files(&self) -> Result<Vec<Listed>, AllocError>
+        ensures { IfOk result (λ files. files.items ≡ listing self.now.disk) }
+    {
+        self.disk.files(self.alloc)
+    }
+
+    /// Takes a step, if it is allowed. Else the fault is that of the first test that fails, and
+    /// nothing changes. The tests and their order: an edit asks that no make is in progress (fault
+    /// 62), that the file is editable (70) and that a stamp is left (59). A make asks that none is
+    /// in progress (62), that it has a job (64), and that it names goals of the graph only, one at
+    /// least (77). All other steps ask first that a make is in progress (61). The begin of a recipe
+    /// asks that its node is ready (63) and that a job is free (64); a look that the recipe runs
+    /// (66) and reads the file (67); a put that it runs (66) and writes the file (67), and that a
+    /// stamp is left (59); an end that it runs (66), has looked at and put all (68), and has put
+    /// what is known of a run that saw the same (60); a pass that the node is ready (63) and has no
+    /// recipe or isn't out of date (65); a stop that nothing runs (68), and the end of a make that
+    /// its goals are done too (68).
+    pub fn step(&mut self, step: Step) -> Result<(), StepFault>
+        ensures { Answers self.old self.new (step_of self.old.scene.graph step) result }
+    {
+        match step {
+            Step::Edit { file, content } => self.edit(file.as_str(), content),
+            Step::Make { jobs, goals } => self.start(jobs, goals.as_slice()),
+            Step::Begin { node } => self.begin(node.as_str()),
+            Step::Look { node, file } => self.look(node.as_str(), file.as_str()),
+            Step::Put {
+                node,
+                file,
+                content,
+            } => self.put(node.as_str(), file.as_str(), content),
+            Step::End { node } => self.end(node.as_str()),
+            Step::Pass { node } => self.pass(node.as_str()),
+            Step::Stop => self.stop(),
+            Step::EndMake => self.end_make(),
+        }
+    }
+
+    /// A source is edited.
+    fn edit(&mut self, file: &str, content: u64) -> Result<(), StepFault>
+        ensures { Answers self.old self.new (model.Edit file.now content) result }
+    {
+        if self.make.is_some() {
+            return Err(StepFault::MakeRuns);
+        }
+        if !self.scene.is_editable(file) {
+            return Err(StepFault::NotEditable);
+        }
+        if !self.disk.has_stamp() {
+            return Err(StepFault::ClockSpent);
+        }
+        self.disk.write(file, content);
+        Ok(())
+    }
+
+    /// A make starts.
+    fn start(&mut self, jobs: usize, goals: &[Name]) -> Result<(), StepFault>
+        ensures { Answers self.old self.new
+            (model.Make jobs (map (number_of self.old.scene.graph) goals.now)) result }
+    {
+        if self.make.is_some() {
+            return Err(StepFault::MakeRuns);
+        }
+        if jobs == 0 {
+            return Err(StepFault::NoJobFree);
+        }
+        let graph = self.scene.graph();
+        let Some(numbers) = goals_of(self.alloc, &self.scene, goals)? else {
+            return Err(StepFault::NotAGoal);
+        };
+        let many = graph.nodes().len();
+        self.make = Some(Making::new(self.alloc, jobs, numbers, many)?);
+        Ok(())
+    }
+
+    /// A recipe begins.
+    fn begin(&mut self, node: &str) -> Result<(), StepFault>
+        ensures { Answers self.old self.new
+            (model.Begin (number_of self.old.scene.graph node.now)) result }
+    {
+        let Some(making) = &mut self.make else {
+            return Err(StepFault::NoMake);
+        };
+        let number = self.scene.number(node);
+        recipes::begin(self.alloc, &self.scene, making, number)
+    }
+
+    /// A running recipe looks at a file.
+    fn look(&mut self, node: &str, file: &str) -> Result<(), StepFault>
+        ensures { Answers self.old self.new
+            (model.Look (number_of self.old.scene.graph node.now) file.now) result }
+    {
+        let Some(making) = &mut self.make else {
+            return Err(StepFault::NoMake);
+        };
+        let number = self.scene.number(node);
+        recipes::look(&self.scene, &self.disk, making, number, file)
+    }
+
+    /// A running recipe puts a content into a file.
+    fn put(&mut self, node: &str, file: &str, content: u64) -> Result<(), StepFault>
+        ensures { Answers self.old self.new
+            (model.Put (number_of self.old.scene.graph node.now) file.now content) result }
+    {
+        let Some(making) = &mut self.make else {
+            return Err(StepFault::NoMake);
+        };
+        let number = self.scene.number(node);
+        recipes::put(&self.scene, &mut self.disk, making, number, file, content)
+    }
+
+    /// A running recipe ends.
+    fn end(&mut self, node: &str) -> Result<(), StepFault>
+        ensures { Answers self.old self.new
+            (model.End (number_of self.old.scene.graph node.now)) result }
+    {
+        let Some(making) = &mut self.make else {
+            return Err(StepFault::NoMake);
+        };
+        let number = self.scene.number(node);
+        ending::end(self.alloc, &self.scene, &mut self.disk, making, number)
+    }
+
+    /// A node is passed.
+    fn pass(&mut self, node: &str) -> Result<(), StepFault>
+        ensures { Answers self.old self.new
+            (model.Pass (number_of self.old.scene.graph node.now)) result }
+    {
+        let Some(making) = &mut self.make else {
+            return Err(StepFault::NoMake);
+        };
+        let number = self.scene.number(node);
+        recipes::pass(&self.scene, &self.disk, making, number)
+    }
+
+    /// The make is given up.
+    fn stop(&mut self) -> Result<(), StepFault>
+        ensures { Answers self.old self.new model.Stop result }
+    {
+        let Some(making) = &self.make else {
+            return Err(StepFault::NoMake);
+        };
+        if !making.is_quiet() {
+            return Err(StepFault::NotAllDone);
+        }
+        self.make = None;
+        Ok(())
+    }
+
+    /// The make ends.
+    fn end_make(&mut self) -> Result<(), StepFault>
+        ensures { Answers self.old self.new model.EndMake result }
+    {
+        let Some(making) = &self.make else {
+            return Err(StepFault::NoMake);
+        };
+        if !(making.has_goals() && making.is_quiet()) {
+            return Err(StepFault::NotAllDone);
+        }
+        self.make = None;
+        Ok(())
+    }
+}
