@@ -52,11 +52,15 @@ Deeper = Option (List ℕ → List ℕ → State → Result State ReadFault)
 abbrev pub found : (List ℕ → List ℕ → State → Result State ReadFault) → Place → Bool → State →
     List ℕ → Option (List ℕ) → Result State ReadFault
 found read place optional state name None =
-    if optional then Ok (record state { missing = state.missing ++
-    name ∷ [] }) else Err (IncludeMissing place name)
+    if optional then Ok (record state {
+      missing = state.missing ++
+          name ∷ [];
+    }) else Err (IncludeMissing place name)
 found read place optional state name (Some text) =
-    read name text (record state { texts = state.texts ++
-    name ∷ [] }) >>= λ after. Ok (parted after)
+    read name text (record state {
+      texts = state.texts ++
+          name ∷ [];
+    }) >>= λ after. Ok (parted after)
 
 unfoldable pub one_file : Reader → (List ℕ → List ℕ → State → Result State ReadFault) → Place →
     Bool → State → List ℕ → Result State ReadFault
@@ -123,8 +127,10 @@ default_text = flat_map (λ line. line ++ 10 ∷ []) default_lines
 
 unfoldable pub after_default : Reader → Bool → Result State ReadFault
 after_default reader defaults =
-    if defaults then with_text reader None (record { file = codes "(default)";
-        default = true }) default_text nothing_read
+    if defaults then with_text reader None (record {
+      file = codes "(default)";
+      default = true;
+    }) default_text nothing_read
     else Ok nothing_read
 
 -- the table with the operands from this number on
@@ -149,8 +155,10 @@ unfoldable pub from_named : Reader → State → Option (List ℕ) → Result St
 from_named reader state (Some name) = own_text reader state name (Err (NoMakefile (Some name)))
 from_named reader state None =
     own_text reader state (codes "makefile")
-    (own_text reader (record state { missing = codes "makefile" ∷
-        [] }) (codes "Makefile") (Err (NoMakefile None)))
+    (own_text reader (record state {
+      missing = codes "makefile" ∷
+          [];
+    }) (codes "Makefile") (Err (NoMakefile None)))
 
 -- the name of the makefile is a plain path, and not `-`
 abbrev pub named : Option (List ℕ) → Result (Option (List ℕ)) ReadFault
@@ -176,10 +184,16 @@ pub record Makefile : Type 0 where
 
 abbrev pub makefile_of : State → Makefile
 makefile_of state =
-    record { rules = filter (counts state.suffixes)
-    (rules_of state.read); suffixes = state.suffixes; phony = state.phony;
-    not_parallel = state.not_parallel; macros = state.table; texts = state.texts;
-    passed_over = state.missing }
+    record {
+      rules = filter (counts state.suffixes)
+          (rules_of state.read);
+      suffixes = state.suffixes;
+      phony = state.phony;
+      not_parallel = state.not_parallel;
+      macros = state.table;
+      texts = state.texts;
+      passed_over = state.missing;
+    }
 
 -- The makefile of this name, or a usual one, behind the default text, where it is asked for, and
 -- the operands.
