@@ -39,3 +39,4 @@ mod ListedSuffixes
 mod BracketFree
 mod Answered
 mod Blocks
+mod OneKind

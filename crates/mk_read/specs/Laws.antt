@@ -1,9 +1,12 @@
 -- Laws of reading.
-use Rattle.std.specs.Prelude.{◌≡◌, ℕ, false, List, ◌∷◌, ◌++◌, Ok, Bool, filter, not}
+use Rattle.std.specs.Prelude.{◌≡◌, ◌↔◌, ℕ, true, false, List, ◌∷◌, ◌++◌, Result, Ok, Err, Bool, filter, not}
 use Rattle.std.specs.List.{flat_map}
 use Rattle.mk_lines.specs.Comments.{uncomment}
 use Rattle.mk_lines.specs.Lines.{Line}
-use Rattle.mk_read.specs.Kinds.{Comment, kind_of}
+use Rattle.mk_lines.specs.RuleLines.{is_include, is_rule_line}
+use Rattle.mk_read.specs.declared.fault.KindFault.{KindFault}
+use Rattle.mk_read.specs.declared.fault.KindFault.TheVariants.{TargetMacro, NotALine}
+use Rattle.mk_read.specs.Kinds.{Kind, IncludeLine, RuleLine, Comment, Include, Rule, kind_of}
 use Rattle.mk_read.specs.Needs.{is_wait, groups}
 use Rattle.mk_read.specs.State.{State}
 use Rattle.mk_read.specs.Reading.{Reader, Deeper, Text, with_lines}
@@ -26,3 +29,24 @@ abbrev pub GroupsKeepTheirWords : Type 0
 GroupsKeepTheirWords =
     (not_parallel : Bool) → (words : List (List ℕ)) →
     joined (groups not_parallel words) ≡ filter (λ word. not (is_wait word)) words
+
+-- a rule line, or one that is refused for its targets or for its prerequisites
+abbrev pub IsOfRule : Result Kind KindFault → Type 0
+IsOfRule (Ok (Rule line)) = Unit {0}
+IsOfRule (Err TargetMacro) = Unit {0}
+IsOfRule (Err NotALine) = Unit {0}
+IsOfRule kind = ⊥
+
+-- Which lines are rule lines is asked before the comment is known too, since it decides where one
+-- may begin. Of a line without a comment both words say the same.
+abbrev pub RuleLinesAreOfOneKind : Type 0
+RuleLinesAreOfOneKind =
+    (text : List ℕ)
+    → (is_rule_line text ≡ true → IsOfRule (kind_of text))
+    × ((line : RuleLine) → kind_of text ≡ Ok (Rule line) → is_rule_line text ≡ true)
+
+-- So with include lines.
+abbrev pub IncludeLinesAreOfOneKind : Type 0
+IncludeLinesAreOfOneKind =
+    (text : List ℕ)
+    → (is_include text ≡ true) ↔ ((line : IncludeLine) × (kind_of text ≡ Ok (Include line)))
