@@ -31,7 +31,7 @@ find_one p e t (x ∷ xs) only h = at (p x) refl h (find_one p e t xs (λ y k. o
     at false u k ih = ih (others (bytes_eq e x) refl k u)
 
 -- where none passes, none is found
-find_none : (p : List ℕ → Bool) (xs : List (List ℕ)) → ((x : List ℕ) → Has xs x → p x ≡ false) → find p xs ≡ None
+pub find_none : (p : List ℕ → Bool) (xs : List (List ℕ)) → ((x : List ℕ) → Has xs x → p x ≡ false) → find p xs ≡ None
 find_none p [] none = refl
 find_none p (x ∷ xs) none = ap (λ b. cond b (Some x) (find p xs)) (none x (inl refl)) ∙ find_none p xs (λ y k. none y (inr k))
 

@@ -27,3 +27,5 @@ mod Staying
 mod Sources
 mod Keeping
 mod GoalsDiffer
+mod Least
+mod NamesThere

@@ -17,13 +17,13 @@ use Rattle.mk_read.specs.Rules.{gives_commands, has_some}
 use Rattle.mk_read.specs.Special.{is_suffix}
 use Rattle.mk_read.specs.State.{RuleRead}
 use Rattle.mk_infer.specs.Inference.{commands_from, ending, ends_in, fits, stem}
-use Rattle.mk_infer.specs.Table.{AreSources, HoldsDotted, IsCut, IsEnding, commanded_in, given, is_dotted, sources_by, targets_in}
+use Rattle.mk_infer.specs.Table.{AreParts, AreSources, HoldsDotted, IsCut, IsEnding, commanded_in, given, is_dotted, sources_by, targets_in}
 use Rattle.std.proofs.lemmas.Bool.{both_ways, false_from_ne_true}
 use Rattle.mk_infer.specs.There.{Exists, is_there}
 use Rattle.mk_infer.proofs.Added.{has_name_push}
 use Rattle.mk_infer.proofs.Inferable.{found_is}
 use Rattle.mk_infer.proofs.NameLists.{texts}
-use Rattle.mk_infer.proofs.InferenceNames.{both_are, dotted, each_passes, found as found_any, same_tests}
+use Rattle.mk_infer.proofs.InferenceNames.{Dotted, both_are, dotted, each_passes, found as found_any, same_tests}
 use Rattle.mk_infer.proofs.LastDots.{IsLastDot, begins, no_dots, one_last}
 use Rattle.mk_infer.proofs.Writes.{find_same}
 
@@ -117,36 +117,36 @@ front_dot suffix h =
     bytes rest zero a = absurd (omega arith)
     bytes rest (suc i) a = let same : suc i - 1 ≡ i = omega arith in ap (λ n. get_or rest n 0) same
 
--- two suffixes in a row have their last dot where the second begins
-second_begins : (suffix end : Name) → is_suffix suffix ≡ true → is_suffix end ≡ true → IsLastDot (suffix ++ end) (length suffix) × (0 < length suffix)
-second_begins suffix end h k =
-    let d = dotted suffix h in
-    let long : length suffix ≡ suc (length d.rest) = ap length d.is in
-    let whole : length (suffix ++ end) ≡ length suffix + length end = length-append suffix end in
-    let back : length (suffix ++ end) - length end ≡ length suffix = omega arith in
-    let same : drop (length (suffix ++ end) - length end) (suffix ++ end) ≡ end = ap (λ n. drop n (suffix ++ end)) back ∙ drop-append_seam suffix end in
-    (subst (IsLastDot (suffix ++ end)) back (begins (suffix ++ end) end k (omega arith) same), omega arith)
+-- a name with a suffix behind some bytes has its last dot where that begins
+suffix_begins : (front back : Name) → 0 < length front → is_suffix back ≡ true → IsLastDot (front ++ back) (length front)
+suffix_begins front back some k =
+    let whole : length (front ++ back) ≡ length front + length back = length-append front back in
+    let before : length (front ++ back) - length back ≡ length front = omega arith in
+    let same : drop (length (front ++ back) - length back) (front ++ back) ≡ back = ap (λ n. drop n (front ++ back)) before ∙ drop-append_seam front back in
+    subst (IsLastDot (front ++ back)) before (begins (front ++ back) back k (omega arith) same)
 
 -- a name with a last dot behind its front
 pub cut_there_is : (name : Name) (place : ℕ) → IsLastDot name place → 0 < place → IsCut name (take place name) (drop place name)
-cut_there_is name place last some suffix end h (inl none) e =
-    let alone : name ≡ suffix = e ∙ (ap (λ (xs : Name). suffix ++ xs) none ∙ append-nil suffix) in
-    absurd (let here : place ≡ 0 = one_last suffix place 0 (subst (λ (n : Name). IsLastDot n place) alone last) (front_dot suffix h) in omega arith)
-cut_there_is name place last some suffix end h (inr k) e =
-    let at : place ≡ length suffix = one_last (suffix ++ end) place (length suffix) (subst (λ (n : Name). IsLastDot n place) e last) (second_begins suffix end h k).0 in
-    (ap (λ n. take n name) at ∙ (ap (take (length suffix)) e ∙ take-append_seam suffix end), ap (λ n. drop n name) at ∙ (ap (drop (length suffix)) e ∙ drop-append_seam suffix end))
+cut_there_is name place last some = λ one other parts e. elim parts [
+  | inl p ↦
+      let alone : name ≡ one = e ∙ (ap (λ (xs : Name). one ++ xs) p.1 ∙ append-nil one) in
+      absurd (let here : place ≡ 0 = one_last one place 0 (subst (λ (n : Name). IsLastDot n place) alone last) (front_dot one p.0) in omega arith)
+  | inr p ↦
+      let at : place ≡ length one = one_last (one ++ other) place (length one) (subst (λ (n : Name). IsLastDot n place) e last) (suffix_begins one other p.0 p.1) in
+      (ap (λ n. take n name) at ∙ (ap (take (length one)) e ∙ take-append_seam one other), ap (λ n. drop n name) at ∙ (ap (drop (length one)) e ∙ drop-append_seam one other))
+]
 
 -- a name without one
 pub cut_nowhere : (name : Name) → ((place : ℕ) → IsLastDot name place → 0 < place → ⊥) → IsCut name name []
-cut_nowhere name none suffix end h (inl nothing) e = (e ∙ (ap (λ (xs : Name). suffix ++ xs) nothing ∙ append-nil suffix), sym nothing)
-cut_nowhere name none suffix end h (inr k) e =
-    let two = second_begins suffix end h k in
-    absurd (none (length suffix) (subst (λ (n : Name). IsLastDot n (length suffix)) (sym e) two.0) two.1)
+cut_nowhere name none = λ one other parts e. elim parts [
+  | inl p ↦ (e ∙ (ap (λ (xs : Name). one ++ xs) p.1 ∙ append-nil one), sym p.1)
+  | inr p ↦ absurd (none (length one) (subst (λ (n : Name). IsLastDot n (length one)) (sym e) (suffix_begins one other p.0 p.1)) p.0)
+]
 
 -- one more name, cut in two
-pub back_more : (names : List (Bor Name)) (i : ℕ) (d front back : Bor Name) (suffix end : Name) (old new : List (Bor Name)) → front.now ++ back.now ≡ (get_or names i d).now → IsCut (get_or names i d).now front.now back.now → is_suffix suffix ≡ true → IsEnding end
+pub back_more : (names : List (Bor Name)) (i : ℕ) (d front back : Bor Name) (suffix end : Name) (old new : List (Bor Name)) → front.now ++ back.now ≡ (get_or names i d).now → IsCut (get_or names i d).now front.now back.now → AreParts suffix end
     → new ≡ cond (bytes_eq suffix front.now) (old ++ back ∷ []) old → has_name (texts old) end ≡ has_name (texts (take i names)) (suffix ++ end) → i < length names → has_name (texts new) end ≡ has_name (texts (take (i + 1) names)) (suffix ++ end)
-back_more names i d front back suffix end old new whole cut h k e so_far lt =
+back_more names i d front back suffix end old new whole cut h e so_far lt =
     let more : texts (take (i + 1) names) ≡ texts (take i names) ++ (get_or names i d).now ∷ [] =
     ap texts (take_more names i d lt) ∙ map_push (λ (t : Bor Name). t.now) (take i names) (get_or names i d) in
     ap (λ ns. has_name ns end) (text_more old new back (bytes_eq suffix front.now) e)
@@ -165,7 +165,7 @@ back_more names i d front back suffix end old new whole cut h k e so_far lt =
 
     here : bytes_eq (suffix ++ end) (get_or names i d).now ≡ true → (bytes_eq suffix front.now && bytes_eq end back.now) ≡ true
     here t =
-        let parts = cut suffix end h k (sym ((bytes_eq-Decides (suffix ++ end) (get_or names i d).now).0 t)) in
+        let parts = cut suffix end h (sym ((bytes_eq-Decides (suffix ++ end) (get_or names i d).now).0 t)) in
         ap (λ b. b && bytes_eq end back.now) ((bytes_eq-Decides suffix front.now).1 (sym parts.0)) ∙ (bytes_eq-Decides end back.now).1 (sym parts.1)
 
 -- ---- what the table says
@@ -218,7 +218,7 @@ ends_well m all name = by (find (ends_in name) m.suffixes) refl
     by (Some suffix) is = inr (each_passes is_suffix m.suffixes suffix all (found_is (ends_in name) m.suffixes suffix is).0)
 
 module _ (m : Makefile) (all : list_all is_suffix m.suffixes ≡ true) (commanded : List Name) (held : HoldsDotted [] (commanded_in m.rules) commanded)
-    (backs : Name → List Name) (cut : (suffix end : Name) → is_suffix suffix ≡ true → IsEnding end → has_name (backs suffix) end ≡ has_name commanded (suffix ++ end)) where
+    (backs : Name → List Name) (cut : (suffix end : Name) → AreParts suffix end → has_name (backs suffix) end ≡ has_name commanded (suffix ++ end)) where
   has_rule : (name suffix : Name) → Has m.suffixes suffix → has_name (backs suffix) (ending m name) ≡ has_some (commands_from m name suffix)
   has_rule name suffix there =
       let is = each_passes is_suffix m.suffixes suffix all there in
@@ -226,7 +226,11 @@ module _ (m : Makefile) (all : list_all is_suffix m.suffixes ≡ true) (commande
       let end = ending m name in
       let known : has_name commanded (suffix ++ end) ≡ has_name (commanded_in m.rules) (suffix ++ end) =
       ap (λ (s : Name). has_name commanded (s ++ end)) d.is ∙ (held (d.rest ++ end) ∙ sym (ap (λ (s : Name). has_name (commanded_in m.rules) (s ++ end)) d.is)) in
-      cut suffix end is (ends_well m all name) ∙ (known ∙ sym (commands_some (suffix ++ end) m.rules ∙ commanded_named m.rules (suffix ++ end)))
+      cut suffix end (parts suffix end is d (ends_well m all name)) ∙ (known ∙ sym (commands_some (suffix ++ end) m.rules ∙ commanded_named m.rules (suffix ++ end)))
+    where
+      parts : (suffix end : Name) → is_suffix suffix ≡ true → (d : Dotted suffix) → IsEnding end → AreParts suffix end
+      parts suffix end is d (inl none) = inl (is, none)
+      parts suffix end is d (inr k) = let long : length suffix ≡ suc (length d.rest) = ap length d.is in inr (omega arith, k)
 
   pub are_sources : (sources : Name → List Name) → ((name : Name) → sources name ≡ sources_by backs name m.suffixes) → (name : Name) → AreSources m name (sources (ending m name))
   are_sources sources are name p =

@@ -1,5 +1,5 @@
 -- The rule lines of a target, looked up by its name.
-use Rattle.std.specs.Prelude.{◌≡◌, ◌⊎◌, ℕ, ◌+◌, ◌==◌, Bool, true, false, ◌&&◌, ◌||◌, not, List, [], ◌∷◌, ◌++◌, Option, Vec, filter, find, map, take, drop, slice_get, if◌then◌else◌}
+use Rattle.std.specs.Prelude.{◌≡◌, ◌⊎◌, ℕ, ◌+◌, ◌<◌, ◌≤◌, ◌==◌, Bool, true, false, ◌&&◌, ◌||◌, not, List, [], ◌∷◌, ◌++◌, Option, None, Some, Vec, filter, find, length, map, take, drop, slice_get, if◌then◌else◌}
 use Rattle.std.specs.Option.{option_map_or}
 use Rattle.std.specs.Borrow.{Bor}
 use Rattle.std.specs.List.{filter_map, flat_map, list_all, position_or_len}
@@ -7,7 +7,9 @@ use Rattle.std.specs.Str.{bytes_eq}
 use Rattle.std.specs.declared.alloc.Global.{Global}
 use Rattle.indexmap.specs.IndexMap.{IndexMap, get_by}
 use Rattle.mk_graph.specs.declared.node.Node.{Node}
+use Rattle.mk_graph.specs.Membership.{Has}
 use Rattle.mk_lines.specs.Bytes.{is_byte}
+use Rattle.mk_lines.specs.Names.{place_from}
 use Rattle.mk_read.specs.Names.{has_name}
 use Rattle.mk_read.specs.Reading.{Makefile}
 use Rattle.mk_read.specs.Special.{is_suffix}
@@ -87,11 +89,16 @@ HoldsDotted old names new = (rest : List ℕ)
 abbrev pub IsEnding : List ℕ → Type 0
 IsEnding end = (end ≡ []) ⊎ (is_suffix end ≡ true)
 
--- where the name is a suffix and an ending in a row, these are the parts
+-- a suffix with nothing behind it, or some bytes with a suffix behind them
+abbrev pub AreParts : (front back : List ℕ) → Type 0
+AreParts front back =
+    ((is_suffix front ≡ true) × (back ≡ [])) ⊎ ((0 < length front) × (is_suffix back ≡ true))
+
+-- where the name is made of such parts, it is cut into these
 abbrev pub IsCut : (name front back : List ℕ) → Type 0
 IsCut name front back =
-    (suffix end : List ℕ) → is_suffix suffix ≡ true → IsEnding end → name ≡ suffix ++ end
-    → (front ≡ suffix) × (back ≡ end)
+    (one other : List ℕ) → AreParts one other → name ≡ one ++ other →
+    (front ≡ one) × (back ≡ other)
 
 -- the texts that a table has at a key
 abbrev pub texts_at : {S : Type 0} → IndexMap (Bor (List ℕ)) (Vec (Bor (List ℕ)) Global) S →
@@ -100,11 +107,21 @@ texts_at table key =
     map (λ text. text.now)
     (option_map_or (λ texts. texts.items) (get_by (λ k. bytes_eq key k.now) table) [])
 
--- the table has for each suffix the endings that it has behind it among the names
+-- the table has for each front what stands behind it among the names
 abbrev pub HasBacks : {S : Type 0} → List (List ℕ) →
     IndexMap (Bor (List ℕ)) (Vec (Bor (List ℕ)) Global) S → Type 0
-HasBacks names table = (suffix end : List ℕ) → is_suffix suffix ≡ true → IsEnding end
-    → has_name (texts_at table suffix) end ≡ has_name names (suffix ++ end)
+HasBacks names table = (front back : List ℕ) → AreParts front back
+    → has_name (texts_at table front) back ≡ has_name names (front ++ back)
+
+-- the names have all that are there among them
+abbrev pub ListsThere : Makefile → Exists → List (List ℕ) → Type 0
+ListsThere m e names = (name : List ℕ) → is_there m e name ≡ true → has_name names name ≡ true
+
+-- the table has the suffixes of each name that is there
+abbrev pub HasThere : {S : Type 0} → Makefile → Exists →
+    IndexMap (Bor (List ℕ)) (Vec (Bor (List ℕ)) Global) S → Type 0
+HasThere m e table = (stem suffix : List ℕ) → 0 < length stem → Has m.suffixes suffix
+    → is_there m e (stem ++ suffix) ≡ true → has_name (texts_at table stem) suffix ≡ true
 
 -- the suffix, for each of the backs that is the ending
 abbrev pub given : List ℕ → List ℕ → List (List ℕ) → List (List ℕ)
@@ -128,11 +145,12 @@ abbrev pub HasSources : {S : Type 0} → Makefile →
 HasSources m table = (name : List ℕ) → AreSources m name (texts_at table (ending m name))
 
 -- what is looked up in is the makefile's
-pub record IsTableOf {S T : Type 0} (m : Makefile) (suffixes phony targets : List (List ℕ))
+pub record IsTableOf {S T : Type 0} (m : Makefile) (suffixes order phony targets : List (List ℕ))
     (table : IndexMap (Bor (List ℕ)) (Vec ℕ Global) S)
     (sources : IndexMap (Bor (List ℕ)) (Vec (Bor (List ℕ)) Global) T) : Type 0 where
   pub are_suffixes : list_all is_suffix m.suffixes ≡ true
   pub suffixes_held : HoldsNames suffixes m.suffixes
+  pub order_held : order ≡ m.suffixes
   pub phony_held : HoldsNames phony m.phony
   pub targets_held : HoldsNames targets (targets_in m.rules)
   pub lines_held : HasLines m.rules table
@@ -152,6 +170,34 @@ chosen_by m stem ending suffix =
 abbrev pub fits_by : Makefile → Exists → List ℕ → List ℕ → List ℕ → Bool
 fits_by m e stem ending suffix =
     has_some (commands_of m.rules (suffix ++ ending)) && is_there m e (stem ++ suffix)
+
+-- a makefile, and what is there
+pub record Looked : Type 0 where
+  pub makefile : Makefile
+  pub exists : Exists
+
+-- what the rule of a suffix gives, and where that suffix stands in the list of suffixes
+pub record Placed : Type 0 where
+  pub place : ℕ
+  pub chosen : Chosen
+
+-- The rule of this suffix gives it.
+pub record IsPlaced (p : List ℕ → Bool) (gives : List ℕ → Chosen) (suffixes : List (List ℕ))
+    (placed : Placed) : Type 0 where
+  pub suffix : List ℕ
+  pub passes : p suffix ≡ true
+  pub stands : place_from 0 suffixes suffix ≡ Some placed.place
+  pub given : placed.chosen ≡ gives suffix
+
+-- of those that were tried none passes, or this one does and stands first among the suffixes
+abbrev pub IsLeast : (List ℕ → Bool) → (List ℕ → Chosen) → (suffixes tried : List (List ℕ)) →
+    Option Placed → Type 0
+IsLeast p gives suffixes tried None =
+    (s : List ℕ) → Has tried s → Has suffixes s → p s ≡ false
+IsLeast p gives suffixes tried (Some placed) =
+    IsPlaced p gives suffixes placed ×
+    ((s : List ℕ) → Has tried s → p s ≡ true → (n : ℕ) → place_from 0 suffixes s ≡ Some n →
+    placed.place ≤ n)
 
 -- a source, a text of the makefile, or one of the names more
 abbrev pub is_listed : Exists → List ℕ → Bool

@@ -1,12 +1,14 @@
 //! The choice of an inference rule.
 
-ghost use Rattle.std.specs.Prelude.{◌≡◌, ◌++◌, true, false, None, Some, find, length, map, MatchOption, IfOk, if◌then◌else◌};
+ghost use Rattle.std.specs.Prelude.{◌≡◌, ◌++◌, ◌∷◌, [], List, ℕ, true, false, None, Some, find, length, map, MatchOption, IfOk, if◌then◌else◌};
 ghost use Rattle.std.specs.Option.{option_map};
 ghost use Rattle.std.specs.String.{string_bytes};
 ghost use Rattle.mk_infer.specs.Inference.{choice, chosen_suffix, ending, may_infer, stem};
-ghost use Rattle.mk_infer.specs.Table.{chosen_by, fits_by, making_of};
+ghost use Rattle.mk_infer.specs.Table.{HasThere, IsLeast, chosen_by, fits_by, making_of};
 ghost use Rattle.mk_infer.specs.There.{is_there};
 
+use crate::backs::{Backs, backs_of};
+use crate::choices::Choices;
 use crate::exists::Exists;
 use crate::rule_table::RuleTable;
 use mk_read::Command;
@@ -108,6 +110,77 @@ fn first_fitting<'m>(
     Ok(None)
 }
 
+/// What an inference rule gives a name, and where its suffix stands in the list of suffixes. A
+/// contract sees both.
+#[derive(Drop)]
+struct Placed<'m> {
+    place: usize,
+    chosen: Chosen<'m>,
+}
+
+impl<'m> Model for Placed<'m> {
+    ghost use Rattle.mk_infer.specs.Table as value;
+
+    ghost Value = { value.Placed };
+
+    ghost view = { λ p. record { place = p.place; chosen = p.chosen } };
+}
+
+/// The least of those before, or what the rule with this suffix gives, where it gives something
+/// and the suffix stands before.
+fn least_with<'m>(
+    alloc: Global,
+    table: &'m RuleTable<'_>,
+    exists: &'m Exists,
+    stem: &str,
+    ending: &str,
+    least: Option<Placed<'m>>,
+    suffix: &str,
+) -> Result<Option<Placed<'m>>, AllocError>
+    ensures { IfOk result (λ next. (tried : List (List ℕ)) →
+        IsLeast (fits_by table.now exists.now stem.now ending.now)
+        (chosen_by table.now stem.now ending.now)
+        table.now.suffixes tried least.entry →
+        IsLeast (fits_by table.now exists.now stem.now ending.now)
+        (chosen_by table.now stem.now ending.now)
+        table.now.suffixes (tried ++ suffix.now ∷ []) next) }
+{
+    let Some(place) = table.suffix_place(suffix) else {
+        return Ok(least);
+    };
+    if let Some(found) = &least {
+        if found.place <= place {
+            return Ok(least);
+        }
+    }
+    match chosen_by(alloc, table, exists, stem, ending, suffix)? {
+        Some(chosen) => Ok(Some(Placed { place, chosen })),
+        None => Ok(least),
+    }
+}
+
+/// Of what rules with these suffixes give a name, what that one gives whose suffix stands first in
+/// the list of suffixes.
+fn least_fitting<'m>(
+    alloc: Global,
+    table: &'m RuleTable<'_>,
+    exists: &'m Exists,
+    stem: &str,
+    ending: &str,
+    suffixes: &[&'m str],
+) -> Result<Option<Placed<'m>>, AllocError>
+    ensures { IfOk result (λ least.
+        IsLeast (fits_by table.now exists.now stem.now ending.now)
+        (chosen_by table.now stem.now ending.now)
+        table.now.suffixes (map (λ suffix. suffix.now) suffixes.now) least) }
+{
+    let mut least = None;
+    for suffix in suffixes {
+        least = least_with(alloc, table, exists, stem, ending, least, suffix)?;
+    }
+    Ok(least)
+}
+
 /// Whether a name may get an inference rule: it has no commands of its own, isn't phony, and isn't
 /// under a fixed prefix.
 fn may_infer(table: &RuleTable<'_>, exists: &Exists, name: &str) -> bool
@@ -116,13 +189,49 @@ fn may_infer(table: &RuleTable<'_>, exists: &Exists, name: &str) -> bool
     !(table.own_commands(name).is_some() || table.is_phony(name) || exists.fixed.is_under(name))
 }
 
+/// What the inference rule of a name of these parts gives it, where it gets one: by the suffixes of
+/// what is there, or by those that have a rule, whichever are fewer.
+fn fitting<'m>(
+    alloc: Global,
+    table: &'m RuleTable<'_>,
+    exists: &'m Exists,
+    backs: &Backs<'m>,
+    stem: &str,
+    ending: &str,
+    sources: &[&'m str],
+) -> Result<Option<Chosen<'m>>, AllocError>
+    requires there { HasThere table.now exists.now backs.now }
+    requires sources { find (fits_by table.now exists.now stem.now ending.now)
+        (map (λ source. source.now) sources.now) ≡
+        find (fits_by table.now exists.now stem.now ending.now) table.now.suffixes }
+    ensures { IfOk result (λ chosen. chosen ≡
+        option_map (chosen_by table.now stem.now ending.now)
+        (find (fits_by table.now exists.now stem.now ending.now) table.now.suffixes)) }
+{
+    if stem.is_empty() {
+        return first_fitting(alloc, table, exists, stem, ending, sources);
+    }
+    let Some(found) = backs_of(backs, stem) else {
+        return Ok(None);
+    };
+    if sources.len() <= found.len() {
+        return first_fitting(alloc, table, exists, stem, ending, sources);
+    }
+    match least_fitting(alloc, table, exists, stem, ending, found)? {
+        Some(placed) => Ok(Some(placed.chosen)),
+        None => Ok(None),
+    }
+}
+
 /// What the inference rule of a name gives it, where it gets one.
 fn inferred<'m>(
     alloc: Global,
     table: &'m RuleTable<'_>,
     exists: &'m Exists,
+    backs: &Backs<'m>,
     name: &str,
 ) -> Result<Option<Chosen<'m>>, AllocError>
+    requires { HasThere table.now exists.now backs.now }
     ensures { IfOk result (λ chosen. chosen ≡
         option_map (chosen_by table.now (stem table.now name.now) (ending table.now name.now))
         (chosen_suffix table.now exists.now name.now)) }
@@ -134,7 +243,7 @@ fn inferred<'m>(
     let Some(sources) = table.sources_for(ending) else {
         return Ok(None);
     };
-    first_fitting(alloc, table, exists, stem, ending, sources)
+    fitting(alloc, table, exists, backs, stem, ending, sources)
 }
 
 /// What makes a name. A contract sees lists.
@@ -165,11 +274,13 @@ pub fn making<'m>(
     alloc: Global,
     table: &'m RuleTable<'_>,
     exists: &'m Exists,
+    backs: &Backs<'m>,
     name: &str,
 ) -> Result<Maker<'m>, AllocError>
+    requires { HasThere table.now exists.now backs.now }
     ensures { IfOk result (λ making. making ≡ making_of table.now exists.now name.now) }
 {
-    match inferred(alloc, table, exists, name)? {
+    match inferred(alloc, table, exists, backs, name)? {
         Some(chosen) => Ok(Maker {
             choice: Some(chosen.name),
             commands: Some(chosen.commands),
@@ -188,12 +299,12 @@ pub fn making<'m>(
 /// alone.
 pub fn choice<'m>(
     alloc: Global,
-    table: &'m RuleTable<'_>,
-    exists: &'m Exists,
+    choices: &'m Choices<'m>,
     name: &str,
 ) -> Result<Option<&'m str>, AllocError>
     ensures { IfOk result (λ found. option_map (λ name. name.now) found ≡
-        choice table.now exists.now name.now) }
+        choice choices.now.makefile choices.now.exists name.now) }
 {
-    Ok(making(alloc, table, exists, name)?.choice)
+    let (table, exists) = (choices.table(), choices.exists());
+    Ok(making(alloc, table, exists, choices.backs(), name)?.choice)
 }

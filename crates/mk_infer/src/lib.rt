@@ -1,6 +1,8 @@
 //! Inference rules, the graph of what goals reach, and the commands of its nodes.
 #![tactic(auto)]
 
+mod backs;
+mod choices;
 mod exists;
 mod expanding;
 mod fault;
@@ -16,6 +18,7 @@ mod source_suffixes;
 mod suffix_set;
 mod walk;
 
+pub use choices::Choices;
 pub use exists::Exists;
 pub use expanding::Commands;
 pub use fault::InferFault;

@@ -2,7 +2,10 @@
 
 ghost use Rattle.mk_infer.specs.Commands.{commands};
 ghost use Rattle.mk_infer.specs.Steps.{Gives};
+ghost use Rattle.mk_infer.specs.Table.{HasThere};
 
+use crate::backs::Backs;
+use crate::choices::Choices;
 use crate::exists::Exists;
 use crate::expanding::{Commands, expanded};
 use crate::fault::InferFault;
@@ -12,20 +15,18 @@ use crate::rule_table::RuleTable;
 use mk_macros::Locals;
 use std::alloc::Global;
 
-/// The commands that make a name, expanded with the macros after all reading; none where it has
-/// none. Faults 11 to 17 at the place of the first command that can't be expanded.
-///
-/// `$<` is the inferred prerequisite, or in a target rule the first one, and `$*` the name without
-/// its known suffix (IEEE Std 1003.1-2024, XCU make, "Internal Macros").
-pub fn commands<'m>(
+/// The commands that make a name, expanded, by what is looked up.
+fn expanded_for<'m>(
     alloc: Global,
     table: &'m RuleTable<'_>,
     exists: &'m Exists,
+    backs: &Backs<'m>,
     name: &str,
 ) -> Result<Commands, InferFault>
+    requires { HasThere table.now exists.now backs.now }
     ensures { Gives (λ found. found) result (commands table.now exists.now name.now) }
 {
-    let making = making(alloc, table, exists, name)?;
+    let making = making(alloc, table, exists, backs, name)?;
     let Some(commands) = making.commands else {
         let lines = Vec::new(alloc);
         return Ok(Commands {
@@ -42,4 +43,26 @@ pub fn commands<'m>(
         all: &needs,
     };
     expanded(alloc, table.macros(), &locals, commands)
+}
+
+/// The commands that make a name, expanded with the macros after all reading; none where it has
+/// none. Faults 11 to 17 at the place of the first command that can't be expanded.
+///
+/// `$<` is the inferred prerequisite, or in a target rule the first one, and `$*` the name without
+/// its known suffix (IEEE Std 1003.1-2024, XCU make, "Internal Macros").
+pub fn commands<'m>(
+    alloc: Global,
+    choices: &'m Choices<'m>,
+    name: &str,
+) -> Result<Commands, InferFault>
+    ensures { Gives (λ found. found) result
+        (commands choices.now.makefile choices.now.exists name.now) }
+{
+    expanded_for(
+        alloc,
+        choices.table(),
+        choices.exists(),
+        choices.backs(),
+        name,
+    )
 }

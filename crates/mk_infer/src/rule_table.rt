@@ -2,13 +2,14 @@
 
 ghost use Rattle.std.specs.Prelude.{◌≡◌, ◌∷◌, ◌++◌, [], List, ℕ, length, map, filter, find, not, ◌||◌, slice_get, true, false, None, Some, MatchOption, OnOk, IfOk, if◌then◌else◌};
 ghost use Rattle.std.specs.Option.{option_copied, option_map, option_map_or};
-ghost use Rattle.std.specs.List.{list_any};
+ghost use Rattle.std.specs.List.{list_all, list_any};
 ghost use Rattle.std.specs.Str.{bytes_eq};
 ghost use Rattle.std.specs.String.{string_bytes};
 ghost use Rattle.indexmap.specs.IndexMap.{get_by};
+ghost use Rattle.mk_lines.specs.Names.{place_from};
 ghost use Rattle.mk_read.specs.Names.{has_name};
 ghost use Rattle.mk_read.specs.Needs.{commands_in, commands_of, is_wait};
-ghost use Rattle.mk_read.specs.Special.{is_inference_name};
+ghost use Rattle.mk_read.specs.Special.{is_inference_name, is_suffix};
 ghost use Rattle.mk_infer.specs.Inference.{but_last, ending, ends_in};
 ghost use Rattle.mk_infer.specs.Targets.{is_target, own_commands, prerequisites_of, rules_for, words_for};
 ghost use Rattle.mk_infer.specs.Table.{AreSources, HasLines, HoldsNames, counts_for, lines_at, lines_of, places_at, targets_in, words_in};
@@ -16,7 +17,7 @@ ghost use Rattle.mk_infer.specs.Table.{AreSources, HasLines, HoldsNames, counts_
 use crate::source_suffixes::{Sources, sources_among};
 use crate::suffix_set::{SuffixSet, suffixes_among};
 use indexmap::IndexMap;
-use mk_lines::NameSet;
+use mk_lines::{NameSet, NameTable};
 use mk_macros::MacroTable;
 use mk_read::{Command, Makefile, Rule};
 use std::alloc::{AllocError, Global};
@@ -73,7 +74,7 @@ fn lines_among<'m>(alloc: Global, rules: &'m [Rule]) -> Result<Lines<'m>, AllocE
 }
 
 /// Adds names, each unless it is there already.
-fn insert_all<'a>(set: &mut NameSet<'a>, names: &'a [String]) -> Result<(), AllocError>
+pub fn insert_all<'a>(set: &mut NameSet<'a>, names: &'a [String]) -> Result<(), AllocError>
     ensures { OnOk result ((name : List ℕ) → has_name set.new name ≡
         (has_name set.old name || has_name (map string_bytes names.entry.now) name)) }
 {
@@ -90,6 +91,17 @@ fn names_among<'m>(alloc: Global, names: &'m [String]) -> Result<NameSet<'m>, Al
     let mut set = NameSet::new(alloc);
     insert_all(&mut set, names)?;
     Ok(set)
+}
+
+/// A list of names, in which each is looked up.
+fn listed(alloc: Global, names: &[String]) -> Result<NameTable, AllocError>
+    ensures { IfOk result (λ table. table ≡ map string_bytes names.now) }
+{
+    let mut copies = Vec::with_capacity(alloc, names.len())?;
+    for name in names {
+        copies.push(name.clone()?)?;
+    }
+    NameTable::new(alloc, copies)
 }
 
 /// The rule line at a place.
@@ -206,6 +218,7 @@ fn targets_among<'m>(alloc: Global, rules: &'m [Rule]) -> Result<NameSet<'m>, Al
 pub struct RuleTable<'m> {
     makefile: &'m Makefile,
     suffixes: SuffixSet<'m>,
+    order: NameTable,
     phony: NameSet<'m>,
     targets: NameSet<'m>,
     lines: Lines<'m>,
@@ -221,7 +234,7 @@ impl<'m> Model for RuleTable<'m> {
     ghost view = { λ t. t.makefile.now };
 
     ghost invariant = { λ t.
-        IsTableOf t.makefile.now t.suffixes t.phony t.targets t.lines t.sources };
+        IsTableOf t.makefile.now t.suffixes t.order t.phony t.targets t.lines t.sources };
 }
 
 impl<'m> RuleTable<'m> {
@@ -232,6 +245,7 @@ impl<'m> RuleTable<'m> {
         Ok(RuleTable {
             makefile,
             suffixes: suffixes_among(alloc, makefile.suffixes())?,
+            order: listed(alloc, makefile.suffixes())?,
             phony: names_among(alloc, makefile.phony())?,
             targets: targets_among(alloc, makefile.rules())?,
             lines: lines_among(alloc, makefile.rules())?,
@@ -266,6 +280,22 @@ impl<'m> RuleTable<'m> {
             Some(sources) => Some(sources.as_slice()),
             None => None,
         }
+    }
+
+    /// Where a suffix first stands in the list of suffixes.
+    pub(crate) fn suffix_place(&self, suffix: &str) -> Option<usize>
+        ensures { result ≡ place_from 0 self.now.suffixes suffix.now }
+    {
+        self.order.place(suffix)
+    }
+
+    /// The targets of all rule lines, each once.
+    pub(crate) fn targets(&self) -> &[&'m str]
+        ensures all { HoldsNames (map (λ target. target.now) result.now)
+            (targets_in self.now.rules) }
+        ensures suffixes { list_all is_suffix self.now.suffixes ≡ true }
+    {
+        self.targets.as_slice()
     }
 
     /// The macros after all reading.

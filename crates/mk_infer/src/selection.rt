@@ -3,9 +3,11 @@
 ghost use Rattle.std.specs.Prelude.{◌≡◌, find, map, IfOk};
 ghost use Rattle.std.specs.Option.{option_map};
 ghost use Rattle.mk_infer.specs.Selection.{Selects};
-ghost use Rattle.mk_infer.specs.Table.{lacks, node_with};
+ghost use Rattle.mk_infer.specs.Table.{HasThere, lacks, node_with};
 ghost use Rattle.mk_infer.specs.Targets.{have_text};
 
+use crate::backs::Backs;
+use crate::choices::Choices;
 use crate::exists::Exists;
 use crate::fault::InferFault;
 use crate::goals::Goals;
@@ -86,23 +88,20 @@ fn first_lacking<'m>(table: &RuleTable<'_>, exists: &Exists, met: &[Met<'m>]) ->
     None
 }
 
-/// The graph of what the goals reach, with the inference rules that are chosen.
-///
-/// Faults as a walk depth first, left to right, from the goals meets them: 41 for a name that is no
-/// target, has no inference rule, isn't phony and isn't given, 43 at the 4,097th name, before 41.
-/// Then 42 where prerequisites form a cycle (IEEE Std 1003.1-2024, XCU make, "Target Rules" and
-/// "Inference Rules"). What a name needs is looked up once.
-pub fn select<'m>(
+/// The graph of what the goals reach, by what is looked up.
+fn selected<'m>(
     alloc: Global,
     table: &'m RuleTable<'_>,
     exists: &'m Exists,
+    backs: &Backs<'m>,
     goals: &'m Goals,
 ) -> Result<Graph, InferFault>
+    requires { HasThere table.now exists.now backs.now }
     ensures { Selects table.now exists.now goals.now result }
 {
     groups_keep_their_words();
     let goals = goals.texts(alloc)?;
-    let walked = walk_from(alloc, table, exists, &goals)?;
+    let walked = walk_from(alloc, table, exists, backs, &goals)?;
     if let Some(name) = first_lacking(table, exists, &walked.met) {
         return Err(InferFault::NoRule(Name::new(alloc, name)?));
     }
@@ -112,4 +111,26 @@ pub fn select<'m>(
     let nodes = nodes_of(alloc, table, &walked.names, &walked.met)?;
     let goals = numbers(alloc, &walked.names, &goals)?;
     Ok(Graph::build(alloc, nodes, goals)?)
+}
+
+/// The graph of what the goals reach, with the inference rules that are chosen.
+///
+/// Faults as a walk depth first, left to right, from the goals meets them: 41 for a name that is no
+/// target, has no inference rule, isn't phony and isn't given, 43 at the 4,097th name, before 41.
+/// Then 42 where prerequisites form a cycle (IEEE Std 1003.1-2024, XCU make, "Target Rules" and
+/// "Inference Rules"). What a name needs is looked up once.
+pub fn select<'m>(
+    alloc: Global,
+    choices: &'m Choices<'m>,
+    goals: &'m Goals,
+) -> Result<Graph, InferFault>
+    ensures { Selects choices.now.makefile choices.now.exists goals.now result }
+{
+    selected(
+        alloc,
+        choices.table(),
+        choices.exists(),
+        choices.backs(),
+        goals,
+    )
 }

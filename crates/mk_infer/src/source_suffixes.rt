@@ -5,8 +5,9 @@ ghost use Rattle.std.specs.Option.{option_map_or};
 ghost use Rattle.std.specs.Str.{bytes_eq};
 ghost use Rattle.std.specs.String.{string_bytes};
 ghost use Rattle.indexmap.specs.IndexMap.{get_by};
-ghost use Rattle.mk_infer.specs.Table.{HasBacks, HasSources, HoldsDotted, IsCut, commanded_in, given, is_dotted, sources_by, texts_at};
+ghost use Rattle.mk_infer.specs.Table.{HasSources, HoldsDotted, commanded_in, given, is_dotted, sources_by, texts_at};
 
+use crate::backs::{Backs, backs_among};
 use indexmap::IndexMap;
 use mk_lines::NameSet;
 use mk_read::{Makefile, Rule};
@@ -16,9 +17,6 @@ use std::alloc::{AllocError, Global};
 /// order of the list of suffixes.
 pub type Sources<'m> = IndexMap<&'m str, Vec<&'m str>>;
 
-/// For the fronts of names what stands behind them.
-type Backs<'m> = IndexMap<&'m str, Vec<&'m str>>;
-
 /// Whether a name begins with a dot, as each inference name does.
 fn is_dotted(name: &[u8]) -> bool
     ensures { result ≡ is_dotted name.now }
@@ -26,18 +24,6 @@ fn is_dotted(name: &[u8]) -> bool
     match name {
         [first, ..] => *first == b'.',
         [] => false,
-    }
-}
-
-/// A name, cut before its last dot, where something stands before that; else the whole name, and
-/// nothing behind it. So a suffix, and two in a row, are cut behind the first suffix.
-fn cut(name: &str) -> (&str, &str)
-    ensures whole { result.0.now ++ result.1.now ≡ name.now }
-    ensures parts { IsCut name.now result.0.now result.1.now }
-{
-    match name.rfind('.') {
-        Some(at) if at > 0 => (&name[..at], &name[at..]),
-        _ => (name, ""),
     }
 }
 
@@ -64,34 +50,6 @@ fn commanded_among<'m>(alloc: Global, rules: &'m [Rule]) -> Result<NameSet<'m>, 
         }
     }
     Ok(set)
-}
-
-/// One more back of a front.
-fn add_back<'m>(
-    alloc: Global,
-    backs: &mut Backs<'m>,
-    front: &'m str,
-    back: &'m str,
-) -> Result<(), AllocError>
-    ensures { OnOk result ((name : List ℕ) →
-        option_map_or (λ texts. texts.items) (get_by (λ k. bytes_eq name k.now) backs.new) []
-        ≡ (if bytes_eq name front.entry.now then option_map_or (λ texts. texts.items) (get_by (λ k. bytes_eq name k.now) backs.old) [] ++ back.entry ∷ [] else option_map_or (λ texts. texts.items) (get_by (λ k. bytes_eq name k.now) backs.old) [])) }
-{
-    let behind = backs.entry(front)?.or_insert(Vec::new(alloc));
-    behind.push(back)?;
-    Ok(())
-}
-
-/// The names, each cut in two.
-fn backs_among<'m>(alloc: Global, names: &NameSet<'m>) -> Result<Backs<'m>, AllocError>
-    ensures { IfOk result (λ backs. HasBacks names.now backs) }
-{
-    let mut backs = IndexMap::new(alloc);
-    for name in names.as_slice() {
-        let (front, back) = cut(name);
-        add_back(alloc, &mut backs, front, back)?;
-    }
-    Ok(backs)
 }
 
 /// One more suffix for an ending.

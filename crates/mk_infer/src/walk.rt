@@ -1,8 +1,9 @@
 //! The walk of the names that goals reach.
 
 ghost use Rattle.std.specs.Prelude.{◌≡◌, map, IfOk};
-ghost use Rattle.mk_infer.specs.Table.{IsWalked};
+ghost use Rattle.mk_infer.specs.Table.{HasThere, IsWalked};
 
+use crate::backs::Backs;
 use crate::exists::Exists;
 use crate::inference::{Maker, making};
 use crate::needs::needs_with;
@@ -52,8 +53,10 @@ pub fn walk_from<'m>(
     alloc: Global,
     table: &'m RuleTable<'_>,
     exists: &'m Exists,
+    backs: &Backs<'m>,
     goals: &[&'m str],
 ) -> Result<Walked<'m>, AllocError>
+    requires { HasThere table.now exists.now backs.now }
     ensures { IfOk result (λ walked.
         IsWalked table.now exists.now (map (λ goal. goal.now) goals.now) walked) }
 {
@@ -68,7 +71,7 @@ pub fn walk_from<'m>(
         if names.as_slice().len() > MAX_NODES {
             return Ok(Walked { names, met });
         }
-        let maker = making(alloc, table, exists, name)?;
+        let maker = making(alloc, table, exists, backs, name)?;
         let mut words = needs_with(alloc, table, maker.choice, name)?;
         met.push(Met { name, maker })?;
         words.reverse();

@@ -10,7 +10,7 @@ use Rattle.mk_infer.specs.Table.{Making}
 use Rattle.mk_infer.specs.Targets.{prerequisites_of}
 use Rattle.mk_infer.proofs.NameLists.{texts}
 use Rattle.mk_infer.proofs.CommandRecipes.{commands_are, first_text, no_commands_are}
-use Rattle.mk_infer.proofs.recipes.commands.Goals as goal
+use Rattle.mk_infer.proofs.recipes.expanded_for.Goals as goal
 
 pub returns-in_default : goal.returns-in_default
 returns-in_default c =

@@ -3,8 +3,8 @@ use Rattle.std.proofs.lemmas.Str.Pattern.{rfind_char}
 use Rattle.mk_infer.specs.Table.{IsCut}
 use Rattle.mk_infer.proofs.LastDots.{IsLastDot, one_last}
 use Rattle.mk_infer.proofs.Sources.{cut_nowhere, cut_there_is}
-use Rattle.mk_infer.proofs.source_suffixes.cut.Goals as goal
-use Rattle.mk_infer.proofs.source_suffixes.cut.Goals.{in_default-via-in-Some+else-at-gt0, in_default-via-in_default}
+use Rattle.mk_infer.proofs.backs.cut.Goals as goal
+use Rattle.mk_infer.proofs.backs.cut.Goals.{in_default-via-in-Some+else-at-gt0, in_default-via-in_default}
 
 pub returns-in-Some-clause-parts : goal.returns-in-Some-clause-parts
 returns-in-Some-clause-parts c =

@@ -9,7 +9,7 @@ use Rattle.mk_lines.specs.Names.{number_of}
 use Rattle.mk_infer.specs.Table.{IsWalked, Walked, node_with}
 use Rattle.mk_infer.proofs.NameLists.{texts}
 use Rattle.mk_infer.proofs.Selecting.{built_err, built_ok, first_of, handed, one_lacks, sound_handed, too_many_met}
-use Rattle.mk_infer.proofs.selection.select.Goals as goal
+use Rattle.mk_infer.proofs.selection.selected.Goals as goal
 
 pub returns-in-Some : goal.returns-in-Some
 returns-in-Some c =

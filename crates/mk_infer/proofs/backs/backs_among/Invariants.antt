@@ -1,7 +1,7 @@
 use Rattle.std.proofs.Common.{take}
 use Rattle.mk_infer.specs.Table.{HasBacks}
 use Rattle.mk_infer.proofs.NameLists.{texts}
-use Rattle.mk_infer.proofs.source_suffixes.backs_among.Given as goal
+use Rattle.mk_infer.proofs.backs.backs_among.Given as goal
 
 -- the names so far
 abbrev pub invariant-loop-name : goal.invariant-loop-name

@@ -1,6 +1,6 @@
 use Rattle.std.proofs.Common.{arith}
 use Rattle.std.proofs.lemmas.Grind.{text_groups}
-use Rattle.mk_infer.proofs.source_suffixes.add_back.Goals as goal
+use Rattle.mk_infer.proofs.backs.add_back.Goals as goal
 
 pub returns : goal.returns
 returns c = λ name. grind (arith, text_groups)
