@@ -28,7 +28,7 @@ fn insert_lent<'a>(set: &mut NameSet<'a>, names: &[&'a str]) -> Result<(), Alloc
 fn names_there<'m>(
     alloc: Global,
     table: &'m RuleTable<'m>,
-    exists: &'m Exists,
+    exists: &'m Exists<'m>,
 ) -> Result<NameSet<'m>, AllocError>
     ensures all { IfOk result (λ names. ListsThere table.now exists.now names) }
     ensures suffixes { IfOk result (λ names. list_all is_suffix table.now.suffixes ≡ true) }
@@ -46,7 +46,7 @@ fn names_there<'m>(
 #[derive(Drop)]
 pub struct Choices<'m> {
     table: &'m RuleTable<'m>,
-    exists: &'m Exists,
+    exists: &'m Exists<'m>,
     backs: Backs<'m>,
 }
 
@@ -67,7 +67,7 @@ impl<'m> Choices<'m> {
     pub fn new(
         alloc: Global,
         table: &'m RuleTable<'m>,
-        exists: &'m Exists,
+        exists: &'m Exists<'m>,
     ) -> Result<Choices<'m>, AllocError>
         ensures { IfOk result (λ choices. choices ≡
             record { makefile = table.now; exists = exists.now }) }
@@ -89,7 +89,7 @@ impl<'m> Choices<'m> {
     }
 
     /// What is there.
-    pub(crate) fn exists(&self) -> &'m Exists
+    pub(crate) fn exists(&self) -> &'m Exists<'m>
         ensures { result.now ≡ self.now.exists }
     {
         self.exists

@@ -54,7 +54,7 @@ fn joined(alloc: Global, front: &str, back: &str) -> Result<String, AllocError>
 }
 
 /// The name itself, where it is there.
-fn found_there<'m>(table: &'m RuleTable<'_>, exists: &'m Exists, name: &str) -> Option<&'m str>
+fn found_there<'m>(table: &'m RuleTable<'_>, exists: &'m Exists<'_>, name: &str) -> Option<&'m str>
     ensures { MatchOption result (is_there table.now exists.now name.now ≡
         false) (λ found. (found.now ≡ name.now) × (is_there table.now exists.now name.now ≡ true)) }
 {
@@ -69,7 +69,7 @@ fn found_there<'m>(table: &'m RuleTable<'_>, exists: &'m Exists, name: &str) -> 
 fn chosen_by<'m>(
     alloc: Global,
     table: &'m RuleTable<'_>,
-    exists: &'m Exists,
+    exists: &'m Exists<'_>,
     stem: &str,
     ending: &str,
     suffix: &str,
@@ -92,7 +92,7 @@ fn chosen_by<'m>(
 fn first_fitting<'m>(
     alloc: Global,
     table: &'m RuleTable<'_>,
-    exists: &'m Exists,
+    exists: &'m Exists<'_>,
     stem: &str,
     ending: &str,
     suffixes: &[&str],
@@ -131,7 +131,7 @@ impl<'m> Model for Placed<'m> {
 fn least_with<'m>(
     alloc: Global,
     table: &'m RuleTable<'_>,
-    exists: &'m Exists,
+    exists: &'m Exists<'_>,
     stem: &str,
     ending: &str,
     least: Option<Placed<'m>>,
@@ -164,7 +164,7 @@ fn least_with<'m>(
 fn least_fitting<'m>(
     alloc: Global,
     table: &'m RuleTable<'_>,
-    exists: &'m Exists,
+    exists: &'m Exists<'_>,
     stem: &str,
     ending: &str,
     suffixes: &[&'m str],
@@ -183,7 +183,7 @@ fn least_fitting<'m>(
 
 /// Whether a name may get an inference rule: it has no commands of its own, isn't phony, and isn't
 /// under a fixed prefix.
-fn may_infer(table: &RuleTable<'_>, exists: &Exists, name: &str) -> bool
+fn may_infer(table: &RuleTable<'_>, exists: &Exists<'_>, name: &str) -> bool
     ensures { result ≡ may_infer table.now exists.now name.now }
 {
     !(table.own_commands(name).is_some() || table.is_phony(name) || exists.fixed.is_under(name))
@@ -194,7 +194,7 @@ fn may_infer(table: &RuleTable<'_>, exists: &Exists, name: &str) -> bool
 fn fitting<'m>(
     alloc: Global,
     table: &'m RuleTable<'_>,
-    exists: &'m Exists,
+    exists: &'m Exists<'_>,
     backs: &Backs<'m>,
     stem: &str,
     ending: &str,
@@ -227,7 +227,7 @@ fn fitting<'m>(
 fn inferred<'m>(
     alloc: Global,
     table: &'m RuleTable<'_>,
-    exists: &'m Exists,
+    exists: &'m Exists<'_>,
     backs: &Backs<'m>,
     name: &str,
 ) -> Result<Option<Chosen<'m>>, AllocError>
@@ -273,7 +273,7 @@ impl<'m> Model for Maker<'m> {
 pub fn making<'m>(
     alloc: Global,
     table: &'m RuleTable<'_>,
-    exists: &'m Exists,
+    exists: &'m Exists<'_>,
     backs: &Backs<'m>,
     name: &str,
 ) -> Result<Maker<'m>, AllocError>

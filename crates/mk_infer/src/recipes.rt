@@ -19,7 +19,7 @@ use std::alloc::Global;
 fn expanded_for<'m>(
     alloc: Global,
     table: &'m RuleTable<'_>,
-    exists: &'m Exists,
+    exists: &'m Exists<'_>,
     backs: &Backs<'m>,
     name: &str,
 ) -> Result<Commands, InferFault>

@@ -52,7 +52,7 @@ impl<'m> Model for Walked<'m> {
 pub fn walk_from<'m>(
     alloc: Global,
     table: &'m RuleTable<'_>,
-    exists: &'m Exists,
+    exists: &'m Exists<'_>,
     backs: &Backs<'m>,
     goals: &[&'m str],
 ) -> Result<Walked<'m>, AllocError>
