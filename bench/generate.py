@@ -148,14 +148,15 @@ SUFFIXES_BOOK = "suffixes/footprints.json"
 
 
 def suffixes(count: int) -> Generated:
-    """A program of `count` objects that are there, for which twice as many suffixes come into question."""
+    """A program of `count` objects that are there, made by twice as many rules: half onto `.o`, half onto `.a`."""
     numbers = range(1, 2 * count + 1)
     names = [f".s{number}" for number in numbers]
     objects = [f"suffixes/x{number}.o" for number in range(1, count + 1)]
     starts = range(0, len(names), PREREQUISITES_A_LINE)
     lists = [f".SUFFIXES: {' '.join(names[start : start + PREREQUISITES_A_LINE])}\n" for start in starts]
     inference = [".SUFFIXES:\n", *lists, ".SUFFIXES: .c .o .a\n.c.o:\n\ttouch $@\n"]
-    others = [f"{name}.a:\n\ttouch $@\n" for name in names]
+    endings = [".o" if number % 2 else ".a" for number in numbers]
+    others = [f"{name}{ending}:\n\ttouch $@\n" for name, ending in zip(names, endings)]
     text = "".join([*inference, recipe("all", []), gather(objects), *others])
     book = json.dumps({"format": 1, "fixed": [], "sources": objects, "records": []})
     return Generated(text, nodes=count + 1, recipes=1, files={**dict.fromkeys(objects, ""), SUFFIXES_BOOK: book})

@@ -2,7 +2,9 @@
 
 use crate::fixtures::{field, fields_of, file_of, names};
 use mk_graph::Graph;
-use mk_infer::{Commands, Exists, InferFault, RuleTable, choice, commands, goal_names, select};
+use mk_infer::{
+    Choices, Commands, Exists, InferFault, RuleTable, choice, commands, goal_names, select,
+};
 use mk_lines::{Name, NameTable, Prefixes};
 use mk_read::{Makefile, read_makefile};
 use std::alloc::{AllocError, Global};
@@ -21,15 +23,34 @@ fn table(alloc: Global, words: &str) -> Result<NameTable, Fail> {
     Ok(NameTable::new(alloc, names(alloc, words)?)?)
 }
 
+/// ThereTables of what is there.
+#[derive(Drop)]
+struct ThereTables {
+    sources: NameTable,
+    fixed: Prefixes,
+    texts: NameTable,
+    more: NameTable,
+}
+
 /// These sources and fixed prefixes, and `m.c` as a name more that counts as there.
-fn exists(alloc: Global, any_leaf: bool, sources: &str, fixed: &str) -> Result<Exists, Fail> {
-    Ok(Exists {
-        any_leaf,
+fn tables(alloc: Global, sources: &str, fixed: &str) -> Result<ThereTables, Fail> {
+    Ok(ThereTables {
         sources: table(alloc, sources)?,
         fixed: Prefixes::new(alloc, names(alloc, fixed)?)?,
         texts: table(alloc, "makefile")?,
         more: table(alloc, "m.c")?,
     })
+}
+
+/// What is there by these tables.
+fn exists(tables: &ThereTables, any_leaf: bool) -> Exists<'_> {
+    Exists {
+        any_leaf,
+        sources: &tables.sources,
+        fixed: &tables.fixed,
+        texts: &tables.texts,
+        more: &tables.more,
+    }
 }
 
 /// The names with these numbers, each behind a byte.
@@ -72,7 +93,7 @@ fn shown(alloc: Global, graph: &Graph) -> Result<Vec<u8>, AllocError> {
 fn graph_shown(
     alloc: Global,
     table: &RuleTable<'_>,
-    exists: &Exists,
+    exists: &Exists<'_>,
     goals: &[Name],
 ) -> Result<Vec<u8>, Fail> {
     match selected(alloc, table, exists, goals) {
@@ -85,7 +106,7 @@ fn graph_shown(
 fn makefile_graph(
     alloc: Global,
     makefile: &Makefile,
-    exists: &Exists,
+    exists: &Exists<'_>,
     goals: &[Name],
 ) -> Result<Vec<u8>, Fail> {
     let table = RuleTable::new(alloc, makefile)?;
@@ -93,7 +114,7 @@ fn makefile_graph(
 }
 
 /// The same of a text's first goal.
-fn graph_of(alloc: Global, text: &[u8], exists: &Exists) -> Result<Vec<u8>, Fail> {
+fn graph_of(alloc: Global, text: &[u8], exists: &Exists<'_>) -> Result<Vec<u8>, Fail> {
     let makefile = makefile(alloc, text, true, "CC=cc")?;
     makefile_graph(alloc, &makefile, exists, &[])
 }
@@ -101,11 +122,12 @@ fn graph_of(alloc: Global, text: &[u8], exists: &Exists) -> Result<Vec<u8>, Fail
 fn selected(
     alloc: Global,
     table: &RuleTable<'_>,
-    exists: &Exists,
+    exists: &Exists<'_>,
     words: &[Name],
 ) -> Result<Graph, InferFault> {
     let goals = goal_names(alloc, table, words)?;
-    select(alloc, table, exists, &goals)
+    let choices = Choices::new(alloc, table, exists)?;
+    select(alloc, &choices, &goals)
 }
 
 /// The number of a fault, with its line or its name.
@@ -124,13 +146,18 @@ fn fault_words(alloc: Global, fault: &InferFault) -> Result<Vec<u8>, Fail> {
 }
 
 /// What is shown of the graph of a row's makefile.
-fn graph_of_row(alloc: Global, exists: &Exists, fields: &[&str]) -> Result<Vec<u8>, Fail> {
+fn graph_of_row(alloc: Global, exists: &Exists<'_>, fields: &[&str]) -> Result<Vec<u8>, Fail> {
     let text = field(alloc, fields, 0)?;
     graph_of(alloc, text.as_bytes(), exists)
 }
 
 /// Expects the second field of a row to be shown.
-fn expect_graph(rt: &impl Abort, alloc: Global, exists: &Exists, row: &str) -> Result<(), Fail> {
+fn expect_graph(
+    rt: &impl Abort,
+    alloc: Global,
+    exists: &Exists<'_>,
+    row: &str,
+) -> Result<(), Fail> {
     let fields = fields_of(alloc, row)?;
     let got = graph_of_row(alloc, exists, &fields)?;
     let wanted = field(alloc, &fields, 1)?;
@@ -139,7 +166,12 @@ fn expect_graph(rt: &impl Abort, alloc: Global, exists: &Exists, row: &str) -> R
 }
 
 /// Each line of the table is a row.
-fn expect_graphs(rt: &impl Abort, alloc: Global, exists: &Exists, table: &str) -> Result<(), Fail> {
+fn expect_graphs(
+    rt: &impl Abort,
+    alloc: Global,
+    exists: &Exists<'_>,
+    table: &str,
+) -> Result<(), Fail> {
     for row in table.lines() {
         expect_graph(rt, alloc, exists, row)?;
     }
@@ -150,6 +182,8 @@ fn expect_graphs(rt: &impl Abort, alloc: Global, exists: &Exists, table: &str) -
 const GRAPHS: &str = r"p: a.o¶→$(CC) -o $@ $^¶a.o:¶a.c:‖p!| a.o¶a.o!| a.c¶a.c¶
 .SUFFIXES: .s¶.s.o:¶→as -o $@ $<¶x.o:¶x.s:¶x.c:‖x.o!| x.c¶x.c¶
 prog:¶prog.c:‖prog!| prog.c¶prog.c¶
+.SUFFIXES: .w .y .z¶.z.o:¶→zz $<¶.y.o:¶→yy $<¶.w.o:¶→ww $<¶x.o:¶x.z:¶x.y:‖x.o!| x.y¶x.y¶
+.SUFFIXES: .w .y .z¶.z.o:¶→zz $<¶.y.o:¶→yy $<¶.w.o:¶→ww $<¶x.o:¶x.q:‖x.o¶
 m.o:‖m.o!| m.c¶m.c¶
 n.o:‖n.o¶
 a.c:¶a.c.sh:‖a.c¶
@@ -168,7 +202,8 @@ a: b¶b: a‖graph";
 
 #[test]
 fn selects_graphs(rt: HostRuntime) -> Result<(), Fail> {
-    let exists = exists(rt.alloc(), true, "", "")?;
+    let tables = tables(rt.alloc(), "", "")?;
+    let exists = exists(&tables, true);
     expect_graphs(&rt, rt.alloc(), &exists, GRAPHS)
 }
 
@@ -184,7 +219,8 @@ p: /usr/a.o¶/usr/a.c:‖p| /usr/a.o¶/usr/a.o¶
 
 #[test]
 fn minds_what_is_given(rt: HostRuntime) -> Result<(), Fail> {
-    let exists = exists(rt.alloc(), false, "a.c", "/usr/")?;
+    let tables = tables(rt.alloc(), "a.c", "/usr/")?;
+    let exists = exists(&tables, false);
     expect_graphs(&rt, rt.alloc(), &exists, GIVEN)
 }
 
@@ -202,13 +238,8 @@ fn lines_text(alloc: Global, found: &Commands) -> Result<Vec<u8>, AllocError> {
 }
 
 /// The commands of a name, or the words of the fault.
-fn told(
-    alloc: Global,
-    table: &RuleTable<'_>,
-    exists: &Exists,
-    name: &str,
-) -> Result<Vec<u8>, Fail> {
-    match commands(alloc, table, exists, name) {
+fn told(alloc: Global, choices: &Choices<'_>, name: &str) -> Result<Vec<u8>, Fail> {
+    match commands(alloc, choices, name) {
         Ok(found) => Ok(lines_text(alloc, &found)?),
         Err(fault) => Ok(fault_words(alloc, &fault)?),
     }
@@ -217,12 +248,11 @@ fn told(
 /// Whether a name has this inferred prerequisite.
 fn has_choice(
     alloc: Global,
-    table: &RuleTable<'_>,
-    exists: &Exists,
+    choices: &Choices<'_>,
     name: &str,
     wanted: &str,
 ) -> Result<bool, AllocError> {
-    match choice(alloc, table, exists, name)? {
+    match choice(alloc, choices, name)? {
         Some(found) => Ok(found == wanted),
         None => Ok(false),
     }
@@ -235,28 +265,22 @@ const OBJECT: &[u8] = b"d/a.o: b b\n\techo $* $< $^ $+ $(X)\nb.o:\nb.c:\nv: b\n\
 fn see_told(
     rt: &impl Abort,
     alloc: Global,
-    table: &RuleTable<'_>,
-    exists: &Exists,
+    choices: &Choices<'_>,
     name: &str,
     want: &[u8],
 ) -> Result<(), Fail> {
-    let found = told(alloc, table, exists, name)?;
+    let found = told(alloc, choices, name)?;
     assert_eq!(rt; found.as_slice(), want, "of {name}");
     Ok(())
 }
 
 /// Sees the commands of three names, and the inferred prerequisite of one.
-fn see_commands(
-    rt: &impl Abort,
-    alloc: Global,
-    table: &RuleTable<'_>,
-    exists: &Exists,
-) -> Result<(), Fail> {
-    see_told(rt, alloc, table, exists, "d/a.o", b"\necho d/a b b b b 2")?;
-    see_told(rt, alloc, table, exists, "v", b"?\necho ")?;
-    see_told(rt, alloc, table, exists, "b.o", b"\ncc -O1 -c b.c")?;
-    assert!(rt; has_choice(alloc, table, exists, "b.o", "b.c")?);
-    assert!(rt; !has_choice(alloc, table, exists, "b.c", "b.c")?);
+fn see_commands(rt: &impl Abort, alloc: Global, choices: &Choices<'_>) -> Result<(), Fail> {
+    see_told(rt, alloc, choices, "d/a.o", b"\necho d/a b b b b 2")?;
+    see_told(rt, alloc, choices, "v", b"?\necho ")?;
+    see_told(rt, alloc, choices, "b.o", b"\ncc -O1 -c b.c")?;
+    assert!(rt; has_choice(alloc, choices, "b.o", "b.c")?);
+    assert!(rt; !has_choice(alloc, choices, "b.c", "b.c")?);
     Ok(())
 }
 
@@ -265,20 +289,22 @@ fn see_makefile(
     rt: &impl Abort,
     alloc: Global,
     makefile: &Makefile,
-    exists: &Exists,
+    exists: &Exists<'_>,
 ) -> Result<(), Fail> {
     let table = RuleTable::new(alloc, makefile)?;
-    see_commands(rt, alloc, &table, exists)
+    let choices = Choices::new(alloc, &table, exists)?;
+    see_commands(rt, alloc, &choices)
 }
 
 /// The same over a text.
-fn see_text(rt: &impl Abort, alloc: Global, text: &[u8], exists: &Exists) -> Result<(), Fail> {
+fn see_text(rt: &impl Abort, alloc: Global, text: &[u8], exists: &Exists<'_>) -> Result<(), Fail> {
     let makefile = makefile(alloc, text, true, "CC=cc")?;
     see_makefile(rt, alloc, &makefile, exists)
 }
 
 #[test]
 fn expands_commands(rt: HostRuntime) -> Result<(), Fail> {
-    let exists = exists(rt.alloc(), true, "", "")?;
+    let tables = tables(rt.alloc(), "", "")?;
+    let exists = exists(&tables, true);
     see_text(&rt, rt.alloc(), OBJECT, &exists)
 }
