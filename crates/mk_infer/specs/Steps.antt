@@ -1,13 +1,21 @@
 -- Results in steps: the first fault is the result.
-use Rattle.std.specs.Prelude.{Result, Ok, Err}
+use Rattle.std.specs.Prelude.{Bool, true, false, Result, Ok, Err}
 use Rattle.mk_graph.specs.declared.fault.GraphFault.{GraphFault}
 use Rattle.mk_graph.specs.declared.fault.GraphFault.TheVariants as graph
 use Rattle.mk_macros.specs.declared.fault.MacroFault.{MacroFault}
+use Rattle.mk_macros.specs.declared.fault.MacroFault.TheVariants as macro
 use Rattle.mk_read.specs.declared.fault.Place.{Place}
 use Rattle.mk_infer.specs.declared.fault.InferFault.{InferFault}
 use Rattle.mk_infer.specs.declared.fault.InferFault.TheVariants.{Macro, Graph, Memory}
 pub use Rattle.mk_lines.specs.Results.{◌>>=◌}
 use Rattle.mk_lines.specs.Results as results
+
+-- want of memory, whatever met it
+abbrev pub is_want_of_memory : InferFault → Bool
+is_want_of_memory Memory = true
+is_want_of_memory (Macro place macro.Memory) = true
+is_want_of_memory (Graph graph.Memory) = true
+is_want_of_memory fault = false
 
 -- the fault of a macro is one at this place
 abbrev pub at_place : {A : Type 0} → Place → Result A MacroFault → Result A InferFault

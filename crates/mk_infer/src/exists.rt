@@ -8,23 +8,23 @@ use mk_lines::{NameTable, Prefixes};
 use std::marker::Model;
 
 /// The files that are there before a make, and the names that count as there or as given beside
-/// them. A contract sees lists of names.
+/// them. It borrows the tables of what a build starts from. A contract sees lists of names.
 #[derive(Drop)]
-pub struct Exists {
+pub struct Exists<'a> {
     /// Whether any name without a rule is given. It makes no name one that is there for the choice
     /// of an inference rule.
     pub any_leaf: bool,
     /// The sources.
-    pub sources: NameTable,
+    pub sources: &'a NameTable,
     /// The fixed prefixes: a name under one of them is given, and gets no inference rule.
-    pub fixed: Prefixes,
+    pub fixed: &'a Prefixes,
     /// The texts of the makefile.
-    pub texts: NameTable,
+    pub texts: &'a NameTable,
     /// Names more that count as there for the choice of an inference rule.
-    pub more: NameTable,
+    pub more: &'a NameTable,
 }
 
-impl Model for Exists {
+impl<'a> Model for Exists<'a> {
     ghost use Rattle.mk_infer.specs.There as value;
 
     ghost Value = { value.Exists };
@@ -32,14 +32,14 @@ impl Model for Exists {
     ghost view = { λ e.
         record {
           any_leaf = e.any_leaf;
-          sources = e.sources;
-          fixed = e.fixed;
-          texts = e.texts;
-          more = e.more;
+          sources = e.sources.now;
+          fixed = e.fixed.now;
+          texts = e.texts.now;
+          more = e.more.now;
         } };
 }
 
-impl Exists {
+impl<'a> Exists<'a> {
     /// Whether a name is given: a source, under a fixed prefix, or a text of the makefile.
     pub(crate) fn is_given(&self, name: &str) -> bool
         ensures { result ≡ is_given self.now name.now }

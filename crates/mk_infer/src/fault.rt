@@ -1,7 +1,7 @@
 //! Why goals have no graph, and why commands aren't expanded.
 
 ghost use Rattle.std.specs.Prelude.{◌≡◌};
-ghost use Rattle.mk_infer.specs.Steps.{of_graph};
+ghost use Rattle.mk_infer.specs.Steps.{is_want_of_memory, of_graph};
 ghost use Rattle.mk_infer.specs.declared.fault.InferFault.TheVariants.{Memory};
 
 use mk_graph::GraphFault;
@@ -38,8 +38,22 @@ pub enum InferFault {
     #[error(transparent)]
     Graph(GraphFault),
     /// A growth was refused, which may come in place of any answer.
-    #[error("want of memory")]
+    #[error("memory ran out")]
     Memory,
+}
+
+impl InferFault {
+    /// Whether a growth was refused, whatever met it.
+    pub fn is_want_of_memory(&self) -> bool
+        ensures { result ≡ is_want_of_memory self.now }
+    {
+        matches!(
+            self,
+            InferFault::Memory
+                | InferFault::Macro(_, MacroFault::Memory)
+                | InferFault::Graph(GraphFault::Memory)
+        )
+    }
 }
 
 impl From<GraphFault> for InferFault {

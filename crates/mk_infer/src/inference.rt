@@ -52,7 +52,7 @@ fn joined(alloc: Global, front: &str, back: &str) -> Result<String, AllocError>
 }
 
 /// The name itself, where it is there.
-fn found_there<'m>(table: &'m RuleTable<'_>, exists: &'m Exists, name: &str) -> Option<&'m str>
+fn found_there<'m>(table: &'m RuleTable<'_>, exists: &'m Exists<'_>, name: &str) -> Option<&'m str>
     ensures { MatchOption result (is_there table.now exists.now name.now ≡
         false) (λ found. (found.now ≡ name.now) × (is_there table.now exists.now name.now ≡ true)) }
 {
@@ -67,7 +67,7 @@ fn found_there<'m>(table: &'m RuleTable<'_>, exists: &'m Exists, name: &str) -> 
 fn chosen_by<'m>(
     alloc: Global,
     table: &'m RuleTable<'_>,
-    exists: &'m Exists,
+    exists: &'m Exists<'_>,
     stem: &str,
     ending: &str,
     suffix: &str,
@@ -90,7 +90,7 @@ fn chosen_by<'m>(
 fn first_fitting<'m>(
     alloc: Global,
     table: &'m RuleTable<'_>,
-    exists: &'m Exists,
+    exists: &'m Exists<'_>,
     stem: &str,
     ending: &str,
     suffixes: &[&str],
@@ -110,7 +110,7 @@ fn first_fitting<'m>(
 
 /// Whether a name may get an inference rule: it has no commands of its own, isn't phony, and isn't
 /// under a fixed prefix.
-fn may_infer(table: &RuleTable<'_>, exists: &Exists, name: &str) -> bool
+fn may_infer(table: &RuleTable<'_>, exists: &Exists<'_>, name: &str) -> bool
     ensures { result ≡ may_infer table.now exists.now name.now }
 {
     !(table.own_commands(name).is_some() || table.is_phony(name) || exists.fixed.is_under(name))
@@ -120,7 +120,7 @@ fn may_infer(table: &RuleTable<'_>, exists: &Exists, name: &str) -> bool
 fn inferred<'m>(
     alloc: Global,
     table: &'m RuleTable<'_>,
-    exists: &'m Exists,
+    exists: &'m Exists<'_>,
     name: &str,
 ) -> Result<Option<Chosen<'m>>, AllocError>
     ensures { IfOk result (λ chosen. chosen ≡
@@ -164,7 +164,7 @@ impl<'m> Model for Maker<'m> {
 pub fn making<'m>(
     alloc: Global,
     table: &'m RuleTable<'_>,
-    exists: &'m Exists,
+    exists: &'m Exists<'_>,
     name: &str,
 ) -> Result<Maker<'m>, AllocError>
     ensures { IfOk result (λ making. making ≡ making_of table.now exists.now name.now) }
@@ -189,7 +189,7 @@ pub fn making<'m>(
 pub fn choice<'m>(
     alloc: Global,
     table: &'m RuleTable<'_>,
-    exists: &'m Exists,
+    exists: &'m Exists<'_>,
     name: &str,
 ) -> Result<Option<&'m str>, AllocError>
     ensures { IfOk result (λ found. option_map (λ name. name.now) found ≡

@@ -20,7 +20,7 @@ use std::alloc::Global;
 pub fn commands<'m>(
     alloc: Global,
     table: &'m RuleTable<'_>,
-    exists: &'m Exists,
+    exists: &'m Exists<'_>,
     name: &str,
 ) -> Result<Commands, InferFault>
     ensures { Gives (λ found. found) result (commands table.now exists.now name.now) }

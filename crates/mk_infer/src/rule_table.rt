@@ -239,11 +239,11 @@ impl<'m> RuleTable<'m> {
         })
     }
 
-    /// The names of the makefile's texts.
-    pub fn texts(&self) -> &[String]
-        ensures { map string_bytes result.now ≡ self.now.texts }
+    /// The makefile.
+    pub fn makefile(&self) -> &'m Makefile
+        ensures { result.now ≡ self.now }
     {
-        self.makefile.texts()
+        self.makefile
     }
 
     /// The rule lines, in their order.

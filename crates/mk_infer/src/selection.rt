@@ -63,7 +63,7 @@ fn nodes_of(
 
 /// Whether nothing makes a name: it is no target, has no inference rule, isn't phony and isn't
 /// given.
-fn is_lacking(table: &RuleTable<'_>, exists: &Exists, met: &Met<'_>) -> bool
+fn is_lacking(table: &RuleTable<'_>, exists: &Exists<'_>, met: &Met<'_>) -> bool
     ensures { result ≡ lacks table.now exists.now met.now }
 {
     !(exists.any_leaf
@@ -74,7 +74,7 @@ fn is_lacking(table: &RuleTable<'_>, exists: &Exists, met: &Met<'_>) -> bool
 }
 
 /// The first of the names that nothing makes.
-fn first_lacking<'m>(table: &RuleTable<'_>, exists: &Exists, met: &[Met<'m>]) -> Option<&'m str>
+fn first_lacking<'m>(table: &RuleTable<'_>, exists: &Exists<'_>, met: &[Met<'m>]) -> Option<&'m str>
     ensures { option_map (λ name. name.now) result ≡
         option_map (λ found. found.name) (find (lacks table.now exists.now) met.now) }
 {
@@ -95,7 +95,7 @@ fn first_lacking<'m>(table: &RuleTable<'_>, exists: &Exists, met: &[Met<'m>]) ->
 pub fn select<'m>(
     alloc: Global,
     table: &'m RuleTable<'_>,
-    exists: &'m Exists,
+    exists: &'m Exists<'_>,
     goals: &'m Goals,
 ) -> Result<Graph, InferFault>
     ensures { Selects table.now exists.now goals.now result }

@@ -51,7 +51,7 @@ impl<'m> Model for Walked<'m> {
 pub fn walk_from<'m>(
     alloc: Global,
     table: &'m RuleTable<'_>,
-    exists: &'m Exists,
+    exists: &'m Exists<'_>,
     goals: &[&'m str],
 ) -> Result<Walked<'m>, AllocError>
     ensures { IfOk result (λ walked.
