@@ -1,329 +1,190 @@
 -- What is answered where a step fails, and where all of them succeed.
-use Rattle.std.proofs.Common.{◌≡◌, ℕ, Bool, true, false, List, [], ◌∷◌, ◌++◌, Option, None, Some, Result, Ok, Err, Vec, inl, inr, refl, sym, ap, subst, ◌∙◌}
-use Rattle.std.specs.Option.{option_map_or}
+use Rattle.std.proofs.Common.{◌≡◌, ℕ, Bool, true, false, List, Option, None, Some, Result, Ok, Err, Vec, cond, inl, inr, refl, sym, ap, subst, ◌∙◌}
 use Rattle.std.specs.declared.alloc.Global.{Global}
+use Rattle.std.specs.Option.{is_none, ok_or, option_map_or}
+use Rattle.std.specs.Str.{bytes_eq}
 use Rattle.mk_graph.specs.Graph as value
-use Rattle.mk_infer.specs.Commands.{Commands, commands}
-use Rattle.mk_infer.specs.Goals.{goal_names}
-use Rattle.mk_infer.specs.Selection.{Selects}
-use Rattle.mk_infer.specs.Steps as inferring
-use Rattle.mk_infer.specs.There.{Exists}
-use Rattle.mk_infer.specs.declared.fault.InferFault.{InferFault}
-use Rattle.mk_infer.specs.declared.fault.InferFault.TheVariants as infer
 use Rattle.mk_foot.specs.Book.{Book}
 use Rattle.mk_foot.specs.Reading.{book_from}
 use Rattle.mk_foot.specs.declared.fault.FootFault.{FootFault}
+use Rattle.mk_infer.specs.Goals.{goal_names}
+use Rattle.mk_infer.specs.Selection.{Selects}
+use Rattle.mk_infer.specs.Steps as inferring
+use Rattle.mk_infer.specs.declared.fault.InferFault.{InferFault}
 use Rattle.mk_read.specs.declared.fault.ReadFault.{ReadFault}
-use Rattle.mk_read.specs.declared.fault.ReadFault.TheVariants as read
 use Rattle.mk_read.specs.Files.{Told, text_at}
 use Rattle.mk_read.specs.Following as following
 use Rattle.mk_read.specs.Reading.{Makefile, makefile}
 use Rattle.mk_core.specs.declared.fault.Fault.{Fault}
 use Rattle.mk_core.specs.declared.fault.Fault.TheVariants.{Read, Infer, Foot, FileReadFailed, NoFile, Memory}
 use Rattle.mk_core.specs.declared.request.Request.{Request}
-use Rattle.mk_core.specs.Answer.{Answers, Draws, DrawsGoals, DrawsGraph, DrawsThere, Prints, makefile_for}
-use Rattle.mk_core.specs.FilesThere.{FileReads, there_by, there_for}
-use Rattle.mk_core.specs.Views.{AnswersOver, DrawsFor, DrawsOver, FindsThere}
-use Rattle.mk_core.specs.GraphText.{goals_text, graph_text, lines_of, nodes_text, shown_lines, shown_node, commands_text, node_text}
-use Rattle.mk_core.specs.Steps.{◌>>=◌, Gives, of_infer, of_read, seen}
-use Rattle.mk_graph.specs.Serial.{serial_order}
-use Rattle.mk_graph.specs.Graph.{node}
+use Rattle.mk_core.specs.Answer.{Answers, Draws, failed_file, failing_of}
+use Rattle.mk_core.specs.GraphAnswer.{AnswersGraph}
+use Rattle.mk_core.specs.GraphText.{graph_text, shown_lines}
+use Rattle.mk_core.specs.Ready.{Ready, book_for, exists, makefile_for, ready_for, setting_of}
+use Rattle.mk_core.specs.Steps.{◌>>=◌, as_fault, of_infer, of_read, seen}
+use Rattle.mk_core.specs.Views.{AnswersOver, Finds, PrintsOver, ready_over, ready_with}
+use Rattle.mk_core.proofs.Faults.{by_infer, by_read}
 
--- ---- the faults of commands
+-- ---- the graph, and what is printed of it
 
--- it is a fault of commands
-abbrev pub IsOfCommands : Fault → Type 0
-IsOfCommands fault = (f : InferFault) × (fault ≡ Infer f)
+module _ (asked : Bool) (ready : Ready) where
+  -- the goals have no graph
+  pub graph_fails : (fault : InferFault) → Selects ready.makefile (exists ready) ready.goals (Err fault) → PrintsOver asked ready (Err fault)
+  graph_fails fault s settled = (Err fault, s, (settled, refl))
 
-of_error : {A : Type 0} → Result A Fault → Fault
+  -- the graph is printed, or its commands have a fault
+  pub graph_printed : (g : value.Graph) (found : Result (Vec ℕ Global) InferFault) → Selects ready.makefile (exists ready) ready.goals (Ok g)
+      → inferring.Gives (λ text. text.items) found (graph_text (shown_lines asked ready.makefile (exists ready)) g) → PrintsOver asked ready (seen (λ text. text.items) found)
+  graph_printed g (Ok text) s h = (Ok g, s, sym h)
+  graph_printed g (Err fault) s (inl k) = λ settled. let e : true ≡ false = ap inferring.is_want_of_memory (sym k) ∙ settled in absurd cc
+  graph_printed g (Err fault) s (inr h) = λ settled. (Ok g, s, sym h)
+
+-- the command `graph` answers no fault of a makefile
+pub graph_not_read : (asked : Bool) (ready : Ready) (f : ReadFault) → AnswersGraph asked ready (Err (Read f)) → ⊥
+graph_not_read asked ready f (Ok text, s, e) = absurd cc
+graph_not_read asked ready f (Err fault, s, e) = absurd cc
+
+-- the fault of an answer
+abbrev of_error : {A : Type 0} → Result A Fault → Fault
 of_error (Ok x) = Memory
 of_error (Err fault) = fault
 
-module _ (asked : Bool) (m : Makefile) (e : Exists) where
-  of_lines : (name : List ℕ) (fault : Fault) → shown_lines asked m e name ≡ Err fault → IsOfCommands fault
-  unfolding of_error
-  of_lines name fault h = by asked h
-    where
-      of_commands : (r : Result Commands InferFault) → lines_of r ≡ Err fault → IsOfCommands fault
-      of_commands (Ok c) k = absurd cc
-      of_commands (Err f) k = (f, sym (ap of_error k))
+fault_same : {A B : Type 0} (one other : Fault) → ◌≡◌ {A = Result A Fault} (Err one) (Err other) → ◌≡◌ {A = Result B Fault} (Err one) (Err other)
+fault_same {A} {B} one other h = ap (λ (f : Fault). Err f) (ap (of_error {A = A}) h)
 
-      by : (asked : Bool) → shown_lines asked m e name ≡ Err fault → IsOfCommands fault
-      by true k = of_commands (commands m e name) k
-      by false k = absurd cc
+-- ---- what is ready
 
-  of_node : (g : value.Graph) (n : ℕ) (fault : Fault) → shown_node (shown_lines asked m e) g n ≡ Err fault → IsOfCommands fault
-  unfolding of_error
-  of_node g n fault h = by (shown_lines asked m e (node g n).name) refl h
-    where
-      by : (r : Result (List (List ℕ)) Fault) → shown_lines asked m e (node g n).name ≡ r → (r >>= λ lines. Ok (node_text g n ++ commands_text lines)) ≡ Err fault → IsOfCommands fault
-      by (Ok lines) is k = absurd cc
-      by (Err f) is k = of_lines (node g n).name fault (is ∙ ap (λ (x : Fault). Err x) (ap of_error k))
+abbrev pub made_with : Makefile → List (List ℕ) → Book → Bool → Ready
+made_with m goals book any_leaf = record { makefile = m; goals = goals; setting = setting_of m book; any_leaf = any_leaf }
 
-  of_nodes : (g : value.Graph) (ns : List ℕ) (fault : Fault) → nodes_text (shown_lines asked m e) g ns ≡ Err fault → IsOfCommands fault
-  unfolding nodes_text of_error
-  of_nodes g [] fault h = absurd cc
-  of_nodes g (n ∷ ns) fault h = by (shown_node (shown_lines asked m e) g n) refl (nodes_text (shown_lines asked m e) g ns) (λ f its. of_nodes g ns f its) h
-    where
-      by : (r : Result (List ℕ) Fault) → shown_node (shown_lines asked m e) g n ≡ r → (rest : Result (List ℕ) Fault) → ((f : Fault) → rest ≡ Err f → IsOfCommands f) → (r >>= λ text. (rest >>= λ more. Ok (text ++ more))) ≡ Err fault → IsOfCommands fault
-      by (Err f) is rest before k = of_node g n fault (is ∙ ap (λ (x : Fault). Err x) (ap of_error k))
-      by (Ok text) is (Err f) before k = before fault (ap (λ (x : Fault). Err x) (ap of_error k))
-      by (Ok text) is (Ok more) before k = absurd cc
+module _ (files : Told) (request : Request) (m : Makefile) (goals : List (List ℕ)) where
+  abbrev made_by : Book → Ready
+  made_by book = made_with m goals book (is_none request.book)
 
-  of_text : (g : value.Graph) (fault : Fault) → graph_text (shown_lines asked m e) g ≡ Err fault → IsOfCommands fault
-  unfolding of_error
-  of_text g fault h = by (nodes_text (shown_lines asked m e) g (serial_order g)) refl h
-    where
-      by : (r : Result (List ℕ) Fault) → nodes_text (shown_lines asked m e) g (serial_order g) ≡ r → (r >>= λ nodes. Ok (goals_text g ++ nodes)) ≡ Err fault → IsOfCommands fault
-      by (Ok nodes) is k = absurd cc
-      by (Err f) is k = of_nodes g (serial_order g) fault (is ∙ ap (λ (x : Fault). Err x) (ap of_error k))
+  module _ (name : Option (List ℕ)) (n : name ≡ request.book) where
+    -- the book isn't found
+    pub book_fails : (fault : Fault) → Finds (λ failing. book_for files failing name goals) (Err fault) → Finds (λ failing. ready_with files failing request m goals) (Err fault)
+    book_fails fault (inl k) = inl (fault_same fault Memory k)
+    book_fails fault (inr h) =
+        inr (ap (λ (r : Result Book Fault). r >>= λ book. Ok (made_by book)) (ap (λ (x : Option (List ℕ)). book_for files (failed_file fault) x goals) (sym n) ∙ h))
 
-  -- ---- the graph, and what is printed of it
+    -- the book is found
+    pub book_found : (book : Book) (ready : Ready) → Finds (λ failing. book_for files failing name goals) (Ok book) → ready ≡ made_by book → Finds (λ failing. ready_with files failing request m goals) (Ok ready)
+    book_found book ready (inl k) e = absurd cc
+    book_found book ready (inr h) e =
+        inr (ap (λ (r : Result Book Fault). r >>= λ b. Ok (made_by b)) (ap (λ (x : Option (List ℕ)). book_for files None x goals) (sym n) ∙ h) ∙ ap (λ (r : Ready). Ok r) (sym e))
 
-  module _ (goals : List (List ℕ)) where
-    -- the goals have no graph
-    pub graph_fails : (fault : InferFault) → Selects m e goals (Err fault) → DrawsOver asked m e goals (Err (of_infer fault))
-    graph_fails infer.Memory s = tt
-    graph_fails (infer.BadGoal place) s = (Err (infer.BadGoal place), s, refl)
-    graph_fails (infer.GoalIsMember place) s = (Err (infer.GoalIsMember place), s, refl)
-    graph_fails (infer.NoRule name) s = (Err (infer.NoRule name), s, refl)
-    graph_fails infer.NoGoal s = (Err infer.NoGoal, s, refl)
-    graph_fails (infer.InferencePrerequisites place) s = (Err (infer.InferencePrerequisites place), s, refl)
-    graph_fails (infer.Macro place f) s = (Err (infer.Macro place f), s, refl)
-    graph_fails (infer.Graph f) s = (Err (infer.Graph f), s, refl)
+  -- the goals are named
+  pub goals_found : goal_names m request.goals ≡ Ok goals → (found : Result Ready Fault) → Finds (λ failing. ready_with files failing request m goals) found
+      → Finds (λ failing. ready_over files failing request m) found
+  goals_found named found (inl k) = inl k
+  goals_found named found (inr h) = inr (ap (λ (r : Result (List (List ℕ)) InferFault). as_fault Infer r >>= ready_with files (failing_of found) request m) named ∙ h)
 
-    -- the graph is printed, or its commands have a fault
-    pub graph_drawn : (g : value.Graph) (found : Result (Vec ℕ Global) Fault) → Selects m e goals (Ok g)
-        → Gives (λ text. text.items) found (graph_text (shown_lines asked m e) g) → DrawsOver asked m e goals (seen (λ text. text.items) found)
-    graph_drawn g (Ok text) s h = (Ok g, s, sym h)
-    graph_drawn g (Err Memory) s h = tt
-    graph_drawn g (Err (Read f)) s (inl k) = absurd cc
-    graph_drawn g (Err (Read f)) s (inr h) = (Ok g, s, sym h)
-    graph_drawn g (Err (Infer f)) s (inl k) = absurd cc
-    graph_drawn g (Err (Infer f)) s (inr h) = (Ok g, s, sym h)
-    graph_drawn g (Err (Foot f)) s (inl k) = absurd cc
-    graph_drawn g (Err (Foot f)) s (inr h) = (Ok g, s, sym h)
-    graph_drawn g (Err (FileReadFailed n)) s (inl k) = absurd cc
-    graph_drawn g (Err (FileReadFailed n)) s (inr h) = (Ok g, s, sym h)
-    graph_drawn g (Err (NoFile n)) s (inl k) = absurd cc
-    graph_drawn g (Err (NoFile n)) s (inr h) = (Ok g, s, sym h)
-
-  of_selected : (selected : Result value.Graph InferFault) (fault : Fault) → Prints asked m e selected (Err fault) → IsOfCommands fault
-  unfolding of_error
-  of_selected (Ok g) fault p = of_text g fault (sym p)
-  of_selected (Err infer.Memory) fault p = absurd p
-  of_selected (Err (infer.BadGoal place)) fault p = (infer.BadGoal place, ap of_error p)
-  of_selected (Err (infer.GoalIsMember place)) fault p = (infer.GoalIsMember place, ap of_error p)
-  of_selected (Err (infer.NoRule name)) fault p = (infer.NoRule name, ap of_error p)
-  of_selected (Err infer.NoGoal) fault p = (infer.NoGoal, ap of_error p)
-  of_selected (Err (infer.InferencePrerequisites place)) fault p = (infer.InferencePrerequisites place, ap of_error p)
-  of_selected (Err (infer.Macro place f)) fault p = (infer.Macro place f, ap of_error p)
-  of_selected (Err (infer.Graph f)) fault p = (infer.Graph f, ap of_error p)
-
-  -- a fault over the goals is one of their graph or of commands
-  pub of_graph : (goals : List (List ℕ)) (fault : Fault) → DrawsGraph asked m e goals (Err fault) → IsOfCommands fault
-  of_graph goals fault (selected, s, p) = of_selected selected fault p
-
--- what is there has no fault of a makefile
-not_of_makefile : (files : Told) (book : Option (List ℕ)) (m : Makefile) (goals : List (List ℕ)) (f : ReadFault) → there_for files book m goals ≡ Err (Read f) → ⊥
-not_of_makefile files None m goals f h = absurd cc
-not_of_makefile files (Some name) m goals f h = by (text_at files name) h
+-- the goals are refused
+pub goals_fail : (files : Told) (request : Request) (m : Makefile) (fault : InferFault) → inferring.Fails fault (goal_names m request.goals) → Finds (λ failing. ready_over files failing request m) (Err (of_infer fault))
+goals_fail files request m fault h = by_infer (λ f. Finds (λ failing. ready_over files failing request m) (Err f)) fault (inl refl) (λ settled. by settled h)
   where
-    of_book : (r : Result Book FootFault) → there_by m r ≡ Err (Read f) → ⊥
-    of_book (Ok book) k = absurd cc
-    of_book (Err fault) k = absurd cc
+    by : inferring.is_want_of_memory fault ≡ false → inferring.Fails fault (goal_names m request.goals) → Finds (λ failing. ready_over files failing request m) (Err (Infer fault))
+    by settled (inl k) = let e : true ≡ false = ap inferring.is_want_of_memory (sym k) ∙ settled in absurd cc
+    by settled (inr is) = inr (ap (λ (r : Result (List (List ℕ)) InferFault). as_fault Infer r >>= ready_with files None request m) is)
 
-    by : (text : Option (List ℕ)) → option_map_or (λ bytes. there_by m (book_from goals bytes)) text (Err (NoFile name)) ≡ Err (Read f) → ⊥
-    by None k = absurd cc
-    by (Some bytes) k = of_book (book_from goals bytes) k
+-- ---- the answer of a command
 
--- no fault of commands is one of a makefile, nor a read that failed
-not_read_fault : (f : ReadFault) → IsOfCommands (Read f) → ⊥
-not_read_fault f (i, k) = absurd cc
+module _ {A : Type 0} (files : Told) (request : Request) (m : Makefile) (answers : Ready → Result A Fault → Type 0) where
+  -- what is ready isn't found
+  pub over_fault : (fault : Fault) → Finds (λ failing. ready_over files failing request m) (Err fault) → AnswersOver files request m answers (Err fault)
+  over_fault fault (inl k) = inl (fault_same fault Memory k)
+  over_fault fault (inr h) = inr (subst (λ (r : Result Ready Fault). Draws answers r (Err fault)) (sym h) refl)
 
-not_failed : (n : List ℕ) → IsOfCommands (FileReadFailed n) → ⊥
-not_failed n (i, k) = absurd cc
+  -- what is ready is found
+  pub over_ready : (ready : Ready) (answer : Result A Fault) → failing_of answer ≡ None → Finds (λ failing. ready_over files failing request m) (Ok ready) → answers ready answer
+      → AnswersOver files request m answers answer
+  over_ready ready answer none (inl k) a = absurd cc
+  over_ready ready answer none (inr h) a =
+      inr (subst (λ (failing : Option (List ℕ)). Draws answers (ready_over files failing request m) answer) (sym none) (subst (λ (r : Result Ready Fault). Draws answers r answer) (sym h) a))
 
--- the fault that is answered is the one that is found
-fault_same : {one other : Fault} → ◌≡◌ {A = Result (List ℕ) Fault} (Err one) (Err other) → one ≡ other
-unfolding of_error
-fault_same h = ap of_error h
+module _ (files : Told) (request : Request) (m : Makefile) (asked : Bool) (ready : Ready) (is : Finds (λ failing. ready_over files failing request m) (Ok ready)) where
+  -- the text of the graph is the answer
+  pub over_text : (text : List ℕ) → PrintsOver asked ready (Ok text) → AnswersOver files request m (AnswersGraph asked) (Ok text)
+  over_text text p = over_ready files request m (AnswersGraph asked) ready (Ok text) refl is (Ok text, p, refl)
 
-module _ (files : Told) (book : Option (List ℕ)) (asked : Bool) (m : Makefile) (goals : List (List ℕ)) where
-  by_there : (there : Result Exists Fault) → there_for files book m goals ≡ there → (answer : Result (List ℕ) Fault) → DrawsThere asked m there goals answer → DrawsThere asked m (there_for files book m goals) goals answer
-  by_there there h answer d = subst (λ (r : Result Exists Fault). DrawsThere asked m r goals answer) (sym h) d
+  -- its fault is the answer
+  pub over_no_text : (fault : InferFault) → PrintsOver asked ready (Err fault) → AnswersOver files request m (AnswersGraph asked) (Err (of_infer fault))
+  over_no_text fault p =
+      by_infer (λ f. AnswersOver files request m (AnswersGraph asked) (Err f)) fault (inl refl)
+      (λ settled. over_ready files request m (AnswersGraph asked) ready (Err (Infer fault)) refl is (Err fault, p settled, refl))
 
-  -- what is there isn't found
-  pub not_there : (fault : Fault) → FindsThere files book m goals (Err fault) → DrawsFor files book asked m goals (Err fault)
-  not_there Memory h = tt
-  not_there (FileReadFailed name) h = h
-  not_there (Infer f) h = by_there (Err (Infer f)) h (Err (Infer f)) refl
-  not_there (Foot f) h = by_there (Err (Foot f)) h (Err (Foot f)) refl
-  not_there (NoFile name) h = by_there (Err (NoFile name)) h (Err (NoFile name)) refl
-  not_there (Read f) h = by_there (Err (Read f)) h (Err (Read f)) refl
+-- ---- what is ready has no fault of a makefile
 
-  -- the answer over the files that are there
-  pub drawn : (e : Exists) → FindsThere files book m goals (Ok e) → (answer : Result (List ℕ) Fault) → DrawsOver asked m e goals answer → DrawsFor files book asked m goals answer
-  drawn e h (Ok text) d = by_there (Ok e) h (Ok text) d
-  drawn e h (Err Memory) d = tt
-  drawn e h (Err (Infer f)) d = by_there (Ok e) h (Err (Infer f)) d
-  drawn e h (Err (Foot f)) d = by_there (Ok e) h (Err (Foot f)) d
-  drawn e h (Err (NoFile n)) d = by_there (Ok e) h (Err (NoFile n)) d
-  drawn e h (Err (Read f)) d = by_there (Ok e) h (Err (Read f)) d
-  drawn e h (Err (FileReadFailed n)) d = absurd (not_failed n (of_graph asked m e goals (FileReadFailed n) d))
+module _ (files : Told) (failing : Option (List ℕ)) (f : ReadFault) where
+  not_of_book : (r : Result Book FootFault) → as_fault Foot r ≡ Err (Read f) → ⊥
+  not_of_book (Ok book) h = absurd cc
+  not_of_book (Err fault) h = absurd cc
+
+  not_of_text : (goals : List (List ℕ)) (name : List ℕ) (b : Bool) (text : Option (List ℕ))
+      → (cond b (Err (FileReadFailed name)) (ok_or text (NoFile name)) >>= λ bytes. as_fault Foot (book_from goals bytes)) ≡ Err (Read f) → ⊥
+  not_of_text goals name true text h = absurd cc
+  not_of_text goals name false None h = absurd cc
+  not_of_text goals name false (Some bytes) h = not_of_book (book_from goals bytes) h
+
+  not_of_name : (goals : List (List ℕ)) (name : Option (List ℕ)) → book_for files failing name goals ≡ Err (Read f) → ⊥
+  not_of_name goals None h = absurd cc
+  not_of_name goals (Some name) h = not_of_text goals name (option_map_or (bytes_eq name) failing false) (text_at files name) h
+
+  not_after_book : (r : Result Book Fault) (made : Book → Ready) → (r ≡ Err (Read f) → ⊥) → (r >>= λ book. Ok (made book)) ≡ Err (Read f) → ⊥
+  not_after_book (Ok book) made none h = absurd cc
+  not_after_book (Err fault) made none h = none (fault_same fault (Read f) h)
+
+  not_ready : (request : Request) (m : Makefile) → ready_over files failing request m ≡ Err (Read f) → ⊥
+  not_ready request m h = by (goal_names m request.goals) h
+    where
+      by : (r : Result (List (List ℕ)) InferFault) → (as_fault Infer r >>= ready_with files failing request m) ≡ Err (Read f) → ⊥
+      by (Err fault) k = absurd cc
+      by (Ok goals) k =
+          not_after_book (book_for files failing request.book goals) (λ book. made_with m goals book (is_none request.book)) (not_of_name goals request.book) k
+
+not_drawn : {A : Type 0} (answers : Ready → Result A Fault → Type 0) (f : ReadFault) (r : Result Ready Fault) → ((ready : Ready) → answers ready (Err (Read f)) → ⊥) → (r ≡ Err (Read f) → ⊥)
+    → Draws answers r (Err (Read f)) → ⊥
+not_drawn answers f (Ok ready) not_read none d = not_read ready d
+not_drawn answers f (Err fault) not_read none d = none (fault_same fault (Read f) (sym d))
 
 -- ---- the whole request
 
-module _ (files : Told) (request : Request) (asked : Bool) where
+module _ {A : Type 0} (files : Told) (request : Request) (answers : Ready → Result A Fault → Type 0) where
   abbrev made : Result Makefile ReadFault
   made = makefile_for request (following.reader_of files None)
 
-  refused : (fault : ReadFault) → made ≡ Err fault → Draws files request asked made (Err (Read fault))
-  refused fault e = subst (λ (r : Result Makefile ReadFault). Draws files request asked r (Err (Read fault))) (sym e) refl
-
-  -- a makefile that is refused
-  pub not_read : (fault : ReadFault) → following.Answers files (makefile_for request) (Err fault) → Answers files request asked (Err (of_read fault))
-  not_read (read.ReadFailed place name) h = h
-  not_read read.Memory h = tt
-  not_read (read.Line file f) (inl k) = absurd cc
-  not_read (read.Line file f) (inr h) = refused (read.Line file f) h
-  not_read (read.Macro place f) (inl k) = absurd cc
-  not_read (read.Macro place f) (inr h) = refused (read.Macro place f) h
-  not_read (read.Kind place f) (inl k) = absurd cc
-  not_read (read.Kind place f) (inr h) = refused (read.Kind place f) h
-  not_read (read.StrayCommand place) (inl k) = absurd cc
-  not_read (read.StrayCommand place) (inr h) = refused (read.StrayCommand place) h
-  not_read (read.BadName place) (inl k) = absurd cc
-  not_read (read.BadName place) (inr h) = refused (read.BadName place) h
-  not_read (read.BadMakefileName name) (inl k) = absurd cc
-  not_read (read.BadMakefileName name) (inr h) = refused (read.BadMakefileName name) h
-  not_read (read.ArchiveMember place) (inl k) = absurd cc
-  not_read (read.ArchiveMember place) (inr h) = refused (read.ArchiveMember place) h
-  not_read (read.UnknownSpecial place) (inl k) = absurd cc
-  not_read (read.UnknownSpecial place) (inr h) = refused (read.UnknownSpecial place) h
-  not_read (read.SpecialShape place) (inl k) = absurd cc
-  not_read (read.SpecialShape place) (inr h) = refused (read.SpecialShape place) h
-  not_read (read.TwoRecipes place name) (inl k) = absurd cc
-  not_read (read.TwoRecipes place name) (inr h) = refused (read.TwoRecipes place name) h
-  not_read (read.IncludeMissing place name) (inl k) = absurd cc
-  not_read (read.IncludeMissing place name) (inr h) = refused (read.IncludeMissing place name) h
-  not_read (read.IncludeDepth place) (inl k) = absurd cc
-  not_read (read.IncludeDepth place) (inr h) = refused (read.IncludeDepth place) h
-  not_read (read.IncludeEmpty place) (inl k) = absurd cc
-  not_read (read.IncludeEmpty place) (inr h) = refused (read.IncludeEmpty place) h
-  not_read (read.TooManyFiles place) (inl k) = absurd cc
-  not_read (read.TooManyFiles place) (inr h) = refused (read.TooManyFiles place) h
-  not_read (read.NoMakefile name) (inl k) = absurd cc
-  not_read (read.NoMakefile name) (inr h) = refused (read.NoMakefile name) h
-
   module _ (name : Option (List ℕ)) (operands : List (List ℕ)) (n : name ≡ request.makefile) (o : operands ≡ request.operands) where
-    as_request : (fault : ReadFault) → following.Answers files (λ reader. makefile reader name request.defaults operands) (Err fault) → following.Answers files (makefile_for request) (Err fault)
-    as_request fault h =
-        subst (λ (ops : List (List ℕ)). following.Answers files (λ reader. makefile reader request.makefile request.defaults ops) (Err fault)) o
-        (subst (λ (x : Option (List ℕ)). following.Answers files (λ reader. makefile reader x request.defaults operands) (Err fault)) n h)
+    as_request : (r : Result Makefile ReadFault) → following.Answers files (λ reader. makefile reader name request.defaults operands) r → following.Answers files (makefile_for request) r
+    as_request r h =
+        subst (λ (ops : List (List ℕ)). following.Answers files (λ reader. makefile reader request.makefile request.defaults ops) r) o
+        (subst (λ (x : Option (List ℕ)). following.Answers files (λ reader. makefile reader x request.defaults operands) r) n h)
 
-    -- the same, over the words of the request
-    pub read_fails : (fault : ReadFault) → following.Answers files (λ reader. makefile reader name request.defaults operands) (Err fault) → Answers files request asked (Err (of_read fault))
-    read_fails fault h = not_read fault (as_request fault h)
+    -- a makefile that is refused
+    pub read_fails : (fault : ReadFault) → following.Answers files (λ reader. makefile reader name request.defaults operands) (Err fault) → Answers files request answers (Err (of_read fault))
+    read_fails fault h = by_read (λ f. Answers files request answers (Err f)) fault tt (λ settled. (settled, as_request (Err fault) h))
 
-  module _ (m : Makefile) where
-    -- the answer over a makefile that is read
-    pub over : made ≡ Ok m → (answer : Result (List ℕ) Fault) → AnswersOver files request asked m answer → Answers files request asked answer
-    over is answer a = by answer a
-      where
-        drawn_over : (answer : Result (List ℕ) Fault) → DrawsGoals files request asked m (goal_names m request.goals) answer → Draws files request asked made answer
-        drawn_over answer d = subst (λ (r : Result Makefile ReadFault). Draws files request asked r answer) (sym is) d
+    -- a makefile that is read
+    pub read_well : (m : Makefile) → following.Answers files (λ reader. makefile reader name request.defaults operands) (Ok m) → made ≡ Ok m
+    read_well m h = as_request (Ok m) h
 
-        of_there : (goals : List (List ℕ)) (f : ReadFault) (there : Result Exists Fault) → there_for files request.book m goals ≡ there → DrawsThere asked m there goals (Err (Read f)) → ⊥
-        of_there goals f (Ok e) found d = not_read_fault f (of_graph asked m e goals (Read f) d)
-        of_there goals f (Err fault) found d = not_of_makefile files request.book m goals f (found ∙ ap (λ (x : Fault). Err x) (sym (fault_same d)))
+  -- the answer over a makefile that is read
+  module _ (m : Makefile) (is : made ≡ Ok m) (not_read : (ready : Ready) (f : ReadFault) → answers ready (Err (Read f)) → ⊥) where
+    lifted : (answer : Result A Fault) → Draws answers (ready_over files (failing_of answer) request m) answer → Draws answers (ready_for files (failing_of answer) request) answer
+    lifted answer d = subst (λ (r : Result Makefile ReadFault). Draws answers (as_fault Read r >>= ready_over files (failing_of answer) request) answer) (sym is) d
 
-        of_goals : (goals : Result (List (List ℕ)) InferFault) (f : ReadFault) → DrawsGoals files request asked m goals (Err (Read f)) → ⊥
-        of_goals (Err fault) f d = absurd cc
-        of_goals (Ok goals) f d = of_there goals f (there_for files request.book m goals) refl d
-
-        by : (answer : Result (List ℕ) Fault) → AnswersOver files request asked m answer → Answers files request asked answer
-        by (Ok text) d = drawn_over (Ok text) d
-        by (Err Memory) d = tt
-        by (Err (Infer f)) d = drawn_over (Err (Infer f)) d
-        by (Err (Foot f)) d = drawn_over (Err (Foot f)) d
-        by (Err (NoFile n)) d = drawn_over (Err (NoFile n)) d
-        by (Err (FileReadFailed n)) (goals, named, asks) = (m, goals, is, named, asks)
-        by (Err (Read f)) d = absurd (of_goals (goal_names m request.goals) f d)
-
-    unnamed : (fault : InferFault) → goal_names m request.goals ≡ Err fault → DrawsGoals files request asked m (goal_names m request.goals) (Err (Infer fault))
-    unnamed fault h = subst (λ (r : Result (List (List ℕ)) InferFault). DrawsGoals files request asked m r (Err (Infer fault))) (sym h) refl
-
-    -- the goals are refused
-    pub goals_fail : (fault : InferFault) → inferring.Fails fault (goal_names m request.goals) → AnswersOver files request asked m (Err (of_infer fault))
-    goals_fail infer.Memory h = tt
-    goals_fail (infer.BadGoal place) (inl k) = absurd cc
-    goals_fail (infer.BadGoal place) (inr h) = unnamed (infer.BadGoal place) h
-    goals_fail (infer.GoalIsMember place) (inl k) = absurd cc
-    goals_fail (infer.GoalIsMember place) (inr h) = unnamed (infer.GoalIsMember place) h
-    goals_fail (infer.NoRule name) (inl k) = absurd cc
-    goals_fail (infer.NoRule name) (inr h) = unnamed (infer.NoRule name) h
-    goals_fail infer.NoGoal (inl k) = absurd cc
-    goals_fail infer.NoGoal (inr h) = unnamed infer.NoGoal h
-    goals_fail (infer.InferencePrerequisites place) (inl k) = absurd cc
-    goals_fail (infer.InferencePrerequisites place) (inr h) = unnamed (infer.InferencePrerequisites place) h
-    goals_fail (infer.Macro place f) (inl k) = absurd cc
-    goals_fail (infer.Macro place f) (inr h) = unnamed (infer.Macro place f) h
-    goals_fail (infer.Graph f) (inl k) = absurd cc
-    goals_fail (infer.Graph f) (inr h) = unnamed (infer.Graph f) h
-
-    module _ (goals : List (List ℕ)) (named : goal_names m request.goals ≡ Ok goals) where
-      by_goals : (answer : Result (List ℕ) Fault) → DrawsThere asked m (there_for files request.book m goals) goals answer → DrawsGoals files request asked m (goal_names m request.goals) answer
-      by_goals answer d = subst (λ (r : Result (List (List ℕ)) InferFault). DrawsGoals files request asked m r answer) (sym named) d
-
-      -- the answer over the goals
-      pub over_goals : (answer : Result (List ℕ) Fault) → DrawsFor files request.book asked m goals answer → AnswersOver files request asked m answer
-      over_goals (Ok text) d = by_goals (Ok text) d
-      over_goals (Err Memory) d = tt
-      over_goals (Err (Infer f)) d = by_goals (Err (Infer f)) d
-      over_goals (Err (Foot f)) d = by_goals (Err (Foot f)) d
-      over_goals (Err (NoFile n)) d = by_goals (Err (NoFile n)) d
-      over_goals (Err (Read f)) d = by_goals (Err (Read f)) d
-      over_goals (Err (FileReadFailed n)) asks = (goals, named, asks)
-
--- a makefile that is read
-pub read_well : (files : Told) (request : Request) (name : Option (List ℕ)) (operands : List (List ℕ)) → name ≡ request.makefile → operands ≡ request.operands → (m : Makefile)
-    → makefile (following.reader_of files None) name request.defaults operands ≡ Ok m → makefile_for request (following.reader_of files None) ≡ Ok m
-read_well files request name operands n o m h =
-    let reader = following.reader_of files None in
-    sym (ap (λ (x : Option (List ℕ)). makefile reader x request.defaults operands) n ∙ ap (makefile reader request.makefile request.defaults) o) ∙ h
-
--- ---- the files that are there
-
-module _ (files : Told) (m : Makefile) (goals : List (List ℕ)) (name : List ℕ) where
-  -- the file of footprints isn't read
-  pub found_unread : (fault : Fault) → FileReads files name (Err fault) → FindsThere files (Some name) m goals (Err fault)
-  found_unread Memory h = tt
-  found_unread (FileReadFailed other) (same) = ap (λ (n : List ℕ). Some n) (sym same)
-  found_unread (NoFile other) (same, none) = ap (λ (text : Option (List ℕ)). option_map_or (λ bytes. there_by m (book_from goals bytes)) text (Err (NoFile name))) none ∙ ap (λ (n : List ℕ). Err (NoFile n)) (sym same)
-  found_unread (Read f) h = absurd h
-  found_unread (Infer f) h = absurd h
-  found_unread (Foot f) h = absurd h
-
-  module _ (bytes : List ℕ) (is : text_at files name ≡ Some bytes) where
-    is_read : there_for files (Some name) m goals ≡ there_by m (book_from goals bytes)
-    is_read = ap (λ (text : Option (List ℕ)). option_map_or (λ found. there_by m (book_from goals found)) text (Err (NoFile name))) is
-
-    no_read : (n : List ℕ) (r : Result Book FootFault) → there_by m r ≡ Err (FileReadFailed n) → ⊥
-    no_read n (Ok book) k = absurd cc
-    no_read n (Err fault) k = absurd cc
-
-    -- what the footprints say
-    pub found_by : (found : Result Exists Fault) → Gives (λ there. there) found (there_by m (book_from goals bytes)) → FindsThere files (Some name) m goals found
-    found_by (Ok e) h = is_read ∙ h
-    found_by (Err Memory) h = tt
-    found_by (Err (FileReadFailed n)) (inl k) = absurd cc
-    found_by (Err (FileReadFailed n)) (inr h) = absurd (no_read n (book_from goals bytes) h)
-    found_by (Err (Read f)) (inl k) = absurd cc
-    found_by (Err (Read f)) (inr h) = is_read ∙ h
-    found_by (Err (Infer f)) (inl k) = absurd cc
-    found_by (Err (Infer f)) (inr h) = is_read ∙ h
-    found_by (Err (Foot f)) (inl k) = absurd cc
-    found_by (Err (Foot f)) (inr h) = is_read ∙ h
-    found_by (Err (NoFile n)) (inl k) = absurd cc
-    found_by (Err (NoFile n)) (inr h) = is_read ∙ h
+    pub over : (answer : Result A Fault) → AnswersOver files request m answers answer → Answers files request answers answer
+    over (Ok x) (inl k) = absurd cc
+    over (Ok x) (inr d) = lifted (Ok x) d
+    over (Err Memory) a = tt
+    over (Err (FileReadFailed n)) (inl k) = absurd cc
+    over (Err (FileReadFailed n)) (inr d) = lifted (Err (FileReadFailed n)) d
+    over (Err (NoFile n)) (inl k) = absurd cc
+    over (Err (NoFile n)) (inr d) = lifted (Err (NoFile n)) d
+    over (Err (Infer f)) (inl k) = absurd cc
+    over (Err (Infer f)) (inr d) = lifted (Err (Infer f)) d
+    over (Err (Foot f)) (inl k) = absurd cc
+    over (Err (Foot f)) (inr d) = lifted (Err (Foot f)) d
+    over (Err (Read f)) (inl k) = absurd cc
+    over (Err (Read f)) (inr d) = absurd (not_drawn answers f (ready_over files None request m) (λ ready. not_read ready f) (not_ready files None f request m) d)

@@ -1,5 +1,5 @@
 pub mod NameLists
 pub mod NodeTexts
+pub mod Faults
 pub mod Answering
 pub mod OneAnswer
-pub mod Counting

@@ -2,26 +2,26 @@
 use Rattle.std.proofs.Common.{◌≡◌, ℕ, ◌+◌, ◌<◌, ◌≤◌, List, [], ◌∷◌, ◌++◌, length, get_or, drop, Result, Ok, Err, inl, inr, refl, sym, ap, ◌∙◌, append-nil, append_assoc}
 use Rattle.std.proofs.lemmas.List.{drop_more, drop_all}
 use Rattle.mk_graph.specs.Graph.{Graph}
-use Rattle.mk_core.specs.declared.fault.Fault.{Fault}
+use Rattle.mk_infer.specs.declared.fault.InferFault.{InferFault}
 use Rattle.mk_core.specs.GraphText.{nodes_text, shown_node}
-use Rattle.mk_core.specs.Steps.{◌>>=◌, Fails}
+use Rattle.mk_infer.specs.Steps.{◌>>=◌, Fails}
 
 -- what was printed before, and what is then
-abbrev pub behind : List ℕ → Result (List ℕ) Fault → Result (List ℕ) Fault
+abbrev pub behind : List ℕ → Result (List ℕ) InferFault → Result (List ℕ) InferFault
 behind done (Ok rest) = Ok (done ++ rest)
 behind done (Err fault) = Err fault
 
 -- nothing before
-pub behind_none : (r : Result (List ℕ) Fault) → behind [] r ≡ r
+pub behind_none : (r : Result (List ℕ) InferFault) → behind [] r ≡ r
 behind_none (Ok rest) = refl
 behind_none (Err fault) = refl
 
-the_text : Result (List ℕ) Fault → List ℕ
+the_text : Result (List ℕ) InferFault → List ℕ
 the_text (Ok text) = text
 the_text (Err fault) = []
 
-module _ (lines_for : List ℕ → Result (List (List ℕ)) Fault) (g : Graph) where
-  abbrev shown : ℕ → Result (List ℕ) Fault
+module _ (lines_for : List ℕ → Result (List (List ℕ)) InferFault) (g : Graph) where
+  abbrev shown : ℕ → Result (List ℕ) InferFault
   shown n = shown_node lines_for g n
 
   -- the first node and the rest
@@ -29,7 +29,7 @@ module _ (lines_for : List ℕ → Result (List (List ℕ)) Fault) (g : Graph) w
   unfolding nodes_text the_text
   first_of done n rest text h = by (shown n) h (nodes_text lines_for g rest)
     where
-      by : (r : Result (List ℕ) Fault) → r ≡ Ok text → (after : Result (List ℕ) Fault) → behind done (r >>= λ first. (after >>= λ more. Ok (first ++ more))) ≡ behind (done ++ text) after
+      by : (r : Result (List ℕ) InferFault) → r ≡ Ok text → (after : Result (List ℕ) InferFault) → behind done (r >>= λ first. (after >>= λ more. Ok (first ++ more))) ≡ behind (done ++ text) after
       by (Ok found) k (Ok more) =
           let is : found ≡ text = ap the_text k in
           ap (λ (xs : List ℕ). Ok xs) (ap (λ (xs : List ℕ). done ++ (xs ++ more)) is ∙ sym (append_assoc done text more))
@@ -37,24 +37,24 @@ module _ (lines_for : List ℕ → Result (List (List ℕ)) Fault) (g : Graph) w
       by (Err fault) k after = absurd cc
 
   -- one node more
-  pub nodes_more : (done : List ℕ) (ns : List ℕ) (i d : ℕ) (text : List ℕ) (whole : Result (List ℕ) Fault) → shown (get_or ns i d) ≡ Ok text
+  pub nodes_more : (done : List ℕ) (ns : List ℕ) (i d : ℕ) (text : List ℕ) (whole : Result (List ℕ) InferFault) → shown (get_or ns i d) ≡ Ok text
       → behind done (nodes_text lines_for g (drop i ns)) ≡ whole → i < length ns → behind (done ++ text) (nodes_text lines_for g (drop (i + 1) ns)) ≡ whole
   nodes_more done ns i d text whole h so_far lt =
       sym (ap (λ rest. behind done (nodes_text lines_for g rest)) (drop_more ns i d lt) ∙ first_of done (get_or ns i d) (drop (i + 1) ns) text h) ∙ so_far
 
   -- a node whose commands can't be expanded
-  pub nodes_fail : (done : List ℕ) (ns : List ℕ) (i d : ℕ) (fault : Fault) (whole : Result (List ℕ) Fault) → Fails fault (shown (get_or ns i d))
+  pub nodes_fail : (done : List ℕ) (ns : List ℕ) (i d : ℕ) (fault : InferFault) (whole : Result (List ℕ) InferFault) → Fails fault (shown (get_or ns i d))
       → behind done (nodes_text lines_for g (drop i ns)) ≡ whole → i < length ns → Fails fault whole
   unfolding nodes_text
   nodes_fail done ns i d fault whole (inl memory) so_far lt = inl memory
   nodes_fail done ns i d fault whole (inr h) so_far lt =
       inr (sym so_far ∙ (ap (λ rest. behind done (nodes_text lines_for g rest)) (drop_more ns i d lt) ∙ by (shown (get_or ns i d)) h))
     where
-      by : (r : Result (List ℕ) Fault) → r ≡ Err fault → behind done (r >>= λ first. (nodes_text lines_for g (drop (i + 1) ns) >>= λ more. Ok (first ++ more))) ≡ Err fault
+      by : (r : Result (List ℕ) InferFault) → r ≡ Err fault → behind done (r >>= λ first. (nodes_text lines_for g (drop (i + 1) ns) >>= λ more. Ok (first ++ more))) ≡ Err fault
       by (Ok found) k = absurd cc
-      by (Err other) k = let same : other ≡ fault = cc in ap (λ (f : Fault). Err f) same
+      by (Err other) k = let same : other ≡ fault = cc in ap (λ (f : InferFault). Err f) same
 
   -- no node more
-  pub nodes_end : (done : List ℕ) (ns : List ℕ) (i : ℕ) (whole : Result (List ℕ) Fault) → behind done (nodes_text lines_for g (drop i ns)) ≡ whole → length ns ≤ i → whole ≡ Ok done
+  pub nodes_end : (done : List ℕ) (ns : List ℕ) (i : ℕ) (whole : Result (List ℕ) InferFault) → behind done (nodes_text lines_for g (drop i ns)) ≡ whole → length ns ≤ i → whole ≡ Ok done
   unfolding nodes_text
   nodes_end done ns i whole so_far le = sym so_far ∙ (ap (λ rest. behind done (nodes_text lines_for g rest)) (drop_all i ns le) ∙ ap (λ (xs : List ℕ). Ok xs) (append-nil done))

@@ -1,95 +1,96 @@
--- The answer to a request is one.
-use Rattle.std.proofs.Common.{◌≡◌, ℕ, Bool, List, None, Result, Ok, Err, sym, subst, ◌∙◌}
+-- The answer to a request for a graph is one.
+use Rattle.std.proofs.Common.{◌≡◌, ℕ, Bool, true, false, List, None, Result, Ok, Err, inl, inr, sym, ap, subst, refl, ◌∙◌}
 use Rattle.mk_graph.specs.Graph as value
-use Rattle.mk_infer.specs.Goals.{goal_names}
 use Rattle.mk_infer.specs.Laws as inferring
-use Rattle.mk_infer.specs.There.{Exists}
 use Rattle.mk_infer.specs.declared.fault.InferFault.{InferFault}
 use Rattle.mk_infer.specs.declared.fault.InferFault.TheVariants as infer
 use Rattle.mk_read.specs.declared.fault.ReadFault.{ReadFault}
 use Rattle.mk_read.specs.declared.fault.ReadFault.TheVariants as read
 use Rattle.mk_read.specs.Files.{Told}
-use Rattle.mk_read.specs.Following.{reader_of}
-use Rattle.mk_read.specs.Reading.{Makefile}
+use Rattle.mk_read.specs.Following as following
+use Rattle.mk_read.specs.Reading.{Makefile, Reader}
+use Rattle.mk_read.specs.Steps as reading
 use Rattle.mk_core.specs.declared.fault.Fault.{Fault}
 use Rattle.mk_core.specs.declared.fault.Fault.TheVariants.{Read, Infer, Foot, FileReadFailed, NoFile, Memory}
 use Rattle.mk_core.specs.declared.request.Request.{Request}
-use Rattle.mk_core.specs.Answer.{Answers, Draws, DrawsGoals, DrawsThere, Prints, makefile_for}
-use Rattle.mk_core.specs.FilesThere.{there_for}
+use Rattle.mk_core.specs.Answer.{Answers, Draws}
+use Rattle.mk_core.specs.GraphAnswer.{AnswersGraph, Prints, PrintsSelected}
 use Rattle.mk_core.specs.Laws.{AnswerIsOne, IsSettled}
+use Rattle.mk_core.specs.Ready.{Ready, exists, makefile_for, ready_for}
+use Rattle.mk_core.specs.Steps.{◌>>=◌, as_fault}
+use Rattle.mk_core.specs.Views.{ready_over}
 
 -- ---- an answer that is settled is drawn
 
-module _ (files : Told) (request : Request) (asked : Bool) where
-  abbrev Drawn : Result (List ℕ) Fault → Type 0
-  Drawn answer = Draws files request asked (makefile_for request (reader_of files None)) answer
+-- what is no want of memory is the fault that is defined
+settled : (r : Result Makefile ReadFault) (fault : ReadFault) → reading.is_want_of_memory fault ≡ false → reading.Fails fault r → r ≡ Err fault
+settled r fault w (inl k) = let e : true ≡ false = ap reading.is_want_of_memory (sym k) ∙ w in absurd cc
+settled r fault w (inr h) = h
 
-  drawn : (answer : Result (List ℕ) Fault) → IsSettled answer → Answers files request asked answer → Drawn answer
+module _ (files : Told) (reads_as : Reader → Result Makefile ReadFault) where
+  abbrev made : Result Makefile ReadFault
+  made = reads_as (following.reader_of files None)
+
+  settled_read : (fault : ReadFault) → IsSettled (Err (Read fault)) → reading.is_want_of_memory fault ≡ false → following.Answers files reads_as (Err fault) → made ≡ Err fault
+  settled_read (read.ReadFailed place name) s w h = absurd s
+  settled_read (read.Line file fault) s w h = settled made (read.Line file fault) w h
+  settled_read (read.Macro place fault) s w h = settled made (read.Macro place fault) w h
+  settled_read (read.Kind place fault) s w h = settled made (read.Kind place fault) w h
+  settled_read (read.StrayCommand place) s w h = settled made (read.StrayCommand place) w h
+  settled_read (read.BadName place) s w h = settled made (read.BadName place) w h
+  settled_read (read.BadMakefileName name) s w h = settled made (read.BadMakefileName name) w h
+  settled_read (read.ArchiveMember place) s w h = settled made (read.ArchiveMember place) w h
+  settled_read (read.UnknownSpecial place) s w h = settled made (read.UnknownSpecial place) w h
+  settled_read (read.SpecialShape place) s w h = settled made (read.SpecialShape place) w h
+  settled_read (read.TwoRecipes place name) s w h = settled made (read.TwoRecipes place name) w h
+  settled_read (read.IncludeMissing place name) s w h = settled made (read.IncludeMissing place name) w h
+  settled_read (read.IncludeDepth place) s w h = settled made (read.IncludeDepth place) w h
+  settled_read (read.IncludeEmpty place) s w h = settled made (read.IncludeEmpty place) w h
+  settled_read (read.TooManyFiles place) s w h = settled made (read.TooManyFiles place) w h
+  settled_read (read.NoMakefile name) s w h = settled made (read.NoMakefile name) w h
+  settled_read read.Memory s w h = settled made read.Memory w h
+
+module _ (files : Told) (request : Request) (answers : Ready → Result (List ℕ) Fault → Type 0) where
+  drawn : (answer : Result (List ℕ) Fault) → IsSettled answer → Answers files request answers answer → Draws answers (ready_for files None request) answer
   drawn (Ok text) s a = a
   drawn (Err Memory) s a = absurd s
   drawn (Err (FileReadFailed name)) s a = absurd s
   drawn (Err (NoFile name)) s a = a
   drawn (Err (Infer fault)) s a = a
   drawn (Err (Foot fault)) s a = a
-  drawn (Err (Read (read.ReadFailed place name))) s a = absurd s
-  drawn (Err (Read (read.Line file fault))) s a = a
-  drawn (Err (Read (read.Macro place fault))) s a = a
-  drawn (Err (Read (read.Kind place fault))) s a = a
-  drawn (Err (Read (read.StrayCommand place))) s a = a
-  drawn (Err (Read (read.BadName place))) s a = a
-  drawn (Err (Read (read.BadMakefileName name))) s a = a
-  drawn (Err (Read (read.ArchiveMember place))) s a = a
-  drawn (Err (Read (read.UnknownSpecial place))) s a = a
-  drawn (Err (Read (read.SpecialShape place))) s a = a
-  drawn (Err (Read (read.TwoRecipes place name))) s a = a
-  drawn (Err (Read (read.IncludeMissing place name))) s a = a
-  drawn (Err (Read (read.IncludeDepth place))) s a = a
-  drawn (Err (Read (read.IncludeEmpty place))) s a = a
-  drawn (Err (Read (read.TooManyFiles place))) s a = a
-  drawn (Err (Read (read.NoMakefile name))) s a = a
-  drawn (Err (Read read.Memory)) s a = a
+  drawn (Err (Read fault)) s (w, h) =
+      subst (λ (r : Result Makefile ReadFault). Draws answers (as_fault Read r >>= ready_over files None request) (Err (Read fault))) (sym (settled_read files (makefile_for request) fault s w h)) refl
 
 -- ---- what is drawn is one
 
-module _ (asked : Bool) (m : Makefile) (e : Exists) where
+module _ (asked : Bool) (ready : Ready) where
   -- what is printed is no want of memory
-  is_settled : (selected : Result value.Graph InferFault) (answer : Result (List ℕ) Fault) → Prints asked m e selected answer → inferring.IsSettled selected
-  is_settled (Ok g) answer p = tt
-  is_settled (Err infer.Memory) answer p = absurd p
-  is_settled (Err (infer.BadGoal place)) answer p = tt
-  is_settled (Err (infer.GoalIsMember place)) answer p = tt
-  is_settled (Err (infer.NoRule name)) answer p = tt
-  is_settled (Err infer.NoGoal) answer p = tt
-  is_settled (Err (infer.InferencePrerequisites place)) answer p = tt
-  is_settled (Err (infer.Macro place fault)) answer p = tt
-  is_settled (Err (infer.Graph fault)) answer p = tt
+  is_settled : (selected : Result value.Graph InferFault) (text : Result (List ℕ) InferFault) → Prints asked ready selected text → inferring.IsSettled selected
+  is_settled (Ok g) text p = tt
+  is_settled (Err infer.Memory) text (w, p) = absurd cc
+  is_settled (Err (infer.BadGoal place)) text p = tt
+  is_settled (Err (infer.GoalIsMember place)) text p = tt
+  is_settled (Err (infer.NoRule name)) text p = tt
+  is_settled (Err infer.NoGoal) text p = tt
+  is_settled (Err (infer.InferencePrerequisites place)) text p = tt
+  is_settled (Err (infer.Macro place fault)) text p = tt
+  is_settled (Err (infer.Graph fault)) text p = tt
 
-  printed_one : (selected : Result value.Graph InferFault) (one other : Result (List ℕ) Fault) → Prints asked m e selected one → Prints asked m e selected other → one ≡ other
+  printed_one : (selected : Result value.Graph InferFault) (one other : Result (List ℕ) InferFault) → Prints asked ready selected one → Prints asked ready selected other → one ≡ other
   printed_one (Ok g) one other p q = p ∙ sym q
-  printed_one (Err infer.Memory) one other p q = absurd p
-  printed_one (Err (infer.BadGoal place)) one other p q = p ∙ sym q
-  printed_one (Err (infer.GoalIsMember place)) one other p q = p ∙ sym q
-  printed_one (Err (infer.NoRule name)) one other p q = p ∙ sym q
-  printed_one (Err infer.NoGoal) one other p q = p ∙ sym q
-  printed_one (Err (infer.InferencePrerequisites place)) one other p q = p ∙ sym q
-  printed_one (Err (infer.Macro place fault)) one other p q = p ∙ sym q
-  printed_one (Err (infer.Graph fault)) one other p q = p ∙ sym q
+  printed_one (Err fault) one other (w, p) (v, q) = p ∙ sym q
 
-module _ (one_selection : inferring.SelectionIsOne) (files : Told) (request : Request) (asked : Bool) (one other : Result (List ℕ) Fault) where
-  there_one : (m : Makefile) (goals : List (List ℕ)) (there : Result Exists Fault) → DrawsThere asked m there goals one → DrawsThere asked m there goals other → one ≡ other
-  there_one m goals (Err fault) d h = d ∙ sym h
-  there_one m goals (Ok e) (selected, s, p) (same, t, q) =
-      let is = one_selection m e goals same selected (is_settled asked m e same other q) (is_settled asked m e selected one p) t s in
-      printed_one asked m e selected one other p (subst (λ (r : Result value.Graph InferFault). Prints asked m e r other) is q)
+  text_one : inferring.SelectionIsOne → (one other : Result (List ℕ) InferFault) → PrintsSelected asked ready one → PrintsSelected asked ready other → one ≡ other
+  text_one one_selection one other (selected, s, p) (same, t, q) =
+      let is = one_selection ready.makefile (exists ready) ready.goals same selected (is_settled same other q) (is_settled selected one p) t s in
+      printed_one selected one other p (subst (λ (r : Result value.Graph InferFault). Prints asked ready r other) is q)
 
-  goals_one : (m : Makefile) (goals : Result (List (List ℕ)) InferFault) → DrawsGoals files request asked m goals one → DrawsGoals files request asked m goals other → one ≡ other
-  goals_one m (Err fault) d h = d ∙ sym h
-  goals_one m (Ok goals) d h = there_one m goals (there_for files request.book m goals) d h
-
-  drawn_one : (read : Result Makefile ReadFault) → Draws files request asked read one → Draws files request asked read other → one ≡ other
+module _ (one_selection : inferring.SelectionIsOne) (asked : Bool) (one other : Result (List ℕ) Fault) where
+  drawn_one : (r : Result Ready Fault) → Draws (AnswersGraph asked) r one → Draws (AnswersGraph asked) r other → one ≡ other
   drawn_one (Err fault) d h = d ∙ sym h
-  drawn_one (Ok m) d h = goals_one m (goal_names m request.goals) d h
+  drawn_one (Ok ready) (text, p, e) (same, q, k) = e ∙ (ap (as_fault Infer) (text_one asked ready one_selection text same p q) ∙ sym k)
 
 pub answer_is_one : inferring.SelectionIsOne → AnswerIsOne
-answer_is_one one_selection files request asked one other s t a b =
-    drawn_one one_selection files request asked one other (makefile_for request (reader_of files None)) (drawn files request asked one s a) (drawn files request asked other t b)
+answer_is_one one_selection files request one other s t a b =
+    let answers = AnswersGraph request.commands in
+    drawn_one one_selection request.commands one other (ready_for files None request) (drawn files request answers one s a) (drawn files request answers other t b)

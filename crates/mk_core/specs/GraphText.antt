@@ -1,15 +1,13 @@
 -- What is printed of a graph.
-use Rattle.std.specs.Prelude.{ℕ, Bool, List, [], ◌∷◌, ◌++◌, codes, Result, Ok, Err, if◌then◌else◌}
+use Rattle.std.specs.Prelude.{ℕ, Bool, List, [], ◌∷◌, ◌++◌, codes, Result, Ok, if◌then◌else◌}
 use Rattle.std.specs.List.{flat_map}
 use Rattle.mk_graph.specs.Graph.{Graph, node}
 use Rattle.mk_graph.specs.Serial.{serial_order}
-use Rattle.mk_infer.specs.Commands.{Commands, commands}
+use Rattle.mk_infer.specs.Commands.{commands}
 use Rattle.mk_infer.specs.There.{Exists}
 use Rattle.mk_infer.specs.declared.fault.InferFault.{InferFault}
 use Rattle.mk_read.specs.Reading.{Makefile}
-use Rattle.mk_core.specs.declared.fault.Fault.{Fault}
-use Rattle.mk_core.specs.declared.fault.Fault.TheVariants.{Infer}
-use Rattle.mk_core.specs.Steps.{◌>>=◌}
+use Rattle.mk_infer.specs.Steps.{◌>>=◌}
 
 -- each name behind a space
 abbrev pub names_text : Graph → List ℕ → List ℕ
@@ -39,23 +37,19 @@ commands_text lines = flat_map (λ line. 9 ∷ (line ++ 10 ∷ [])) lines
 abbrev pub goals_text : Graph → List ℕ
 goals_text g = codes "goals" ++ (names_text g g.goals ++ 10 ∷ [])
 
--- the expanded commands, or their fault
-abbrev pub lines_of : Result Commands InferFault → Result (List (List ℕ)) Fault
-lines_of (Ok c) = Ok c.lines
-lines_of (Err fault) = Err (Infer fault)
-
 -- the commands of a name as they are shown: none unless they are asked for
-abbrev pub shown_lines : Bool → Makefile → Exists → List ℕ → Result (List (List ℕ)) Fault
-shown_lines asked m e name = if asked then lines_of (commands m e name) else Ok []
+abbrev pub shown_lines : Bool → Makefile → Exists → List ℕ → Result (List (List ℕ)) InferFault
+shown_lines asked m e name =
+    if asked then (commands m e name >>= λ c. Ok c.lines) else Ok []
 
 -- the line of a node with its commands behind it, or the fault of its commands
-abbrev pub shown_node : (List ℕ → Result (List (List ℕ)) Fault) → Graph → ℕ → Result (List ℕ) Fault
+abbrev pub shown_node : (List ℕ → Result (List (List ℕ)) InferFault) → Graph → ℕ → Result (List ℕ) InferFault
 shown_node lines_for g n =
     lines_for (node g n).name >>= λ lines. Ok (node_text g n ++ commands_text lines)
 
 -- the nodes in this order, or the first fault of their commands
-unfoldable pub nodes_text : (List ℕ → Result (List (List ℕ)) Fault) → Graph → List ℕ →
-    Result (List ℕ) Fault
+unfoldable pub nodes_text : (List ℕ → Result (List (List ℕ)) InferFault) → Graph → List ℕ →
+    Result (List ℕ) InferFault
 nodes_text lines_for g [] = Ok []
 nodes_text lines_for g (n ∷ ns) = do
   text ← shown_node lines_for g n
@@ -63,6 +57,6 @@ nodes_text lines_for g (n ∷ ns) = do
   Ok (text ++ rest)
 
 -- the goals on a line, then the nodes in serial order
-abbrev pub graph_text : (List ℕ → Result (List (List ℕ)) Fault) → Graph → Result (List ℕ) Fault
+abbrev pub graph_text : (List ℕ → Result (List (List ℕ)) InferFault) → Graph → Result (List ℕ) InferFault
 graph_text lines_for g =
     nodes_text lines_for g (serial_order g) >>= λ nodes. Ok (goals_text g ++ nodes)

@@ -1,11 +1,12 @@
 -- Laws of the answer.
-use Rattle.std.specs.Prelude.{◌≡◌, Bool, List, ℕ, Result, Err}
+use Rattle.std.specs.Prelude.{◌≡◌, List, ℕ, Result, Err}
 use Rattle.mk_read.specs.declared.fault.ReadFault.TheVariants.{ReadFailed}
 use Rattle.mk_read.specs.Files.{Told}
 use Rattle.mk_core.specs.declared.fault.Fault.{Fault}
 use Rattle.mk_core.specs.declared.fault.Fault.TheVariants.{Read, FileReadFailed, Memory}
 use Rattle.mk_core.specs.declared.request.Request.{Request}
 use Rattle.mk_core.specs.Answer.{Answers}
+use Rattle.mk_core.specs.GraphAnswer.{AnswersGraph}
 
 -- neither want of memory nor a failed read
 abbrev pub IsSettled : Result (List ℕ) Fault → Type 0
@@ -14,9 +15,9 @@ IsSettled (Err (FileReadFailed name)) = ⊥
 IsSettled (Err (Read (ReadFailed place name))) = ⊥
 IsSettled answer = Unit {0}
 
--- Over files that are told, a request has one answer, beside want of memory and failed reads.
+-- Over files that are told, a request for a graph has one answer, beside want of memory and failed reads.
 abbrev pub AnswerIsOne : Type 0
 AnswerIsOne =
-    (files : Told) (request : Request) (asked : Bool) (one other : Result (List ℕ) Fault) →
-    IsSettled one → IsSettled other → Answers files request asked one →
-    Answers files request asked other → one ≡ other
+    (files : Told) (request : Request) (one other : Result (List ℕ) Fault) → IsSettled one →
+    IsSettled other → Answers files request (AnswersGraph request.commands) one →
+    Answers files request (AnswersGraph request.commands) other → one ≡ other

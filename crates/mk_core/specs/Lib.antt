@@ -6,9 +6,11 @@ pub use Rattle.mk_read.specs.Files
 pub use Rattle.mk_read.specs.MemFiles
 pub mod Words
 pub mod Steps
-pub mod FilesThere
-pub mod GraphText
-pub mod FaultText
+pub mod FileText
+pub mod Ready
 pub mod Answer
+pub mod GraphText
+pub mod GraphAnswer
+pub mod FaultText
 pub mod Views
 pub mod Laws

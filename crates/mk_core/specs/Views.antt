@@ -1,40 +1,56 @@
--- How the parts of an answer are seen.
-use Rattle.std.specs.Prelude.{◌≡◌, Bool, ℕ, List, Option, Some, Result, Ok, Err}
+-- How the parts of an answer are seen. What is answered doesn't stand on this file.
+use Rattle.std.specs.Prelude.{◌≡◌, ◌⊎◌, ℕ, Bool, false, List, ◌++◌, ⊤, Option, Result, Ok, Err}
+use Rattle.std.specs.Option.{is_none}
 use Rattle.mk_infer.specs.Goals.{goal_names}
-use Rattle.mk_infer.specs.There.{Exists}
+use Rattle.mk_infer.specs.declared.fault.InferFault.{InferFault}
+use Rattle.mk_infer.specs.Steps as inferring
+use Rattle.mk_infer.specs.Steps.{is_want_of_memory}
 use Rattle.mk_read.specs.Files.{Told}
 use Rattle.mk_read.specs.Reading.{Makefile}
 use Rattle.mk_core.specs.declared.fault.Fault.{Fault}
-use Rattle.mk_core.specs.declared.fault.Fault.TheVariants.{FileReadFailed, Memory}
+use Rattle.mk_core.specs.declared.fault.Fault.TheVariants.{Infer, Memory}
 use Rattle.mk_core.specs.declared.request.Request.{Request}
-use Rattle.mk_core.specs.Answer.{DrawsGoals, DrawsGraph, DrawsThere}
-use Rattle.mk_core.specs.FilesThere.{there_for}
+use Rattle.mk_core.specs.Answer.{Draws, failing_of}
+use Rattle.mk_core.specs.GraphAnswer.{PrintsSelected}
+use Rattle.mk_core.specs.Ready.{Ready, book_for, setting_of}
+use Rattle.mk_core.specs.Steps.{◌>>=◌, as_fault}
 
--- the answer over the files that are there and the goals, or want of memory
-abbrev pub DrawsOver : Bool → Makefile → Exists → List (List ℕ) → Result (List ℕ) Fault → Type 0
-DrawsOver asked m e goals (Err Memory) = Unit {0}
-DrawsOver asked m e goals answer = DrawsGraph asked m e goals answer
+-- what is defined where no file fails to be read but one that is told of, or want of memory
+abbrev pub Finds : {A : Type 0} → (Option (List ℕ) → Result A Fault) → Result A Fault → Type 0
+Finds defined found = (found ≡ Err Memory) ⊎ (defined (failing_of found) ≡ found)
 
--- What is there for the goals, or the fault of the file of footprints. A failed read comes where
--- there are footprints to read.
-abbrev pub FindsThere : Told → Option (List ℕ) → Makefile → List (List ℕ) → Result Exists Fault →
-    Type 0
-FindsThere files book m goals (Err Memory) = Unit {0}
-FindsThere files book m goals (Err (FileReadFailed name)) = book ≡ Some name
-FindsThere files book m goals found = there_for files book m goals ≡ found
+-- what a request needs over its makefile and its goals
+abbrev pub ready_with : Told → Option (List ℕ) → Request → Makefile → List (List ℕ) →
+    Result Ready Fault
+ready_with files failing request m goals = do
+  book ← book_for files failing request.book goals
+  Ok (record {
+    makefile = m;
+    goals = goals;
+    setting = setting_of m book;
+    any_leaf = is_none request.book;
+  })
 
--- the answer over the goals, by the files that are there for them
-abbrev pub DrawsFor : Told → Option (List ℕ) → Bool → Makefile → List (List ℕ) →
-    Result (List ℕ) Fault → Type 0
-DrawsFor files book asked m goals (Err Memory) = Unit {0}
-DrawsFor files book asked m goals (Err (FileReadFailed name)) = book ≡ Some name
-DrawsFor files book asked m goals answer =
-    DrawsThere asked m (there_for files book m goals) goals answer
+-- what it needs over its makefile
+abbrev pub ready_over : Told → Option (List ℕ) → Request → Makefile → Result Ready Fault
+ready_over files failing request m = do
+  goals ← as_fault Infer (goal_names m request.goals)
+  ready_with files failing request m goals
 
--- the answer to a request over a makefile
-abbrev pub AnswersOver : Told → Request → Bool → Makefile → Result (List ℕ) Fault → Type 0
-AnswersOver files request asked m (Err Memory) = Unit {0}
-AnswersOver files request asked m (Err (FileReadFailed name)) =
-    (goals : List (List ℕ)) × (goal_names m request.goals ≡ Ok goals) × (request.book ≡ Some name)
-AnswersOver files request asked m answer =
-    DrawsGoals files request asked m (goal_names m request.goals) answer
+-- the answer of a command over a makefile, or want of memory
+abbrev pub AnswersOver : {A : Type 0} → Told → Request → Makefile →
+    (Ready → Result A Fault → Type 0) → Result A Fault → Type 0
+AnswersOver files request m answers answer =
+    (answer ≡ Err Memory) ⊎
+    Draws answers (ready_over files (failing_of answer) request m) answer
+
+-- the text of the graph that is selected for the goals, or want of memory
+abbrev pub PrintsOver : Bool → Ready → Result (List ℕ) InferFault → Type 0
+PrintsOver asked ready (Ok text) = PrintsSelected asked ready (Ok text)
+PrintsOver asked ready (Err fault) =
+    (is_want_of_memory fault ≡ false) → PrintsSelected asked ready (Err fault)
+
+-- What is defined stands behind the old text in the new one, unless memory ran out.
+abbrev pub Extends : List ℕ → List ℕ → Result ⊤ InferFault → Result (List ℕ) InferFault → Type 0
+Extends old new (Ok done) defined = (text : List ℕ) × (defined ≡ Ok text) × (new ≡ old ++ text)
+Extends old new (Err fault) defined = inferring.Fails fault defined

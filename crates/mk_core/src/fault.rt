@@ -1,7 +1,7 @@
 //! Why a request is refused.
 
 ghost use Rattle.std.specs.Prelude.{◌≡◌};
-ghost use Rattle.mk_core.specs.Steps.{is_memory, of_foot, of_infer, of_read};
+ghost use Rattle.mk_core.specs.Steps.{is_want_of_memory, of_foot, of_infer, of_read};
 ghost use Rattle.mk_core.specs.declared.fault.Fault.TheVariants.{Memory};
 
 use mk_foot::FootFault;
@@ -26,22 +26,27 @@ pub enum Fault {
     #[error(transparent)]
     Foot(FootFault),
     /// The reader failed to read this file, which is no makefile (fault 35).
-    #[error("a file could not be read")]
+    #[error("a file could not be read: {0}")]
     FileReadFailed(Name),
     /// This file, which is no makefile, isn't there (fault 38).
-    #[error("a file is missing")]
+    #[error("a file is missing: {0}")]
     NoFile(Name),
     /// A growth was refused, which may come in place of any answer.
-    #[error("want of memory")]
+    #[error("memory ran out")]
     Memory,
 }
 
 impl Fault {
-    /// Whether a growth was refused, which may come in place of any answer.
+    /// Whether a growth was refused, whatever met it.
     pub fn is_want_of_memory(&self) -> bool
-        ensures { result ≡ is_memory self.now }
+        ensures { result ≡ is_want_of_memory self.now }
     {
-        matches!(self, Fault::Memory)
+        match self {
+            Fault::Memory | Fault::Foot(FootFault::Memory) => true,
+            Fault::Read(fault) => fault.is_want_of_memory(),
+            Fault::Infer(fault) => fault.is_want_of_memory(),
+            _ => false,
+        }
     }
 }
 
@@ -49,9 +54,10 @@ impl From<ReadFault> for Fault {
     ghost from_gives = { λ r e. e ≡ of_read r };
 
     fn from(fault: ReadFault) -> Fault {
-        match fault {
-            ReadFault::Memory => Fault::Memory,
-            fault => Fault::Read(fault),
+        if fault.is_want_of_memory() {
+            Fault::Memory
+        } else {
+            Fault::Read(fault)
         }
     }
 }
@@ -60,9 +66,10 @@ impl From<InferFault> for Fault {
     ghost from_gives = { λ r e. e ≡ of_infer r };
 
     fn from(fault: InferFault) -> Fault {
-        match fault {
-            InferFault::Memory => Fault::Memory,
-            fault => Fault::Infer(fault),
+        if fault.is_want_of_memory() {
+            Fault::Memory
+        } else {
+            Fault::Infer(fault)
         }
     }
 }

@@ -1,10 +1,12 @@
 //! From a request to a graph, a verdict or a refusal.
 #![tactic(auto)]
 
-mod answer;
 mod fault;
+mod file_text;
+mod graph;
 pub mod laws;
 mod printing;
+mod ready;
 mod request;
 #[cfg(test)]
 mod rows;
@@ -12,11 +14,10 @@ mod rows;
 mod selection_tests;
 #[cfg(test)]
 mod tests;
-mod there;
 mod wording;
 
-pub use answer::graph_text;
 pub use fault::Fault;
+pub use graph::graph_text;
 pub use mk_lines::{Name, Names};
 pub use mk_read::{Files, FilesError, MemFiles};
 pub use request::{Operands, Request, split_words};

@@ -3,11 +3,11 @@
 ghost use Rattle.std.specs.Prelude.{◌≡◌, ◌∷◌, ◌++◌, [], map, MatchOption, OnOk, IfOk};
 ghost use Rattle.mk_graph.specs.Graph.{node, no_node};
 ghost use Rattle.mk_core.specs.GraphText.{commands_text, goals_text, graph_text, groups_text, names_text, node_text, nodes_text, shown_lines, shown_node, waits_text};
-ghost use Rattle.mk_core.specs.Steps.{Extends, Gives};
+ghost use Rattle.mk_core.specs.Views.{Extends};
+ghost use Rattle.mk_infer.specs.Steps.{Gives};
 
-use crate::fault::Fault;
 use mk_graph::{Graph, Node};
-use mk_infer::{Exists, RuleTable, commands};
+use mk_infer::{Exists, InferFault, RuleTable, commands};
 use std::alloc::{AllocError, Global};
 
 /// The node with this number.
@@ -105,10 +105,10 @@ fn push_commands(out: &mut Vec<u8>, lines: &[Vec<u8>]) -> Result<(), AllocError>
 fn shown_lines<'m>(
     alloc: Global,
     table: &'m RuleTable<'_>,
-    exists: &'m Exists,
+    exists: &'m Exists<'_>,
     name: &str,
     asked: bool,
-) -> Result<Vec<Vec<u8>>, Fault>
+) -> Result<Vec<Vec<u8>>, InferFault>
     ensures { Gives (λ lines.
         map (λ line.
         line.items) lines.items) result (shown_lines asked table.now exists.now name.now) }
@@ -125,11 +125,11 @@ fn push_shown<'m>(
     alloc: Global,
     out: &mut Vec<u8>,
     table: &'m RuleTable<'_>,
-    exists: &'m Exists,
+    exists: &'m Exists<'_>,
     graph: &Graph,
     number: usize,
     asked: bool,
-) -> Result<(), Fault>
+) -> Result<(), InferFault>
     ensures { Extends out.old.items out.new.items result (shown_node (shown_lines asked table.now exists.now) graph.now number) }
 {
     let lines = shown_lines(alloc, table, exists, name_at(graph, number), asked)?;
@@ -143,11 +143,11 @@ fn push_nodes<'m>(
     alloc: Global,
     out: &mut Vec<u8>,
     table: &'m RuleTable<'_>,
-    exists: &'m Exists,
+    exists: &'m Exists<'_>,
     graph: &Graph,
     numbers: &[usize],
     asked: bool,
-) -> Result<(), Fault>
+) -> Result<(), InferFault>
     ensures { Extends out.old.items out.new.items result (nodes_text (shown_lines asked table.now exists.now) graph.now numbers.now) }
 {
     for number in numbers {
@@ -171,10 +171,10 @@ fn push_goals(out: &mut Vec<u8>, graph: &Graph) -> Result<(), AllocError>
 pub fn text_of<'m>(
     alloc: Global,
     table: &'m RuleTable<'_>,
-    exists: &'m Exists,
+    exists: &'m Exists<'_>,
     graph: &Graph,
     asked: bool,
-) -> Result<Vec<u8>, Fault>
+) -> Result<Vec<u8>, InferFault>
     ensures { Gives (λ text.
         text.items) result (graph_text (shown_lines asked table.now exists.now) graph.now) }
 {

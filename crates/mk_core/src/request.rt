@@ -51,6 +51,8 @@ pub struct Request {
     pub goals: Names,
     /// The name of the file of footprints. Without one each name that has no rule is given.
     pub book: Option<Name>,
+    /// Whether a graph is printed with the commands of its nodes.
+    pub commands: bool,
 }
 
 /// Whether a word is a macro operand: it holds `=`.

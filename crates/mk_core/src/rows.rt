@@ -22,40 +22,31 @@ pub fn request(alloc: Global, makefile: Option<&str>, words: &str) -> Result<Req
         operands,
         goals,
         book: None,
+        commands: false,
     })
 }
 
-/// What is asked: a request, and whether the commands are printed.
-#[derive(Drop)]
-pub struct Asked {
-    pub request: Request,
-    pub commands: bool,
-}
-
 /// What these words of a command line ask: `-r`, `-c`, `-b` and a name, operands and goals.
-pub fn asked_by(alloc: Global, words: &str) -> Result<Asked, Fail> {
-    let mut asked = Asked {
-        request: request(alloc, None, "")?,
-        commands: false,
-    };
+pub fn asked_by(alloc: Global, words: &str) -> Result<Request, Fail> {
+    let mut asked = request(alloc, None, "")?;
     let mut others: Vec<&str> = Vec::new(alloc);
     let mut is_book = false;
     for word in words.split_whitespace() {
         if is_book {
-            asked.request.book = Some(Name::new(alloc, word)?);
+            asked.book = Some(Name::new(alloc, word)?);
             is_book = false;
             continue;
         }
         match word {
-            "-r" => asked.request.defaults = false,
+            "-r" => asked.defaults = false,
             "-c" => asked.commands = true,
             "-b" => is_book = true,
             other => others.push(other)?,
         }
     }
     let (operands, goals) = split_words(alloc, &others)?;
-    asked.request.operands = operands;
-    asked.request.goals = goals;
+    asked.operands = operands;
+    asked.goals = goals;
     Ok(asked)
 }
 
@@ -68,21 +59,10 @@ fn bytes_of(alloc: Global, answer: Result<Vec<u8>, Fault>) -> Result<Vec<u8>, Al
 }
 
 /// What is printed over these files: the graph's text, or the words of the fault.
-pub fn printed(alloc: Global, files: &mut MemFiles, asked: &Asked) -> Result<String, Fail>
-    requires { failures_of files.old < 2 ^ 64 - 1 }
-{
-    let bytes = bytes_of(
-        alloc,
-        graph_text(alloc, files, &asked.request, asked.commands),
-    )?;
-    Ok(String::from_utf8(bytes)?)
-}
-
-/// The same, with the commands left out.
 pub fn answer(alloc: Global, files: &mut MemFiles, request: &Request) -> Result<String, Fail>
     requires { failures_of files.old < 2 ^ 64 - 1 }
 {
-    let bytes = bytes_of(alloc, graph_text(alloc, files, request, false))?;
+    let bytes = bytes_of(alloc, graph_text(alloc, files, request))?;
     Ok(String::from_utf8(bytes)?)
 }
 
@@ -141,7 +121,7 @@ pub fn files_of(alloc: Global, fields: &[&str]) -> Result<MemFiles, Fail>
 pub fn over_row(alloc: Global, fields: &[&str]) -> Result<String, Fail> {
     let mut files = files_of(alloc, fields)?;
     let words = field(alloc, fields, 1)?;
-    printed(alloc, &mut files, &asked_by(alloc, words.as_str())?)
+    answer(alloc, &mut files, &asked_by(alloc, words.as_str())?)
 }
 
 /// Expects what the third field of a row says to be printed.

@@ -4,7 +4,7 @@ ghost use Rattle.std.specs.Prelude.{◌≡◌};
 ghost use Rattle.mk_core.specs.MemFiles.{failures_of};
 
 use crate::MemFiles;
-use crate::rows::{asked_by, expect_rows, printed};
+use crate::rows::{answer, asked_by, expect_rows};
 use std::process::Abort;
 use std::test::Fail;
 
@@ -86,7 +86,7 @@ fn answers_failed_footprints(rt: HostRuntime) -> Result<(), Fail> {
     files.add("makefile", b"a:")?;
     files.add("B", b"")?;
     files.fail_at(2);
-    let got = printed(alloc, &mut files, &asked_by(alloc, "-b B")?)?;
+    let got = answer(alloc, &mut files, &asked_by(alloc, "-b B")?)?;
     assert_eq!(rt; got.as_str(), "refused 35 B");
     Ok(())
 }

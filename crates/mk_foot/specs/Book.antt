@@ -1,5 +1,5 @@
 -- What a file of footprints says, in lists of bytes.
-use Rattle.std.specs.Prelude.{ℕ, List}
+use Rattle.std.specs.Prelude.{ℕ, List, []}
 
 -- what the recipe of a target was recorded to do
 pub record Record : Type 0 where
@@ -14,3 +14,7 @@ pub record Book : Type 0 where
   pub fixed : List (List ℕ)
   pub sources : List (List ℕ)
   pub records : List Record
+
+-- the book that says nothing
+abbrev pub no_book : Book
+no_book = record { fixed = []; sources = []; records = [] }

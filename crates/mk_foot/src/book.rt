@@ -1,5 +1,9 @@
 //! Books: what a file of footprints says for some goals.
 
+ghost use Rattle.std.specs.Prelude.{◌≡◌};
+ghost use Rattle.mk_foot.specs.Book.{no_book};
+
+use std::alloc::Global;
 use std::marker::Model;
 
 /// What the recipe of a target was recorded to do. A contract sees lists of bytes.
@@ -55,4 +59,17 @@ impl Model for Book {
           sources = map string_bytes b.sources.items;
           records = b.records.items;
         } };
+}
+
+impl Book {
+    /// The book that says nothing.
+    pub fn empty(alloc: Global) -> Book
+        ensures { result ≡ no_book }
+    {
+        Book {
+            fixed: Vec::new(alloc),
+            sources: Vec::new(alloc),
+            records: Vec::new(alloc),
+        }
+    }
 }

@@ -248,8 +248,8 @@ pub fn test_all(alloc: Global, file: &Footprints, names: &NameTable) -> Result<(
 }
 
 /// Whether two lists hold the same names in the same order.
-fn same_names(goals: &[String], own: &[String]) -> bool
-    ensures { result ≡ same_names (map string_bytes goals.now) (map string_bytes own.now) }
+fn same_names(goals: &[Name], own: &[String]) -> bool
+    ensures { result ≡ same_names goals.now (map string_bytes own.now) }
 {
     if goals.len() != own.len() {
         return false;
@@ -263,8 +263,8 @@ fn same_names(goals: &[String], own: &[String]) -> bool
 }
 
 /// Whether a group serves the goals.
-fn serves(goals: &[String], group: &Group) -> bool
-    ensures { result ≡ serves (map string_bytes goals.now) group.now.goals }
+fn serves(goals: &[Name], group: &Group) -> bool
+    ensures { result ≡ serves goals.now group.now.goals }
 {
     match &group.goals {
         Some(own) => same_names(goals, own),
@@ -273,8 +273,8 @@ fn serves(goals: &[String], group: &Group) -> bool
 }
 
 /// The first group that serves the goals.
-pub fn group_for(goals: &[String], groups: Vec<Group>) -> Result<Group, FootFault>
-    ensures { Gives (λ group. group) result (group_for (map string_bytes goals.now) groups.items) }
+pub fn group_for(goals: &[Name], groups: Vec<Group>) -> Result<Group, FootFault>
+    ensures { Gives (λ group. group) result (group_for goals.now groups.items) }
 {
     for group in groups {
         if serves(goals, &group) {

@@ -8,39 +8,38 @@ use mk_lines::Name;
 use std::alloc::{AllocError, AllocFailed};
 use thiserror::Error;
 
-/// Why a file of footprints has no book: the first test that fails. The text of a fault is the line
-/// that mkcheck prints for it.
+/// Why a file of footprints has no book: the first test that fails.
 #[derive(Debug, Drop, Error)]
 pub enum FootFault {
     /// The bytes are no JSON value that `serde_json` reads, as where they aren't UTF-8 (fault 51).
-    #[error("refused 51")]
+    #[error("the bytes are no JSON value")]
     NotJson,
     /// What stands under the key is missing or of another kind, the value as a whole (`top`), a
     /// record (`records`) or a group (`groups`) is no object, or one of them has a key that doesn't
     /// belong there (`unknown`) (fault 52).
-    #[error("refused 52 {0}")]
+    #[error("there is no such part, or it is of another kind: {0}")]
     Shape(Key),
     /// The format is a whole number other than 1 and 2 (fault 53).
-    #[error("refused 53")]
+    #[error("the format is another one")]
     OtherFormat,
     /// This target comes a second time among the records of a group (fault 54).
-    #[error("refused 54 {0}")]
+    #[error("a target has two records: {0}")]
     TwoRecords(Name),
     /// A name under the key is no plain path, or an entry of `fixed` is neither `/` nor a plain
     /// path with `/` behind it (fault 55).
-    #[error("refused 55 {0}")]
+    #[error("a name is no plain path: {0}")]
     BadName(Key),
     /// This source begins with an entry of `fixed` (fault 56).
-    #[error("refused 56 {0}")]
+    #[error("a source is fixed: {0}")]
     SourceIsFixed(Name),
     /// No group has these goals (fault 57).
-    #[error("refused 57")]
+    #[error("no group of records is for these goals")]
     NoGroup,
     /// A record names a shared list that isn't there (fault 58).
-    #[error("refused 58")]
+    #[error("a shared list is missing")]
     NoList,
     /// A growth was refused, which may come in place of any answer.
-    #[error("want of memory")]
+    #[error("memory ran out")]
     Memory,
 }
 

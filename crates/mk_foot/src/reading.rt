@@ -15,7 +15,7 @@ use crate::fault::FootFault;
 use crate::names::{copied, once};
 use crate::parts::{Entry, Footprints, Group, SharedList};
 use crate::shapes::footprints_in;
-use mk_lines::{NameSet, NameTable};
+use mk_lines::{Name, NameSet, NameTable};
 use serde_json::Value;
 use std::alloc::{AllocError, Global};
 
@@ -132,8 +132,8 @@ fn records_of(
 
 /// The book of a JSON value.
 #[tactic(auto, unfolding(crate::specs::Reading::book_in))]
-fn book_in(alloc: Global, value: Value, goals: &[String]) -> Result<Book, FootFault>
-    ensures { Gives (λ book. book) result (book_in (map string_bytes goals.now) (view value)) }
+fn book_in(alloc: Global, value: Value, goals: &[Name]) -> Result<Book, FootFault>
+    ensures { Gives (λ book. book) result (book_in goals.now (view value)) }
 {
     let file = footprints_in(alloc, value)?;
     let names = list_names(alloc, &file.lists)?;
@@ -182,8 +182,8 @@ fn json_of(alloc: Global, bytes: &[u8]) -> Result<Value, FootFault>
 /// their names, then group by group goals, and record by record target, reads and writes; 54; 56;
 /// 58; 57. A key that comes twice has its last value.
 #[tactic(auto, unfolding(crate::specs::Reading::book_from))]
-pub fn read_book(alloc: Global, bytes: &[u8], goals: &[String]) -> Result<Book, FootFault>
-    ensures { Gives (λ book. book) result (book_from (map string_bytes goals.now) bytes.now) }
+pub fn read_book(alloc: Global, bytes: &[u8], goals: &[Name]) -> Result<Book, FootFault>
+    ensures { Gives (λ book. book) result (book_from goals.now bytes.now) }
 {
     let value = json_of(alloc, bytes)?;
     book_in(alloc, value, goals)

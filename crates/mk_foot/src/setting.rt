@@ -7,6 +7,7 @@ ghost use Rattle.mk_foot.specs.Names.{has_name};
 ghost use Rattle.mk_foot.specs.Setting.{record_for, is_given, is_editable};
 
 use crate::book::{Book, Record};
+use crate::names::clones_of;
 use mk_lines::{NameTable, Prefixes};
 use std::alloc::{AllocError, Global};
 use std::marker::Model;
@@ -53,22 +54,29 @@ fn targets_of(alloc: Global, records: &[Record]) -> Result<NameTable, AllocError
     NameTable::new(alloc, targets)
 }
 
+/// A table of copies of names.
+fn copies_of(alloc: Global, names: &[String]) -> Result<NameTable, AllocError>
+    ensures { IfOk result (λ table. table ≡ map string_bytes names.now) }
+{
+    NameTable::new(alloc, clones_of(alloc, names)?)
+}
+
 impl Setting {
     /// The setting of a book, the names of the makefile's texts, and the names that its reading
-    /// passed over. It fails for want of memory alone.
+    /// passed over, which are copied. It fails for want of memory alone.
     pub fn new(
         alloc: Global,
         book: Book,
-        texts: Vec<String>,
-        passed_over: Vec<String>,
+        texts: &[String],
+        passed_over: &[String],
     ) -> Result<Setting, AllocError>
         ensures { IfOk result (λ setting. setting ≡
             record {
               records = book.records;
               sources = book.sources;
-              texts = map string_bytes texts.items;
+              texts = map string_bytes texts.now;
               fixed = book.fixed;
-              passed_over = map string_bytes passed_over.items;
+              passed_over = map string_bytes passed_over.now;
             }) }
     {
         let Book {
@@ -80,8 +88,8 @@ impl Setting {
         Ok(Setting {
             fixed: Prefixes::new(alloc, fixed)?,
             sources: NameTable::new(alloc, sources)?,
-            texts: NameTable::new(alloc, texts)?,
-            passed_over: NameTable::new(alloc, passed_over)?,
+            texts: copies_of(alloc, texts)?,
+            passed_over: copies_of(alloc, passed_over)?,
             targets,
             records,
         })
@@ -113,11 +121,25 @@ impl Setting {
         }
     }
 
-    /// The sources, in the order of the book.
-    pub fn sources(&self) -> &[String]
-        ensures { map string_bytes result.now ≡ self.now.sources }
+    /// The table of the sources, in the order of the book.
+    pub fn sources(&self) -> &NameTable
+        ensures { result.now ≡ self.now.sources }
     {
-        self.sources.as_slice()
+        &self.sources
+    }
+
+    /// The table of the fixed prefixes.
+    pub fn fixed(&self) -> &Prefixes
+        ensures { result.now ≡ self.now.fixed }
+    {
+        &self.fixed
+    }
+
+    /// The table of the makefile's texts.
+    pub fn texts(&self) -> &NameTable
+        ensures { result.now ≡ self.now.texts }
+    {
+        &self.texts
     }
 
     /// Whether the reading of the makefile passed over a name. It takes no memory.

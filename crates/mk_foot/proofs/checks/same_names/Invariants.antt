@@ -4,4 +4,4 @@ use Rattle.mk_foot.proofs.checks.same_names.Given as goal
 
 -- the names that are left decide
 abbrev pub invariant-loop-i : goal.invariant-loop-i
-invariant-loop-i l = (length l.goals ≡ length l.own) × (same_names (map string_bytes (drop l.i l.goals)) (map string_bytes (drop l.i l.own)) ≡ same_names (map string_bytes l.goals) (map string_bytes l.own))
+invariant-loop-i l = (length l.goals ≡ length l.own) × (same_names (drop l.i l.goals) (map string_bytes (drop l.i l.own)) ≡ same_names l.goals (map string_bytes l.own))
