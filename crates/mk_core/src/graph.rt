@@ -11,7 +11,7 @@ use crate::fault::Fault;
 use crate::printing::text_of;
 use crate::ready::{Ready, ready_over};
 use crate::request::Request;
-use mk_infer::{InferFault, select};
+use mk_infer::{Choices, InferFault, select};
 use mk_read::{Files, Makefile, read_makefile};
 use std::alloc::Global;
 
@@ -20,8 +20,9 @@ fn selected_text(alloc: Global, ready: &Ready<'_>, commands: bool) -> Result<Vec
     ensures { PrintsOver commands ready.now (seen (λ text. text.items) result) }
 {
     let exists = ready.exists();
-    let graph = select(alloc, ready.table(), &exists, ready.goals())?;
-    text_of(alloc, ready.table(), &exists, &graph, commands)
+    let choices = Choices::new(alloc, ready.table(), &exists)?;
+    let graph = select(alloc, &choices, ready.goals())?;
+    text_of(alloc, &choices, &graph, commands)
 }
 
 /// The answer to a request over its makefile.

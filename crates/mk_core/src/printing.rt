@@ -7,7 +7,7 @@ ghost use Rattle.mk_core.specs.Views.{Extends};
 ghost use Rattle.mk_infer.specs.Steps.{Gives};
 
 use mk_graph::{Graph, Node};
-use mk_infer::{Exists, InferFault, RuleTable, commands};
+use mk_infer::{Choices, InferFault, commands};
 use std::alloc::{AllocError, Global};
 
 /// The node with this number.
@@ -104,17 +104,17 @@ fn push_commands(out: &mut Vec<u8>, lines: &[Vec<u8>]) -> Result<(), AllocError>
 /// The commands of a name as they are shown: none unless they are asked for.
 fn shown_lines<'m>(
     alloc: Global,
-    table: &'m RuleTable<'_>,
-    exists: &'m Exists<'_>,
+    choices: &'m Choices<'m>,
     name: &str,
     asked: bool,
 ) -> Result<Vec<Vec<u8>>, InferFault>
     ensures { Gives (λ lines.
         map (λ line.
-        line.items) lines.items) result (shown_lines asked table.now exists.now name.now) }
+        line.items) lines.items) result (shown_lines
+        asked choices.now.makefile choices.now.exists name.now) }
 {
     if asked {
-        Ok(commands(alloc, table, exists, name)?.lines)
+        Ok(commands(alloc, choices, name)?.lines)
     } else {
         Ok(Vec::new(alloc))
     }
@@ -124,15 +124,15 @@ fn shown_lines<'m>(
 fn push_shown<'m>(
     alloc: Global,
     out: &mut Vec<u8>,
-    table: &'m RuleTable<'_>,
-    exists: &'m Exists<'_>,
+    choices: &'m Choices<'m>,
     graph: &Graph,
     number: usize,
     asked: bool,
 ) -> Result<(), InferFault>
-    ensures { Extends out.old.items out.new.items result (shown_node (shown_lines asked table.now exists.now) graph.now number) }
+    ensures { Extends out.old.items out.new.items result (shown_node (shown_lines asked
+        choices.now.makefile choices.now.exists) graph.now number) }
 {
-    let lines = shown_lines(alloc, table, exists, name_at(graph, number), asked)?;
+    let lines = shown_lines(alloc, choices, name_at(graph, number), asked)?;
     push_node(out, graph, number)?;
     push_commands(out, &lines)?;
     Ok(())
@@ -142,16 +142,16 @@ fn push_shown<'m>(
 fn push_nodes<'m>(
     alloc: Global,
     out: &mut Vec<u8>,
-    table: &'m RuleTable<'_>,
-    exists: &'m Exists<'_>,
+    choices: &'m Choices<'m>,
     graph: &Graph,
     numbers: &[usize],
     asked: bool,
 ) -> Result<(), InferFault>
-    ensures { Extends out.old.items out.new.items result (nodes_text (shown_lines asked table.now exists.now) graph.now numbers.now) }
+    ensures { Extends out.old.items out.new.items result (nodes_text (shown_lines asked
+        choices.now.makefile choices.now.exists) graph.now numbers.now) }
 {
     for number in numbers {
-        push_shown(alloc, out, table, exists, graph, *number, asked)?;
+        push_shown(alloc, out, choices, graph, *number, asked)?;
     }
     Ok(())
 }
@@ -170,17 +170,17 @@ fn push_goals(out: &mut Vec<u8>, graph: &Graph) -> Result<(), AllocError>
 /// where they are asked for.
 pub fn text_of<'m>(
     alloc: Global,
-    table: &'m RuleTable<'_>,
-    exists: &'m Exists<'_>,
+    choices: &'m Choices<'m>,
     graph: &Graph,
     asked: bool,
 ) -> Result<Vec<u8>, InferFault>
     ensures { Gives (λ text.
-        text.items) result (graph_text (shown_lines asked table.now exists.now) graph.now) }
+        text.items) result (graph_text (shown_lines asked
+        choices.now.makefile choices.now.exists) graph.now) }
 {
     let mut out = Vec::new(alloc);
     push_goals(&mut out, graph)?;
     let order = graph.serial()?;
-    push_nodes(alloc, &mut out, table, exists, graph, &order, asked)?;
+    push_nodes(alloc, &mut out, choices, graph, &order, asked)?;
     Ok(out)
 }
