@@ -8,8 +8,9 @@ use Rattle.clap.specs.declared.error.ErrorKind.TheVariants.{DisplayHelp, Display
 use Rattle.mk_core.specs.declared.fault.Fault.{Fault}
 use Rattle.mk_core.specs.declared.request.Request.{Request}
 use Rattle.mk_core.specs.Answer.{Answers, Counts}
+use Rattle.mk_core.specs.GraphAnswer.{AnswersGraph}
 use Rattle.mk_core.specs.FaultText.{fault_text}
-use Rattle.mk_core.specs.Steps.{is_memory}
+use Rattle.mk_core.specs.Steps.{is_want_of_memory}
 use Rattle.mk_core.specs.Files.{Told}
 use Rattle.mk_core.specs.Words.{goals_of, operands_of}
 use Rattle.mkcheck.specs.declared.run.Outcome.{Outcome}
@@ -35,23 +36,18 @@ faults_of words = fault_of command_line words
 abbrev pub rows_of_graph : List Text → List Row
 rows_of_graph words = option_map_or (λ met. met.1) (subcommand_of command_line words) []
 
--- What is asked: a request, and whether the commands are to be printed.
-abbrev pub Wish : Type 0
-Wish = Request × Bool
-
 -- the graph of this makefile, with macro operands and goals, the default text, no footprints and no
 -- commands
-abbrev pub asking : Option (List ℕ) → List Text → Wish
-asking makefile words = (
-  record {
-    makefile = makefile;
-    defaults = true;
-    operands = operands_of words;
-    goals = goals_of words;
-    book = None;
-  },
-  false,
-)
+abbrev pub asking : Option (List ℕ) → List Text → Request
+asking makefile words =
+    record {
+      makefile = makefile;
+      defaults = true;
+      operands = operands_of words;
+      goals = goals_of words;
+      book = None;
+      commands = false;
+    }
 
 -- the option stands there, once or more
 abbrev pub is_set : Text → List Row → Bool
@@ -60,17 +56,16 @@ is_set id rows = nat_lt 0 (count_of id rows)
 -- the request that these values make
 abbrev pub requested : List Row → Request
 requested rows =
-    record ((asking (first_of (codes "makefile") rows)
-    (unwrap_or (all_of (codes "words") rows) [])).0)
-    { defaults = not (is_set (codes "no-defaults") rows); book = first_of (codes "book") rows }
+    record (asking (first_of (codes "makefile") rows)
+    (unwrap_or (all_of (codes "words") rows) [])) {
+      defaults = not (is_set (codes "no-defaults") rows);
+      book = first_of (codes "book") rows;
+      commands = is_set (codes "commands") rows;
+    }
 
--- what they ask
-abbrev pub asked_by : List Row → Wish
-asked_by rows = (requested rows, is_set (codes "commands") rows)
-
--- what the words ask
-abbrev pub wish_of : List Text → Wish
-wish_of words = asked_by (rows_of_graph words)
+-- the request that the words make
+abbrev pub request_of : List Text → Request
+request_of words = requested (rows_of_graph words)
 
 -- ---- what is written
 
@@ -79,16 +74,18 @@ wish_of words = asked_by (rows_of_graph words)
 abbrev pub Shows : Result (List ℕ) Fault → Written → Type 0
 Shows (Ok text) w = w ≡ record { out = text; err = []; status = 0 }
 Shows (Err fault) w =
-    (is_memory fault ≡ false) ×
+    (is_want_of_memory fault ≡ false) ×
     (w ≡ record { out = fault_text fault ++ 10 ∷ []; err = []; status = 2 })
 
--- There is an answer to what is asked, which is written. Over files that are told, it is that of
--- the definitions, and it is a failed read only where the count of failures rose.
-pub record IsAnswered (told : Option Told) (old new : ℕ) (wish : Wish) (w : Written) : Type 0 where
-  pub answer : Result (List ℕ) Fault
-  pub answers : IfSome told (λ files. Answers files wish.0 wish.1 answer)
-  pub counts : Counts old new answer
-  pub shows : Shows answer w
+-- There is an answer to the request, which is written. Over files that are told, it is that of the
+-- definitions, and it is a failed read only where the count of failures rose.
+pub record IsAnswered (told : Option Told) (old new : ℕ) (request : Request) (w : Written) : Type 0
+  where
+    pub answer : Result (List ℕ) Fault
+    pub answers : IfSome told
+        (λ files. Answers files request (AnswersGraph request.commands) answer)
+    pub counts : Counts old new answer
+    pub shows : Shows answer w
 
 -- Help and the version are written to standard output, with status 0; what is wrong with the words
 -- to standard error, with status 2; and nothing to the other.

@@ -6,7 +6,7 @@ ghost use Rattle.clap.specs.Words.{all_of, first_of, found_of, has_subcommand, k
 ghost use Rattle.mk_core.specs.Words.{goals_of, operands_of};
 ghost use Rattle.mk_core.specs.Steps.{seen};
 ghost use Rattle.mkcheck.specs.CommandLine.{HasNoOption, graph_words};
-ghost use Rattle.mkcheck.specs.Run.{Explains, IsAnswered, IsRefused, Shows, asked_by, asking, faults_of, requested, wish_of, written};
+ghost use Rattle.mkcheck.specs.Run.{Explains, IsAnswered, IsRefused, Shows, asking, faults_of, request_of, requested, written};
 
 use crate::command::command_line;
 use crate::ending::FAULT;
@@ -117,6 +117,7 @@ fn requested(alloc: Global, matches: &ArgMatches<'_>) -> Result<Request, AllocEr
         operands,
         goals,
         book: named(alloc, matches, "book")?,
+        commands: matches.get_count("commands") > 0,
     })
 }
 
@@ -130,12 +131,11 @@ fn answered<F: Files>(
     requires met { has_subcommand matches.now ≡ true }
     ensures map { F.told files.new ≡ F.told files.old }
     ensures answered { IfOk result (λ outcome. IsAnswered (F.told files.old) (F.failed files.old) (F.failed files.new)
-        (asked_by (option_map_or (λ met. met.1) (subcommand_rows_of matches.now) [])) (written outcome)) }
+        (requested (option_map_or (λ met. met.1) (subcommand_rows_of matches.now) [])) (written outcome)) }
 {
     let (_, graph) = matches.subcommand().unwrap();
     let request = requested(alloc, graph)?;
-    let commands = graph.get_count("commands") > 0;
-    let answer = graph_text(alloc, files, &request, commands);
+    let answer = graph_text(alloc, files, &request);
     shown(alloc, answer)
 }
 
@@ -153,7 +153,7 @@ pub fn run<F: Files, S: AsStr>(
     // Words that the command line takes make a request, which is answered.
     ensures taken { IfOk result (λ outcome. faults_of (map S.text words.now) ≡ [] →
         IsAnswered (F.told files.old) (F.failed files.old) (F.failed files.new)
-        (wish_of (map S.text words.now)) (written outcome)) }
+        (request_of (map S.text words.now)) (written outcome)) }
 
     // In plain words: `graph [-f F] WORD..` asks what it says.
     ensures plain { IfOk result (λ outcome. (makefile : Option (List ℕ)) (asked : List (List ℕ)) →
