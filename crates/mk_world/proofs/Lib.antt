@@ -9,3 +9,5 @@ pub mod Ascending
 pub mod FirstDisk
 pub mod Listings
 pub mod StepTests
+pub mod Orders
+pub mod PlanTexts

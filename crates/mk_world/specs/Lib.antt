@@ -7,3 +7,4 @@ pub mod Fits
 pub mod Faults
 pub mod Steps
 pub mod StepLaws
+pub mod Plans
