@@ -1,5 +1,5 @@
 -- Plans: what the lines of a text order.
-use Rattle.std.specs.Prelude.{ℕ, ◌==◌, ◌^◌, Bool, true, false, ◌&&◌, ◌||◌, not, List, [], ◌∷◌, codes, length, nat_lt, nat_le, Option, None, Some, option_map, option_and_then, is_none, Result, Ok, Err, find, if◌then◌else◌}
+use Rattle.std.specs.Prelude.{ℕ, ◌==◌, ◌^◌, Bool, true, ◌&&◌, ◌||◌, not, List, [], ◌∷◌, codes, length, nat_lt, nat_le, Option, None, Some, option_map, option_and_then, is_none, Result, Ok, Err, find, if◌then◌else◌}
 use Rattle.std.specs.List.{slice_split, list_all, filter_map, enumerate_from}
 use Rattle.std.specs.Map.{lookup}
 use Rattle.std.specs.Str.{bytes_eq, is_utf8}

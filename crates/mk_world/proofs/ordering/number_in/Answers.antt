@@ -1,5 +1,4 @@
-use Rattle.std.proofs.Common.{sym, ◌∙◌, ap}
-use Rattle.std.specs.Result.{result_ok}
+use Rattle.std.proofs.Common.{sym, ◌∙◌}
 use Rattle.mk_world.proofs.Orders.{number_parsed, no_number}
 use Rattle.mk_world.proofs.ordering.number_in.Goals as goal
 

@@ -6,7 +6,7 @@ use mathlib.Core.Path.{fun_ext}
 use Rattle.mk_graph.specs.declared.node.Node.{Node}
 use Rattle.mk_graph.specs.Membership.{Has, IsDistinct}
 use Rattle.mk_graph.specs.Graph.{Graph, Reached, goal, onward, no_node, prerequisites, IsSound}
-use Rattle.mk_tests.specs.Rows.{items_of, row, needs, AreRows, HaveParents}
+use Rattle.mk_build_tests.specs.Rows.{items_of, row, needs, AreRows, HaveParents}
 
 -- what stands in two joined lists stands in one of the two
 Has-append_cases : {A : Type 0} (xs ys : List A) (x : A) → Has (xs ++ ys) x → Has xs x ⊎ Has ys x

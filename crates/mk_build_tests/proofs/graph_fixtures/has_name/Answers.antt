@@ -4,8 +4,8 @@ use Rattle.std.proofs.lemmas.Bool.Decides.{Decides-eqb}
 use Rattle.std.proofs.lemmas.Slice.Eq.{slice_eq-Decides}
 use Rattle.std.proofs.Common.{◌∙◌, false}
 use Rattle.mk_graph.specs.declared.node.Node.{Node}
-use Rattle.mk_tests.proofs.Sound.{not_Has-map_more}
-use Rattle.mk_tests.proofs.graph_fixtures.has_name.Goals as goal
+use Rattle.mk_build_tests.proofs.Sound.{not_Has-map_more}
+use Rattle.mk_build_tests.proofs.graph_fixtures.has_name.Goals as goal
 
 pub loop-node-preserved : goal.loop-node-preserved
 loop-node-preserved c =

@@ -3,7 +3,7 @@
 ghost use Rattle.std.specs.Prelude.{◌≡◌, ℕ, ◌<◌, length, map, false, IsTrue, IfOk};
 ghost use Rattle.std.specs.List.{flat_map};
 ghost use Rattle.mk_graph.specs.Membership.{Has, IsDistinct};
-ghost use Rattle.mk_tests.specs.Rows.{items_of, row, needs, AreRows, HaveParents, AreSound};
+ghost use Rattle.mk_build_tests.specs.Rows.{items_of, row, needs, AreRows, HaveParents, AreSound};
 
 use mk_graph::{Graph, GraphFault, Groups, Node, Order};
 use mk_lines::Name;

@@ -1,7 +1,7 @@
 use Rattle.std.proofs.Common.{ℕ, below_more, subst, sym, refl, ◌∙◌, List}
 use Rattle.mk_graph.specs.Membership.{Has}
-use Rattle.mk_tests.proofs.Sound.{row_is}
-use Rattle.mk_tests.proofs.graph_fixtures.are_rows.Goals as goal
+use Rattle.mk_build_tests.proofs.Sound.{row_is}
+use Rattle.mk_build_tests.proofs.graph_fixtures.are_rows.Goals as goal
 
 pub loop-numbers-preserved : goal.loop-numbers-preserved
 loop-numbers-preserved c =

@@ -1,9 +1,9 @@
 -- What was tested makes the nodes and goals sound.
 use Rattle.std.proofs.Common.{refl}
 use Rattle.mk_graph.specs.Graph.{Graph}
-use Rattle.mk_tests.specs.Rows.{AreRows, HaveParents}
-use Rattle.mk_tests.proofs.Sound.{is_sound}
-use Rattle.mk_tests.proofs.graph_fixtures.is_sound.Goals as goal
+use Rattle.mk_build_tests.specs.Rows.{AreRows, HaveParents}
+use Rattle.mk_build_tests.proofs.Sound.{is_sound}
+use Rattle.mk_build_tests.proofs.graph_fixtures.is_sound.Goals as goal
 
 pub returns : goal.returns
 returns c passed =
