@@ -11,3 +11,7 @@ pub mod Listings
 pub mod StepTests
 pub mod Orders
 pub mod PlanTexts
+pub mod Idle
+pub mod InTurn
+pub mod Stamps
+pub mod Lines

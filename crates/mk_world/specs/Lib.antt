@@ -8,3 +8,4 @@ pub mod Faults
 pub mod Steps
 pub mod StepLaws
 pub mod Plans
+pub mod Running
