@@ -2,21 +2,9 @@
 #![tactic(auto)]
 
 #[cfg(test)]
-mod bit_rows;
-#[cfg(test)]
-mod clean_builds;
-#[cfg(test)]
 mod fixtures;
 #[cfg(test)]
 mod foot;
-#[cfg(test)]
-mod graph_fixtures;
-#[cfg(test)]
-mod graph_orders;
-#[cfg(test)]
-mod graph_turns;
-#[cfg(test)]
-mod graphs;
 #[cfg(test)]
 mod infer;
 #[cfg(test)]

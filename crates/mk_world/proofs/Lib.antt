@@ -9,3 +9,9 @@ pub mod Ascending
 pub mod FirstDisk
 pub mod Listings
 pub mod StepTests
+pub mod Orders
+pub mod PlanTexts
+pub mod Idle
+pub mod InTurn
+pub mod Stamps
+pub mod Lines

@@ -7,3 +7,5 @@ pub mod Fits
 pub mod Faults
 pub mod Steps
 pub mod StepLaws
+pub mod Plans
+pub mod Running

@@ -38,11 +38,12 @@ abbrev pub Judges : Scene → (old new : World) → model.Step → Result Unit S
 Judges scene old new step (Ok done) = Takes scene.graph (setting scene) old new step
 Judges scene old new step (Err fault) = IsFaultOf scene.graph (setting scene) old step fault
 
--- What asking for a step does: where it is taken the graph and the setting stay, and where it isn't
--- nothing changes.
+-- What asking for a step does: where it is taken the graph, the setting and the names of the world
+-- stay, and where it isn't nothing changes.
 pub record Answers (old new : State) (step : model.Step) (result : Result Unit StepFault) : Type 0
   where
     pub scene : new.scene ≡ old.scene
+    pub names : new.disk.names ≡ old.disk.names
     pub judged : Judges old.scene (world_of old) (world_of new) step result
     pub unchanged : OnErr result (new ≡ old)
 

@@ -68,6 +68,21 @@ impl Disk {
         self.clock < u64::MAX
     }
 
+    /// The last stamp that was given.
+    pub fn clock(&self) -> u64
+        ensures { result ≡ self.now.clock }
+    {
+        self.clock
+    }
+
+    /// What a recipe is known to write where it saw this, if that is known.
+    pub fn known(&self, sight: &Sight) -> Option<&[u64]>
+        ensures { option_map (λ written. written.now) result ≡
+            outcome self.now.known sight.now.recipe sight.now.seen.items }
+    {
+        self.known.get(sight)
+    }
+
     /// What a file holds, if it is there.
     pub fn content(&self, file: &str) -> Option<u64>
         ensures { result ≡ content (disk_of self.now) file.now }

@@ -41,6 +41,9 @@ pub enum StepFault {
     /// while a recipe runs (fault 68).
     #[error("refused 68")]
     NotAllDone,
+    /// A name in a line of a plan is no node's, or none of the world (fault 69).
+    #[error("refused 69")]
+    PlanLine,
     /// The file isn't editable (fault 70).
     #[error("refused 70")]
     NotEditable,

@@ -4,10 +4,10 @@ ghost use Rattle.std.specs.Prelude.{◌≡◌, ℕ, [], ◌<◌, ◌↔◌, leng
 ghost use Rattle.std.specs.Bool.{OnTrue, OnFalse};
 ghost use Rattle.mk_lines.specs.Names.{has_name};
 ghost use Rattle.mk_graph.specs.Membership.{Has};
-ghost use Rattle.mk_graph.specs.Turns.{MayTurn, HasAll};
+ghost use Rattle.mk_graph.specs.Turns.{MayTurn, HasAll, Wanted};
 ghost use Rattle.mk_world.specs.State.{begun, finished, run_at, no_run, start_of, HasLooked, HasPut};
 
-use crate::run::Run;
+use crate::progress::Run;
 use mk_graph::{Graph, NodeSet, growth_laws, wanted_with};
 use mk_lines::NameTable;
 use std::alloc::{AllocError, Global};
@@ -102,18 +102,34 @@ impl Making {
         self.is_done.has_all(&self.goals)
     }
 
-    /// Whether a node's turn may come and it isn't running.
-    pub fn is_ready(&self, graph: &Graph, number: usize) -> bool
+    /// The nodes that it wants.
+    pub fn wanted(&self, graph: &Graph) -> NodeSet
         requires { (n : ℕ) → Has self.now.goals n → n < length graph.now.nodes }
+        ensures { (n : ℕ) → Has result n ↔ Wanted graph.now self.now.goals self.now.done n }
+    {
+        growth_laws::wanted_grows();
+        wanted_with(graph, &self.goals, &self.is_done)
+    }
+
+    /// Whether the turn of a node may come and it isn't running, where these nodes are wanted.
+    pub fn is_ready_among(&self, graph: &Graph, wanted: &NodeSet, number: usize) -> bool
+        requires { (n : ℕ) → Has wanted.now n ↔ Wanted graph.now self.now.goals self.now.done n }
         ensures { (result ≡ true) ↔ (MayTurn graph.now self.now.goals self.now.done number ×
             (¬ (Has self.now.running number))) }
     {
         if self.is_done.has(number) || self.is_running(number) {
             return false;
         }
-        growth_laws::wanted_grows();
-        let wanted = wanted_with(graph, &self.goals, &self.is_done);
         wanted.has(number) && self.is_done.has_all(graph.prerequisites(number))
+    }
+
+    /// Whether a node's turn may come and it isn't running.
+    pub fn is_ready(&self, graph: &Graph, number: usize) -> bool
+        requires { (n : ℕ) → Has self.now.goals n → n < length graph.now.nodes }
+        ensures { (result ≡ true) ↔ (MayTurn graph.now self.now.goals self.now.done number ×
+            (¬ (Has self.now.running number))) }
+    {
+        self.is_ready_among(graph, &self.wanted(graph), number)
     }
 
     /// The run of a node's recipe.

@@ -13,7 +13,7 @@ use crate::disk::Disk;
 use crate::fault::StepFault;
 use crate::judging::must_run;
 use crate::making::Making;
-use crate::run::Run;
+use crate::progress::Run;
 use crate::scene::Scene;
 use std::alloc::Global;
 

@@ -1,10 +1,12 @@
 //! Worlds, in which steps are taken.
 
-ghost use Rattle.std.specs.Prelude.{◌≡◌, map, IfOk};
+ghost use Rattle.std.specs.Prelude.{◌≡◌, map, true, IfOk};
 ghost use Rattle.mk_graph.specs.Schedule as model;
 ghost use Rattle.mk_world.specs.State.{number_of};
 ghost use Rattle.mk_world.specs.Listing.{listing};
 ghost use Rattle.mk_world.specs.Steps.{Answers, IsFirstOf, step_of};
+ghost use Rattle.mk_world.specs.Running.{AnswersInTurn, PassesIdle, finish_steps, is_node, new_stamp};
+ghost use Rattle.mk_lines.specs.Names.{has_name};
 
 use crate::disk::Disk;
 use crate::fault::StepFault;
@@ -14,7 +16,7 @@ use crate::making::Making;
 use crate::names::goals_of;
 use crate::scene::Scene;
 use crate::step::Step;
-use crate::{ending, recipes};
+use crate::{ending, finishing, passing, recipes};
 use mk_foot::Setting;
 use mk_graph::Graph;
 use mk_lines::Name;
@@ -104,7 +106,7 @@ impl<'a> World<'a> {
     }
 
     /// A source is edited.
-    fn edit(&mut self, file: &str, content: u64) -> Result<(), StepFault>
+    pub(crate) fn edit(&mut self, file: &str, content: u64) -> Result<(), StepFault>
         ensures { Answers self.old self.new (model.Edit file.now content) result }
     {
         if self.make.is_some() {
@@ -121,7 +123,7 @@ impl<'a> World<'a> {
     }
 
     /// A make starts.
-    fn start(&mut self, jobs: usize, goals: &[Name]) -> Result<(), StepFault>
+    pub(crate) fn start(&mut self, jobs: usize, goals: &[Name]) -> Result<(), StepFault>
         ensures { Answers self.old self.new
             (model.Make jobs (map (number_of self.old.scene.graph) goals.now)) result }
     {
@@ -141,7 +143,7 @@ impl<'a> World<'a> {
     }
 
     /// A recipe begins.
-    fn begin(&mut self, node: &str) -> Result<(), StepFault>
+    pub(crate) fn begin(&mut self, node: &str) -> Result<(), StepFault>
         ensures { Answers self.old self.new
             (model.Begin (number_of self.old.scene.graph node.now)) result }
     {
@@ -153,7 +155,7 @@ impl<'a> World<'a> {
     }
 
     /// A running recipe looks at a file.
-    fn look(&mut self, node: &str, file: &str) -> Result<(), StepFault>
+    pub(crate) fn look(&mut self, node: &str, file: &str) -> Result<(), StepFault>
         ensures { Answers self.old self.new
             (model.Look (number_of self.old.scene.graph node.now) file.now) result }
     {
@@ -165,7 +167,7 @@ impl<'a> World<'a> {
     }
 
     /// A running recipe puts a content into a file.
-    fn put(&mut self, node: &str, file: &str, content: u64) -> Result<(), StepFault>
+    pub(crate) fn put(&mut self, node: &str, file: &str, content: u64) -> Result<(), StepFault>
         ensures { Answers self.old self.new
             (model.Put (number_of self.old.scene.graph node.now) file.now content) result }
     {
@@ -177,7 +179,7 @@ impl<'a> World<'a> {
     }
 
     /// A running recipe ends.
-    fn end(&mut self, node: &str) -> Result<(), StepFault>
+    pub(crate) fn end(&mut self, node: &str) -> Result<(), StepFault>
         ensures { Answers self.old self.new
             (model.End (number_of self.old.scene.graph node.now)) result }
     {
@@ -189,7 +191,7 @@ impl<'a> World<'a> {
     }
 
     /// A node is passed.
-    fn pass(&mut self, node: &str) -> Result<(), StepFault>
+    pub(crate) fn pass(&mut self, node: &str) -> Result<(), StepFault>
         ensures { Answers self.old self.new
             (model.Pass (number_of self.old.scene.graph node.now)) result }
     {
@@ -201,7 +203,7 @@ impl<'a> World<'a> {
     }
 
     /// The make is given up.
-    fn stop(&mut self) -> Result<(), StepFault>
+    pub(crate) fn stop(&mut self) -> Result<(), StepFault>
         ensures { Answers self.old self.new model.Stop result }
     {
         let Some(making) = &self.make else {
@@ -215,7 +217,7 @@ impl<'a> World<'a> {
     }
 
     /// The make ends.
-    fn end_make(&mut self) -> Result<(), StepFault>
+    pub(crate) fn end_make(&mut self) -> Result<(), StepFault>
         ensures { Answers self.old self.new model.EndMake result }
     {
         let Some(making) = &self.make else {
@@ -226,5 +228,69 @@ impl<'a> World<'a> {
         }
         self.make = None;
         Ok(())
+    }
+
+    /// A make of all goals starts.
+    pub(crate) fn start_all(&mut self, jobs: usize) -> Result<(), StepFault>
+        ensures { Answers self.old self.new
+            (model.Make jobs self.old.scene.graph.goals) result }
+    {
+        if self.make.is_some() {
+            return Err(StepFault::MakeRuns);
+        }
+        if jobs < 1 {
+            return Err(StepFault::NoJobFree);
+        }
+        let graph = self.scene.graph();
+        if graph.goals().is_empty() {
+            return Err(StepFault::NotAGoal);
+        }
+        let goals = Vec::from_slice(self.alloc, graph.goals())?;
+        let many = graph.nodes().len();
+        self.make = Some(Making::new(self.alloc, jobs, goals, many)?);
+        Ok(())
+    }
+
+    /// A running recipe looks at all that it reads, puts all that it writes, and ends.
+    pub(crate) fn finish(&mut self, node: &str) -> Result<(), StepFault>
+        requires { is_node self.old.scene.graph node.now ≡ true }
+        ensures { AnswersInTurn self.old self.new (finish_steps self.old node.now) result }
+    {
+        let Some(making) = &mut self.make else {
+            return Err(StepFault::NoMake);
+        };
+        let number = self.scene.number(node);
+        finishing::finish(self.alloc, &self.scene, &mut self.disk, making, number)
+    }
+
+    /// All ready nodes without recipe are passed, if a make is in progress.
+    pub(crate) fn pass_idle(&mut self) -> Result<(), AllocError>
+        ensures { PassesIdle self.old self.new result }
+    {
+        let Some(making) = &mut self.make else {
+            return Ok(());
+        };
+        passing::pass_idle(&self.scene, making)
+    }
+
+    /// Whether a name is a node's.
+    pub(crate) fn has_node(&self, name: &str) -> bool
+        ensures { result ≡ is_node self.now.scene.graph name.now }
+    {
+        self.scene.has_node(name)
+    }
+
+    /// Whether a name is one of the world.
+    pub(crate) fn has_file(&self, name: &str) -> bool
+        ensures { result ≡ has_name self.now.disk.names name.now }
+    {
+        self.disk.has(name)
+    }
+
+    /// The stamp that comes next, or the last one where none comes.
+    pub(crate) fn new_stamp(&self) -> u64
+        ensures { result ≡ new_stamp self.now.disk.clock }
+    {
+        self.disk.clock().saturating_add(1)
     }
 }

@@ -24,6 +24,7 @@ returns c =
     let takes = subst (λ (gs : List ℕ). Takes scene.graph (setting scene) (world_in scene disk make) (busy scene (start_of c.args.jobs c.in-Some.numbers.items many) disk) (model.Make c.args.jobs gs)) found.0 (started_takes scene disk make c.args.jobs c.in-Some.numbers.items many none some found.1) in
     rw (← c.self.view_is) (record {
       scene = refl;
+      names = refl;
       judged = subst (λ (m : MakeState). Takes scene.graph (setting scene) (world_in scene disk make) (busy scene m disk) (model.Make c.args.jobs (map (number_of scene.graph) c.args.goals.now))) (sym c.in_ok-new.ensures) takes;
       unchanged = tt;
     })

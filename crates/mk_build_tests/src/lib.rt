@@ -1,0 +1,15 @@
+//! Tests of graphs and of worlds by their public calls: what no clause says, and worked examples.
+#![tactic(auto)]
+
+#[cfg(test)]
+mod bit_rows;
+#[cfg(test)]
+mod clean_builds;
+#[cfg(test)]
+mod graph_fixtures;
+#[cfg(test)]
+mod graph_orders;
+#[cfg(test)]
+mod graph_turns;
+#[cfg(test)]
+mod graphs;

@@ -1,0 +1,199 @@
+-- Lines of plans that are followed.
+use Rattle.std.proofs.Common.{◌≡◌, ℕ, suc, ◌+◌, ◌<◌, Bool, true, false, cond, List, [], ◌∷◌, ◌++◌, length, map, Option, Some, None, option_map, Result, Ok, Err, refl, sym, ap, ◌∙◌, subst, arith, inl, inr, ◌⊎◌, unwrap_or, get_or, drop}
+use Rattle.std.specs.Prelude.{OnOk, IfErr}
+use Rattle.std.specs.List.{flat_map}
+use Rattle.std.specs.Str.{bytes_eq}
+use Rattle.std.proofs.lemmas.List.{length-map, append_assoc, drop_more, append-nil}
+use Rattle.std.proofs.lemmas.Bool.{false≢true}
+use Rattle.mk_lines.specs.Names.{place_from}
+use Rattle.mk_graph.specs.declared.node.Node.{Node}
+use Rattle.mk_graph.specs.Membership.{Has}
+use Rattle.mk_graph.specs.Graph.{Graph}
+use Rattle.mk_graph.specs.Setting.{FileName, Setting, reads, writes}
+use Rattle.mk_graph.specs.World.{World, Disk, Idle, Busy}
+use Rattle.mk_graph.specs.World as model
+use Rattle.mk_graph.specs.Turns.{HasAll, IsPart}
+use Rattle.mk_graph.specs.Schedule.{Look, End}
+use Rattle.mk_graph.specs.SerialMake.{puts, rest_of_run}
+use Rattle.mk_world.specs.declared.fault.StepFault.{StepFault}
+use Rattle.mk_world.specs.declared.fault.StepFault.TheVariants.{NoMake, Memory, ClockSpent, OtherOutcome, MakeRuns, NotReady, NoJobFree, OutOfDate, NotRunning, NotInFootprint, NotAllDone, PlanLine, NotEditable, NotAGoal}
+use Rattle.mk_world.specs.declared.file.File.{File}
+use Rattle.mk_world.specs.declared.file.Listed.{Listed}
+use Rattle.mk_world.specs.State.{State, DiskState, MakeState, Scene, setting, disk_of, world_of, world_in, number_of, file_of}
+use Rattle.mk_world.specs.Tables.{look}
+use Rattle.mk_world.specs.Listing.{there_among, entry, listing, listed_as}
+use Rattle.mk_world.specs.Running.{TakesInTurn, is_node, listed_at, files_text, file_text, steps_of, own_steps, Follows, Stage, stage_of, is_known, Prepares, AnswersInTurn, AnswersLine, IsRefusal, RunsTo, printed, Leads}
+use Rattle.mk_world.specs.declared.plan.Order.{Order}
+use Rattle.mk_world.specs.declared.plan.PlanLine as planned
+use Rattle.mk_world.proofs.InTurn.{turn_leads, leads_on}
+use Rattle.mk_world.proofs.Tables.{unplaced}
+
+all_within : (xs ns : List ℕ) → ((n : ℕ) → Has ns n → Has xs n) → HasAll xs ns
+all_within xs [] w = tt
+all_within xs (n ∷ ns) w = (w n (inl refl), all_within xs ns (λ m h. w m (inr h)))
+
+-- all goals are a part of them
+pub all_are_part : (goals all : List ℕ) → goals ≡ all → ¬ (all ≡ []) → IsPart goals all
+all_are_part goals all e some = record { not_empty = λ none. some (sym e ∙ none); within = subst (HasAll all) (sym e) (all_within all all (λ n h. h)) }
+
+-- a name that stands among others has a place among them
+place_low : (n : ℕ) (names : List FileName) (f : FileName) (i : ℕ) → place_from n names f ≡ Some i → i < n + length names
+unfolding place_from
+place_low n [] f i e = absurd cc
+place_low n (h ∷ names) f i e = at (bytes_eq f h) e (place_low (n + 1) names f i)
+  where
+    at : (b : Bool) → cond b (Some n) (place_from (n + 1) names f) ≡ Some i → (place_from (n + 1) names f ≡ Some i → i < n + 1 + length names) → i < n + suc (length names)
+    at true k ih = let here : n ≡ i = cc in omega arith
+    at false k ih = let low = ih k in omega arith
+
+pub node_low : (g : Graph) (f : FileName) → is_node g f ≡ true → number_of g f < length g.nodes
+node_low g f there = at (place_from 0 (map (λ (n : Node). n.name) g.nodes) f) refl
+  where
+    at : (o : Option ℕ) → place_from 0 (map (λ (n : Node). n.name) g.nodes) f ≡ o → unwrap_or o (length g.nodes) < length g.nodes
+    at None e = absurd (false≢true (sym (unplaced ℕ (map (λ (n : Node). n.name) g.nodes) f e).0 ∙ there))
+    at (Some i) e =
+        let low = place_low 0 (map (λ (n : Node). n.name) g.nodes) f i e in
+        omega (arith, low, length-map g.nodes (λ (n : Node). n.name))
+
+-- without a make nothing is finished
+idle_list : (g : Graph) (s : Setting) (d : Disk) (n : ℕ) (fs ws : List FileName) (cs : List ℕ) → TakesInTurn g s (Idle d) (Idle d) (map (λ f. Look n f) fs ++ (puts n ws cs ++ End n ∷ [])) (Err NoMake)
+idle_list g s d n (f ∷ fs) ws cs = inr (record { fault = NoMake; is = refl; first = inr (inl (λ h. h, refl)); unchanged = refl })
+idle_list g s d n [] [] cs = inr (record { fault = NoMake; is = refl; first = inr (inl (λ h. h, refl)); unchanged = refl })
+idle_list g s d n [] (w ∷ ws) [] = inr (record { fault = NoMake; is = refl; first = inr (inl (λ h. h, refl)); unchanged = refl })
+idle_list g s d n [] (w ∷ ws) (c ∷ cs) = inr (record { fault = NoMake; is = refl; first = inr (inl (λ h. h, refl)); unchanged = refl })
+
+pub idle_finish : (g : Graph) (s : Setting) (d : Disk) (n : ℕ) (cs : List ℕ) → TakesInTurn g s (Idle d) (Idle d) (rest_of_run g s n cs) (Err NoMake)
+idle_finish g s d n cs = idle_list g s d n (reads g s n) (writes g s n) cs
+
+-- the disk of a world in lists
+pub same_disk : (w : State) → model.disk_of (world_of w) ≡ disk_of w.disk
+same_disk w = at w.make
+  where
+    at : (make : Option MakeState) → model.disk_of (world_in w.scene w.disk make) ≡ disk_of w.disk
+    at None = refl
+    at (Some m) = refl
+
+-- the files of a disk in lists are those of the disk
+entry_is : (d : DiskState) (f : FileName) → entry d f ≡ listed_at (disk_of d) f
+entry_is d f = at (look d.names d.files f)
+  where
+    at : (o : Option File) → option_map (listed_as f) o ≡ option_map (λ (file : model.File). let x : Listed = record { name = f; content = file.content; stamp = file.stamp } in x) (option_map file_of o)
+    at None = refl
+    at (Some file) = refl
+
+there_same : (at be : FileName → Option Listed) (names : List FileName) → ((f : FileName) → at f ≡ be f) → there_among at names ≡ there_among be names
+there_same at be names same = ap (λ (p : FileName → Option Listed). there_among p names) (λ i f. same f i)
+
+pub listing_text : (w : State) → flat_map file_text (listing w.disk) ≡ files_text w.disk.names (model.disk_of (world_of w))
+listing_text w = ap (flat_map file_text) (there_same (entry w.disk) (listed_at (disk_of w.disk)) w.disk.names (entry_is w.disk)) ∙ ap (files_text w.disk.names) (sym (same_disk w))
+
+-- one more line is printed
+pub text_more : {A : Type 0} (F : A → List ℕ) (so_far piece whole : List ℕ) (items : List A) (i : ℕ) (d : A) → i < length items → piece ≡ F (get_or items i d) → so_far ++ flat_map F (drop i items) ≡ whole → (so_far ++ piece) ++ flat_map F (drop (i + 1) items) ≡ whole
+text_more F so_far piece whole items i d lt is h =
+    append_assoc so_far piece (flat_map F (drop (i + 1) items)) ∙ (ap (λ p. so_far ++ (p ++ flat_map F (drop (i + 1) items))) is ∙ (ap (λ l. so_far ++ flat_map F l) (sym (drop_more items i d lt)) ∙ h))
+
+-- a fault is want of memory, or isn't
+memory_or : (fault : StepFault) → (fault ≡ Memory) ⊎ (¬ (fault ≡ Memory))
+memory_or Memory = inl refl
+memory_or ClockSpent = inr (λ e. cc)
+memory_or OtherOutcome = inr (λ e. cc)
+memory_or NoMake = inr (λ e. cc)
+memory_or MakeRuns = inr (λ e. cc)
+memory_or NotReady = inr (λ e. cc)
+memory_or NoJobFree = inr (λ e. cc)
+memory_or OutOfDate = inr (λ e. cc)
+memory_or NotRunning = inr (λ e. cc)
+memory_or NotInFootprint = inr (λ e. cc)
+memory_or NotAllDone = inr (λ e. cc)
+memory_or PlanLine = inr (λ e. cc)
+memory_or NotEditable = inr (λ e. cc)
+memory_or NotAGoal = inr (λ e. cc)
+
+follows : (old mid new : State) (order : Order) (r : Result (Unit {0}) StepFault) → is_known old.scene.graph old.disk.names order ≡ true → Prepares old mid order (Ok tt) → AnswersInTurn mid new (steps_of mid order) r → Follows (stage_of old) (world_of old) (world_of new) order r
+follows old mid new order r known before own =
+    let takes = subst (λ (d : Disk). TakesInTurn mid.scene.graph (setting mid.scene) (world_of mid) (world_of new) (own_steps mid.scene.graph (setting mid.scene) d order) r) (sym (same_disk mid)) own.takes in
+    record {
+      known = known;
+      behind = world_of mid;
+      passes = before.ok;
+      takes = subst (λ (k : Scene). TakesInTurn k.graph (setting k) (world_of mid) (world_of new) (own_steps k.graph (setting k) (model.disk_of (world_of mid)) order) r) before.scene takes;
+    }
+
+-- a line that is followed
+pub line_followed : (old mid new : State) (order : Order) (r : Result (Unit {0}) StepFault) → is_known old.scene.graph old.disk.names order ≡ true → Prepares old mid order (Ok tt) → AnswersInTurn mid new (steps_of mid order) r → AnswersLine old new order r
+unfolding follows
+line_followed old mid new order r known before own =
+    let all = follows old mid new order r known before own in
+    record {
+      scene = own.scene ∙ before.scene;
+      names = own.names ∙ before.names;
+      ok = on_ok r all;
+      err = on_err r all;
+      leads = leads_on old.scene.graph (setting old.scene) (world_of old) (world_of mid) (world_of new) before.leads (turn_leads old.scene.graph (setting old.scene) (world_of mid) (world_of new) _ r all.takes);
+    }
+  where
+    on_ok : (r : Result (Unit {0}) StepFault) → Follows (stage_of old) (world_of old) (world_of new) order r → OnOk r (Follows (stage_of old) (world_of old) (world_of new) order (Ok tt))
+    on_ok (Ok done) h = h
+    on_ok (Err fault) h = tt
+
+    on_err : (r : Result (Unit {0}) StepFault) → Follows (stage_of old) (world_of old) (world_of new) order r → IfErr r (λ fault. (fault ≡ Memory) ⊎ IsRefusal (stage_of old) (world_of old) (world_of new) order fault)
+    on_err (Ok done) h = tt
+    on_err (Err fault) h = elim (memory_or fault) [ inl e ↦ inl e | inr not ↦ inr (inr (not, h)) ]
+
+-- What the run of the lines that are left makes of the run of all.
+pub record LinesLeft (stage : Stage) (first now : World) (all left : List planned.PlanLine) (text : List ℕ) : Type 0 where
+  pub each : (later : List ℕ) (refused : Option (ℕ × StepFault)) (new : World) → RunsTo stage now left later refused new → RunsTo stage first all (text ++ later) refused new
+
+pub nothing_run : (stage : Stage) (first : World) (all : List planned.PlanLine) (text : List ℕ) → text ≡ [] → LinesLeft stage first first all all text
+nothing_run stage first all text none = record { each = λ later refused new h. subst (λ (t : List ℕ). RunsTo stage first all (t ++ later) refused new) (sym none) h }
+
+-- a line is followed
+pub one_run : (stage : Stage) (first now behind : World) (all left rest : List planned.PlanLine) (line : planned.PlanLine) (text more : List ℕ) → LinesLeft stage first now all left text → left ≡ line ∷ rest → Follows stage now behind line.order (Ok tt) → more ≡ text ++ printed stage.names line.order behind → LinesLeft stage first behind all rest more
+one_run stage first now behind all left rest line text more so_far is follow prints =
+    record {
+      each = λ later refused new h.
+          let taken = subst (λ (l : List planned.PlanLine). RunsTo stage now l (printed stage.names line.order behind ++ later) refused new) (sym is) (inl (behind, later, follow, h, refl)) in
+          let joined = ap (λ (t : List ℕ). t ++ later) prints ∙ append_assoc text (printed stage.names line.order behind) later in
+          subst (λ (t : List ℕ). RunsTo stage first all t refused new) (sym joined) (so_far.each (printed stage.names line.order behind ++ later) refused new taken);
+    }
+
+-- a line is refused
+pub one_refused : (stage : Stage) (first now new : World) (all left rest : List planned.PlanLine) (line : planned.PlanLine) (text : List ℕ) (fault : StepFault) → LinesLeft stage first now all left text → left ≡ line ∷ rest → IsRefusal stage now new line.order fault → RunsTo stage first all text (Some (line.number, fault)) new
+one_refused stage first now new all left rest line text fault so_far is refusal =
+    let taken = subst (λ (l : List planned.PlanLine). RunsTo stage now l [] (Some (line.number, fault)) new) (sym is) (inr (fault, refusal, refl, refl)) in
+    subst (λ (t : List ℕ). RunsTo stage first all t (Some (line.number, fault)) new) (append-nil text) (so_far.each [] (Some (line.number, fault)) new taken)
+
+-- all lines are followed
+pub all_run : (stage : Stage) (first now : World) (all left : List planned.PlanLine) (text : List ℕ) → LinesLeft stage first now all left text → left ≡ [] → RunsTo stage first all text None now
+all_run stage first now all left text so_far none =
+    let taken = subst (λ (l : List planned.PlanLine). RunsTo stage now l [] None now) (sym none) (refl, refl, refl) in
+    subst (λ (t : List ℕ). RunsTo stage first all t None now) (append-nil text) (so_far.each [] None now taken)
+
+same_stage : (first now : State) → now.scene ≡ first.scene → now.disk.names ≡ first.disk.names → stage_of now ≡ stage_of first
+same_stage first now scene names = λ i. record { graph = (scene i).graph; setting = setting (scene i); names = names i }
+
+-- steps that lead on from where lines led
+pub leads_further : (first now new : State) → now.scene ≡ first.scene → Leads first.scene.graph (setting first.scene) (world_of first) (world_of now) → Leads now.scene.graph (setting now.scene) (world_of now) (world_of new) → Leads first.scene.graph (setting first.scene) (world_of first) (world_of new)
+leads_further first now new scene before on =
+    leads_on first.scene.graph (setting first.scene) (world_of first) (world_of now) (world_of new) before (subst (λ (k : Scene). Leads k.graph (setting k) (world_of now) (world_of new)) scene on)
+
+-- a line that is followed, and one that is refused, in lists
+pub line_run : (first now new : State) (all left rest : List planned.PlanLine) (line : planned.PlanLine) (text more : List ℕ) → now.scene ≡ first.scene → now.disk.names ≡ first.disk.names → new.disk.names ≡ now.disk.names → LinesLeft (stage_of first) (world_of first) (world_of now) all left text → left ≡ line ∷ rest → Follows (stage_of now) (world_of now) (world_of new) line.order (Ok tt) → more ≡ text ++ printed new.disk.names line.order (world_of new) → LinesLeft (stage_of first) (world_of first) (world_of new) all rest more
+line_run first now new all left rest line text more scene names after so_far is follow prints =
+    one_run (stage_of first) (world_of first) (world_of now) (world_of new) all left rest line text more so_far is
+    (subst (λ (k : Stage). Follows k (world_of now) (world_of new) line.order (Ok tt)) (same_stage first now scene names) follow)
+    (prints ∙ ap (λ (ns : List FileName). text ++ printed ns line.order (world_of new)) (after ∙ names))
+
+pub line_refused : (first now new : State) (all left rest : List planned.PlanLine) (line : planned.PlanLine) (text : List ℕ) (fault : StepFault) → now.scene ≡ first.scene → now.disk.names ≡ first.disk.names → LinesLeft (stage_of first) (world_of first) (world_of now) all left text → left ≡ line ∷ rest → IsRefusal (stage_of now) (world_of now) (world_of new) line.order fault → RunsTo (stage_of first) (world_of first) all text (Some (line.number, fault)) (world_of new)
+line_refused first now new all left rest line text fault scene names so_far is refusal =
+    one_refused (stage_of first) (world_of first) (world_of now) (world_of new) all left rest line text fault so_far is
+    (subst (λ (k : Stage). IsRefusal k (world_of now) (world_of new) line.order fault) (same_stage first now scene names) refusal)
+
+-- the next line of those that are left
+pub next_line : (lines : List planned.PlanLine) (i : ℕ) (line : planned.PlanLine) → i < length lines → line ≡ get_or lines i line → drop i lines ≡ line ∷ drop (i + 1) lines
+next_line lines i line lt is = drop_more lines i line lt ∙ ap (λ x. x ∷ drop (i + 1) lines) (sym is)
+
+-- of two cases the other
+pub not_memory : {P Q : Type 0} → ¬ P → P ⊎ Q → Q
+not_memory not (inl p) = absurd (not p)
+not_memory not (inr q) = q

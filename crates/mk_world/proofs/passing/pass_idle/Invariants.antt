@@ -1,0 +1,16 @@
+use Rattle.std.proofs.Common.{ℕ, List, length}
+use Rattle.mk_world.specs.Fits.{Fits}
+use Rattle.mk_world.specs.State.{making_of}
+use Rattle.mk_world.specs.Running.{Passes}
+use Rattle.mk_world.proofs.Idle.{missing}
+use Rattle.mk_world.proofs.passing.pass_idle.Given as goal
+
+-- nodes are passed one after another
+abbrev pub invariant-loop-number : goal.invariant-loop-number
+invariant-loop-number l = record {
+  fits : Fits l.scene l.making;
+  passes : (ns : List ℕ) × Passes l.scene.graph (making_of l.scene l.fn.making) ns (making_of l.scene l.making);
+}
+
+abbrev pub decreases-loop-number : goal.decreases-loop-number
+decreases-loop-number l = missing (length l.scene.graph.nodes) l.making.done

@@ -1,0 +1,8 @@
+use Rattle.std.proofs.Common.{rules}
+use Rattle.mk_world.proofs.world.World.pass_idle.Goals as goal
+
+pub returns : goal.returns
+returns c =
+    let ok = c.pass_idle.ensures.ok c.self.inside.disk in
+    let leads = c.pass_idle.ensures.leads c.self.inside.disk in
+    search rules
