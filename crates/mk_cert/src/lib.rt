@@ -2,4 +2,12 @@
 //! is.
 #![tactic(auto)]
 
+mod entry;
+mod finding;
+mod looking_up;
 pub mod laws;
+mod writers;
+
+pub use entry::Entry;
+pub use finding::Finding;
+pub use writers::{Writers, writers_among};
