@@ -3,3 +3,4 @@ pub mod Members
 pub mod Sound
 pub mod Selected
 pub mod Writing
+pub mod Entries

@@ -7,3 +7,4 @@ pub mod Entry
 pub mod Listed
 pub mod Text
 pub mod Writers
+pub mod Tables

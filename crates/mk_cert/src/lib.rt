@@ -4,10 +4,10 @@
 
 mod entry;
 mod finding;
-mod looking_up;
 pub mod laws;
+mod looking_up;
+mod subject;
 mod writers;
 
-pub use entry::Entry;
 pub use finding::Finding;
-pub use writers::{Writers, writers_among};
+pub use subject::Subject;

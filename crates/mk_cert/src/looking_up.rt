@@ -4,7 +4,8 @@ ghost use Rattle.std.specs.Prelude.{◌≡◌, ◌<◌, ◌⊎◌, ◌++◌, All
 ghost use Rattle.std.specs.List.{flat_map};
 ghost use Rattle.std.specs.Option.{option_copied, option_map};
 ghost use Rattle.std.specs.String.{string_bytes};
-ghost use Rattle.mk_graph.specs.Graph.{node};
+ghost use Rattle.mk_graph.specs.Graph.{IsGraph, node};
+ghost use Rattle.mk_graph.specs.Serial.{serial_order};
 ghost use Rattle.mk_graph.specs.Setting as build;
 ghost use Rattle.mk_infer.specs.Inference.{choice};
 ghost use Rattle.mk_infer.specs.Laws.{with_more};
@@ -12,11 +13,12 @@ ghost use Rattle.mk_infer.specs.declared.fault.InferFault.TheVariants.{Memory};
 ghost use Rattle.mk_foot.specs.Setting as foot;
 ghost use Rattle.mk_cert.specs.Subject.{footprints, commands_of, subject_of};
 ghost use Rattle.mk_cert.specs.Conditions.{all_writes};
-ghost use Rattle.mk_cert.specs.Entry.{IsEntry, AreEntriesOf, IsFirstFault, choice_after};
+ghost use Rattle.mk_cert.specs.Entry.{IsEntry, AreEntries, AreEntriesOf, IsFaultOf, IsFirstFault, choice_after};
 
 use crate::entry::{Entry, writes_in};
 use mk_foot::Setting;
-use mk_graph::{Graph, Node};
+use mk_graph::Graph;
+use mk_graph::laws::serial_reaches_each_once;
 use mk_infer::{Exists, InferFault, RuleTable, choice, commands};
 use mk_lines::{Name, NameTable};
 use std::alloc::{AllocError, Global};
@@ -194,4 +196,56 @@ fn entries_of<'a>(
         )?)?;
     }
     Ok(entries)
+}
+
+/// The inferred prerequisites of the nodes of a graph where all recipes have written their files.
+/// What is there stays as it is.
+fn choices_after(
+    alloc: Global,
+    table: &RuleTable<'_>,
+    there: &mut Exists,
+    graph: &Graph,
+    setting: &Setting,
+    order: &[usize],
+) -> Result<Vec<Option<Name>>, AllocError>
+    requires nodes { All (λ n. n < length graph.now.nodes) order.now }
+    requires order { order.now ≡ serial_order graph.now }
+    ensures unchanged { there.new ≡ there.old }
+    ensures choices { IfOk result (λ chosen. chosen.items ≡ map (choice_after
+        (subject_of table.now there.old graph.now setting.now)) order.now) }
+{
+    let writes = writes_among(alloc, graph, setting, order)?;
+    let names = NameTable::new(alloc, writes)?;
+    choices_with(alloc, table, there, names, graph, order)
+}
+
+/// The numbers of the nodes of a graph, in the serial order.
+fn order_of(graph: &Graph) -> Result<Vec<usize>, AllocError>
+    ensures order { IfOk result (λ order. order.items ≡ serial_order graph.now) }
+    ensures nodes { IfOk result (λ order. All (λ n. n < length graph.now.nodes) order.items) }
+    ensures graph { IsGraph graph.now }
+{
+    serial_reaches_each_once();
+    let _nodes = graph.nodes();
+    graph.serial()
+}
+
+/// What is looked up of each node of a graph, in the serial order. The fault is the first one of
+/// their commands. What is there stays as it is.
+pub fn entries_for<'a>(
+    alloc: Global,
+    table: &RuleTable<'_>,
+    there: &mut Exists,
+    graph: &'a Graph,
+    setting: &'a Setting,
+) -> Result<Vec<Entry<'a>>, InferFault>
+    ensures unchanged { there.new ≡ there.old }
+    ensures entries { IfOk result (λ entries. AreEntries
+        (subject_of table.now there.old graph.now setting.now) entries.items) }
+    ensures fault { IfErr result (λ fault. IsFaultOf
+        (subject_of table.now there.old graph.now setting.now) fault) }
+{
+    let order = order_of(graph)?;
+    let after = choices_after(alloc, table, there, graph, setting, &order)?;
+    entries_of(alloc, table, there, graph, setting, &order, &after)
 }
