@@ -8,3 +8,4 @@ pub mod Listed
 pub mod Text
 pub mod Writers
 pub mod Tables
+pub mod Kept

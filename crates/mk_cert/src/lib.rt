@@ -7,6 +7,7 @@ mod finding;
 pub mod laws;
 mod looking_up;
 mod subject;
+mod tables;
 mod writers;
 
 pub use finding::Finding;

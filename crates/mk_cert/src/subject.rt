@@ -1,25 +1,20 @@
 //! What is judged.
 
-ghost use Rattle.std.specs.Prelude.{◌≡◌, ◌<◌, [], All, false, length, map, Ok, IfErr, IfOk};
-ghost use Rattle.std.specs.String.{string_bytes};
+ghost use Rattle.std.specs.Prelude.{◌≡◌, [], false, map, Ok, IfErr, IfOk};
 ghost use Rattle.mk_graph.specs.Graph.{IsGraph};
 ghost use Rattle.mk_graph.specs.Setting as build;
 ghost use Rattle.mk_lines.specs.Names.{has_name};
 ghost use Rattle.mk_infer.specs.Selection.{Selects};
 ghost use Rattle.mk_cert.specs.Subject.{IsSubject, subject_of};
-ghost use Rattle.mk_cert.specs.Entry.{AreEntries, AreEntriesOf, IsFaultOf, IsFirstFault, writers_of};
-ghost use Rattle.mk_cert.specs.Tables.{HoldsNames};
+ghost use Rattle.mk_cert.specs.Entry.{AreEntries, IsFaultOf, writers_of};
 
 use crate::entry::Entry;
-use crate::looking_up::entries_for;
-use crate::writers::{Writers, writers_among};
+use crate::tables::{Tables, tables_for};
 use mk_foot::Setting;
 use mk_graph::Graph;
-use mk_graph::laws::serial_reaches_each_once;
-use mk_infer::{Exists, InferFault, RuleTable};
-use mk_lines::NameSet;
+use mk_infer::{Exists, InferFault};
 use mk_read::Makefile;
-use std::alloc::{AllocError, Global};
+use std::alloc::Global;
 use std::marker::Model;
 
 /// What is judged: a makefile, the files that are there, the graph of the goals, and what was
@@ -31,21 +26,19 @@ pub struct Subject<'a> {
     there: Exists,
     graph: &'a Graph,
     setting: &'a Setting,
-    entries: Vec<Entry<'a>>,
-    writers: Writers<'a>,
-    phony: NameSet<'a>,
+    tables: Tables<'a>,
 }
 
 impl<'a> Model for Subject<'a> {
     ghost use Rattle.mk_cert.specs.Subject as value;
-    ghost use Rattle.mk_cert.specs.Tables.{AreTables};
+    ghost use Rattle.mk_cert.specs.Kept.{AreTablesOf};
 
     ghost Value = { value.Subject };
 
     ghost view = { λ s. value.subject_of s.makefile.now s.there s.graph.now s.setting.now };
 
-    ghost invariant = { λ s. AreTables (value.subject_of s.makefile.now s.there s.graph.now
-        s.setting.now) s.entries.items s.writers s.phony };
+    ghost invariant = { λ s. AreTablesOf
+        (value.subject_of s.makefile.now s.there s.graph.now s.setting.now) s.tables };
 }
 
 impl<'a> Subject<'a> {
@@ -75,20 +68,14 @@ impl<'a> Subject<'a> {
         ensures fault { IfErr result (λ fault. IsFaultOf
             (subject_of makefile.now there graph.now setting.now) fault) }
     {
-        serial_reaches_each_once();
         let mut there = there;
-        let table = RuleTable::new(alloc, makefile)?;
-        let entries = entries_for(alloc, &table, &mut there, graph, setting)?;
-        let writers = writers_among(alloc, &entries)?;
-        let phony = names_among(alloc, makefile.phony())?;
+        let tables = tables_for(alloc, makefile, &mut there, graph, setting)?;
         Ok(Subject {
             makefile,
             there,
             graph,
             setting,
-            entries,
-            writers,
-            phony,
+            tables,
         })
     }
 
@@ -126,14 +113,14 @@ impl<'a> Subject<'a> {
     pub(crate) fn entries(&self) -> &[Entry<'a>]
         ensures { AreEntries self.now result.now }
     {
-        self.entries.as_slice()
+        self.tables.entries.as_slice()
     }
 
     /// The numbers of the nodes that write a file, in the serial order.
     pub(crate) fn writers(&self, file: &str) -> &[usize]
         ensures { result.now ≡ writers_of self.now file.now }
     {
-        match self.writers.get(file) {
+        match self.tables.writers.get(file) {
             Some(numbers) => numbers.as_slice(),
             None => &[],
         }
@@ -143,17 +130,6 @@ impl<'a> Subject<'a> {
     pub(crate) fn is_phony(&self, name: &str) -> bool
         ensures { result ≡ has_name self.now.makefile.phony name.now }
     {
-        self.phony.contains(name)
+        self.tables.phony.contains(name)
     }
-}
-
-/// The names of a list, to be looked up.
-fn names_among<'a>(alloc: Global, names: &'a [String]) -> Result<NameSet<'a>, AllocError>
-    ensures { IfOk result (λ set. HoldsNames set (map string_bytes names.now)) }
-{
-    let mut set = NameSet::new(alloc);
-    for name in names {
-        set.insert(name)?;
-    }
-    Ok(set)
 }

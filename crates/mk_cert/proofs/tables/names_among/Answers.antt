@@ -1,7 +1,7 @@
 use Rattle.std.proofs.Common.{◌≡◌, ◌<◌, ◌∙◌, ap, length, get_or, arith}
 use Rattle.std.specs.String.{string_bytes}
 use Rattle.mk_cert.proofs.Writing.{seen_more}
-use Rattle.mk_cert.proofs.subject.names_among.Goals as goal
+use Rattle.mk_cert.proofs.tables.names_among.Goals as goal
 
 pub loop-name-preserved : goal.loop-name-preserved
 loop-name-preserved c = λ name.
