@@ -4,3 +4,4 @@ pub mod Sound
 pub mod Selected
 pub mod Writing
 pub mod Entries
+pub mod Adding
