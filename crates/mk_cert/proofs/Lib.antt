@@ -5,3 +5,4 @@ pub mod Selected
 pub mod Writing
 pub mod Entries
 pub mod Adding
+pub mod Decided

@@ -8,4 +8,5 @@ pub mod Listed
 pub mod Text
 pub mod Writers
 pub mod Tables
+pub mod Tests
 pub mod Kept

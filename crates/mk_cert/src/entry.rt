@@ -1,6 +1,6 @@
 //! What is looked up of a node.
 
-ghost use Rattle.std.specs.Prelude.{◌≡◌, map};
+ghost use Rattle.std.specs.Prelude.{◌≡◌, map, IfOk};
 ghost use Rattle.std.specs.Option.{option_copied};
 ghost use Rattle.std.specs.String.{string_bytes};
 ghost use Rattle.mk_cert.specs.Entry.{reads_in, writes_in, entry_reads, entry_writes};
@@ -9,6 +9,7 @@ use mk_foot::Record;
 use mk_graph::Node;
 use mk_infer::Commands;
 use mk_lines::Name;
+use std::alloc::AllocError;
 use std::marker::Model;
 
 /// A node with what a subject looks up of it. A contract sees lists.
@@ -71,6 +72,13 @@ impl<'a> Entry<'a> {
         ensures { result.now ≡ self.now.node.name }
     {
         self.node.name.as_str()
+    }
+
+    /// A copy of its name.
+    pub fn copy_of_name(&self) -> Result<Name, AllocError>
+        ensures { IfOk result (λ name. name ≡ self.now.node.name) }
+    {
+        self.node.name.clone()
     }
 
     /// The files that its recipe reads: none without a recipe or a record.

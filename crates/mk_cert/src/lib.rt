@@ -6,6 +6,7 @@ mod entry;
 mod finding;
 pub mod laws;
 mod looking_up;
+mod node_findings;
 mod subject;
 mod tables;
 mod writers;
