@@ -10,9 +10,9 @@ use Rattle.mk_graph.specs.declared.node.Node.{Node}
 use Rattle.mk_foot.specs.Book.{Record}
 use Rattle.mk_infer.specs.Commands.{Commands}
 use Rattle.mk_cert.specs.Subject.{Subject, name_of, record_of, commands_of, writes_of}
-use Rattle.mk_cert.specs.Conditions.{HasNoRecord, HasVaryingCommands, LacksItsTarget}
+use Rattle.mk_cert.specs.Conditions.{HasNoRecord, HasOtherCommands, HasVaryingCommands, LacksItsTarget}
 use Rattle.mk_cert.specs.Entry.{Entry, IsEntry, entry_writes}
-use Rattle.mk_cert.specs.Tests.{lacks_record, has_varying, lacks_target}
+use Rattle.mk_cert.specs.Tests.{lacks_record, has_varying, lacks_target, lines_eq, has_others, has_other_commands}
 use Rattle.mk_cert.proofs.Entries.{same_writes}
 
 -- both of two tests
@@ -99,3 +99,39 @@ target_there x e is f (recipe, (r, recorded), phony, out) =
 -- a name that is told of a node is its name
 pub name_is : (x : Subject) (e : Entry) (name : List ℕ) → IsEntry x e → name ≡ e.node.name → name ≡ name_of x e.number
 name_is x e name is same = same ∙ ap (λ (n : Node). n.name) is.same_node
+
+-- lists of lines are equal just where the test says so
+lines_same : (xs ys : List (List ℕ)) → lines_eq xs ys ≡ true → xs ≡ ys
+lines_same [] [] t = refl
+lines_same [] (y ∷ ys) t = absurd (let e : false ≡ true = t in cc)
+lines_same (x ∷ xs) [] t = absurd (let e : false ≡ true = t in cc)
+lines_same (x ∷ xs) (y ∷ ys) t =
+    let both = and_both (bytes_eq x y) (lines_eq xs ys) t in
+    let here : x ≡ y = (bytes_eq-Decides x y).0 both.0 in
+    ap (λ (h : List ℕ). h ∷ xs) here ∙ ap (λ (l : List (List ℕ)). y ∷ l) (lines_same xs ys both.1)
+
+lines_equal : (xs : List (List ℕ)) → lines_eq xs xs ≡ true
+lines_equal [] = refl
+lines_equal (x ∷ xs) = both_and (bytes_eq x x) (lines_eq xs xs) ((bytes_eq-Decides x x).1 refl) (lines_equal xs)
+
+-- other commands
+others_some : (o : Option Record) (lines : List (List ℕ)) → has_others o lines ≡ true → (r : Record) × (o ≡ Some r) × (¬ (r.commands ≡ lines))
+others_some None lines t = absurd (let e : false ≡ true = t in cc)
+others_some (Some r) lines t = (r, refl, λ same. true≢false (sym (lines_equal lines) ∙ (ap (λ (l : List (List ℕ)). lines_eq l lines) (sym same) ∙ not_true (lines_eq r.commands lines) t)))
+
+others_from : (r : Record) (lines : List (List ℕ)) → ¬ (r.commands ≡ lines) → has_others (Some r) lines ≡ true
+others_from r lines differ = ⊎_elim (λ t. absurd (differ (lines_same r.commands lines t))) (λ f. ap (λ b. not b) f) (cases_Bool (lines_eq r.commands lines))
+
+pub other_commands_there : (x : Subject) (e : Entry) → IsEntry x e → has_other_commands e ≡ true → HasOtherCommands x e.number
+other_commands_there x e is t =
+    let recipe = and_both e.node.recipe _ t in
+    let varying = and_both (not e.commands.varying) _ recipe.1 in
+    let others = others_some e.recorded e.commands.lines varying.1 in
+    (sym (ap (λ (n : Node). n.recipe) is.same_node) ∙ recipe.0, others.0, sym is.same_record ∙ others.1, e.commands, is.same_commands, not_true e.commands.varying varying.0, others.2)
+
+pub no_other_commands : (x : Subject) (e : Entry) → IsEntry x e → has_other_commands e ≡ false → ¬ (HasOtherCommands x e.number)
+no_other_commands x e is f (recipe, r, recorded, c, told, steady, differ) =
+    let same : Ok c ≡ Ok e.commands = sym told ∙ is.same_commands in
+    let k : c ≡ e.commands = cc in
+    let other : has_others e.recorded e.commands.lines ≡ true = ap (λ (o : Option Record). has_others o e.commands.lines) (is.same_record ∙ recorded) ∙ others_from r e.commands.lines (λ h. differ (h ∙ ap (λ (d : Commands). d.lines) (sym k))) in
+    true≢false (sym (both_and e.node.recipe _ (ap (λ (n : Node). n.recipe) is.same_node ∙ recipe) (both_and (not e.commands.varying) _ (ap (λ (d : Commands). not d.varying) (sym k) ∙ ap (λ b. not b) steady) other)) ∙ f)
