@@ -1,6 +1,6 @@
 -- What is tested of nodes decides what is found.
-use Rattle.std.proofs.Common.{◌≡◌, ℕ, List, [], ◌∷◌, Bool, true, false, Option, None, Some, Ok, refl, sym, ap, subst, ◌∙◌, inl, inr, ⊎_elim}
-use Rattle.std.specs.Prelude.{not, is_some, is_none, bytes_eq, ◌&&◌, ◌||◌}
+use Rattle.std.proofs.Common.{◌≡◌, ℕ, List, [], ◌∷◌, length, map, Bool, true, false, Option, None, Some, Ok, refl, sym, ap, subst, ◌∙◌, inl, inr, ⊎_elim}
+use Rattle.std.specs.Prelude.{not, option_to_list, is_some, is_none, bytes_eq, ◌&&◌, ◌||◌}
 use Rattle.std.proofs.lemmas.Bool.{true≢false, cases_Bool}
 use Rattle.std.proofs.lemmas.Slice.Eq.{bytes_eq-Decides}
 use Rattle.mk_lines.specs.Names.{has_name}
@@ -10,7 +10,10 @@ use Rattle.mk_graph.specs.declared.node.Node.{Node}
 use Rattle.mk_foot.specs.Book.{Record}
 use Rattle.mk_infer.specs.Commands.{Commands}
 use Rattle.mk_cert.specs.Subject.{Subject, name_of, record_of, commands_of, writes_of}
-use Rattle.mk_cert.specs.Conditions.{HasNoRecord, HasOtherCommands, HasVaryingCommands, LacksItsTarget}
+use Rattle.mk_cert.specs.Conditions.{HasNoRecord, HasOtherCommands, HasVaryingCommands, LacksItsTarget, ChoosesOtherwise}
+use Rattle.mk_cert.specs.Candidates.{selection, choice_with_writes}
+use Rattle.mk_cert.specs.Listed.{Adds}
+use Rattle.mk_cert.specs.declared.finding.Finding.{Finding}
 use Rattle.mk_cert.specs.Entry.{Entry, IsEntry, entry_writes}
 use Rattle.mk_cert.specs.Tests.{lacks_record, has_varying, lacks_target, lines_eq, has_others, has_other_commands}
 use Rattle.mk_cert.proofs.Entries.{same_writes}
@@ -135,3 +138,18 @@ no_other_commands x e is f (recipe, r, recorded, c, told, steady, differ) =
     let k : c ≡ e.commands = cc in
     let other : has_others e.recorded e.commands.lines ≡ true = ap (λ (o : Option Record). has_others o e.commands.lines) (is.same_record ∙ recorded) ∙ others_from r e.commands.lines (λ h. differ (h ∙ ap (λ (d : Commands). d.lines) (sym k))) in
     true≢false (sym (both_and e.node.recipe _ (ap (λ (n : Node). n.recipe) is.same_node ∙ recipe) (both_and (not e.commands.varying) _ (ap (λ (d : Commands). not d.varying) (sym k) ∙ ap (λ b. not b) steady) other)) ∙ f)
+
+-- lists of different lengths differ
+pub lines_differ : (xs ys : List (List ℕ)) → ¬ (length xs ≡ length ys) → false ≡ lines_eq xs ys
+lines_differ xs ys differ = ⊎_elim (λ t. absurd (differ (ap (λ (l : List (List ℕ)). length l) (lines_same xs ys t)))) (λ f. sym f) (cases_Bool (lines_eq xs ys))
+
+-- the selection that may be found of a node is the one that is looked up
+pub selection_is : (x : Subject) (e : Entry) (o : Option (List ℕ)) (old new : List Finding) → IsEntry x e → e.chosen_after ≡ o → Adds x (map (λ c. selection e.number c) (option_to_list o)) old new → Adds x (map (λ c. selection e.number c) (choice_with_writes x e.number)) old new
+selection_is x e o old new is same h = subst (λ (k : Option (List ℕ)). Adds x (map (λ c. selection e.number c) (option_to_list k)) old new) (sym same ∙ is.same_choice_after) h
+
+-- another choice, and the same one
+pub other_choice : (x : Subject) (e : Entry) (c : List ℕ) → IsEntry x e → e.chosen_after ≡ Some c → ¬ (e.chosen ≡ Some c) → ChoosesOtherwise x e.number c
+other_choice x e c is after differ = (sym is.same_choice_after ∙ after, λ h. differ (is.same_choice ∙ h))
+
+pub same_choice_stays : (x : Subject) (e : Entry) (c : List ℕ) → IsEntry x e → e.chosen ≡ Some c → ¬ (ChoosesOtherwise x e.number c)
+same_choice_stays x e c is same (after, differ) = differ (sym is.same_choice ∙ same)
