@@ -30,6 +30,18 @@ module _ {A : Type 0} where
   in_joined f (y ∷ xs) x c (inl here) within = in_first (f y) (flat_map f xs) c (subst (λ (k : _). Has (f k) c) (sym here) within)
   in_joined f (y ∷ xs) x c (inr there) within = in_second (f y) (flat_map f xs) c (in_joined f xs x c there within)
 
+module _ {A : Type 0} where
+  -- what stands in two lists, one behind the other, stands in one of them
+  in_either : (xs ys : List A) (c : A) → Has (xs ++ ys) c → Has xs c ⊎ Has ys c
+  in_either [] ys c h = inr h
+  in_either (x ∷ xs) ys c (inl here) = inl (inl here)
+  in_either (x ∷ xs) ys c (inr there) = ⊎_elim (λ k. inl (inr k)) (λ k. inr k) (in_either xs ys c there)
+
+  -- what stands in the lists of all elements stands in that of one
+  pub from_joined : {B : Type 0} (f : B → List A) (xs : List B) (c : A) → Has (flat_map f xs) c → (x : B) × Has (f x) c
+  from_joined f [] c h = absurd h
+  from_joined f (x ∷ xs) c h = ⊎_elim (λ here. (x, here)) (λ there. from_joined f xs c there) (in_either (f x) (flat_map f xs) c h)
+
 -- of two recipes of a list that write a file, one stands with the other behind it
 pub pair_stands : (x : Subject) (order : List ℕ) (o t : ℕ) (f : List ℕ) → ¬ (o ≡ t) → Has order o → Has order t → Has (writes_of x o) f → Has (writes_of x t) f → Has (pairs_of_writers x order) (two_writers o t f) ⊎ Has (pairs_of_writers x order) (two_writers t o f)
 pair_stands x [] o t f differ o_in t_in o_wrote t_wrote = absurd o_in

@@ -4,7 +4,7 @@ use Rattle.mk_graph.specs.Membership.{Has}
 use Rattle.mk_graph.specs.Graph.{IsGraph}
 use Rattle.mk_graph.specs.Right.{AreSound, HaveNoRace, HaveWays, IsRight}
 use Rattle.mk_infer.specs.Laws.{StaysSelected}
-use Rattle.mk_cert.specs.Subject.{Subject, IsSubject, footprints, name_of}
+use Rattle.mk_cert.specs.Subject.{Subject, IsSubject, footprints, name_of, writes_of}
 use Rattle.mk_cert.specs.Conditions.{all_writes}
 use Rattle.mk_cert.specs.Candidates.{Candidate, Holds, static_candidates, race_candidates}
 use Rattle.mk_cert.specs.Listing.{Lists}
@@ -20,6 +20,12 @@ abbrev pub ListedExactly : Type 0
 ListedExactly =
     (x : Subject) (all kept : List Candidate) → Lists x all kept →
     (c : Candidate) → Has kept c ↔ (Has all c × Holds x c)
+
+-- What is written is each file that a recipe of the graph writes, and nothing else.
+abbrev pub AllWritesExactly : Type 0
+AllWritesExactly =
+    (x : Subject) → IsGraph x.graph → (f : List ℕ) → Has (all_writes x) f ↔
+    ((t : ℕ) × Has (writes_of x t) f)
 
 -- Where nothing static is found, footprints are sound.
 abbrev pub NothingFoundIsSound : Type 0

@@ -3,3 +3,10 @@ pub mod Conditions
 pub mod Candidates
 pub mod Listing
 pub mod Laws
+pub mod Entry
+pub mod Listed
+pub mod Text
+pub mod Writers
+pub mod Tables
+pub mod Tests
+pub mod Kept

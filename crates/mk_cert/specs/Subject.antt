@@ -16,6 +16,10 @@ pub record Subject : Type 0 where
   pub graph : Graph
   pub setting : foot.Setting
 
+-- the subject of these four
+abbrev pub subject_of : Makefile → Exists → Graph → foot.Setting → Subject
+subject_of m e g s = record { makefile = m; there = e; graph = g; setting = s }
+
 -- what is recorded, as builds know it: by the name of a recipe the files that it reads and writes
 abbrev pub footprints : foot.Setting → build.Setting
 footprints s = record {

@@ -1,7 +1,7 @@
 //! Laws of findings. Each is the contract of a function that calls laws alone: who calls it has the
 //! law.
 
-ghost use Rattle.mk_cert.specs.Laws.{ListIsOne, ListedExactly, NothingFoundIsSound, NothingFoundIsSelected, NoRaceFoundIsNone, NothingFoundIsRight};
+ghost use Rattle.mk_cert.specs.Laws.{ListIsOne, ListedExactly, AllWritesExactly, NothingFoundIsSound, NothingFoundIsSelected, NoRaceFoundIsNone, NothingFoundIsRight};
 
 use mk_graph::build_laws::{accepted_is_right, before_is_decided};
 use mk_graph::laws::serial_reaches_each_once;
@@ -24,6 +24,13 @@ pub fn no_race_found_is_none()
 pub fn listed_exactly()
     ensures { ListedExactly }
 {}
+
+/// What is written is each file that a recipe of the graph writes, and nothing else.
+pub fn all_writes_exactly()
+    ensures { AllWritesExactly }
+{
+    serial_reaches_each_once();
+}
 
 /// Where nothing is found in footprints alone, they are sound.
 pub fn nothing_found_is_sound()

@@ -2,4 +2,14 @@
 //! is.
 #![tactic(auto)]
 
+mod entry;
+mod finding;
 pub mod laws;
+mod looking_up;
+mod node_findings;
+mod subject;
+mod tables;
+mod writers;
+
+pub use finding::Finding;
+pub use subject::Subject;

@@ -1,0 +1,155 @@
+-- What is tested of nodes decides what is found.
+use Rattle.std.proofs.Common.{◌≡◌, ℕ, List, [], ◌∷◌, length, map, Bool, true, false, Option, None, Some, Ok, refl, sym, ap, subst, ◌∙◌, inl, inr, ⊎_elim}
+use Rattle.std.specs.Prelude.{not, option_to_list, is_some, is_none, bytes_eq, ◌&&◌, ◌||◌}
+use Rattle.std.proofs.lemmas.Bool.{true≢false, cases_Bool}
+use Rattle.std.proofs.lemmas.Slice.Eq.{bytes_eq-Decides}
+use Rattle.mk_lines.specs.Names.{has_name}
+use Rattle.mk_graph.specs.Membership.{Has}
+use Rattle.mk_graph.specs.Graph.{node}
+use Rattle.mk_graph.specs.declared.node.Node.{Node}
+use Rattle.mk_foot.specs.Book.{Record}
+use Rattle.mk_infer.specs.Commands.{Commands}
+use Rattle.mk_cert.specs.Subject.{Subject, name_of, record_of, commands_of, writes_of}
+use Rattle.mk_cert.specs.Conditions.{HasNoRecord, HasOtherCommands, HasVaryingCommands, LacksItsTarget, ChoosesOtherwise}
+use Rattle.mk_cert.specs.Candidates.{selection, choice_with_writes}
+use Rattle.mk_cert.specs.Listed.{Adds}
+use Rattle.mk_cert.specs.declared.finding.Finding.{Finding}
+use Rattle.mk_cert.specs.Entry.{Entry, IsEntry, entry_writes}
+use Rattle.mk_cert.specs.Tests.{lacks_record, has_varying, lacks_target, lines_eq, has_others, has_other_commands}
+use Rattle.mk_cert.proofs.Entries.{same_writes}
+
+-- both of two tests
+and_both : (a b : Bool) → (a && b) ≡ true → (a ≡ true) × (b ≡ true)
+and_both true true e = (refl, refl)
+and_both true false e = absurd (let f : false ≡ true = e in cc)
+and_both false b e = absurd (let f : false ≡ true = e in cc)
+
+both_and : (a b : Bool) → a ≡ true → b ≡ true → (a && b) ≡ true
+both_and a b e f = rw (e, f) refl
+
+is_none_none : {A : Type 0} (o : Option A) → is_none o ≡ true → o ≡ None
+is_none_none None e = refl
+is_none_none (Some a) e = absurd (let f : false ≡ true = e in cc)
+
+-- no record
+pub record_lacking : (x : Subject) (e : Entry) → IsEntry x e → lacks_record e ≡ true → HasNoRecord x e.number
+record_lacking x e is t =
+    let both = and_both e.node.recipe (is_none e.recorded) t in
+    (sym (ap (λ (n : Node). n.recipe) is.same_node) ∙ both.0, sym is.same_record ∙ is_none_none e.recorded both.1)
+
+pub record_there : (x : Subject) (e : Entry) → IsEntry x e → lacks_record e ≡ false → ¬ (HasNoRecord x e.number)
+record_there x e is f (recipe, none) =
+    true≢false (sym (both_and e.node.recipe (is_none e.recorded) (ap (λ (n : Node). n.recipe) is.same_node ∙ recipe) (ap (λ (o : Option Record). is_none o) (is.same_record ∙ none))) ∙ f)
+
+-- varying commands
+pub varying_commands_there : (x : Subject) (e : Entry) → IsEntry x e → has_varying e ≡ true → HasVaryingCommands x e.number
+varying_commands_there x e is t =
+    let both = and_both e.node.recipe e.commands.varying t in
+    (sym (ap (λ (n : Node). n.recipe) is.same_node) ∙ both.0, e.commands, is.same_commands, both.1)
+
+pub no_varying_commands : (x : Subject) (e : Entry) → IsEntry x e → has_varying e ≡ false → ¬ (HasVaryingCommands x e.number)
+no_varying_commands x e is f (recipe, c, told, varying) =
+    let same : Ok c ≡ Ok e.commands = sym told ∙ is.same_commands in
+    let k : c ≡ e.commands = cc in
+    true≢false (sym (both_and e.node.recipe e.commands.varying (ap (λ (n : Node). n.recipe) is.same_node ∙ recipe) (ap (λ (d : Commands). d.varying) (sym k) ∙ varying)) ∙ f)
+
+or_second : (a b : Bool) → b ≡ true → (a || b) ≡ true
+or_second true b e = refl
+or_second false b e = e
+
+or_rest : (a b : Bool) → a ≡ false → (a || b) ≡ true → b ≡ true
+or_rest a b e t = let f : (false || b) ≡ true = subst (λ (c : Bool). (c || b) ≡ true) e t in f
+
+-- a name stands in a list or not, as the test says
+has_true : (files : List (List ℕ)) (f : List ℕ) → Has files f → has_name files f ≡ true
+has_true [] f h = absurd h
+has_true (k ∷ files) f (inl here) = rw ((bytes_eq-Decides f k).1 (sym here)) refl
+has_true (k ∷ files) f (inr there) = or_second (bytes_eq f k) (has_name files f) (has_true files f there)
+
+true_has : (files : List (List ℕ)) (f : List ℕ) → has_name files f ≡ true → Has files f
+true_has [] f t = absurd (let e : false ≡ true = t in cc)
+true_has (k ∷ files) f t = ⊎_elim (λ e. inl (sym ((bytes_eq-Decides f k).0 e))) (λ e. inr (true_has files f (or_rest (bytes_eq f k) (has_name files f) e t))) (cases_Bool (bytes_eq f k))
+
+pub has_decides : (files : List (List ℕ)) (f : List ℕ) → (has_name files f ≡ true → Has files f) × (Has files f → has_name files f ≡ true)
+has_decides files f = (true_has files f, has_true files f)
+
+not_true : (b : Bool) → not b ≡ true → b ≡ false
+not_true true e = absurd (let f : false ≡ true = e in cc)
+not_true false e = refl
+
+some_is : {A : Type 0} (o : Option A) → is_some o ≡ true → (a : A) × (o ≡ Some a)
+some_is None e = absurd (let f : false ≡ true = e in cc)
+some_is (Some a) e = (a, refl)
+
+-- no target
+pub target_lacking : (x : Subject) (e : Entry) → IsEntry x e → lacks_target e ≡ true → LacksItsTarget x e.number
+target_lacking x e is t =
+    let recipe = and_both e.node.recipe _ t in
+    let recorded = and_both (is_some e.recorded) _ recipe.1 in
+    let phony = and_both (not e.node.phony) _ recorded.1 in
+    let record_is = some_is e.recorded recorded.0 in
+    let out : has_name (entry_writes e) e.node.name ≡ false = not_true _ phony.1 in
+    (sym (ap (λ (n : Node). n.recipe) is.same_node) ∙ recipe.0,
+    (record_is.0, sym is.same_record ∙ record_is.1),
+    sym (ap (λ (n : Node). n.phony) is.same_node) ∙ not_true e.node.phony phony.0,
+    λ h. true≢false (sym (has_true (entry_writes e) e.node.name (subst (λ (n : Node). Has (entry_writes e) n.name) (sym is.same_node) (subst (λ (fs : List (List ℕ)). Has fs (name_of x e.number)) (sym (same_writes x e is)) h))) ∙ out))
+
+pub target_there : (x : Subject) (e : Entry) → IsEntry x e → lacks_target e ≡ false → ¬ (LacksItsTarget x e.number)
+target_there x e is f (recipe, (r, recorded), phony, out) =
+    let unwritten : has_name (entry_writes e) e.node.name ≡ false = ⊎_elim (λ t. absurd (out (subst (λ (fs : List (List ℕ)). Has fs (name_of x e.number)) (same_writes x e is) (subst (λ (n : Node). Has (entry_writes e) n.name) is.same_node (true_has (entry_writes e) e.node.name t))))) (λ e. e) (cases_Bool (has_name (entry_writes e) e.node.name)) in
+    true≢false (sym (both_and e.node.recipe _ (ap (λ (n : Node). n.recipe) is.same_node ∙ recipe) (both_and (is_some e.recorded) _ (ap (λ (o : Option Record). is_some o) (is.same_record ∙ recorded)) (both_and (not e.node.phony) _ (ap (λ (n : Node). not n.phony) is.same_node ∙ ap (λ b. not b) phony) (ap (λ b. not b) unwritten)))) ∙ f)
+
+-- a name that is told of a node is its name
+pub name_is : (x : Subject) (e : Entry) (name : List ℕ) → IsEntry x e → name ≡ e.node.name → name ≡ name_of x e.number
+name_is x e name is same = same ∙ ap (λ (n : Node). n.name) is.same_node
+
+-- lists of lines are equal just where the test says so
+lines_same : (xs ys : List (List ℕ)) → lines_eq xs ys ≡ true → xs ≡ ys
+lines_same [] [] t = refl
+lines_same [] (y ∷ ys) t = absurd (let e : false ≡ true = t in cc)
+lines_same (x ∷ xs) [] t = absurd (let e : false ≡ true = t in cc)
+lines_same (x ∷ xs) (y ∷ ys) t =
+    let both = and_both (bytes_eq x y) (lines_eq xs ys) t in
+    let here : x ≡ y = (bytes_eq-Decides x y).0 both.0 in
+    ap (λ (h : List ℕ). h ∷ xs) here ∙ ap (λ (l : List (List ℕ)). y ∷ l) (lines_same xs ys both.1)
+
+lines_equal : (xs : List (List ℕ)) → lines_eq xs xs ≡ true
+lines_equal [] = refl
+lines_equal (x ∷ xs) = both_and (bytes_eq x x) (lines_eq xs xs) ((bytes_eq-Decides x x).1 refl) (lines_equal xs)
+
+-- other commands
+others_some : (o : Option Record) (lines : List (List ℕ)) → has_others o lines ≡ true → (r : Record) × (o ≡ Some r) × (¬ (r.commands ≡ lines))
+others_some None lines t = absurd (let e : false ≡ true = t in cc)
+others_some (Some r) lines t = (r, refl, λ same. true≢false (sym (lines_equal lines) ∙ (ap (λ (l : List (List ℕ)). lines_eq l lines) (sym same) ∙ not_true (lines_eq r.commands lines) t)))
+
+others_from : (r : Record) (lines : List (List ℕ)) → ¬ (r.commands ≡ lines) → has_others (Some r) lines ≡ true
+others_from r lines differ = ⊎_elim (λ t. absurd (differ (lines_same r.commands lines t))) (λ f. ap (λ b. not b) f) (cases_Bool (lines_eq r.commands lines))
+
+pub other_commands_there : (x : Subject) (e : Entry) → IsEntry x e → has_other_commands e ≡ true → HasOtherCommands x e.number
+other_commands_there x e is t =
+    let recipe = and_both e.node.recipe _ t in
+    let varying = and_both (not e.commands.varying) _ recipe.1 in
+    let others = others_some e.recorded e.commands.lines varying.1 in
+    (sym (ap (λ (n : Node). n.recipe) is.same_node) ∙ recipe.0, others.0, sym is.same_record ∙ others.1, e.commands, is.same_commands, not_true e.commands.varying varying.0, others.2)
+
+pub no_other_commands : (x : Subject) (e : Entry) → IsEntry x e → has_other_commands e ≡ false → ¬ (HasOtherCommands x e.number)
+no_other_commands x e is f (recipe, r, recorded, c, told, steady, differ) =
+    let same : Ok c ≡ Ok e.commands = sym told ∙ is.same_commands in
+    let k : c ≡ e.commands = cc in
+    let other : has_others e.recorded e.commands.lines ≡ true = ap (λ (o : Option Record). has_others o e.commands.lines) (is.same_record ∙ recorded) ∙ others_from r e.commands.lines (λ h. differ (h ∙ ap (λ (d : Commands). d.lines) (sym k))) in
+    true≢false (sym (both_and e.node.recipe _ (ap (λ (n : Node). n.recipe) is.same_node ∙ recipe) (both_and (not e.commands.varying) _ (ap (λ (d : Commands). not d.varying) (sym k) ∙ ap (λ b. not b) steady) other)) ∙ f)
+
+-- lists of different lengths differ
+pub lines_differ : (xs ys : List (List ℕ)) → ¬ (length xs ≡ length ys) → false ≡ lines_eq xs ys
+lines_differ xs ys differ = ⊎_elim (λ t. absurd (differ (ap (λ (l : List (List ℕ)). length l) (lines_same xs ys t)))) (λ f. sym f) (cases_Bool (lines_eq xs ys))
+
+-- the selection that may be found of a node is the one that is looked up
+pub selection_is : (x : Subject) (e : Entry) (o : Option (List ℕ)) (old new : List Finding) → IsEntry x e → e.chosen_after ≡ o → Adds x (map (λ c. selection e.number c) (option_to_list o)) old new → Adds x (map (λ c. selection e.number c) (choice_with_writes x e.number)) old new
+selection_is x e o old new is same h = subst (λ (k : Option (List ℕ)). Adds x (map (λ c. selection e.number c) (option_to_list k)) old new) (sym same ∙ is.same_choice_after) h
+
+-- another choice, and the same one
+pub other_choice : (x : Subject) (e : Entry) (c : List ℕ) → IsEntry x e → e.chosen_after ≡ Some c → ¬ (e.chosen ≡ Some c) → ChoosesOtherwise x e.number c
+other_choice x e c is after differ = (sym is.same_choice_after ∙ after, λ h. differ (is.same_choice ∙ h))
+
+pub same_choice_stays : (x : Subject) (e : Entry) (c : List ℕ) → IsEntry x e → e.chosen ≡ Some c → ¬ (ChoosesOtherwise x e.number c)
+same_choice_stays x e c is same (after, differ) = differ (sym is.same_choice ∙ same)

@@ -1,0 +1,82 @@
+-- Tables of who writes a file, as nodes and their files are added.
+use Rattle.std.proofs.Common.{◌≡◌, ℕ, ◌+◌, ◌<◌, Bool, true, false, not, ◌||◌, cond, List, [], ◌∷◌, ◌++◌, length, get_or, map, take, refl, sym, ap, ◌∙◌, append-nil}
+use Rattle.std.specs.Prelude.{filter}
+use Rattle.std.specs.Str.{bytes_eq}
+use Rattle.std.proofs.lemmas.Bool.{not-false, not-true}
+use Rattle.std.proofs.lemmas.List.{take_more, map_push, map-append}
+use Rattle.std.proofs.lemmas.List.Elements.{filter_more}
+use Rattle.std.proofs.lemmas.List.Folds.{list_any-append}
+use Rattle.std.proofs.lemmas.Slice.Eq.{bytes_eq-Decides}
+use Rattle.mk_lines.specs.Names.{has_name}
+use Rattle.mk_cert.specs.Entry.{Entry, entry_writes}
+
+or_false : (a : Bool) → (a || false) ≡ a
+or_false true = refl
+or_false false = refl
+
+-- a name more
+has_name_push : (names : List (List ℕ)) (name other : List ℕ) → has_name (names ++ name ∷ []) other ≡ (has_name names other || bytes_eq other name)
+has_name_push names name other = list_any-append (λ n. bytes_eq other n) names (name ∷ []) ∙ ap (λ b. has_name names other || b) (or_false (bytes_eq other name))
+
+-- a name that is there, and another one or itself
+or_there : (names : List (List ℕ)) (name other : List ℕ) → has_name names name ≡ true → (b : Bool) → bytes_eq other name ≡ b → has_name names other ≡ (has_name names other || b)
+or_there names name other h false e = sym (or_false (has_name names other))
+or_there names name other h true e =
+    let same : has_name names other ≡ true = ap (has_name names) ((bytes_eq-Decides other name).0 e) ∙ h in
+    same ∙ sym (ap (λ b. b || true) same)
+
+-- which names are there after one was added
+after_insert : (names : List (List ℕ)) (name other : List ℕ) (b : Bool) → has_name names name ≡ b → has_name (cond b names (names ++ name ∷ [])) other ≡ (has_name names other || bytes_eq other name)
+after_insert names name other true h = or_there names name other h (bytes_eq other name) refl
+after_insert names name other false h = has_name_push names name other
+
+-- a file more is seen
+pub seen_more : {A : Type 0} (view : A → List ℕ) (seen new : List (List ℕ)) (files : List A) (i : ℕ) (d : A) (x name : List ℕ) → new ≡ cond (has_name seen x) seen (seen ++ x ∷ []) → x ≡ view (get_or files i d)
+    → has_name seen name ≡ has_name (map view (take i files)) name → i < length files → has_name new name ≡ has_name (map view (take (i + 1) files)) name
+seen_more view seen new files i d x name e is h lt =
+    let more : map view (take (i + 1) files) ≡ map view (take i files) ++ x ∷ [] =
+    ap (map view) (take_more files i d lt) ∙ (map_push view (take i files) (get_or files i d) ∙ ap (λ n. map view (take i files) ++ n ∷ []) (sym is)) in
+    ap (λ ns. has_name ns name) e ∙ (after_insert seen x name (has_name seen x) refl
+    ∙ (ap (λ b. b || bytes_eq name x) h ∙ sym (ap (λ ns. has_name ns name) more ∙ has_name_push (map view (take i files)) x name)))
+
+-- a file that was seen changes nothing
+pub noted_same : (seen new : List (List ℕ)) (x name : List ℕ) (numbers old : List ℕ) (number : ℕ) (added : Bool) → added ≡ not (has_name seen x) → added ≡ false → new ≡ cond (has_name seen x) seen (seen ++ x ∷ [])
+    → numbers ≡ cond (has_name seen name) (old ++ number ∷ []) old → numbers ≡ cond (has_name new name) (old ++ number ∷ []) old
+noted_same seen new x name numbers old number added a f e h =
+    let there : has_name seen x ≡ true = not-false (has_name seen x) (sym a ∙ f) in
+    let same : new ≡ seen = e ∙ ap (λ b. cond b seen (seen ++ x ∷ [])) there in
+    h ∙ ap (λ s. cond (has_name s name) (old ++ number ∷ []) old) (sym same)
+
+-- a new one has the number
+at_name : (seen : List (List ℕ)) (x name : List ℕ) (old : List ℕ) (number : ℕ) (before : List ℕ) → has_name seen x ≡ false → before ≡ cond (has_name seen name) (old ++ number ∷ []) old → (b : Bool) → bytes_eq name x ≡ b
+    → cond b (before ++ number ∷ []) before ≡ cond (has_name seen name || b) (old ++ number ∷ []) old
+at_name seen x name old number before new h true t =
+    let unseen : has_name seen name ≡ false = ap (has_name seen) ((bytes_eq-Decides name x).0 t) ∙ new in
+    ap (λ ps. ps ++ number ∷ []) (h ∙ ap (λ b. cond b (old ++ number ∷ []) old) unseen) ∙ sym (ap (λ b. cond (b || true) (old ++ number ∷ []) old) unseen)
+at_name seen x name old number before new h false t = h ∙ sym (or_none (has_name seen name))
+  where
+    or_none : (b : Bool) → cond (b || false) (old ++ number ∷ []) old ≡ cond b (old ++ number ∷ []) old
+    or_none true = refl
+    or_none false = refl
+
+pub noted_more : (seen new : List (List ℕ)) (x name : List ℕ) (before after old : List ℕ) (number : ℕ) (added : Bool) → added ≡ not (has_name seen x) → added ≡ true → new ≡ cond (has_name seen x) seen (seen ++ x ∷ [])
+    → before ≡ cond (has_name seen name) (old ++ number ∷ []) old → after ≡ cond (bytes_eq name x) (before ++ number ∷ []) before → after ≡ cond (has_name new name) (old ++ number ∷ []) old
+noted_more seen new x name before after old number added a t e h k =
+    let unseen : has_name seen x ≡ false = not-true (has_name seen x) (sym a ∙ t) in
+    let same : new ≡ seen ++ x ∷ [] = e ∙ ap (λ b. cond b seen (seen ++ x ∷ [])) unseen in
+    k ∙ (at_name seen x name old number before unseen h (bytes_eq name x) refl ∙ ap (λ b. cond b (old ++ number ∷ []) old) (sym (ap (λ s. has_name s name) same ∙ has_name_push seen x name)))
+
+
+-- one node more
+pub writing_more : (entries : List Entry) (i : ℕ) (d : Entry) (name : List ℕ) (before after : List ℕ) → after ≡ cond (has_name (entry_writes (get_or entries i d)) name) (before ++ (get_or entries i d).number ∷ []) before
+    → before ≡ map (λ (e : Entry). e.number) (filter (λ (e : Entry). has_name (entry_writes e) name) (take i entries)) → i < length entries
+    → after ≡ map (λ (e : Entry). e.number) (filter (λ (e : Entry). has_name (entry_writes e) name) (take (i + 1) entries))
+writing_more entries i d name before after e h lt =
+    let test : Entry → Bool = λ entry. has_name (entry_writes entry) name in
+    let number : Entry → ℕ = λ entry. entry.number in
+    let this = get_or entries i d in
+    e ∙ (at (test this) ∙ (ap (λ ls. ls ++ map number (cond (test this) (this ∷ []) [])) h ∙ (sym (map-append number (filter test (take i entries)) (cond (test this) (this ∷ []) [])) ∙ ap (map number) (sym (filter_more test entries i d lt)))))
+  where
+    at : (b : Bool) → cond b (before ++ (get_or entries i d).number ∷ []) before ≡ before ++ map (λ (k : Entry). k.number) (cond b (get_or entries i d ∷ []) [])
+    at true = refl
+    at false = sym (append-nil before)

@@ -1,0 +1,8 @@
+use Rattle.std.proofs.Common.{◌≡◌, map, take}
+use Rattle.mk_graph.specs.Graph.{node}
+use Rattle.mk_infer.specs.Inference.{choice}
+use Rattle.mk_cert.proofs.looking_up.choices_of.Given as goal
+
+-- the choices of the nodes so far
+abbrev pub invariant-loop-number : goal.invariant-loop-number
+invariant-loop-number l = l.choices.items ≡ map (λ n. choice l.table l.there (node l.graph n).name) (take l.number-index l.order)

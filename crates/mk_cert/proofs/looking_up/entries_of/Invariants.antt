@@ -1,0 +1,8 @@
+use Rattle.std.proofs.Common.{take}
+use Rattle.mk_cert.specs.Subject.{subject_of}
+use Rattle.mk_cert.specs.Entry.{AreEntriesOf}
+use Rattle.mk_cert.proofs.looking_up.entries_of.Given as goal
+
+-- the nodes so far
+abbrev pub invariant-loop-place : goal.invariant-loop-place
+invariant-loop-place l = AreEntriesOf (subject_of l.table l.there l.graph l.setting) (take l.place l.order) l.entries.items

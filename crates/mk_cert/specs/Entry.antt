@@ -1,0 +1,77 @@
+-- What is looked up of the nodes of a subject: a record for each, and who writes a file.
+use Rattle.std.specs.Prelude.{◌≡◌, ◌⊎◌, ℕ, ◌<◌, List, [], All, filter, length, map, slice_index, Option, None, Some, Ok, Err, if◌then◌else◌}
+use Rattle.mk_lines.specs.Names.{has_name}
+use Rattle.mk_graph.specs.declared.node.Node.{Node}
+use Rattle.mk_graph.specs.Graph.{node}
+use Rattle.mk_graph.specs.Serial.{serial_order}
+use Rattle.mk_infer.specs.Commands.{Commands}
+use Rattle.mk_infer.specs.declared.fault.InferFault.{InferFault}
+use Rattle.mk_infer.specs.declared.fault.InferFault.TheVariants.{Memory}
+use Rattle.mk_infer.specs.Inference.{choice}
+use Rattle.mk_infer.specs.Laws.{with_more}
+use Rattle.mk_foot.specs.Book.{Record}
+use Rattle.mk_cert.specs.Subject.{Subject, name_of, writes_of, record_of, commands_of}
+use Rattle.mk_cert.specs.Conditions.{all_writes}
+
+-- a node with its number, its record and its commands, and with its inferred prerequisite where no
+-- recipe has written its files, and where all have
+pub record Entry : Type 0 where
+  pub number : ℕ
+  pub node : Node
+  pub recorded : Option Record
+  pub commands : Commands
+  pub chosen : Option (List ℕ)
+  pub chosen_after : Option (List ℕ)
+
+-- the inferred prerequisite of a node where all recipes have written their files
+abbrev pub choice_after : Subject → ℕ → Option (List ℕ)
+choice_after x n = choice x.makefile (with_more x.there (all_writes x)) (name_of x n)
+
+-- it is so of the node with this number
+pub record IsEntry (x : Subject) (e : Entry) : Type 0 where
+  pub same_node : e.node ≡ node x.graph e.number
+  pub same_record : e.recorded ≡ record_of x e.number
+  pub same_commands : commands_of x e.number ≡ Ok e.commands
+  pub same_choice : e.chosen ≡ choice x.makefile x.there (name_of x e.number)
+  pub same_choice_after : e.chosen_after ≡ choice_after x e.number
+
+-- a record for each of these nodes, in their order
+pub record AreEntriesOf (x : Subject) (order : List ℕ) (entries : List Entry) : Type 0 where
+  pub in_order : map (λ (e : Entry). e.number) entries ≡ order
+  pub right : All (IsEntry x) entries
+
+-- one for each node, in the serial order
+abbrev pub AreEntries : Subject → List Entry → Type 0
+AreEntries x entries = AreEntriesOf x (serial_order x.graph) entries
+
+-- the files of a record, if there is one
+abbrev pub reads_in : Option Record → List (List ℕ)
+reads_in None = []
+reads_in (Some r) = r.reads
+
+abbrev pub writes_in : Option Record → List (List ℕ)
+writes_in None = []
+writes_in (Some r) = r.writes
+
+-- the files that the recipe of a node reads, and those that it writes
+abbrev pub entry_reads : Entry → List (List ℕ)
+entry_reads e = if e.node.recipe then reads_in e.recorded else []
+
+abbrev pub entry_writes : Entry → List (List ℕ)
+entry_writes e = if e.node.recipe then writes_in e.recorded else []
+
+-- the nodes that write a file, in the serial order
+abbrev pub writers_of : Subject → List ℕ → List ℕ
+writers_of x f = filter (λ o. has_name (writes_of x o) f) (serial_order x.graph)
+
+-- the fault is that of the first of these nodes whose commands can't be told
+pub record IsFirstFault (x : Subject) (order : List ℕ) (fault : InferFault) : Type 0 where
+  pub place : ℕ
+  pub within : place < length order
+  pub here : commands_of x (slice_index order place) ≡ Err fault
+  pub before : (k : ℕ) → k < place →
+      (found : Commands) × (commands_of x (slice_index order k) ≡ Ok found)
+
+-- that, or want of memory
+abbrev pub IsFaultOf : Subject → InferFault → Type 0
+IsFaultOf x fault = (fault ≡ Memory) ⊎ IsFirstFault x (serial_order x.graph) fault

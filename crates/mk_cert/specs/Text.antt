@@ -1,0 +1,23 @@
+-- What is printed of a finding.
+use Rattle.std.specs.Prelude.{ℕ, List, ◌∷◌, ◌++◌, codes}
+use Rattle.mk_cert.specs.declared.finding.Finding.{Finding}
+use Rattle.mk_cert.specs.declared.finding.Finding.TheVariants.{NoRecord, OtherCommands, VaryingCommands, NoTarget, TwoWriters, GivenWritten, OwnRead, UnknownRead, Loose, Race, Stale, Selection}
+
+-- two names with a space between
+abbrev pub pair : List ℕ → List ℕ → List ℕ
+pair one other = one ++ codes " " ++ other
+
+-- a word for the kind of finding, and the names, with spaces between
+abbrev pub text : Finding → List ℕ
+text (NoRecord recipe) = codes "record " ++ recipe
+text (OtherCommands recipe) = codes "commands " ++ recipe
+text (VaryingCommands recipe) = codes "varying " ++ recipe
+text (NoTarget recipe) = codes "target " ++ recipe
+text (TwoWriters first second file) = codes "writers " ++ pair first (pair second file)
+text (GivenWritten recipe file) = codes "given " ++ pair recipe file
+text (OwnRead recipe file) = codes "own " ++ pair recipe file
+text (UnknownRead recipe file) = codes "unknown " ++ pair recipe file
+text (Loose name writer) = codes "loose " ++ pair name writer
+text (Race recipe writer file) = codes "race " ++ pair recipe (pair writer file)
+text (Stale recipe file) = codes "stale " ++ pair recipe file
+text (Selection name chosen) = codes "selection " ++ pair name chosen

@@ -1,0 +1,12 @@
+-- Tables of the nodes that write a file.
+use Rattle.std.specs.Prelude.{ℕ, List, [], Vec}
+use Rattle.std.specs.Borrow.{Bor}
+use Rattle.std.specs.Option.{option_map_or}
+use Rattle.std.specs.Str.{bytes_eq}
+use Rattle.std.specs.declared.alloc.Global.{Global}
+use Rattle.indexmap.specs.IndexMap.{IndexMap, get_by}
+
+-- the numbers that a table has at the name of a file
+abbrev pub numbers_at : {S : Type 0} → IndexMap (Bor (List ℕ)) (Vec ℕ Global) S → List ℕ → List ℕ
+numbers_at table name =
+    option_map_or (λ numbers. numbers.items) (get_by (λ k. bytes_eq name k.now) table) []

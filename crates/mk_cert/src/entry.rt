@@ -1,0 +1,105 @@
+//! What is looked up of a node.
+
+ghost use Rattle.std.specs.Prelude.{◌≡◌, map, IfOk};
+ghost use Rattle.std.specs.Option.{option_copied};
+ghost use Rattle.std.specs.String.{string_bytes};
+ghost use Rattle.mk_cert.specs.Entry.{reads_in, writes_in, entry_reads, entry_writes};
+
+use mk_foot::Record;
+use mk_graph::Node;
+use mk_infer::Commands;
+use mk_lines::Name;
+use std::alloc::AllocError;
+use std::marker::Model;
+
+/// A node with what a subject looks up of it. A contract sees lists.
+#[derive(Drop)]
+pub struct Entry<'a> {
+    /// The node's number.
+    pub number: usize,
+    /// The node itself.
+    pub node: &'a Node,
+    /// Its record, if it has one.
+    pub recorded: Option<&'a Record>,
+    /// Its commands, expanded.
+    pub commands: Commands,
+    /// Its inferred prerequisite, if it has one.
+    pub chosen: Option<Name>,
+    /// The one that it has once all recipes have written their files.
+    pub chosen_after: Option<Name>,
+}
+
+impl<'a> Model for Entry<'a> {
+    ghost use Rattle.std.specs.Option.{option_copied};
+    ghost use Rattle.mk_cert.specs.Entry as value;
+
+    ghost Value = { value.Entry };
+
+    ghost view = { λ e.
+        record {
+          number = e.number;
+          node = e.node.now;
+          recorded = option_copied e.recorded;
+          commands = e.commands;
+          chosen = e.chosen;
+          chosen_after = e.chosen_after;
+        } };
+}
+
+/// The files that a record says are read, if there is one.
+fn reads_in<'a>(recorded: Option<&'a Record>) -> &'a [String]
+    ensures { map string_bytes result.now ≡ reads_in (option_copied recorded.entry) }
+{
+    match recorded {
+        Some(record) => record.reads.as_slice(),
+        None => &[],
+    }
+}
+
+/// The files that a record says are written, if there is one.
+pub fn writes_in<'a>(recorded: Option<&'a Record>) -> &'a [String]
+    ensures { map string_bytes result.now ≡ writes_in (option_copied recorded.entry) }
+{
+    match recorded {
+        Some(record) => record.writes.as_slice(),
+        None => &[],
+    }
+}
+
+impl<'a> Entry<'a> {
+    /// The name of the node.
+    pub fn name(&self) -> &str
+        ensures { result.now ≡ self.now.node.name }
+    {
+        self.node.name.as_str()
+    }
+
+    /// A copy of its name.
+    pub fn copy_of_name(&self) -> Result<Name, AllocError>
+        ensures { IfOk result (λ name. name ≡ self.now.node.name) }
+    {
+        self.node.name.clone()
+    }
+
+    /// The files that its recipe reads: none without a recipe or a record.
+    pub fn reads(&self) -> &[String]
+        ensures { map string_bytes result.now ≡ entry_reads self.now }
+    {
+        if self.node.recipe {
+            reads_in(self.recorded)
+        } else {
+            &[]
+        }
+    }
+
+    /// The files that its recipe writes: none without a recipe or a record.
+    pub fn writes(&self) -> &'a [String]
+        ensures { map string_bytes result.now ≡ entry_writes self.now }
+    {
+        if self.node.recipe {
+            writes_in(self.recorded)
+        } else {
+            &[]
+        }
+    }
+}

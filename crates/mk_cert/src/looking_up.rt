@@ -1,0 +1,251 @@
+//! What a subject looks up of its nodes.
+
+ghost use Rattle.std.specs.Prelude.{◌≡◌, ◌<◌, ◌⊎◌, ◌++◌, All, length, map, slice_get, slice_index, Err, Some, IfErr, IfOk, OnOk};
+ghost use Rattle.std.specs.List.{flat_map};
+ghost use Rattle.std.specs.Option.{option_copied, option_map};
+ghost use Rattle.std.specs.String.{string_bytes};
+ghost use Rattle.mk_graph.specs.Graph.{IsGraph, node};
+ghost use Rattle.mk_graph.specs.Serial.{serial_order};
+ghost use Rattle.mk_graph.specs.Setting as build;
+ghost use Rattle.mk_infer.specs.Inference.{choice};
+ghost use Rattle.mk_infer.specs.Laws.{with_more};
+ghost use Rattle.mk_infer.specs.declared.fault.InferFault.TheVariants.{Memory};
+ghost use Rattle.mk_foot.specs.Setting as foot;
+ghost use Rattle.mk_cert.specs.Subject.{footprints, commands_of, subject_of};
+ghost use Rattle.mk_cert.specs.Conditions.{all_writes};
+ghost use Rattle.mk_cert.specs.Entry.{IsEntry, AreEntries, AreEntriesOf, IsFaultOf, IsFirstFault, choice_after};
+
+use crate::entry::{Entry, writes_in};
+use mk_foot::Setting;
+use mk_graph::Graph;
+use mk_graph::laws::serial_reaches_each_once;
+use mk_infer::{Exists, InferFault, RuleTable, choice, commands};
+use mk_lines::{Name, NameTable};
+use std::alloc::{AllocError, Global};
+use std::mem;
+
+/// The files that the recipe of a node writes.
+fn writes_of<'a>(graph: &Graph, setting: &'a Setting, number: usize) -> &'a [String]
+    requires { number < length graph.now.nodes }
+    ensures { map string_bytes result.now ≡
+        build.writes graph.now (footprints setting.now) number }
+{
+    let node = &graph.nodes()[number];
+    if node.recipe {
+        writes_in(setting.record_of(node.name.as_str()))
+    } else {
+        &[]
+    }
+}
+
+/// Copies of names, behind others.
+fn push_copies(copies: &mut Vec<String>, names: &[String]) -> Result<(), AllocError>
+    ensures { OnOk result (map string_bytes copies.new.items ≡
+        map string_bytes copies.old.items ++ map string_bytes names.now) }
+{
+    for name in names {
+        copies.push(name.clone()?)?;
+    }
+    Ok(())
+}
+
+/// All files that the recipes of these nodes write.
+fn writes_among(
+    alloc: Global,
+    graph: &Graph,
+    setting: &Setting,
+    order: &[usize],
+) -> Result<Vec<String>, AllocError>
+    requires { All (λ n. n < length graph.now.nodes) order.now }
+    ensures { IfOk result (λ names. map string_bytes names.items ≡
+        flat_map (build.writes graph.now (footprints setting.now)) order.now) }
+{
+    let mut names = Vec::new(alloc);
+    for number in order {
+        push_copies(&mut names, writes_of(graph, setting, *number))?;
+    }
+    Ok(names)
+}
+
+/// The inferred prerequisite of a name, if it has one.
+fn choice_of(
+    alloc: Global,
+    table: &RuleTable<'_>,
+    there: &Exists,
+    name: &str,
+) -> Result<Option<Name>, AllocError>
+    ensures { IfOk result (λ chosen. chosen ≡ choice table.now there.now name.now) }
+{
+    match choice(alloc, table, there, name)? {
+        Some(chosen) => Ok(Some(Name::new(alloc, chosen)?)),
+        None => Ok(None),
+    }
+}
+
+/// The inferred prerequisites of these nodes.
+fn choices_of(
+    alloc: Global,
+    table: &RuleTable<'_>,
+    there: &Exists,
+    graph: &Graph,
+    order: &[usize],
+) -> Result<Vec<Option<Name>>, AllocError>
+    requires { All (λ n. n < length graph.now.nodes) order.now }
+    ensures { IfOk result (λ chosen. chosen.items ≡
+        map (λ n. choice table.now there.now (node graph.now n).name) order.now) }
+{
+    let mut choices = Vec::with_capacity(alloc, order.len())?;
+    for number in order {
+        let name = graph.nodes()[*number].name.as_str();
+        choices.push(choice_of(alloc, table, there, name)?)?;
+    }
+    Ok(choices)
+}
+
+/// The inferred prerequisites of these nodes with these names there too.
+fn choices_with(
+    alloc: Global,
+    table: &RuleTable<'_>,
+    there: &mut Exists,
+    names: NameTable,
+    graph: &Graph,
+    order: &[usize],
+) -> Result<Vec<Option<Name>>, AllocError>
+    requires { All (λ n. n < length graph.now.nodes) order.now }
+    ensures unchanged { there.new ≡ there.old }
+    ensures choices { IfOk result (λ chosen. chosen.items ≡
+        map (λ n. choice table.now (with_more there.old names) (node graph.now n).name) order.now) }
+{
+    let more = mem::replace(&mut there.more, names);
+    let choices = choices_of(alloc, table, there, graph, order);
+    there.more = more;
+    choices
+}
+
+/// A copy of a name, where there is one.
+fn copy_of(name: &Option<Name>) -> Result<Option<Name>, AllocError>
+    ensures { IfOk result (λ copy. copy ≡ name.now) }
+{
+    match name {
+        Some(name) => Ok(Some(name.clone()?)),
+        None => Ok(None),
+    }
+}
+
+/// What is looked up of a node. The fault is that of its commands.
+fn entry_of<'a>(
+    alloc: Global,
+    table: &RuleTable<'_>,
+    there: &Exists,
+    graph: &'a Graph,
+    setting: &'a Setting,
+    number: usize,
+    after: &Option<Name>,
+) -> Result<Entry<'a>, InferFault>
+    requires node { number < length graph.now.nodes }
+    requires after { after.now ≡ choice_after
+        (subject_of table.now there.now graph.now setting.now) number }
+    ensures entry { IfOk result (λ entry. (entry.number ≡ number) ×
+        IsEntry (subject_of table.now there.now graph.now setting.now) entry) }
+    ensures fault { IfErr result (λ fault. (fault ≡ Memory) ⊎ (commands_of
+        (subject_of table.now there.now graph.now setting.now) number ≡ Err fault)) }
+{
+    let node = &graph.nodes()[number];
+    let name = node.name.as_str();
+    let commands = commands(alloc, table, there, name)?;
+    let chosen = choice_of(alloc, table, there, name)?;
+    let chosen_after = copy_of(after)?;
+    Ok(Entry {
+        number,
+        node,
+        recorded: setting.record_of(name),
+        commands,
+        chosen,
+        chosen_after,
+    })
+}
+
+/// What is looked up of these nodes. The fault is the first one of their commands.
+fn entries_of<'a>(
+    alloc: Global,
+    table: &RuleTable<'_>,
+    there: &Exists,
+    graph: &'a Graph,
+    setting: &'a Setting,
+    order: &[usize],
+    after: &[Option<Name>],
+) -> Result<Vec<Entry<'a>>, InferFault>
+    requires nodes { All (λ n. n < length graph.now.nodes) order.now }
+    requires after { after.now ≡ map (choice_after
+        (subject_of table.now there.now graph.now setting.now)) order.now }
+    ensures entries { IfOk result (λ entries. AreEntriesOf
+        (subject_of table.now there.now graph.now setting.now) order.now entries.items) }
+    ensures fault { IfErr result (λ fault. (fault ≡ Memory) ⊎ IsFirstFault
+        (subject_of table.now there.now graph.now setting.now) order.now fault) }
+{
+    let mut entries = Vec::with_capacity(alloc, order.len())?;
+    for (place, number) in order.iter().enumerate() {
+        entries.push(entry_of(
+            alloc,
+            table,
+            there,
+            graph,
+            setting,
+            *number,
+            &after[place],
+        )?)?;
+    }
+    Ok(entries)
+}
+
+/// The inferred prerequisites of the nodes of a graph where all recipes have written their files.
+/// What is there stays as it is.
+fn choices_after(
+    alloc: Global,
+    table: &RuleTable<'_>,
+    there: &mut Exists,
+    graph: &Graph,
+    setting: &Setting,
+    order: &[usize],
+) -> Result<Vec<Option<Name>>, AllocError>
+    requires nodes { All (λ n. n < length graph.now.nodes) order.now }
+    requires order { order.now ≡ serial_order graph.now }
+    ensures unchanged { there.new ≡ there.old }
+    ensures choices { IfOk result (λ chosen. chosen.items ≡ map (choice_after
+        (subject_of table.now there.old graph.now setting.now)) order.now) }
+{
+    let writes = writes_among(alloc, graph, setting, order)?;
+    let names = NameTable::new(alloc, writes)?;
+    choices_with(alloc, table, there, names, graph, order)
+}
+
+/// The numbers of the nodes of a graph, in the serial order.
+fn order_of(graph: &Graph) -> Result<Vec<usize>, AllocError>
+    ensures order { IfOk result (λ order. order.items ≡ serial_order graph.now) }
+    ensures nodes { IfOk result (λ order. All (λ n. n < length graph.now.nodes) order.items) }
+    ensures graph { IsGraph graph.now }
+{
+    serial_reaches_each_once();
+    let _nodes = graph.nodes();
+    graph.serial()
+}
+
+/// What is looked up of each node of a graph, in the serial order. The fault is the first one of
+/// their commands. What is there stays as it is.
+pub fn entries_for<'a>(
+    alloc: Global,
+    table: &RuleTable<'_>,
+    there: &mut Exists,
+    graph: &'a Graph,
+    setting: &'a Setting,
+) -> Result<Vec<Entry<'a>>, InferFault>
+    ensures unchanged { there.new ≡ there.old }
+    ensures entries { IfOk result (λ entries. AreEntries
+        (subject_of table.now there.old graph.now setting.now) entries.items) }
+    ensures fault { IfErr result (λ fault. IsFaultOf
+        (subject_of table.now there.old graph.now setting.now) fault) }
+{
+    let order = order_of(graph)?;
+    let after = choices_after(alloc, table, there, graph, setting, &order)?;
+    entries_of(alloc, table, there, graph, setting, &order, &after)
+}

@@ -1,0 +1,88 @@
+//! What a subject looks up.
+
+ghost use Rattle.std.specs.Prelude.{◌≡◌, map, IfErr, IfOk};
+ghost use Rattle.std.specs.String.{string_bytes};
+ghost use Rattle.mk_graph.specs.Graph.{IsGraph};
+ghost use Rattle.mk_cert.specs.Subject.{subject_of};
+ghost use Rattle.mk_cert.specs.Entry.{AreEntries, IsFaultOf};
+ghost use Rattle.mk_cert.specs.Tables.{AreTables, HoldsNames};
+
+use crate::entry::Entry;
+use crate::looking_up::entries_for;
+use crate::writers::{Writers, writers_among};
+use mk_foot::Setting;
+use mk_graph::Graph;
+use mk_graph::laws::serial_reaches_each_once;
+use mk_infer::{Exists, InferFault, RuleTable};
+use mk_lines::NameSet;
+use mk_read::Makefile;
+use std::alloc::{AllocError, Global};
+
+/// What is looked up of a subject.
+#[derive(Drop)]
+pub struct Tables<'a> {
+    /// Each node, in the serial order.
+    pub entries: Vec<Entry<'a>>,
+    /// Who writes a file.
+    pub writers: Writers<'a>,
+    /// The names that `.PHONY` lists.
+    pub phony: NameSet<'a>,
+}
+
+/// The names of a list, to be looked up.
+fn names_among<'a>(alloc: Global, names: &'a [String]) -> Result<NameSet<'a>, AllocError>
+    ensures { IfOk result (λ set. HoldsNames set (map string_bytes names.now)) }
+{
+    let mut set = NameSet::new(alloc);
+    for name in names {
+        set.insert(name)?;
+    }
+    Ok(set)
+}
+
+/// What is looked up of each node, and that the graph is one.
+fn entries_in<'a>(
+    alloc: Global,
+    makefile: &Makefile,
+    there: &mut Exists,
+    graph: &'a Graph,
+    setting: &'a Setting,
+) -> Result<Vec<Entry<'a>>, InferFault>
+    ensures graph { IsGraph graph.now }
+    ensures unchanged { there.new ≡ there.old }
+    ensures entries { IfOk result (λ entries. AreEntries
+        (subject_of makefile.now there.old graph.now setting.now) entries.items) }
+    ensures fault { IfErr result (λ fault. IsFaultOf
+        (subject_of makefile.now there.old graph.now setting.now) fault) }
+{
+    let _nodes = graph.nodes();
+    let table = RuleTable::new(alloc, makefile)?;
+    entries_for(alloc, &table, there, graph, setting)
+}
+
+/// All that is looked up. The fault is the first one of the nodes' commands. What is there stays as
+/// it is.
+pub fn tables_for<'a>(
+    alloc: Global,
+    makefile: &'a Makefile,
+    there: &mut Exists,
+    graph: &'a Graph,
+    setting: &'a Setting,
+) -> Result<Tables<'a>, InferFault>
+    ensures unchanged { there.new ≡ there.old }
+    ensures tables { IfOk result (λ t. AreTables
+        (subject_of makefile.now there.old graph.now setting.now)
+        t.entries.items t.writers t.phony) }
+    ensures fault { IfErr result (λ fault. IsFaultOf
+        (subject_of makefile.now there.old graph.now setting.now) fault) }
+{
+    serial_reaches_each_once();
+    let entries = entries_in(alloc, makefile, there, graph, setting)?;
+    let writers = writers_among(alloc, &entries)?;
+    let phony = names_among(alloc, makefile.phony())?;
+    Ok(Tables {
+        entries,
+        writers,
+        phony,
+    })
+}

@@ -1,0 +1,71 @@
+//! Who writes a file.
+
+ghost use Rattle.std.specs.Prelude.{◌≡◌, ◌∷◌, ◌++◌, [], List, ℕ, map, filter, IfOk, OnOk, if◌then◌else◌};
+ghost use Rattle.std.specs.Option.{option_map_or};
+ghost use Rattle.std.specs.Str.{bytes_eq};
+ghost use Rattle.std.specs.String.{string_bytes};
+ghost use Rattle.indexmap.specs.IndexMap.{get_by};
+ghost use Rattle.mk_lines.specs.Names.{has_name};
+ghost use Rattle.mk_cert.specs.Entry.{entry_writes};
+ghost use Rattle.mk_cert.specs.Writers.{numbers_at};
+
+use crate::entry::Entry;
+use indexmap::IndexMap;
+use mk_lines::NameSet;
+use std::alloc::{AllocError, Global};
+
+/// For each file the numbers of the nodes that write it, in the serial order.
+pub type Writers<'a> = IndexMap<&'a str, Vec<usize>>;
+
+/// One more writer of a file.
+fn add_writer<'a>(
+    alloc: Global,
+    writers: &mut Writers<'a>,
+    file: &'a str,
+    number: usize,
+) -> Result<(), AllocError>
+    ensures { OnOk result ((name : List ℕ) →
+        option_map_or (λ numbers. numbers.items) (get_by (λ k. bytes_eq name k.now) writers.new) []
+        ≡ (if bytes_eq name file.entry.now then option_map_or (λ numbers. numbers.items) (get_by (λ k. bytes_eq name k.now) writers.old) [] ++ number ∷ [] else option_map_or (λ numbers. numbers.items) (get_by (λ k. bytes_eq name k.now) writers.old) [])) }
+{
+    let numbers = writers.entry(file)?.or_insert(Vec::new(alloc));
+    numbers.push(number)?;
+    Ok(())
+}
+
+/// A writer of each of these files, once.
+fn add_files<'a>(
+    alloc: Global,
+    writers: &mut Writers<'a>,
+    files: &'a [String],
+    number: usize,
+) -> Result<(), AllocError>
+    ensures { OnOk result ((name : List ℕ) →
+        numbers_at writers.new name ≡ (if has_name (map string_bytes files.now) name
+        then numbers_at writers.old name ++ number ∷ [] else numbers_at writers.old name)) }
+{
+    let mut seen = NameSet::new(alloc);
+    for file in files {
+        if !seen.insert(file)? {
+            continue;
+        }
+        add_writer(alloc, writers, file, number)?;
+    }
+    Ok(())
+}
+
+/// The numbers of those nodes that write each file.
+pub fn writers_among<'a>(
+    alloc: Global,
+    entries: &[Entry<'a>],
+) -> Result<Writers<'a>, AllocError>
+    ensures { IfOk result (λ writers. (name : List ℕ) →
+        numbers_at writers name ≡ map (λ e. e.number)
+        (filter (λ e. has_name (entry_writes e) name) entries.now)) }
+{
+    let mut writers = IndexMap::new(alloc);
+    for entry in entries {
+        add_files(alloc, &mut writers, entry.writes(), entry.number)?;
+    }
+    Ok(writers)
+}
