@@ -5,11 +5,10 @@ use Rattle.std.proofs.lemmas.Bool.{true≢false, cases_Bool}
 use Rattle.std.proofs.lemmas.Slice.Eq.{bytes_eq-Decides}
 use Rattle.mk_lines.specs.Names.{has_name}
 use Rattle.mk_graph.specs.Membership.{Has}
-use Rattle.mk_graph.specs.Graph.{node}
 use Rattle.mk_graph.specs.declared.node.Node.{Node}
 use Rattle.mk_foot.specs.Book.{Record}
 use Rattle.mk_infer.specs.Commands.{Commands}
-use Rattle.mk_cert.specs.Subject.{Subject, name_of, record_of, commands_of, writes_of}
+use Rattle.mk_cert.specs.Subject.{Subject, name_of}
 use Rattle.mk_cert.specs.Conditions.{HasNoRecord, HasOtherCommands, HasVaryingCommands, LacksItsTarget, ChoosesOtherwise}
 use Rattle.mk_cert.specs.Candidates.{selection, choice_with_writes}
 use Rattle.mk_cert.specs.Listed.{Adds}
@@ -88,11 +87,12 @@ target_lacking x e is t =
     let recorded = and_both (is_some e.recorded) _ recipe.1 in
     let phony = and_both (not e.node.phony) _ recorded.1 in
     let record_is = some_is e.recorded recorded.0 in
-    let out : has_name (entry_writes e) e.node.name ≡ false = not_true _ phony.1 in
-    (sym (ap (λ (n : Node). n.recipe) is.same_node) ∙ recipe.0,
-    (record_is.0, sym is.same_record ∙ record_is.1),
-    sym (ap (λ (n : Node). n.phony) is.same_node) ∙ not_true e.node.phony phony.0,
-    λ h. true≢false (sym (has_true (entry_writes e) e.node.name (subst (λ (n : Node). Has (entry_writes e) n.name) (sym is.same_node) (subst (λ (fs : List (List ℕ)). Has fs (name_of x e.number)) (sym (same_writes x e is)) h))) ∙ out))
+    let out : has_name (entry_writes e) e.node.name ≡ false = not_true _ phony.1 in (
+      sym (ap (λ (n : Node). n.recipe) is.same_node) ∙ recipe.0,
+      (record_is.0, sym is.same_record ∙ record_is.1),
+      sym (ap (λ (n : Node). n.phony) is.same_node) ∙ not_true e.node.phony phony.0,
+      λ h. true≢false (sym (has_true (entry_writes e) e.node.name (subst (λ (n : Node). Has (entry_writes e) n.name) (sym is.same_node) (subst (λ (fs : List (List ℕ)). Has fs (name_of x e.number)) (sym (same_writes x e is)) h))) ∙ out),
+    )
 
 pub target_there : (x : Subject) (e : Entry) → IsEntry x e → lacks_target e ≡ false → ¬ (LacksItsTarget x e.number)
 target_there x e is f (recipe, (r, recorded), phony, out) =

@@ -19,10 +19,9 @@ use crate::entry::{Entry, writes_in};
 use mk_foot::Setting;
 use mk_graph::Graph;
 use mk_graph::laws::serial_reaches_each_once;
-use mk_infer::{Exists, InferFault, RuleTable, choice, commands};
+use mk_infer::{Choices, Exists, InferFault, RuleTable, choice, commands};
 use mk_lines::{Name, NameTable};
 use std::alloc::{AllocError, Global};
-use std::mem;
 
 /// The files that the recipe of a node writes.
 fn writes_of<'a>(graph: &Graph, setting: &'a Setting, number: usize) -> &'a [String]
@@ -68,15 +67,11 @@ fn writes_among(
 }
 
 /// The inferred prerequisite of a name, if it has one.
-fn choice_of(
-    alloc: Global,
-    table: &RuleTable<'_>,
-    there: &Exists,
-    name: &str,
-) -> Result<Option<Name>, AllocError>
-    ensures { IfOk result (λ chosen. chosen ≡ choice table.now there.now name.now) }
+fn choice_of(alloc: Global, choices: &Choices<'_>, name: &str) -> Result<Option<Name>, AllocError>
+    ensures { IfOk result (λ chosen. chosen ≡
+        choice choices.now.makefile choices.now.exists name.now) }
 {
-    match choice(alloc, table, there, name)? {
+    match choice(alloc, choices, name)? {
         Some(chosen) => Ok(Some(Name::new(alloc, chosen)?)),
         None => Ok(None),
     }
@@ -85,41 +80,46 @@ fn choice_of(
 /// The inferred prerequisites of these nodes.
 fn choices_of(
     alloc: Global,
-    table: &RuleTable<'_>,
-    there: &Exists,
+    choices: &Choices<'_>,
     graph: &Graph,
     order: &[usize],
 ) -> Result<Vec<Option<Name>>, AllocError>
     requires { All (λ n. n < length graph.now.nodes) order.now }
     ensures { IfOk result (λ chosen. chosen.items ≡
-        map (λ n. choice table.now there.now (node graph.now n).name) order.now) }
+        map (λ n. choice choices.now.makefile choices.now.exists (node graph.now n).name)
+        order.now) }
 {
-    let mut choices = Vec::with_capacity(alloc, order.len())?;
+    let mut chosen = Vec::with_capacity(alloc, order.len())?;
     for number in order {
         let name = graph.nodes()[*number].name.as_str();
-        choices.push(choice_of(alloc, table, there, name)?)?;
+        chosen.push(choice_of(alloc, choices, name)?)?;
     }
-    Ok(choices)
+    Ok(chosen)
 }
 
 /// The inferred prerequisites of these nodes with these names there too.
 fn choices_with(
     alloc: Global,
     table: &RuleTable<'_>,
-    there: &mut Exists,
-    names: NameTable,
+    there: &Exists<'_>,
+    names: &NameTable,
     graph: &Graph,
     order: &[usize],
 ) -> Result<Vec<Option<Name>>, AllocError>
     requires { All (λ n. n < length graph.now.nodes) order.now }
-    ensures unchanged { there.new ≡ there.old }
-    ensures choices { IfOk result (λ chosen. chosen.items ≡
-        map (λ n. choice table.now (with_more there.old names) (node graph.now n).name) order.now) }
+    ensures { IfOk result (λ chosen. chosen.items ≡
+        map (λ n. choice table.now (with_more there.now names.now) (node graph.now n).name)
+        order.now) }
 {
-    let more = mem::replace(&mut there.more, names);
-    let choices = choices_of(alloc, table, there, graph, order);
-    there.more = more;
-    choices
+    let with = Exists {
+        any_leaf: there.any_leaf,
+        sources: there.sources,
+        fixed: there.fixed,
+        texts: there.texts,
+        more: names,
+    };
+    let choices = Choices::new(alloc, table, &with)?;
+    choices_of(alloc, &choices, graph, order)
 }
 
 /// A copy of a name, where there is one.
@@ -135,8 +135,7 @@ fn copy_of(name: &Option<Name>) -> Result<Option<Name>, AllocError>
 /// What is looked up of a node. The fault is that of its commands.
 fn entry_of<'a>(
     alloc: Global,
-    table: &RuleTable<'_>,
-    there: &Exists,
+    choices: &Choices<'_>,
     graph: &'a Graph,
     setting: &'a Setting,
     number: usize,
@@ -144,16 +143,16 @@ fn entry_of<'a>(
 ) -> Result<Entry<'a>, InferFault>
     requires node { number < length graph.now.nodes }
     requires after { after.now ≡ choice_after
-        (subject_of table.now there.now graph.now setting.now) number }
+        (subject_of choices.now.makefile choices.now.exists graph.now setting.now) number }
     ensures entry { IfOk result (λ entry. (entry.number ≡ number) ×
-        IsEntry (subject_of table.now there.now graph.now setting.now) entry) }
+        IsEntry (subject_of choices.now.makefile choices.now.exists graph.now setting.now) entry) }
     ensures fault { IfErr result (λ fault. (fault ≡ Memory) ⊎ (commands_of
-        (subject_of table.now there.now graph.now setting.now) number ≡ Err fault)) }
+        (subject_of choices.now.makefile choices.now.exists graph.now setting.now) number ≡ Err fault)) }
 {
     let node = &graph.nodes()[number];
     let name = node.name.as_str();
-    let commands = commands(alloc, table, there, name)?;
-    let chosen = choice_of(alloc, table, there, name)?;
+    let commands = commands(alloc, choices, name)?;
+    let chosen = choice_of(alloc, choices, name)?;
     let chosen_after = copy_of(after)?;
     Ok(Entry {
         number,
@@ -168,8 +167,7 @@ fn entry_of<'a>(
 /// What is looked up of these nodes. The fault is the first one of their commands.
 fn entries_of<'a>(
     alloc: Global,
-    table: &RuleTable<'_>,
-    there: &Exists,
+    choices: &Choices<'_>,
     graph: &'a Graph,
     setting: &'a Setting,
     order: &[usize],
@@ -177,46 +175,36 @@ fn entries_of<'a>(
 ) -> Result<Vec<Entry<'a>>, InferFault>
     requires nodes { All (λ n. n < length graph.now.nodes) order.now }
     requires after { after.now ≡ map (choice_after
-        (subject_of table.now there.now graph.now setting.now)) order.now }
+        (subject_of choices.now.makefile choices.now.exists graph.now setting.now)) order.now }
     ensures entries { IfOk result (λ entries. AreEntriesOf
-        (subject_of table.now there.now graph.now setting.now) order.now entries.items) }
+        (subject_of choices.now.makefile choices.now.exists graph.now setting.now) order.now entries.items) }
     ensures fault { IfErr result (λ fault. (fault ≡ Memory) ⊎ IsFirstFault
-        (subject_of table.now there.now graph.now setting.now) order.now fault) }
+        (subject_of choices.now.makefile choices.now.exists graph.now setting.now) order.now fault) }
 {
     let mut entries = Vec::with_capacity(alloc, order.len())?;
     for (place, number) in order.iter().enumerate() {
-        entries.push(entry_of(
-            alloc,
-            table,
-            there,
-            graph,
-            setting,
-            *number,
-            &after[place],
-        )?)?;
+        entries.push(entry_of(alloc, choices, graph, setting, *number, &after[place])?)?;
     }
     Ok(entries)
 }
 
 /// The inferred prerequisites of the nodes of a graph where all recipes have written their files.
-/// What is there stays as it is.
 fn choices_after(
     alloc: Global,
     table: &RuleTable<'_>,
-    there: &mut Exists,
+    there: &Exists<'_>,
     graph: &Graph,
     setting: &Setting,
     order: &[usize],
 ) -> Result<Vec<Option<Name>>, AllocError>
     requires nodes { All (λ n. n < length graph.now.nodes) order.now }
     requires order { order.now ≡ serial_order graph.now }
-    ensures unchanged { there.new ≡ there.old }
-    ensures choices { IfOk result (λ chosen. chosen.items ≡ map (choice_after
-        (subject_of table.now there.old graph.now setting.now)) order.now) }
+    ensures { IfOk result (λ chosen. chosen.items ≡ map (choice_after
+        (subject_of table.now there.now graph.now setting.now)) order.now) }
 {
     let writes = writes_among(alloc, graph, setting, order)?;
     let names = NameTable::new(alloc, writes)?;
-    choices_with(alloc, table, there, names, graph, order)
+    choices_with(alloc, table, there, &names, graph, order)
 }
 
 /// The numbers of the nodes of a graph, in the serial order.
@@ -231,21 +219,21 @@ fn order_of(graph: &Graph) -> Result<Vec<usize>, AllocError>
 }
 
 /// What is looked up of each node of a graph, in the serial order. The fault is the first one of
-/// their commands. What is there stays as it is.
+/// their commands.
 pub fn entries_for<'a>(
     alloc: Global,
     table: &RuleTable<'_>,
-    there: &mut Exists,
+    there: &Exists<'_>,
     graph: &'a Graph,
     setting: &'a Setting,
 ) -> Result<Vec<Entry<'a>>, InferFault>
-    ensures unchanged { there.new ≡ there.old }
     ensures entries { IfOk result (λ entries. AreEntries
-        (subject_of table.now there.old graph.now setting.now) entries.items) }
+        (subject_of table.now there.now graph.now setting.now) entries.items) }
     ensures fault { IfErr result (λ fault. IsFaultOf
-        (subject_of table.now there.old graph.now setting.now) fault) }
+        (subject_of table.now there.now graph.now setting.now) fault) }
 {
     let order = order_of(graph)?;
     let after = choices_after(alloc, table, there, graph, setting, &order)?;
-    entries_of(alloc, table, there, graph, setting, &order, &after)
+    let choices = Choices::new(alloc, table, there)?;
+    entries_of(alloc, &choices, graph, setting, &order, &after)
 }

@@ -23,7 +23,7 @@ use std::marker::Model;
 #[derive(Drop)]
 pub struct Subject<'a> {
     makefile: &'a Makefile,
-    there: Exists,
+    there: Exists<'a>,
     graph: &'a Graph,
     setting: &'a Setting,
     tables: Tables<'a>,
@@ -51,7 +51,7 @@ impl<'a> Subject<'a> {
     pub fn new(
         alloc: Global,
         makefile: &'a Makefile,
-        there: Exists,
+        there: Exists<'a>,
         graph: &'a Graph,
         setting: &'a Setting,
     ) -> Result<Subject<'a>, InferFault>
@@ -63,13 +63,12 @@ impl<'a> Subject<'a> {
         requires fixed { there.fixed ≡ setting.now.fixed }
         requires texts { there.texts ≡ setting.now.texts }
         ensures value { IfOk result (λ subject. subject ≡
-            subject_of makefile.now there graph.now setting.now) }
+            subject_of makefile.now there.entry graph.now setting.now) }
         ensures subject { IfOk result (λ subject. IsSubject subject) }
         ensures fault { IfErr result (λ fault. IsFaultOf
-            (subject_of makefile.now there graph.now setting.now) fault) }
+            (subject_of makefile.now there.entry graph.now setting.now) fault) }
     {
-        let mut there = there;
-        let tables = tables_for(alloc, makefile, &mut there, graph, setting)?;
+        let tables = tables_for(alloc, makefile, &there, graph, setting)?;
         Ok(Subject {
             makefile,
             there,
@@ -87,7 +86,7 @@ impl<'a> Subject<'a> {
     }
 
     /// The files that are there.
-    pub fn there(&self) -> &Exists
+    pub fn there(&self) -> &Exists<'a>
         ensures { result.now ≡ self.now.there }
     {
         &self.there

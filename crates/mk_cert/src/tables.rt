@@ -44,37 +44,34 @@ fn names_among<'a>(alloc: Global, names: &'a [String]) -> Result<NameSet<'a>, Al
 fn entries_in<'a>(
     alloc: Global,
     makefile: &Makefile,
-    there: &mut Exists,
+    there: &Exists<'_>,
     graph: &'a Graph,
     setting: &'a Setting,
 ) -> Result<Vec<Entry<'a>>, InferFault>
     ensures graph { IsGraph graph.now }
-    ensures unchanged { there.new ≡ there.old }
     ensures entries { IfOk result (λ entries. AreEntries
-        (subject_of makefile.now there.old graph.now setting.now) entries.items) }
+        (subject_of makefile.now there.now graph.now setting.now) entries.items) }
     ensures fault { IfErr result (λ fault. IsFaultOf
-        (subject_of makefile.now there.old graph.now setting.now) fault) }
+        (subject_of makefile.now there.now graph.now setting.now) fault) }
 {
     let _nodes = graph.nodes();
     let table = RuleTable::new(alloc, makefile)?;
     entries_for(alloc, &table, there, graph, setting)
 }
 
-/// All that is looked up. The fault is the first one of the nodes' commands. What is there stays as
-/// it is.
+/// All that is looked up. The fault is the first one of the nodes' commands.
 pub fn tables_for<'a>(
     alloc: Global,
     makefile: &'a Makefile,
-    there: &mut Exists,
+    there: &Exists<'_>,
     graph: &'a Graph,
     setting: &'a Setting,
 ) -> Result<Tables<'a>, InferFault>
-    ensures unchanged { there.new ≡ there.old }
     ensures tables { IfOk result (λ t. AreTables
-        (subject_of makefile.now there.old graph.now setting.now)
+        (subject_of makefile.now there.now graph.now setting.now)
         t.entries.items t.writers t.phony) }
     ensures fault { IfErr result (λ fault. IsFaultOf
-        (subject_of makefile.now there.old graph.now setting.now) fault) }
+        (subject_of makefile.now there.now graph.now setting.now) fault) }
 {
     serial_reaches_each_once();
     let entries = entries_in(alloc, makefile, there, graph, setting)?;

@@ -5,4 +5,4 @@ use Rattle.mk_cert.proofs.looking_up.choices_of.Given as goal
 
 -- the choices of the nodes so far
 abbrev pub invariant-loop-number : goal.invariant-loop-number
-invariant-loop-number l = l.choices.items ≡ map (λ n. choice l.table l.there (node l.graph n).name) (take l.number-index l.order)
+invariant-loop-number l = l.chosen.items ≡ map (λ n. choice l.choices.makefile l.choices.exists (node l.graph n).name) (take l.number-index l.order)

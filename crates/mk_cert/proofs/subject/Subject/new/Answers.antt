@@ -1,8 +1,7 @@
-use Rattle.std.proofs.Common.{◌≡◌, ap, sym, subst}
+use Rattle.std.proofs.Common.{refl}
 use Rattle.std.proofs.lemmas.Result.{err_from_is_err_and}
 use Rattle.mk_infer.specs.There.{Exists}
 use Rattle.mk_cert.specs.Subject.{IsSubject, subject_of}
-use Rattle.mk_cert.specs.Kept.{AreTablesOf}
 use Rattle.mk_cert.proofs.subject.Subject.new.Goals as goal
 
 pub returns-in_err-tables-clause-value : goal.returns-in_err-tables-clause-value
@@ -32,7 +31,7 @@ invariant_of-result c =
       texts = c.requires.texts;
       told = c.in_ok-tables.ensures.tables.told;
     } in
-    subst (λ (e : Exists). AreTablesOf (x e) c.in_ok-tables.tables) (sym c.in_ok-tables.ensures.unchanged) (record { is_subject = is; tables = c.in_ok-tables.ensures.tables })
+    record { is_subject = is; tables = c.in_ok-tables.ensures.tables }
 
 pub returns : goal.returns
 returns c =
@@ -47,7 +46,7 @@ returns c =
       told = c.in_ok-tables.ensures.tables.told;
     } in
     record {
-      value = ap x c.in_ok-tables.ensures.unchanged;
-      subject = subst (λ (e : Exists). IsSubject (x e)) (sym c.in_ok-tables.ensures.unchanged) is;
+      value = refl;
+      subject = is;
       fault = tt;
     }
