@@ -15,3 +15,4 @@ pub mod Idle
 pub mod InTurn
 pub mod Stamps
 pub mod Lines
+pub mod Fronts

@@ -9,3 +9,4 @@ pub mod Steps
 pub mod StepLaws
 pub mod Plans
 pub mod Running
+pub mod RunLaws

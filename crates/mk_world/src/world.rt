@@ -3,6 +3,7 @@
 ghost use Rattle.std.specs.Prelude.{◌≡◌, map, true, IfOk};
 ghost use Rattle.mk_graph.specs.Schedule as model;
 ghost use Rattle.mk_world.specs.State.{number_of};
+ghost use Rattle.mk_world.specs.First.{AreSorted};
 ghost use Rattle.mk_world.specs.Listing.{listing};
 ghost use Rattle.mk_world.specs.Steps.{Answers, IsFirstOf, step_of};
 ghost use Rattle.mk_world.specs.Running.{AnswersInTurn, PassesIdle, finish_steps, is_node, new_stamp};
@@ -69,7 +70,8 @@ impl<'a> World<'a> {
 
     /// The files that are there, by the bytes of their names. The error is want of memory alone.
     pub fn files(&self) -> Result<Vec<Listed>, AllocError>
-        ensures { IfOk result (λ files. files.items ≡ listing self.now.disk) }
+        ensures listed { IfOk result (λ files. files.items ≡ listing self.now.disk) }
+        ensures ascending { IfOk result (λ files. AreSorted (map (λ file. file.name) files.items)) }
     {
         self.disk.files(self.alloc)
     }

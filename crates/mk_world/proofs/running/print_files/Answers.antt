@@ -12,6 +12,6 @@ loop-file-preserved c =
 
 pub returns : goal.returns
 returns c =
-    let items = c.deref-file-items.ensures.value ∙ c.in_ok-files.ensures in
+    let items = c.deref-file-items.ensures.value ∙ c.in_ok-files.ensures.listed in
     let all = sym (append-nil (string_bytes c.loop-file.text)) ∙ (ap (λ l. string_bytes c.loop-file.text ++ flat_map file_text l) (sym (drop_all c.loop-file.file-index c.deref-file-items.result.now c.loop-file-test.false)) ∙ c.loop-file.invariant) in
     all ∙ (ap (λ l. string_bytes c.args.text.now ++ flat_map file_text l) items ∙ ap (λ t. string_bytes c.args.text.now ++ t) (listing_text c.args.world.now))

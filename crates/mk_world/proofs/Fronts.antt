@@ -1,0 +1,182 @@
+-- Histories of steps that are asked for, and the fronts of plans.
+use Rattle.std.proofs.Common.{◌≡◌, ℕ, List, [], ◌∷◌, ◌++◌, map, Some, None, Result, Ok, Err, refl, sym, ap, ◌∙◌, subst, inl, inr, append_assoc}
+use Rattle.std.proofs.lemmas.Bool.{false≢true}
+use Rattle.mk_graph.specs.Membership.{Has}
+use Rattle.mk_graph.specs.Graph.{Graph}
+use Rattle.mk_graph.specs.Serial.{serial_order}
+use Rattle.mk_graph.specs.Setting.{Setting}
+use Rattle.mk_graph.specs.World.{World, Disk, Making, Idle, Busy, disk_of}
+use Rattle.mk_graph.specs.Schedule as model
+use Rattle.mk_graph.specs.Schedule.{IsLegal, after, after_all, finished}
+use Rattle.mk_world.specs.declared.step.Step as code
+use Rattle.mk_world.specs.declared.fault.StepFault.{StepFault}
+use Rattle.mk_world.specs.declared.fault.StepFault.TheVariants as faults
+use Rattle.mk_world.specs.declared.plan.Order.{Order}
+use Rattle.mk_world.specs.declared.plan.Order.TheVariants.{Make, Stop, Begin, Look, Put, Done, Finish, Run, Pass, End, Edit}
+use Rattle.mk_world.specs.State.{State, Scene, setting, world_of}
+use Rattle.mk_world.specs.Steps.{step_of}
+use Rattle.mk_world.specs.Faults.{Check, checks, AllHold, FirstFails}
+use Rattle.mk_world.specs.Running.{Stage, IsFirstIdle, AreNotIdle, Passes, PassesAll, PassesAllIn, PassesBefore, TakesInTurn, Follows, IsRefusal, RunsTo, own_steps, printed}
+use Rattle.mk_world.specs.RunLaws.{AreLegal, TakenStepsAreLegal, LegalStepsAreTaken, FrontsRunFirst}
+use Rattle.mk_world.proofs.Idle.{first_is_idle}
+use Rattle.mk_world.proofs.StepTests.{allowed_as}
+
+-- what holds throughout has no first that fails
+none_fails : (cs : List Check) (fault : StepFault) → AllHold cs → FirstFails cs fault → ⊥
+none_fails [] fault h none = none
+none_fails (c ∷ cs) fault h fails = elim fails [ inl f ↦ f.0 h.0 | inr later ↦ none_fails cs fault h.1 later.1 ]
+
+-- an allowed step has no test that fails
+not_refused : (g : Graph) (s : Setting) (w : World) (one : model.Step) (fault : StepFault) → model.Allowed g s w one → FirstFails (checks g s w one) fault → ⊥
+not_refused g s w one fault allowed fails = none_fails (checks g s w one) fault ((allowed_as g s w one).0 allowed) fails
+
+legal_in : (now first : State) (steps : List code.Step) → now.scene ≡ first.scene → AreLegal now steps → IsLegal first.scene.graph (setting first.scene) (world_of now) (map (step_of first.scene.graph) steps)
+legal_in now first steps e h = subst (λ (k : Scene). IsLegal k.graph (setting k) (world_of now) (map (step_of k.graph) steps)) e h
+
+pub taken_legal : TakenStepsAreLegal
+taken_legal old new [] h = (tt, ap world_of h.0)
+taken_legal old new (x ∷ steps) h = elim h [
+  | inl t ↦
+      let rest = taken_legal t.0 new steps t.2 in
+      let scene = t.1.scene in
+      let leaves = t.1.judged.leaves in
+      let legal = legal_in t.0 old steps scene rest.0 in
+      let ends = subst (λ (k : Scene). world_of new ≡ after_all k.graph (setting k) (world_of t.0) (map (step_of k.graph) steps)) scene rest.1 in (
+        (t.1.judged.allowed, subst (λ (w : World). IsLegal old.scene.graph (setting old.scene) w (map (step_of old.scene.graph) steps)) leaves legal),
+        subst (λ (w : World). world_of new ≡ after_all old.scene.graph (setting old.scene) w (map (step_of old.scene.graph) steps)) leaves ends,
+      )
+  | inr refused ↦ absurd (no_error refused.0 refused.2)
+]
+  where
+    no_error : (fault : StepFault) → let ok : Result (Unit {0}) StepFault = Ok tt in ok ≡ Err fault → ⊥
+    no_error fault e = cc
+
+pub legal_taken : LegalStepsAreTaken
+legal_taken old new [] result h legal = inl h.1
+legal_taken old new (x ∷ steps) result h legal = elim h [
+  | inl t ↦
+      let here = subst (λ (w : World). IsLegal old.scene.graph (setting old.scene) w (map (step_of old.scene.graph) steps)) (sym t.1.judged.leaves) legal.1 in
+      let rest : AreLegal t.0 steps = subst (λ (k : Scene). IsLegal k.graph (setting k) (world_of t.0) (map (step_of k.graph) steps)) (sym t.1.scene) here in
+      legal_taken t.0 new steps result t.2 rest
+  | inr refused ↦ elim refused.1.judged [
+    | inl memory ↦ inr (refused.2 ∙ ap (λ f. Err f) memory)
+    | inr fails ↦ absurd (not_refused old.scene.graph (setting old.scene) (world_of old) (step_of old.scene.graph x) refused.0 legal.0 fails)
+  ]
+]
+
+-- there is one first idle node, and it stands among the nodes
+first_one : (g : Graph) (m : Making) (xs : List ℕ) (n k : ℕ) → IsFirstIdle g m xs n → IsFirstIdle g m xs k → n ≡ k
+first_one g m [] n k h j = absurd h
+first_one g m (x ∷ xs) n k h j = elim h [
+  | inl a ↦ elim j [ inl b ↦ a.1 ∙ sym b.1 | inr b ↦ absurd (b.0 a.0) ]
+  | inr a ↦ elim j [ inl b ↦ absurd (a.0 b.0) | inr b ↦ first_one g m xs n k a.1 b.1 ]
+]
+
+first_there : (g : Graph) (m : Making) (xs : List ℕ) (n : ℕ) → IsFirstIdle g m xs n → Has xs n
+first_there g m [] n h = h
+first_there g m (x ∷ xs) n h = elim h [ inl a ↦ inl (sym a.1) | inr b ↦ inr (first_there g m xs n b.1) ]
+
+first_or_none : (g : Graph) (m : Making) (xs : List ℕ) (n : ℕ) → IsFirstIdle g m xs n → AreNotIdle g m xs → ⊥
+first_or_none g m xs n h none = none n (first_there g m xs n h) (first_is_idle g m xs n h)
+
+-- all that can be passed leaves one make
+passes_one : (g : Graph) (m : Making) (ns ks : List ℕ) (end other : Making) → Passes g m ns end → AreNotIdle g end (serial_order g) → Passes g m ks other → AreNotIdle g other (serial_order g) → end ≡ other
+passes_one g m [] [] end other h none j also = h ∙ sym j
+passes_one g m [] (k ∷ ks) end other h none j also = absurd (first_or_none g m (serial_order g) k j.0 (subst (λ (w : Making). AreNotIdle g w (serial_order g)) h none))
+passes_one g m (n ∷ ns) [] end other h none j also = absurd (first_or_none g m (serial_order g) n h.0 (subst (λ (w : Making). AreNotIdle g w (serial_order g)) j also))
+passes_one g m (n ∷ ns) (k ∷ ks) end other h none j also =
+    let same = first_one g m (serial_order g) k n j.0 h.0 in
+    passes_one g (finished m n) ns ks end other h.1 none (subst (λ (i : ℕ). Passes g (finished m i) ks other) same j.1) also
+
+passes_all_one : (g : Graph) (m : Making) (d : Disk) (a b : World) → PassesAll g m d a → PassesAll g m d b → a ≡ b
+passes_all_one g m d a b h j =
+    h.leaves ∙ (ap (λ (k : Making). Busy k d) (passes_one g m h.nodes j.nodes h.end j.end h.passes h.none_left j.passes j.none_left) ∙ sym j.leaves)
+
+passes_in_one : (g : Graph) (old a b : World) → PassesAllIn g old a → PassesAllIn g old b → a ≡ b
+passes_in_one g (Idle d) a b h j = h ∙ sym j
+passes_in_one g (Busy m d) a b h j = passes_all_one g m d a b h j
+
+before_one : (g : Graph) (order : Order) (old a b : World) → PassesBefore g order old a → PassesBefore g order old b → a ≡ b
+before_one g (Make jobs goals) old a b h j = h ∙ sym j
+before_one g Stop old a b h j = h ∙ sym j
+before_one g (Begin t) old a b h j = passes_in_one g old a b h j
+before_one g (Look t f) old a b h j = h ∙ sym j
+before_one g (Put t f c) old a b h j = h ∙ sym j
+before_one g (Done t) old a b h j = h ∙ sym j
+before_one g (Finish t) old a b h j = h ∙ sym j
+before_one g (Run t) old a b h j = passes_in_one g old a b h j
+before_one g (Pass t) old a b h j = passes_in_one g old a b h j
+before_one g End old a b h j = passes_in_one g old a b h j
+before_one g (Edit f c) old a b h j = h ∙ sym j
+
+-- steps that are all taken are legal, and leave one world
+takes_legal : (g : Graph) (s : Setting) (old new : World) (steps : List model.Step) → TakesInTurn g s old new steps (Ok tt) → IsLegal g s old steps × (new ≡ after_all g s old steps)
+takes_legal g s old new [] h = (tt, h.0)
+takes_legal g s old new (x ∷ steps) h = elim h [
+  | inl t ↦ let rest = takes_legal g s (after g s old x) new steps t.1 in ((t.0, rest.0), rest.1)
+  | inr refused ↦ absurd (no_error refused.fault refused.is)
+]
+  where
+    no_error : (fault : StepFault) → let ok : Result (Unit {0}) StepFault = Ok tt in ok ≡ Err fault → ⊥
+    no_error fault e = cc
+
+-- legal steps are refused for want of memory alone
+legal_or : (g : Graph) (s : Setting) (old new : World) (steps : List model.Step) (fault : StepFault) → TakesInTurn g s old new steps (Err fault) → ¬ (fault ≡ faults.Memory) → IsLegal g s old steps → ⊥
+legal_or g s old new [] fault h not legal = no_value h.1
+  where
+    no_value : (let failed : Result (Unit {0}) StepFault = Err fault in failed ≡ Ok tt) → ⊥
+    no_value e = cc
+legal_or g s old new (x ∷ steps) fault h not legal = elim h [
+  | inl t ↦ legal_or g s (after g s old x) new steps fault t.1 not legal.1
+  | inr refused ↦ elim refused.first [
+    | inl memory ↦ not (same fault refused.fault refused.is ∙ memory)
+    | inr fails ↦ not_refused g s old x refused.fault legal.0 fails
+  ]
+]
+  where
+    same : (a b : StepFault) → (let failed : Result (Unit {0}) StepFault = Err a in failed ≡ Err b) → a ≡ b
+    same a b e = cc
+
+-- a line that is followed leaves one world, and isn't refused
+follows_one : (stage : Stage) (old a b : World) (order : Order) → Follows stage old a order (Ok tt) → Follows stage old b order (Ok tt) → a ≡ b
+follows_one stage old a b order h j =
+    let same = before_one stage.graph order old j.behind h.behind j.passes h.passes in
+    let takes = subst (λ (w : World). TakesInTurn stage.graph stage.setting w b (own_steps stage.graph stage.setting (disk_of w) order) (Ok tt)) same j.takes in
+    (takes_legal stage.graph stage.setting h.behind a _ h.takes).1 ∙ sym (takes_legal stage.graph stage.setting h.behind b _ takes).1
+
+follows_or : (stage : Stage) (old a b : World) (order : Order) (fault : StepFault) → Follows stage old a order (Ok tt) → IsRefusal stage old b order fault → ⊥
+follows_or stage old a b order fault h refusal = elim refusal [
+  | inl unknown ↦ false≢true (sym unknown.unknown ∙ h.known)
+  | inr fails ↦
+      let same = before_one stage.graph order old fails.1.behind h.behind fails.1.passes h.passes in
+      let takes = subst (λ (w : World). TakesInTurn stage.graph stage.setting w b (own_steps stage.graph stage.setting (disk_of w) order) (Err fault)) same fails.1.takes in
+      legal_or stage.graph stage.setting h.behind b _ fault takes fails.0 (takes_legal stage.graph stage.setting h.behind a _ h.takes).0
+]
+
+pub fronts_first : FrontsRunFirst
+fronts_first stage old mid [] rest text front whole refused new = (
+  λ h. (whole, subst (λ (w : World). RunsTo stage w rest whole refused new) (sym front.2) h, ap (λ (t : List ℕ). t ++ whole) (sym front.0)),
+  λ h. subst (λ (t : List ℕ). RunsTo stage old rest t refused new) (sym (h.2 ∙ ap (λ (t : List ℕ). t ++ h.0) front.0)) (subst (λ (w : World). RunsTo stage w rest h.0 refused new) front.2 h.1),
+)
+fronts_first stage old mid (x ∷ lines) rest text front whole refused new = elim front [
+  | inl f ↦
+      let ih = λ (later : List ℕ). fronts_first stage f.0 mid lines rest f.1 f.3 later refused new in
+      let more = printed stage.names x.order f.0 in (
+        λ h. elim h [
+          | inl w ↦
+              let same = follows_one stage old w.0 f.0 x.order w.2 f.2 in
+              let run = subst (λ (k : World). RunsTo stage k (lines ++ rest) w.1 refused new) same w.3 in
+              let deep = (ih w.1).0 run in
+              let joined = w.4 ∙ (ap (λ (k : World). printed stage.names x.order k ++ w.1) same ∙ (ap (λ (t : List ℕ). more ++ t) deep.2 ∙ (sym (append_assoc more f.1 deep.0) ∙ ap (λ (t : List ℕ). t ++ deep.0) (sym f.4)))) in
+              (deep.0, deep.1, joined)
+          | inr r ↦ absurd (follows_or stage old f.0 new x.order r.0 f.2 r.1)
+        ],
+        λ h.
+            let joined = h.2 ∙ (ap (λ (t : List ℕ). t ++ h.0) f.4 ∙ append_assoc more f.1 h.0) in
+            inl (f.0, f.1 ++ h.0, f.2, (ih (f.1 ++ h.0)).1 (h.0, h.1, refl), joined),
+      )
+  | inr r ↦ absurd (no_refusal r.3)
+]
+  where
+    no_refusal : {A : Type 0} {y : A} → None ≡ Some y → ⊥
+    no_refusal e = cc
