@@ -1,7 +1,7 @@
 -- Lists of findings that grow.
-use Rattle.std.proofs.Common.{◌≡◌, ℕ, ◌+◌, ◌<◌, List, [], ◌∷◌, ◌++◌, length, get_or, map, drop, sym, ap, subst, ◌∙◌, append_assoc, append-nil}
+use Rattle.std.proofs.Common.{◌≡◌, ℕ, ◌+◌, ◌<◌, ◌≤◌, List, [], ◌∷◌, ◌++◌, length, get_or, map, drop, length-drop, refl, sym, ap, subst, ◌∙◌, append_assoc, append-nil, arith}
 use Rattle.std.specs.List.{flat_map}
-use Rattle.std.proofs.lemmas.List.{map-append, drop_more}
+use Rattle.std.proofs.lemmas.List.{map-append, drop_more, nil_from_length}
 use Rattle.mk_cert.specs.declared.finding.Finding.{Finding}
 use Rattle.mk_cert.specs.Subject.{Subject}
 use Rattle.mk_cert.specs.Candidates.{Candidate, Holds}
@@ -33,6 +33,10 @@ adds_one x c old new h e = record { kept = c ∷ []; right = keeps h nothing; ad
 pub adds_none : (x : Subject) (c : Candidate) (old : List Finding) → ¬ (Holds x c) → Adds x (c ∷ []) old old
 adds_none x c old h = record { kept = []; right = drops h nothing; added = sym (append-nil old) }
 
+-- past the end nothing is left of a list
+pub drop_past : {A : Type 0} (xs : List A) (i : ℕ) → length xs ≤ i → drop i xs ≡ []
+drop_past xs i past = nil_from_length (drop i xs) (omega (arith, length-drop i xs))
+
 -- what is left: adding the rest now leads where adding all led at first
 abbrev pub Leads : (x : Subject) (rest all : List Candidate) (now first : List Finding) → Type 0
 Leads x rest all now first = (last : List Finding) → Adds x rest now last → Adds x all first last
@@ -59,3 +63,4 @@ module _ {A : Type 0} where
   pub leads_map : (x : Subject) (candidate : A → Candidate) (xs : List A) (i : ℕ) (d : A) (all : List Candidate) (now next first : List Finding) → i < length xs → Leads x (map candidate (drop i xs)) all now first → Adds x (candidate (get_or xs i d) ∷ []) now next → Leads x (map candidate (drop (i + 1) xs)) all next first
   leads_map x candidate xs i d all now next first lt lead added =
       leads_on x (candidate (get_or xs i d) ∷ []) (map candidate (drop (i + 1) xs)) all now next first (subst (λ (l : List A). Leads x (map candidate l) all now first) (drop_more xs i d lt) lead) added
+

@@ -6,3 +6,4 @@ pub mod Writing
 pub mod Entries
 pub mod Adding
 pub mod Decided
+pub mod FileDecided

@@ -9,4 +9,6 @@ pub mod Text
 pub mod Writers
 pub mod Tables
 pub mod Tests
+pub mod FileTests
+pub mod Questions
 pub mod Kept

@@ -2,11 +2,14 @@
 //! is.
 #![tactic(auto)]
 
+mod asking;
 mod entry;
+mod file_findings;
 mod finding;
 pub mod laws;
 mod looking_up;
 mod node_findings;
+mod question;
 mod subject;
 mod tables;
 mod writers;

@@ -1,17 +1,19 @@
 //! What is judged.
 
-ghost use Rattle.std.specs.Prelude.{◌≡◌, [], false, map, Ok, IfErr, IfOk};
+ghost use Rattle.std.specs.Prelude.{◌≡◌, ◌↔◌, ℕ, [], false, true, map, Ok, IfErr, IfOk};
 ghost use Rattle.mk_graph.specs.Graph.{IsGraph};
+ghost use Rattle.mk_graph.specs.Membership.{Has};
 ghost use Rattle.mk_graph.specs.Setting as build;
 ghost use Rattle.mk_lines.specs.Names.{has_name};
 ghost use Rattle.mk_infer.specs.Selection.{Selects};
-ghost use Rattle.mk_cert.specs.Subject.{IsSubject, subject_of};
+ghost use Rattle.mk_cert.specs.Subject.{IsSubject, subject_of, writes_of};
 ghost use Rattle.mk_cert.specs.Entry.{AreEntries, IsFaultOf, writers_of};
 
 use crate::entry::Entry;
 use crate::tables::{Tables, tables_for};
 use mk_foot::Setting;
 use mk_graph::Graph;
+use mk_graph::laws::serial_reaches_each_once;
 use mk_infer::{Exists, InferFault};
 use mk_read::Makefile;
 use std::alloc::Global;
@@ -123,6 +125,15 @@ impl<'a> Subject<'a> {
             Some(numbers) => numbers.as_slice(),
             None => &[],
         }
+    }
+
+    /// Whether some recipe writes a file.
+    pub(crate) fn is_written(&self, file: &str) -> bool
+        ensures { (result ≡ true) ↔ ((o : ℕ) × Has (writes_of self.now o) file.now) }
+    {
+        serial_reaches_each_once();
+        let _graph = self.graph();
+        !self.writers(file).is_empty()
     }
 
     /// Whether `.PHONY` lists the name.

@@ -30,7 +30,7 @@ pub struct Tables<'a> {
 }
 
 /// The names of a list, to be looked up.
-fn names_among<'a>(alloc: Global, names: &'a [String]) -> Result<NameSet<'a>, AllocError>
+pub fn names_among<'a>(alloc: Global, names: &'a [String]) -> Result<NameSet<'a>, AllocError>
     ensures { IfOk result (λ set. HoldsNames set (map string_bytes names.now)) }
 {
     let mut set = NameSet::new(alloc);

@@ -1,0 +1,101 @@
+-- What is tested of files decides what is found.
+use Rattle.std.proofs.Common.{◌≡◌, ℕ, zero, suc, ◌<◌, List, [], ◌∷◌, Bool, true, false, cond, length, get_or, refl, sym, ap, subst, ◌∙◌, ◌⊎◌, inl, inr, ⊎_elim, arith}
+use Rattle.std.specs.Prelude.{filter, not, ◌||◌, ◌==◌, ◌↔◌}
+use Rattle.std.proofs.Math.Dec.{eqb-suc-zero}
+use Rattle.std.proofs.lemmas.Bool.{true≢false}
+use Rattle.mk_lines.specs.Names.{has_name}
+use Rattle.mk_graph.specs.Membership.{Has}
+use Rattle.mk_graph.specs.Graph.{IsGraph}
+use Rattle.mk_graph.specs.Laws.{SerialReachesEachOnce}
+use Rattle.mk_graph.specs.Serial.{serial_order}
+use Rattle.mk_foot.specs.Setting.{is_given}
+use Rattle.mk_cert.specs.Subject.{Subject, writes_of}
+use Rattle.mk_cert.specs.Conditions.{WritesWhatIsGiven, ReadsItsOwn}
+use Rattle.mk_cert.specs.Entry.{Entry, IsEntry, entry_writes, writers_of}
+use Rattle.mk_cert.specs.Tables.{HoldsNames}
+use Rattle.mk_cert.proofs.Entries.{same_writes}
+use Rattle.mk_cert.specs.FileTests.{is_taken}
+use Rattle.mk_cert.proofs.Sound.{writer_in_order}
+use Rattle.mk_cert.proofs.Decided.{has_decides}
+
+either : (a b : Bool) → (a || b) ≡ true → (a ≡ true) ⊎ (b ≡ true)
+either true b t = inl refl
+either false b t = inr t
+
+neither : (a b : Bool) → (a || b) ≡ false → (a ≡ false) × (b ≡ false)
+neither true b f = absurd (let e : true ≡ false = f in cc)
+neither false b f = (refl, f)
+
+-- what is written and taken, and what isn't taken
+pub taken_there : (x : Subject) (t : ℕ) (f : List ℕ) → Has (writes_of x t) f → is_taken x f ≡ true → WritesWhatIsGiven x t f
+taken_there x t f h taken =
+    (h, ⊎_elim (λ g. inl g) (λ more. inr (either (has_name x.makefile.phony f) (has_name x.setting.passed_over f) more)) (either (is_given x.setting f) (has_name x.makefile.phony f || has_name x.setting.passed_over f) taken))
+
+pub not_taken : (x : Subject) (t : ℕ) (f : List ℕ) → is_taken x f ≡ false → ¬ (WritesWhatIsGiven x t f)
+not_taken x t f free (h, which) =
+    let given = neither (is_given x.setting f) (has_name x.makefile.phony f || has_name x.setting.passed_over f) free in
+    let others = neither (has_name x.makefile.phony f) (has_name x.setting.passed_over f) given.1 in
+    ⊎_elim (λ g. true≢false (sym g ∙ given.0)) (λ more. ⊎_elim (λ p. true≢false (sym p ∙ others.0)) (λ p. true≢false (sym p ∙ others.1)) more) which
+
+-- what passes a test stands among what is kept
+kept_step : (p : ℕ → Bool) (m : ℕ) (ns : List ℕ) (n : ℕ) (b : Bool) → p m ≡ b → (m ≡ n) ⊎ Has (filter p ns) n → p n ≡ true → Has (filter p (m ∷ ns)) n
+kept_step p m ns n true e (inl here) t = rw e (inl here)
+kept_step p m ns n true e (inr there) t = rw e (inr there)
+kept_step p m ns n false e (inl here) t = absurd (true≢false (sym t ∙ (ap p (sym here) ∙ e)))
+kept_step p m ns n false e (inr there) t = rw e there
+
+kept : (p : ℕ → Bool) (ns : List ℕ) (n : ℕ) → Has ns n → p n ≡ true → Has (filter p ns) n
+kept p [] n h t = absurd h
+kept p (m ∷ ns) n (inl here) t = kept_step p m ns n (p m) refl (inl here) t
+kept p (m ∷ ns) n (inr there) t = kept_step p m ns n (p m) refl (inr (kept p ns n there t)) t
+
+-- and nothing else does
+passing_step : (p : ℕ → Bool) (m : ℕ) (ns : List ℕ) (n : ℕ) (b : Bool) → p m ≡ b → (Has (filter p ns) n → p n ≡ true) → Has (cond b (m ∷ filter p ns) (filter p ns)) n → p n ≡ true
+passing_step p m ns n true e more (inl here) = ap p (sym here) ∙ e
+passing_step p m ns n true e more (inr there) = more there
+passing_step p m ns n false e more there = more there
+
+passing : (p : ℕ → Bool) (ns : List ℕ) (n : ℕ) → Has (filter p ns) n → p n ≡ true
+passing p [] n h = absurd h
+passing p (m ∷ ns) n h = passing_step p m ns n (p m) refl (passing p ns n) h
+
+-- a file has a writer just where it has some in the order
+first_of : (ns : List ℕ) → 0 < length ns → (n : ℕ) × Has ns n
+first_of [] some = absurd (omega arith)
+first_of (n ∷ ns) some = (n, inl refl)
+
+not_empty : (ns : List ℕ) (n : ℕ) → Has ns n → 0 < length ns
+not_empty [] n h = absurd h
+not_empty (m ∷ ns) n h = omega arith
+
+pub some_writer : (x : Subject) (f : List ℕ) (ns : List ℕ) → ns ≡ writers_of x f → 0 < length ns → (o : ℕ) × Has (writes_of x o) f
+some_writer x f ns same some =
+    let first = first_of ns some in
+    (first.0, (has_decides (writes_of x first.0) f).0 (passing (λ o. has_name (writes_of x o) f) (serial_order x.graph) first.0 (subst (λ (l : List ℕ). Has l first.0) same first.1)))
+
+pub writer_found : (x : Subject) (f : List ℕ) (ns : List ℕ) → IsGraph x.graph → SerialReachesEachOnce → ns ≡ writers_of x f → (o : ℕ) × Has (writes_of x o) f → 0 < length ns
+writer_found x f ns is reaches same (o, wrote) =
+    not_empty ns o (subst (λ (l : List ℕ). Has l o) (sym same) (kept (λ n. has_name (writes_of x n) f) (serial_order x.graph) o (writer_in_order x is reaches o f wrote) ((has_decides (writes_of x o) f).1 wrote)))
+
+-- a file at its place stands among the files
+pub at_place : (files : List (List ℕ)) (i : ℕ) (d : List ℕ) → i < length files → Has files (get_or files i d)
+at_place [] i d h = absurd (omega arith)
+at_place (f ∷ files) zero d h = inl refl
+at_place (f ∷ files) (suc i) d h = inr (at_place files i d (omega arith))
+
+-- whether a list is empty
+empty_test : (ns : List ℕ) → (not (length ns == 0) ≡ true → 0 < length ns) × (0 < length ns → not (length ns == 0) ≡ true)
+empty_test [] = ((λ t. absurd (let e : false ≡ true = t in cc)), (λ lt. absurd (omega arith)))
+empty_test (n ∷ ns) = ((λ t. omega arith), (λ lt. ap (λ b. not b) (eqb-suc-zero (length ns))))
+
+pub written_decides : (x : Subject) (f : List ℕ) (ns : List ℕ) (b : Bool) → IsGraph x.graph → SerialReachesEachOnce → ns ≡ writers_of x f → b ≡ (length ns == 0) → (not b ≡ true) ↔ ((o : ℕ) × Has (writes_of x o) f)
+written_decides x f ns b is reaches same e =
+    ((λ t. some_writer x f ns same ((empty_test ns).0 (ap (λ c. not c) (sym e) ∙ t))), (λ h. ap (λ c. not c) e ∙ (empty_test ns).1 (writer_found x f ns is reaches same h)))
+
+-- a file that is read is one of the recipe's own just where it is written
+pub own_there : (x : Subject) (e : Entry) (f : List ℕ) (set : List (List ℕ)) → IsEntry x e → HoldsNames set (entry_writes e) → has_name set f ≡ true → Has (writes_of x e.number) f
+own_there x e f set is held t = subst (λ (fs : List (List ℕ)). Has fs f) (same_writes x e is) ((has_decides (entry_writes e) f).0 (sym (held f) ∙ t))
+
+pub not_own : (x : Subject) (e : Entry) (f : List ℕ) (set : List (List ℕ)) → IsEntry x e → HoldsNames set (entry_writes e) → has_name set f ≡ false → ¬ (ReadsItsOwn x e.number f)
+not_own x e f set is held out (read, wrote) =
+    true≢false (sym (held f ∙ (has_decides (entry_writes e) f).1 (subst (λ (fs : List (List ℕ)). Has fs f) (sym (same_writes x e is)) wrote)) ∙ out)

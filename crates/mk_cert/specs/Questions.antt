@@ -1,0 +1,17 @@
+-- What is asked of each node by itself, one question after another.
+use Rattle.std.specs.Prelude.{ℕ, List, [], ◌∷◌, map}
+use Rattle.mk_cert.specs.declared.question.Question.{Question}
+use Rattle.mk_cert.specs.declared.question.Question.TheVariants.{Record, Commands, Varying, Target, Given, Own, Unknown, Choice}
+use Rattle.mk_cert.specs.Subject.{Subject, reads_of, writes_of}
+use Rattle.mk_cert.specs.Candidates.{Candidate, no_record, other_commands, varying_commands, no_target, given_written, own_read, unknown_read, selection, choice_with_writes}
+
+-- what may be found of a node by a question
+abbrev pub asked : Subject → Question → ℕ → List Candidate
+asked x Record t = no_record t ∷ []
+asked x Commands t = other_commands t ∷ []
+asked x Varying t = varying_commands t ∷ []
+asked x Target t = no_target t ∷ []
+asked x Given t = map (λ f. given_written t f) (writes_of x t)
+asked x Own t = map (λ f. own_read t f) (reads_of x t)
+asked x Unknown t = map (λ f. unknown_read t f) (reads_of x t)
+asked x Choice n = map (λ c. selection n c) (choice_with_writes x n)

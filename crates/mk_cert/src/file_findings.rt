@@ -1,0 +1,176 @@
+//! What is found of the files of a recipe.
+
+ghost use Rattle.std.specs.Prelude.{◌≡◌, ◌↔◌, ◌∷◌, [], true, map, OnOk};
+ghost use Rattle.mk_graph.specs.Membership.{Has};
+ghost use Rattle.mk_cert.specs.Subject.{reads_of, writes_of};
+ghost use Rattle.mk_cert.specs.Candidates.{given_written, own_read, unknown_read};
+ghost use Rattle.mk_cert.specs.Entry.{IsEntry, entry_writes};
+ghost use Rattle.mk_cert.specs.Listed.{Adds};
+ghost use Rattle.mk_cert.specs.Tables.{HoldsNames};
+ghost use Rattle.mk_cert.specs.FileTests.{is_taken, IsUnknown};
+
+use crate::entry::Entry;
+use crate::finding::Finding;
+use crate::subject::Subject;
+use crate::tables::names_among;
+use mk_lines::{Name, NameSet};
+use std::alloc::{AllocError, Global};
+
+/// Whether a file is given, phony, or passed over by the reading of the makefile.
+fn is_taken(subject: &Subject<'_>, file: &str) -> bool
+    ensures { result ≡ is_taken subject.now file.now }
+{
+    subject.setting().is_given(file)
+        || subject.is_phony(file)
+        || subject.setting().is_passed_over(file)
+}
+
+/// Adds that a recipe writes a file that is given, phony or passed over, if it is.
+fn note_taken(
+    alloc: Global,
+    subject: &Subject<'_>,
+    entry: &Entry<'_>,
+    file: &str,
+    found: &mut Vec<Finding>,
+) -> Result<(), AllocError>
+    requires entry { IsEntry subject.now entry.now }
+    requires written { Has (writes_of subject.now entry.now.number) file.now }
+    ensures { OnOk result (Adds subject.now (given_written entry.now.number file.now ∷ [])
+        found.old.items found.new.items) }
+{
+    if !is_taken(subject, file) {
+        return Ok(());
+    }
+    let recipe = entry.copy_of_name()?;
+    let file = Name::new(alloc, file)?;
+    found.push(Finding::GivenWritten { recipe, file })?;
+    Ok(())
+}
+
+/// Adds which of the files that a recipe writes are given, phony or passed over.
+pub fn note_given_written(
+    alloc: Global,
+    subject: &Subject<'_>,
+    entry: &Entry<'_>,
+    found: &mut Vec<Finding>,
+) -> Result<(), AllocError>
+    requires { IsEntry subject.now entry.now }
+    ensures { OnOk result (Adds subject.now
+        (map (λ f. given_written entry.now.number f) (writes_of subject.now entry.now.number))
+        found.old.items found.new.items) }
+{
+    let files = entry.writes();
+    for file in files {
+        note_taken(alloc, subject, entry, file.as_str(), found)?;
+    }
+    Ok(())
+}
+
+/// Whether a file is neither given nor written.
+fn is_unknown(subject: &Subject<'_>, file: &str) -> bool
+    ensures { (result ≡ true) ↔ IsUnknown subject.now file.now }
+{
+    !subject.setting().is_given(file) && !subject.is_written(file)
+}
+
+/// Adds that a recipe reads a file that is neither given nor written, if it is so.
+fn note_unknown(
+    alloc: Global,
+    subject: &Subject<'_>,
+    entry: &Entry<'_>,
+    file: &str,
+    found: &mut Vec<Finding>,
+) -> Result<(), AllocError>
+    requires entry { IsEntry subject.now entry.now }
+    requires read { Has (reads_of subject.now entry.now.number) file.now }
+    ensures { OnOk result (Adds subject.now (unknown_read entry.now.number file.now ∷ [])
+        found.old.items found.new.items) }
+{
+    if !is_unknown(subject, file) {
+        return Ok(());
+    }
+    let recipe = entry.copy_of_name()?;
+    let file = Name::new(alloc, file)?;
+    found.push(Finding::UnknownRead { recipe, file })?;
+    Ok(())
+}
+
+/// Adds which of the files that a recipe reads are neither given nor written.
+pub fn note_unknown_reads(
+    alloc: Global,
+    subject: &Subject<'_>,
+    entry: &Entry<'_>,
+    found: &mut Vec<Finding>,
+) -> Result<(), AllocError>
+    requires { IsEntry subject.now entry.now }
+    ensures { OnOk result (Adds subject.now
+        (map (λ f. unknown_read entry.now.number f) (reads_of subject.now entry.now.number))
+        found.old.items found.new.items) }
+{
+    let files = entry.reads();
+    for file in files {
+        note_unknown(alloc, subject, entry, file.as_str(), found)?;
+    }
+    Ok(())
+}
+
+/// Adds that a recipe reads a file that is one of those that it writes, if it is.
+fn note_own(
+    alloc: Global,
+    subject: &Subject<'_>,
+    entry: &Entry<'_>,
+    own: &NameSet<'_>,
+    file: &str,
+    found: &mut Vec<Finding>,
+) -> Result<(), AllocError>
+    requires entry { IsEntry subject.now entry.now }
+    requires own { HoldsNames own.now (entry_writes entry.now) }
+    requires read { Has (reads_of subject.now entry.now.number) file.now }
+    ensures { OnOk result (Adds subject.now (own_read entry.now.number file.now ∷ [])
+        found.old.items found.new.items) }
+{
+    if !own.contains(file) {
+        return Ok(());
+    }
+    let recipe = entry.copy_of_name()?;
+    let file = Name::new(alloc, file)?;
+    found.push(Finding::OwnRead { recipe, file })?;
+    Ok(())
+}
+
+/// Adds which of the files that a recipe reads are among these, which it writes.
+fn note_own_among(
+    alloc: Global,
+    subject: &Subject<'_>,
+    entry: &Entry<'_>,
+    own: &NameSet<'_>,
+    found: &mut Vec<Finding>,
+) -> Result<(), AllocError>
+    requires entry { IsEntry subject.now entry.now }
+    requires own { HoldsNames own.now (entry_writes entry.now) }
+    ensures { OnOk result (Adds subject.now
+        (map (λ f. own_read entry.now.number f) (reads_of subject.now entry.now.number))
+        found.old.items found.new.items) }
+{
+    let files = entry.reads();
+    for file in files {
+        note_own(alloc, subject, entry, own, file.as_str(), found)?;
+    }
+    Ok(())
+}
+
+/// Adds which of the files that a recipe reads it writes too.
+pub fn note_own_reads(
+    alloc: Global,
+    subject: &Subject<'_>,
+    entry: &Entry<'_>,
+    found: &mut Vec<Finding>,
+) -> Result<(), AllocError>
+    requires { IsEntry subject.now entry.now }
+    ensures { OnOk result (Adds subject.now
+        (map (λ f. own_read entry.now.number f) (reads_of subject.now entry.now.number))
+        found.old.items found.new.items) }
+{
+    let own = names_among(alloc, entry.writes())?;
+    note_own_among(alloc, subject, entry, &own, found)
+}

@@ -1,0 +1,22 @@
+//! What is asked of each node by itself.
+
+/// What is asked of each node by itself.
+#[derive(Clone, Copy, Debug, Drop)]
+pub enum Question {
+    /// Whether its recipe has a record.
+    Record,
+    /// Whether the record has the commands of the recipe.
+    Commands,
+    /// Whether the commands vary.
+    Varying,
+    /// Whether the recipe writes its target.
+    Target,
+    /// Whether it writes files that are given, phony or passed over.
+    Given,
+    /// Whether it reads files that it writes.
+    Own,
+    /// Whether it reads files that are neither given nor written.
+    Unknown,
+    /// Whether another inferred prerequisite is chosen once recipes have written their files.
+    Choice,
+}
