@@ -63,4 +63,3 @@ module _ {A : Type 0} where
   pub leads_map : (x : Subject) (candidate : A → Candidate) (xs : List A) (i : ℕ) (d : A) (all : List Candidate) (now next first : List Finding) → i < length xs → Leads x (map candidate (drop i xs)) all now first → Adds x (candidate (get_or xs i d) ∷ []) now next → Leads x (map candidate (drop (i + 1) xs)) all next first
   leads_map x candidate xs i d all now next first lt lead added =
       leads_on x (candidate (get_or xs i d) ∷ []) (map candidate (drop (i + 1) xs)) all now next first (subst (λ (l : List A). Leads x (map candidate l) all now first) (drop_more xs i d lt) lead) added
-
