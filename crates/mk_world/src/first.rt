@@ -68,7 +68,7 @@ pub fn names_of(alloc: Global, graph: &Graph, setting: &Setting) -> Result<Vec<S
         IsOfWorld graph.now (setting_of setting.now) f) }
 {
     let mut names = SortedNames::new(alloc);
-    names.insert_all(setting.sources())?;
+    names.insert_all(setting.sources().as_slice())?;
     for node in graph.nodes() {
         add_node(&mut names, setting, node)?;
     }

@@ -1,4 +1,4 @@
-use Rattle.std.proofs.Common.{◌≡◌, ℕ, List, length, sym, ap, inl, inr, subst, arith, ◌⊎◌}
+use Rattle.std.proofs.Common.{◌≡◌, ℕ, List, length, sym, ap, inl, inr, subst, arith, ◌⊎◌, ◌∙◌}
 use Rattle.std.specs.Prelude.{◌↔◌}
 use Rattle.mk_graph.specs.declared.node.Node.{Node}
 use Rattle.mk_graph.specs.Membership.{Has}
@@ -12,8 +12,8 @@ use Rattle.mk_world.proofs.first.names_of.Goals as goal
 
 pub loop-node-init : goal.loop-node-init
 loop-node-init c = λ f. (
-  λ h. elim ((c.in_ok-insert_all.ensures f).0 h) [ inl e ↦ absurd (subst (λ (l : List (List ℕ)). Has l f) c.new-names.ensures e) | inr s ↦ inl (subst (λ (l : List (List ℕ)). Has l f) c.sources.ensures s) ],
-  λ h. elim h [ inl s ↦ (c.in_ok-insert_all.ensures f).1 (inr (subst (λ (l : List (List ℕ)). Has l f) (sym c.sources.ensures) s)) | inr b ↦ absurd (omega (arith, b.1)) ],
+  λ h. elim ((c.in_ok-insert_all.ensures f).0 h) [ inl e ↦ absurd (subst (λ (l : List (List ℕ)). Has l f) c.new-names.ensures e) | inr s ↦ inl (subst (λ (l : List (List ℕ)). Has l f) (c.as_slice.ensures ∙ c.sources.ensures) s) ],
+  λ h. elim h [ inl s ↦ (c.in_ok-insert_all.ensures f).1 (inr (subst (λ (l : List (List ℕ)). Has l f) (sym (c.as_slice.ensures ∙ c.sources.ensures)) s)) | inr b ↦ absurd (omega (arith, b.1)) ],
 )
 
 pub loop-node-preserved : goal.loop-node-preserved
