@@ -21,15 +21,36 @@ fn table(alloc: Global, words: &str) -> Result<NameTable, Fail> {
     Ok(NameTable::new(alloc, names(alloc, words)?)?)
 }
 
-/// These sources and fixed prefixes, and `m.c` as a name more that counts as there.
-fn exists(alloc: Global, any_leaf: bool, sources: &str, fixed: &str) -> Result<Exists, Fail> {
-    Ok(Exists {
-        any_leaf,
-        sources: table(alloc, sources)?,
-        fixed: Prefixes::new(alloc, names(alloc, fixed)?)?,
-        texts: table(alloc, "makefile")?,
-        more: table(alloc, "m.c")?,
-    })
+/// The tables that the files are looked up in which are there.
+#[derive(Drop)]
+struct Tables {
+    sources: NameTable,
+    fixed: Prefixes,
+    texts: NameTable,
+    more: NameTable,
+}
+
+impl Tables {
+    /// These sources and fixed prefixes, and `m.c` as a name more that counts as there.
+    fn new(alloc: Global, sources: &str, fixed: &str) -> Result<Tables, Fail> {
+        Ok(Tables {
+            sources: table(alloc, sources)?,
+            fixed: Prefixes::new(alloc, names(alloc, fixed)?)?,
+            texts: table(alloc, "makefile")?,
+            more: table(alloc, "m.c")?,
+        })
+    }
+
+    /// The files that are there.
+    fn exists(&self, any_leaf: bool) -> Exists<'_> {
+        Exists {
+            any_leaf,
+            sources: &self.sources,
+            fixed: &self.fixed,
+            texts: &self.texts,
+            more: &self.more,
+        }
+    }
 }
 
 /// The names with these numbers, each behind a byte.
@@ -72,7 +93,7 @@ fn shown(alloc: Global, graph: &Graph) -> Result<Vec<u8>, AllocError> {
 fn graph_shown(
     alloc: Global,
     table: &RuleTable<'_>,
-    exists: &Exists,
+    exists: &Exists<'_>,
     goals: &[Name],
 ) -> Result<Vec<u8>, Fail> {
     match selected(alloc, table, exists, goals) {
@@ -85,7 +106,7 @@ fn graph_shown(
 fn makefile_graph(
     alloc: Global,
     makefile: &Makefile,
-    exists: &Exists,
+    exists: &Exists<'_>,
     goals: &[Name],
 ) -> Result<Vec<u8>, Fail> {
     let table = RuleTable::new(alloc, makefile)?;
@@ -93,7 +114,7 @@ fn makefile_graph(
 }
 
 /// The same of a text's first goal.
-fn graph_of(alloc: Global, text: &[u8], exists: &Exists) -> Result<Vec<u8>, Fail> {
+fn graph_of(alloc: Global, text: &[u8], exists: &Exists<'_>) -> Result<Vec<u8>, Fail> {
     let makefile = makefile(alloc, text, true, "CC=cc")?;
     makefile_graph(alloc, &makefile, exists, &[])
 }
@@ -101,7 +122,7 @@ fn graph_of(alloc: Global, text: &[u8], exists: &Exists) -> Result<Vec<u8>, Fail
 fn selected(
     alloc: Global,
     table: &RuleTable<'_>,
-    exists: &Exists,
+    exists: &Exists<'_>,
     words: &[Name],
 ) -> Result<Graph, InferFault> {
     let goals = goal_names(alloc, table, words)?;
@@ -124,13 +145,18 @@ fn fault_words(alloc: Global, fault: &InferFault) -> Result<Vec<u8>, Fail> {
 }
 
 /// What is shown of the graph of a row's makefile.
-fn graph_of_row(alloc: Global, exists: &Exists, fields: &[&str]) -> Result<Vec<u8>, Fail> {
+fn graph_of_row(alloc: Global, exists: &Exists<'_>, fields: &[&str]) -> Result<Vec<u8>, Fail> {
     let text = field(alloc, fields, 0)?;
     graph_of(alloc, text.as_bytes(), exists)
 }
 
 /// Expects the second field of a row to be shown.
-fn expect_graph(rt: &impl Abort, alloc: Global, exists: &Exists, row: &str) -> Result<(), Fail> {
+fn expect_graph(
+    rt: &impl Abort,
+    alloc: Global,
+    exists: &Exists<'_>,
+    row: &str,
+) -> Result<(), Fail> {
     let fields = fields_of(alloc, row)?;
     let got = graph_of_row(alloc, exists, &fields)?;
     let wanted = field(alloc, &fields, 1)?;
@@ -139,7 +165,12 @@ fn expect_graph(rt: &impl Abort, alloc: Global, exists: &Exists, row: &str) -> R
 }
 
 /// Each line of the table is a row.
-fn expect_graphs(rt: &impl Abort, alloc: Global, exists: &Exists, table: &str) -> Result<(), Fail> {
+fn expect_graphs(
+    rt: &impl Abort,
+    alloc: Global,
+    exists: &Exists<'_>,
+    table: &str,
+) -> Result<(), Fail> {
     for row in table.lines() {
         expect_graph(rt, alloc, exists, row)?;
     }
@@ -168,7 +199,8 @@ a: b¶b: a‖graph";
 
 #[test]
 fn selects_graphs(rt: HostRuntime) -> Result<(), Fail> {
-    let exists = exists(rt.alloc(), true, "", "")?;
+    let tables = Tables::new(rt.alloc(), "", "")?;
+    let exists = tables.exists(true);
     expect_graphs(&rt, rt.alloc(), &exists, GRAPHS)
 }
 
@@ -184,7 +216,8 @@ p: /usr/a.o¶/usr/a.c:‖p| /usr/a.o¶/usr/a.o¶
 
 #[test]
 fn minds_what_is_given(rt: HostRuntime) -> Result<(), Fail> {
-    let exists = exists(rt.alloc(), false, "a.c", "/usr/")?;
+    let tables = Tables::new(rt.alloc(), "a.c", "/usr/")?;
+    let exists = tables.exists(false);
     expect_graphs(&rt, rt.alloc(), &exists, GIVEN)
 }
 
@@ -205,7 +238,7 @@ fn lines_text(alloc: Global, found: &Commands) -> Result<Vec<u8>, AllocError> {
 fn told(
     alloc: Global,
     table: &RuleTable<'_>,
-    exists: &Exists,
+    exists: &Exists<'_>,
     name: &str,
 ) -> Result<Vec<u8>, Fail> {
     match commands(alloc, table, exists, name) {
@@ -218,7 +251,7 @@ fn told(
 fn has_choice(
     alloc: Global,
     table: &RuleTable<'_>,
-    exists: &Exists,
+    exists: &Exists<'_>,
     name: &str,
     wanted: &str,
 ) -> Result<bool, AllocError> {
@@ -236,7 +269,7 @@ fn see_told(
     rt: &impl Abort,
     alloc: Global,
     table: &RuleTable<'_>,
-    exists: &Exists,
+    exists: &Exists<'_>,
     name: &str,
     want: &[u8],
 ) -> Result<(), Fail> {
@@ -250,7 +283,7 @@ fn see_commands(
     rt: &impl Abort,
     alloc: Global,
     table: &RuleTable<'_>,
-    exists: &Exists,
+    exists: &Exists<'_>,
 ) -> Result<(), Fail> {
     see_told(rt, alloc, table, exists, "d/a.o", b"\necho d/a b b b b 2")?;
     see_told(rt, alloc, table, exists, "v", b"?\necho ")?;
@@ -265,20 +298,21 @@ fn see_makefile(
     rt: &impl Abort,
     alloc: Global,
     makefile: &Makefile,
-    exists: &Exists,
+    exists: &Exists<'_>,
 ) -> Result<(), Fail> {
     let table = RuleTable::new(alloc, makefile)?;
     see_commands(rt, alloc, &table, exists)
 }
 
 /// The same over a text.
-fn see_text(rt: &impl Abort, alloc: Global, text: &[u8], exists: &Exists) -> Result<(), Fail> {
+fn see_text(rt: &impl Abort, alloc: Global, text: &[u8], exists: &Exists<'_>) -> Result<(), Fail> {
     let makefile = makefile(alloc, text, true, "CC=cc")?;
     see_makefile(rt, alloc, &makefile, exists)
 }
 
 #[test]
 fn expands_commands(rt: HostRuntime) -> Result<(), Fail> {
-    let exists = exists(rt.alloc(), true, "", "")?;
+    let tables = Tables::new(rt.alloc(), "", "")?;
+    let exists = tables.exists(true);
     see_text(&rt, rt.alloc(), OBJECT, &exists)
 }
