@@ -130,7 +130,8 @@ fn push_shown<'m>(
     number: usize,
     asked: bool,
 ) -> Result<(), InferFault>
-    ensures { Extends out.old.items out.new.items result (shown_node (shown_lines asked table.now exists.now) graph.now number) }
+    ensures { Extends out.old.items out.new.items result
+        (shown_node (shown_lines asked table.now exists.now) graph.now number) }
 {
     let lines = shown_lines(alloc, table, exists, name_at(graph, number), asked)?;
     push_node(out, graph, number)?;
@@ -148,7 +149,8 @@ fn push_nodes<'m>(
     numbers: &[usize],
     asked: bool,
 ) -> Result<(), InferFault>
-    ensures { Extends out.old.items out.new.items result (nodes_text (shown_lines asked table.now exists.now) graph.now numbers.now) }
+    ensures { Extends out.old.items out.new.items result
+        (nodes_text (shown_lines asked table.now exists.now) graph.now numbers.now) }
 {
     for number in numbers {
         push_shown(alloc, out, table, exists, graph, *number, asked)?;
