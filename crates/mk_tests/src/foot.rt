@@ -2,6 +2,7 @@
 
 use crate::fixtures::{add_names, long, names, same};
 use mk_foot::{Book, FootFault, Record, Setting, read_book};
+use mk_lines::Name;
 use std::alloc::{AllocError, Global};
 use std::process::Abort;
 use std::test::Fail;
@@ -37,11 +38,36 @@ fn printed(alloc: Global, book: &Book) -> Result<String, AllocError> {
     Ok(out)
 }
 
-/// What a file reads as for some goals: the book, or the line that its fault prints.
+/// The words of a text, each as a goal.
+fn goals_of(alloc: Global, words: &str) -> Result<Vec<Name>, AllocError> {
+    let mut goals = Vec::new(alloc);
+    for word in words.split_whitespace() {
+        goals.push(Name::new(alloc, word)?)?;
+    }
+    Ok(goals)
+}
+
+/// The line of a fault: its number, and what it is about.
+fn refused(alloc: Global, fault: &FootFault) -> Result<String, Fail> {
+    let text = match fault {
+        FootFault::NotJson => format!(in alloc; "refused 51")?,
+        FootFault::Shape(key) => format!(in alloc; "refused 52 {key}")?,
+        FootFault::OtherFormat => format!(in alloc; "refused 53")?,
+        FootFault::TwoRecords(name) => format!(in alloc; "refused 54 {name}")?,
+        FootFault::BadName(key) => format!(in alloc; "refused 55 {key}")?,
+        FootFault::SourceIsFixed(name) => format!(in alloc; "refused 56 {name}")?,
+        FootFault::NoGroup => format!(in alloc; "refused 57")?,
+        FootFault::NoList => format!(in alloc; "refused 58")?,
+        FootFault::Memory => format!(in alloc; "want of memory")?,
+    };
+    Ok(text)
+}
+
+/// What a file reads as for some goals: the book, or the line of its fault.
 fn read(alloc: Global, bytes: &[u8], goals: &str) -> Result<String, Fail> {
-    match read_book(alloc, bytes, &names(alloc, goals)?) {
+    match read_book(alloc, bytes, &goals_of(alloc, goals)?) {
         Ok(book) => Ok(printed(alloc, &book)?),
-        Err(fault) => Ok(format!(in alloc; "{fault}")?),
+        Err(fault) => refused(alloc, &fault),
     }
 }
 
@@ -279,7 +305,7 @@ fn refuses_deep_arrays(rt: HostRuntime) -> Result<(), Fail> {
 #[test]
 fn wants_memory_or_answers(rt: HostRuntime) -> Result<(), Fail> {
     let alloc = rt.alloc();
-    let goals = names(alloc, "p")?;
+    let goals = goals_of(alloc, "p")?;
     match read_book(alloc, SHARING.as_bytes(), &goals) {
         Ok(book) => assert_eq!(rt; printed(alloc, &book)?.as_str(), SHARING_BOOK),
         Err(fault) => assert!(rt; matches!(fault, FootFault::Memory)),
@@ -325,7 +351,7 @@ fn setting(alloc: Global) -> Result<Setting, Fail> {
     let book = read_book(alloc, BUILD.as_bytes(), &[])?;
     let texts = names(alloc, "c.mk b.mk")?;
     let passed_over = names(alloc, "gone.mk")?;
-    Ok(Setting::new(alloc, book, texts, passed_over)?)
+    Ok(Setting::new(alloc, book, &texts, &passed_over)?)
 }
 
 /// What a setting tells.
@@ -333,7 +359,7 @@ fn told(alloc: Global, setting: &Setting) -> Result<String, AllocError> {
     let mut out = String::new(alloc);
     push_told(&mut out, setting, "a.c,b.mk,c.mk,gone.mk,/usr/x.h,/usr/")?;
     push_told(&mut out, setting, "/usr,lib/usr/x,a,a.c/x,p,")?;
-    add_names(&mut out, setting.sources())?;
+    add_names(&mut out, setting.sources().as_slice())?;
     push_records(&mut out, setting, "q,p,r")?;
     Ok(out)
 }
