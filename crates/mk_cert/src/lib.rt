@@ -9,9 +9,11 @@ mod finding;
 pub mod laws;
 mod looking_up;
 mod node_findings;
+mod pairs;
 mod question;
 mod subject;
 mod tables;
+mod writer_findings;
 mod writers;
 
 pub use finding::Finding;
