@@ -65,7 +65,6 @@ module _ {A : Type 0} where
   leads_map x candidate xs i d all now next first lt lead added =
       leads_on x (candidate (get_or xs i d) ∷ []) (map candidate (drop (i + 1) xs)) all now next first (subst (λ (l : List A). Leads x (map candidate l) all now first) (drop_more xs i d lt) lead) added
 
-
 module _ (x : Subject) (candidate : ℕ → Candidate) where
   -- where the condition can hold of those alone that pass a test, these are enough
   lift_step : (p : ℕ → Bool) (o : ℕ) (xs : List ℕ) (kept : List Candidate) (b : Bool) → p o ≡ b → (p o ≡ false → ¬ (Holds x (candidate o))) → ((kept : List Candidate) → Lists x (map candidate (filter p xs)) kept → Lists x (map candidate xs) kept)

@@ -88,11 +88,12 @@ target_lacking x e is t =
     let recorded = and_both (is_some e.recorded) _ recipe.1 in
     let phony = and_both (not e.node.phony) _ recorded.1 in
     let record_is = some_is e.recorded recorded.0 in
-    let out : has_name (entry_writes e) e.node.name ≡ false = not_true _ phony.1 in
-    (sym (ap (λ (n : Node). n.recipe) is.same_node) ∙ recipe.0,
-    (record_is.0, sym is.same_record ∙ record_is.1),
-    sym (ap (λ (n : Node). n.phony) is.same_node) ∙ not_true e.node.phony phony.0,
-    λ h. true≢false (sym (has_true (entry_writes e) e.node.name (subst (λ (n : Node). Has (entry_writes e) n.name) (sym is.same_node) (subst (λ (fs : List (List ℕ)). Has fs (name_of x e.number)) (sym (same_writes x e is)) h))) ∙ out))
+    let out : has_name (entry_writes e) e.node.name ≡ false = not_true _ phony.1 in (
+      sym (ap (λ (n : Node). n.recipe) is.same_node) ∙ recipe.0,
+      (record_is.0, sym is.same_record ∙ record_is.1),
+      sym (ap (λ (n : Node). n.phony) is.same_node) ∙ not_true e.node.phony phony.0,
+      λ h. true≢false (sym (has_true (entry_writes e) e.node.name (subst (λ (n : Node). Has (entry_writes e) n.name) (sym is.same_node) (subst (λ (fs : List (List ℕ)). Has fs (name_of x e.number)) (sym (same_writes x e is)) h))) ∙ out),
+    )
 
 pub target_there : (x : Subject) (e : Entry) → IsEntry x e → lacks_target e ≡ false → ¬ (LacksItsTarget x e.number)
 target_there x e is f (recipe, (r, recorded), phony, out) =

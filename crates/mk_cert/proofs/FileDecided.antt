@@ -47,7 +47,7 @@ kept_step p m ns n true e (inr there) t = rw e (inr there)
 kept_step p m ns n false e (inl here) t = absurd (true≢false (sym t ∙ (ap p (sym here) ∙ e)))
 kept_step p m ns n false e (inr there) t = rw e there
 
-kept : (p : ℕ → Bool) (ns : List ℕ) (n : ℕ) → Has ns n → p n ≡ true → Has (filter p ns) n
+pub kept : (p : ℕ → Bool) (ns : List ℕ) (n : ℕ) → Has ns n → p n ≡ true → Has (filter p ns) n
 kept p [] n h t = absurd h
 kept p (m ∷ ns) n (inl here) t = kept_step p m ns n (p m) refl (inl here) t
 kept p (m ∷ ns) n (inr there) t = kept_step p m ns n (p m) refl (inr (kept p ns n there t)) t
@@ -58,7 +58,7 @@ passing_step p m ns n true e more (inl here) = ap p (sym here) ∙ e
 passing_step p m ns n true e more (inr there) = more there
 passing_step p m ns n false e more there = more there
 
-passing : (p : ℕ → Bool) (ns : List ℕ) (n : ℕ) → Has (filter p ns) n → p n ≡ true
+pub passing : (p : ℕ → Bool) (ns : List ℕ) (n : ℕ) → Has (filter p ns) n → p n ≡ true
 passing p [] n h = absurd h
 passing p (m ∷ ns) n h = passing_step p m ns n (p m) refl (passing p ns n) h
 
@@ -127,3 +127,13 @@ pub number_at : (ns : List ℕ) (i d : ℕ) → i < length ns → Has ns (get_or
 number_at [] i d h = absurd (omega arith)
 number_at (n ∷ ns) zero d h = inl refl
 number_at (n ∷ ns) (suc i) d h = inr (number_at ns i d (omega arith))
+
+-- what is kept of a list stands in it
+filtered_step : (p : ℕ → Bool) (m : ℕ) (ns : List ℕ) (n : ℕ) (b : Bool) → (Has (filter p ns) n → Has ns n) → Has (cond b (m ∷ filter p ns) (filter p ns)) n → Has (m ∷ ns) n
+filtered_step p m ns n true more (inl here) = inl here
+filtered_step p m ns n true more (inr there) = inr (more there)
+filtered_step p m ns n false more there = inr (more there)
+
+pub filtered_in : (p : ℕ → Bool) (ns : List ℕ) (n : ℕ) → Has (filter p ns) n → Has ns n
+filtered_in p [] n h = h
+filtered_in p (m ∷ ns) n h = filtered_step p m ns n (p m) (filtered_in p ns n) h

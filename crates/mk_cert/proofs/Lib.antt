@@ -7,4 +7,4 @@ pub mod Entries
 pub mod Adding
 pub mod Decided
 pub mod FileDecided
-pub mod Pairs
+pub mod Behind

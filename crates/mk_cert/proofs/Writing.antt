@@ -66,7 +66,6 @@ noted_more seen new x name before after old number added a t e h k =
     let same : new ≡ seen ++ x ∷ [] = e ∙ ap (λ b. cond b seen (seen ++ x ∷ [])) unseen in
     k ∙ (at_name seen x name old number before unseen h (bytes_eq name x) refl ∙ ap (λ b. cond b (old ++ number ∷ []) old) (sym (ap (λ s. has_name s name) same ∙ has_name_push seen x name)))
 
-
 -- one node more
 pub writing_more : (entries : List Entry) (i : ℕ) (d : Entry) (name : List ℕ) (before after : List ℕ) → after ≡ cond (has_name (entry_writes (get_or entries i d)) name) (before ++ (get_or entries i d).number ∷ []) before
     → before ≡ map (λ (e : Entry). e.number) (filter (λ (e : Entry). has_name (entry_writes e) name) (take i entries)) → i < length entries

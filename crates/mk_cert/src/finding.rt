@@ -7,13 +7,21 @@ use std::fmt;
 #[derive(Debug, Drop)]
 pub enum Finding {
     /// The recipe has no record.
-    NoRecord { recipe: Name },
+    NoRecord {
+        recipe: Name,
+    },
     /// The commands of its record aren't its commands.
-    OtherCommands { recipe: Name },
+    OtherCommands {
+        recipe: Name,
+    },
     /// Its commands vary from make to make: they use `$?`.
-    VaryingCommands { recipe: Name },
+    VaryingCommands {
+        recipe: Name,
+    },
     /// It isn't phony, and its record doesn't say that it writes its target.
-    NoTarget { recipe: Name },
+    NoTarget {
+        recipe: Name,
+    },
     /// Two recipes write the file, the first before the second in the serial order.
     TwoWriters {
         first: Name,
@@ -21,13 +29,25 @@ pub enum Finding {
         file: Name,
     },
     /// It writes a file that is given, phony, or passed over by the reading of the makefile.
-    GivenWritten { recipe: Name, file: Name },
+    GivenWritten {
+        recipe: Name,
+        file: Name,
+    },
     /// It reads a file that it writes.
-    OwnRead { recipe: Name, file: Name },
+    OwnRead {
+        recipe: Name,
+        file: Name,
+    },
     /// It reads a file that is neither given nor written by any recipe.
-    UnknownRead { recipe: Name, file: Name },
+    UnknownRead {
+        recipe: Name,
+        file: Name,
+    },
     /// The name has no recipe, and the writer of its file is no direct prerequisite of it.
-    Loose { name: Name, writer: Name },
+    Loose {
+        name: Name,
+        writer: Name,
+    },
     /// It reads a file whose writer isn't always done before it begins.
     Race {
         recipe: Name,
@@ -35,9 +55,15 @@ pub enum Finding {
         file: Name,
     },
     /// It reads a file that can change, and nothing makes it run when the file does.
-    Stale { recipe: Name, file: Name },
+    Stale {
+        recipe: Name,
+        file: Name,
+    },
     /// Once recipes have written their files, the name has another inferred prerequisite.
-    Selection { name: Name, chosen: Name },
+    Selection {
+        name: Name,
+        chosen: Name,
+    },
 }
 
 impl fmt::Display for Finding {

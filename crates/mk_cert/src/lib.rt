@@ -6,6 +6,7 @@ mod asking;
 mod entry;
 mod file_findings;
 mod finding;
+mod findings;
 pub mod laws;
 mod looking_up;
 mod node_findings;
@@ -17,4 +18,5 @@ mod writer_findings;
 mod writers;
 
 pub use finding::Finding;
+pub use findings::static_findings;
 pub use subject::Subject;

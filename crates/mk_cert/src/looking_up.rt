@@ -185,15 +185,7 @@ fn entries_of<'a>(
 {
     let mut entries = Vec::with_capacity(alloc, order.len())?;
     for (place, number) in order.iter().enumerate() {
-        entries.push(entry_of(
-            alloc,
-            table,
-            there,
-            graph,
-            setting,
-            *number,
-            &after[place],
-        )?)?;
+        entries.push(entry_of(alloc, table, there, graph, setting, *number, &after[place])?)?;
     }
     Ok(entries)
 }

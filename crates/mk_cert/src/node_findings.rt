@@ -128,10 +128,7 @@ fn has_other_commands(entry: &Entry<'_>) -> bool
 }
 
 /// Adds that the record of a node has other commands than its recipe, if it has.
-pub fn note_other_commands(
-    entry: &Entry<'_>,
-    found: &mut Vec<Finding>,
-) -> Result<(), AllocError>
+pub fn note_other_commands(entry: &Entry<'_>, found: &mut Vec<Finding>) -> Result<(), AllocError>
     ensures { OnOk result ((x : Subject) → IsEntry x entry.now →
         Adds x (other_commands entry.now.number ∷ []) found.old.items found.new.items) }
 {

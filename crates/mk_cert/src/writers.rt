@@ -55,10 +55,7 @@ fn add_files<'a>(
 }
 
 /// The numbers of those nodes that write each file.
-pub fn writers_among<'a>(
-    alloc: Global,
-    entries: &[Entry<'a>],
-) -> Result<Writers<'a>, AllocError>
+pub fn writers_among<'a>(alloc: Global, entries: &[Entry<'a>]) -> Result<Writers<'a>, AllocError>
     ensures { IfOk result (λ writers. (name : List ℕ) →
         numbers_at writers name ≡ map (λ e. e.number)
         (filter (λ e. has_name (entry_writes e) name) entries.now)) }

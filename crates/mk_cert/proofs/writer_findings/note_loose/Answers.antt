@@ -41,6 +41,6 @@ returns c =
     let same : c.writers-writers.result.now ≡ writers_of x (name_of x e.number) = c.writers-writers.ensures ∙ ap (writers_of x) (name_is x e c.name.result.now c.requires c.name.ensures) in
     on_ok_weaker c.note_loose_writers.result
     (λ h. adds_lifted x (λ o. loose e.number o) (λ o. has_name (writes_of x o) (name_of x e.number)) (serial_order x.graph) old new
-        (λ o out k. true≢false (sym ((has_decides (writes_of x o) (name_of x e.number)).1 k.1) ∙ out))
-        (subst (λ (ns : List ℕ). Adds x (map (λ o. loose e.number o) ns) old new) same h))
+    (λ o out k. true≢false (sym ((has_decides (writes_of x o) (name_of x e.number)).1 k.1) ∙ out))
+    (subst (λ (ns : List ℕ). Adds x (map (λ o. loose e.number o) ns) old new) same h))
     c.note_loose_writers.ensures

@@ -1,5 +1,5 @@
 -- What stands behind a number.
-use Rattle.std.proofs.Common.{◌≡◌, ℕ, zero, suc, ◌+◌, ◌<◌, Bool, true, false, cond, List, [], ◌∷◌, length, get_or, drop, refl, sym, ap, subst, ◌∙◌, inl, inr, ⊎_elim, arith}
+use Rattle.std.proofs.Common.{◌≡◌, ℕ, zero, suc, ◌+◌, ◌<◌, Bool, true, false, cond, List, [], ◌∷◌, length, get_or, drop, add-one, refl, sym, ap, subst, ◌∙◌, inl, inr, ⊎_elim, arith}
 use Rattle.std.specs.Prelude.{filter, ◌==◌}
 use Rattle.std.proofs.lemmas.Bool.{true≢false, cases_Bool, eqb-true, eq-eqb}
 use Rattle.mk_graph.specs.Membership.{Has, IsDistinct}
@@ -49,3 +49,6 @@ behind_at [] i distinct h = absurd (omega arith)
 behind_at (n ∷ ns) zero distinct h = rw (eq-eqb n n refl) refl
 behind_at (n ∷ ns) (suc i) distinct h =
     at_step n (get_or ns i 0) ns (drop (suc i) ns) (n == get_or ns i 0) refl (λ same. distinct.0 (subst (λ (k : ℕ). Has ns k) (sym same) (has_at ns i (omega arith)))) (behind_at ns i distinct.1 (omega arith))
+
+pub behind_after : (ns : List ℕ) (i : ℕ) → IsDistinct ns → i < length ns → behind (get_or ns i 0) ns ≡ drop (i + 1) ns
+behind_after ns i distinct low = rw add-one (behind_at ns i distinct low)
