@@ -5,11 +5,10 @@ use Rattle.std.proofs.lemmas.Bool.{true≢false, cases_Bool}
 use Rattle.std.proofs.lemmas.Slice.Eq.{bytes_eq-Decides}
 use Rattle.mk_lines.specs.Names.{has_name}
 use Rattle.mk_graph.specs.Membership.{Has}
-use Rattle.mk_graph.specs.Graph.{node}
 use Rattle.mk_graph.specs.declared.node.Node.{Node}
 use Rattle.mk_foot.specs.Book.{Record}
 use Rattle.mk_infer.specs.Commands.{Commands}
-use Rattle.mk_cert.specs.Subject.{Subject, name_of, record_of, commands_of, writes_of}
+use Rattle.mk_cert.specs.Subject.{Subject, name_of}
 use Rattle.mk_cert.specs.Conditions.{HasNoRecord, HasOtherCommands, HasVaryingCommands, LacksItsTarget, ChoosesOtherwise}
 use Rattle.mk_cert.specs.Candidates.{selection, choice_with_writes}
 use Rattle.mk_cert.specs.Listed.{Adds}

@@ -1,6 +1,6 @@
 -- What is looked up of nodes, one after another.
 use Rattle.std.proofs.Common.{◌≡◌, ℕ, zero, suc, inl, inr, ◌+◌, ◌<◌, List, [], ◌∷◌, ◌++◌, length, get_or, map, take, false, Bool, true, cond, Option, None, Some, Ok, Err, refl, sym, ap, subst, ◌∙◌, arith}
-use Rattle.std.specs.Prelude.{All, filter, bytes_eq}
+use Rattle.std.specs.Prelude.{All, filter}
 use Rattle.std.proofs.lemmas.List.{take_more, map_push, get_or-map, get_or-take, length-map, length-take}
 use Rattle.std.proofs.lemmas.List.Elements.{All-push, All-get_or, All-head, All-tail}
 use Rattle.mk_lines.specs.Names.{has_name}

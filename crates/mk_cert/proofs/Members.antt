@@ -1,10 +1,9 @@
 -- Where candidates stand.
-use Rattle.std.proofs.Common.{◌≡◌, ℕ, List, [], ◌∷◌, ◌++◌, map, ◌⊎◌, inl, inr, ⊎_elim, refl, sym, subst, ap, ◌∙◌}
+use Rattle.std.proofs.Common.{◌≡◌, ℕ, List, [], ◌∷◌, ◌++◌, map, ◌⊎◌, inl, inr, ⊎_elim, sym, subst, ap, ◌∙◌}
 use Rattle.std.specs.List.{flat_map}
 use Rattle.mk_graph.specs.Membership.{Has}
-use Rattle.mk_graph.specs.Serial.{serial_order}
 use Rattle.mk_cert.specs.Subject.{Subject, writes_of}
-use Rattle.mk_cert.specs.Candidates.{Candidate, two_writers, by_node, pairs_of_writers}
+use Rattle.mk_cert.specs.Candidates.{two_writers, pairs_of_writers}
 
 module _ {A : Type 0} where
   -- in the first of two lists

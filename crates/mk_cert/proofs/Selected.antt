@@ -1,18 +1,18 @@
 -- Where nothing is found, the graph stays selected whatever is written.
-use Rattle.std.proofs.Common.{◌≡◌, ℕ, ◌<◌, List, [], ◌∷◌, length, map, true, false, Option, Some, None, inl, inr, ⊎_elim, refl, sym, ◌∙◌, ap, subst}
+use Rattle.std.proofs.Common.{◌≡◌, ℕ, ◌<◌, List, [], length, map, Option, Some, None, inl, inr, ⊎_elim, refl, sym, ◌∙◌, ap, subst}
 use Rattle.std.specs.Prelude.{bytes_eq, option_to_list, Ok}
 use Rattle.std.proofs.lemmas.Bool.{cases_Bool, true≢false}
 use Rattle.std.proofs.lemmas.Slice.Eq.{bytes_eq-Decides}
 use Rattle.mk_graph.specs.Membership.{Has}
-use Rattle.mk_graph.specs.Graph.{Graph, IsGraph}
+use Rattle.mk_graph.specs.Graph.{IsGraph}
 use Rattle.mk_graph.specs.Laws.{SerialReachesEachOnce}
 use Rattle.mk_infer.specs.There.{Exists}
 use Rattle.mk_infer.specs.Inference.{choice}
-use Rattle.mk_infer.specs.Laws.{GraphStaysSelected, MoreTakesNoChoiceAway, NodesKeepTheirChoices, StaysSelected, with_more}
+use Rattle.mk_infer.specs.Laws.{GraphStaysSelected, MoreTakesNoChoiceAway, StaysSelected, with_more}
 use Rattle.mk_infer.specs.Selection.{Selects}
 use Rattle.mk_cert.specs.Subject.{Subject, IsSubject, name_of}
 use Rattle.mk_cert.specs.Conditions.{all_writes}
-use Rattle.mk_cert.specs.Candidates.{Candidate, Holds, selection, by_node, by_number, choice_with_writes, static_candidates}
+use Rattle.mk_cert.specs.Candidates.{Candidate, selection, by_node, by_number, choice_with_writes, static_candidates}
 use Rattle.mk_cert.specs.Listing.{Lists}
 use Rattle.mk_cert.proofs.Members.{in_mapped, in_joined}
 use Rattle.mk_cert.proofs.Sound.{found_by_node, in_order, holds_not}

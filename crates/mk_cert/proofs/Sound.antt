@@ -1,28 +1,26 @@
 -- Where nothing is found, footprints are sound and races are none.
-use Rattle.std.proofs.Common.{◌≡◌, ℕ, zero, suc, ◌<◌, List, [], ◌∷◌, ◌++◌, length, map, get_or, true, false, Bool, Option, Some, None, Result, Ok, Err, ◌⊎◌, inl, inr, ⊎_elim, refl, sym, ◌∙◌, ap, subst, arith}
-use Rattle.std.specs.Prelude.{bytes_eq, ◌↔◌}
+use Rattle.std.proofs.Common.{◌≡◌, ℕ, ◌<◌, List, [], ◌∷◌, length, map, get_or, true, false, Option, Some, None, Ok, ◌⊎◌, inl, inr, ⊎_elim, refl, sym, ◌∙◌, ap, subst, arith}
+use Rattle.std.specs.Prelude.{bytes_eq}
 use Rattle.std.specs.List.{flat_map}
 use Rattle.std.proofs.lemmas.Bool.{cases_Bool, cases_eq, cases_lt, cond-false, true≢false}
 use Rattle.std.proofs.lemmas.List.{get_or-map, get_or_past, length-map}
 use Rattle.std.proofs.lemmas.Slice.Eq.{bytes_eq-Decides}
 use Rattle.mk_lines.specs.Names.{has_name}
 use Rattle.mk_graph.specs.declared.node.Node.{Node}
-use Rattle.mk_graph.specs.Membership.{Has, IsDistinct}
-use Rattle.mk_graph.specs.Graph.{Graph, node, no_node, prerequisites, Reached, IsGraph}
+use Rattle.mk_graph.specs.Membership.{Has}
+use Rattle.mk_graph.specs.Graph.{Graph, node, no_node, prerequisites, IsGraph}
 use Rattle.mk_graph.specs.Serial.{serial_order}
-use Rattle.mk_graph.specs.Turns.{Before}
 use Rattle.mk_graph.specs.Right.{AreSound, HaveNoRace}
 use Rattle.mk_graph.specs.Laws.{SerialReachesEachOnce}
 use Rattle.mk_graph.specs.BuildLaws.{BeforeIsDecided}
-use Rattle.mk_infer.specs.Selection.{Selects, Built, BuiltUnless, lacking, graph_of, node_of}
-use Rattle.mk_infer.specs.declared.fault.InferFault.{InferFault}
+use Rattle.mk_infer.specs.Selection.{BuiltUnless, lacking, graph_of, node_of}
 use Rattle.mk_foot.specs.Book.{Record}
 use Rattle.mk_foot.specs.Setting.{is_given}
 use Rattle.mk_cert.specs.Subject.{Subject, IsSubject, footprints, name_of, reads_of, writes_of, record_of}
 use Rattle.mk_cert.specs.Candidates.{Candidate, Holds, no_record, no_target, two_writers, given_written, own_read, unknown_read, loose, race, by_node, pairs_of_writers, by_number, static_candidates, race_candidates}
 use Rattle.mk_cert.specs.Listing.{Lists}
 use Rattle.mk_cert.proofs.Lists.{nothing_holds}
-use Rattle.mk_cert.proofs.Members.{in_first, in_second, in_mapped, in_joined, pair_stands}
+use Rattle.mk_cert.proofs.Members.{in_mapped, in_joined, pair_stands}
 
 -- a name stands in a list or doesn't
 cases_among : (files : List (List ℕ)) (f : List ℕ) → Has files f ⊎ (¬ (Has files f))

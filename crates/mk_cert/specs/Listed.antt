@@ -1,5 +1,5 @@
 -- Findings as they are told, and lists of them that grow.
-use Rattle.std.specs.Prelude.{◌≡◌, ℕ, List, ◌++◌, map}
+use Rattle.std.specs.Prelude.{◌≡◌, List, ◌++◌, map}
 use Rattle.mk_cert.specs.declared.finding.Finding.{Finding}
 use Rattle.mk_cert.specs.declared.finding.Finding.TheVariants as found
 use Rattle.mk_cert.specs.Subject.{Subject, name_of}

@@ -1,6 +1,6 @@
 -- What is judged: a makefile, the files that are there, the graph, and what was recorded.
 use Rattle.std.specs.Prelude.{◌≡◌, ℕ, ◌<◌, List, [], length, map, false, Option, Result, Ok}
-use Rattle.mk_graph.specs.Graph.{Graph, node}
+use Rattle.mk_graph.specs.Graph.{Graph}
 use Rattle.mk_graph.specs.Setting as build
 use Rattle.mk_read.specs.Reading.{Makefile}
 use Rattle.mk_infer.specs.Commands.{Commands, commands}

@@ -1,11 +1,9 @@
 //! What is found in footprints alone.
 
-ghost use Rattle.std.specs.Prelude.{◌≡◌, ◌++◌, [], IfOk, OnOk};
-ghost use Rattle.mk_graph.specs.Serial.{serial_order};
-ghost use Rattle.mk_cert.specs.Candidates.{by_node, pairs_of_writers, static_candidates};
+ghost use Rattle.std.specs.Prelude.{[], IfOk, OnOk};
+ghost use Rattle.mk_cert.specs.Candidates.{static_candidates};
 ghost use Rattle.mk_cert.specs.Listed.{Adds};
-ghost use Rattle.mk_cert.specs.Questions.{asked, asked_each};
-ghost use Rattle.mk_cert.specs.declared.question.Question.TheVariants.{Record, Commands, Varying, Target, Given, Own, Unknown, Loose, Choice};
+ghost use Rattle.mk_cert.specs.Questions.{asked_each};
 
 use crate::asking::ask_all;
 use crate::finding::Finding;

@@ -1,5 +1,4 @@
-use Rattle.std.proofs.Common.{◌≡◌, ◌<◌, ◌≤◌, ap, length, get_or, drop, arith}
-use Rattle.std.specs.List.{flat_map}
+use Rattle.std.proofs.Common.{◌<◌, ◌≤◌, ap, length, drop, arith}
 use Rattle.mk_cert.specs.Candidates.{by_node}
 use Rattle.mk_cert.specs.Questions.{asked, asked_each}
 use Rattle.mk_cert.proofs.Adding.{drop_past, leads_each, leads_done}

@@ -1,6 +1,5 @@
 -- By both lists at once.
 use Rattle.mk_cert.proofs.Lists.{one_list}
-use Rattle.mk_cert.proofs.Members.{pair_stands}
 use Rattle.mk_cert.proofs.laws.list_is_one.Goals as goal
 
 pub returns : goal.returns

@@ -2,10 +2,9 @@ use Rattle.std.proofs.Common.{◌≡◌, ◌∙◌, ◌<◌, ◌⊎◌, ℕ, Lis
 use Rattle.std.proofs.lemmas.Result.{err_from_is_err_and, IfOk-weaker, IfErr-weaker}
 use Rattle.mk_graph.specs.Serial.{serial_order}
 use Rattle.mk_infer.specs.There.{Exists}
-use Rattle.mk_infer.specs.declared.fault.InferFault.{InferFault}
 use Rattle.mk_infer.specs.declared.fault.InferFault.TheVariants.{Memory}
 use Rattle.mk_cert.specs.Subject.{subject_of}
-use Rattle.mk_cert.specs.Entry.{Entry, AreEntries, AreEntriesOf, IsFirstFault, IsFaultOf, choice_after}
+use Rattle.mk_cert.specs.Entry.{AreEntries, AreEntriesOf, IsFirstFault, IsFaultOf, choice_after}
 use Rattle.mk_cert.proofs.looking_up.entries_for.Goals as goal
 
 pub returns-in_err-order-clause-fault : goal.returns-in_err-order-clause-fault

@@ -1,4 +1,4 @@
-use Rattle.std.proofs.Common.{◌≡◌, ◌∙◌, ◌∷◌, ◌++◌, [], ℕ, List, ap, sym}
+use Rattle.std.proofs.Common.{◌∙◌, ◌∷◌, ◌++◌, [], ℕ, List, ap, sym}
 use Rattle.mk_cert.specs.declared.finding.Finding.TheVariants.{NoRecord}
 use Rattle.mk_cert.specs.Candidates.{no_record}
 use Rattle.mk_cert.proofs.Adding.{adds_one, adds_none}

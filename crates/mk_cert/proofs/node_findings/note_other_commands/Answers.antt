@@ -1,4 +1,4 @@
-use Rattle.std.proofs.Common.{◌≡◌, ◌∙◌, ◌∷◌, ◌++◌, [], ℕ, List, ap, sym}
+use Rattle.std.proofs.Common.{◌∙◌, ◌∷◌, ◌++◌, [], ℕ, List, ap, sym}
 use Rattle.mk_cert.specs.declared.finding.Finding.TheVariants.{OtherCommands}
 use Rattle.mk_cert.specs.Candidates.{other_commands}
 use Rattle.mk_cert.proofs.Adding.{adds_one, adds_none}

@@ -1,4 +1,4 @@
-use Rattle.std.proofs.Common.{◌≡◌, ◌∙◌, ℕ, List, true, map, ap, sym, subst}
+use Rattle.std.proofs.Common.{◌≡◌, ◌∙◌, ℕ, List, map, ap, sym, subst}
 use Rattle.std.specs.Prelude.{filter}
 use Rattle.std.proofs.lemmas.Bool.{true≢false}
 use Rattle.std.proofs.lemmas.Result.{on_ok_weaker}
@@ -8,7 +8,7 @@ use Rattle.mk_lines.specs.Names.{has_name}
 use Rattle.mk_cert.specs.Subject.{writes_of}
 use Rattle.mk_cert.specs.Candidates.{two_writers}
 use Rattle.mk_cert.specs.Listed.{Adds}
-use Rattle.mk_cert.specs.Entry.{Entry, behind, writers_of}
+use Rattle.mk_cert.specs.Entry.{Entry, behind}
 use Rattle.mk_cert.proofs.Adding.{adds_lifted}
 use Rattle.mk_cert.proofs.Behind.{behind_other, behind_filter}
 use Rattle.mk_cert.proofs.Decided.{has_decides}

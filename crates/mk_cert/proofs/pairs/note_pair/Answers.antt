@@ -1,4 +1,4 @@
-use Rattle.std.proofs.Common.{◌≡◌, ◌∙◌, ◌∷◌, ◌++◌, [], ℕ, List, ap}
+use Rattle.std.proofs.Common.{◌∙◌, ◌∷◌, ◌++◌, [], ℕ, List, ap}
 use Rattle.mk_cert.specs.declared.finding.Finding.TheVariants.{TwoWriters}
 use Rattle.mk_cert.specs.Subject.{name_of}
 use Rattle.mk_cert.specs.Candidates.{two_writers}

@@ -1,4 +1,4 @@
-use Rattle.std.proofs.Common.{◌≡◌, ap, refl, inl, subst}
+use Rattle.std.proofs.Common.{refl, inl, subst}
 use Rattle.std.proofs.lemmas.Result.{err_from_is_err_and, IfOk-weaker, IfErr-weaker}
 use Rattle.mk_read.specs.Reading.{Makefile}
 use Rattle.mk_cert.specs.Subject.{subject_of}

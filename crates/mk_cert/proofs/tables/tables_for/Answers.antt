@@ -1,9 +1,9 @@
-use Rattle.std.proofs.Common.{◌≡◌, ◌∙◌, ap, refl, inl, subst, sym, List, map}
+use Rattle.std.proofs.Common.{◌∙◌, ap, refl, inl, List, map}
 use Rattle.std.specs.Prelude.{filter}
 use Rattle.std.proofs.lemmas.Result.{err_from_is_err_and}
 use Rattle.mk_lines.specs.Names.{has_name}
 use Rattle.mk_cert.specs.Subject.{subject_of}
-use Rattle.mk_cert.specs.Entry.{Entry, AreEntries, entry_writes}
+use Rattle.mk_cert.specs.Entry.{Entry, entry_writes}
 use Rattle.mk_cert.proofs.Entries.{all_told, writers_are}
 use Rattle.mk_cert.proofs.tables.tables_for.Goals as goal
 

@@ -1,4 +1,4 @@
-use Rattle.std.proofs.Common.{◌≡◌, ◌<◌, ◌≤◌, ℕ, ap, length, get_or, map, drop, arith}
+use Rattle.std.proofs.Common.{◌<◌, ◌≤◌, ap, length, map, drop, arith}
 use Rattle.mk_cert.specs.Candidates.{loose}
 use Rattle.mk_cert.proofs.Adding.{drop_past, leads_map, leads_done}
 use Rattle.mk_cert.proofs.FileDecided.{number_at}
