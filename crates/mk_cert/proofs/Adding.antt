@@ -1,5 +1,6 @@
 -- Lists of findings that grow.
-use Rattle.std.proofs.Common.{◌≡◌, ℕ, ◌+◌, ◌<◌, ◌≤◌, List, [], ◌∷◌, ◌++◌, length, get_or, map, drop, length-drop, refl, sym, ap, subst, ◌∙◌, append_assoc, append-nil, arith}
+use Rattle.std.proofs.Common.{◌≡◌, ℕ, ◌+◌, ◌<◌, ◌≤◌, List, [], ◌∷◌, ◌++◌, length, get_or, map, cond, drop, length-drop, refl, sym, ap, subst, ◌∙◌, append_assoc, append-nil, arith}
+use Rattle.std.specs.Prelude.{Bool, true, false, filter}
 use Rattle.std.specs.List.{flat_map}
 use Rattle.std.proofs.lemmas.List.{map-append, drop_more, nil_from_length}
 use Rattle.mk_cert.specs.declared.finding.Finding.{Finding}
@@ -63,3 +64,26 @@ module _ {A : Type 0} where
   pub leads_map : (x : Subject) (candidate : A → Candidate) (xs : List A) (i : ℕ) (d : A) (all : List Candidate) (now next first : List Finding) → i < length xs → Leads x (map candidate (drop i xs)) all now first → Adds x (candidate (get_or xs i d) ∷ []) now next → Leads x (map candidate (drop (i + 1) xs)) all next first
   leads_map x candidate xs i d all now next first lt lead added =
       leads_on x (candidate (get_or xs i d) ∷ []) (map candidate (drop (i + 1) xs)) all now next first (subst (λ (l : List A). Leads x (map candidate l) all now first) (drop_more xs i d lt) lead) added
+
+module _ (x : Subject) (candidate : ℕ → Candidate) where
+  -- where the condition can hold of those alone that pass a test, these are enough
+  lift_step : (p : ℕ → Bool) (o : ℕ) (xs : List ℕ) (kept : List Candidate) (b : Bool) → p o ≡ b → (p o ≡ false → ¬ (Holds x (candidate o))) → ((kept : List Candidate) → Lists x (map candidate (filter p xs)) kept → Lists x (map candidate xs) kept)
+      → Lists x (map candidate (cond b (o ∷ filter p xs) (filter p xs))) kept → Lists x (candidate o ∷ map candidate xs) kept
+  lift_step p o xs kept true e none more (keeps {kept = rest} h m) = keeps h (more rest m)
+  lift_step p o xs kept true e none more (drops h m) = drops h (more kept m)
+  lift_step p o xs kept false e none more l = drops (none e) (more kept l)
+
+  lists_lifted : (p : ℕ → Bool) (xs : List ℕ) (kept : List Candidate) → ((o : ℕ) → p o ≡ false → ¬ (Holds x (candidate o))) → Lists x (map candidate (filter p xs)) kept → Lists x (map candidate xs) kept
+  lists_lifted p [] kept none l = l
+  lists_lifted p (o ∷ xs) kept none l = lift_step p o xs kept (p o) refl (none o) (λ rest m. lists_lifted p xs rest none m) l
+
+  pub adds_lifted : (p : ℕ → Bool) (xs : List ℕ) (old new : List Finding) → ((o : ℕ) → p o ≡ false → ¬ (Holds x (candidate o))) → Adds x (map candidate (filter p xs)) old new → Adds x (map candidate xs) old new
+  adds_lifted p xs old new none h = record { kept = h.kept; right = lists_lifted p xs h.kept none h.right; added = h.added }
+
+  -- where it holds of none, nothing is added
+  lists_none : (xs : List ℕ) → ((o : ℕ) → ¬ (Holds x (candidate o))) → Lists x (map candidate xs) []
+  lists_none [] none = nothing
+  lists_none (o ∷ xs) none = drops (none o) (lists_none xs none)
+
+  pub adds_none_of : (xs : List ℕ) (old : List Finding) → ((o : ℕ) → ¬ (Holds x (candidate o))) → Adds x (map candidate xs) old old
+  adds_none_of xs old none = record { kept = []; right = lists_none xs none; added = sym (append-nil old) }

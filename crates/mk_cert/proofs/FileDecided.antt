@@ -2,12 +2,15 @@
 use Rattle.std.proofs.Common.{◌≡◌, ℕ, zero, suc, ◌<◌, List, [], ◌∷◌, Bool, true, false, cond, length, get_or, refl, sym, ap, subst, ◌∙◌, ◌⊎◌, inl, inr, ⊎_elim, arith}
 use Rattle.std.specs.Prelude.{filter, not, ◌||◌, ◌==◌, ◌↔◌}
 use Rattle.std.proofs.Math.Dec.{eqb-suc-zero}
-use Rattle.std.proofs.lemmas.Bool.{true≢false}
+use Rattle.std.proofs.lemmas.Bool.{true≢false, cases_lt, eqb-true, eq-eqb}
+use Rattle.std.proofs.lemmas.List.{get_or_past}
 use Rattle.mk_lines.specs.Names.{has_name}
-use Rattle.mk_graph.specs.Membership.{Has}
-use Rattle.mk_graph.specs.Graph.{IsGraph}
+use Rattle.mk_graph.specs.Membership.{Has, has}
+use Rattle.mk_graph.specs.declared.node.Node.{Node}
+use Rattle.mk_graph.specs.Graph.{IsGraph, node, no_node}
 use Rattle.mk_graph.specs.Laws.{SerialReachesEachOnce}
 use Rattle.mk_graph.specs.Serial.{serial_order}
+use Rattle.mk_foot.specs.Setting as foot
 use Rattle.mk_foot.specs.Setting.{is_given}
 use Rattle.mk_cert.specs.Subject.{Subject, writes_of}
 use Rattle.mk_cert.specs.Conditions.{WritesWhatIsGiven, ReadsItsOwn}
@@ -44,7 +47,7 @@ kept_step p m ns n true e (inr there) t = rw e (inr there)
 kept_step p m ns n false e (inl here) t = absurd (true≢false (sym t ∙ (ap p (sym here) ∙ e)))
 kept_step p m ns n false e (inr there) t = rw e there
 
-kept : (p : ℕ → Bool) (ns : List ℕ) (n : ℕ) → Has ns n → p n ≡ true → Has (filter p ns) n
+pub kept : (p : ℕ → Bool) (ns : List ℕ) (n : ℕ) → Has ns n → p n ≡ true → Has (filter p ns) n
 kept p [] n h t = absurd h
 kept p (m ∷ ns) n (inl here) t = kept_step p m ns n (p m) refl (inl here) t
 kept p (m ∷ ns) n (inr there) t = kept_step p m ns n (p m) refl (inr (kept p ns n there t)) t
@@ -55,7 +58,7 @@ passing_step p m ns n true e more (inl here) = ap p (sym here) ∙ e
 passing_step p m ns n true e more (inr there) = more there
 passing_step p m ns n false e more there = more there
 
-passing : (p : ℕ → Bool) (ns : List ℕ) (n : ℕ) → Has (filter p ns) n → p n ≡ true
+pub passing : (p : ℕ → Bool) (ns : List ℕ) (n : ℕ) → Has (filter p ns) n → p n ≡ true
 passing p [] n h = absurd h
 passing p (m ∷ ns) n h = passing_step p m ns n (p m) refl (passing p ns n) h
 
@@ -99,3 +102,38 @@ own_there x e f set is held t = subst (λ (fs : List (List ℕ)). Has fs f) (sam
 pub not_own : (x : Subject) (e : Entry) (f : List ℕ) (set : List (List ℕ)) → IsEntry x e → HoldsNames set (entry_writes e) → has_name set f ≡ false → ¬ (ReadsItsOwn x e.number f)
 not_own x e f set is held out (read, wrote) =
     true≢false (sym (held f ∙ (has_decides (entry_writes e) f).1 (subst (λ (fs : List (List ℕ)). Has fs f) (sym (same_writes x e is)) wrote)) ∙ out)
+
+-- who writes a file is a node
+pub writer_is_node : (x : Subject) (o : ℕ) (f : List ℕ) → Has (writes_of x o) f → o < length x.graph.nodes
+writer_is_node x o f wrote =
+    ⊎_elim (λ low. low) (λ past. absurd (let none : node x.graph o ≡ no_node = get_or_past x.graph.nodes o no_node past in subst (λ (fs : List (List ℕ)). Has fs f) (ap (λ (n : Node). cond n.recipe (foot.writes x.setting n.name) []) none) wrote)) (cases_lt o (length x.graph.nodes))
+
+-- those that are looked up write the file
+pub writers_write : (x : Subject) (f : List ℕ) (ns : List ℕ) → ns ≡ writers_of x f → (o : ℕ) → Has ns o → Has (writes_of x o) f
+writers_write x f ns same o h = (has_decides (writes_of x o) f).0 (passing (λ n. has_name (writes_of x n) f) (serial_order x.graph) o (subst (λ (l : List ℕ). Has l o) same h))
+
+-- a number stands among others just where the test says so
+pub number_in : (ns : List ℕ) (n : ℕ) → has ns n ≡ true → Has ns n
+number_in [] n t = absurd (let e : false ≡ true = t in cc)
+number_in (m ∷ ns) n t = ⊎_elim (λ e. inl (eqb-true m n e)) (λ e. inr (number_in ns n e)) (either (m == n) (has ns n) t)
+
+pub number_out : (ns : List ℕ) (n : ℕ) → has ns n ≡ false → ¬ (Has ns n)
+number_out [] n f h = h
+number_out (m ∷ ns) n f (inl here) = true≢false (sym (eq-eqb m n here) ∙ (neither (m == n) (has ns n) f).0)
+number_out (m ∷ ns) n f (inr there) = number_out ns n (neither (m == n) (has ns n) f).1 there
+
+-- a number at its place stands among the numbers
+pub number_at : (ns : List ℕ) (i d : ℕ) → i < length ns → Has ns (get_or ns i d)
+number_at [] i d h = absurd (omega arith)
+number_at (n ∷ ns) zero d h = inl refl
+number_at (n ∷ ns) (suc i) d h = inr (number_at ns i d (omega arith))
+
+-- what is kept of a list stands in it
+filtered_step : (p : ℕ → Bool) (m : ℕ) (ns : List ℕ) (n : ℕ) (b : Bool) → (Has (filter p ns) n → Has ns n) → Has (cond b (m ∷ filter p ns) (filter p ns)) n → Has (m ∷ ns) n
+filtered_step p m ns n true more (inl here) = inl here
+filtered_step p m ns n true more (inr there) = inr (more there)
+filtered_step p m ns n false more there = inr (more there)
+
+pub filtered_in : (p : ℕ → Bool) (ns : List ℕ) (n : ℕ) → Has (filter p ns) n → Has ns n
+filtered_in p [] n h = h
+filtered_in p (m ∷ ns) n h = filtered_step p m ns n (p m) (filtered_in p ns n) h

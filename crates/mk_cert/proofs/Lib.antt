@@ -7,3 +7,4 @@ pub mod Entries
 pub mod Adding
 pub mod Decided
 pub mod FileDecided
+pub mod Behind

@@ -1,5 +1,5 @@
 -- What is looked up of the nodes of a subject: a record for each, and who writes a file.
-use Rattle.std.specs.Prelude.{◌≡◌, ◌⊎◌, ℕ, ◌<◌, List, [], All, filter, length, map, slice_index, Option, None, Some, Ok, Err, if◌then◌else◌}
+use Rattle.std.specs.Prelude.{◌≡◌, ◌⊎◌, ℕ, ◌<◌, ◌==◌, List, [], ◌∷◌, All, filter, length, map, slice_index, Option, None, Some, Ok, Err, if◌then◌else◌}
 use Rattle.mk_lines.specs.Names.{has_name}
 use Rattle.mk_graph.specs.declared.node.Node.{Node}
 use Rattle.mk_graph.specs.Graph.{node}
@@ -75,3 +75,8 @@ pub record IsFirstFault (x : Subject) (order : List ℕ) (fault : InferFault) : 
 -- that, or want of memory
 abbrev pub IsFaultOf : Subject → InferFault → Type 0
 IsFaultOf x fault = (fault ≡ Memory) ⊎ IsFirstFault x (serial_order x.graph) fault
+
+-- what stands behind the first place of a number
+abbrev pub behind : ℕ → List ℕ → List ℕ
+behind o [] = []
+behind o (n ∷ ns) = if n == o then ns else behind o ns

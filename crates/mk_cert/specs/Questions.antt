@@ -1,9 +1,11 @@
 -- What is asked of each node by itself, one question after another.
 use Rattle.std.specs.Prelude.{ℕ, List, [], ◌∷◌, map}
+use Rattle.std.specs.List.{flat_map}
+use Rattle.mk_graph.specs.Serial.{serial_order}
 use Rattle.mk_cert.specs.declared.question.Question.{Question}
-use Rattle.mk_cert.specs.declared.question.Question.TheVariants.{Record, Commands, Varying, Target, Given, Own, Unknown, Choice}
+use Rattle.mk_cert.specs.declared.question.Question.TheVariants.{Record, Commands, Varying, Target, Given, Own, Unknown, Loose, Choice}
 use Rattle.mk_cert.specs.Subject.{Subject, reads_of, writes_of}
-use Rattle.mk_cert.specs.Candidates.{Candidate, no_record, other_commands, varying_commands, no_target, given_written, own_read, unknown_read, selection, choice_with_writes}
+use Rattle.mk_cert.specs.Candidates.{Candidate, by_node, no_record, other_commands, varying_commands, no_target, given_written, own_read, unknown_read, loose, selection, choice_with_writes}
 
 -- what may be found of a node by a question
 abbrev pub asked : Subject → Question → ℕ → List Candidate
@@ -14,4 +16,9 @@ asked x Target t = no_target t ∷ []
 asked x Given t = map (λ f. given_written t f) (writes_of x t)
 asked x Own t = map (λ f. own_read t f) (reads_of x t)
 asked x Unknown t = map (λ f. unknown_read t f) (reads_of x t)
+asked x Loose n = map (λ o. loose n o) (serial_order x.graph)
 asked x Choice n = map (λ c. selection n c) (choice_with_writes x n)
+
+-- what may be found by these questions, one after another, each asked of all nodes
+abbrev pub asked_each : Subject → List Question → List Candidate
+asked_each x questions = flat_map (λ question. by_node x (asked x question)) questions

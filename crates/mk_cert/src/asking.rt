@@ -1,6 +1,6 @@
 //! Questions, asked of all nodes.
 
-ghost use Rattle.std.specs.Prelude.{◌≡◌, OnOk};
+ghost use Rattle.std.specs.Prelude.{OnOk};
 ghost use Rattle.mk_cert.specs.Candidates.{by_node};
 ghost use Rattle.mk_cert.specs.Entry.{IsEntry};
 ghost use Rattle.mk_cert.specs.Listed.{Adds};
@@ -14,6 +14,7 @@ use crate::node_findings::{
 };
 use crate::question::Question;
 use crate::subject::Subject;
+use crate::writer_findings::note_loose;
 use std::alloc::{AllocError, Global};
 
 /// Adds what is found of a node by a question.
@@ -36,6 +37,7 @@ fn ask(
         Question::Given => note_given_written(alloc, subject, entry, found),
         Question::Own => note_own_reads(alloc, subject, entry, found),
         Question::Unknown => note_unknown_reads(alloc, subject, entry, found),
+        Question::Loose => note_loose(subject, entry, found),
         Question::Choice => note_selection(entry, found),
     }
 }

@@ -6,13 +6,17 @@ mod asking;
 mod entry;
 mod file_findings;
 mod finding;
+mod findings;
 pub mod laws;
 mod looking_up;
 mod node_findings;
+mod pairs;
 mod question;
 mod subject;
 mod tables;
+mod writer_findings;
 mod writers;
 
 pub use finding::Finding;
+pub use findings::static_findings;
 pub use subject::Subject;

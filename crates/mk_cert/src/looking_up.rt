@@ -1,8 +1,7 @@
 //! What a subject looks up of its nodes.
 
-ghost use Rattle.std.specs.Prelude.{◌≡◌, ◌<◌, ◌⊎◌, ◌++◌, All, length, map, slice_get, slice_index, Err, Some, IfErr, IfOk, OnOk};
+ghost use Rattle.std.specs.Prelude.{◌≡◌, ◌<◌, ◌⊎◌, ◌++◌, All, length, map, Err, Some, IfErr, IfOk, OnOk};
 ghost use Rattle.std.specs.List.{flat_map};
-ghost use Rattle.std.specs.Option.{option_copied, option_map};
 ghost use Rattle.std.specs.String.{string_bytes};
 ghost use Rattle.mk_graph.specs.Graph.{IsGraph, node};
 ghost use Rattle.mk_graph.specs.Serial.{serial_order};
@@ -10,9 +9,7 @@ ghost use Rattle.mk_graph.specs.Setting as build;
 ghost use Rattle.mk_infer.specs.Inference.{choice};
 ghost use Rattle.mk_infer.specs.Laws.{with_more};
 ghost use Rattle.mk_infer.specs.declared.fault.InferFault.TheVariants.{Memory};
-ghost use Rattle.mk_foot.specs.Setting as foot;
 ghost use Rattle.mk_cert.specs.Subject.{footprints, commands_of, subject_of};
-ghost use Rattle.mk_cert.specs.Conditions.{all_writes};
 ghost use Rattle.mk_cert.specs.Entry.{IsEntry, AreEntries, AreEntriesOf, IsFaultOf, IsFirstFault, choice_after};
 
 use crate::entry::{Entry, writes_in};

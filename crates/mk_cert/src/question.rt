@@ -17,6 +17,8 @@ pub enum Question {
     Own,
     /// Whether it reads files that are neither given nor written.
     Unknown,
+    /// Whether, without a recipe, it has writers that are no direct prerequisites of it.
+    Loose,
     /// Whether another inferred prerequisite is chosen once recipes have written their files.
     Choice,
 }

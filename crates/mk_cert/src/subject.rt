@@ -1,12 +1,12 @@
 //! What is judged.
 
-ghost use Rattle.std.specs.Prelude.{◌≡◌, ◌↔◌, ℕ, [], false, true, map, Ok, IfErr, IfOk};
+ghost use Rattle.std.specs.Prelude.{◌≡◌, ◌<◌, ◌↔◌, ℕ, [], false, length, true, map, Ok, IfErr, IfOk};
 ghost use Rattle.mk_graph.specs.Graph.{IsGraph};
 ghost use Rattle.mk_graph.specs.Membership.{Has};
 ghost use Rattle.mk_graph.specs.Setting as build;
 ghost use Rattle.mk_lines.specs.Names.{has_name};
 ghost use Rattle.mk_infer.specs.Selection.{Selects};
-ghost use Rattle.mk_cert.specs.Subject.{IsSubject, subject_of, writes_of};
+ghost use Rattle.mk_cert.specs.Subject.{IsSubject, name_of, subject_of, writes_of};
 ghost use Rattle.mk_cert.specs.Entry.{AreEntries, IsFaultOf, writers_of};
 
 use crate::entry::Entry;
@@ -15,8 +15,9 @@ use mk_foot::Setting;
 use mk_graph::Graph;
 use mk_graph::laws::serial_reaches_each_once;
 use mk_infer::{Exists, InferFault};
+use mk_lines::Name;
 use mk_read::Makefile;
-use std::alloc::Global;
+use std::alloc::{AllocError, Global};
 use std::marker::Model;
 
 /// What is judged: a makefile, the files that are there, the graph of the goals, and what was
@@ -125,6 +126,14 @@ impl<'a> Subject<'a> {
             Some(numbers) => numbers.as_slice(),
             None => &[],
         }
+    }
+
+    /// A copy of the name of a node.
+    pub(crate) fn copy_of_name(&self, number: usize) -> Result<Name, AllocError>
+        requires { number < length self.now.graph.nodes }
+        ensures { IfOk result (λ name. name ≡ name_of self.now number) }
+    {
+        self.graph().nodes()[number].name.clone()
     }
 
     /// Whether some recipe writes a file.

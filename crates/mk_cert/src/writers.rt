@@ -1,10 +1,8 @@
 //! Who writes a file.
 
 ghost use Rattle.std.specs.Prelude.{◌≡◌, ◌∷◌, ◌++◌, [], List, ℕ, map, filter, IfOk, OnOk, if◌then◌else◌};
-ghost use Rattle.std.specs.Option.{option_map_or};
 ghost use Rattle.std.specs.Str.{bytes_eq};
 ghost use Rattle.std.specs.String.{string_bytes};
-ghost use Rattle.indexmap.specs.IndexMap.{get_by};
 ghost use Rattle.mk_lines.specs.Names.{has_name};
 ghost use Rattle.mk_cert.specs.Entry.{entry_writes};
 ghost use Rattle.mk_cert.specs.Writers.{numbers_at};
@@ -25,8 +23,8 @@ fn add_writer<'a>(
     number: usize,
 ) -> Result<(), AllocError>
     ensures { OnOk result ((name : List ℕ) →
-        option_map_or (λ numbers. numbers.items) (get_by (λ k. bytes_eq name k.now) writers.new) []
-        ≡ (if bytes_eq name file.entry.now then option_map_or (λ numbers. numbers.items) (get_by (λ k. bytes_eq name k.now) writers.old) [] ++ number ∷ [] else option_map_or (λ numbers. numbers.items) (get_by (λ k. bytes_eq name k.now) writers.old) [])) }
+        numbers_at writers.new name ≡ (if bytes_eq name file.entry.now
+        then numbers_at writers.old name ++ number ∷ [] else numbers_at writers.old name)) }
 {
     let numbers = writers.entry(file)?.or_insert(Vec::new(alloc));
     numbers.push(number)?;

@@ -1,4 +1,4 @@
-use Rattle.std.proofs.Common.{◌≡◌, ◌∙◌, ◌∷◌, ◌++◌, [], ℕ, List, ap, sym}
+use Rattle.std.proofs.Common.{◌∙◌, ◌∷◌, ◌++◌, [], ℕ, List, ap, sym}
 use Rattle.mk_cert.specs.declared.finding.Finding.TheVariants.{OwnRead}
 use Rattle.mk_cert.specs.Subject.{name_of}
 use Rattle.mk_cert.specs.Candidates.{own_read}

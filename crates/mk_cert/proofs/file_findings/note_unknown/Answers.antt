@@ -1,4 +1,4 @@
-use Rattle.std.proofs.Common.{◌≡◌, ◌∙◌, ◌∷◌, ◌++◌, [], ℕ, List, ap, sym, true, false}
+use Rattle.std.proofs.Common.{◌∙◌, ◌∷◌, ◌++◌, [], ℕ, List, ap, sym}
 use Rattle.std.proofs.lemmas.Bool.{true≢false}
 use Rattle.mk_cert.specs.declared.finding.Finding.TheVariants.{UnknownRead}
 use Rattle.mk_cert.specs.Subject.{name_of}

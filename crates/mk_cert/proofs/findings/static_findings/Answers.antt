@@ -1,0 +1,23 @@
+use Rattle.std.proofs.Common.{◌≡◌, ◌++◌, ◌∷◌, [], List, sym, subst, take, drop}
+use Rattle.std.proofs.lemmas.Grind.{flat_map-append}
+use Rattle.mk_graph.specs.Serial.{serial_order}
+use Rattle.mk_cert.specs.declared.finding.Finding.{Finding}
+use Rattle.mk_cert.specs.declared.question.Question.TheVariants.{Record, Commands, Varying, Target, Given, Own, Unknown, Loose, Choice}
+use Rattle.mk_cert.specs.Candidates.{Candidate, by_number, pairs_of_writers, static_candidates}
+use Rattle.mk_cert.specs.Listed.{Adds}
+use Rattle.mk_cert.specs.Questions.{asked_each}
+use Rattle.mk_cert.proofs.Adding.{adds_append}
+use Rattle.mk_cert.proofs.findings.static_findings.Goals as goal
+
+pub returns : goal.returns
+returns c =
+    let x = c.args.subject.now in
+    let first = asked_each x (Record ∷ Commands ∷ Varying ∷ Target ∷ []) in
+    let pairs = pairs_of_writers x (serial_order x.graph) in
+    let then = asked_each x (Given ∷ Own ∷ Unknown ∷ Loose ∷ Choice ∷ []) in
+    let found = c.ask_each-2.new.found.items in
+    let all : Adds x (first ++ (pairs ++ then)) c.new-found.result.items found =
+    adds_append x first (pairs ++ then) c.new-found.result.items c.ask_each.new.found.items found c.in_ok-ask_each.ensures
+    (adds_append x pairs then c.ask_each.new.found.items c.note_pairs.new.found.items found c.in_ok-note_pairs.ensures c.in_ok-ask_each-2.ensures) in
+    let joined : static_candidates x ≡ first ++ (pairs ++ then) = flat_map-append (λ (part : List Candidate). part) (take 4 (by_number x)) (drop 4 (by_number x)) in
+    subst (λ (l : List Candidate). Adds x l [] found) (sym joined) (subst (λ (old : List Finding). Adds x (first ++ (pairs ++ then)) old found) c.new-found.ensures.items all)

@@ -1,0 +1,138 @@
+//! Two recipes that write a file.
+
+ghost use Rattle.std.specs.Prelude.{◌≡◌, ◌∷◌, [], ℕ, map, OnOk};
+ghost use Rattle.std.specs.List.{flat_map};
+ghost use Rattle.mk_graph.specs.Membership.{Has};
+ghost use Rattle.mk_graph.specs.Serial.{serial_order};
+ghost use Rattle.mk_cert.specs.Subject.{writes_of};
+ghost use Rattle.mk_cert.specs.Candidates.{pairs_of_writers, two_writers};
+ghost use Rattle.mk_cert.specs.Conditions.{AreTwoWriters};
+ghost use Rattle.mk_cert.specs.Entry.{IsEntry, behind};
+ghost use Rattle.mk_cert.specs.Listed.{Adds};
+
+use crate::entry::Entry;
+use crate::finding::Finding;
+use crate::subject::Subject;
+use mk_graph::laws::serial_reaches_each_once;
+use mk_lines::Name;
+use std::alloc::{AllocError, Global};
+
+/// Adds that two recipes write a file.
+fn note_pair(
+    alloc: Global,
+    subject: &Subject<'_>,
+    entry: &Entry<'_>,
+    other: usize,
+    file: &str,
+    found: &mut Vec<Finding>,
+) -> Result<(), AllocError>
+    requires entry { IsEntry subject.now entry.now }
+    requires written { AreTwoWriters subject.now entry.now.number other file.now }
+    ensures { OnOk result (Adds subject.now (two_writers entry.now.number other file.now ∷ [])
+        found.old.items found.new.items) }
+{
+    let first = entry.copy_of_name()?;
+    let second = subject.copy_of_name(other)?;
+    let file = Name::new(alloc, file)?;
+    found.push(Finding::TwoWriters {
+        first,
+        second,
+        file,
+    })?;
+    Ok(())
+}
+
+/// Adds that a recipe and each of these others write a file.
+fn note_pairs_with(
+    alloc: Global,
+    subject: &Subject<'_>,
+    entry: &Entry<'_>,
+    others: &[usize],
+    file: &str,
+    found: &mut Vec<Finding>,
+) -> Result<(), AllocError>
+    requires entry { IsEntry subject.now entry.now }
+    requires written { (t : ℕ) → Has others.now t →
+        AreTwoWriters subject.now entry.now.number t file.now }
+    ensures { OnOk result (Adds subject.now
+        (map (λ t. two_writers entry.now.number t file.now) others.now)
+        found.old.items found.new.items) }
+{
+    for other in others {
+        note_pair(alloc, subject, entry, *other, file, found)?;
+    }
+    Ok(())
+}
+
+/// The numbers behind the first place of one.
+fn behind(number: usize, numbers: &[usize]) -> &[usize]
+    ensures { result.now ≡ behind number numbers.now }
+{
+    for (place, other) in numbers.iter().enumerate() {
+        if *other == number {
+            return &numbers[place + 1..];
+        }
+    }
+    &[]
+}
+
+/// Adds that a recipe and others behind it in the serial order write a file.
+fn note_file(
+    alloc: Global,
+    subject: &Subject<'_>,
+    entry: &Entry<'_>,
+    file: &str,
+    found: &mut Vec<Finding>,
+) -> Result<(), AllocError>
+    requires entry { IsEntry subject.now entry.now }
+    requires written { Has (writes_of subject.now entry.now.number) file.now }
+    ensures { OnOk result (Adds subject.now
+        (map (λ t. two_writers entry.now.number t file.now)
+        (behind entry.now.number (serial_order subject.now.graph)))
+        found.old.items found.new.items) }
+{
+    serial_reaches_each_once();
+    let _graph = subject.graph();
+    let writers = subject.writers(file);
+    let others = behind(entry.number, writers);
+    note_pairs_with(alloc, subject, entry, others, file, found)
+}
+
+/// Adds which files a recipe and others behind it in the serial order write.
+fn note_files(
+    alloc: Global,
+    subject: &Subject<'_>,
+    entry: &Entry<'_>,
+    found: &mut Vec<Finding>,
+) -> Result<(), AllocError>
+    requires { IsEntry subject.now entry.now }
+    ensures { OnOk result (Adds subject.now
+        (flat_map (λ f. map (λ t. two_writers entry.now.number t f)
+        (behind entry.now.number (serial_order subject.now.graph)))
+        (writes_of subject.now entry.now.number)) found.old.items found.new.items) }
+{
+    let files = entry.writes();
+    for file in files {
+        note_file(alloc, subject, entry, file.as_str(), found)?;
+    }
+    Ok(())
+}
+
+/// Adds each two recipes that write a file.
+pub fn note_pairs(
+    alloc: Global,
+    subject: &Subject<'_>,
+    found: &mut Vec<Finding>,
+) -> Result<(), AllocError>
+    ensures { OnOk result (Adds subject.now
+        (pairs_of_writers subject.now (serial_order subject.now.graph))
+        found.old.items found.new.items) }
+{
+    serial_reaches_each_once();
+    let _graph = subject.graph();
+    let entries = subject.entries();
+    for entry in entries {
+        note_files(alloc, subject, entry, found)?;
+    }
+    Ok(())
+}

@@ -1,0 +1,86 @@
+//! What is found of the writers of files.
+
+ghost use Rattle.std.specs.Prelude.{◌≡◌, ◌∷◌, [], ℕ, false, map, OnOk};
+ghost use Rattle.mk_graph.specs.Membership.{Has, has};
+ghost use Rattle.mk_graph.specs.Serial.{serial_order};
+ghost use Rattle.mk_cert.specs.Subject.{name_of, writes_of};
+ghost use Rattle.mk_cert.specs.Candidates.{loose};
+ghost use Rattle.mk_cert.specs.Entry.{IsEntry};
+ghost use Rattle.mk_cert.specs.Listed.{Adds};
+
+use crate::entry::Entry;
+use crate::finding::Finding;
+use crate::subject::Subject;
+use std::alloc::AllocError;
+
+/// Whether a number stands among these.
+fn has_number(numbers: &[usize], number: usize) -> bool
+    ensures { result ≡ has numbers.now number }
+{
+    for other in numbers {
+        if *other == number {
+            return true;
+        }
+    }
+    false
+}
+
+/// Adds that a writer of a name without a recipe is no direct prerequisite of it, if it is so.
+fn note_loose_writer(
+    subject: &Subject<'_>,
+    entry: &Entry<'_>,
+    writer: usize,
+    found: &mut Vec<Finding>,
+) -> Result<(), AllocError>
+    requires entry { IsEntry subject.now entry.now }
+    requires bare { entry.now.node.recipe ≡ false }
+    requires written { Has (writes_of subject.now writer) (name_of subject.now entry.now.number) }
+    ensures { OnOk result (Adds subject.now (loose entry.now.number writer ∷ [])
+        found.old.items found.new.items) }
+{
+    if has_number(subject.graph().prerequisites(entry.number), writer) {
+        return Ok(());
+    }
+    let name = entry.copy_of_name()?;
+    let writer = subject.copy_of_name(writer)?;
+    found.push(Finding::Loose { name, writer })?;
+    Ok(())
+}
+
+/// Adds which of these writers of a name without a recipe are no direct prerequisites of it.
+fn note_loose_writers(
+    subject: &Subject<'_>,
+    entry: &Entry<'_>,
+    writers: &[usize],
+    found: &mut Vec<Finding>,
+) -> Result<(), AllocError>
+    requires entry { IsEntry subject.now entry.now }
+    requires bare { entry.now.node.recipe ≡ false }
+    requires written { (o : ℕ) → Has writers.now o →
+        Has (writes_of subject.now o) (name_of subject.now entry.now.number) }
+    ensures { OnOk result (Adds subject.now
+        (map (λ o. loose entry.now.number o) writers.now) found.old.items found.new.items) }
+{
+    for writer in writers {
+        note_loose_writer(subject, entry, *writer, found)?;
+    }
+    Ok(())
+}
+
+/// Adds which writers of a name without a recipe are no direct prerequisites of it.
+pub fn note_loose(
+    subject: &Subject<'_>,
+    entry: &Entry<'_>,
+    found: &mut Vec<Finding>,
+) -> Result<(), AllocError>
+    requires { IsEntry subject.now entry.now }
+    ensures { OnOk result (Adds subject.now
+        (map (λ o. loose entry.now.number o) (serial_order subject.now.graph))
+        found.old.items found.new.items) }
+{
+    if entry.node.recipe {
+        return Ok(());
+    }
+    let writers = subject.writers(entry.name());
+    note_loose_writers(subject, entry, writers, found)
+}
