@@ -13,3 +13,5 @@ mod graph_orders;
 mod graph_turns;
 #[cfg(test)]
 mod graphs;
+#[cfg(test)]
+mod plans;

@@ -34,7 +34,7 @@ pub record Stage : Type 0 where
 abbrev pub stage_of : State → Stage
 stage_of w = record { graph = w.scene.graph; setting = setting w.scene; names = w.disk.names }
 
--- the name is a node's, and a name of the world
+-- the name is a node's
 abbrev pub is_node : Graph → FileName → Bool
 is_node g t = has_name (map (λ (n : Node). n.name) g.nodes) t
 
