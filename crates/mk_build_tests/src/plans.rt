@@ -190,7 +190,7 @@ fn see_recorded(
     book: Book,
     rows: &str,
 ) -> Result<(), AllocError> {
-    let setting = Setting::new(alloc, book, Vec::new(alloc), Vec::new(alloc))?;
+    let setting = Setting::new(alloc, book, &[], &[])?;
     see_rows(rt, alloc, graph, &setting, rows)
 }
 
