@@ -15,13 +15,15 @@ use Rattle.mk_cert.specs.Conditions.{all_writes}
 use Rattle.mk_cert.specs.Candidates.{Candidate, selection, by_node, by_number, choice_with_writes, static_candidates}
 use Rattle.mk_cert.specs.Listing.{Lists}
 use Rattle.mk_cert.proofs.Members.{in_mapped, in_joined}
-use Rattle.mk_cert.proofs.Sound.{found_by_node, in_order, holds_not}
+use Rattle.mk_cert.proofs.Lists.{holding_listed}
+use Rattle.mk_cert.proofs.Sound.{found_by_node, in_order}
 
 -- with no names more the same files are there
 no_more : (e : Exists) → e.more ≡ [] → with_more e [] ≡ e
 no_more e none = ap (with_more e) (sym none)
 
-module _ (x : Subject) (is : IsGraph x.graph) (subject : IsSubject x) (reaches : SerialReachesEachOnce) (more : MoreTakesNoChoiceAway) (none : Lists x (static_candidates x) []) where
+module _ (x : Subject) (is : IsGraph x.graph) (subject : IsSubject x) (reaches : SerialReachesEachOnce) (more : MoreTakesNoChoiceAway) (kept : List Candidate) (lists : Lists x (static_candidates x) kept)
+    (none : (n : ℕ) (c : List ℕ) → ¬ (Has kept (selection n c))) where
   -- the inferred prerequisite of a node with no writes, and with all of them there
   abbrev without : ℕ → Option (List ℕ)
   without n = choice x.makefile (with_more x.there []) (name_of x n)
@@ -51,9 +53,9 @@ module _ (x : Subject) (is : IsGraph x.graph) (subject : IsSubject x) (reaches :
 
     by_some : (o : Option (List ℕ)) (c : List ℕ) → without n ≡ o → with_all n ≡ Some c → o ≡ Some c
     by_some None c few all =
-        absurd (holds_not x is subject reaches none (selection n c) (stands n c low all) (all, λ e. let k : None ≡ Some c = sym few ∙ (same_without n ∙ e) in absurd cc))
+        absurd (none n c (holding_listed x (static_candidates x) kept lists (selection n c) (stands n c low all) (all, λ e. let k : None ≡ Some c = sym few ∙ (same_without n ∙ e) in absurd cc)))
     by_some (Some d) c few all =
-        ⊎_elim (λ same. ap Some ((bytes_eq-Decides d c).0 same)) (λ differ. absurd (holds_not x is subject reaches none (selection n c) (stands n c low all) (all, λ e. let k : Some d ≡ Some c = sym few ∙ (same_without n ∙ e) in let s : d ≡ c = cc in true≢false (sym ((bytes_eq-Decides d c).1 s) ∙ differ)))) (cases_Bool (bytes_eq d c))
+        ⊎_elim (λ same. ap Some ((bytes_eq-Decides d c).0 same)) (λ differ. absurd (none n c (holding_listed x (static_candidates x) kept lists (selection n c) (stands n c low all) (all, λ e. let k : Some d ≡ Some c = sym few ∙ (same_without n ∙ e) in let s : d ≡ c = cc in true≢false (sym ((bytes_eq-Decides d c).1 s) ∙ differ))))) (cases_Bool (bytes_eq d c))
 
     by_all : (o : Option (List ℕ)) → with_all n ≡ o → without n ≡ with_all n
     by_all None all = by_none (without n) refl all ∙ sym all

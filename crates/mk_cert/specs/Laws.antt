@@ -6,7 +6,7 @@ use Rattle.mk_graph.specs.Right.{AreSound, HaveNoRace, HaveWays, IsRight}
 use Rattle.mk_infer.specs.Laws.{StaysSelected}
 use Rattle.mk_cert.specs.Subject.{Subject, IsSubject, footprints, name_of, writes_of}
 use Rattle.mk_cert.specs.Conditions.{all_writes}
-use Rattle.mk_cert.specs.Candidates.{Candidate, Holds, static_candidates, race_candidates}
+use Rattle.mk_cert.specs.Candidates.{Candidate, Holds, selection, static_candidates, race_candidates}
 use Rattle.mk_cert.specs.Listing.{Lists}
 
 -- There is one such list of candidates.
@@ -33,12 +33,14 @@ NothingFoundIsSound =
     (x : Subject) → IsGraph x.graph → IsSubject x →
     Lists x (static_candidates x) [] → AreSound x.graph (footprints x.setting)
 
--- Then the graph is the one that is selected too, whatever part of the files that its recipes write
--- is there, with the same inferred prerequisites and commands.
+-- Where no selection is found to change, whatever else is, the graph is the one that is selected
+-- whatever part of the files that its recipes write is there, with the same inferred prerequisites
+-- and commands.
 abbrev pub NothingFoundIsSelected : Type 0
 NothingFoundIsSelected =
     (x : Subject) → IsGraph x.graph → IsSubject x →
-    Lists x (static_candidates x) [] →
+    (kept : List Candidate) → Lists x (static_candidates x) kept →
+    ((n : ℕ) (c : List ℕ) → ¬ (Has kept (selection n c))) →
     StaysSelected x.makefile x.there (all_writes x) (map (name_of x) x.graph.goals) x.graph
 
 -- Where no race is found, there is none.

@@ -2,4 +2,4 @@ use Rattle.mk_cert.proofs.Selected.{stays_selected}
 use Rattle.mk_cert.proofs.laws.nothing_found_is_selected.Goals as goal
 
 pub returns : goal.returns
-returns c = λ x is subject none. stays_selected x is subject c.serial_reaches_each_once.ensures c.more_takes_no_choice_away.ensures none c.graph_stays_selected.ensures
+returns c = λ x is subject kept lists none. stays_selected x is subject c.serial_reaches_each_once.ensures c.more_takes_no_choice_away.ensures kept lists none c.graph_stays_selected.ensures
