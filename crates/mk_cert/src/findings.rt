@@ -32,7 +32,8 @@ fn ask_each(
 /// but for races and stale reads; of one kind by the first name's place in the serial order, the
 /// file's place in its record, and the other name's place. It fails for want of memory alone.
 pub fn static_findings(alloc: Global, subject: &Subject<'_>) -> Result<Vec<Finding>, AllocError>
-    ensures { IfOk result (λ found. Adds subject.now (static_candidates subject.now) [] found.items) }
+    ensures { IfOk result (λ found. Adds subject.now (static_candidates subject.now) []
+        found.items) }
 {
     let mut found = Vec::new(alloc);
     let first = [

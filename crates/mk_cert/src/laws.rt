@@ -39,8 +39,8 @@ pub fn nothing_found_is_sound()
     serial_reaches_each_once();
 }
 
-/// Where no selection is found to change, the graph is the one that is selected whatever part of the
-/// files that recipes write is there.
+/// Where no selection is found to change, the graph is the one that is selected whatever part of
+/// the files that recipes write is there.
 pub fn nothing_found_is_selected()
     ensures { NothingFoundIsSelected }
 {

@@ -144,7 +144,8 @@ fn entry_of<'a>(
     ensures entry { IfOk result (λ entry. (entry.number ≡ number) ×
         IsEntry (subject_of choices.now.makefile choices.now.exists graph.now setting.now) entry) }
     ensures fault { IfErr result (λ fault. (fault ≡ Memory) ⊎ (commands_of
-        (subject_of choices.now.makefile choices.now.exists graph.now setting.now) number ≡ Err fault)) }
+        (subject_of choices.now.makefile choices.now.exists graph.now setting.now) number
+        ≡ Err fault)) }
 {
     let node = &graph.nodes()[number];
     let name = node.name.as_str();
@@ -174,9 +175,11 @@ fn entries_of<'a>(
     requires after { after.now ≡ map (choice_after
         (subject_of choices.now.makefile choices.now.exists graph.now setting.now)) order.now }
     ensures entries { IfOk result (λ entries. AreEntriesOf
-        (subject_of choices.now.makefile choices.now.exists graph.now setting.now) order.now entries.items) }
+        (subject_of choices.now.makefile choices.now.exists graph.now setting.now) order.now
+        entries.items) }
     ensures fault { IfErr result (λ fault. (fault ≡ Memory) ⊎ IsFirstFault
-        (subject_of choices.now.makefile choices.now.exists graph.now setting.now) order.now fault) }
+        (subject_of choices.now.makefile choices.now.exists graph.now setting.now) order.now
+        fault) }
 {
     let mut entries = Vec::with_capacity(alloc, order.len())?;
     for (place, number) in order.iter().enumerate() {

@@ -43,7 +43,8 @@ shown_lines asked m e name =
     if asked then (commands m e name >>= λ c. Ok c.lines) else Ok []
 
 -- the line of a node with its commands behind it, or the fault of its commands
-abbrev pub shown_node : (List ℕ → Result (List (List ℕ)) InferFault) → Graph → ℕ → Result (List ℕ) InferFault
+abbrev pub shown_node : (List ℕ → Result (List (List ℕ)) InferFault) → Graph → ℕ
+    → Result (List ℕ) InferFault
 shown_node lines_for g n =
     lines_for (node g n).name >>= λ lines. Ok (node_text g n ++ commands_text lines)
 
@@ -57,6 +58,7 @@ nodes_text lines_for g (n ∷ ns) = do
   Ok (text ++ rest)
 
 -- the goals on a line, then the nodes in serial order
-abbrev pub graph_text : (List ℕ → Result (List (List ℕ)) InferFault) → Graph → Result (List ℕ) InferFault
+abbrev pub graph_text : (List ℕ → Result (List (List ℕ)) InferFault) → Graph
+    → Result (List ℕ) InferFault
 graph_text lines_for g =
     nodes_text lines_for g (serial_order g) >>= λ nodes. Ok (goals_text g ++ nodes)

@@ -15,7 +15,8 @@ IsSettled (Err (FileReadFailed name)) = ⊥
 IsSettled (Err (Read (ReadFailed place name))) = ⊥
 IsSettled answer = Unit {0}
 
--- Over files that are told, a request for a graph has one answer, beside want of memory and failed reads.
+-- Over files that are told, a request for a graph has one answer, beside want of memory and failed
+-- reads.
 abbrev pub AnswerIsOne : Type 0
 AnswerIsOne =
     (files : Told) (request : Request) (one other : Result (List ℕ) Fault) → IsSettled one →

@@ -35,7 +35,8 @@ impl Model for Graph {
 
     ghost view = { λ g. record { nodes = g.nodes.items; goals = g.goals.items } };
 
-    ghost invariant = { λ g. value.IsGraph (record { nodes = g.nodes.items; goals = g.goals.items }) ×
+    ghost invariant = { λ g.
+        value.IsGraph (record { nodes = g.nodes.items; goals = g.goals.items }) ×
         (g.order.items ≡ serial_order (record { nodes = g.nodes.items; goals = g.goals.items })) ×
         AreRowsOf g.rows.items g.nodes.items };
 }

@@ -251,7 +251,8 @@ abbrev pub node_with : Makefile → List (List ℕ) → Met → Node
 node_with m all met = record {
   name = met.name;
   groups =
-      numbered all (with_choice m.not_parallel met.making.choice (groups m.not_parallel (words_for m met.name)));
+      numbered all (with_choice m.not_parallel met.making.choice
+      (groups m.not_parallel (words_for m met.name)));
   recipe = have_text met.making.commands;
   phony = has_name m.phony met.name;
 }

@@ -35,7 +35,11 @@ fn add_back<'m>(
 ) -> Result<(), AllocError>
     ensures { OnOk result ((name : List ℕ) →
         option_map_or (λ texts. texts.items) (get_by (λ k. bytes_eq name k.now) backs.new) []
-        ≡ (if bytes_eq name front.entry.now then option_map_or (λ texts. texts.items) (get_by (λ k. bytes_eq name k.now) backs.old) [] ++ back.entry ∷ [] else option_map_or (λ texts. texts.items) (get_by (λ k. bytes_eq name k.now) backs.old) [])) }
+        ≡ (if bytes_eq name front.entry.now
+        then option_map_or (λ texts. texts.items) (get_by (λ k. bytes_eq name k.now) backs.old)
+        [] ++ back.entry ∷ []
+        else option_map_or (λ texts. texts.items) (get_by (λ k. bytes_eq name k.now) backs.old)
+        [])) }
 {
     let behind = backs.entry(front)?.or_insert(Vec::new(alloc));
     behind.push(back)?;

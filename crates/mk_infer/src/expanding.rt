@@ -57,7 +57,8 @@ fn expanded_command(
     command: &Command,
 ) -> Result<(Vec<u8>, bool), InferFault>
     ensures { Gives (λ line.
-        (line.0.items, line.1)) result (at_place command.now.place (told (expansion macros.now (recipe_of locals.now) command.now.text))) }
+        (line.0.items, line.1)) result (at_place command.now.place
+        (told (expansion macros.now (recipe_of locals.now) command.now.text))) }
 {
     match macros.expand(alloc, &command.text, locals) {
         Ok(found) => Ok((found.text.into_owned(alloc)?, found.varying)),

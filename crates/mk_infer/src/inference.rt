@@ -75,7 +75,8 @@ fn chosen_by<'m>(
     suffix: &str,
 ) -> Result<Option<Chosen<'m>>, AllocError>
     ensures { IfOk result (λ chosen. chosen ≡
-        (if fits_by table.now exists.now stem.now ending.now suffix.now then Some (chosen_by table.now stem.now ending.now suffix.now) else None)) }
+        (if fits_by table.now exists.now stem.now ending.now suffix.now
+        then Some (chosen_by table.now stem.now ending.now suffix.now) else None)) }
 {
     let rule = joined(alloc, suffix, ending)?;
     let Some(commands) = table.rule_commands(&rule) else {

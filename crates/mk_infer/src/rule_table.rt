@@ -35,7 +35,11 @@ fn add_place<'m>(
 ) -> Result<(), AllocError>
     ensures { OnOk result ((name : List ℕ) →
         option_map_or (λ places. places.items) (get_by (λ k. bytes_eq name k.now) lines.new) []
-        ≡ (if bytes_eq name target.entry.now then option_map_or (λ places. places.items) (get_by (λ k. bytes_eq name k.now) lines.old) [] ++ place ∷ [] else option_map_or (λ places. places.items) (get_by (λ k. bytes_eq name k.now) lines.old) [])) }
+        ≡ (if bytes_eq name target.entry.now
+        then option_map_or (λ places. places.items)
+        (get_by (λ k. bytes_eq name k.now) lines.old) [] ++ place ∷ []
+        else option_map_or (λ places. places.items)
+        (get_by (λ k. bytes_eq name k.now) lines.old) [])) }
 {
     let places = lines.entry(target)?.or_insert(Vec::new(alloc));
     places.push(place)?;
@@ -50,7 +54,8 @@ fn add_targets<'m>(
     place: usize,
 ) -> Result<(), AllocError>
     ensures { OnOk result ((name : List ℕ) →
-        places_at lines.new name ≡ (if has_name (map string_bytes targets.now) name then places_at lines.old name ++ place ∷ [] else places_at lines.old name)) }
+        places_at lines.new name ≡ (if has_name (map string_bytes targets.now) name
+        then places_at lines.old name ++ place ∷ [] else places_at lines.old name)) }
 {
     let mut seen = NameSet::new(alloc);
     for target in targets {
@@ -106,7 +111,8 @@ fn listed(alloc: Global, names: &[String]) -> Result<NameTable, AllocError>
 
 /// The rule line at a place.
 fn rule_at(rules: &[Rule], place: usize) -> Option<&Rule>
-    ensures { MatchOption result (slice_get rules.now place ≡ None) (λ rule. slice_get rules.now place ≡
+    ensures { MatchOption result (slice_get rules.now place ≡ None)
+        (λ rule. slice_get rules.now place ≡
         Some rule.now) }
 {
     rules.get(place)

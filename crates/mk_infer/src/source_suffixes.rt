@@ -61,7 +61,11 @@ fn add_source<'m>(
 ) -> Result<(), AllocError>
     ensures { OnOk result ((name : List ℕ) →
         option_map_or (λ texts. texts.items) (get_by (λ k. bytes_eq name k.now) sources.new) []
-        ≡ (if bytes_eq name ending.entry.now then option_map_or (λ texts. texts.items) (get_by (λ k. bytes_eq name k.now) sources.old) [] ++ suffix.entry ∷ [] else option_map_or (λ texts. texts.items) (get_by (λ k. bytes_eq name k.now) sources.old) [])) }
+        ≡ (if bytes_eq name ending.entry.now
+        then option_map_or (λ texts. texts.items)
+        (get_by (λ k. bytes_eq name k.now) sources.old) [] ++ suffix.entry ∷ []
+        else option_map_or (λ texts. texts.items)
+        (get_by (λ k. bytes_eq name k.now) sources.old) [])) }
 {
     let before = sources.entry(ending)?.or_insert(Vec::new(alloc));
     before.push(suffix)?;

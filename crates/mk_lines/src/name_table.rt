@@ -94,7 +94,8 @@ fn note_place(
     place: usize,
 ) -> Result<(), AllocError>
     ensures { OnOk result ((q : List ℕ) →
-        get_by_text places.new q ≡ else_last (get_by_text places.old q) (bytes_eq q name.now) place) }
+        get_by_text places.new q ≡ else_last (get_by_text places.old q) (bytes_eq q name.now)
+        place) }
 {
     if places.contains_key(name) {
         return Ok(());

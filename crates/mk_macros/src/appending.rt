@@ -227,7 +227,8 @@ fn append_internal(
     part: Part,
     into: &mut Vec<u8>,
 ) -> Result<Used, MacroFault>
-    ensures { Appends into.old.items into.new.items result (value_of (scope_view scope.now) refused [] references [] (Some (byte, part))) }
+    ensures { Appends into.old.items into.new.items
+        result (value_of (scope_view scope.now) refused [] references [] (Some (byte, part))) }
 {
     if byte == b'%' {
         return Err(MacroFault::MemberMacro);
@@ -251,7 +252,9 @@ fn append_macro(
     name: &[u8],
     into: &mut Vec<u8>,
 ) -> Result<Used, MacroFault>
-    ensures { Appends into.old.items into.new.items result (macro_value (below deep (scope_view scope.now)) (names_in going.now) references name.now (macro_named (scope_view scope.now).table name.now)) }
+    ensures { Appends into.old.items into.new.items
+        result (macro_value (below deep (scope_view scope.now)) (names_in going.now) references
+        name.now (macro_named (scope_view scope.now).table name.now)) }
 {
     let Some(found) = scope.table.get(name) else {
         return Ok(Used {

@@ -126,7 +126,8 @@ impl MacroTable {
     /// Takes a text with `+=`.
     fn set_more(&mut self, name: &[u8], text: &[u8]) -> Result<(), MacroFault>
         ensures exact { Gives (λ _.
-            self.new) result (with_more self.old name.now text.now (macro_named self.old name.now)) }
+            self.new) result (with_more self.old name.now text.now
+            (macro_named self.old name.now)) }
         ensures unchanged { OnErr result (self.new ≡ self.old) }
     {
         let Some(entry) = self.get(name) else {

@@ -41,7 +41,8 @@ impl MacroTable {
         text: &'a [u8],
         locals: &Locals,
     ) -> Result<Expansion<'a>, MacroFault>
-        ensures exact { Gives expansion_view result (told (expansion self.now (recipe_of locals.now) text.now)) }
+        ensures exact { Gives expansion_view result (told (expansion self.now (recipe_of locals.now)
+            text.now)) }
         ensures lends { IfOk result (λ found. is_borrowed found.text ≡
             not (list_any (is_byte 36) text.now)) }
     {

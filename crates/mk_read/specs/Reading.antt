@@ -79,7 +79,8 @@ files reader read place optional (name ∷ names) state =
 abbrev pub include : Reader → Deeper → Place → State → IncludeLine → Result State ReadFault
 include reader None place state line = Err (IncludeDepth place)
 include reader (Some read) place state line = names_in place state.table line.names >>= λ names.
-    if is_empty names then Err (IncludeEmpty place) else files reader read place line.optional names (parted state)
+    if is_empty names then Err (IncludeEmpty place)
+    else files reader read place line.optional names (parted state)
 
 -- A plain line by its kind. A line of a comment alone changes nothing.
 abbrev pub plain_line : Reader → Deeper → Bool → Place → State → Kind → Result State ReadFault
@@ -92,8 +93,10 @@ plain_line reader deeper default place state (Rule line) = rule default place st
 unfoldable pub with_line : Reader → Deeper → Text → State → Line → Result State ReadFault
 with_line reader deeper text state line =
     let place : Place = record { file = text.file; line = line.first } in
-    if line.command then (command_line place line.text state.read.earlier state.read.owner >>= λ read. Ok (record state { read = read }))
-    else (of_kind place (kind_of (uncomment line.text)) >>= plain_line reader deeper text.default place state)
+    if line.command then (command_line place line.text state.read.earlier state.read.owner
+    >>= λ read. Ok (record state { read = read }))
+    else (of_kind place (kind_of (uncomment line.text))
+    >>= plain_line reader deeper text.default place state)
 
 -- what is read after these lines
 unfoldable pub with_lines : Reader → Deeper → Text → List Line → State → Result State ReadFault
@@ -149,7 +152,8 @@ text_or reader state name other (Some bytes) =
 
 unfoldable pub own_text : Reader → State → List ℕ → Result State ReadFault → Result State ReadFault
 own_text reader state name other =
-    if fails reader state then Err (ReadFailed None name) else text_or reader state name other (reader.text name)
+    if fails reader state then Err (ReadFailed None name)
+    else text_or reader state name other (reader.text name)
 
 unfoldable pub from_named : Reader → State → Option (List ℕ) → Result State ReadFault
 from_named reader state (Some name) = own_text reader state name (Err (NoMakefile (Some name)))

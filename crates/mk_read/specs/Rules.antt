@@ -76,7 +76,8 @@ assignment place state line = do
 -- What a special target does with its words.
 abbrev pub special_words : Place → State → List (List ℕ) → Special → Result State ReadFault
 special_words place state words Suffixes =
-    if list_all is_suffix words then Ok (record state { suffixes = listed state.suffixes words }) else Err (SpecialShape place)
+    if list_all is_suffix words then Ok (record state { suffixes = listed state.suffixes words })
+    else Err (SpecialShape place)
 special_words place state words Phony = Ok (record state { phony = state.phony ++ words })
 special_words place state words NotParallel =
     if is_empty words then Ok (record state { not_parallel = true }) else Err (SpecialShape place)
@@ -95,7 +96,8 @@ special_rule place state targets words commands special =
 -- a rule line more
 unfoldable pub new_rule : RuleRead → Read → Result Read ReadFault
 new_rule rule read =
-    if has_some rule.commands then unless_taken (taken (rules_of read) rule) rule (rules_of read) else Ok (owned (Last rule) read)
+    if has_some rule.commands then unless_taken (taken (rules_of read) rule) rule (rules_of read)
+    else Ok (owned (Last rule) read)
 
 -- a command behind a `;`, where it has some text
 abbrev pub commands_behind : Place → List ℕ → List Command
@@ -126,7 +128,8 @@ by_names default place state targets command words =
 abbrev pub by_targets : Bool → Place → State → RuleLine → List (List ℕ) → Result State ReadFault
 by_targets default place state line targets =
     if is_empty targets then Ok (record state { read = owned PassedOver state.read })
-    else (names_in place state.table line.words >>= by_names default place state targets line.command)
+    else (names_in place state.table line.words
+    >>= by_names default place state targets line.command)
 
 unfoldable pub rule : Bool → Place → State → RuleLine → Result State ReadFault
 rule default place state line =

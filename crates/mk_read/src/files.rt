@@ -36,7 +36,8 @@ pub trait Files {
             (λ files. option_map (λ bytes. bytes.items) text ≡ text_at files name.now)) }
         ensures ok { OnOk result (failed self.new ≡ failed self.old) }
         ensures memory { IsErrOf result FilesError.Memory → failed self.new ≡ failed self.old }
-        ensures counted { IsErrOf result FilesError.ReadFailed → failed self.old < failed self.new };
+        ensures counted { IsErrOf result FilesError.ReadFailed
+            → failed self.old < failed self.new };
 
     /// How many reads have failed.
     fn failures(&self) -> u64

@@ -139,7 +139,8 @@ fn read_kind<F: Files>(
     ensures follows { IfSome (F.told files.old)
         (λ told.
         Follows told (λ reader.
-        plain_line reader (below source.now.levels reader) source.now.default (place_at spot.now) state.old (kind_view kind.entry)) state.old (seen (λ done. state.new) result)) }
+        plain_line reader (below source.now.levels reader) source.now.default (place_at spot.now)
+        state.old (kind_view kind.entry)) state.old (seen (λ done. state.new) result)) }
     ensures counted { Counts (F.failed files.old) (F.failed files.new) result }
 {
     match kind {
@@ -159,7 +160,8 @@ fn include_names(
     text: &[u8],
 ) -> Result<Vec<String>, ReadFault>
     ensures exact { Gives (λ names.
-        map string_bytes names.items) result (include_names levels (place_at spot.now) macros.now text.now) }
+        map string_bytes names.items) result (include_names levels (place_at spot.now) macros.now
+        text.now) }
     ensures levels { IfOk result (λ _. 0 < levels) }
     ensures own { IfErr result IsOfText }
 {
@@ -209,7 +211,8 @@ fn read_files<F: Files>(
     ensures map { F.told files.new ≡ F.told files.old }
     ensures follows { IfSome (F.told files.old)
         (λ told. Follows told (λ reader. all_files reader (read_below levels reader)
-        (place_at spot.now) optional (map string_bytes names.now) state.old) state.old (seen (λ done. state.new) result)) }
+        (place_at spot.now) optional (map string_bytes names.now) state.old) state.old
+        (seen (λ done. state.new) result)) }
     ensures counted { Counts (F.failed files.old) (F.failed files.new) result }
 {
     for name in names {

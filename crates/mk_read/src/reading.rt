@@ -281,7 +281,8 @@ fn is_inference_name(suffixes: &[String], name: &str) -> bool
 /// Whether one of the targets is an inference name.
 fn has_inference_name(suffixes: &[String], targets: &[String]) -> bool
     ensures { result ≡
-        list_any (is_inference_name (map string_bytes suffixes.now)) (map string_bytes targets.now) }
+        list_any (is_inference_name (map string_bytes suffixes.now))
+        (map string_bytes targets.now) }
 {
     for target in targets {
         if is_inference_name(suffixes, target) {

@@ -45,7 +45,8 @@ fn expanded_text<'a>(
     macros: &MacroTable,
     text: &'a [u8],
 ) -> Result<CowSlice<'a, u8>, ReadFault>
-    ensures exact { Gives cow_slice_items result (expanded_text (place_at spot.now) macros.now text.now) }
+    ensures exact { Gives cow_slice_items result (expanded_text (place_at spot.now) macros.now
+        text.now) }
     ensures own { IfErr result IsOfText }
 {
     match macros.expand(spot.alloc, text, &Locals::Empty) {
@@ -97,7 +98,8 @@ impl State {
         line: &AssignmentLine<'_>,
     ) -> Result<(), ReadFault>
         ensures exact { Gives (λ done.
-            self.new) result (assigned (place_at spot.now) self.old (assignment_view line.now) name.now) }
+            self.new) result (assigned (place_at spot.now) self.old (assignment_view line.now)
+            name.now) }
         ensures own { IfErr result IsOfText }
     {
         self.own(Owner::Nobody)?;
@@ -148,7 +150,9 @@ fn add_suffixes(
     words: &[String],
 ) -> Result<(), ReadFault>
     ensures exact { Gives (λ done.
-        suffixes.new) result (if list_all is_suffix (map string_bytes words.now) then Ok (listed suffixes.old (map string_bytes words.now)) else Err (SpecialShape (place_at spot.now))) }
+        suffixes.new) result (if list_all is_suffix (map string_bytes words.now)
+        then Ok (listed suffixes.old (map string_bytes words.now))
+        else Err (SpecialShape (place_at spot.now))) }
     ensures own { IfErr result IsOfText }
 {
     if !are_suffixes(words) {
@@ -172,7 +176,8 @@ fn append(names: &mut Vec<String>, words: Vec<String>) -> Result<(), AllocError>
 /// Fault 30 where there are words.
 fn unless_words(spot: &Spot<'_>, words: &[String]) -> Result<(), ReadFault>
     ensures exact { Gives (λ done.
-        done) result (if is_empty (map string_bytes words.now) then Ok tt else Err (SpecialShape (place_at spot.now))) }
+        done) result (if is_empty (map string_bytes words.now) then Ok tt
+        else Err (SpecialShape (place_at spot.now))) }
     ensures own { IfErr result IsOfText }
 {
     if !words.is_empty() {
@@ -189,7 +194,8 @@ fn note_words(
     special: Special,
 ) -> Result<(), ReadFault>
     ensures exact { Gives (λ done.
-        state.new) result (special_words (place_at spot.now) state.old (map string_bytes words.items) special) }
+        state.new) result (special_words (place_at spot.now) state.old
+        (map string_bytes words.items) special) }
     ensures own { IfErr result IsOfText }
 {
     match special {
@@ -309,7 +315,9 @@ fn add_by_names(
     command: Option<&[u8]>,
 ) -> Result<(), ReadFault>
     ensures exact { Gives (λ done.
-        state.new) result (by_names default (place_at spot.now) state.old (map string_bytes targets.items) (option_map (λ text. text.now) command.entry) (map string_bytes words.items)) }
+        state.new) result (by_names default (place_at spot.now) state.old
+        (map string_bytes targets.items) (option_map (λ text. text.now) command.entry)
+        (map string_bytes words.items)) }
     ensures own { IfErr result IsOfText }
 {
     if has_unknown(&targets) {

@@ -104,7 +104,8 @@ new_stamps clock (f ∷ files) = new_stamp clock ∷ new_stamps (clock + 1) file
 -- what a recipe is finished with: what is known of a run that sees what is there, else new stamps
 abbrev pub contents_of : Graph → Setting → Disk → ℕ → List ℕ
 contents_of g s d t =
-    unwrap_or (outcome d.known t (map (content d) (reads g s t))) (new_stamps d.clock (writes g s t))
+    unwrap_or (outcome d.known t (map (content d) (reads g s t)))
+    (new_stamps d.clock (writes g s t))
 
 -- the content that is written in a line, else the new stamp
 abbrev pub content_or_stamp : Disk → Option ℕ → ℕ

@@ -34,7 +34,13 @@ impl Model for Disk {
 
     ghost Value = { state.DiskState };
 
-    ghost view = { λ d. record { names = d.names; files = d.files.items; clock = d.clock; known = d.known } };
+    ghost view = { λ d.
+        record {
+          names = d.names;
+          files = d.files.items;
+          clock = d.clock;
+          known = d.known;
+        } };
 
     ghost invariant = { λ d. length d.files.items ≡ length d.names };
 }

@@ -1,4 +1,5 @@
-//! Laws of steps and plans. Each is the contract of a function that does nothing: who calls it has the law.
+//! Laws of steps and plans. Each is the contract of a function that does nothing: who calls it has
+//! the law.
 
 ghost use Rattle.mk_world.specs.StepLaws.{AllowedWhereAllHolds};
 ghost use Rattle.mk_world.specs.RunLaws.{TakenStepsAreLegal, LegalStepsAreTaken, FrontsRunFirst};

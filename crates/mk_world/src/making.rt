@@ -31,7 +31,14 @@ impl Model for Making {
 
     ghost Value = { state.MakeState };
 
-    ghost view = { λ m. record { jobs = m.jobs; goals = m.goals.items; done = m.done.items; running = m.running.items; runs = m.runs.items } };
+    ghost view = { λ m.
+        record {
+          jobs = m.jobs;
+          goals = m.goals.items;
+          done = m.done.items;
+          running = m.running.items;
+          runs = m.runs.items;
+        } };
 
     ghost invariant = { λ m. (n : ℕ) → Has m.is_done n ↔ Has m.done.items n };
 }

@@ -60,11 +60,11 @@ fn read_line(alloc: Global, number: usize, line: &[u8]) -> Result<Option<PlanLin
 /// behind a newline that ends the text.
 ///
 /// The lines are `make N G..`, `stop`, `begin T`, `look T F`, `put T F`, `put T F N`, `done T`,
-/// `finish T`, `run T`, `pass T`, `end`, `edit F` and `edit F N`. A number is of digits alone and at
-/// most 18,446,744,073,709,551,615, and there are 1 to 4,096 jobs. Empty lines, and those whose
-/// first byte other than blanks is `#`, are passed over but counted. The fault is 69 with the number
-/// of the first line that is malformed, as one with a word that isn't UTF-8 is, or is the 65,537th;
-/// or want of memory.
+/// `finish T`, `run T`, `pass T`, `end`, `edit F` and `edit F N`. A number is of digits alone and
+/// at most 18,446,744,073,709,551,615, and there are 1 to 4,096 jobs. Empty lines, and those whose
+/// first byte other than blanks is `#`, are passed over but counted. The fault is 69 with the
+/// number of the first line that is malformed, as one with a word that isn't UTF-8 is, or is the
+/// 65,537th; or want of memory.
 pub fn read_plan(alloc: Global, text: &[u8]) -> Result<Plan, PlanFault>
     ensures { Gives PlanFault.Memory (λ plan. plan) result (plan_of text.now) }
 {

@@ -181,8 +181,8 @@ fn is_memory(fault: &StepFault) -> bool
 /// at all that the recipe reads, puts all that it writes, with the contents that are known of a run
 /// that saw the same, else the new stamps, and ends; `run` begins first. `make` without goals names
 /// all. At each `end` the files are printed. A line is refused with the fault of its first step
-/// that isn't allowed, and the steps before it stay done; or, before anything is passed for it, with
-/// fault 69, where it names a node that isn't one, or a file that is no name of the world.
+/// that isn't allowed, and the steps before it stay done; or, before anything is passed for it,
+/// with fault 69, where it names a node that isn't one, or a file that is no name of the world.
 ///
 /// The error is want of memory alone. The world is then the one that the steps taken leave.
 pub fn run_plan(alloc: Global, world: &mut World, plan: &Plan) -> Result<Run, AllocError>

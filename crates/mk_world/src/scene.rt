@@ -15,8 +15,8 @@ use mk_lines::NameTable;
 use std::alloc::{AllocError, Global};
 use std::marker::Model;
 
-/// The graph and what is recorded, with the numbers of nodes by their names, the footprints by numbers, and
-/// the serial order.
+/// The graph and what is recorded, with the numbers of nodes by their names, the footprints by
+/// numbers, and the serial order.
 #[derive(Drop)]
 pub struct Scene<'a> {
     graph: &'a Graph,

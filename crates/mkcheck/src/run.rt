@@ -130,8 +130,10 @@ fn answered<F: Files>(
     requires room { F.failed files.old < 2 ^ 64 - 1 }
     requires met { has_subcommand matches.now ≡ true }
     ensures map { F.told files.new ≡ F.told files.old }
-    ensures answered { IfOk result (λ outcome. IsAnswered (F.told files.old) (F.failed files.old) (F.failed files.new)
-        (requested (option_map_or (λ met. met.1) (subcommand_rows_of matches.now) [])) (written outcome)) }
+    ensures answered { IfOk result (λ outcome. IsAnswered (F.told files.old) (F.failed files.old)
+        (F.failed files.new)
+        (requested (option_map_or (λ met. met.1) (subcommand_rows_of matches.now) []))
+        (written outcome)) }
 {
     let (_, graph) = matches.subcommand().unwrap();
     let request = requested(alloc, graph)?;
