@@ -284,6 +284,17 @@ fn see_commands(rt: &impl Abort, alloc: Global, choices: &Choices<'_>) -> Result
     Ok(())
 }
 
+/// The same over a makefile whose names are looked up.
+fn see_table(
+    rt: &impl Abort,
+    alloc: Global,
+    table: &RuleTable<'_>,
+    exists: &Exists<'_>,
+) -> Result<(), Fail> {
+    let choices = Choices::new(alloc, table, exists)?;
+    see_commands(rt, alloc, &choices)
+}
+
 /// The same over a makefile.
 fn see_makefile(
     rt: &impl Abort,
@@ -292,8 +303,7 @@ fn see_makefile(
     exists: &Exists<'_>,
 ) -> Result<(), Fail> {
     let table = RuleTable::new(alloc, makefile)?;
-    let choices = Choices::new(alloc, &table, exists)?;
-    see_commands(rt, alloc, &choices)
+    see_table(rt, alloc, &table, exists)
 }
 
 /// The same over a text.
