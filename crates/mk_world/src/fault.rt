@@ -10,48 +10,48 @@ use thiserror::Error;
 #[derive(Debug, Drop, Error)]
 pub enum StepFault {
     /// The last stamp was given (fault 59).
-    #[error("the last stamp was given")]
+    #[error("refused 59")]
     ClockSpent,
     /// What the recipe put differs from the known outcome of a run that saw the same (fault 60).
-    #[error("the recipe put something else than it did in a run that saw the same")]
+    #[error("refused 60")]
     OtherOutcome,
     /// No make is in progress (fault 61).
-    #[error("no make is in progress")]
+    #[error("refused 61")]
     NoMake,
     /// A make is in progress (fault 62).
-    #[error("a make is in progress")]
+    #[error("refused 62")]
     MakeRuns,
     /// The node isn't ready, or is to begin and has no recipe (fault 63).
-    #[error("the node isn't ready")]
+    #[error("refused 63")]
     NotReady,
     /// As many recipes run as there are jobs, or a make is to have no job (fault 64).
-    #[error("no job is free")]
+    #[error("refused 64")]
     NoJobFree,
     /// The recipe must run (fault 65).
-    #[error("the recipe must run")]
+    #[error("refused 65")]
     OutOfDate,
     /// The node isn't running (fault 66).
-    #[error("the recipe isn't running")]
+    #[error("refused 66")]
     NotRunning,
     /// The recipe doesn't read the file that it is to look at, or doesn't write the one that it is
     /// to put (fault 67).
-    #[error("the recipe doesn't read or write the file")]
+    #[error("refused 67")]
     NotInFootprint,
     /// A recipe is to end before all its looks and puts, or a make before all its goals are done or
     /// while a recipe runs (fault 68).
-    #[error("something is left to be done")]
+    #[error("refused 68")]
     NotAllDone,
     /// A name in a line of a plan is no node's, or none of the world (fault 69).
-    #[error("the line names a node or a file that isn't there")]
+    #[error("refused 69")]
     PlanLine,
     /// The file isn't editable (fault 70).
-    #[error("the file isn't editable")]
+    #[error("refused 70")]
     NotEditable,
     /// A make is to have no goal, or one that is no goal of the graph (fault 77).
-    #[error("there is no such goal")]
+    #[error("refused 77")]
     NotAGoal,
     /// A growth was refused, which may come in place of any answer.
-    #[error("memory ran out")]
+    #[error("want of memory")]
     Memory,
 }
 

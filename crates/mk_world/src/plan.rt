@@ -117,10 +117,10 @@ impl Plan {
 #[derive(Debug, Drop, Error)]
 pub enum PlanFault {
     /// The line of this number is the first that is malformed, or the 65,537th (fault 69).
-    #[error("line {0} is none of a plan")]
+    #[error("refused 69 line {0}")]
     Line(usize),
     /// A growth was refused, which may come in place of any answer.
-    #[error("memory ran out")]
+    #[error("want of memory")]
     Memory,
 }
 
