@@ -1,0 +1,64 @@
+//! Certificates.
+
+use mk_lines::{Name, Names};
+use std::marker::Model;
+
+/// How a way ends at its last recipe.
+#[derive(Clone, Copy, Debug, Drop, PartialEq, Eq)]
+pub enum Finish {
+    /// The last recipe writes the file, and isn't the first one.
+    Written,
+    /// The file is editable and a direct prerequisite of the last recipe.
+    Source,
+    /// The last recipe is made in each make: it is phony, or has a phony direct prerequisite.
+    Always,
+}
+
+/// How the change of a file comes to a recipe that reads it. A contract sees lists of bytes.
+#[derive(Debug, Drop)]
+pub struct Way {
+    /// The recipe that reads the file.
+    pub recipe: Name,
+    /// The file.
+    pub file: Name,
+    /// Recipes from this one on, each of which carries the next.
+    pub path: Names,
+    /// How it ends at the last of them.
+    pub finish: Finish,
+}
+
+impl Model for Way {
+    ghost use Rattle.mk_ways.specs.Certificate as value;
+
+    ghost Value = { value.Way };
+
+    ghost view = { λ w.
+        record {
+          recipe = w.recipe;
+          file = w.file;
+          path = w.path;
+          finish = w.finish;
+        } };
+}
+
+/// The goals that were judged, and a way for each read of a file that can change. A contract sees
+/// lists.
+#[derive(Debug, Drop)]
+pub struct Certificate {
+    /// The goals, each once.
+    pub goals: Names,
+    /// The ways.
+    pub ways: Vec<Way>,
+}
+
+impl Model for Certificate {
+    ghost use Rattle.mk_ways.specs.Certificate as value;
+
+    ghost Value = { value.Certificate };
+
+    ghost view = { λ c.
+        record {
+          goals = c.goals;
+          ways = c.ways.items;
+        } };
+}
