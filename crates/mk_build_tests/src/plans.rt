@@ -3,7 +3,7 @@
 use crate::graph_fixtures::{built, graph_of, nodes_of};
 use mk_foot::{Book, Setting, read_book};
 use mk_graph::Graph;
-use mk_world::{Listed, Plan, Run, StepFault, World, read_plan, run_plan};
+use mk_world::{Plan, PlanFault, Run, StepFault, World, print_files, read_plan, run_plan};
 use std::alloc::{AllocError, Global};
 use std::process::Abort;
 use std::test::Fail;
@@ -85,15 +85,24 @@ const TWO_ROWS: &str =
 make 1/begin p/begin q => refused 64 line 3/s 1 1/
 make 1/begin p/finish p/begin q => plan ok/";
 
-/// Adds the files, a line for each.
-fn push_files(alloc: Global, text: &mut String, files: &[Listed]) -> Result<(), AllocError> {
-    for file in files {
-        let name = file.name.as_str();
-        let content = file.content;
-        let stamp = file.stamp;
-        text.push_str(&format!(in alloc; "{name} {content} {stamp}\n")?)?;
+/// The number of a fault, 0 for want of memory.
+fn number_of(fault: &StepFault) -> usize {
+    match fault {
+        StepFault::ClockSpent => 59,
+        StepFault::OtherOutcome => 60,
+        StepFault::NoMake => 61,
+        StepFault::MakeRuns => 62,
+        StepFault::NotReady => 63,
+        StepFault::NoJobFree => 64,
+        StepFault::OutOfDate => 65,
+        StepFault::NotRunning => 66,
+        StepFault::NotInFootprint => 67,
+        StepFault::NotAllDone => 68,
+        StepFault::PlanLine => 69,
+        StepFault::NotEditable => 70,
+        StepFault::NotAGoal => 77,
+        StepFault::Memory => 0,
     }
-    Ok(())
 }
 
 /// A text with what a refusal prints behind it: the line, and the files.
@@ -104,8 +113,9 @@ fn push_refusal(
     line: usize,
     fault: &StepFault,
 ) -> Result<(), AllocError> {
-    text.push_str(&format!(in alloc; "{fault} line {line}\n")?)?;
-    push_files(alloc, text, &world.files()?)
+    let number = number_of(fault);
+    text.push_str(&format!(in alloc; "refused {number} line {line}\n")?)?;
+    print_files(alloc, world, text)
 }
 
 /// What a run prints.
@@ -130,11 +140,19 @@ fn simulated(
     printed(alloc, &world, &run)
 }
 
+/// The line at which a text is no plan.
+fn line_of(alloc: Global, fault: &PlanFault) -> Result<String, AllocError> {
+    match fault {
+        PlanFault::Line(line) => format!(in alloc; "refused 69 line {line}"),
+        PlanFault::Memory => Err(AllocError),
+    }
+}
+
 /// What the run of a text as a plan prints, or the line at which it is no plan.
 fn ran(alloc: Global, graph: &Graph, setting: &Setting, plan: &[u8]) -> Result<String, AllocError> {
     match read_plan(alloc, plan) {
         Ok(plan) => simulated(alloc, graph, setting, &plan),
-        Err(fault) => format!(in alloc; "{fault}"),
+        Err(fault) => line_of(alloc, &fault),
     }
 }
 
@@ -229,7 +247,7 @@ fn recipes_in_turn(rt: HostRuntime) -> Result<(), Fail> {
 fn bad_line(alloc: Global, text: &[u8]) -> Result<String, AllocError> {
     match read_plan(alloc, text) {
         Ok(_plan) => String::from_str(alloc, "none"),
-        Err(fault) => format!(in alloc; "{fault}"),
+        Err(fault) => line_of(alloc, &fault),
     }
 }
 

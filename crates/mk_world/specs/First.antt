@@ -1,13 +1,15 @@
 -- The first disk of a world in tables.
-use Rattle.std.specs.Prelude.{◌≡◌, ℕ, ◌+◌, List, [], ◌∷◌, Option, Some, None, length, filter, if◌then◌else◌, ◌⊎◌}
+use Rattle.std.specs.Prelude.{◌≡◌, ℕ, ◌+◌, List, [], ◌∷◌, Option, Some, None, true, length, filter, if◌then◌else◌, ◌⊎◌, ◌↔◌}
 use Rattle.std.specs.List.Sorted.{IsStrictlySortedBy}
 use Rattle.std.specs.Ordering.{nat_cmp}
 use Rattle.std.specs.Cmp.Lexicographic.{slice_cmp}
 use Rattle.mk_foot.specs.Setting as recorded
+use Rattle.mk_lines.specs.Names.{has_name}
 use Rattle.mk_graph.specs.declared.node.Node.{Node}
 use Rattle.mk_graph.specs.Membership.{Has}
 use Rattle.mk_graph.specs.Setting.{FileName}
-use Rattle.mk_world.specs.State.{DiskState}
+use Rattle.mk_graph.specs.World.{IsOfWorld}
+use Rattle.mk_world.specs.State.{DiskState, Scene, setting}
 use Rattle.mk_world.specs.declared.file.File.{File}
 
 -- the given ones of these names
@@ -46,3 +48,8 @@ first_disk s names =
 -- the names stand in the order of their bytes, each once
 abbrev pub AreSorted : List FileName → Type 0
 AreSorted names = IsStrictlySortedBy (slice_cmp nat_cmp) names
+
+-- the names are those of the world, in the order of their bytes
+pub record AreNamesOf (scene : Scene) (names : List FileName) : Type 0 where
+  pub sorted : AreSorted names
+  pub all : (f : FileName) → (has_name names f ≡ true) ↔ IsOfWorld scene.graph (setting scene) f

@@ -1,13 +1,11 @@
 -- What holds of the parts of a world in the code.
-use Rattle.std.specs.Prelude.{◌≡◌, ℕ, ◌<◌, List, [], length, true, Option, None, Some, slice_index_or, ◌⊎◌, ◌↔◌}
-use Rattle.mk_lines.specs.Names.{has_name}
+use Rattle.std.specs.Prelude.{◌≡◌, ℕ, ◌<◌, List, [], length, true, Option, None, Some, slice_index_or, ◌⊎◌}
 use Rattle.mk_graph.specs.Membership.{Has}
 use Rattle.mk_graph.specs.Graph.{Graph}
 use Rattle.mk_graph.specs.Setting.{FileName, Setting, reads, writes}
-use Rattle.mk_graph.specs.World.{Disk, HasStamp, IsOfWorld}
+use Rattle.mk_graph.specs.World.{Disk, HasStamp}
 use Rattle.mk_graph.specs.declared.node.Node.{Node}
 use Rattle.mk_world.specs.declared.footprints.Footprint.{Footprint}
-use Rattle.mk_world.specs.First.{AreSorted}
 use Rattle.mk_world.specs.State.{Scene, MakeState, setting, run_at}
 
 abbrev pub no_footprint : Footprint
@@ -37,11 +35,6 @@ pub record Fits (scene : Scene) (m : MakeState) : Type 0 where
 abbrev pub FitsIn : Scene → Option MakeState → Type 0
 FitsIn scene None = Unit {0}
 FitsIn scene (Some m) = Fits scene m
-
--- the names are those of the world, in the order of their bytes
-pub record AreNamesOf (scene : Scene) (names : List FileName) : Type 0 where
-  pub sorted : AreSorted names
-  pub all : (f : FileName) → (has_name names f ≡ true) ↔ IsOfWorld scene.graph (setting scene) f
 
 -- A direct prerequisite makes a node out of date whose file has this stamp: it is phony, or there
 -- with a greater one.

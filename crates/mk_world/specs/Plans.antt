@@ -47,9 +47,16 @@ is_number word =
 abbrev pub number_in : List ℕ → Option ℕ
 number_in word = if is_number word then Some (digits_value 10 word) else None
 
--- a make has 1 to 4,096 jobs
+-- the most lines of a plan, and the most jobs of a make
+abbrev pub max_lines : ℕ
+max_lines = 65536
+
+abbrev pub max_jobs : ℕ
+max_jobs = 4096
+
+-- a make has one job at least, and no more than the most
 abbrev pub jobs_among : ℕ → Option ℕ
-jobs_among jobs = if nat_le 1 jobs && nat_le jobs 4096 then Some jobs else None
+jobs_among jobs = if nat_le 1 jobs && nat_le jobs max_jobs then Some jobs else None
 
 abbrev pub jobs_in : List ℕ → Option ℕ
 jobs_in word = option_and_then jobs_among (number_in word)
@@ -123,7 +130,7 @@ order_of line = if list_all is_utf8 (words line) then order_by (words line) else
 
 -- A line with its number is one too many, or malformed.
 abbrev pub is_bad : ℕ × List ℕ → Bool
-is_bad e = nat_lt 65536 e.0 || (not (is_passed_over e.1) && is_none (order_of e.1))
+is_bad e = nat_lt max_lines e.0 || (not (is_passed_over e.1) && is_none (order_of e.1))
 
 -- what it orders
 abbrev pub planned : ℕ × List ℕ → Option PlanLine

@@ -11,6 +11,7 @@ use Rattle.mk_world.specs.declared.fault.StepFault.{StepFault}
 use Rattle.mk_world.specs.declared.fault.StepFault.TheVariants.{Memory}
 use Rattle.mk_world.specs.State.{State, Scene, setting, setting_of, disk_of, world_of, number_of}
 use Rattle.mk_world.specs.Faults.{checks, FirstFails}
+use Rattle.mk_world.specs.First.{AreNamesOf}
 
 -- the step with numbers for the names of nodes
 abbrev pub step_of : Graph → Step → model.Step
@@ -47,9 +48,10 @@ pub record Answers (old new : State) (step : model.Step) (result : Result Unit S
     pub judged : Judges old.scene (world_of old) (world_of new) step result
     pub unchanged : OnErr result (new ≡ old)
 
--- The world of a graph and what is recorded at its beginning: no make is in progress, and the disk
--- is a first one.
+-- The world of a graph and what is recorded at its beginning: no make is in progress, the disk is a
+-- first one, and the names are those of the world, in the order of their bytes.
 pub record IsFirstOf (g : Graph) (s : recorded.Setting) (w : State) : Type 0 where
   pub scene : w.scene ≡ record { graph = g; recorded = s }
   pub idle : w.make ≡ None
   pub first : IsFirst g (setting_of s) (disk_of w.disk)
+  pub names : AreNamesOf w.scene w.disk.names

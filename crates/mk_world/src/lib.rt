@@ -31,6 +31,6 @@ pub use fault::StepFault;
 pub use file::Listed;
 pub use plan::{Order, Plan, PlanFault, PlanLine};
 pub use reading::read_plan;
-pub use running::{Run, run_plan};
+pub use running::{Run, print_files, run_plan};
 pub use step::Step;
 pub use world::World;

@@ -117,10 +117,10 @@ impl Plan {
 #[derive(Debug, Drop, Error)]
 pub enum PlanFault {
     /// The line of this number is the first that is malformed, or the 65,537th (fault 69).
-    #[error("refused 69 line {0}")]
+    #[error("a line of the plan is malformed, or one too many: {0}")]
     Line(usize),
     /// A growth was refused, which may come in place of any answer.
-    #[error("want of memory")]
+    #[error("memory ran out")]
     Memory,
 }
 

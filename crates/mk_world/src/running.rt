@@ -145,8 +145,9 @@ fn file_text(alloc: Global, file: &Listed) -> Result<String, AllocError>
     format!(in alloc; "{name} {content} {stamp}\n")
 }
 
-/// Adds the files of a world, a line for each.
-fn print_files(alloc: Global, world: &World, text: &mut String) -> Result<(), AllocError>
+/// Adds the files of a world by the bytes of their names, a line `name content stamp` for each. The
+/// error is want of memory alone.
+pub fn print_files(alloc: Global, world: &World, text: &mut String) -> Result<(), AllocError>
     ensures { OnOk result (string_bytes text.new ≡ string_bytes text.old ++
         files_text world.now.disk.names (disk_of (world_of world.now))) }
 {

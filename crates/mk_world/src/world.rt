@@ -37,7 +37,8 @@ pub struct World<'a> {
 
 impl<'a> Model for World<'a> {
     ghost use Rattle.mk_world.specs.State as state;
-    ghost use Rattle.mk_world.specs.Fits.{FitsIn, AreNamesOf};
+    ghost use Rattle.mk_world.specs.First.{AreNamesOf};
+    ghost use Rattle.mk_world.specs.Fits.{FitsIn};
 
     ghost Value = { state.State };
 

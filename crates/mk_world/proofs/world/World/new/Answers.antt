@@ -1,7 +1,8 @@
 use Rattle.std.proofs.Common.{map, string_bytes, sym, refl, subst, None}
 use Rattle.mk_graph.specs.World.{IsFirst}
 use Rattle.mk_world.specs.State.{Scene, DiskState, setting_of, disk_of}
-use Rattle.mk_world.specs.Fits.{FitsIn, AreNamesOf}
+use Rattle.mk_world.specs.First.{AreNamesOf}
+use Rattle.mk_world.specs.Fits.{FitsIn}
 use Rattle.mk_world.proofs.Tables.{name_there, there_name}
 use Rattle.mk_world.proofs.FirstDisk.{is_first}
 use Rattle.mk_world.proofs.world.World.new.Goals as goal
@@ -16,8 +17,15 @@ invariant_of-result c =
     )
 
 pub returns : goal.returns
-returns c = record {
-  scene = c.in_ok-new.ensures;
-  idle = refl;
-  first = subst (λ (d : DiskState). IsFirst c.args.graph.now (setting_of c.args.setting.now) (disk_of d)) (sym c.in_ok-disk.ensures) (is_first c.args.graph.now c.args.setting.now (map string_bytes c.in_ok-names.names.items) c.in_ok-names.ensures.sorted c.in_ok-names.ensures.all);
-}
+returns c =
+    let all = c.in_ok-names.ensures.all in
+    let names = subst (λ (sc : Scene). AreNamesOf sc c.in_ok-disk.disk.names) (sym c.in_ok-new.ensures) (
+    subst (λ (d : DiskState). AreNamesOf (record { graph = c.args.graph.now; recorded = c.args.setting.now }) d.names) (sym c.in_ok-disk.ensures)
+    (record { sorted = c.in_ok-names.ensures.sorted; all = λ f. (λ e. (all f).0 (name_there _ f e), λ w. there_name _ f ((all f).1 w)) })
+    ) in
+    record {
+      scene = c.in_ok-new.ensures;
+      idle = refl;
+      first = subst (λ (d : DiskState). IsFirst c.args.graph.now (setting_of c.args.setting.now) (disk_of d)) (sym c.in_ok-disk.ensures) (is_first c.args.graph.now c.args.setting.now (map string_bytes c.in_ok-names.names.items) c.in_ok-names.ensures.sorted c.in_ok-names.ensures.all);
+      names = names;
+    }
