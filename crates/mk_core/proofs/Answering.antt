@@ -16,7 +16,7 @@ use Rattle.mk_read.specs.Files.{Told, text_at}
 use Rattle.mk_read.specs.Following as following
 use Rattle.mk_read.specs.Reading.{Makefile, makefile}
 use Rattle.mk_core.specs.declared.fault.Fault.{Fault}
-use Rattle.mk_core.specs.declared.fault.Fault.TheVariants.{Read, Infer, Foot, FileReadFailed, NoFile, Memory}
+use Rattle.mk_core.specs.declared.fault.Fault.TheVariants.{Read, Infer, Foot, Plan, FileReadFailed, NoFile, Memory}
 use Rattle.mk_core.specs.declared.request.Request.{Request}
 use Rattle.mk_core.specs.Answer.{Answers, Draws, failed_file, failing_of}
 use Rattle.mk_core.specs.GraphAnswer.{AnswersGraph}
@@ -186,5 +186,7 @@ module _ {A : Type 0} (files : Told) (request : Request) (answers : Ready → Re
     over (Err (Infer f)) (inr d) = lifted (Err (Infer f)) d
     over (Err (Foot f)) (inl k) = absurd cc
     over (Err (Foot f)) (inr d) = lifted (Err (Foot f)) d
+    over (Err (Plan f)) (inl k) = absurd cc
+    over (Err (Plan f)) (inr d) = lifted (Err (Plan f)) d
     over (Err (Read f)) (inl k) = absurd cc
     over (Err (Read f)) (inr d) = absurd (not_drawn answers f (ready_over files None request m) (λ ready. not_read ready f) (not_ready files None f request m) d)

@@ -3,3 +3,4 @@ pub mod NodeTexts
 pub mod Faults
 pub mod Answering
 pub mod OneAnswer
+pub mod Simulating

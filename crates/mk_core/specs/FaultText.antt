@@ -19,8 +19,12 @@ use Rattle.mk_read.specs.declared.fault.KindFault.TheVariants as kind
 use Rattle.mk_read.specs.declared.fault.Place.{Place}
 use Rattle.mk_read.specs.declared.fault.ReadFault.{ReadFault}
 use Rattle.mk_read.specs.declared.fault.ReadFault.TheVariants as read
+use Rattle.mk_world.specs.declared.fault.StepFault.{StepFault}
+use Rattle.mk_world.specs.declared.fault.StepFault.TheVariants as step
+use Rattle.mk_world.specs.declared.plan.PlanFault.{PlanFault}
+use Rattle.mk_world.specs.declared.plan.PlanFault.TheVariants as plan
 use Rattle.mk_core.specs.declared.fault.Fault.{Fault}
-use Rattle.mk_core.specs.declared.fault.Fault.TheVariants.{Read, Infer, Foot, FileReadFailed, NoFile, Memory}
+use Rattle.mk_core.specs.declared.fault.Fault.TheVariants.{Read, Infer, Foot, Plan, FileReadFailed, NoFile, Memory}
 
 -- FILE:LINE
 abbrev pub place_text : Place → List ℕ
@@ -118,10 +122,36 @@ foot_fault_text foot.NoGroup = refusal 57 []
 foot_fault_text foot.NoList = refusal 58 []
 foot_fault_text foot.Memory = no_memory
 
+-- one of a line of a plan
+abbrev pub refusal_of_line : ℕ → ℕ → List ℕ
+refusal_of_line number line = refusal number (codes "line" ∷ decimal line ∷ [])
+
+abbrev pub plan_fault_text : PlanFault → List ℕ
+plan_fault_text (plan.Line line) = refusal_of_line 69 line
+plan_fault_text plan.Memory = no_memory
+
+-- the refusal of a line by a step
+abbrev pub step_fault_text : ℕ → StepFault → List ℕ
+step_fault_text line step.ClockSpent = refusal_of_line 59 line
+step_fault_text line step.OtherOutcome = refusal_of_line 60 line
+step_fault_text line step.NoMake = refusal_of_line 61 line
+step_fault_text line step.MakeRuns = refusal_of_line 62 line
+step_fault_text line step.NotReady = refusal_of_line 63 line
+step_fault_text line step.NoJobFree = refusal_of_line 64 line
+step_fault_text line step.OutOfDate = refusal_of_line 65 line
+step_fault_text line step.NotRunning = refusal_of_line 66 line
+step_fault_text line step.NotInFootprint = refusal_of_line 67 line
+step_fault_text line step.NotAllDone = refusal_of_line 68 line
+step_fault_text line step.PlanLine = refusal_of_line 69 line
+step_fault_text line step.NotEditable = refusal_of_line 70 line
+step_fault_text line step.NotAGoal = refusal_of_line 77 line
+step_fault_text line step.Memory = no_memory
+
 unfoldable pub fault_text : Fault → List ℕ
 fault_text (Read fault) = read_fault_text fault
 fault_text (Infer fault) = infer_fault_text fault
 fault_text (Foot fault) = foot_fault_text fault
+fault_text (Plan fault) = plan_fault_text fault
 fault_text (FileReadFailed name) = refusal 35 (name ∷ [])
 fault_text (NoFile name) = refusal 38 (name ∷ [])
 fault_text Memory = no_memory

@@ -1,7 +1,3 @@
-pub use Rattle.mk_graph.specs.Graph
-pub use Rattle.mk_graph.specs.Membership
-pub use Rattle.mk_graph.specs.Build
-pub use Rattle.mk_graph.specs.Serial
 pub use Rattle.mk_read.specs.Files
 pub use Rattle.mk_read.specs.MemFiles
 pub mod Words
@@ -12,5 +8,8 @@ pub mod Answer
 pub mod GraphText
 pub mod GraphAnswer
 pub mod FaultText
+pub mod Selected
+pub mod Simulation
+pub mod SimulationAnswer
 pub mod Views
 pub mod Laws

@@ -6,8 +6,10 @@ use Rattle.mk_infer.specs.declared.fault.InferFault.{InferFault}
 use Rattle.mk_infer.specs.Steps as inferring
 use Rattle.mk_read.specs.declared.fault.ReadFault.{ReadFault}
 use Rattle.mk_read.specs.Steps as reading
+use Rattle.mk_world.specs.declared.plan.PlanFault.{PlanFault}
+use Rattle.mk_world.specs.declared.plan.PlanFault.TheVariants as plan
 use Rattle.mk_core.specs.declared.fault.Fault.{Fault}
-use Rattle.mk_core.specs.declared.fault.Fault.TheVariants.{Read, Infer, Foot, Memory}
+use Rattle.mk_core.specs.declared.fault.Fault.TheVariants.{Read, Infer, Foot, Plan, Memory}
 pub use Rattle.mk_lines.specs.Results.{◌>>=◌, seen}
 
 -- want of memory, whatever met it
@@ -16,6 +18,7 @@ is_want_of_memory Memory = true
 is_want_of_memory (Read fault) = reading.is_want_of_memory fault
 is_want_of_memory (Infer fault) = inferring.is_want_of_memory fault
 is_want_of_memory (Foot foot.Memory) = true
+is_want_of_memory (Plan plan.Memory) = true
 is_want_of_memory fault = false
 
 -- the fault of a makefile, but want of memory
@@ -30,6 +33,11 @@ of_infer fault = if inferring.is_want_of_memory fault then Memory else Infer fau
 abbrev pub of_foot : FootFault → Fault
 of_foot foot.Memory = Memory
 of_foot fault = Foot fault
+
+-- the fault of a plan, but want of memory
+abbrev pub of_plan : PlanFault → Fault
+of_plan plan.Memory = Memory
+of_plan fault = Plan fault
 
 -- a result, with its fault as one of a request
 abbrev pub as_fault : {A E : Type 0} → (E → Fault) → Result A E → Result A Fault

@@ -1,7 +1,10 @@
 -- How the parts of an answer are seen. What is answered doesn't stand on this file.
 use Rattle.std.specs.Prelude.{◌≡◌, ◌⊎◌, ℕ, Bool, false, List, ◌++◌, ⊤, Option, Result, Ok, Err}
 use Rattle.std.specs.Option.{is_none}
+use Rattle.mk_foot.specs.Setting.{Setting}
+use Rattle.mk_graph.specs.Graph.{Graph}
 use Rattle.mk_infer.specs.Goals.{goal_names}
+use Rattle.mk_infer.specs.Selection.{Selects}
 use Rattle.mk_infer.specs.declared.fault.InferFault.{InferFault}
 use Rattle.mk_infer.specs.Steps as inferring
 use Rattle.mk_infer.specs.Steps.{is_want_of_memory}
@@ -12,7 +15,10 @@ use Rattle.mk_core.specs.declared.fault.Fault.TheVariants.{Infer, Memory}
 use Rattle.mk_core.specs.declared.request.Request.{Request}
 use Rattle.mk_core.specs.Answer.{Draws, failing_of}
 use Rattle.mk_core.specs.GraphAnswer.{PrintsSelected}
-use Rattle.mk_core.specs.Ready.{Ready, book_for, setting_of}
+use Rattle.mk_core.specs.FileText.{text_of}
+use Rattle.mk_core.specs.Ready.{Ready, book_for, exists, setting_of}
+use Rattle.mk_core.specs.Simulation.{Simulation}
+use Rattle.mk_core.specs.SimulationAnswer.{AnswersSimulation, RunsText}
 use Rattle.mk_core.specs.Steps.{◌>>=◌, as_fault}
 
 -- what is defined where no file fails to be read but one that is told of, or want of memory
@@ -43,6 +49,23 @@ abbrev pub AnswersOver : {A : Type 0} → Told → Request → Makefile →
 AnswersOver files request m answers answer =
     (answer ≡ Err Memory) ⊎
     Draws answers (ready_over files (failing_of answer) request m) answer
+
+-- the graph that is selected for the goals; nothing is said of want of memory
+abbrev pub Selected : Ready → Result Graph InferFault → Type 0
+Selected ready (Ok g) = Selects ready.makefile (exists ready) ready.goals (Ok g)
+Selected ready (Err fault) =
+    (is_want_of_memory fault ≡ false) →
+    Selects ready.makefile (exists ready) ready.goals (Err fault)
+
+-- the run of the plan of this name, or want of memory
+abbrev pub RunsTextOver : Told → List ℕ → Graph → Setting → Result Simulation Fault → Type 0
+RunsTextOver files plan g s answer =
+    (answer ≡ Err Memory) ⊎ RunsText g s (text_of files (failing_of answer) plan) answer
+
+-- the same over what is ready
+abbrev pub SimulatesOver : Told → List ℕ → Ready → Result Simulation Fault → Type 0
+SimulatesOver files plan ready answer =
+    (answer ≡ Err Memory) ⊎ AnswersSimulation files plan ready answer
 
 -- the text of the graph that is selected for the goals, or want of memory
 abbrev pub PrintsOver : Bool → Ready → Result (List ℕ) InferFault → Type 0

@@ -1,18 +1,19 @@
 //! Why a request is refused.
 
 ghost use Rattle.std.specs.Prelude.{◌≡◌};
-ghost use Rattle.mk_core.specs.Steps.{is_want_of_memory, of_foot, of_infer, of_read};
+ghost use Rattle.mk_core.specs.Steps.{is_want_of_memory, of_foot, of_infer, of_plan, of_read};
 ghost use Rattle.mk_core.specs.declared.fault.Fault.TheVariants.{Memory};
 
 use mk_foot::FootFault;
 use mk_infer::InferFault;
 use mk_lines::Name;
 use mk_read::ReadFault;
+use mk_world::PlanFault;
 use std::alloc::{AllocError, AllocFailed};
 use thiserror::Error;
 
 /// Why a request is refused: the first fault of the makefile, of the goals, of the footprints, of
-/// the graph, of the commands.
+/// the graph, of the commands, of the plan.
 #[derive(Debug, Drop, Error)]
 pub enum Fault {
     /// The makefile is refused (faults 1 to 37). The fault is none of memory.
@@ -25,6 +26,9 @@ pub enum Fault {
     /// The footprints are refused (faults 51 to 58). The fault is none of memory.
     #[error(transparent)]
     Foot(FootFault),
+    /// The plan is refused (fault 69). The fault is none of memory.
+    #[error(transparent)]
+    Plan(PlanFault),
     /// The reader failed to read this file, which is no makefile (fault 35).
     #[error("a file could not be read: {0}")]
     FileReadFailed(Name),
@@ -42,7 +46,7 @@ impl Fault {
         ensures { result ≡ is_want_of_memory self.now }
     {
         match self {
-            Fault::Memory | Fault::Foot(FootFault::Memory) => true,
+            Fault::Memory | Fault::Foot(FootFault::Memory) | Fault::Plan(PlanFault::Memory) => true,
             Fault::Read(fault) => fault.is_want_of_memory(),
             Fault::Infer(fault) => fault.is_want_of_memory(),
             _ => false,
@@ -81,6 +85,17 @@ impl From<FootFault> for Fault {
         match fault {
             FootFault::Memory => Fault::Memory,
             fault => Fault::Foot(fault),
+        }
+    }
+}
+
+impl From<PlanFault> for Fault {
+    ghost from_gives = { λ r e. e ≡ of_plan r };
+
+    fn from(fault: PlanFault) -> Fault {
+        match fault {
+            PlanFault::Memory => Fault::Memory,
+            fault => Fault::Plan(fault),
         }
     }
 }

@@ -13,7 +13,7 @@ use mk_read::{Files, FilesError};
 use std::alloc::Global;
 
 /// The text of a file that is no makefile. Fault 35 where the read fails, 38 where it isn't there.
-pub fn file_text<F: Files>(alloc: Global, files: &mut F, name: &Name) -> Result<Vec<u8>, Fault>
+pub fn file_text<F: Files>(alloc: Global, files: &mut F, name: &str) -> Result<Vec<u8>, Fault>
     requires { F.failed files.old < 2 ^ 64 - 1 }
     ensures map { F.told files.new ≡ F.told files.old }
     ensures text { IfSome (F.told files.old)
@@ -22,8 +22,8 @@ pub fn file_text<F: Files>(alloc: Global, files: &mut F, name: &Name) -> Result<
     ensures memory { IfErr result (λ fault. is_want_of_memory fault ≡ true → fault ≡ Memory) }
     ensures counted { Counts (F.failed files.old) (F.failed files.new) result }
 {
-    let asked = Name::new(alloc, name.as_str())?;
-    match files.read(alloc, name.as_str()) {
+    let asked = Name::new(alloc, name)?;
+    match files.read(alloc, name) {
         Ok(Some(text)) => Ok(text),
         Ok(None) => Err(Fault::NoFile(asked)),
         Err(FilesError::ReadFailed) => Err(Fault::FileReadFailed(asked)),

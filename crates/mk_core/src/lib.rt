@@ -8,12 +8,7 @@ pub mod laws;
 mod printing;
 mod ready;
 mod request;
-#[cfg(test)]
-mod rows;
-#[cfg(test)]
-mod selection_tests;
-#[cfg(test)]
-mod tests;
+mod simulation;
 mod wording;
 
 pub use fault::Fault;
@@ -21,4 +16,5 @@ pub use graph::graph_text;
 pub use mk_lines::{Name, Names};
 pub use mk_read::{Files, FilesError, MemFiles};
 pub use request::{Operands, Request, split_words};
+pub use simulation::{Simulation, simulate_text};
 pub use wording::fault_text;

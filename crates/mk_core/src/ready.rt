@@ -62,6 +62,13 @@ impl<'m> Ready<'m> {
         &self.goals
     }
 
+    /// What a build of the goals starts from.
+    pub fn setting(&self) -> &Setting
+        ensures { result.now ≡ self.now.setting }
+    {
+        &self.setting
+    }
+
     /// The files that are there before a make.
     pub fn exists(&self) -> Exists<'_>
         ensures { result ≡ exists self.now }
@@ -101,7 +108,7 @@ fn book_for<F: Files>(
     let Some(name) = name else {
         return Ok(Book::empty(alloc));
     };
-    let footprints = file_text(alloc, files, name)?;
+    let footprints = file_text(alloc, files, name.as_str())?;
     Ok(read_book(alloc, &footprints, goals.as_slice())?)
 }
 

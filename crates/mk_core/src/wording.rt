@@ -4,7 +4,7 @@ ghost use Rattle.std.specs.Prelude.{◌≡◌, ◌∷◌, ◌++◌, [], map, IfO
 ghost use Rattle.std.specs.List.{flat_map};
 ghost use Rattle.std.specs.Option.{option_copied};
 ghost use Rattle.std.specs.String.{string_bytes};
-ghost use Rattle.mk_core.specs.FaultText.{failed_read_words, fault_text, foot_fault_text, graph_fault_text, infer_fault_text, kind_fault_text, line_fault_text, macro_fault_text, no_memory, place_text, read_fault_text, refusal, refusal_at, refusal_in, refusal_of};
+ghost use Rattle.mk_core.specs.FaultText.{failed_read_words, fault_text, foot_fault_text, graph_fault_text, infer_fault_text, kind_fault_text, line_fault_text, macro_fault_text, no_memory, place_text, plan_fault_text, read_fault_text, refusal, refusal_at, refusal_in, refusal_of, refusal_of_line, step_fault_text};
 
 use crate::fault::Fault;
 use mk_foot::FootFault;
@@ -13,6 +13,7 @@ use mk_infer::InferFault;
 use mk_lines::{LineFault, Name};
 use mk_macros::MacroFault;
 use mk_read::{KindFault, Place, ReadFault};
+use mk_world::{PlanFault, StepFault};
 use std::alloc::{AllocError, Global};
 
 /// The file and the line.
@@ -229,6 +230,46 @@ fn foot_fault_text(alloc: Global, fault: &FootFault) -> Result<Vec<u8>, AllocErr
     }
 }
 
+/// A refusal of a line of a plan.
+fn refusal_of_line(alloc: Global, number: usize, line: usize) -> Result<Vec<u8>, AllocError>
+    ensures { IfOk result (λ text. text.items ≡ refusal_of_line number line) }
+{
+    let line = format!(in alloc; "{line}")?;
+    refusal(alloc, number, &[b"line", line.as_bytes()])
+}
+
+/// The line that is printed of the fault of a plan.
+fn plan_fault_text(alloc: Global, fault: &PlanFault) -> Result<Vec<u8>, AllocError>
+    ensures { IfOk result (λ text. text.items ≡ plan_fault_text fault.now) }
+{
+    match fault {
+        PlanFault::Line(line) => refusal_of_line(alloc, 69, *line),
+        PlanFault::Memory => no_memory(alloc),
+    }
+}
+
+/// The line that is printed where a step refuses a line of a plan.
+pub fn step_fault_text(alloc: Global, line: usize, fault: &StepFault) -> Result<Vec<u8>, AllocError>
+    ensures { IfOk result (λ text. text.items ≡ step_fault_text line fault.now) }
+{
+    match fault {
+        StepFault::ClockSpent => refusal_of_line(alloc, 59, line),
+        StepFault::OtherOutcome => refusal_of_line(alloc, 60, line),
+        StepFault::NoMake => refusal_of_line(alloc, 61, line),
+        StepFault::MakeRuns => refusal_of_line(alloc, 62, line),
+        StepFault::NotReady => refusal_of_line(alloc, 63, line),
+        StepFault::NoJobFree => refusal_of_line(alloc, 64, line),
+        StepFault::OutOfDate => refusal_of_line(alloc, 65, line),
+        StepFault::NotRunning => refusal_of_line(alloc, 66, line),
+        StepFault::NotInFootprint => refusal_of_line(alloc, 67, line),
+        StepFault::NotAllDone => refusal_of_line(alloc, 68, line),
+        StepFault::PlanLine => refusal_of_line(alloc, 69, line),
+        StepFault::NotEditable => refusal_of_line(alloc, 70, line),
+        StepFault::NotAGoal => refusal_of_line(alloc, 77, line),
+        StepFault::Memory => no_memory(alloc),
+    }
+}
+
 /// The line that is printed of a fault, without a newline: `refused`, the number, then the words;
 /// of want of memory `want of memory`. The error is want of memory alone.
 #[tactic(auto, unfolding(crate::specs::FaultText::fault_text))]
@@ -239,6 +280,7 @@ pub fn fault_text(alloc: Global, fault: &Fault) -> Result<Vec<u8>, AllocError>
         Fault::Read(fault) => read_fault_text(alloc, fault),
         Fault::Infer(fault) => infer_fault_text(alloc, fault),
         Fault::Foot(fault) => foot_fault_text(alloc, fault),
+        Fault::Plan(fault) => plan_fault_text(alloc, fault),
         Fault::FileReadFailed(name) => refusal(alloc, 35, &[name.as_str().as_bytes()]),
         Fault::NoFile(name) => refusal(alloc, 38, &[name.as_str().as_bytes()]),
         Fault::Memory => no_memory(alloc),

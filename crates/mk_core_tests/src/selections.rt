@@ -1,10 +1,10 @@
 //! Rows of inference rules, commands and footprints, over files in memory.
 
 ghost use Rattle.std.specs.Prelude.{◌≡◌};
-ghost use Rattle.mk_core.specs.MemFiles.{failures_of};
+ghost use Rattle.mk_read.specs.MemFiles.{failures_of};
 
-use crate::MemFiles;
 use crate::rows::{answer, asked_by, expect_rows};
+use mk_core::MemFiles;
 use std::process::Abort;
 use std::test::Fail;
 

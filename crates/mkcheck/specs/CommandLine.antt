@@ -22,6 +22,15 @@ book_option = record (new_rule (codes "book")) { short = Some 98; value_names = 
 abbrev pub commands_option : Rule
 commands_option = record (new_rule (codes "commands")) { short = Some 99; action = Some Count }
 
+-- `-b BOOK`, once
+abbrev pub needed_book_option : Rule
+needed_book_option = record book_option { required = true }
+
+-- `-p PLAN`, once
+abbrev pub plan_option : Rule
+plan_option =
+    record (new_rule (codes "plan")) { short = Some 112; value_names = 1; required = true }
+
 -- `[WORD..]`
 abbrev pub words_argument : Rule
 words_argument =
@@ -34,17 +43,25 @@ words_argument =
 abbrev pub named_graph : App
 named_graph = new_app (codes "graph")
 
--- `graph [-f F] [-r]`
-abbrev pub reading_command : App
-reading_command = with_rule (with_rule named_graph makefile_option) no_defaults_option
+-- `simulate`
+abbrev pub named_simulate : App
+named_simulate = new_app (codes "simulate")
 
--- `graph [-f F] [-r] [-b BOOK] [-c]`
-abbrev pub options_command : App
-options_command = with_rule (with_rule reading_command book_option) commands_option
+-- a subcommand with `[-f F] [-r]`
+abbrev pub with_reading : App → App
+with_reading app = with_rule (with_rule app makefile_option) no_defaults_option
 
 -- `graph [-f F] [-r] [-b BOOK] [-c] [WORD..]`
 abbrev pub graph_command : App
-graph_command = with_rule options_command words_argument
+graph_command =
+    with_rule (with_rule (with_rule (with_reading named_graph) book_option) commands_option)
+    words_argument
+
+-- `simulate [-f F] [-r] -b BOOK -p PLAN [WORD..]`
+abbrev pub simulate_command : App
+simulate_command =
+    with_rule (with_rule (with_rule (with_reading named_simulate) needed_book_option) plan_option)
+    words_argument
 
 -- `mkcheck`, with a version
 abbrev pub named_program : App
@@ -62,9 +79,9 @@ program =
           { no_binary_name = true; subcommand_required = true; disable_help_subcommand = true };
     }
 
--- `mkcheck graph [-f F] [-r] [-b BOOK] [-c] [WORD..]`
+-- `mkcheck` with these subcommands
 abbrev pub command_line : App
-command_line = with_subcommand program graph_command.top
+command_line = with_subcommand (with_subcommand program graph_command.top) simulate_command.top
 
 -- a word of `-` and more is read as an option, or as `--`
 abbrev pub is_option : List ℕ → Bool

@@ -3,7 +3,7 @@
 ghost use Rattle.std.specs.Prelude.{◌≡◌, IfOk, false};
 ghost use Rattle.clap.specs.Words.{app_of, rule_of};
 ghost use Rattle.clap.specs.declared.builder.command.Command.TheViews.{out-Command as fields_of};
-ghost use Rattle.mkcheck.specs.CommandLine.{book_option, command_line, commands_option, graph_command, makefile_option, named_graph, named_program, no_defaults_option, options_command, program, reading_command, words_argument};
+ghost use Rattle.mkcheck.specs.CommandLine.{book_option, command_line, commands_option, graph_command, makefile_option, named_graph, named_program, named_simulate, needed_book_option, no_defaults_option, plan_option, program, simulate_command, with_reading, words_argument};
 
 use clap::{Arg, ArgAction, Command};
 use std::alloc::{AllocError, Global};
@@ -39,6 +39,28 @@ fn book_option<'a>(alloc: Global) -> Arg<'a>
     )
 }
 
+fn needed_book_option<'a>(alloc: Global) -> Arg<'a>
+    ensures rule { rule_of result ≡ needed_book_option }
+    ensures local { result.global ≡ false }
+{
+    Arg::new(alloc, "book")
+        .short('b')
+        .value_name("BOOK")
+        .required(true)
+        .help("The file of recorded footprints")
+}
+
+fn plan_option<'a>(alloc: Global) -> Arg<'a>
+    ensures rule { rule_of result ≡ plan_option }
+    ensures local { result.global ≡ false }
+{
+    Arg::new(alloc, "plan")
+        .short('p')
+        .value_name("PLAN")
+        .required(true)
+        .help("The plan: a line each of make, stop, begin, look, put, done, finish, run, pass, end, edit")
+}
+
 fn commands_option<'a>(alloc: Global) -> Arg<'a>
     ensures rule { rule_of result ≡ commands_option }
     ensures local { result.global ≡ false }
@@ -71,29 +93,45 @@ fn named_graph<'a>(alloc: Global) -> Command<'a>
         .after_help(STATUSES)
 }
 
-fn reading_command<'a>(alloc: Global) -> Result<Command<'a>, AllocError>
-    ensures app { IfOk result (λ c. app_of c ≡ reading_command) }
-    ensures local { IfOk result (λ c. (fields_of c).has_globals ≡ false) }
+fn named_simulate<'a>(alloc: Global) -> Command<'a>
+    ensures app { app_of result ≡ named_simulate }
+    ensures local { (fields_of result).has_globals ≡ false }
 {
-    named_graph(alloc)
-        .arg(makefile_option(alloc))?
-        .arg(no_defaults_option(alloc))
+    Command::new(alloc, "simulate")
+        .about("Runs a plan line by line, and prints the files at the end of each make")
+        .override_usage("mkcheck simulate [-f F] [-r] -b BOOK -p PLAN [WORD]...")
+        .after_help(STATUSES)
 }
 
-fn options_command<'a>(alloc: Global) -> Result<Command<'a>, AllocError>
-    ensures app { IfOk result (λ c. app_of c ≡ options_command) }
+// A subcommand with the options that tell the makefile.
+fn with_reading<'a>(alloc: Global, command: Command<'a>) -> Result<Command<'a>, AllocError>
+    requires { (fields_of command).has_globals ≡ false }
+    ensures app { IfOk result (λ c. app_of c ≡ with_reading (app_of command.entry)) }
     ensures local { IfOk result (λ c. (fields_of c).has_globals ≡ false) }
 {
-    reading_command(alloc)?
-        .arg(book_option(alloc))?
-        .arg(commands_option(alloc))
+    command
+        .arg(makefile_option(alloc))?
+        .arg(no_defaults_option(alloc))
 }
 
 fn graph_command<'a>(alloc: Global) -> Result<Command<'a>, AllocError>
     ensures app { IfOk result (λ c. app_of c ≡ graph_command) }
     ensures local { IfOk result (λ c. (fields_of c).has_globals ≡ false) }
 {
-    options_command(alloc)?.arg(words_argument(alloc))
+    with_reading(alloc, named_graph(alloc))?
+        .arg(book_option(alloc))?
+        .arg(commands_option(alloc))?
+        .arg(words_argument(alloc))
+}
+
+fn simulate_command<'a>(alloc: Global) -> Result<Command<'a>, AllocError>
+    ensures app { IfOk result (λ c. app_of c ≡ simulate_command) }
+    ensures local { IfOk result (λ c. (fields_of c).has_globals ≡ false) }
+{
+    with_reading(alloc, named_simulate(alloc))?
+        .arg(needed_book_option(alloc))?
+        .arg(plan_option(alloc))?
+        .arg(words_argument(alloc))
 }
 
 fn named_program<'a>(alloc: Global) -> Command<'a>
@@ -116,11 +154,13 @@ fn program<'a>(alloc: Global) -> Command<'a>
         .disable_help_subcommand(true)
 }
 
-/// The command line of the program: `graph [-f F] [-r] [-b BOOK] [-c] [WORD..]`, `--help` and
-/// `--version`. It reads the words behind the program's name. The error is want of memory alone.
+/// The command line of the program: `graph [-f F] [-r] [-b BOOK] [-c] [WORD..]`, `simulate [-f F]
+/// [-r] -b BOOK -p PLAN [WORD..]`, `--help` and `--version`. It reads the words behind the program's name. The error is want of memory alone.
 pub fn command_line<'a>(alloc: Global) -> Result<Command<'a>, AllocError>
     ensures app { IfOk result (λ c. app_of c ≡ command_line) }
     ensures local { IfOk result (λ c. (fields_of c).has_globals ≡ false) }
 {
-    program(alloc).subcommand(graph_command(alloc)?)
+    program(alloc)
+        .subcommand(graph_command(alloc)?)?
+        .subcommand(simulate_command(alloc)?)
 }

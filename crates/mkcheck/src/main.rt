@@ -1,6 +1,8 @@
 //! The makefile checker: reads the words of its command line, and answers them.
 #![tactic(auto)]
 
+mod answering;
+mod asked;
 mod command;
 mod disk;
 mod ending;

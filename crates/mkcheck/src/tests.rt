@@ -119,6 +119,34 @@ fn prints_that_a_read_failed(rt: HostRuntime) -> Result<(), Fail> {
     Ok(())
 }
 
+const COPY: &str = "b: a\n\tcp a b\n";
+
+const COPIES: &str = r#"{"format":1,"fixed":[],"sources":["a"],"records":[
+{"target":"b","commands":["cp a b"],"reads":["a"],"writes":["b"]}]}"#;
+
+fn simulated(alloc: Global, plan: &str) -> Result<Outcome, AllocError> {
+    let mut files = holding(alloc, COPY)?;
+    files.add("B", COPIES.as_bytes())?;
+    files.add("P", plan.as_bytes())?;
+    run(alloc, &mut files, &["simulate", "-b", "B", "-p", "P"])
+}
+
+#[test]
+fn runs_plans(rt: HostRuntime) -> Result<(), Fail> {
+    let alloc = rt.alloc();
+    let plan = "make 1\nbegin b\nfinish b\nend\nedit a\nmake 1\npass b";
+    let out = "a 1 1\nb 2 2\nrefused 65 line 7\na 3 3\nb 2 2\n";
+    expect(&rt, simulated(alloc, plan)?, out, 2);
+    let plan = "make 1\nrun b\nend\n";
+    expect(&rt, simulated(alloc, plan)?, "a 1 1\nb 2 2\nplan ok\n", 0);
+    expect(&rt, simulated(alloc, "frob")?, "refused 69 line 1\n", 2);
+    let mut files = holding(alloc, COPY)?;
+    files.add("B", COPIES.as_bytes())?;
+    let outcome = run(alloc, &mut files, &["simulate", "-b", "B", "-p", "P"])?;
+    expect(&rt, outcome, "refused 38 P\n", 2);
+    Ok(())
+}
+
 fn expect_fault(rt: &impl Abort, outcome: Outcome) {
     assert!(rt; outcome.out.is_empty());
     assert!(rt; !outcome.err.is_empty());
@@ -145,6 +173,12 @@ fn refuses_other_words(rt: HostRuntime) -> Result<(), Fail> {
         &rt,
         ran(rt.alloc(), PROGRAM, &["graph", "-b", "A", "-b", "B"])?,
     );
+    for words in [["-b", "B"], ["-p", "P"]] {
+        let words = ["simulate", words[0], words[1]];
+        expect_fault(&rt, ran(rt.alloc(), PROGRAM, &words)?);
+    }
+    let words = ["simulate", "-b", "B", "-p", "P", "-c"];
+    expect_fault(&rt, ran(rt.alloc(), PROGRAM, &words)?);
     Ok(())
 }
 
@@ -154,8 +188,10 @@ fn prints_help_and_version(rt: HostRuntime) -> Result<(), Fail> {
     expect(&rt, outcome, "mkcheck 0.1.0\n", 0);
     let outcome = ran(rt.alloc(), PROGRAM, &["--help"])?;
     assert!(rt; !outcome.out.is_empty() && outcome.err.is_empty() && outcome.status == 0);
-    let outcome = ran(rt.alloc(), PROGRAM, &["graph", "--help"])?;
-    assert!(rt; !outcome.out.is_empty() && outcome.err.is_empty() && outcome.status == 0);
+    for name in ["graph", "simulate"] {
+        let outcome = ran(rt.alloc(), PROGRAM, &[name, "--help"])?;
+        assert!(rt; !outcome.out.is_empty() && outcome.err.is_empty() && outcome.status == 0);
+    }
     Ok(())
 }
 

@@ -1,6 +1,6 @@
 use Rattle.std.proofs.Common.{◌≡◌}
-use Rattle.mk_core.specs.MemFiles.{failures_of}
-use Rattle.mk_core.proofs.tests.chain.Given as goal
+use Rattle.mk_read.specs.MemFiles.{failures_of}
+use Rattle.mk_core_tests.proofs.graph_texts.chain.Given as goal
 
 -- no read has failed
 abbrev pub invariant-loop-i : goal.invariant-loop-i

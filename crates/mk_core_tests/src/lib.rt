@@ -1,0 +1,11 @@
+//! Tests of what is printed, by the public calls of mk_core, over files in memory.
+#![tactic(auto)]
+
+#[cfg(test)]
+mod graph_texts;
+#[cfg(test)]
+mod rows;
+#[cfg(test)]
+mod selections;
+#[cfg(test)]
+mod simulations;
