@@ -44,8 +44,12 @@ pub record IsSound (g : Graph) : Type 0 where
   pub edges : (n p : ℕ) → Has (prerequisites g n) p → p < length g.nodes
   pub reached : (n : ℕ) → n < length g.nodes → Reached g n
 
+-- the most nodes of a graph
+abbrev pub max_nodes : ℕ
+max_nodes = 4096
+
 -- what holds of each graph that was built
 pub record IsGraph (g : Graph) : Type 0 where
   pub sound : IsSound g
-  pub few : length g.nodes ≤ 4096
+  pub few : length g.nodes ≤ max_nodes
   pub no_cycle : HasNoCycle g

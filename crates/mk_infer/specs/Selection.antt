@@ -2,7 +2,7 @@
 use Rattle.std.specs.Prelude.{◌≡◌, ℕ, Bool, not, ◌||◌, List, [], ◌∷◌, ◌++◌, map, find, take, option_to_list, Option, None, Some, Result, Ok, Err, if◌then◌else◌}
 use Rattle.mk_graph.specs.declared.fault.GraphFault.TheVariants as graph
 use Rattle.mk_graph.specs.declared.node.Node.{Node}
-use Rattle.mk_graph.specs.Graph.{Graph}
+use Rattle.mk_graph.specs.Graph.{Graph, max_nodes}
 use Rattle.mk_graph.specs.Build.{Builds}
 use Rattle.mk_read.specs.Names.{has_name}
 use Rattle.mk_read.specs.Needs.{groups, in_first}
@@ -59,7 +59,7 @@ is_lacking m e name =
 
 -- the first of the names that lacks a rule, among as many as a graph may have
 abbrev pub lacking : Makefile → Exists → List (List ℕ) → Option (List ℕ)
-lacking m e all = find (is_lacking m e) (take 4096 all)
+lacking m e all = find (is_lacking m e) (take max_nodes all)
 
 -- The graph that is handed in is built, or refused. Want of memory is no refusal.
 abbrev pub Built : Graph → Result Graph InferFault → Type 0

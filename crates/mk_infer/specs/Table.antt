@@ -6,6 +6,7 @@ use Rattle.std.specs.List.{filter_map, flat_map, list_all, position_or_len}
 use Rattle.std.specs.Str.{bytes_eq}
 use Rattle.std.specs.declared.alloc.Global.{Global}
 use Rattle.indexmap.specs.IndexMap.{IndexMap, get_by}
+use Rattle.mk_graph.specs.Graph.{max_nodes}
 use Rattle.mk_graph.specs.declared.node.Node.{Node}
 use Rattle.mk_graph.specs.Membership.{Has}
 use Rattle.mk_lines.specs.Bytes.{is_byte}
@@ -236,8 +237,8 @@ pub record IsWalked (m : Makefile) (e : Exists) (goals : List (List ℕ))
     (walked : Walked) : Type 0 where
   pub all : List (List ℕ)
   pub walk : Meets (needs m e) [] goals all
-  pub front : walked.names ≡ take 4097 all
-  pub made : walked.met ≡ map (met_of m e) (take 4096 all)
+  pub front : walked.names ≡ take (max_nodes + 1) all
+  pub made : walked.met ≡ map (met_of m e) (take max_nodes all)
 
 -- nothing makes a name that was met
 abbrev pub lacks : Makefile → Exists → Met → Bool

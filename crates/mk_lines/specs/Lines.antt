@@ -107,12 +107,19 @@ abbrev pub lines_of : List ℕ → List Line
 lines_of text = map line_of (runs_of text)
 
 -- what is wrong with a line, before which so many stand in its text: the lowest number of its
+-- the most bytes of a line, and the most lines of a text
+abbrev pub max_line : ℕ
+max_line = 65536
+
+abbrev pub max_lines : ℕ
+max_lines = 65536
+
 -- faults
 abbrev pub line_fault : ℕ → Line → Option LineFault
 line_fault before line =
     if list_any (is_byte 0) line.text then Some (NulByte line.first)
-    else (if nat_lt 65536 (length line.text) then Some (LineTooLong line.first)
-    else (if nat_le 65536 before then Some (TooManyLines line.first)
+    else (if nat_lt max_line (length line.text) then Some (LineTooLong line.first)
+    else (if nat_le max_lines before then Some (TooManyLines line.first)
     else None))
 
 abbrev pub or_else : Option LineFault → Option LineFault → Option LineFault

@@ -29,11 +29,15 @@ are_components (part ∷ parts) =
     if length part == 0 then not (length parts == 0) &&
     list_all is_proper parts else goes_up_first (part ∷ parts)
 
+-- the most bytes of a name
+abbrev pub max_name : ℕ
+max_name = 4096
+
 -- 1 to 4,096 visible bytes, without a second spelling of one place
 abbrev pub has_path_shape : List ℕ → Bool
 has_path_shape name =
     nat_lt 0 (length name) &&
-    (nat_le (length name) 4096 &&
+    (nat_le (length name) max_name &&
     (list_all is_visible name && are_components (slice_split (is_byte 47) name)))
 
 -- the same, and UTF-8

@@ -2,6 +2,7 @@
 use Rattle.std.specs.Prelude.{ℕ, ◌==◌, Bool, true, false, not, List, [], ◌∷◌, ◌++◌, length, reverse, nat_lt, Option, None, Some, Result, Ok, Err, if◌then◌else◌}
 use Rattle.std.specs.List.{flat_map, list_any, before_first, after_first}
 use Rattle.mk_lines.specs.Bytes.{is_byte, trimmed}
+use Rattle.mk_macros.specs.Limits.{max_value}
 use Rattle.mk_macros.specs.declared.fault.MacroFault.{MacroFault}
 use Rattle.mk_macros.specs.declared.fault.MacroFault.TheVariants.{BadMacroName, ValueTooLong}
 use Rattle.mk_macros.specs.declared.op.Op.{Op}
@@ -22,7 +23,7 @@ doubled text = flat_map doubled_byte text
 -- the table with a macro of at most 1,048,576 bytes
 abbrev pub stored : List Macro → Macro → Result (List Macro) MacroFault
 stored table macro =
-    if nat_lt 1048576 (length macro.text) then Err ValueTooLong else Ok (with_macro table macro)
+    if nat_lt max_value (length macro.text) then Err ValueTooLong else Ok (with_macro table macro)
 
 -- the text that an expansion gives
 abbrev pub value_text : Result Expanded MacroFault → Result (List ℕ) MacroFault

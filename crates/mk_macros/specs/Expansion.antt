@@ -1,6 +1,7 @@
 -- The expansion of a text.
 use Rattle.std.specs.Prelude.{ℕ, zero, suc, ◌+◌, ◌==◌, Bool, false, not, ◌||◌, List, [], ◌∷◌, ◌++◌, length, nat_lt, Option, None, Some, Result, Ok, Err, if◌then◌else◌}
 use Rattle.std.specs.Cow.{cow_slice_items}
+use Rattle.mk_macros.specs.Limits.{max_levels, max_references, max_value}
 use Rattle.mk_macros.specs.declared.expansion.Expansion as code
 use Rattle.mk_macros.specs.declared.fault.MacroFault.{MacroFault}
 use Rattle.mk_macros.specs.declared.fault.MacroFault.TheVariants.{BadMacroName, Recursive, Unclosed, TooManyReferences, ValueTooLong, LoneDollar, MemberMacro}
@@ -31,7 +32,7 @@ Deeper = List (List ℕ) → ℕ → List ℕ → Result Expanded MacroFault
 
 -- one more reference: at most 65,536
 abbrev pub counted : ℕ → Result ℕ MacroFault
-counted references = if nat_lt references 65536 then Ok (references + 1) else Err TooManyReferences
+counted references = if nat_lt references max_references then Ok (references + 1) else Err TooManyReferences
 
 -- The value of a macro, whose name isn't in progress: nothing where it is undefined, its text where
 -- it is immediate, and else its text expanded with the name in progress.
@@ -111,7 +112,7 @@ given scope deeper going references (Reference inside) =
 
 -- a text of at most 1,048,576 bytes
 abbrev pub fitting : Expanded → Result Expanded MacroFault
-fitting expanded = if nat_lt 1048576 (length expanded.text) then Err ValueTooLong else Ok expanded
+fitting expanded = if nat_lt max_value (length expanded.text) then Err ValueTooLong else Ok expanded
 
 abbrev pub joined : Expanded → Expanded → Expanded
 joined before after =
@@ -131,7 +132,7 @@ in_order gives before (form ∷ forms) = do
   whole ← fitting (joined before after)
   in_order gives whole forms
 
--- at level 256 no reference is taken
+-- below the last level no reference is taken
 abbrev pub refused : Deeper
 refused going references text = Err TooManyReferences
 
@@ -144,9 +145,9 @@ expanded (suc levels) scope going references text =
     in_order (given scope (expanded levels scope) going)
     (record { text = []; references = references; varying = false }) (forms text)
 
--- the expansion of a text: it stands at level 0, with 256 below it
+-- the expansion of a text: it stands at level 0, with all levels below it
 abbrev pub expansion : List Macro → Option Recipe → List ℕ → Result Expanded MacroFault
-expansion table recipe text = expanded 256 (record { table = table; recipe = recipe }) [] 0 text
+expansion table recipe text = expanded max_levels (record { table = table; recipe = recipe }) [] 0 text
 
 -- the text of an expansion, and whether it is varying
 abbrev pub told : Result Expanded MacroFault → Result (List ℕ × Bool) MacroFault

@@ -3,6 +3,7 @@ use Rattle.std.specs.Prelude.{◌≡◌, ◌≤◌, ℕ, ◌+◌, ◌==◌, Bool
 use Rattle.std.specs.List.{list_all, before_first}
 use Rattle.std.specs.Str.{bytes_eq}
 use Rattle.mk_lines.specs.Bytes.{is_byte}
+use Rattle.mk_macros.specs.Limits.{max_references, max_value}
 use Rattle.mk_macros.specs.declared.fault.MacroFault.{MacroFault}
 use Rattle.mk_macros.specs.declared.op.Op.{Op}
 use Rattle.mk_macros.specs.declared.op.Op.TheVariants.{Delay, Append}
@@ -19,7 +20,7 @@ use Rattle.mk_macros.specs.Steps.{◌>>=◌}
 abbrev pub PlainTextsStay : Type 0
 PlainTextsStay =
     (levels : ℕ) → (scope : Scope) → (going : List (List ℕ)) → (references : ℕ) → (text : List ℕ) →
-    IsPlain text → length text ≤ 1048576
+    IsPlain text → length text ≤ max_value
     → expanded levels scope going references text ≡
     Ok (record { text = text; references = references; varying = false })
 
@@ -34,7 +35,7 @@ PlainTextsGoInFront =
     (levels : ℕ) → (scope : Scope) → (going : List (List ℕ)) → (references : ℕ) →
     (text other : List ℕ) → (found : Expanded) → IsPlain text
     → expanded levels scope going references other ≡ Ok found →
-    length text + length found.text ≤ 1048576
+    length text + length found.text ≤ max_value
     → expanded levels scope going references (text ++ other) ≡ Ok (in_front text found)
 
 -- a reference `$(..)`
@@ -47,15 +48,15 @@ abbrev pub ImmediateValuesStay : Type 0
 ImmediateValuesStay =
     (table : List Macro) → (recipe : Option Recipe) → (name : List ℕ) → (macro : Macro) →
     is_macro_name name ≡ true
-    → macro_named table name ≡ Some macro → macro.immediate ≡ true → length name ≤ 1048576 →
-    length macro.text ≤ 1048576
+    → macro_named table name ≡ Some macro → macro.immediate ≡ true → length name ≤ max_value →
+    length macro.text ≤ max_value
     → expansion table recipe (round name) ≡
     Ok (record { text = macro.text; references = 1; varying = false })
 
 -- What `:::=` stored expands to what it was, and counts nothing.
 abbrev pub DoubledTextsComeBack : Type 0
 DoubledTextsComeBack =
-    (table : List Macro) → (recipe : Option Recipe) → (text : List ℕ) → length text ≤ 1048576
+    (table : List Macro) → (recipe : Option Recipe) → (text : List ℕ) → length text ≤ max_value
     → expansion table recipe (doubled text) ≡
     Ok (record { text = text; references = 0; varying = false })
 
@@ -68,9 +69,9 @@ abbrev pub SubstitutionsReplaceWords : Type 0
 SubstitutionsReplaceWords =
     (table : List Macro) → (recipe : Option Recipe) → (name old new : List ℕ) → (value : Expanded)
     → is_macro_name name ≡ true → list_all is_inert old ≡ true → list_all is_inert new ≡ true
-    → length name ≤ 1048576 → length old ≤ 1048576 → length new ≤ 1048576
+    → length name ≤ max_value → length old ≤ max_value → length new ≤ max_value
     → expansion table recipe (round name) ≡ Ok value →
-    length (substituted old new value.text) ≤ 1048576
+    length (substituted old new value.text) ≤ max_value
     → expansion table recipe (round (name ++ 58 ∷ old ++ 61 ∷ new)) ≡
     Ok (record value { text = substituted old new value.text })
 
@@ -80,9 +81,9 @@ SubstitutionsReplaceWords =
 abbrev pub ExpansionsKeepTheirLimits : Type 0
 ExpansionsKeepTheirLimits =
     (levels : ℕ) → (scope : Scope) → (going : List (List ℕ)) → (references : ℕ) → (text : List ℕ) →
-    (found : Expanded) → references ≤ 65536
-    → expanded levels scope going references text ≡ Ok found → (length found.text ≤ 1048576) ×
-    (found.references ≤ 65536)
+    (found : Expanded) → references ≤ max_references
+    → expanded levels scope going references text ≡ Ok found → (length found.text ≤ max_value) ×
+    (found.references ≤ max_references)
 
 -- a definition of the makefile: name, operator and text
 pub record Definition : Type 0 where
@@ -136,7 +137,7 @@ AppendingToDelayed =
     (table : List Macro) → (name text : List ℕ) → (macro : Macro) → is_macro_name name ≡ true →
     macro_named table name ≡ Some macro
     → macro.fixed ≡ false → macro.immediate ≡ false →
-    length macro.text + (1 + length text) ≤ 1048576
+    length macro.text + (1 + length text) ≤ max_value
     → defined table name Append text ≡
     Ok (with_macro table (record macro { text = macro.text ++ 32 ∷ text }))
 
@@ -146,6 +147,6 @@ AppendingToImmediate =
     (table : List Macro) → (name text : List ℕ) → (macro : Macro) → (more : Expanded) →
     is_macro_name name ≡ true → macro_named table name ≡ Some macro
     → macro.fixed ≡ false → macro.immediate ≡ true → expansion table None text ≡ Ok more →
-    length macro.text + (1 + length more.text) ≤ 1048576
+    length macro.text + (1 + length more.text) ≤ max_value
     → defined table name Append text ≡
     Ok (with_macro table (record macro { text = macro.text ++ 32 ∷ more.text }))

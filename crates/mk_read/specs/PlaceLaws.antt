@@ -12,7 +12,7 @@ use Rattle.mk_read.specs.declared.fault.ReadFault.{ReadFault}
 use Rattle.mk_read.specs.declared.fault.ReadFault.TheVariants as fault
 use Rattle.mk_read.specs.Kinds.{Kind, IncludeLine, Comment, Include, kind_of}
 use Rattle.mk_read.specs.Names.{names_in}
-use Rattle.mk_read.specs.Reading.{Reader, Text, Makefile, makefile_of, with_lines, reading, makefile}
+use Rattle.mk_read.specs.Reading.{Reader, Text, Makefile, makefile_of, with_lines, reading, makefile, max_texts}
 use Rattle.mk_read.specs.State.{Command, RuleRead, State}
 
 -- the place that stands for each
@@ -172,7 +172,7 @@ pub record NamesOneFile (reader : Reader) (text : Text) (line : Line) (name : Li
     file = text.file;
     line = line.first;
   }) state.table include.names ≡ Ok (name ∷ [])
-  pub not_too_many : length state.texts < 1024
+  pub not_too_many : length state.texts < max_texts
 
 -- lines that can stand elsewhere: they include nothing, and don't begin with a command line
 pub record StandAlone (lines : List Line) : Type 0 where

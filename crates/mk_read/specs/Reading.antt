@@ -43,11 +43,19 @@ pub record Text : Type 0 where
   pub file : List ℕ
   pub default : Bool
 
--- How the text of a file is read that an include line names: none is, at level 16.
+-- How the text of a file is read that an include line names: none is, at the last level.
 abbrev pub Deeper : Type 0
 Deeper = Option (List ℕ → List ℕ → State → Result State ReadFault)
 
 -- A file that an include line names, or nothing in its place where it isn't there and may be passed
+-- the level of include lines at which none is read
+abbrev pub max_levels : ℕ
+max_levels = 16
+
+-- the most texts that are read
+abbrev pub max_texts : ℕ
+max_texts = 1024
+
 -- over.
 abbrev pub found : (List ℕ → List ℕ → State → Result State ReadFault) → Place → Bool → State →
     List ℕ → Option (List ℕ) → Result State ReadFault
@@ -65,7 +73,7 @@ found read place optional state name (Some text) =
 unfoldable pub one_file : Reader → (List ℕ → List ℕ → State → Result State ReadFault) → Place →
     Bool → State → List ℕ → Result State ReadFault
 one_file reader read place optional state name =
-    if nat_le 1024 (length state.texts) then Err (TooManyFiles place)
+    if nat_le max_texts (length state.texts) then Err (TooManyFiles place)
     else (if fails reader state then Err (ReadFailed (Some place) name)
     else found read place optional state name (reader.text name))
 
@@ -148,7 +156,7 @@ abbrev pub text_or : Reader → State → List ℕ → Result State ReadFault �
     Result State ReadFault
 text_or reader state name other None = other
 text_or reader state name other (Some bytes) =
-    reading 16 reader name bytes (record (parted state) { texts = name ∷ [] })
+    reading max_levels reader name bytes (record (parted state) { texts = name ∷ [] })
 
 unfoldable pub own_text : Reader → State → List ℕ → Result State ReadFault → Result State ReadFault
 own_text reader state name other =
