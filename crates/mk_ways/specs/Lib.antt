@@ -1,1 +1,5 @@
 pub mod Certificate
+pub mod Keys
+pub mod Words
+pub mod Steps
+pub mod Reading
