@@ -3,3 +3,5 @@ pub mod Keys
 pub mod Words
 pub mod Steps
 pub mod Reading
+pub mod Writing
+pub mod Laws

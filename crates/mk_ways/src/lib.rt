@@ -5,9 +5,12 @@ mod certificate;
 mod fault;
 mod fields;
 mod key;
+pub mod laws;
 mod reading;
+mod writing;
 
 pub use certificate::{Certificate, Finish, Way};
 pub use fault::CertificateFault;
 pub use key::Key;
 pub use reading::read_certificate;
+pub use writing::certificate_text;
