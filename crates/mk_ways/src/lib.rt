@@ -14,3 +14,6 @@ pub use fault::CertificateFault;
 pub use key::Key;
 pub use reading::read_certificate;
 pub use writing::certificate_text;
+
+#[cfg(test)]
+mod tests;
