@@ -4,3 +4,4 @@ pub mod WrittenTexts
 pub mod ValueBack
 pub mod TextBack
 pub mod NoJson
+pub mod PlainNames

@@ -28,6 +28,12 @@ TextIsReadBack =
     (certificate : Certificate) → list_all is_plain_path (names_of certificate) ≡ true →
     certificate_from (compact_text (value_of certificate)) ≡ Ok certificate
 
+-- All names of a certificate that was read are plain paths, so that it can be written and read again.
+abbrev pub NamesReadArePlain : Type 0
+NamesReadArePlain =
+    (bytes : List ℕ) (certificate : Certificate) → certificate_from bytes ≡ Ok certificate →
+    list_all is_plain_path (names_of certificate) ≡ true
+
 -- There is no JSON value exactly where the bytes are answered 71.
 abbrev pub OnlyTextWithoutValueIsNoJson : Type 0
 OnlyTextWithoutValueIsNoJson =

@@ -259,3 +259,19 @@ fn refuses_fronts(rt: HostRuntime) -> Result<(), Fail> {
     )?;
     see(&rt, rt.alloc(), b"\xef\xbb\xbf{}", "refused 71")
 }
+
+/// With a growth refused the answer is want of memory, or the whole one.
+#[test]
+fn wants_memory_or_answers(rt: HostRuntime) -> Result<(), Fail> {
+    let alloc = rt.alloc();
+    match read_certificate(alloc, THREE.as_bytes()) {
+        Ok(certificate) => {
+            assert_eq!(rt; shown(alloc, &certificate)?.as_str(), THREE_WAYS);
+            if let Ok(text) = certificate_text(alloc, &certificate) {
+                assert_eq!(rt; text.as_str(), THREE);
+            }
+        }
+        Err(fault) => assert!(rt; matches!(fault, CertificateFault::Memory)),
+    }
+    Ok(())
+}
