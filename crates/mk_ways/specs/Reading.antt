@@ -1,6 +1,5 @@
 -- A certificate, from its JSON value, or the first key at fault.
-use Rattle.std.specs.Prelude.{ℕ, List, [], ◌∷◌, map, pos, false, ⊤, is_some, option_and_then, unwrap_or, Result, Ok}
-use Rattle.std.specs.Option.{option_map}
+use Rattle.std.specs.Prelude.{ℕ, ℤ, ⊤, Bool, false, List, [], ◌∷◌, map, pos, is_some, Option, None, Some, option_and_then, Result, Ok}
 use Rattle.std.specs.Ordering.{int_eq}
 use Rattle.mk_lines.specs.Paths.{is_plain_path}
 use Rattle.serde_json.specs.Data.{Data}
@@ -44,6 +43,10 @@ names_at key whole = do
 unfoldable pub finish_at : Data → Result Finish CertificateFault
 finish_at whole = at_least keys.End (option_and_then finish_of (text_at (spelling keys.End) whole))
 
+-- an object has no keys but these
+abbrev pub no_others : List Key → Data → Result ⊤ CertificateFault
+no_others known whole = where_holds keys.Unknown (has_only (map spelling known) whole)
+
 -- a way: its keys in order, then any other key
 unfoldable pub way_in : Data → Result Way CertificateFault
 way_in value = do
@@ -52,13 +55,17 @@ way_in value = do
   file ← name_at keys.File value
   path ← names_at keys.Path value
   recipe ← name_at keys.Recipe value
-  _ ← where_holds keys.Unknown (has_only (map spelling (keys.End ∷ keys.File ∷ keys.Path ∷ keys.Recipe ∷ [])) value)
+  _ ← no_others (keys.End ∷ keys.File ∷ keys.Path ∷ keys.Recipe ∷ []) value
   Ok (record { recipe = recipe; file = file; path = path; finish = finish })
 
 -- the format is the whole number 1
+abbrev pub is_one : Option ℤ → Bool
+is_one None = false
+is_one (Some number) = int_eq number (pos 1)
+
 unfoldable pub format_is_one : Data → Result ⊤ CertificateFault
 format_is_one whole =
-    where_holds keys.Format (unwrap_or (option_map (int_eq (pos 1)) (integer_at (spelling keys.Format) whole)) false)
+    where_holds keys.Format (is_one (integer_at (spelling keys.Format) whole))
 
 -- a certificate: its keys in order, then any other key, then its ways one after another
 unfoldable pub certificate_in : Data → Result Certificate CertificateFault
@@ -67,7 +74,7 @@ certificate_in value = do
   _ ← format_is_one value
   goals ← names_at keys.Goals value
   entries ← values_at keys.Ways value
-  _ ← where_holds keys.Unknown (has_only (map spelling (keys.Format ∷ keys.Goals ∷ keys.Ways ∷ [])) value)
+  _ ← no_others (keys.Format ∷ keys.Goals ∷ keys.Ways ∷ []) value
   ways ← each way_in entries
   Ok (record { goals = goals; ways = ways })
 
