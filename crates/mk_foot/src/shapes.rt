@@ -128,7 +128,8 @@ fn members_in(alloc: Global, members: Map<String, Value>) -> Result<Vec<SharedLi
 fn lists_in(alloc: Global, fields: &mut Fields) -> Result<Vec<SharedList>, FootFault>
     ensures lists { Gives (λ lists.
         lists.items) result (lists_in (object_view fields.old.entries)) }
-    ensures left { object_view fields.new.entries ≡ without (spelling Lists) (object_view fields.old.entries) }
+    ensures left { object_view fields.new.entries ≡
+        without (spelling Lists) (object_view fields.old.entries) }
 {
     let members = take_members(Key::Lists, fields)?;
     members_in(alloc, members)

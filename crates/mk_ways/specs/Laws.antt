@@ -28,7 +28,8 @@ TextIsReadBack =
     (certificate : Certificate) → list_all is_plain_path (names_of certificate) ≡ true →
     certificate_from (compact_text (value_of certificate)) ≡ Ok certificate
 
--- All names of a certificate that was read are plain paths, so that it can be written and read again.
+-- All names of a certificate that was read are plain paths, so that it can be written and read
+-- again.
 abbrev pub NamesReadArePlain : Type 0
 NamesReadArePlain =
     (bytes : List ℕ) (certificate : Certificate) → certificate_from bytes ≡ Ok certificate →

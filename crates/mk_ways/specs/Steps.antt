@@ -17,5 +17,6 @@ abbrev pub where_holds : Key → Bool → Result ⊤ CertificateFault
 where_holds key test = unless_holds (Shape key) test
 
 -- What a call returned, seen by view, is what is defined, unless memory ran out.
-abbrev pub Gives : {X Y : Type 0} → (X → Y) → Result X CertificateFault → Result Y CertificateFault → Type 0
+abbrev pub Gives :
+    {X Y : Type 0} → (X → Y) → Result X CertificateFault → Result Y CertificateFault → Type 0
 Gives = results.Gives Memory
