@@ -3,16 +3,17 @@ use Rattle.std.proofs.Common.{◌≡◌, ℕ, true, List, [], ◌∷◌, map, So
 use Rattle.std.specs.List.{list_all}
 use Rattle.std.proofs.lemmas.Slice.Eq.{bytes_eq-Decides}
 use Rattle.serde_json.specs.Data.{Data, string}
+use Rattle.serde_json.specs.Find.{as_str}
+use Rattle.mk_json.specs.Kinds as json
 use Rattle.mk_lines.specs.Paths.{is_plain_path}
 use Rattle.mk_foot.specs.declared.fault.FootFault.{FootFault}
-use Rattle.mk_foot.specs.declared.key.Key.{Key}
 use Rattle.mk_foot.specs.declared.key.Key.TheVariants as keys
 use Rattle.mk_foot.specs.declared.format.Format.TheVariants.{One, Two}
 use Rattle.mk_foot.specs.Book.{Book}
 use Rattle.mk_foot.specs.Parts.{Entry, Footprints}
 use Rattle.mk_foot.specs.Steps.{◌>>=◌, each, test_each}
 use Rattle.mk_foot.specs.Names.{same_names}
-use Rattle.mk_foot.specs.Kinds.{text_of, texts_of, text_at, texts_at, elements_at, has_only, format_in}
+use Rattle.mk_foot.specs.Kinds.{texts_of, text_at, texts_at, elements_at, members_at, format_in}
 use Rattle.mk_foot.specs.Footprints.{entry_in, shared_in, group_in, lists_in, first_format, second_format, footprints_in}
 use Rattle.mk_foot.specs.Checks.{group_is_plain, names_are_plain, test_all, group_for}
 use Rattle.mk_foot.specs.Reading.{book_in, book_of}
@@ -21,7 +22,7 @@ use Rattle.mk_foot.specs.Laws.{Values, plain_record, bare_record, plain_file, gr
 
 -- a record reads as the same in both formats
 same_entry : (v : Values) → entry_in One (plain_record v) ≡ entry_in Two (bare_record v)
-unfolding entry_in shared_in text_at texts_at texts_of elements_at has_only each
+unfolding entry_in shared_in text_at texts_at elements_at json.has_only json.texts_of json.each_some each
 same_entry v = refl
 
 same_entries : (vs : List Values) → each (entry_in One) (map plain_record vs) ≡ each (entry_in Two) (map bare_record vs)
@@ -33,10 +34,10 @@ same_entries (v ∷ vs) = ap2 (λ (e : Result Entry FootFault) (es : Result (Lis
     ap2 {A} {B} f {a} {b} {c} {d} e k = ap (λ (x : A). f x c) e ∙ ap (f b) k
 
 -- names as JSON texts
-texts_back : (key : Key) (names : List (List ℕ)) → each (text_of key) (map string names) ≡ Ok names
-unfolding each
-texts_back key [] = refl
-texts_back key (name ∷ names) = rw (texts_back key names) refl
+texts_back : (names : List (List ℕ)) → json.each_some as_str (map string names) ≡ Some names
+unfolding json.each_some
+texts_back [] = refl
+texts_back (name ∷ names) = rw (texts_back names) refl
 
 same_self : (names : List (List ℕ)) → same_names names names ≡ true
 same_self [] = refl
@@ -44,7 +45,7 @@ same_self (name ∷ names) = rw ((bytes_eq-Decides name name).1 refl) (same_self
 
 -- the group, of these records
 group_reads : (goals : List (List ℕ)) (vs : List Values) → group_in (one_group goals vs) ≡ (each (entry_in Two) (map bare_record vs) >>= λ es. Ok (record { goals = Some goals; records = es }))
-unfolding group_in texts_at texts_of elements_at has_only
+unfolding group_in texts_at json.texts_of elements_at json.has_only
 group_reads goals vs = rw (elements_items, texts_back, elements_items) refl
 
 abbrev plain_parts : List (List ℕ) → List (List ℕ) → List Entry → Footprints
@@ -66,11 +67,11 @@ same_finish goals fixed sources es plain = rw (same_tests goals fixed sources es
 
 -- the parts of both files
 plain_reads : (fixed sources : Data) (vs : List Values) → footprints_in (plain_file fixed sources vs) ≡ (texts_of keys.Fixed fixed >>= λ f. texts_of keys.Sources sources >>= λ s. each (entry_in One) (map plain_record vs) >>= λ es. Ok (plain_parts f s es))
-unfolding footprints_in format_in first_format texts_at elements_at has_only
+unfolding footprints_in format_in first_format texts_at elements_at json.has_only
 plain_reads fixed sources vs = rw elements_items refl
 
 grouped_reads : (goals : List (List ℕ)) (fixed sources : Data) (vs : List Values) → footprints_in (grouped_file goals fixed sources vs) ≡ (texts_of keys.Fixed fixed >>= λ f. texts_of keys.Sources sources >>= λ s. (group_in (one_group goals vs) >>= λ g. Ok (g ∷ [])) >>= λ gs. Ok (record { fixed = f; sources = s; lists = []; groups = gs }))
-unfolding footprints_in format_in second_format texts_at elements_at lists_in has_only each
+unfolding footprints_in format_in second_format texts_at elements_at members_at lists_in json.has_only each
 grouped_reads goals fixed sources vs = refl
 
 -- whatever the parts are

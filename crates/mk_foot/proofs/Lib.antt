@@ -2,7 +2,6 @@ pub mod ListTests
 pub mod Steps
 pub mod Members
 pub mod Sets
-pub mod Json
 pub mod Targets
 pub mod Same
 pub mod SharedLists

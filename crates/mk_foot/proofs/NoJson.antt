@@ -1,9 +1,12 @@
 -- Which fault says that there is no JSON value.
-use Rattle.std.proofs.Common.{◌≡◌, ℕ, Bool, true, false, cond, ◌==◌, List, [], ◌∷◌, Option, Some, None, Result, Ok, Err, refl, ap}
-use Rattle.std.specs.Prelude.{⊤, ◌≢◌}
+use Rattle.std.proofs.Common.{◌≡◌, ℕ, Bool, true, false, cond, List, [], ◌∷◌, map, Option, Some, None, Result, Ok, Err, refl, ap}
+use Rattle.std.specs.Prelude.{⊤, ◌≢◌, ℤ, pos, option_and_then}
 use Rattle.std.specs.List.{list_all}
-use Rattle.serde_json.specs.Data.{Data, Num, unsigned, negative, float}
-use Rattle.serde_json.specs.Find.{as_str, as_number}
+use Rattle.std.specs.Ordering.{int_eq}
+use Rattle.serde_json.specs.Data.{Data}
+use Rattle.serde_json.specs.Find.{get}
+use Rattle.mk_json.specs.Kinds as json
+use Rattle.mk_json.specs.Reading.{json_of}
 use Rattle.mk_foot.specs.declared.fault.FootFault.{FootFault}
 use Rattle.mk_foot.specs.declared.fault.FootFault.TheVariants.{NotJson, Shape, OtherFormat, BadName, TwoRecords, SourceIsFixed, NoGroup, NoList}
 use Rattle.mk_foot.specs.declared.key.Key.{Key}
@@ -11,12 +14,13 @@ use Rattle.mk_foot.specs.declared.key.Key.TheVariants as keys
 use Rattle.mk_foot.specs.declared.format.Format.{Format}
 use Rattle.mk_foot.specs.declared.format.Format.TheVariants.{One, Two}
 use Rattle.mk_foot.specs.Steps.{◌>>=◌, or_fault, unless_holds, each, test_each}
-use Rattle.mk_foot.specs.Kinds.{at_key, text_of, elements_of, pairs_of, texts_of, text_at, texts_at, elements_at, is_object, has_only, format_of, format_in}
+use Rattle.mk_foot.specs.Kinds.{texts_of, text_at, texts_at, elements_at, members_at, is_object, has_only, format_of, format_in}
+use Rattle.mk_foot.specs.Keys.{spelling}
 use Rattle.mk_foot.specs.Parts.{Entry, Group, Footprints}
 use Rattle.mk_foot.specs.Footprints.{shared_in, entry_in, group_in, list_in, lists_in, first_format, second_format, in_format, footprints_in}
 use Rattle.mk_foot.specs.Names.{is_prefix}
 use Rattle.mk_foot.specs.Checks.{are_plain, entry_is_plain, goals_are_plain, group_is_plain, list_is_plain, names_are_plain, unless_found, targets_differ, sources_are_free, list_names, lists_are_there, test_all, group_for}
-use Rattle.mk_foot.specs.Reading.{book_of, json_of, book_in, book_from}
+use Rattle.mk_foot.specs.Reading.{book_of, book_in, book_from}
 use Rattle.mk_foot.specs.Laws.{OnlyTextWithoutValueIsNoJson}
 
 -- a result is not that fault
@@ -51,54 +55,42 @@ other_tests test (x ∷ xs) h = other_then (test x) _ (h x) (λ _. other_tests t
 shape : (key : Key) → Shape key ≢ NotJson
 shape key e = cc
 
-at_other : (key : Key) (value : Data) → Other (at_key key value)
-at_other key value = other_or (Shape key) _ (shape key)
-
-text_other : (key : Key) (value : Data) → Other (text_of key value)
-text_other key value = other_or (Shape key) (as_str value) (shape key)
-
-elements_other : (key : Key) (value : Data) → Other (elements_of key value)
-elements_other key value = other_or (Shape key) _ (shape key)
-
-pairs_other : (key : Key) (value : Data) → Other (pairs_of key value)
-pairs_other key value = other_or (Shape key) _ (shape key)
-
 texts_other : (key : Key) (value : Data) → Other (texts_of key value)
-unfolding texts_of
-texts_other key value = other_then (elements_of key value) _ (elements_other key value) (λ values. other_each (text_of key) values (text_other key))
+texts_other key value = other_or (Shape key) (json.texts_of value) (shape key)
 
 text_at_other : (key : Key) (value : Data) → Other (text_at key value)
 unfolding text_at
-text_at_other key value = other_then (at_key key value) _ (at_other key value) (text_other key)
+text_at_other key value = other_or (Shape key) (json.text_at (spelling key) value) (shape key)
 
 texts_at_other : (key : Key) (value : Data) → Other (texts_at key value)
 unfolding texts_at
-texts_at_other key value = other_then (at_key key value) _ (at_other key value) (texts_other key)
+texts_at_other key value = other_or (Shape key) (json.texts_at (spelling key) value) (shape key)
 
 elements_at_other : (key : Key) (value : Data) → Other (elements_at key value)
 unfolding elements_at
-elements_at_other key value = other_then (at_key key value) _ (at_other key value) (elements_other key)
+elements_at_other key value = other_or (Shape key) (json.elements_at (spelling key) value) (shape key)
+
+members_at_other : (key : Key) (value : Data) → Other (members_at key value)
+unfolding members_at
+members_at_other key value = other_or (Shape key) (option_and_then json.pairs_of (get (spelling key) value)) (shape key)
 
 object_other : (key : Key) (value : Data) → Other (is_object key value)
 object_other key value = other_unless (Shape key) _ (shape key)
 
 only_other : (known : List Key) (value : Data) → Other (has_only known value)
-unfolding has_only
-only_other known value = other_then (pairs_of keys.Unknown value) _ (pairs_other keys.Unknown value) (λ members. other_unless (Shape keys.Unknown) _ (shape keys.Unknown))
+only_other known value = other_unless (Shape keys.Unknown) (json.has_only (map spelling known) value) (shape keys.Unknown)
 
-format_other : (n : Num) → Other (format_of n)
-format_other (unsigned n) e = chosen (n == 1) (n == 2) e
+format_other : (number : ℤ) → Other (format_of number)
+format_other number e = chosen (int_eq number (pos 1)) (int_eq number (pos 2)) e
   where
     chosen : (a b : Bool) → Other (cond a (Ok One) (cond b (Ok Two) (Err OtherFormat)))
     chosen true b e = cc
     chosen false true e = cc
     chosen false false e = cc
-format_other (negative z) e = cc
-format_other (float x) e = cc
 
 format_in_other : (value : Data) → Other (format_in value)
 unfolding format_in
-format_in_other value = other_then (at_key keys.Format value) _ (at_other keys.Format value) (λ found. other_then (or_fault (Shape keys.Format) (as_number found)) _ (other_or (Shape keys.Format) _ (shape keys.Format)) format_other)
+format_in_other value = other_then (or_fault (Shape keys.Format) (json.integer_at (spelling keys.Format) value)) _ (other_or (Shape keys.Format) (json.integer_at (spelling keys.Format) value) (shape keys.Format)) format_other
 
 shared_other : (format : Format) (value : Data) → Other (shared_in format value)
 unfolding shared_in
@@ -122,7 +114,7 @@ group_other value =
     other_then (is_object keys.Groups value) _ (object_other keys.Groups value) (λ _.
     other_then (texts_at keys.Goals value) _ (texts_at_other keys.Goals value) (λ goals.
     other_then (elements_at keys.Records value) _ (elements_at_other keys.Records value) (λ records.
-    other_then (has_only _ value) _ (only_other _ value) (λ _.
+    other_then (has_only (keys.Goals ∷ keys.Records ∷ []) value) _ (only_other (keys.Goals ∷ keys.Records ∷ []) value) (λ _.
     other_then (each (entry_in Two) records) _ (other_each (entry_in Two) records (entry_other Two)) (λ entries. other_ok _)))))
 
 list_other : (pair : List ℕ × Data) → Other (list_in pair)
@@ -131,7 +123,7 @@ list_other pair = other_then (texts_of keys.Lists pair.1) _ (texts_other keys.Li
 
 lists_other : (value : Data) → Other (lists_in value)
 unfolding lists_in
-lists_other value = other_then (at_key keys.Lists value) _ (at_other keys.Lists value) (λ found. other_then (pairs_of keys.Lists found) _ (pairs_other keys.Lists found) (λ members. other_each list_in members list_other))
+lists_other value = other_then (members_at keys.Lists value) _ (members_at_other keys.Lists value) (λ members. other_each list_in members list_other)
 
 first_other : (value : Data) → Other (first_format value)
 unfolding first_format
@@ -139,7 +131,7 @@ first_other value =
     other_then (texts_at keys.Fixed value) _ (texts_at_other keys.Fixed value) (λ fixed.
     other_then (texts_at keys.Sources value) _ (texts_at_other keys.Sources value) (λ sources.
     other_then (elements_at keys.Records value) _ (elements_at_other keys.Records value) (λ records.
-    other_then (has_only _ value) _ (only_other _ value) (λ _.
+    other_then (has_only (keys.Format ∷ keys.Fixed ∷ keys.Sources ∷ keys.Records ∷ []) value) _ (only_other (keys.Format ∷ keys.Fixed ∷ keys.Sources ∷ keys.Records ∷ []) value) (λ _.
     other_then (each (entry_in One) records) _ (other_each (entry_in One) records (entry_other One)) (λ entries. other_ok _)))))
 
 second_other : (value : Data) → Other (second_format value)
@@ -149,7 +141,7 @@ second_other value =
     other_then (texts_at keys.Sources value) _ (texts_at_other keys.Sources value) (λ sources.
     other_then (lists_in value) _ (lists_other value) (λ lists.
     other_then (elements_at keys.Groups value) _ (elements_at_other keys.Groups value) (λ values.
-    other_then (has_only _ value) _ (only_other _ value) (λ _.
+    other_then (has_only (keys.Format ∷ keys.Fixed ∷ keys.Sources ∷ keys.Lists ∷ keys.Groups ∷ []) value) _ (only_other (keys.Format ∷ keys.Fixed ∷ keys.Sources ∷ keys.Lists ∷ keys.Groups ∷ []) value) (λ _.
     other_then (each group_in values) _ (other_each group_in values group_other) (λ groups. other_ok _))))))
 
 in_format_other : (format : Format) (value : Data) → Other (in_format format value)

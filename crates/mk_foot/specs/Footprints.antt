@@ -7,7 +7,7 @@ use Rattle.mk_foot.specs.declared.key.Key.TheVariants as keys
 use Rattle.mk_foot.specs.declared.format.Format.{Format}
 use Rattle.mk_foot.specs.declared.format.Format.TheVariants.{One, Two}
 use Rattle.mk_foot.specs.Steps.{◌>>=◌, each}
-use Rattle.mk_foot.specs.Kinds.{at_key, pairs_of, texts_of, text_at, texts_at, elements_at, is_object, has_only, format_in}
+use Rattle.mk_foot.specs.Kinds.{texts_of, text_at, texts_at, elements_at, members_at, is_object, has_only, format_in}
 use Rattle.mk_foot.specs.Parts.{Entry, Group, SharedList, Footprints}
 
 -- the keys of a record
@@ -57,8 +57,7 @@ list_in pair = do
 -- the shared lists, in the order of their names
 unfoldable pub lists_in : Data → Result (List SharedList) FootFault
 lists_in whole = do
-  value ← at_key keys.Lists whole
-  members ← pairs_of keys.Lists value
+  members ← members_at keys.Lists whole
   each list_in members
 
 -- a file of format 1

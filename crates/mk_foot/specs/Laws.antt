@@ -2,11 +2,12 @@
 use Rattle.std.specs.Prelude.{◌≡◌, ◌⊎◌, ◌↔◌, ℕ, true, false, List, [], ◌∷◌, ◌++◌, map, codes, None, Err, if◌then◌else◌}
 use Rattle.std.specs.List.{list_all}
 use Rattle.mk_lines.specs.Paths.{is_plain_path}
-use Rattle.serde_json.specs.Data.{Data, number, string, array, object, unsigned, Members, no_members, member}
-use Rattle.serde_json.specs.View.{items_of}
+use Rattle.serde_json.specs.Data.{Data, number, string, unsigned}
+use Rattle.mk_json.specs.Kinds.{array_of, object_of}
+use Rattle.mk_json.specs.Reading.{json_of}
 use Rattle.mk_foot.specs.declared.fault.FootFault.TheVariants.{NotJson}
 use Rattle.mk_foot.specs.Names.{Has, has_name, once}
-use Rattle.mk_foot.specs.Reading.{json_of, book_in, book_from}
+use Rattle.mk_foot.specs.Reading.{book_in, book_from}
 use Rattle.mk_foot.specs.Setting.{Setting, is_given, is_editable}
 
 -- A list of names, each once, has the same names. A name at the end of a list is kept, behind all
@@ -30,17 +31,6 @@ abbrev pub OnlyTextWithoutValueIsNoJson : Type 0
 OnlyTextWithoutValueIsNoJson =
     (goals : List (List ℕ)) (bytes : List ℕ) → (book_from goals bytes ≡ Err NotJson) ↔
     (json_of bytes ≡ None)
-
--- an array, and an object, whose names are to be in the order of their bytes
-abbrev pub array_of : List Data → Data
-array_of values = array (items_of values)
-
-abbrev members : List (List ℕ × Data) → Members
-members [] = no_members
-members (pair ∷ pairs) = member pair.0 pair.1 (members pairs)
-
-abbrev pub object_of : List (List ℕ × Data) → Data
-object_of pairs = object (members pairs)
 
 -- what stands under the keys of a record, of whatever kind
 pub record Values : Type 0 where

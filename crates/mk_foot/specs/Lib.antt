@@ -4,7 +4,6 @@ pub mod Steps
 pub mod Names
 pub mod Parts
 pub mod Kinds
-pub mod Taken
 pub mod Footprints
 pub mod Checks
 pub mod Reading

@@ -1,9 +1,9 @@
 -- The book of a file of footprints, for some goals.
-use Rattle.std.specs.Prelude.{ℕ, List, [], ◌∷◌, ◌++◌, map, Option, None, Result, Ok, if◌then◌else◌}
+use Rattle.std.specs.Prelude.{ℕ, List, [], ◌∷◌, ◌++◌, map, Result, Ok, if◌then◌else◌}
 use Rattle.std.specs.List.{flat_map}
-use Rattle.std.specs.Str.{bytes_eq, is_utf8}
+use Rattle.std.specs.Str.{bytes_eq}
 use Rattle.serde_json.specs.Data.{Data}
-use Rattle.serde_json.specs.Read.{read}
+use Rattle.mk_json.specs.Reading.{json_of}
 use Rattle.mk_foot.specs.declared.fault.FootFault.{FootFault}
 use Rattle.mk_foot.specs.declared.fault.FootFault.TheVariants.{NotJson}
 use Rattle.mk_foot.specs.Book.{Record, Book}
@@ -43,10 +43,6 @@ book_in goals value = do
   _ ← test_all file
   group ← group_for goals file.groups
   Ok (book_of file group)
-
--- the JSON value of a text
-abbrev pub json_of : List ℕ → Option Data
-json_of bytes = if is_utf8 bytes then read bytes else None
 
 -- the book of a file's bytes
 unfoldable pub book_from : List (List ℕ) → List ℕ → Result Book FootFault

@@ -1,45 +1,41 @@
-//! Objects whose fields are taken out of them.
+//! Fields of files of footprints, each with the fault of its key.
 
 ghost use Rattle.std.specs.Prelude.{◌≡◌, map, IfOk};
-ghost use Rattle.std.specs.List.{list_any, list_all};
-ghost use Rattle.std.specs.Str.{bytes_eq};
 ghost use Rattle.std.specs.String.{string_bytes};
 ghost use Rattle.serde_json.specs.View.{view, members_view};
+ghost use Rattle.mk_json.specs.Kinds.{pairs};
+ghost use Rattle.mk_json.specs.Taken.{object_view, without};
 ghost use Rattle.mk_foot.specs.declared.fault.FootFault.TheVariants.{Shape};
 ghost use Rattle.mk_foot.specs.declared.key.Key.TheVariants.{Unknown};
 ghost use Rattle.mk_foot.specs.Keys.{spelling};
 ghost use Rattle.mk_foot.specs.Steps.{Gives, unless_holds};
-ghost use Rattle.mk_foot.specs.Kinds.{pairs, at_key, text_at, texts_at, elements_at, is_object, is_spelled, has_only, format_in};
-ghost use Rattle.mk_foot.specs.Taken.{object_view, without};
+ghost use Rattle.mk_foot.specs.Kinds.{texts_of, text_at, texts_at, elements_at, members_at, is_object, format_in};
 
 use crate::fault::FootFault;
 use crate::format::Format;
 use crate::key::Key;
-use crate::kinds::{elements_of, text_of, texts_of};
+use mk_json::Fields;
 use serde_json::Value;
 use serde_json::value::Map;
 use std::alloc::Global;
 
-/// The fields of an object that are not yet taken out of it.
-pub type Fields = Map<String, Value>;
+/// The list of texts that a value is.
+pub fn texts_of(alloc: Global, key: Key, value: Value) -> Result<Vec<String>, FootFault>
+    ensures { Gives (λ texts. map string_bytes texts.items) result (texts_of key (view value)) }
+{
+    match mk_json::texts_of(alloc, value)? {
+        Some(texts) => Ok(texts),
+        None => Err(FootFault::Shape(key)),
+    }
+}
 
 /// The fields of the object that a value is.
 pub fn fields_of(key: Key, value: Value) -> Result<Fields, FootFault>
     ensures kind { Gives (λ _. tt) result (is_object key (view value)) }
     ensures whole { IfOk result (λ fields. object_view fields.entries ≡ view value) }
 {
-    match value {
-        Value::Object(fields) => Ok(fields),
-        _ => Err(FootFault::Shape(key)),
-    }
-}
-
-/// What stands under a key.
-fn at_key(key: Key, fields: &Fields) -> Result<&Value, FootFault>
-    ensures { Gives (λ value. view value.now) result (at_key key (object_view fields.now.entries)) }
-{
-    match fields.get(key.as_str()) {
-        Some(value) => Ok(value),
+    match mk_json::fields_of(value) {
+        Some(fields) => Ok(fields),
         None => Err(FootFault::Shape(key)),
     }
 }
@@ -49,47 +45,12 @@ fn at_key(key: Key, fields: &Fields) -> Result<&Value, FootFault>
 pub fn format_in(fields: &Fields) -> Result<Format, FootFault>
     ensures { Gives (λ format. format) result (format_in (object_view fields.now.entries)) }
 {
-    let value = at_key(Key::Format, fields)?;
-    let Some(number) = value.as_number() else {
-        return Err(FootFault::Shape(Key::Format));
-    };
-    if number.is_f64() {
-        return Err(FootFault::Shape(Key::Format));
-    }
-    match number.as_u64() {
+    match mk_json::integer_at(fields, Key::Format.as_str()) {
         Some(1) => Ok(Format::One),
         Some(2) => Ok(Format::Two),
-        _ => Err(FootFault::OtherFormat),
+        Some(_) => Err(FootFault::OtherFormat),
+        None => Err(FootFault::Shape(Key::Format)),
     }
-}
-
-/// Whether a name is one of these keys.
-fn is_known(known: &[Key], name: &str) -> bool
-    ensures { result ≡ is_spelled known.now name.now }
-{
-    known.iter().any(|key| key.as_str() == name)
-}
-
-/// Whether the names of fields are among these keys.
-fn are_known(known: &[Key], fields: &Fields) -> bool
-    ensures { result ≡
-        list_all (λ pair. is_spelled known.now pair.0) (pairs (members_view fields.now.entries)) }
-{
-    for name in fields.keys() {
-        if !is_known(known, name.as_str()) {
-            return false;
-        }
-    }
-    true
-}
-
-/// Whether an object has no keys but these.
-#[tactic(auto, unfolding(crate::specs::Kinds::has_only))]
-pub fn has_only(known: &[Key], fields: &Fields) -> bool
-    ensures { unless_holds (Shape Unknown) result ≡
-        has_only known.now (object_view fields.now.entries) }
-{
-    are_known(known, fields)
 }
 
 /// The fault of a key that doesn't belong there, unless an object has none.
@@ -103,25 +64,17 @@ pub fn unless_other(alone: bool) -> Result<(), FootFault>
     }
 }
 
-/// Takes what stands under a key out of an object.
-pub fn take(key: Key, fields: &mut Fields) -> Result<Value, FootFault>
-    ensures value { Gives view result (at_key key (object_view fields.old.entries)) }
-    ensures left { object_view fields.new.entries ≡ without key (object_view fields.old.entries) }
-{
-    match fields.remove(key.as_str()) {
-        Some(value) => Ok(value),
-        None => Err(FootFault::Shape(key)),
-    }
-}
-
 /// Takes the text under a key out of an object.
 #[tactic(auto, unfolding(crate::specs::Kinds::text_at))]
 pub fn take_text(key: Key, fields: &mut Fields) -> Result<String, FootFault>
     ensures text { Gives string_bytes result (text_at key (object_view fields.old.entries)) }
-    ensures left { object_view fields.new.entries ≡ without key (object_view fields.old.entries) }
+    ensures left { object_view fields.new.entries ≡
+        without (spelling key) (object_view fields.old.entries) }
 {
-    let value = take(key, fields)?;
-    text_of(key, value)
+    match mk_json::take_text(fields, key.as_str()) {
+        Some(text) => Ok(text),
+        None => Err(FootFault::Shape(key)),
+    }
 }
 
 /// Takes the list of texts under a key out of an object.
@@ -129,10 +82,13 @@ pub fn take_text(key: Key, fields: &mut Fields) -> Result<String, FootFault>
 pub fn take_texts(alloc: Global, key: Key, fields: &mut Fields) -> Result<Vec<String>, FootFault>
     ensures texts { Gives (λ texts.
         map string_bytes texts.items) result (texts_at key (object_view fields.old.entries)) }
-    ensures left { object_view fields.new.entries ≡ without key (object_view fields.old.entries) }
+    ensures left { object_view fields.new.entries ≡
+        without (spelling key) (object_view fields.old.entries) }
 {
-    let value = take(key, fields)?;
-    texts_of(alloc, key, value)
+    match mk_json::take_texts(alloc, fields, key.as_str())? {
+        Some(texts) => Ok(texts),
+        None => Err(FootFault::Shape(key)),
+    }
 }
 
 /// Takes the values of the array under a key out of an object.
@@ -140,8 +96,28 @@ pub fn take_texts(alloc: Global, key: Key, fields: &mut Fields) -> Result<Vec<St
 pub fn take_elements(key: Key, fields: &mut Fields) -> Result<Vec<Value>, FootFault>
     ensures values { Gives (λ values.
         map view values.items) result (elements_at key (object_view fields.old.entries)) }
-    ensures left { object_view fields.new.entries ≡ without key (object_view fields.old.entries) }
+    ensures left { object_view fields.new.entries ≡
+        without (spelling key) (object_view fields.old.entries) }
 {
-    let value = take(key, fields)?;
-    elements_of(key, value)
+    match mk_json::take_elements(fields, key.as_str()) {
+        Some(values) => Ok(values),
+        None => Err(FootFault::Shape(key)),
+    }
+}
+
+/// Takes the members of the object under a key out of an object.
+#[tactic(auto, unfolding(crate::specs::Kinds::members_at))]
+pub fn take_members(key: Key, fields: &mut Fields) -> Result<Map<String, Value>, FootFault>
+    ensures members { Gives (λ members. pairs (members_view members.entries)) result (members_at
+        key (object_view fields.old.entries)) }
+    ensures left { object_view fields.new.entries ≡
+        without (spelling key) (object_view fields.old.entries) }
+{
+    let Some(value) = mk_json::take(fields, key.as_str()) else {
+        return Err(FootFault::Shape(key));
+    };
+    match mk_json::members_of(value) {
+        Some(members) => Ok(members),
+        None => Err(FootFault::Shape(key)),
+    }
 }

@@ -7,7 +7,6 @@ mod fault;
 mod fields;
 mod format;
 mod key;
-mod kinds;
 pub mod laws;
 mod names;
 mod parts;

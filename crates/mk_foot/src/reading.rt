@@ -4,10 +4,9 @@ ghost use Rattle.std.specs.Prelude.{◌≡◌, ◌++◌, map, IfOk, OnOk, fold};
 ghost use Rattle.std.specs.List.{flat_map};
 ghost use Rattle.std.specs.String.{string_bytes};
 ghost use Rattle.serde_json.specs.View.{view};
-ghost use Rattle.mk_foot.specs.declared.fault.FootFault.TheVariants.{NotJson};
 ghost use Rattle.mk_foot.specs.Names.{with_name, once as all_once};
-ghost use Rattle.mk_foot.specs.Steps.{Gives, or_fault};
-ghost use Rattle.mk_foot.specs.Reading.{listed, record_of, book_in, json_of, book_from};
+ghost use Rattle.mk_foot.specs.Steps.{Gives};
+ghost use Rattle.mk_foot.specs.Reading.{listed, record_of, book_in, book_from};
 
 use crate::book::{Book, Record};
 use crate::checks::{group_for, test_all};
@@ -15,6 +14,7 @@ use crate::fault::FootFault;
 use crate::names::{copied, once};
 use crate::parts::{Entry, Footprints, Group, SharedList};
 use crate::shapes::footprints_in;
+use mk_json::json_of;
 use mk_lines::{Name, NameSet, NameTable};
 use serde_json::Value;
 use std::alloc::{AllocError, Global};
@@ -152,22 +152,6 @@ fn book_in(alloc: Global, value: Value, goals: &[Name]) -> Result<Book, FootFaul
     })
 }
 
-/// The JSON value of a text.
-fn json_of(alloc: Global, bytes: &[u8]) -> Result<Value, FootFault>
-    ensures { Gives (λ value. view value) result (or_fault NotJson (json_of bytes.now)) }
-{
-    match Value::from_slice(alloc, bytes) {
-        Ok(value) => Ok(value),
-        Err(error) => {
-            if error.is_memory() {
-                Err(FootFault::Memory)
-            } else {
-                Err(FootFault::NotJson)
-            }
-        }
-    }
-}
-
 /// The book of a file of footprints, for the goals of a build, or the first fault.
 ///
 /// A file of format 1 is a JSON object with exactly `format` (1), `fixed`, `sources` and `records`.
@@ -185,6 +169,8 @@ fn json_of(alloc: Global, bytes: &[u8]) -> Result<Value, FootFault>
 pub fn read_book(alloc: Global, bytes: &[u8], goals: &[Name]) -> Result<Book, FootFault>
     ensures { Gives (λ book. book) result (book_from goals.now bytes.now) }
 {
-    let value = json_of(alloc, bytes)?;
+    let Some(value) = json_of(alloc, bytes)? else {
+        return Err(FootFault::NotJson);
+    };
     book_in(alloc, value, goals)
 }

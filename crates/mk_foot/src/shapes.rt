@@ -4,37 +4,33 @@ ghost use Rattle.std.specs.Prelude.{◌≡◌, map};
 ghost use Rattle.std.specs.String.{string_bytes};
 ghost use Rattle.serde_json.specs.View.{view, members_view};
 ghost use Rattle.mk_foot.specs.Steps.{Gives, each};
-ghost use Rattle.mk_foot.specs.Kinds.{pairs};
+ghost use Rattle.mk_json.specs.Kinds.{pairs};
+ghost use Rattle.mk_json.specs.Taken.{object_view, without};
+ghost use Rattle.mk_foot.specs.Keys.{spelling};
 ghost use Rattle.mk_foot.specs.declared.key.Key.TheVariants.{Lists};
-ghost use Rattle.mk_foot.specs.Taken.{object_view, without};
 ghost use Rattle.mk_foot.specs.Footprints.{entry_keys, shared_in, entry_in, group_in, list_in, lists_in, first_format, second_format, footprints_in};
 
 use crate::fault::FootFault;
 use crate::fields::{
-    Fields, fields_of, format_in, has_only, take, take_elements, take_text, take_texts,
+    fields_of, format_in, take_elements, take_members, take_text, take_texts, texts_of,
     unless_other,
 };
 use crate::format::Format;
 use crate::key::Key;
-use crate::kinds::{pairs_of, texts_of};
 use crate::parts::{Entry, Footprints, Group, SharedList};
+use mk_json::laws::other_fields_stay;
+use mk_json::{Fields, has_only};
 use serde_json::Value;
 use serde_json::value::Map;
 use std::alloc::Global;
 
 /// The keys of a record.
-fn entry_keys(format: Format) -> &'static [Key]
-    ensures { result.now ≡ entry_keys format }
+fn entry_keys(format: Format) -> &'static [&'static str]
+    ensures { map (λ key. key.now) result.now ≡ map spelling (entry_keys format) }
 {
     match format {
-        Format::One => &[Key::Target, Key::Commands, Key::Reads, Key::Writes],
-        Format::Two => &[
-            Key::Target,
-            Key::Commands,
-            Key::Reads,
-            Key::Writes,
-            Key::Shared,
-        ],
+        Format::One => &["target", "commands", "reads", "writes"],
+        Format::Two => &["target", "commands", "reads", "writes", "shared"],
     }
 }
 
@@ -51,12 +47,13 @@ fn shared_in(alloc: Global, format: Format, fields: &mut Fields) -> Result<Vec<S
 }
 
 /// A record: its keys in order, then any other key.
-#[tactic(auto, using(crate::proofs::Taken::texts_at_other_key, crate::proofs::Taken::shared_in_other_key), unfolding(crate::specs::Footprints::entry_in))]
+#[tactic(auto, unfolding(crate::specs::Footprints::entry_in))]
 fn entry_in(alloc: Global, format: Format, value: Value) -> Result<Entry, FootFault>
     ensures { Gives (λ entry. entry) result (entry_in format (view value)) }
 {
+    other_fields_stay();
     let mut fields = fields_of(Key::Records, value)?;
-    let alone = has_only(entry_keys(format), &fields);
+    let alone = has_only(&fields, entry_keys(format));
     let target = take_text(Key::Target, &mut fields)?;
     let commands = take_texts(alloc, Key::Commands, &mut fields)?;
     let reads = take_texts(alloc, Key::Reads, &mut fields)?;
@@ -85,12 +82,13 @@ fn entries_in(alloc: Global, format: Format, values: Vec<Value>) -> Result<Vec<E
 }
 
 /// A group: its keys, then any other key, then its records.
-#[tactic(auto, using(crate::proofs::Taken::elements_at_other_key), unfolding(crate::specs::Footprints::group_in))]
+#[tactic(auto, unfolding(crate::specs::Footprints::group_in))]
 fn group_in(alloc: Global, value: Value) -> Result<Group, FootFault>
     ensures { Gives (λ group. group) result (group_in (view value)) }
 {
+    other_fields_stay();
     let mut fields = fields_of(Key::Groups, value)?;
-    let alone = has_only(&[Key::Goals, Key::Records], &fields);
+    let alone = has_only(&fields, &["goals", "records"]);
     let goals = take_texts(alloc, Key::Goals, &mut fields)?;
     let values = take_elements(Key::Records, &mut fields)?;
     unless_other(alone)?;
@@ -130,21 +128,21 @@ fn members_in(alloc: Global, members: Map<String, Value>) -> Result<Vec<SharedLi
 fn lists_in(alloc: Global, fields: &mut Fields) -> Result<Vec<SharedList>, FootFault>
     ensures lists { Gives (λ lists.
         lists.items) result (lists_in (object_view fields.old.entries)) }
-    ensures left { object_view fields.new.entries ≡ without Lists (object_view fields.old.entries) }
+    ensures left { object_view fields.new.entries ≡
+        without (spelling Lists) (object_view fields.old.entries) }
 {
-    let value = take(Key::Lists, fields)?;
-    let members = pairs_of(Key::Lists, value)?;
+    let members = take_members(Key::Lists, fields)?;
     members_in(alloc, members)
 }
 
 /// A file of format 1.
-#[tactic(auto, using(crate::proofs::Taken::texts_at_other_key, crate::proofs::Taken::elements_at_other_key), unfolding(crate::specs::Footprints::first_format))]
+#[tactic(auto, unfolding(crate::specs::Footprints::first_format))]
 fn first_format(alloc: Global, fields: Fields) -> Result<Footprints, FootFault>
     ensures { Gives (λ file. file) result (first_format (object_view fields.entries)) }
 {
+    other_fields_stay();
     let mut fields = fields;
-    let known = [Key::Format, Key::Fixed, Key::Sources, Key::Records];
-    let alone = has_only(&known, &fields);
+    let alone = has_only(&fields, &["format", "fixed", "sources", "records"]);
     let fixed = take_texts(alloc, Key::Fixed, &mut fields)?;
     let sources = take_texts(alloc, Key::Sources, &mut fields)?;
     let values = take_elements(Key::Records, &mut fields)?;
@@ -163,19 +161,14 @@ fn first_format(alloc: Global, fields: Fields) -> Result<Footprints, FootFault>
 }
 
 /// A file of format 2.
-#[tactic(auto, using(crate::proofs::Taken::texts_at_other_key, crate::proofs::Taken::elements_at_other_key, crate::proofs::Taken::lists_in_other_key), unfolding(crate::specs::Footprints::second_format))]
+#[tactic(auto, unfolding(crate::specs::Footprints::second_format))]
 fn second_format(alloc: Global, fields: Fields) -> Result<Footprints, FootFault>
     ensures { Gives (λ file. file) result (second_format (object_view fields.entries)) }
 {
+    other_fields_stay();
     let mut fields = fields;
-    let known = [
-        Key::Format,
-        Key::Fixed,
-        Key::Sources,
-        Key::Lists,
-        Key::Groups,
-    ];
-    let alone = has_only(&known, &fields);
+    let known = ["format", "fixed", "sources", "lists", "groups"];
+    let alone = has_only(&fields, &known);
     let fixed = take_texts(alloc, Key::Fixed, &mut fields)?;
     let sources = take_texts(alloc, Key::Sources, &mut fields)?;
     let lists = lists_in(alloc, &mut fields)?;

@@ -1,6 +1,10 @@
 //! Certificates.
 
+ghost use Rattle.std.specs.Prelude.{◌≡◌};
+ghost use Rattle.mk_ways.specs.Words.{finish_word};
+
 use mk_lines::{Name, Names};
+use std::fmt;
 use std::marker::Model;
 
 /// How a way ends at its last recipe.
@@ -12,6 +16,30 @@ pub enum Finish {
     Source,
     /// The last recipe is made in each make: it is phony, or has a phony direct prerequisite.
     Always,
+}
+
+impl Finish {
+    /// The word for the end, in certificates and where ways are shown.
+    pub fn as_str(self) -> &'static str
+        ensures { result.now ≡ finish_word self }
+    {
+        match self {
+            Finish::Written => "written",
+            Finish::Source => "source",
+            Finish::Always => "always",
+        }
+    }
+}
+
+impl fmt::Display for Finish {
+    ghost use Rattle.std.specs.Prelude.{Some};
+    ghost use Rattle.mk_ways.specs.Words.{finish_word};
+
+    ghost output = { λ f. Some (finish_word f) };
+
+    fn fmt<W: fmt::Write>(&self, f: &mut fmt::Formatter<W>) -> fmt::Result {
+        f.write_str(self.as_str())
+    }
 }
 
 /// How the change of a file comes to a recipe that reads it. A contract sees lists of bytes.

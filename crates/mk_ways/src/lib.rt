@@ -1,6 +1,19 @@
-//! Certificates: what is claimed where a build is said to be safe.
+//! Certificates: what is claimed where a build is said to be safe, their text, and its reading.
 #![tactic(auto)]
 
 mod certificate;
+mod fault;
+mod fields;
+mod key;
+pub mod laws;
+mod reading;
+mod writing;
 
 pub use certificate::{Certificate, Finish, Way};
+pub use fault::CertificateFault;
+pub use key::Key;
+pub use reading::read_certificate;
+pub use writing::certificate_text;
+
+#[cfg(test)]
+mod tests;

@@ -1,7 +1,7 @@
 use Rattle.std.proofs.Common.{◌≡◌, map}
 use Rattle.serde_json.specs.View.{members_view}
 use Rattle.mk_foot.specs.Steps.{each}
-use Rattle.mk_foot.specs.Kinds.{pairs}
+use Rattle.mk_json.specs.Kinds.{pairs}
 use Rattle.mk_foot.specs.Footprints.{list_in}
 use Rattle.mk_foot.proofs.Steps.{with_front}
 use Rattle.mk_foot.proofs.Members.{pair_view}

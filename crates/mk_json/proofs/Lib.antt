@@ -1,0 +1,4 @@
+pub mod Members
+pub mod Taken
+pub mod EachSome
+pub mod Json

@@ -1,0 +1,5 @@
+pub mod Kinds
+pub mod Taken
+pub mod Steps
+pub mod Reading
+pub mod Laws

@@ -1,0 +1,16 @@
+//! JSON values by their kinds, and objects whose fields are taken out of them.
+#![tactic(auto)]
+
+mod fields;
+mod kinds;
+pub mod laws;
+mod reading;
+
+pub use fields::{
+    Fields, fields_of, has_only, integer_at, take, take_elements, take_text, take_texts,
+};
+pub use kinds::{elements_of, members_of, text_of, texts_of};
+pub use reading::json_of;
+
+#[cfg(test)]
+mod tests;

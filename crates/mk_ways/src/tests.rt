@@ -1,0 +1,277 @@
+use crate::{Certificate, CertificateFault, Finish, Way, certificate_text, read_certificate};
+use mk_lines::{Name, Names};
+use std::alloc::{AllocError, Global};
+use std::process::Abort;
+use std::test::Fail;
+
+/// A certificate of three ways.
+const THREE: &str =
+    r#"{"format":1,"goals":["p"],"ways":[{"end":"source","file":"a.c","path":["a.o"],"recipe":"a.o"},{"end":"written","file":"a.o","path":["p","a.o"],"recipe":"p"},{"end":"source","file":"a.c","path":["p","a.o"],"recipe":"p"}]}"#;
+
+/// It as lines.
+const THREE_WAYS: &str = "goals p; a.o a.c source a.o; p a.o written p a.o; p a.c source p a.o";
+
+/// The same with its ways in another order, its keys too, and white space.
+const SHUFFLED: &str = r#" {"ways": [{"recipe":"p","path":["p","a.o"],"file":"a.c","end":"source"},
+ {"end":"source","file":"a.c","path":["a.o"],"recipe":"a.o"},
+ {"file":"a.o","end":"written","recipe":"p","path":["p","a.o"]}], "goals":["p"], "format":1}
+"#;
+
+/// It as lines.
+const SHUFFLED_WAYS: &str = "goals p; p a.c source p a.o; a.o a.c source a.o; p a.o written p a.o";
+
+/// Objects, and what they read as.
+const OBJECTS: &str = r#"[] => refused 72 top
+1 => refused 72 top
+"x" => refused 72 top
+null => refused 72 top
+{} => refused 72 format
+{"format":2,"goals":[],"ways":[]} => refused 72 format
+{"format":0,"goals":[],"ways":[]} => refused 72 format
+{"format":-1,"goals":[],"ways":[]} => refused 72 format
+{"format":1.0,"goals":[],"ways":[]} => refused 72 format
+{"format":1e0,"goals":[],"ways":[]} => refused 72 format
+{"format":-0,"goals":[],"ways":[]} => refused 72 format
+{"format":18446744073709551616,"goals":[],"ways":[]} => refused 72 format
+{"format":18446744073709551617,"goals":[],"ways":[]} => refused 72 format
+{"format":"1","goals":[],"ways":[]} => refused 72 format
+{"format":[1],"goals":[],"ways":[]} => refused 72 format
+{"format":true,"goals":[],"ways":[]} => refused 72 format
+{"format":null,"goals":[],"ways":[]} => refused 72 format
+{"goals":[],"ways":[]} => refused 72 format
+{"format":2,"goals":0,"ways":0,"x":0} => refused 72 format
+{"format":1,"goals":[],"ways":[]} => goals
+{"format":2,"format":1,"goals":[],"ways":[]} => goals
+{"format":1,"format":2,"goals":[],"ways":[]} => refused 72 format
+{"format":1,"goals":["p","q"],"ways":[]} => goals p q
+{"format":1,"goals":["q","p","q"],"ways":[]} => goals q p q
+{"format":1} => refused 72 goals
+{"format":1,"ways":[]} => refused 72 goals
+{"format":1,"goals":"p","ways":[]} => refused 72 goals
+{"format":1,"goals":{},"ways":[]} => refused 72 goals
+{"format":1,"goals":null,"ways":[]} => refused 72 goals
+{"format":1,"goals":[1],"ways":[]} => refused 72 goals
+{"format":1,"goals":["p",["q"]],"ways":[]} => refused 72 goals
+{"format":1,"goals":["p","./q"],"ways":[]} => refused 72 goals
+{"format":1,"goals":[""],"ways":[]} => refused 72 goals
+{"format":1,"goals":["a b"],"ways":[]} => refused 72 goals
+{"format":1,"goals":["."],"ways":0,"x":0} => refused 72 goals
+{"format":1,"goals":["."],"ways":[0]} => refused 72 goals
+{"format":1,"goals":[]} => refused 72 ways
+{"format":1,"goals":[],"ways":{}} => refused 72 ways
+{"format":1,"goals":[],"ways":"w"} => refused 72 ways
+{"format":1,"goals":[],"ways":null} => refused 72 ways
+{"format":1,"goals":[],"ways":{},"x":0} => refused 72 ways
+{"format":1,"goals":[],"ways":[],"x":0} => refused 72 unknown
+{"format":1,"goals":[],"ways":[],"top":0} => refused 72 unknown
+{"format":1,"goals":[],"ways":[],"unknown":0} => refused 72 unknown
+{"format":1,"goals":[],"ways":[],"end":"always"} => refused 72 unknown
+{"format":1,"goals":[],"ways":[],"Goals":[]} => refused 72 unknown
+{"":0,"format":1,"goals":[],"ways":[0]} => refused 72 unknown
+{"format":1,"goals":[],"ways":[{}],"x":0} => refused 72 unknown
+{"format":1,"goals":[],"ways":[0]} => refused 72 ways
+{"format":1,"goals":[],"ways":[null]} => refused 72 ways
+{"format":1,"goals":[],"ways":["w"]} => refused 72 ways
+{"format":1,"goals":[],"ways":[[]]} => refused 72 ways
+{ => refused 71
+{} x => refused 71
+{}{} => refused 71
+{"format":1,"goals":[],"ways":[],} => refused 71
+{"format":01,"goals":[],"ways":[]} => refused 71
+{"format":1,"goals":["\ud800"],"ways":[]} => refused 71
+"#;
+
+/// Lists of ways, and what an object with them and no goals reads as.
+const WAYS: &str =
+    r#"[{"end":"written","file":"f","path":["r","s"],"recipe":"r"}] => goals; r f written r s
+[{"end":"source","file":"f","path":["r"],"recipe":"r"}] => goals; r f source r
+[{"end":"always","file":"/f","path":["../r"],"recipe":"é"}] => goals; é /f always ../r
+[{"end":"always","file":"f","path":[],"recipe":"r"}] => goals; r f always
+[{"end":"written","end":"always","file":"f","path":[],"recipe":"r"}] => goals; r f always
+[{"end":"always","file":"f","path":[],"recipe":"r"},{"end":"always","file":"f","path":[],"recipe":"r"}] => goals; r f always; r f always
+[{}] => refused 72 end
+[{"file":"f","path":["r"],"recipe":"r"}] => refused 72 end
+[{"end":1,"file":"f","path":["r"],"recipe":"r"}] => refused 72 end
+[{"end":null,"file":"f","path":["r"],"recipe":"r"}] => refused 72 end
+[{"end":["written"],"file":"f","path":["r"],"recipe":"r"}] => refused 72 end
+[{"end":"","file":"f","path":["r"],"recipe":"r"}] => refused 72 end
+[{"end":"Written","file":"f","path":["r"],"recipe":"r"}] => refused 72 end
+[{"end":"sources","file":"f","path":["r"],"recipe":"r"}] => refused 72 end
+[{"end":"alway","file":0,"path":0,"recipe":0,"x":0}] => refused 72 end
+[{"end":"written","path":["r"],"recipe":"r"}] => refused 72 file
+[{"end":"written","file":1,"path":["r"],"recipe":"r"}] => refused 72 file
+[{"end":"written","file":["f"],"path":["r"],"recipe":"r"}] => refused 72 file
+[{"end":"written","file":"","path":["r"],"recipe":"r"}] => refused 72 file
+[{"end":"written","file":"./f","path":["r"],"recipe":"r"}] => refused 72 file
+[{"end":"written","file":"f/","path":0,"recipe":0,"x":0}] => refused 72 file
+[{"end":"written","x":0}] => refused 72 file
+[{"end":"written","file":"f","recipe":"r"}] => refused 72 path
+[{"end":"written","file":"f","path":"r","recipe":"r"}] => refused 72 path
+[{"end":"written","file":"f","path":{},"recipe":"r"}] => refused 72 path
+[{"end":"written","file":"f","path":[1],"recipe":"r"}] => refused 72 path
+[{"end":"written","file":"f","path":["r",null],"recipe":"r"}] => refused 72 path
+[{"end":"written","file":"f","path":["r","a/.."],"recipe":"r"}] => refused 72 path
+[{"end":"written","file":"f","path":["."],"recipe":0,"x":0}] => refused 72 path
+[{"end":"written","file":"f","path":["r"]}] => refused 72 recipe
+[{"end":"written","file":"f","path":["r"],"recipe":1}] => refused 72 recipe
+[{"end":"written","file":"f","path":["r"],"recipe":["r"]}] => refused 72 recipe
+[{"end":"written","file":"f","path":["r"],"recipe":"/"}] => refused 72 recipe
+[{"end":"written","file":"f","path":["r"],"recipe":"a b","x":0}] => refused 72 recipe
+[{"end":"written","file":"f","path":["r"],"recipe":"r","x":0}] => refused 72 unknown
+[{"end":"written","file":"f","path":["r"],"recipe":"r","format":1}] => refused 72 unknown
+[{"end":"written","file":"f","path":["r"],"recipe":"r","unknown":0}] => refused 72 unknown
+[{"end":"written","file":"f","path":["r"],"recipe":"r","x":0},0] => refused 72 unknown
+[{"end":"written","file":"f","path":["r"],"recipe":"r"},0] => refused 72 ways
+[{"end":"written","file":"f","path":["r"],"recipe":"r"},{}] => refused 72 end
+[{"end":"written","file":"f","path":["r"],"recipe":0},0] => refused 72 recipe
+[0,{}] => refused 72 ways
+"#;
+
+/// Adds names, each behind a space.
+fn push_names(shown: &mut String, names: &[Name]) -> Result<(), AllocError> {
+    for name in names {
+        shown.push(' ')?;
+        shown.push_str(name.as_str())?;
+    }
+    Ok(())
+}
+
+/// A certificate as lines.
+fn shown(alloc: Global, certificate: &Certificate) -> Result<String, Fail> {
+    let mut shown = String::from_str(alloc, "goals")?;
+    push_names(&mut shown, certificate.goals.as_slice())?;
+    for way in &certificate.ways {
+        let front = format!(in alloc; "; {} {} {}", way.recipe, way.file, way.finish)?;
+        shown.push_str(front.as_str())?;
+        push_names(&mut shown, way.path.as_slice())?;
+    }
+    Ok(shown)
+}
+
+/// What bytes read as: the certificate, or the line of its fault.
+fn read(alloc: Global, bytes: &[u8]) -> Result<String, Fail> {
+    match read_certificate(alloc, bytes) {
+        Ok(certificate) => shown(alloc, &certificate),
+        Err(CertificateFault::NotJson) => Ok(String::from_str(alloc, "refused 71")?),
+        Err(CertificateFault::Shape(key)) => Ok(format!(in alloc; "refused 72 {key}")?),
+        Err(CertificateFault::Memory) => Ok(String::from_str(alloc, "want of memory")?),
+    }
+}
+
+/// Sees what bytes read as.
+fn see(rt: &impl Abort, alloc: Global, bytes: &[u8], want: &str) -> Result<(), Fail> {
+    let got = read(alloc, bytes)?;
+    assert_eq!(rt; got.as_str(), want, "over {} bytes", bytes.len());
+    Ok(())
+}
+
+/// The words of a text, each as a name.
+fn names(alloc: Global, words: &str) -> Result<Names, AllocError> {
+    let mut names = Vec::new(alloc);
+    for word in words.split_whitespace() {
+        names.push(Name::new(alloc, word)?)?;
+    }
+    Ok(Names::new(names))
+}
+
+/// A way by its names.
+fn way(
+    alloc: Global,
+    recipe: &str,
+    file: &str,
+    path: &str,
+    finish: Finish,
+) -> Result<Way, AllocError> {
+    Ok(Way {
+        recipe: Name::new(alloc, recipe)?,
+        file: Name::new(alloc, file)?,
+        path: names(alloc, path)?,
+        finish,
+    })
+}
+
+#[test]
+fn writes_and_reads_three_ways(rt: HostRuntime) -> Result<(), Fail> {
+    let alloc = rt.alloc();
+    let certificate = Certificate {
+        goals: names(alloc, "p")?,
+        ways: vec![in alloc;
+            way(alloc, "a.o", "a.c", "a.o", Finish::Source)?,
+            way(alloc, "p", "a.o", "p a.o", Finish::Written)?,
+            way(alloc, "p", "a.c", "p a.o", Finish::Source)?,
+        ]?,
+    };
+    let text = certificate_text(alloc, &certificate)?;
+    assert_eq!(rt; text.as_str(), THREE);
+    see(&rt, alloc, THREE.as_bytes(), THREE_WAYS)?;
+    see(&rt, alloc, SHUFFLED.as_bytes(), SHUFFLED_WAYS)
+}
+
+#[test]
+fn writes_without_ways(rt: HostRuntime) -> Result<(), Fail> {
+    let alloc = rt.alloc();
+    let certificate = Certificate {
+        goals: names(alloc, "a\"b c\\d é")?,
+        ways: Vec::new(alloc),
+    };
+    let text = certificate_text(alloc, &certificate)?;
+    let want = r#"{"format":1,"goals":["a\"b","c\\d","é"],"ways":[]}"#;
+    assert_eq!(rt; text.as_str(), want);
+    see(&rt, alloc, text.as_bytes(), "goals a\"b c\\d é")
+}
+
+#[test]
+fn reads_objects(rt: HostRuntime) -> Result<(), Fail> {
+    for row in OBJECTS.lines() {
+        let (text, line) = row.split_once(" => ").ok_or("no arrow")?;
+        let got = read(rt.alloc(), text.as_bytes())?;
+        assert_eq!(rt; got.as_str(), line, "at {row}");
+    }
+    Ok(())
+}
+
+#[test]
+fn reads_ways(rt: HostRuntime) -> Result<(), Fail> {
+    let alloc = rt.alloc();
+    for row in WAYS.lines() {
+        let (ways, line) = row.split_once(" => ").ok_or("no arrow")?;
+        let mut text = String::from_str(alloc, r#"{"format":1,"goals":[],"ways":"#)?;
+        text.push_str(ways)?;
+        text.push('}')?;
+        let got = read(alloc, text.as_bytes())?;
+        assert_eq!(rt; got.as_str(), line, "at {row}");
+    }
+    Ok(())
+}
+
+/// Fronts of a certificate have no JSON value, save the whole of it.
+#[test]
+fn refuses_fronts(rt: HostRuntime) -> Result<(), Fail> {
+    let text = THREE.as_bytes();
+    for end in 0..text.len() {
+        see(&rt, rt.alloc(), &text[..end], "refused 71")?;
+    }
+    see(
+        &rt,
+        rt.alloc(),
+        b"{\"format\":1,\"goals\":[\"\xff\"]}",
+        "refused 71",
+    )?;
+    see(&rt, rt.alloc(), b"\xef\xbb\xbf{}", "refused 71")
+}
+
+/// With a growth refused the answer is want of memory, or the whole one.
+#[test]
+fn wants_memory_or_answers(rt: HostRuntime) -> Result<(), Fail> {
+    let alloc = rt.alloc();
+    match read_certificate(alloc, THREE.as_bytes()) {
+        Ok(certificate) => {
+            assert_eq!(rt; shown(alloc, &certificate)?.as_str(), THREE_WAYS);
+            if let Ok(text) = certificate_text(alloc, &certificate) {
+                assert_eq!(rt; text.as_str(), THREE);
+            }
+        }
+        Err(fault) => assert!(rt; matches!(fault, CertificateFault::Memory)),
+    }
+    Ok(())
+}

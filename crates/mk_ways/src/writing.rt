@@ -1,0 +1,104 @@
+//! The text of a certificate.
+
+ghost use Rattle.std.specs.Prelude.{◌≡◌, ◌++◌, false, map, IfOk, OnOk};
+ghost use Rattle.std.specs.String.{string_bytes};
+ghost use Rattle.serde_json.specs.View.{view, items_of};
+ghost use Rattle.serde_json.specs.Written.{compact_text, comma_if, has_float, items_text};
+ghost use Rattle.mk_ways.specs.Writing.{names_value, way_value, value_of};
+
+use crate::certificate::{Certificate, Way};
+use mk_lines::Name;
+use serde_json::{Value, json};
+use std::alloc::{AllocError, Global};
+
+/// The JSON value of names.
+fn names_value(alloc: Global, names: &[Name]) -> Result<Value, AllocError>
+    ensures { IfOk result (λ value. view value ≡ names_value names.now) }
+{
+    let mut texts = Vec::with_capacity(alloc, names.len())?;
+    for name in names {
+        texts.push(Value::try_from_str(alloc, name.as_str())?)?;
+    }
+    Ok(Value::Array(texts))
+}
+
+/// The JSON value of a way.
+fn way_value(alloc: Global, way: &Way) -> Result<Value, AllocError>
+    ensures { IfOk result (λ value. view value ≡ way_value way.now) }
+{
+    let path = names_value(alloc, way.path.as_slice())?;
+    let end = way.finish.as_str();
+    json!(in alloc; {
+        "end": end,
+        "file": way.file.as_str(),
+        "path": path,
+        "recipe": way.recipe.as_str()
+    })
+}
+
+/// Adds the text of a value.
+fn push_value(alloc: Global, text: &mut String, value: &Value) -> Result<(), AllocError>
+    requires { has_float (view value.now) ≡ false }
+    ensures { OnOk result (string_bytes text.new ≡
+        string_bytes text.old ++ compact_text (view value.now)) }
+{
+    let written = value.to_string(alloc)?;
+    text.push_str(written.as_str())
+}
+
+/// Adds the text of names.
+fn push_names(alloc: Global, text: &mut String, names: &[Name]) -> Result<(), AllocError>
+    ensures { OnOk result (string_bytes text.new ≡
+        string_bytes text.old ++ compact_text (names_value names.now)) }
+{
+    let value = names_value(alloc, names)?;
+    push_value(alloc, text, &value)
+}
+
+/// Adds the text of a way.
+fn push_way(alloc: Global, text: &mut String, way: &Way) -> Result<(), AllocError>
+    ensures { OnOk result (string_bytes text.new ≡
+        string_bytes text.old ++ compact_text (way_value way.now)) }
+{
+    let value = way_value(alloc, way)?;
+    push_value(alloc, text, &value)
+}
+
+/// Adds a comma, where something stands before.
+fn push_comma(text: &mut String, later: bool) -> Result<(), AllocError>
+    ensures { OnOk result (string_bytes text.new ≡ string_bytes text.old ++ comma_if later) }
+{
+    if later {
+        text.push_str(",")?;
+    }
+    Ok(())
+}
+
+/// Adds the texts of ways, with a comma before each but the first, and the bracket behind them.
+fn push_ways(alloc: Global, text: &mut String, ways: &[Way]) -> Result<(), AllocError>
+    ensures { OnOk result (string_bytes text.new ≡
+        string_bytes text.old ++ items_text false (items_of (map way_value ways.now))) }
+{
+    let mut later = false;
+    for way in ways {
+        push_comma(text, later)?;
+        push_way(alloc, text, way)?;
+        later = true;
+    }
+    text.push_str("]")
+}
+
+/// The text of a certificate: compact JSON with its keys in the order of their bytes, and no
+/// newline. The error is want of memory alone.
+///
+/// The JSON value of one way is made at a time, so memory stays near that of the text.
+pub fn certificate_text(alloc: Global, certificate: &Certificate) -> Result<String, AllocError>
+    ensures { IfOk result (λ text. string_bytes text ≡ compact_text (value_of certificate.now)) }
+{
+    let mut text = String::from_str(alloc, "{\"format\":1,\"goals\":")?;
+    push_names(alloc, &mut text, certificate.goals.as_slice())?;
+    text.push_str(",\"ways\":[")?;
+    push_ways(alloc, &mut text, &certificate.ways)?;
+    text.push_str("}")?;
+    Ok(text)
+}
