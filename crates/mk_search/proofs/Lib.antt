@@ -1,0 +1,5 @@
+pub mod Lists
+pub mod Order
+pub mod Reading
+pub mod Firsts
+pub mod Steps

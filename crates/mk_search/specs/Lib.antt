@@ -1,0 +1,4 @@
+pub mod Ways
+pub mod Places
+pub mod Progress
+pub mod Laws

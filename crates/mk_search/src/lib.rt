@@ -1,0 +1,4 @@
+//! A search breadth first, which goes on as far as it is asked.
+#![tactic(auto)]
+
+pub mod laws;
