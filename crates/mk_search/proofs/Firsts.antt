@@ -4,10 +4,10 @@ use Rattle.std.proofs.lemmas.Bool.{false≢true}
 use Rattle.std.proofs.lemmas.List.{length-append}
 use Rattle.mk_graph.specs.Membership.{Has}
 use Rattle.mk_search.specs.Ways.{end, IsWay, Precedes, IsFirst, IsFirstThere}
-use Rattle.mk_search.specs.Places.{IsRising, IsBeginning, StandsAt, HasAtMost}
+use Rattle.mk_search.specs.Places.{IsRising, IsBeginning, StandsAt}
 use Rattle.mk_search.specs.Laws.{FirstIsOne, FirstIsShortest, OneWayAtAPlace, SaysNoBefore, FirstByPlaces, NoneByPlaces}
 use Rattle.mk_search.proofs.Lists.{has_left, has_right, has_cases, cut_at, at_place, join_assoc, mapped_from, has_mapped, map_joined}
-use Rattle.mk_search.proofs.Order.{before_trans, before_none, before_once, before_later}
+use Rattle.mk_search.proofs.Order.{before_none, before_once, before_later}
 use Rattle.mk_search.proofs.Reading.{as_read}
 
 module _ (succ : ℕ → List ℕ) (t : ℕ) where
@@ -54,9 +54,11 @@ module _ (succ : ℕ → List ℕ) (t : ℕ) where
       later : (other found : List ℕ) → Has ways found ⊎ Has others found → end t found ≡ end t other → (found ≡ other) ⊎ Precedes succ t found other → Has (map (end t) ways) (end t other) ⊎ ((way : List ℕ) → Has ways way → Precedes succ t way other)
       later other found (inl in_front) e no_later = inl (subst (λ (k : ℕ). Has (map (end t) ways) k) e (has_mapped (end t) ways found in_front))
       later other found (inr behind) e no_later = inr (λ way h. before_later succ t way found other (rising_across ways others b.rising way found h behind) no_later)
+
       swapped : (p q : List ℕ) → (q ≡ p) ⊎ Precedes succ t p q → (p ≡ q) ⊎ Precedes succ t p q
       swapped p q (inl e) = inl (sym e)
       swapped p q (inr h) = inr h
+
       cases : (other : List ℕ) → IsWay succ t other → Has (map (end t) (ways ++ others)) (end t other) ⊎ ((way : List ℕ) → Has (ways ++ others) way → Precedes succ t way other) → Has (map (end t) ways) (end t other) ⊎ ((way : List ℕ) → Has ways way → Precedes succ t way other)
       cases other is (inr all) = inr (λ way h. all way (has_left ways others way h))
       cases other is (inl h) =
@@ -85,12 +87,15 @@ module _ (succ : ℕ → List ℕ) (t : ℕ) where
       no_later x y ys r (inl (inl here)) = inl here
       no_later x y ys r (inl (inr there)) = inr (r x there)
       no_later x y ys r (inr all) = inr (all y (inl refl))
+
       equal : (x y : List ℕ) → (y ≡ x) ⊎ Precedes succ t y x → (x ≡ y) ⊎ Precedes succ t x y → x ≡ y
       equal x y (inl e) k = sym e
       equal x y (inr h) (inl e) = e
       equal x y (inr h) (inr k) = absurd (before_once succ t x y k h)
+
       head_cases : (x y : List ℕ) (xs ys : List (List ℕ)) → ((other : List ℕ) → Has xs other → Precedes succ t x other) → ((other : List ℕ) → Has ys other → Precedes succ t y other) → Has (y ∷ ys) x ⊎ ((other : List ℕ) → Has (y ∷ ys) other → Precedes succ t other x) → Has (x ∷ xs) y ⊎ ((other : List ℕ) → Has (x ∷ xs) other → Precedes succ t other y) → x ≡ y
       head_cases x y xs ys r s f g = equal x y (no_later x y ys s f) (no_later y x xs r g)
+
       tail_cases : (x y : List ℕ) (xs ys : List (List ℕ)) (way : List ℕ) → x ≡ y → Precedes succ t x way → Has (y ∷ ys) way ⊎ ((other : List ℕ) → Has (y ∷ ys) other → Precedes succ t other way) → Has ys way ⊎ ((other : List ℕ) → Has ys other → Precedes succ t other way)
       tail_cases x y xs ys way e h (inl (inl here)) = absurd (before_none succ t way (subst (λ (v : List ℕ). Precedes succ t v way) (e ∙ here) h))
       tail_cases x y xs ys way e h (inl (inr there)) = inl there
@@ -136,11 +141,13 @@ first_by_places succ t test k way denies a says = record {
   where
     at_end : Has (a.preceding ++ way ∷ []) way
     at_end = has_right a.preceding (way ∷ []) way (inl refl)
+
     here : (other : List ℕ) → IsWay succ t other → test (end t other) ≡ true → Has (map (end t) a.preceding) (end t other) ⊎ Has (end t way ∷ []) (end t other) → (other ≡ way) ⊎ Precedes succ t way other
     here other is ok (inl in_front) =
         absurd (false≢true (sym (said_no succ t test k a.preceding (let e = a.many in omega arith) denies (beginning_front succ t a.preceding (way ∷ []) a.beginning) other in_front) ∙ ok))
     here other is ok (inr (inl e)) = (a.beginning.first way at_end).before other is (sym e)
     here other is ok (inr (inr none)) = absurd none
+
     cases : (other : List ℕ) → IsWay succ t other → test (end t other) ≡ true → Has (map (end t) (a.preceding ++ way ∷ [])) (end t other) ⊎ ((v : List ℕ) → Has (a.preceding ++ way ∷ []) v → Precedes succ t v other) → (other ≡ way) ⊎ Precedes succ t way other
     cases other is ok (inl h) =
         here other is ok (has_cases (map (end t) a.preceding) (end t way ∷ []) (end t other) (subst (λ (l : List ℕ). Has l (end t other)) (map_joined (end t) a.preceding (way ∷ [])) h))

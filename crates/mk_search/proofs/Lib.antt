@@ -3,3 +3,5 @@ pub mod Order
 pub mod Reading
 pub mod Firsts
 pub mod Steps
+pub mod Tables
+pub mod Going

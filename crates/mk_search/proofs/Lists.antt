@@ -1,5 +1,5 @@
 -- What stands in joined and mapped lists, and at which place.
-use Rattle.std.proofs.Common.{◌≡◌, ℕ, ◌+◌, ◌<◌, zero, suc, true, false, eqb, List, [], ◌∷◌, ◌++◌, length, map, get_or, ◌⊎◌, inl, inr, ⊎_elim, refl, sym, ◌∙◌, ap, subst, arith, eqb-true, eq-eqb}
+use Rattle.std.proofs.Common.{◌≡◌, ℕ, ◌<◌, zero, suc, eqb, List, [], ◌∷◌, ◌++◌, length, map, get_or, ◌⊎◌, inl, inr, ⊎_elim, refl, sym, ◌∙◌, ap, subst, arith, eqb-true, eq-eqb}
 use Rattle.std.proofs.lemmas.Bool.{cases_Bool, cond-true, cond-false, false≢true, ne_eqb}
 use Rattle.mk_graph.specs.Membership.{Has, IsDistinct}
 use Rattle.mk_search.specs.Ways.{place}
@@ -28,6 +28,16 @@ module _ {A : Type 0} where
   cut_at [] x h = absurd h
   cut_at (y ∷ xs) x (inl here) = ([], xs, ap (λ (k : A). k ∷ xs) here)
   cut_at (y ∷ xs) x (inr there) = let cut = cut_at xs x there in (y ∷ cut.0, cut.1, ap (λ (l : List A). y ∷ l) cut.2)
+
+  -- so does what stands at a place
+  pub cut_at_place : (xs : List A) (k : ℕ) (d : A) → k < length xs → (front : List A) × (back : List A) × (xs ≡ front ++ get_or xs k d ∷ back) × (length front ≡ k)
+  cut_at_place [] k d h = absurd (omega arith)
+  cut_at_place (x ∷ xs) zero d h = ([], xs, refl, refl)
+  cut_at_place (x ∷ xs) (suc k) d h = let cut = cut_at_place xs k d (omega arith) in (x ∷ cut.0, cut.1, ap (λ (l : List A). x ∷ l) cut.2, ap suc cut.3)
+
+  -- equal lists have equal heads
+  pub head_is : (x y : A) (xs ys : List A) → x ∷ xs ≡ y ∷ ys → x ≡ y
+  head_is x y xs ys e = cc
 
   -- the element behind a list
   pub at_length : (xs ys : List A) (x d : A) → get_or (xs ++ x ∷ ys) (length xs) d ≡ x

@@ -1,5 +1,5 @@
 -- Laws of ways, their order, and their places.
-use Rattle.std.specs.Prelude.{◌≡◌, ℕ, ◌<◌, ◌≤◌, List, [], ◌∷◌, ◌++◌, length, Bool, true, false, ◌⊎◌, ◌↔◌}
+use Rattle.std.specs.Prelude.{◌≡◌, ℕ, ◌<◌, ◌≤◌, List, ◌∷◌, ◌++◌, length, Bool, true, false, ◌⊎◌, ◌↔◌}
 use Rattle.mk_search.specs.Ways.{end, IsWay, place, Precedes, IsFirst}
 use Rattle.mk_search.specs.Places.{StandsAt, HasAtMost}
 
@@ -8,7 +8,7 @@ abbrev pub PrecedesIsAnOrder : Type 0
 PrecedesIsAnOrder =
     (succ : ℕ → List ℕ) (t : ℕ) →
     ((one two three : List ℕ) → Precedes succ t one two → Precedes succ t two three →
-        Precedes succ t one three) ×
+    Precedes succ t one three) ×
     ((way : List ℕ) → ¬ (Precedes succ t way way))
 
 -- Of two ways that differ one precedes the other.

@@ -1,7 +1,7 @@
 -- The places of ways: of those that are first to lead where they lead, in the order of ways.
 use Rattle.std.specs.Prelude.{◌≡◌, ℕ, ◌≤◌, List, [], ◌∷◌, ◌++◌, ◌⊎◌, length, map}
 use Rattle.mk_graph.specs.Membership.{Has}
-use Rattle.mk_search.specs.Ways.{end, IsWay, Precedes, IsFirstThere}
+use Rattle.mk_search.specs.Ways.{end, along, IsWay, Precedes, IsFirstThere}
 
 -- What a search goes through: rows of successors, and the node from which it starts.
 pub record Task : Type 0 where
@@ -34,6 +34,12 @@ pub record EndsAt (succ : ℕ → List ℕ) (t place node : ℕ) : Type 0 where
   pub way : List ℕ
   pub stands : StandsAt succ t place way
   pub ends : end t way ≡ node
+
+-- The way at this place goes along these nodes, from the start to its end.
+pub record GoesAt (succ : ℕ → List ℕ) (t place : ℕ) (nodes : List ℕ) : Type 0 where
+  pub way : List ℕ
+  pub stands : StandsAt succ t place way
+  pub goes : nodes ≡ along t way
 
 -- That list has at most so many ways.
 pub record HasAtMost (succ : ℕ → List ℕ) (t count : ℕ) : Type 0 where

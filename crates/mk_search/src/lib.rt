@@ -2,3 +2,8 @@
 #![tactic(auto)]
 
 pub mod laws;
+mod progress;
+mod search;
+mod visits;
+
+pub use search::Search;
