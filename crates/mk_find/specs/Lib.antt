@@ -1,0 +1,5 @@
+pub mod Carried
+pub mod FirstPaths
+pub mod Findings
+pub mod Certifying
+pub mod Laws

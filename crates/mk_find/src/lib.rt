@@ -1,0 +1,4 @@
+//! What is found of a build, and the certificate of one of which nothing is.
+#![tactic(auto)]
+
+pub mod laws;
