@@ -12,6 +12,7 @@ mod looking_up;
 mod node_findings;
 mod pairs;
 mod question;
+mod race_findings;
 mod subject;
 mod tables;
 mod writer_findings;
@@ -19,4 +20,5 @@ mod writers;
 
 pub use finding::Finding;
 pub use findings::static_findings;
+pub use race_findings::races;
 pub use subject::Subject;
