@@ -18,7 +18,7 @@ returns-then-other-entry c =
     let e = c.args.entry.now in
     let number : c.entry.inside.number ≡ e.number = ap (λ (k : Entry). k.number) c.entry.view_is in
     elim c.then-other-entry.branch [
-      then-other-entry-via-then-other-entry w ↦ adds_none x (race e.number c.args.other c.args.file.now) c.args.found.now.items (λ h. h.0 (w.if-other-entry.true ∙ number))
+      | then-other-entry-via-then-other-entry w ↦ adds_none x (race e.number c.args.other c.args.file.now) c.args.found.now.items (λ h. h.0 (w.if-other-entry.true ∙ number))
       | then-other-entry-via-else-other-entry+then-before w ↦
           adds_none x (race e.number c.args.other c.args.file.now) c.args.found.now.items
           (λ h. h.3 (subst (λ (g : Graph). Before g c.args.other e.number) c.requires.order (subst (λ (n : ℕ). Before c.args.order.now c.args.other n) number (w.before-else-other-entry.ensures.0 w.if-before.true))))
