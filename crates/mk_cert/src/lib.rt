@@ -3,20 +3,32 @@
 #![tactic(auto)]
 
 mod asking;
+mod counting;
 mod entry;
+mod fault;
 mod file_findings;
 mod finding;
 mod findings;
+mod judging;
+mod lacking;
 pub mod laws;
+mod links;
 mod looking_up;
 mod node_findings;
 mod pairs;
 mod question;
+mod race_findings;
 mod subject;
 mod tables;
+mod verifying;
+mod walking;
 mod writer_findings;
 mod writers;
 
+pub use counting::counts;
+pub use fault::CertFault;
 pub use finding::Finding;
 pub use findings::static_findings;
+pub use race_findings::races;
 pub use subject::Subject;
+pub use verifying::verify;
