@@ -1,5 +1,5 @@
 -- What a recipe carries stands in its list, and nothing else does.
-use Rattle.std.proofs.Common.{◌≡◌, ℕ, ◌<◌, Bool, true, false, cond, List, [], ◌∷◌, length, filter, inl, inr, refl, sym, ◌∙◌, ap, subst}
+use Rattle.std.proofs.Common.{◌≡◌, ℕ, ◌<◌, true, cond, List, [], ◌∷◌, length, inl, inr, sym, subst}
 use Rattle.std.specs.Str.{bytes_eq}
 use Rattle.std.proofs.lemmas.Bool.{false≢true, cases_lt, or_cases, or_left, or_right}
 use Rattle.std.proofs.lemmas.List.{get_or_past}
@@ -12,6 +12,7 @@ use Rattle.mk_graph.specs.Membership.{Has, MembersOfJoined}
 use Rattle.mk_graph.specs.Serial.{serial_order}
 use Rattle.mk_graph.specs.Setting.{FileName, Setting, name, writes}
 use Rattle.mk_find.specs.Carried.{writers}
+use Rattle.mk_find.proofs.Members.{kept_from, kept_to}
 use Rattle.mk_find.specs.Laws.{CarriedExactly}
 
 -- a name that stands in a list is found
@@ -24,28 +25,6 @@ found (k ∷ files) f (inr there) = or_right (bytes_eq f k) (has_name files f) (
 stands : (files : List (List ℕ)) (f : List ℕ) → has_name files f ≡ true → Has files f
 stands [] f e = absurd (false≢true e)
 stands (k ∷ files) f e = elim (or_cases (bytes_eq f k) (has_name files f) e) [ inl here ↦ inl (sym ((bytes_eq-Decides f k).0 here)) | inr there ↦ inr (stands files f there) ]
-
-module _ (test : ℕ → Bool) where
-  -- what is kept passes
-  kept_from : (ns : List ℕ) (n : ℕ) → Has (filter test ns) n → Has ns n × (test n ≡ true)
-  kept_from [] n h = absurd h
-  kept_from (m ∷ ns) n h = by (test m) refl (kept_from ns n) h
-    where
-      by : (b : Bool) → test m ≡ b → (Has (filter test ns) n → Has ns n × (test n ≡ true)) → Has (cond b (m ∷ filter test ns) (filter test ns)) n → Has (m ∷ ns) n × (test n ≡ true)
-      by true e on (inl here) = (inl here, ap test (sym here) ∙ e)
-      by true e on (inr there) = let rest = on there in (inr rest.0, rest.1)
-      by false e on there = let rest = on there in (inr rest.0, rest.1)
-
-  -- what passes is kept
-  kept_to : (ns : List ℕ) (n : ℕ) → Has ns n → test n ≡ true → Has (filter test ns) n
-  kept_to [] n h e = absurd h
-  kept_to (m ∷ ns) n h e = by (test m) refl (λ there. kept_to ns n there e) h
-    where
-      by : (b : Bool) → test m ≡ b → (Has ns n → Has (filter test ns) n) → Has (m ∷ ns) n → Has (cond b (m ∷ filter test ns) (filter test ns)) n
-      by true f on (inl here) = inl here
-      by true f on (inr there) = inr (on there)
-      by false f on (inl here) = absurd (false≢true (sym f ∙ (ap test here ∙ e)))
-      by false f on (inr there) = on there
 
 -- who writes something is a node
 is_node : (g : Graph) (s : Setting) (o : ℕ) (f : FileName) → Has (writes g s o) f → o < length g.nodes
