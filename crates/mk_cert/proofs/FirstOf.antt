@@ -1,5 +1,5 @@
 -- The first of a list of which something holds, part by part.
-use Rattle.std.proofs.Common.{◌≡◌, List, [], ◌∷◌, ◌++◌, inl, inr, ⊎_elim, refl, sym, subst}
+use Rattle.std.proofs.Common.{List, [], ◌∷◌, ◌++◌, inl, inr, ⊎_elim, refl, subst}
 use Rattle.mk_graph.specs.Membership.{Has}
 use Rattle.mk_cert.specs.Verdict.{IsFirst}
 

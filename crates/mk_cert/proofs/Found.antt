@@ -1,5 +1,5 @@
 -- The first of what is found.
-use Rattle.std.proofs.Common.{◌≡◌, List, [], ◌∷◌, ◌++◌, map, ◌⊎◌, inl, inr, ⊎_elim, refl, sym, subst, ◌∙◌}
+use Rattle.std.proofs.Common.{◌≡◌, List, [], ◌∷◌, map, ◌⊎◌, inl, inr, ⊎_elim, refl, sym, ◌∙◌}
 use Rattle.std.specs.Prelude.{⊤, Result, Ok, Err, OnOk}
 use Rattle.mk_ways.specs.Certificate.{Way, Certificate}
 use Rattle.mk_cert.specs.declared.finding.Finding.{Finding}
@@ -7,7 +7,7 @@ use Rattle.mk_cert.specs.declared.fault.CertFault.{CertFault}
 use Rattle.mk_cert.specs.declared.fault.CertFault.TheVariants.{OtherGoals, NoWay, BadWay, Static, Memory}
 use Rattle.mk_cert.specs.Subject.{Subject}
 use Rattle.mk_cert.specs.Candidates.{Candidate, Holds}
-use Rattle.mk_cert.specs.Listing.{Lists, nothing, keeps, drops}
+use Rattle.mk_cert.specs.Listing.{Lists, keeps, drops}
 use Rattle.mk_cert.specs.Listed.{Adds, named}
 use Rattle.mk_cert.specs.Verdict.{IsFirst, HasGoals, NothingFound, NoneBad, Verifies}
 use Rattle.mk_cert.specs.Checks.{AnswersReads, AnswersWays}

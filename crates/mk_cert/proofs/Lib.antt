@@ -12,7 +12,7 @@ pub mod Walks
 pub mod Paths
 pub mod Numbers
 pub mod Rows
-pub mod Carrying
+pub mod CarriedNodes
 pub mod Past
 pub mod FirstOf
 pub mod Judged

@@ -1,5 +1,5 @@
 -- Past the last node there is nothing.
-use Rattle.std.proofs.Common.{◌≡◌, ℕ, ◌≤◌, List, [], length, cond, ap, subst}
+use Rattle.std.proofs.Common.{◌≡◌, ℕ, ◌≤◌, List, [], length, cond, subst}
 use Rattle.std.specs.List.{flat_map}
 use Rattle.std.proofs.lemmas.List.{get_or_past}
 use Rattle.mk_graph.specs.declared.node.Node.{Node}

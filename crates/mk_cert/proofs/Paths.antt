@@ -1,8 +1,7 @@
 -- Paths are ways, and ways are paths.
 use Rattle.std.proofs.Common.{◌≡◌, ℕ, List, [], ◌∷◌, refl}
 use Rattle.mk_graph.specs.Graph.{Graph}
-use Rattle.mk_graph.specs.Membership.{Has}
-use Rattle.mk_graph.specs.Setting.{FileName, Setting, writes}
+use Rattle.mk_graph.specs.Setting.{FileName, Setting}
 use Rattle.mk_graph.specs.Ways.{Way, over, written, source, always, Carries}
 use Rattle.mk_ways.specs.declared.certificate.Finish.{Finish}
 use Rattle.mk_ways.specs.declared.certificate.Finish.TheVariants.{Written, Source, Always}

@@ -1,5 +1,5 @@
 -- Walks along names, and good entries.
-use Rattle.std.proofs.Common.{◌≡◌, ℕ, ◌<◌, List, [], ◌∷◌, map, length, true, refl, sym, ap, subst, ◌∙◌, ⊎_elim}
+use Rattle.std.proofs.Common.{◌≡◌, ℕ, ◌<◌, List, [], ◌∷◌, map, length, refl, sym, ap, subst, ◌∙◌, ⊎_elim}
 use Rattle.std.specs.Prelude.{All, ◌↔◌}
 use Rattle.std.proofs.lemmas.Bool.{true≢false, cases_lt}
 use Rattle.std.proofs.lemmas.List.{get_or_past}
@@ -9,11 +9,10 @@ use Rattle.mk_graph.specs.Graph.{IsGraph, node, no_node}
 use Rattle.mk_graph.specs.GrowthLaws.{NamesHaveOneNumber}
 use Rattle.mk_graph.specs.Ways.{Carries}
 use Rattle.mk_ways.specs.Certificate.{Way}
-use Rattle.mk_ways.specs.declared.certificate.Finish.{Finish}
 use Rattle.mk_ways.specs.declared.certificate.Finish.TheVariants.{Written}
 use Rattle.mk_cert.specs.Subject.{Subject, footprints, name_of}
 use Rattle.mk_cert.specs.Conditions.{IsRecipe}
-use Rattle.mk_cert.specs.Paths.{AreCarried, last_of, EndsAt, IsPath}
+use Rattle.mk_cert.specs.Paths.{AreCarried, last_of, EndsAt}
 use Rattle.mk_cert.specs.Verdict.{IsGood, NeedsWay}
 use Rattle.mk_cert.specs.Walking.{GoesOver}
 

@@ -1,5 +1,5 @@
 -- What is counted of what was judged.
-use Rattle.std.specs.Prelude.{ℕ, List, filter, length, sum_by}
+use Rattle.std.specs.Prelude.{ℕ, filter, length, sum_by}
 use Rattle.mk_graph.specs.Graph.{node}
 use Rattle.mk_graph.specs.Serial.{serial_order}
 use Rattle.mk_cert.specs.Subject.{Subject, reads_of}

@@ -18,3 +18,4 @@ pub mod Links
 pub mod Walking
 pub mod Counts
 pub mod Checks
+pub mod Carried

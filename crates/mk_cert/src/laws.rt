@@ -1,6 +1,7 @@
 //! Laws of findings. Each is the contract of a function that calls laws alone: who calls it has the
 //! law.
 
+ghost use Rattle.mk_cert.specs.Carried.{CarriedExactly};
 ghost use Rattle.mk_cert.specs.Laws.{ListIsOne, ListedExactly, AllWritesExactly, NothingFoundIsSound, NothingFoundIsSelected, NoRaceFoundIsNone, NothingFoundIsRight, PathsAreWays, VerifiedIsRight};
 
 use mk_graph::build_laws::{accepted_is_right, before_is_decided, one_build_is_right};
@@ -64,6 +65,13 @@ pub fn nothing_found_is_right()
 pub fn paths_are_ways()
     ensures { PathsAreWays }
 {}
+
+/// What is listed as carried are the recipes that a node carries.
+pub fn carried_exactly()
+    ensures { CarriedExactly }
+{
+    serial_reaches_each_once();
+}
 
 /// Where a certificate is accepted, every legal history is right, one make from a start is, and the
 /// graph stays selected whatever part of the files that recipes write is there.

@@ -3,6 +3,7 @@
 #![tactic(auto)]
 
 mod asking;
+mod carrying;
 mod counting;
 mod entry;
 mod fault;
@@ -25,7 +26,9 @@ mod walking;
 mod writer_findings;
 mod writers;
 
+pub use carrying::carried_lists;
 pub use counting::counts;
+pub use entry::Entry;
 pub use fault::CertFault;
 pub use finding::Finding;
 pub use findings::static_findings;

@@ -1,4 +1,4 @@
-use Rattle.std.proofs.Common.{◌≡◌, ◌+◌, ◌<◌, ◌≤◌, ◌∷◌, ◌∙◌, Bool, true, false, List, [], Err, inr, refl, sym, subst, get_or, length, take, drop, arith}
+use Rattle.std.proofs.Common.{◌≡◌, ◌+◌, ◌<◌, ◌≤◌, ◌∷◌, Bool, true, false, List, [], Err, inr, refl, sym, subst, get_or, length, take, drop, arith}
 use Rattle.std.proofs.lemmas.List.{drop_more, take_all}
 use Rattle.mk_ways.specs.Certificate.{Way}
 use Rattle.mk_cert.specs.declared.fault.CertFault.{CertFault}

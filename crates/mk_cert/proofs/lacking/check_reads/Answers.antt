@@ -1,4 +1,4 @@
-use Rattle.std.proofs.Common.{◌≡◌, ◌+◌, ◌<◌, ◌≤◌, ◌∷◌, ◌++◌, ◌∙◌, [], ℕ, List, Err, true, false, inr, ⊎_elim, refl, ap, sym, subst, get_or, length, map, drop, arith}
+use Rattle.std.proofs.Common.{◌≡◌, ◌+◌, ◌<◌, ◌≤◌, ◌++◌, ◌∙◌, [], ℕ, List, Err, inr, ⊎_elim, refl, ap, sym, subst, get_or, length, map, drop, arith}
 use Rattle.std.specs.List.{flat_map}
 use Rattle.std.proofs.lemmas.Bool.{true≢false, cases_Bool}
 use Rattle.std.proofs.lemmas.List.{drop_more, get_or-map, length-map}
@@ -6,11 +6,9 @@ use Rattle.std.proofs.lemmas.List.Elements.{All-get_or}
 use Rattle.mk_lines.specs.Names.{has_name}
 use Rattle.mk_graph.specs.Membership.{Has}
 use Rattle.mk_graph.specs.Serial.{serial_order}
-use Rattle.mk_ways.specs.Certificate.{Way}
 use Rattle.mk_cert.specs.declared.fault.CertFault.{CertFault}
-use Rattle.mk_cert.specs.Subject.{name_of, reads_of}
+use Rattle.mk_cert.specs.Subject.{reads_of}
 use Rattle.mk_cert.specs.Entry.{Entry, IsEntry}
-use Rattle.mk_cert.specs.Links.{AreSeen}
 use Rattle.mk_cert.specs.Verdict.{IsFirst, Read, LacksWay, all_reads}
 use Rattle.mk_cert.specs.Checks.{AnswersReads, reads_by}
 use Rattle.mk_cert.proofs.Adding.{drop_past}

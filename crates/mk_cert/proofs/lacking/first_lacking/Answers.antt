@@ -3,9 +3,7 @@ use Rattle.std.specs.String.{string_bytes}
 use Rattle.std.proofs.lemmas.Bool.{true≢false}
 use Rattle.std.proofs.lemmas.List.{drop_more, get_or-map, length-map}
 use Rattle.mk_graph.specs.Membership.{Has}
-use Rattle.mk_ways.specs.Certificate.{Way}
 use Rattle.mk_cert.specs.Subject.{reads_of}
-use Rattle.mk_cert.specs.Links.{AreSeen}
 use Rattle.mk_cert.specs.Verdict.{IsFirst, Read, LacksWay}
 use Rattle.mk_cert.specs.Checks.{reads_by}
 use Rattle.mk_cert.proofs.Adding.{drop_past}

@@ -1,10 +1,10 @@
-use Rattle.std.proofs.Common.{◌≡◌, ◌<◌, ◌∙◌, ℕ, List, ap, sym, subst, get_or, length, arith}
+use Rattle.std.proofs.Common.{◌≡◌, ◌<◌, ◌∙◌, ℕ, List, ap, subst, get_or, length, arith}
 use Rattle.std.proofs.lemmas.List.{get_or_default}
 use Rattle.mk_graph.specs.declared.node.Node.{Node}
 use Rattle.mk_graph.specs.Graph.{Graph, node, no_node, prerequisites}
 use Rattle.mk_graph.specs.Membership.{Has}
 use Rattle.mk_cert.specs.Subject.{name_of}
-use Rattle.mk_cert.proofs.Carrying.{listed, one_more}
+use Rattle.mk_cert.proofs.CarriedNodes.{listed, one_more}
 use Rattle.mk_cert.proofs.FileDecided.{writer_is_node}
 use Rattle.mk_cert.proofs.Rows.{at}
 use Rattle.mk_cert.proofs.links.carried_by.Goals as goal

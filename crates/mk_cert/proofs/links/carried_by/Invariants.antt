@@ -1,4 +1,4 @@
-use Rattle.std.proofs.Common.{◌≡◌, ℕ, take}
+use Rattle.std.proofs.Common.{ℕ, take}
 use Rattle.std.specs.Prelude.{◌↔◌}
 use Rattle.mk_graph.specs.Membership.{Has}
 use Rattle.mk_cert.specs.Subject.{name_of, writes_of}

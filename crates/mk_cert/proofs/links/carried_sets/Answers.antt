@@ -1,4 +1,4 @@
-use Rattle.std.proofs.Common.{◌≡◌, ◌≤◌, ◌∷◌, ◌++◌, ◌∙◌, ℕ, List, [], length, ap, sym, length-append, arith}
+use Rattle.std.proofs.Common.{◌≤◌, ◌∷◌, ◌∙◌, ℕ, List, [], length, ap, sym, length-append, arith}
 use Rattle.std.specs.Prelude.{◌↔◌}
 use Rattle.mk_graph.specs.declared.node.Node.{Node}
 use Rattle.mk_graph.specs.Graph.{Graph}

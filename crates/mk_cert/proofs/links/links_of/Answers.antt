@@ -1,4 +1,4 @@
-use Rattle.std.proofs.Common.{◌≡◌, ◌∙◌, ℕ, List, [], Bool, true, false, map, get_or, ap, subst}
+use Rattle.std.proofs.Common.{◌≡◌, ◌∙◌, [], true, false, map, get_or, ap, subst}
 use Rattle.std.specs.Prelude.{◌↔◌}
 use Rattle.mk_lines.specs.Names.{has_name}
 use Rattle.mk_graph.specs.declared.node.Node.{Node}

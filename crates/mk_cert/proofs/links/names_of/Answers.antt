@@ -1,4 +1,4 @@
-use Rattle.std.proofs.Common.{◌≡◌, ◌<◌, ◌∙◌, List, ap, sym, subst, map, length, arith}
+use Rattle.std.proofs.Common.{◌<◌, ◌∙◌, List, ap, sym, subst, map, length, arith}
 use Rattle.mk_graph.specs.declared.node.Node.{Node}
 use Rattle.mk_graph.specs.Membership.{IsDistinct}
 use Rattle.mk_cert.proofs.Numbers.{names_more}

@@ -1,4 +1,4 @@
-use Rattle.std.proofs.Common.{◌≡◌, ◌≤◌, ◌∷◌, ◌++◌, ◌∙◌, ℕ, List, [], Bool, true, false, length, map, ap, sym, subst, length-append, arith}
+use Rattle.std.proofs.Common.{◌≡◌, ◌≤◌, ◌∷◌, ◌∙◌, ℕ, List, [], true, false, length, map, ap, sym, length-append, arith}
 use Rattle.std.specs.Prelude.{◌↔◌}
 use Rattle.std.specs.String.{string_bytes}
 use Rattle.mk_lines.specs.Names.{has_name}

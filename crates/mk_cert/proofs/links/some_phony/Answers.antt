@@ -1,9 +1,8 @@
-use Rattle.std.proofs.Common.{◌≡◌, ◌<◌, ◌∙◌, ℕ, List, ap, sym, subst, get_or, length, refl, ⊎_elim, arith}
+use Rattle.std.proofs.Common.{◌≡◌, ◌<◌, ◌∙◌, ℕ, List, ap, sym, get_or, length, refl, ⊎_elim, arith}
 use Rattle.std.proofs.lemmas.Bool.{true≢false}
 use Rattle.std.proofs.lemmas.List.{get_or_default}
 use Rattle.mk_graph.specs.declared.node.Node.{Node}
 use Rattle.mk_graph.specs.Graph.{node, no_node}
-use Rattle.mk_graph.specs.Membership.{Has}
 use Rattle.mk_cert.proofs.Rows.{at, in_take_more}
 use Rattle.mk_cert.proofs.links.some_phony.Goals as goal
 

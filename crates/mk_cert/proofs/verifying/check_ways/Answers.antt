@@ -1,5 +1,4 @@
-use Rattle.std.proofs.Common.{◌≡◌, List, [], Ok, Err, ⊎_elim, sym, subst}
-use Rattle.mk_cert.specs.declared.fault.CertFault.TheVariants.{Memory}
+use Rattle.std.proofs.Common.{List, [], ⊎_elim, sym, subst}
 use Rattle.mk_cert.specs.Links.{AreSeen}
 use Rattle.mk_cert.specs.Verdict.{NoneBad}
 use Rattle.mk_cert.proofs.Found.{ways_answer}

@@ -1,5 +1,5 @@
-use Rattle.std.proofs.Common.{◌≡◌, ◌+◌, ◌<◌, ◌∷◌, ◌∙◌, ℕ, List, Bool, true, false, refl, ap, sym, subst, get_or, length, map, drop, arith}
-use Rattle.std.specs.Prelude.{not, bytes_eq}
+use Rattle.std.proofs.Common.{◌≡◌, ◌+◌, ◌<◌, ◌∷◌, ◌∙◌, ℕ, List, true, false, ap, sym, subst, get_or, length, map, drop, arith}
+use Rattle.std.specs.Prelude.{bytes_eq}
 use Rattle.std.proofs.lemmas.Bool.{true≢false, not-false, not-true}
 use Rattle.std.proofs.lemmas.List.{drop_more, get_or_default}
 use Rattle.std.proofs.lemmas.Slice.Eq.{bytes_eq-Decides}

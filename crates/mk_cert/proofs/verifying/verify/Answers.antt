@@ -1,6 +1,5 @@
-use Rattle.std.proofs.Common.{◌≡◌, ◌∙◌, List, Ok, Err, ◌⊎◌, ⊎_elim, ap, sym, subst}
+use Rattle.std.proofs.Common.{◌≡◌, ◌∙◌, List, Err, ◌⊎◌, ⊎_elim, ap, sym, subst}
 use Rattle.mk_graph.specs.Right.{IsRight}
-use Rattle.mk_infer.specs.Laws.{StaysSelected}
 use Rattle.mk_ways.specs.Certificate.{Way, Certificate}
 use Rattle.mk_cert.specs.declared.fault.CertFault.TheVariants.{Memory}
 use Rattle.mk_cert.specs.Laws.{IsRightOnce}

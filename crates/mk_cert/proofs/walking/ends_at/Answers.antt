@@ -1,10 +1,9 @@
-use Rattle.std.proofs.Common.{◌≡◌, ◌∙◌, ℕ, List, ap, sym, subst, ⊎_elim}
+use Rattle.std.proofs.Common.{◌∙◌, ℕ, List, sym, subst, ⊎_elim}
 use Rattle.std.proofs.lemmas.Bool.{cases_Bool}
 use Rattle.mk_lines.specs.Names.{has_name}
 use Rattle.mk_graph.specs.Membership.{Has, has}
 use Rattle.mk_graph.specs.Serial.{serial_order}
 use Rattle.mk_ways.specs.declared.certificate.Finish.{Finish}
-use Rattle.mk_ways.specs.declared.certificate.Finish.TheVariants.{Written}
 use Rattle.mk_cert.specs.Subject.{footprints, writes_of}
 use Rattle.mk_cert.specs.Paths.{EndsAt}
 use Rattle.mk_cert.proofs.Decided.{has_decides}

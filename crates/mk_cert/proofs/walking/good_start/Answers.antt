@@ -1,9 +1,8 @@
-use Rattle.std.proofs.Common.{◌≡◌, ◌∷◌, ◌∙◌, [], ℕ, List, Bool, true, false, ap, sym, subst}
-use Rattle.std.specs.Prelude.{not, bytes_eq}
+use Rattle.std.proofs.Common.{◌≡◌, ◌∷◌, ◌∙◌, ℕ, List, true, ap, sym, subst}
+use Rattle.std.specs.Prelude.{bytes_eq}
 use Rattle.std.proofs.lemmas.Bool.{true≢false, not-false}
 use Rattle.std.proofs.lemmas.Slice.Eq.{bytes_eq-Decides}
 use Rattle.mk_ways.specs.Certificate.{Way}
-use Rattle.mk_cert.specs.Conditions.{IsRecipe}
 use Rattle.mk_cert.specs.Subject.{name_of}
 use Rattle.mk_cert.specs.Verdict.{NeedsWay}
 use Rattle.mk_cert.proofs.Walks.{good_begins, good_from, good_entry}

@@ -1,4 +1,4 @@
-use Rattle.std.proofs.Common.{◌≡◌, ◌∙◌, [], ℕ, List, Bool, true, false, length, ap, sym, subst}
+use Rattle.std.proofs.Common.{◌≡◌, ◌∙◌, [], ℕ, List, true, length, ap, sym, subst}
 use Rattle.std.specs.Prelude.{◌==◌}
 use Rattle.std.proofs.lemmas.Bool.{true≢false}
 use denote.Enum.Bare.{sameb}
@@ -8,7 +8,6 @@ use Rattle.mk_ways.specs.declared.certificate.Finish.{Finish}
 use Rattle.mk_ways.specs.declared.certificate.Finish.TheVariants.{Written}
 use Rattle.mk_cert.specs.Subject.{footprints}
 use Rattle.mk_cert.specs.Paths.{EndsAt}
-use Rattle.mk_cert.specs.Walking.{GoesOver, Leads}
 use Rattle.mk_cert.proofs.Walks.{one_end}
 use Rattle.mk_cert.proofs.walking.leads.Goals as goal
 use Rattle.mk_cert.proofs.walking.leads.Goals.{else-is_empty-via-then-is_empty+else-eq, else-is_empty-via-else-is_empty}

@@ -1,4 +1,4 @@
-use Rattle.std.proofs.Common.{◌≡◌, ◌<◌, ◌≤◌, ℕ, List, ap, sym, subst, ◌∙◌, length, get_or, arith}
+use Rattle.std.proofs.Common.{◌≡◌, ◌<◌, ◌≤◌, ℕ, List, ap, sym, ◌∙◌, length, get_or, arith}
 use Rattle.std.proofs.lemmas.Bool.{true≢false}
 use Rattle.mk_lines.specs.Names.{number_of}
 use Rattle.mk_graph.specs.declared.node.Node.{Node}
