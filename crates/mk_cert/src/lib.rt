@@ -32,6 +32,8 @@ pub use entry::Entry;
 pub use fault::CertFault;
 pub use finding::Finding;
 pub use findings::static_findings;
+pub use links::{Links, links_of};
 pub use race_findings::races;
 pub use subject::Subject;
 pub use verifying::verify;
+pub use walking::{can_change, ends_at};

@@ -108,7 +108,7 @@ fn needs(subject: &Subject<'_>, links: &Links<'_>, number: usize, file: &str) ->
 
 /// Whether a path to a file may end so at a recipe. A file has one writer where nothing was found,
 /// so its writers are no list to go through.
-fn ends_at(
+pub fn ends_at(
     subject: &Subject<'_>,
     links: &Links<'_>,
     file: &str,

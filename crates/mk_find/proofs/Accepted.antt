@@ -1,5 +1,5 @@
 -- The certificate is accepted: no entry is bad, and no read lacks its way.
-use Rattle.std.proofs.Common.{◌≡◌, ℕ, ◌<◌, zero, suc, List, [], ◌∷◌, length, reverse, get_or, All, inl, inr, refl, sym, ◌∙◌, ap, subst, arith}
+use Rattle.std.proofs.Common.{◌≡◌, ℕ, ◌<◌, zero, suc, List, [], ◌∷◌, length, map, reverse, get_or, All, inl, inr, refl, sym, ◌∙◌, ap, subst, arith}
 use Rattle.mk_graph.specs.Graph.{IsGraph, node}
 use Rattle.mk_graph.specs.GrowthLaws.{NamesHaveOneNumber}
 use Rattle.mk_graph.specs.Laws.{SerialReachesEachOnce}
@@ -37,11 +37,11 @@ path_of_recipes x t others is are k d low = by (get_or (t ∷ others) k d) (has_
 entry_is_good : (x : Subject) (r : Read) (w : Way) → Needs x r → IsEntryFor x r w → IsGood x w
 entry_is_good x r w needs is = record {
   start = r.recipe;
-  others = reverse is.way;
-  names = is.same_path;
+  others = reverse is.first.way;
+  names = is.same_path ∙ ap (λ (ns : List ℕ). map (name_of x) ns) is.first.goes;
   begins = is.same_recipe;
-  recipes = path_of_recipes x r.recipe (reverse is.way) (reader_is_recipe x r.recipe r.file needs.0) is.first.path.carried;
-  path = subst (λ (f : List ℕ). IsPath x.graph (footprints x.setting) f w.finish r.recipe (reverse is.way)) (sym is.same_file) is.first.path;
+  recipes = path_of_recipes x r.recipe (reverse is.first.way) (reader_is_recipe x r.recipe r.file needs.0) is.first.first.path.carried;
+  path = subst (λ (f : List ℕ). IsPath x.graph (footprints x.setting) f w.finish r.recipe (reverse is.first.way)) (sym is.same_file) is.first.first.path;
   needed = subst (λ (f : List ℕ). NeedsWay x r.recipe f) (sym is.same_file) needs;
 }
 

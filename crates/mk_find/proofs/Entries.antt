@@ -3,7 +3,7 @@ use Rattle.std.proofs.Common.{◌≡◌, ℕ, List, [], ◌∷◌, length, map, 
 use Rattle.std.proofs.lemmas.List.{length-map}
 use Rattle.mk_search.specs.Ways.{along}
 use Rattle.mk_ways.specs.Certificate.{Way}
-use Rattle.mk_cert.specs.Subject.{Subject, footprints, name_of}
+use Rattle.mk_cert.specs.Subject.{Subject, name_of}
 use Rattle.mk_cert.specs.Verdict.{Read}
 use Rattle.mk_find.specs.Certifying.{IsEntryFor, AreEntriesFor, nothing, entry, none, reads_once}
 use Rattle.mk_find.specs.Laws.{FirstPathIsOne, FirstPathIsShortest, CertificateIsOne, EntriesAreShortest}
@@ -12,10 +12,11 @@ use Rattle.mk_find.proofs.Turned.{length_turned}
 -- there is one entry for a read
 one_entry : FirstPathIsOne → (x : Subject) (r : Read) (v w : Way) → IsEntryFor x r v → IsEntryFor x r w → v ≡ w
 one_entry one x r v w a b =
-    let same = one x.graph (footprints x.setting) r.file r.recipe a.way b.way v.finish w.finish a.first b.first in
+    let same = one x r.file r.recipe a.first.way b.first.way v.finish w.finish a.first.first b.first.first in
+    let nodes : a.nodes ≡ b.nodes = a.first.goes ∙ (ap (λ (way : List ℕ). along r.recipe way) same.0 ∙ sym b.first.goes) in
     let recipe : v.recipe ≡ w.recipe = a.same_recipe ∙ sym b.same_recipe in
     let file : v.file ≡ w.file = a.same_file ∙ sym b.same_file in
-    let path : v.path ≡ w.path = a.same_path ∙ (ap (λ (way : List ℕ). map (name_of x) (along r.recipe way)) same.0 ∙ sym b.same_path) in
+    let path : v.path ≡ w.path = a.same_path ∙ (ap (λ (ns : List ℕ). map (name_of x) ns) nodes ∙ sym b.same_path) in
     (λ i. record { recipe = recipe i; file = file i; path = path i; finish = same.1 i })
 
 -- there is one list of entries for reads
@@ -39,7 +40,7 @@ certificate_is_one one x a b is other =
 -- no path for a read is shorter than that of its entry
 pub entries_are_shortest : FirstPathIsShortest → EntriesAreShortest
 entries_are_shortest shortest x r w is others finish path =
-    let less = shortest x.graph (footprints x.setting) r.file r.recipe is.way w.finish is.first others finish path in
-    let long : length w.path ≡ length (along r.recipe is.way) = ap length is.same_path ∙ length-map (along r.recipe is.way) (name_of x) in
-    let turned = length_turned is.way in
+    let less = shortest x r.file r.recipe is.first.way w.finish is.first.first others finish path in
+    let long : length w.path ≡ length (along r.recipe is.first.way) = ap length is.same_path ∙ (length-map is.nodes (name_of x) ∙ ap length is.first.goes) in
+    let turned = length_turned is.first.way in
     omega arith

@@ -2,18 +2,16 @@
 use Rattle.std.proofs.Common.{◌≡◌, ℕ, ◌≤◌, Bool, true, false, List, [], ◌∷◌, length, reverse, ◌⊎◌, inl, inr, ◌↔◌, refl, sym, ◌∙◌, ap, subst, arith}
 use Rattle.std.proofs.lemmas.Bool.{false≢true}
 use Rattle.std.proofs.lemmas.List.{length-append}
-use Rattle.mk_graph.specs.Graph.{Graph}
 use Rattle.mk_graph.specs.Membership.{Has}
-use Rattle.mk_graph.specs.Setting.{FileName, Setting, writes}
 use Rattle.mk_graph.specs.Ways.{Carries}
 use Rattle.mk_search.specs.Ways.{end, IsWay, Precedes, IsFirst}
 use Rattle.mk_search.specs.Laws.{PrecedesIsAnOrder, PrecedesAsRead}
 use Rattle.mk_ways.specs.declared.certificate.Finish.{Finish}
 use Rattle.mk_ways.specs.declared.certificate.Finish.TheVariants.{Written, Source, Always}
-use Rattle.mk_find.specs.Carried.{carried}
-use Rattle.mk_find.specs.FirstPaths.{rank, HasFinish, IsFirstPath}
+use Rattle.mk_cert.specs.Carried.{carried}
+use Rattle.mk_cert.specs.Subject.{Subject, footprints, writes_of}
+use Rattle.mk_find.specs.FirstPaths.{rank, Ends, Leads, IsFirstPath}
 use Rattle.mk_find.specs.Laws.{FirstPathIsOne, FirstPathIsShortest}
-use Rattle.mk_cert.specs.Paths.{EndsAt, IsPath}
 use Rattle.mk_find.proofs.Turned.{turned_twice, length_turned, none_turned, last_is_end, way_is_carried, carried_is_way}
 
 -- a finish of each rank is one
@@ -30,18 +28,18 @@ same_rank Always Always h k = refl
 
 -- there is one first path
 pub one_first_path : PrecedesIsAnOrder → FirstPathIsOne
-one_first_path order g s f t way other finish other_finish a b = by (a.before other other_finish b.path) (b.before way finish a.path)
+one_first_path order x f t way other finish other_finish a b = by (a.before other other_finish b.path) (b.before way finish a.path)
   where
-    twice : Precedes (carried g s) t way other → ¬ (Precedes (carried g s) t other way)
-    twice h k = (order (carried g s) t).1 way ((order (carried g s) t).0 way other way h k)
+    twice : Precedes (carried x) t way other → ¬ (Precedes (carried x) t other way)
+    twice h k = (order (carried x) t).1 way ((order (carried x) t).0 way other way h k)
 
-    none : ¬ (Precedes (carried g s) t way way)
-    none = (order (carried g s) t).1 way
+    none : ¬ (Precedes (carried x) t way way)
+    none = (order (carried x) t).1 way
 
-    by : ((other ≡ way) × (rank finish ≤ rank other_finish)) ⊎ Precedes (carried g s) t way other → ((way ≡ other) × (rank other_finish ≤ rank finish)) ⊎ Precedes (carried g s) t other way → (way ≡ other) × (finish ≡ other_finish)
+    by : ((other ≡ way) × (rank finish ≤ rank other_finish)) ⊎ Precedes (carried x) t way other → ((way ≡ other) × (rank other_finish ≤ rank finish)) ⊎ Precedes (carried x) t other way → (way ≡ other) × (finish ≡ other_finish)
     by (inl h) (inl k) = (k.0, same_rank finish other_finish h.1 k.1)
-    by (inl h) (inr k) = absurd (none (subst (λ (w : List ℕ). Precedes (carried g s) t w way) h.0 k))
-    by (inr h) (inl k) = absurd (none (subst (λ (w : List ℕ). Precedes (carried g s) t way w) (sym k.0) h))
+    by (inl h) (inr k) = absurd (none (subst (λ (w : List ℕ). Precedes (carried x) t w way) h.0 k))
+    by (inr h) (inl k) = absurd (none (subst (λ (w : List ℕ). Precedes (carried x) t way w) (sym k.0) h))
     by (inr h) (inr k) = absurd (twice h k)
 
 -- what precedes isn't longer
@@ -51,36 +49,40 @@ not_longer read succ t way other h =
 
 -- none is shorter
 pub none_shorter : PrecedesAsRead → FirstPathIsShortest
-none_shorter read g s f t way finish a others other_finish path =
+none_shorter read x f t way finish a others other_finish path =
     let long = length_turned others in
-    let turned : IsPath g s f other_finish t (reverse (reverse others)) = subst (λ (l : List ℕ). IsPath g s f other_finish t l) (sym (turned_twice others)) path in
-    elim (a.before (reverse others) other_finish turned) [ inl same ↦ (let e : length (reverse others) ≡ length way = ap length same.0 in omega arith) | inr h ↦ (let less = not_longer read (carried g s) t way (reverse others) h in omega arith) ]
+    let turned : Leads x f other_finish t (reverse (reverse others)) = subst (λ (l : List ℕ). Leads x f other_finish t l) (sym (turned_twice others)) path in
+    elim (a.before (reverse others) other_finish turned) [ inl same ↦ (let e : length (reverse others) ≡ length way = ap length same.0 in omega arith) | inr h ↦ (let less = not_longer read (carried x) t way (reverse others) h in omega arith) ]
+
+-- a path to the file may end at this recipe
+abbrev pub HasFinish : Subject → List ℕ → ℕ → Type 0
+HasFinish x f n = (finish : Finish) × Ends x f finish n
 
 -- what a search finds first, by a test of ends, is the first path
-pub found_first : (g : Graph) (s : Setting) (f : FileName) (t : ℕ) → ((t o : ℕ) → Has (carried g s t) o ↔ Carries g s t o) → ¬ (Has (writes g s t) f) → (test : ℕ → Bool) → ((n : ℕ) → HasFinish g s f n → test n ≡ true) → (way : List ℕ) (finish : Finish) → IsFirst (carried g s) t (λ n. test n ≡ true) way → EndsAt g s f finish (end t way) → ((other : Finish) → EndsAt g s f other (end t way) → rank finish ≤ rank other) → IsFirstPath g s f t way finish
-found_first g s f t carries out test passes way finish first ends least = record {
+pub found_first : (x : Subject) (f : List ℕ) (t : ℕ) → ((t o : ℕ) → Has (carried x t) o ↔ Carries x.graph (footprints x.setting) t o) → ¬ (Has (writes_of x t) f) → (test : ℕ → Bool) → ((n : ℕ) → HasFinish x f n → test n ≡ true) → (way : List ℕ) (finish : Finish) → IsFirst (carried x) t (λ n. test n ≡ true) way → Ends x f finish (end t way) → ((other : Finish) → Ends x f other (end t way) → rank finish ≤ rank other) → IsFirstPath x f t way finish
+found_first x f t carries out test passes way finish first ends least = record {
   path = record {
-    carried = way_is_carried g s (carried g s) (λ k o. (carries k o).0) t way first.is_way;
-    ends = subst (λ (n : ℕ). EndsAt g s f finish n) (sym (last_is_end g s t way)) ends;
+    carried = way_is_carried x.graph (footprints x.setting) (carried x) (λ k o. (carries k o).0) t way first.is_way;
+    ends = subst (λ (n : ℕ). Ends x f finish n) (sym (last_is_end x.graph (footprints x.setting) t way)) ends;
     not_alone = λ written none. out (at_start written (none_turned way none));
   };
-  before = λ other other_finish path. by other other_finish (at_end other other_finish path) (first.before other (carried_is_way g s (carried g s) (λ k o. (carries k o).1) t other path.carried) (passes (end t other) (other_finish, at_end other other_finish path)));
+  before = λ other other_finish path. by other other_finish (at_end other other_finish path) (first.before other (carried_is_way x.graph (footprints x.setting) (carried x) (λ k o. (carries k o).1) t other path.carried) (passes (end t other) (other_finish, at_end other other_finish path)));
 }
   where
-    at_start : finish ≡ Written → way ≡ [] → Has (writes g s t) f
-    at_start written none = subst (λ (k : Finish). EndsAt g s f k t) written (subst (λ (w : List ℕ). EndsAt g s f finish (end t w)) none ends)
+    at_start : finish ≡ Written → way ≡ [] → Has (writes_of x t) f
+    at_start written none = subst (λ (k : Finish). Ends x f k t) written (subst (λ (w : List ℕ). Ends x f finish (end t w)) none ends)
 
-    at_end : (other : List ℕ) (other_finish : Finish) → IsPath g s f other_finish t (reverse other) → EndsAt g s f other_finish (end t other)
-    at_end other other_finish path = subst (λ (n : ℕ). EndsAt g s f other_finish n) (last_is_end g s t other) path.ends
+    at_end : (other : List ℕ) (other_finish : Finish) → Leads x f other_finish t (reverse other) → Ends x f other_finish (end t other)
+    at_end other other_finish path = subst (λ (n : ℕ). Ends x f other_finish n) (last_is_end x.graph (footprints x.setting) t other) path.ends
 
-    by : (other : List ℕ) (other_finish : Finish) → EndsAt g s f other_finish (end t other) → (other ≡ way) ⊎ Precedes (carried g s) t way other → ((other ≡ way) × (rank finish ≤ rank other_finish)) ⊎ Precedes (carried g s) t way other
-    by other other_finish at (inl e) = inl (e, least other_finish (subst (λ (w : List ℕ). EndsAt g s f other_finish (end t w)) e at))
+    by : (other : List ℕ) (other_finish : Finish) → Ends x f other_finish (end t other) → (other ≡ way) ⊎ Precedes (carried x) t way other → ((other ≡ way) × (rank finish ≤ rank other_finish)) ⊎ Precedes (carried x) t way other
+    by other other_finish at (inl e) = inl (e, least other_finish (subst (λ (w : List ℕ). Ends x f other_finish (end t w)) e at))
     by other other_finish at (inr h) = inr h
 
 -- where the test says no at the end of each way, there is no path
-pub none_found : (g : Graph) (s : Setting) (f : FileName) (t : ℕ) → ((t o : ℕ) → Has (carried g s t) o ↔ Carries g s t o) → (test : ℕ → Bool) → ((n : ℕ) → HasFinish g s f n → test n ≡ true) → ((way : List ℕ) → IsWay (carried g s) t way → test (end t way) ≡ false) → (finish : Finish) (others : List ℕ) → ¬ (IsPath g s f finish t others)
-none_found g s f t carries test passes never finish others path =
-    let turned : IsPath g s f finish t (reverse (reverse others)) = subst (λ (l : List ℕ). IsPath g s f finish t l) (sym (turned_twice others)) path in
-    let is = carried_is_way g s (carried g s) (λ k o. (carries k o).1) t (reverse others) turned.carried in
-    let at : EndsAt g s f finish (end t (reverse others)) = subst (λ (n : ℕ). EndsAt g s f finish n) (last_is_end g s t (reverse others)) turned.ends in
+pub none_found : (x : Subject) (f : List ℕ) (t : ℕ) → ((t o : ℕ) → Has (carried x t) o ↔ Carries x.graph (footprints x.setting) t o) → (test : ℕ → Bool) → ((n : ℕ) → HasFinish x f n → test n ≡ true) → ((way : List ℕ) → IsWay (carried x) t way → test (end t way) ≡ false) → (finish : Finish) (others : List ℕ) → ¬ (Leads x f finish t others)
+none_found x f t carries test passes never finish others path =
+    let turned : Leads x f finish t (reverse (reverse others)) = subst (λ (l : List ℕ). Leads x f finish t l) (sym (turned_twice others)) path in
+    let is = carried_is_way x.graph (footprints x.setting) (carried x) (λ k o. (carries k o).1) t (reverse others) turned.carried in
+    let at : Ends x f finish (end t (reverse others)) = subst (λ (n : ℕ). Ends x f finish n) (last_is_end x.graph (footprints x.setting) t (reverse others)) turned.ends in
     false≢true (sym (never (reverse others) is) ∙ passes (end t (reverse others)) (finish, at))

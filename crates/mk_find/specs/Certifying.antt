@@ -3,11 +3,10 @@ use Rattle.std.specs.Prelude.{◌≡◌, ℕ, List, [], ◌∷◌, map}
 use Rattle.std.specs.List.{flat_map}
 use Rattle.mk_lines.specs.Names.{once}
 use Rattle.mk_graph.specs.Serial.{serial_order}
-use Rattle.mk_search.specs.Ways.{along}
 use Rattle.mk_ways.specs.Certificate.{Way, Certificate}
-use Rattle.mk_cert.specs.Subject.{Subject, footprints, name_of, reads_of}
+use Rattle.mk_cert.specs.Subject.{Subject, name_of, reads_of}
 use Rattle.mk_cert.specs.Verdict.{Read, NeedsWay, HasGoals}
-use Rattle.mk_find.specs.FirstPaths.{IsFirstPath}
+use Rattle.mk_find.specs.FirstPaths.{GoesFirst}
 
 -- the reads of recipes, each once: by the place of the recipe in the serial order, and by the place
 -- of the file
@@ -22,11 +21,11 @@ Needs x r = NeedsWay x r.recipe r.file
 
 -- The entry is for the read: it has its recipe and its file, and of all paths the first, by names.
 pub record IsEntryFor (x : Subject) (r : Read) (w : Way) : Type 0 where
-  pub way : List ℕ
-  pub first : IsFirstPath x.graph (footprints x.setting) r.file r.recipe way w.finish
+  pub nodes : List ℕ
+  pub first : GoesFirst x r.file r.recipe nodes w.finish
   pub same_recipe : w.recipe ≡ name_of x r.recipe
   pub same_file : w.file ≡ r.file
-  pub same_path : w.path ≡ map (name_of x) (along r.recipe way)
+  pub same_path : w.path ≡ map (name_of x) nodes
 
 -- these are the entries for those of the reads that need a way, in their order
 pub data AreEntriesFor (x : Subject) : List Read → List Way → Type 0 where

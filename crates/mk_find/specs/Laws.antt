@@ -1,40 +1,30 @@
 -- Laws of first paths, findings and certificates.
-use Rattle.std.specs.Prelude.{◌≡◌, ℕ, suc, ◌≤◌, List, [], length, ◌↔◌, Ok}
-use Rattle.mk_graph.specs.Graph.{Graph, IsGraph}
-use Rattle.mk_graph.specs.Membership.{Has}
-use Rattle.mk_graph.specs.Setting.{FileName, Setting}
-use Rattle.mk_graph.specs.Ways.{Carries}
+use Rattle.std.specs.Prelude.{◌≡◌, ℕ, suc, ◌≤◌, List, [], length, Ok}
+use Rattle.mk_graph.specs.Graph.{IsGraph}
 use Rattle.mk_ways.specs.declared.certificate.Finish.{Finish}
 use Rattle.mk_ways.specs.Certificate.{Way, Certificate}
 use Rattle.mk_cert.specs.declared.finding.Finding.{Finding}
 use Rattle.mk_cert.specs.Candidates.{stale_candidates}
 use Rattle.mk_cert.specs.Listing.{Lists}
-use Rattle.mk_cert.specs.Paths.{IsPath}
-use Rattle.mk_cert.specs.Subject.{Subject, footprints}
+use Rattle.mk_cert.specs.Subject.{Subject}
 use Rattle.mk_cert.specs.Verdict.{Read, NothingFound, Verifies}
-use Rattle.mk_find.specs.Carried.{carried}
-use Rattle.mk_find.specs.FirstPaths.{IsFirstPath}
+use Rattle.mk_find.specs.FirstPaths.{Leads, IsFirstPath}
 use Rattle.mk_find.specs.Findings.{AreFindings}
 use Rattle.mk_find.specs.Certifying.{IsEntryFor, IsCertificate}
-
--- A recipe carries just those in its list.
-abbrev pub CarriedExactly : Type 0
-CarriedExactly =
-    (g : Graph) (s : Setting) → IsGraph g → (t o : ℕ) → Has (carried g s t) o ↔ Carries g s t o
 
 -- From a recipe to a file there is at most one first path, with one finish.
 abbrev pub FirstPathIsOne : Type 0
 FirstPathIsOne =
-    (g : Graph) (s : Setting) (f : FileName) (t : ℕ) (way other : List ℕ) (finish other_finish : Finish) →
-    IsFirstPath g s f t way finish → IsFirstPath g s f t other other_finish →
+    (x : Subject) (f : List ℕ) (t : ℕ) (way other : List ℕ) (finish other_finish : Finish) →
+    IsFirstPath x f t way finish → IsFirstPath x f t other other_finish →
     (way ≡ other) × (finish ≡ other_finish)
 
 -- No path to the file is shorter.
 abbrev pub FirstPathIsShortest : Type 0
 FirstPathIsShortest =
-    (g : Graph) (s : Setting) (f : FileName) (t : ℕ) (way : List ℕ) (finish : Finish) →
-    IsFirstPath g s f t way finish →
-    (others : List ℕ) (other_finish : Finish) → IsPath g s f other_finish t others →
+    (x : Subject) (f : List ℕ) (t : ℕ) (way : List ℕ) (finish : Finish) →
+    IsFirstPath x f t way finish →
+    (others : List ℕ) (other_finish : Finish) → Leads x f other_finish t others →
     length way ≤ length others
 
 -- There is one list of findings.
@@ -64,5 +54,5 @@ abbrev pub EntriesAreShortest : Type 0
 EntriesAreShortest =
     (x : Subject) (r : Read) (w : Way) → IsEntryFor x r w →
     (others : List ℕ) (finish : Finish) →
-    IsPath x.graph (footprints x.setting) r.file finish r.recipe others →
+    Leads x r.file finish r.recipe others →
     length w.path ≤ suc (length others)

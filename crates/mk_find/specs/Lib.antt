@@ -1,4 +1,3 @@
-pub mod Carried
 pub mod FirstPaths
 pub mod Findings
 pub mod Certifying

@@ -1,16 +1,14 @@
 -- A search with its visits: what it keeps, and what its answers are.
-use Rattle.std.proofs.Common.{◌≡◌, ℕ, ◌+◌, ◌<◌, ◌≤◌, suc, zero, false, eqb, List, [], ◌∷◌, ◌++◌, length, get_or, reverse, ◌⊎◌, inl, inr, MatchOption, Option, Some, None, is_some, true, refl, sym, ◌∙◌, ap, subst, arith}
-use Rattle.std.specs.List.{AllByRecursion, IsDistinct as HasNoEqualPair}
-use Rattle.std.proofs.lemmas.Bool.{false≢true, ne_eqb, cases_lt}
+use Rattle.std.proofs.Common.{◌≡◌, ℕ, ◌+◌, ◌<◌, ◌≤◌, suc, zero, List, [], ◌∷◌, ◌++◌, length, get_or, reverse, ◌⊎◌, inl, inr, MatchOption, Option, Some, None, is_some, true, refl, sym, ◌∙◌, ap, subst, arith}
+use Rattle.std.proofs.lemmas.Bool.{false≢true, cases_lt}
 use Rattle.std.proofs.lemmas.List.{length-append, reverse-append}
-use Rattle.std.proofs.lemmas.Map.Steps.{length-le_from_distinct_below}
 use Rattle.mk_graph.specs.Membership.{Has, IsDistinct}
 use Rattle.mk_search.specs.declared.visits.Visit.{Visit}
 use Rattle.mk_search.specs.Ways.{successors, end, IsWay}
 use Rattle.mk_search.specs.Places.{EndsAt, GoesAt, HasAtMost, IsOut}
 use Rattle.mk_search.specs.Progress.{IsUnderWay, nodes_of, visit_at, IsVisited, AreWaysOf, Stands}
 use Rattle.mk_search.proofs.Lists.{has_at, at_place, at_front, at_mapped, length_mapped, map_joined, join_none, join_assoc, mapped_from}
-use Rattle.mk_search.proofs.Tables.{has_from_any}
+use Rattle.mk_search.proofs.Few.{few_below}
 use Rattle.mk_search.proofs.Steps.{begins, passes, finds, goes_on, has_at_most, is_out, stands_at}
 
 -- a visit that stands for nothing
@@ -267,23 +265,12 @@ unfolding room
 end_below rows t [] is = omega arith
 end_below rows t (n ∷ way) is = let less = successor_below rows (end t way) n is.0 in omega arith
 
--- a number that isn't in the list differs from each that is
-differs : (n : ℕ) (ns : List ℕ) → ¬ (Has ns n) → AllByRecursion (λ m. eqb n m ≡ false) ns
-differs n [] out = tt
-differs n (m ∷ ms) out = (ne_eqb n m (λ e. out (inl (sym e))), differs n ms (λ h. out (inr h)))
-
--- the same in the words of the maps' lemmas
-no_equal_pair : (ns : List ℕ) → IsDistinct ns → HasNoEqualPair eqb ns
-unfolding HasNoEqualPair
-no_equal_pair [] d = tt
-no_equal_pair (n ∷ ns) d = (differs n ns d.0, no_equal_pair ns d.1)
-
 -- so there are no more visits than that
 pub few_visits : (rows : List (List ℕ)) (t : ℕ) (visits : List Visit) (at looked : ℕ) → Stands (successors rows) t visits at looked → length visits ≤ room rows t
 few_visits rows t visits at looked s =
     let d : IsDistinct (nodes_of visits) = subst (λ (l : List ℕ). IsDistinct l) s.follow.ends s.under_way.apart in
     let low : (n : ℕ) → Has (nodes_of visits) n → n < room rows t = λ n h. let found = mapped_from (end t) s.ways n (subst (λ (l : List ℕ). Has l n) (sym s.follow.ends) h) in subst (λ (k : ℕ). k < room rows t) found.2 (end_below rows t found.0 (s.under_way.are found.0 found.1)) in
-    let few = length-le_from_distinct_below (nodes_of visits) (room rows t) (no_equal_pair (nodes_of visits) d) (λ n e. low n (has_from_any (nodes_of visits) n e)) in
+    let few = few_below (nodes_of visits) (room rows t) d low in
     let long = length_mapped (λ (visit : Visit). visit.node) visits in
     omega arith
 

@@ -4,4 +4,5 @@ pub mod Reading
 pub mod Firsts
 pub mod Steps
 pub mod Tables
+pub mod Few
 pub mod Going

@@ -1,5 +1,6 @@
 -- Laws of ways, their order, and their places.
 use Rattle.std.specs.Prelude.{◌≡◌, ℕ, ◌<◌, ◌≤◌, List, ◌∷◌, ◌++◌, length, Bool, true, false, ◌⊎◌, ◌↔◌}
+use Rattle.mk_graph.specs.Membership.{Has}
 use Rattle.mk_search.specs.Ways.{end, IsWay, place, Precedes, IsFirst}
 use Rattle.mk_search.specs.Places.{StandsAt, HasAtMost}
 
@@ -75,3 +76,10 @@ NoneByPlaces =
     (succ : ℕ → List ℕ) (t : ℕ) (test : ℕ → Bool) (k : ℕ) →
     SaysNoBefore succ t test k → HasAtMost succ t k →
     (way : List ℕ) → IsWay succ t way → test (end t way) ≡ false
+
+-- Where the start and all successors are below a number, so are all places.
+abbrev pub PlacesAreBelow : Type 0
+PlacesAreBelow =
+    (succ : ℕ → List ℕ) (t bound : ℕ) → t < bound →
+    ((n o : ℕ) → Has (succ n) o → o < bound) →
+    (k : ℕ) (way : List ℕ) → StandsAt succ t k way → k < bound

@@ -1,7 +1,7 @@
 //! Laws of ways, of their order and of their places. Each is the contract of a function that does
 //! nothing: who calls it has the law.
 
-ghost use Rattle.mk_search.specs.Laws.{PrecedesIsAnOrder, WaysAreInOneOrder, PrecedesAsRead, FirstIsOne, FirstIsShortest, OneWayAtAPlace, FirstByPlaces, NoneByPlaces};
+ghost use Rattle.mk_search.specs.Laws.{PrecedesIsAnOrder, WaysAreInOneOrder, PrecedesAsRead, FirstIsOne, FirstIsShortest, OneWayAtAPlace, FirstByPlaces, NoneByPlaces, PlacesAreBelow};
 
 /// Where a way precedes one that precedes a third one, it precedes that too. None precedes itself.
 pub fn precedes_is_an_order()
@@ -44,4 +44,9 @@ pub fn first_by_places()
 /// each way.
 pub fn none_by_places()
     ensures { NoneByPlaces }
+{}
+
+/// Where the start and all successors are below a number, so are all places at which a way stands.
+pub fn places_are_below()
+    ensures { PlacesAreBelow }
 {}
