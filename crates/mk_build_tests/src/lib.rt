@@ -15,3 +15,5 @@ mod graph_turns;
 mod graphs;
 #[cfg(test)]
 mod plans;
+#[cfg(test)]
+mod searches;

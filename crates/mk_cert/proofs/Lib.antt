@@ -8,3 +8,14 @@ pub mod Adding
 pub mod Decided
 pub mod FileDecided
 pub mod Behind
+pub mod Walks
+pub mod Paths
+pub mod Numbers
+pub mod Rows
+pub mod CarriedNodes
+pub mod Past
+pub mod FirstOf
+pub mod Judged
+pub mod Found
+pub mod Accepted
+pub mod Counted

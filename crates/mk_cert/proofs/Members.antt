@@ -1,5 +1,5 @@
 -- Where candidates stand.
-use Rattle.std.proofs.Common.{◌≡◌, ℕ, List, [], ◌∷◌, ◌++◌, map, ◌⊎◌, inl, inr, ⊎_elim, sym, subst, ap, ◌∙◌}
+use Rattle.std.proofs.Common.{◌≡◌, ℕ, List, [], ◌∷◌, ◌++◌, map, ◌⊎◌, inl, inr, ⊎_elim, refl, sym, subst, ap, ◌∙◌}
 use Rattle.std.specs.List.{flat_map}
 use Rattle.mk_graph.specs.Membership.{Has}
 use Rattle.mk_cert.specs.Subject.{Subject, writes_of}
@@ -56,3 +56,9 @@ pair_stands x (k ∷ later) o t f differ (inr o_there) (inl t_here) o_wrote t_wr
 pair_stands x (k ∷ later) o t f differ (inr o_there) (inr t_there) o_wrote t_wrote =
     let front = flat_map (λ (h : List ℕ). map (λ n. two_writers k n h) later) (writes_of x k) in
     ⊎_elim (λ h. inl (in_second front (pairs_of_writers x later) (two_writers o t f) h)) (λ h. inr (in_second front (pairs_of_writers x later) (two_writers t o f) h)) (pair_stands x later o t f differ o_there t_there o_wrote t_wrote)
+
+-- what stands in the lists of all elements stands in that of one of them
+module _ {A : Type 0} where
+  pub from_joined_at : {B : Type 0} (f : B → List A) (xs : List B) (c : A) → Has (flat_map f xs) c → (x : B) × Has xs x × Has (f x) c
+  from_joined_at f [] c h = absurd h
+  from_joined_at f (x ∷ xs) c h = ⊎_elim (λ here. (x, inl refl, here)) (λ there. let (y, stands, within) = from_joined_at f xs c there in (y, inr stands, within)) (in_either (f x) (flat_map f xs) c h)

@@ -49,7 +49,7 @@ module _ (x : Subject) (is : IsGraph x.graph) (reaches : SerialReachesEachOnce) 
       ⊎_elim (λ e. e) (λ e. absurd (subst (λ (l : List (List ℕ)). Has l f) (cond-false (node x.graph t).recipe ((footprints x.setting).writes (name_of x t)) [] e) h)) (cases_Bool (node x.graph t).recipe)
 
   -- so has who reads one
-  reader_has_recipe : (t : ℕ) (f : List ℕ) → Has (reads_of x t) f → (node x.graph t).recipe ≡ true
+  pub reader_has_recipe : (t : ℕ) (f : List ℕ) → Has (reads_of x t) f → (node x.graph t).recipe ≡ true
   reader_has_recipe t f h =
       ⊎_elim (λ e. e) (λ e. absurd (subst (λ (l : List (List ℕ)). Has l f) (cond-false (node x.graph t).recipe ((footprints x.setting).reads (name_of x t)) [] e) h)) (cases_Bool (node x.graph t).recipe)
 
@@ -57,7 +57,7 @@ module _ (x : Subject) (is : IsGraph x.graph) (reaches : SerialReachesEachOnce) 
   pub writer_in_order : (t : ℕ) (f : List ℕ) → Has (writes_of x t) f → Has (serial_order x.graph) t
   writer_in_order t f h = in_order t (recipe_is_node t (writer_has_recipe t f h))
 
-  reader_in_order : (t : ℕ) (f : List ℕ) → Has (reads_of x t) f → Has (serial_order x.graph) t
+  pub reader_in_order : (t : ℕ) (f : List ℕ) → Has (reads_of x t) f → Has (serial_order x.graph) t
   reader_in_order t f h = in_order t (recipe_is_node t (reader_has_recipe t f h))
 
   -- what a node may be found for

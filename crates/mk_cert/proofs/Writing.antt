@@ -15,7 +15,7 @@ or_false true = refl
 or_false false = refl
 
 -- a name more
-has_name_push : (names : List (List ℕ)) (name other : List ℕ) → has_name (names ++ name ∷ []) other ≡ (has_name names other || bytes_eq other name)
+pub has_name_push : (names : List (List ℕ)) (name other : List ℕ) → has_name (names ++ name ∷ []) other ≡ (has_name names other || bytes_eq other name)
 has_name_push names name other = list_any-append (λ n. bytes_eq other n) names (name ∷ []) ∙ ap (λ b. has_name names other || b) (or_false (bytes_eq other name))
 
 -- a name that is there, and another one or itself

@@ -1,13 +1,22 @@
 -- Laws of findings: of their lists, and of what it means that there are none.
-use Rattle.std.specs.Prelude.{◌≡◌, ℕ, List, [], ◌↔◌, map}
+use Rattle.std.specs.Prelude.{◌≡◌, ℕ, List, [], ◌∷◌, ◌↔◌, map, Ok}
 use Rattle.mk_graph.specs.Membership.{Has}
-use Rattle.mk_graph.specs.Graph.{IsGraph}
-use Rattle.mk_graph.specs.Right.{AreSound, HaveNoRace, HaveWays, IsRight}
+use Rattle.mk_graph.specs.Graph.{Graph, IsGraph}
+use Rattle.mk_graph.specs.Setting.{FileName, Setting}
+use Rattle.mk_graph.specs.World.{Disk, Idle, IsStart}
+use Rattle.mk_graph.specs.Schedule.{Step, Make, IsLegal, after_all}
+use Rattle.mk_graph.specs.BuildLaws.{AreInside}
+use Rattle.mk_graph.specs.Ways.{Way}
+use Rattle.mk_graph.specs.Right.{AreSound, HaveNoRace, HaveWays, IsRight, IsRightAt}
 use Rattle.mk_infer.specs.Laws.{StaysSelected}
 use Rattle.mk_cert.specs.Subject.{Subject, IsSubject, footprints, name_of, writes_of}
 use Rattle.mk_cert.specs.Conditions.{all_writes}
 use Rattle.mk_cert.specs.Candidates.{Candidate, Holds, selection, static_candidates, race_candidates}
 use Rattle.mk_cert.specs.Listing.{Lists}
+use Rattle.mk_cert.specs.Paths.{IsPath}
+use Rattle.mk_cert.specs.Verdict.{Verifies}
+use Rattle.mk_ways.specs.Certificate.{Certificate}
+use Rattle.mk_ways.specs.declared.certificate.Finish.{Finish}
 
 -- There is one such list of candidates.
 abbrev pub ListIsOne : Type 0
@@ -56,3 +65,25 @@ NothingFoundIsRight =
     (x : Subject) → IsGraph x.graph → IsSubject x →
     Lists x (static_candidates x) [] → Lists x (race_candidates x) [] →
     HaveWays x.graph (footprints x.setting) → IsRight x.graph (footprints x.setting)
+
+-- From each start one make of any part of the goals, with any jobs and any overlap of recipes,
+-- builds them.
+abbrev pub IsRightOnce : Graph → Setting → Type 0
+IsRightOnce g s =
+    (d : Disk) (jobs : ℕ) (goals : List ℕ) (steps : List Step) → IsStart s d → AreInside steps →
+    IsLegal g s (Idle d) (Make jobs goals ∷ steps) →
+    IsRightAt g s (after_all g s (Idle d) (Make jobs goals ∷ steps))
+
+-- A recipe has a way to a file just where there is a path from it to the file.
+abbrev pub PathsAreWays : Type 0
+PathsAreWays =
+    (g : Graph) (s : Setting) (f : FileName) (t : ℕ) →
+    Way g s f t ↔ ((finish : Finish) × (others : List ℕ) × IsPath g s f finish t others)
+
+-- Where a certificate is accepted, every legal history is right, and so is one make from a start;
+-- and the graph stays selected whatever part of the written files is there.
+abbrev pub VerifiedIsRight : Type 0
+VerifiedIsRight =
+    (x : Subject) (c : Certificate) → IsGraph x.graph → IsSubject x → Verifies x c (Ok tt) →
+    IsRight x.graph (footprints x.setting) × IsRightOnce x.graph (footprints x.setting) ×
+    StaysSelected x.makefile x.there (all_writes x) (map (name_of x) x.graph.goals) x.graph

@@ -12,3 +12,10 @@ pub mod Tests
 pub mod FileTests
 pub mod Questions
 pub mod Kept
+pub mod Paths
+pub mod Verdict
+pub mod Links
+pub mod Walking
+pub mod Counts
+pub mod Checks
+pub mod Carried

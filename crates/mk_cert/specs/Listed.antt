@@ -1,5 +1,6 @@
 -- Findings as they are told, and lists of them that grow.
-use Rattle.std.specs.Prelude.{◌≡◌, List, ◌++◌, map}
+use Rattle.std.specs.Prelude.{◌≡◌, ℕ, List, ◌++◌, map}
+use Rattle.mk_graph.specs.Membership.{Has}
 use Rattle.mk_cert.specs.declared.finding.Finding.{Finding}
 use Rattle.mk_cert.specs.declared.finding.Finding.TheVariants as found
 use Rattle.mk_cert.specs.Subject.{Subject, name_of}
@@ -27,3 +28,7 @@ pub record Adds (x : Subject) (all : List Candidate) (old new : List Finding) : 
   pub kept : List Candidate
   pub right : Lists x all kept
   pub added : new ≡ old ++ map (named x) kept
+
+-- none of these is that a selection changes
+abbrev pub TellsNoSelection : List Finding → Type 0
+TellsNoSelection told = (name chosen : List ℕ) → ¬ (Has told (found.Selection name chosen))

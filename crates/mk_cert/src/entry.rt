@@ -47,7 +47,7 @@ impl<'a> Model for Entry<'a> {
 }
 
 /// The files that a record says are read, if there is one.
-fn reads_in<'a>(recorded: Option<&'a Record>) -> &'a [String]
+pub fn reads_in<'a>(recorded: Option<&'a Record>) -> &'a [String]
     ensures { map string_bytes result.now ≡ reads_in (option_copied recorded.entry) }
 {
     match recorded {

@@ -1,12 +1,16 @@
 //! What is found in footprints alone.
 
-ghost use Rattle.std.specs.Prelude.{[], IfOk, OnOk};
+ghost use Rattle.std.specs.Prelude.{[], map, IfOk, OnOk};
+ghost use Rattle.mk_infer.specs.Laws.{StaysSelected};
 ghost use Rattle.mk_cert.specs.Candidates.{static_candidates};
-ghost use Rattle.mk_cert.specs.Listed.{Adds};
+ghost use Rattle.mk_cert.specs.Listed.{Adds, TellsNoSelection};
+ghost use Rattle.mk_cert.specs.Conditions.{all_writes};
+ghost use Rattle.mk_cert.specs.Subject.{name_of};
 ghost use Rattle.mk_cert.specs.Questions.{asked_each};
 
 use crate::asking::ask_all;
 use crate::finding::Finding;
+use crate::laws::nothing_found_is_selected;
 use crate::pairs::note_pairs;
 use crate::question::Question;
 use crate::subject::Subject;
@@ -31,10 +35,18 @@ fn ask_each(
 /// All that is found without a search for ways or an order, in the order of `Finding`'s variants,
 /// but for races and stale reads; of one kind by the first name's place in the serial order, the
 /// file's place in its record, and the other name's place. It fails for want of memory alone.
+///
+/// Where it tells of no selection, the graph, the choices and the commands are those that are
+/// selected whatever part of the files that recipes write is there.
 pub fn static_findings(alloc: Global, subject: &Subject<'_>) -> Result<Vec<Finding>, AllocError>
-    ensures { IfOk result (λ found. Adds subject.now (static_candidates subject.now) []
+    ensures found { IfOk result (λ found. Adds subject.now (static_candidates subject.now) []
         found.items) }
+    ensures selected { IfOk result (λ found. TellsNoSelection found.items →
+        StaysSelected subject.now.makefile subject.now.there (all_writes subject.now)
+        (map (name_of subject.now) subject.now.graph.goals) subject.now.graph) }
 {
+    nothing_found_is_selected();
+    let _graph = subject.graph();
     let mut found = Vec::new(alloc);
     let first = [
         Question::Record,

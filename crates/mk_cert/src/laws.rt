@@ -1,9 +1,11 @@
 //! Laws of findings. Each is the contract of a function that calls laws alone: who calls it has the
 //! law.
 
-ghost use Rattle.mk_cert.specs.Laws.{ListIsOne, ListedExactly, AllWritesExactly, NothingFoundIsSound, NothingFoundIsSelected, NoRaceFoundIsNone, NothingFoundIsRight};
+ghost use Rattle.mk_cert.specs.Carried.{CarriedExactly};
+ghost use Rattle.mk_cert.specs.Laws.{ListIsOne, ListedExactly, AllWritesExactly, NothingFoundIsSound, NothingFoundIsSelected, NoRaceFoundIsNone, NothingFoundIsRight, PathsAreWays, VerifiedIsRight};
 
-use mk_graph::build_laws::{accepted_is_right, before_is_decided};
+use mk_graph::build_laws::{accepted_is_right, before_is_decided, one_build_is_right};
+use mk_graph::growth_laws::names_have_one_number;
 use mk_graph::laws::serial_reaches_each_once;
 use mk_infer::laws::{graph_stays_selected, more_takes_no_choice_away};
 
@@ -57,4 +59,30 @@ pub fn nothing_found_is_right()
     nothing_found_is_sound();
     no_race_found_is_none();
     accepted_is_right();
+}
+
+/// A recipe has a way to a file just where there is a path from it to the file.
+pub fn paths_are_ways()
+    ensures { PathsAreWays }
+{}
+
+/// What is listed as carried are the recipes that a node carries.
+pub fn carried_exactly()
+    ensures { CarriedExactly }
+{
+    serial_reaches_each_once();
+}
+
+/// Where a certificate is accepted, every legal history is right, one make from a start is, and the
+/// graph stays selected whatever part of the files that recipes write is there.
+pub fn verified_is_right()
+    ensures { VerifiedIsRight }
+{
+    serial_reaches_each_once();
+    names_have_one_number();
+    nothing_found_is_right();
+    nothing_found_is_sound();
+    nothing_found_is_selected();
+    no_race_found_is_none();
+    one_build_is_right();
 }

@@ -3,20 +3,37 @@
 #![tactic(auto)]
 
 mod asking;
+mod carrying;
+mod counting;
 mod entry;
+mod fault;
 mod file_findings;
 mod finding;
 mod findings;
+mod judging;
+mod lacking;
 pub mod laws;
+mod links;
 mod looking_up;
 mod node_findings;
 mod pairs;
 mod question;
+mod race_findings;
 mod subject;
 mod tables;
+mod verifying;
+mod walking;
 mod writer_findings;
 mod writers;
 
+pub use carrying::carried_lists;
+pub use counting::counts;
+pub use entry::Entry;
+pub use fault::CertFault;
 pub use finding::Finding;
 pub use findings::static_findings;
+pub use links::{Links, links_of};
+pub use race_findings::races;
 pub use subject::Subject;
+pub use verifying::verify;
+pub use walking::{can_change, ends_at};

@@ -111,15 +111,15 @@ impl<'a> Subject<'a> {
         self.setting
     }
 
-    /// What is looked up of each node, in the serial order.
-    pub(crate) fn entries(&self) -> &[Entry<'a>]
+    /// Each node with what is looked up of it, in the serial order.
+    pub fn entries(&self) -> &[Entry<'a>]
         ensures { AreEntries self.now result.now }
     {
         self.tables.entries.as_slice()
     }
 
-    /// The numbers of the nodes that write a file, in the serial order.
-    pub(crate) fn writers(&self, file: &str) -> &[usize]
+    /// The numbers of the nodes that write a file, in the serial order. It takes no memory.
+    pub fn writers(&self, file: &str) -> &[usize]
         ensures { result.now ≡ writers_of self.now file.now }
     {
         match self.tables.writers.get(file) {
@@ -128,8 +128,8 @@ impl<'a> Subject<'a> {
         }
     }
 
-    /// A copy of the name of a node.
-    pub(crate) fn copy_of_name(&self, number: usize) -> Result<Name, AllocError>
+    /// A copy of the name of a node. The error is want of memory alone.
+    pub fn copy_of_name(&self, number: usize) -> Result<Name, AllocError>
         requires { number < length self.now.graph.nodes }
         ensures { IfOk result (λ name. name ≡ name_of self.now number) }
     {

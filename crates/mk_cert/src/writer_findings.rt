@@ -14,7 +14,7 @@ use crate::subject::Subject;
 use std::alloc::AllocError;
 
 /// Whether a number stands among these.
-fn has_number(numbers: &[usize], number: usize) -> bool
+pub fn has_number(numbers: &[usize], number: usize) -> bool
     ensures { result ≡ has numbers.now number }
 {
     for other in numbers {

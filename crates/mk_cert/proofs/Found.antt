@@ -1,0 +1,56 @@
+-- The first of what is found.
+use Rattle.std.proofs.Common.{◌≡◌, List, [], ◌∷◌, map, ◌⊎◌, inl, inr, ⊎_elim, refl, sym, ◌∙◌}
+use Rattle.std.specs.Prelude.{⊤, Result, Ok, Err, OnOk}
+use Rattle.mk_ways.specs.Certificate.{Way, Certificate}
+use Rattle.mk_cert.specs.declared.finding.Finding.{Finding}
+use Rattle.mk_cert.specs.declared.fault.CertFault.{CertFault}
+use Rattle.mk_cert.specs.declared.fault.CertFault.TheVariants.{OtherGoals, NoWay, BadWay, Static, Memory}
+use Rattle.mk_cert.specs.Subject.{Subject}
+use Rattle.mk_cert.specs.Candidates.{Candidate, Holds}
+use Rattle.mk_cert.specs.Listing.{Lists, keeps, drops}
+use Rattle.mk_cert.specs.Listed.{Adds, named}
+use Rattle.mk_cert.specs.Verdict.{IsFirst, HasGoals, NothingFound, NoneBad, Verifies}
+use Rattle.mk_cert.specs.Checks.{AnswersReads, AnswersWays}
+
+-- the first that is listed is the first of which the condition holds
+listed_first : (x : Subject) (all : List Candidate) (k : Candidate) (ks : List Candidate) → Lists x all (k ∷ ks) → IsFirst (Holds x) all k
+listed_first x all k ks (keeps h more) = inl (h, refl)
+listed_first x all k ks (drops {all = rest} not more) = inr (not, listed_first x rest k ks more)
+
+first_kept : (x : Subject) (all kept : List Candidate) (first : Finding) (rest : List Finding) → Lists x all kept → first ∷ rest ≡ map (named x) kept → (k : Candidate) × IsFirst (Holds x) all k × (first ≡ named x k)
+first_kept x all [] first rest lists same = absurd (cc)
+first_kept x all (k ∷ ks) first rest lists same = (k, listed_first x all k ks lists, let e : first ∷ rest ≡ named x k ∷ map (named x) ks = same in cc)
+
+pub first_found : (x : Subject) (all : List Candidate) (found : List Finding) (first : Finding) (rest : List Finding) → Adds x all [] found → found ≡ first ∷ rest → (k : Candidate) × IsFirst (Holds x) all k × (first ≡ named x k)
+first_found x all found first rest adds same = first_kept x all adds.kept first rest adds.right (sym same ∙ adds.added)
+
+-- where none is told, none is listed
+none_kept : (x : Subject) (all kept : List Candidate) → Lists x all kept → [] ≡ map (named x) kept → Lists x all []
+none_kept x all [] lists same = lists
+none_kept x all (k ∷ ks) lists same = absurd (let e : [] ≡ named x k ∷ map (named x) ks = same in cc)
+
+pub none_found : (x : Subject) (all : List Candidate) (found : List Finding) → Adds x all [] found → found ≡ [] → Lists x all []
+none_found x all found adds none = none_kept x all adds.kept adds.right (sym none ∙ adds.added)
+
+-- where no entry is bad, the reads decide
+pub ways_answer : (x : Subject) (ways : List Way) → NoneBad x [] ways → (r : Result ⊤ CertFault) → (r ≡ Err Memory) ⊎ AnswersReads x ways r → (r ≡ Err Memory) ⊎ AnswersWays x ways r
+ways_answer x ways none (Ok done) answer = ⊎_elim (λ e. inl e) (λ lacks. inr (none, lacks)) answer
+ways_answer x ways none (Err OtherGoals) answer = ⊎_elim (λ e. inl e) (λ h. absurd h) answer
+ways_answer x ways none (Err (NoWay recipe file)) answer = ⊎_elim (λ e. inl e) (λ h. inr (none, h.0, h.1, h.2, h.3)) answer
+ways_answer x ways none (Err (BadWay recipe file)) answer = ⊎_elim (λ e. inl e) (λ h. absurd h) answer
+ways_answer x ways none (Err (Static finding)) answer = ⊎_elim (λ e. inl e) (λ h. absurd h) answer
+ways_answer x ways none (Err Memory) answer = inl refl
+
+-- what a yes is
+pub accepted : (x : Subject) (c : Certificate) (r : Result ⊤ CertFault) → HasGoals x c → NothingFound x → (r ≡ Err Memory) ⊎ AnswersWays x c.ways r → (Q : Type 0) → (Verifies x c (Ok tt) → Q) → OnOk r Q
+accepted x c (Ok done) goals found answer Q then = ⊎_elim (λ e. absurd (let k : Ok done ≡ Err Memory = e in cc)) (λ h. then (goals, found, h.0, h.1)) answer
+accepted x c (Err fault) goals found answer Q then = tt
+
+-- and what any answer is
+pub verifies : (x : Subject) (c : Certificate) (r : Result ⊤ CertFault) → HasGoals x c → NothingFound x → (r ≡ Err Memory) ⊎ AnswersWays x c.ways r → (r ≡ Err Memory) ⊎ Verifies x c r
+verifies x c (Ok done) goals found answer = ⊎_elim (λ e. inl e) (λ h. inr (goals, found, h.0, h.1)) answer
+verifies x c (Err OtherGoals) goals found answer = ⊎_elim (λ e. inl e) (λ h. absurd h) answer
+verifies x c (Err (NoWay recipe file)) goals found answer = ⊎_elim (λ e. inl e) (λ h. inr (goals, found, h.0, h.1, h.2, h.3, h.4)) answer
+verifies x c (Err (BadWay recipe file)) goals found answer = ⊎_elim (λ e. inl e) (λ h. inr (goals, found, h.0, h.1, h.2, h.3)) answer
+verifies x c (Err (Static finding)) goals found answer = ⊎_elim (λ e. inl e) (λ h. absurd h) answer
+verifies x c (Err Memory) goals found answer = inl refl

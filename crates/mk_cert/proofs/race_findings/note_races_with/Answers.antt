@@ -1,0 +1,23 @@
+use Rattle.std.proofs.Common.{◌<◌, ◌≤◌, ap, length, map, drop, arith}
+use Rattle.mk_cert.specs.Candidates.{race}
+use Rattle.mk_cert.proofs.Adding.{drop_past, leads_map, leads_done}
+use Rattle.mk_cert.proofs.FileDecided.{number_at}
+use Rattle.mk_cert.proofs.race_findings.note_races_with.Goals as goal
+
+pub loop-writer-init : goal.loop-writer-init
+loop-writer-init c = λ last h. h
+
+pub note_race-requires-clause-written : goal.note_race-requires-clause-written
+note_race-requires-clause-written c =
+    let lt : c.loop-writer.writer-index < length c.args.writers.now = omega arith in
+    c.requires.written _ (number_at c.args.writers.now c.loop-writer.writer-index 0 lt)
+
+pub loop-writer-preserved : goal.loop-writer-preserved
+loop-writer-preserved c =
+    let lt : c.loop-writer.writer-index < length c.args.writers.now = omega arith in
+    leads_map c.args.subject.now (λ o. race c.args.entry.now.number o c.args.file.now) c.args.writers.now c.loop-writer.writer-index 0 _ c.loop-writer.found.items c.note_race.new.found.items c.args.found.now.items lt c.loop-writer.invariant c.in_ok-note_race.ensures
+
+pub returns : goal.returns
+returns c =
+    let past : length c.args.writers.now ≤ c.loop-writer.writer-index = omega arith in
+    leads_done c.args.subject.now (map (λ o. race c.args.entry.now.number o c.args.file.now) (drop c.loop-writer.writer-index c.args.writers.now)) _ c.loop-writer.found.items c.args.found.now.items (ap (map (λ o. race c.args.entry.now.number o c.args.file.now)) (drop_past c.args.writers.now c.loop-writer.writer-index past)) c.loop-writer.invariant

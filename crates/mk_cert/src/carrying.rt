@@ -1,0 +1,38 @@
+//! Recipes that nodes carry.
+
+ghost use Rattle.std.specs.Prelude.{◌≡◌, ◌<◌, ℕ, [], length, slice_index_or, IfOk};
+ghost use Rattle.mk_cert.specs.Carried.{carried};
+
+use crate::subject::Subject;
+use mk_graph::Groups;
+use std::alloc::{AllocError, Global};
+
+/// Who writes the direct prerequisites of a node, in their order.
+fn carried_by(alloc: Global, subject: &Subject<'_>, number: usize) -> Result<Vec<usize>, AllocError>
+    ensures { IfOk result (λ numbers. numbers.items ≡ carried subject.now number) }
+{
+    let graph = subject.graph();
+    let mut carried = Vec::new(alloc);
+    for prerequisite in graph.prerequisites(number) {
+        let name = graph.nodes()[*prerequisite].name.as_str();
+        carried.extend_from_slice(subject.writers(name))?;
+    }
+    Ok(carried)
+}
+
+/// For each node, at its number, the recipes that it carries: those that write its direct
+/// prerequisites, in the order of these. A search for ways goes over them in this order.
+///
+/// The time is linear in the prerequisites of all nodes where each file has one writer. It fails
+/// for want of memory alone.
+pub fn carried_lists(alloc: Global, subject: &Subject<'_>) -> Result<Groups, AllocError>
+    ensures many { IfOk result (λ lists. length lists ≡ length subject.now.graph.nodes) }
+    ensures lists { IfOk result (λ lists. (t : ℕ) → slice_index_or lists t [] ≡ carried subject.now t) }
+{
+    let count = subject.graph().nodes().len();
+    let mut lists = Vec::with_capacity(alloc, count)?;
+    for number in 0..count {
+        lists.push(carried_by(alloc, subject, number)?)?;
+    }
+    Ok(Groups::new(lists))
+}

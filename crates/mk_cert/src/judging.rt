@@ -1,0 +1,93 @@
+//! Whether entries of a certificate are bad, one behind another.
+
+ghost use Rattle.std.specs.Prelude.{◌≡◌, ◌<◌, ◌↔◌, ◌⊎◌, ℕ, List, [], true, not, length, slice_index_or, slice_set, Err, IfOk, OnOk};
+ghost use Rattle.mk_lines.specs.Names.{has_name, with_name};
+ghost use Rattle.mk_cert.specs.Links.{AreLinks, AreSeen};
+ghost use Rattle.mk_cert.specs.Checks.{AnswersEntries, HasSets, Judges};
+ghost use Rattle.mk_cert.specs.declared.fault.CertFault.TheVariants.{BadWay, Memory};
+
+use crate::fault::CertFault;
+use crate::links::Links;
+use crate::subject::Subject;
+use crate::walking::good_start;
+use mk_graph::growth_laws::names_have_one_number;
+use mk_lines::NameSet;
+use mk_ways::Way;
+use std::alloc::{AllocError, Global};
+
+/// An empty set for each of so many nodes.
+pub fn empty_sets<'a>(alloc: Global, count: usize) -> Result<Vec<NameSet<'a>>, AllocError>
+    ensures many { IfOk result (λ sets. length sets.items ≡ count) }
+    ensures empty { IfOk result (λ sets. (t : ℕ) → slice_index_or sets.items t [] ≡ []) }
+{
+    let mut sets = Vec::with_capacity(alloc, count)?;
+    for _ in 0..count {
+        sets.push(NameSet::new(alloc))?;
+    }
+    Ok(sets)
+}
+
+/// Adds a name to the set at a place. Answers whether it was new there.
+fn note_at<'a>(sets: &mut Vec<NameSet<'a>>, place: usize, name: &'a str) -> Result<bool, AllocError>
+    requires { place < length sets.old.items }
+    ensures new { IfOk result (λ added. added ≡
+        not (has_name (slice_index_or sets.old.items place []) name.entry.now)) }
+    ensures ok { OnOk result (sets.new.items ≡ slice_set sets.old.items place
+        (with_name (slice_index_or sets.old.items place []) name.entry.now)) }
+    ensures many { length sets.new.items ≡ length sets.old.items }
+{
+    let set = &mut sets[place];
+    set.insert(name)
+}
+
+/// Whether an entry isn't bad beside those that were noted. It is noted then.
+fn note_good<'a>(
+    subject: &Subject<'_>,
+    links: &Links<'_>,
+    way: &'a Way,
+    seen: &mut Vec<NameSet<'a>>,
+) -> Result<bool, AllocError>
+    requires links { AreLinks subject.now links.now.names links.now.reads.items
+        links.now.carried.items links.now.needed.items links.now.always.items }
+    requires sets { HasSets subject.now seen.old.items }
+    ensures judged { IfOk result (λ good. Judges subject.now way.entry.now seen.old.items seen.new.items good) }
+    ensures sets { HasSets subject.now seen.new.items }
+{
+    names_have_one_number();
+    let _graph = subject.graph();
+    let Some(start) = good_start(subject, links, way) else {
+        return Ok(false);
+    };
+    note_at(seen, start, way.file.as_str())
+}
+
+/// The fault of a bad entry.
+fn bad_way(way: &Way) -> Result<CertFault, AllocError>
+    ensures { IfOk result (λ fault. fault ≡ BadWay way.now.recipe way.now.file) }
+{
+    let recipe = way.recipe.clone()?;
+    let file = way.file.clone()?;
+    Ok(CertFault::BadWay { recipe, file })
+}
+
+/// Notes the entries of a list, or answers the first bad one (75).
+pub fn check_entries<'a>(
+    subject: &Subject<'_>,
+    links: &Links<'_>,
+    ways: &'a [Way],
+    seen: &mut Vec<NameSet<'a>>,
+) -> Result<(), CertFault>
+    requires links { AreLinks subject.now links.now.names links.now.reads.items
+        links.now.carried.items links.now.needed.items links.now.always.items }
+    requires sets { HasSets subject.now seen.old.items }
+    requires empty { AreSeen subject.now [] seen.old.items }
+    ensures answer { (result ≡ Err Memory) ⊎ AnswersEntries subject.now ways.entry.now result }
+    ensures seen { OnOk result (AreSeen subject.now ways.entry.now seen.new.items) }
+{
+    for way in ways {
+        if !note_good(subject, links, way, seen)? {
+            return Err(bad_way(way)?);
+        }
+    }
+    Ok(())
+}

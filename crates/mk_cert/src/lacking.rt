@@ -1,0 +1,80 @@
+//! Which reads lack their ways.
+
+ghost use Rattle.std.specs.Prelude.{◌≡◌, ◌⊎◌, ◌↔◌, List, ℕ, true, Err, IfOk, MatchOption};
+ghost use Rattle.mk_graph.specs.Membership.{Has};
+ghost use Rattle.mk_ways.specs.Certificate.{Way};
+ghost use Rattle.mk_cert.specs.Subject.{name_of, reads_of};
+ghost use Rattle.mk_cert.specs.Entry.{IsEntry};
+ghost use Rattle.mk_cert.specs.Links.{AreSeen};
+ghost use Rattle.mk_cert.specs.Verdict.{IsFirst, Read, LacksWay};
+ghost use Rattle.mk_cert.specs.Checks.{AnswersReads, reads_by};
+ghost use Rattle.mk_cert.specs.declared.fault.CertFault.TheVariants.{Memory, NoWay};
+
+use crate::entry::Entry;
+use crate::fault::CertFault;
+use crate::subject::Subject;
+use crate::walking::{can_change, stands_at};
+use mk_graph::laws::serial_reaches_each_once;
+use mk_lines::{Name, NameSet};
+use std::alloc::{AllocError, Global};
+
+/// Whether a file that a recipe reads can change and isn't noted for it.
+fn lacks(subject: &Subject<'_>, seen: &[NameSet<'_>], entry: &Entry<'_>, file: &str) -> bool
+    requires read { Has (reads_of subject.now entry.now.number) file.now }
+    ensures { (ways : List Way) → AreSeen subject.now ways seen.now → (result ≡ true) ↔
+        LacksWay subject.now ways (record { recipe = entry.now.number; file = file.now }) }
+{
+    let _graph = subject.graph();
+    can_change(subject, file) && !stands_at(seen, entry.number, file)
+}
+
+/// The first file that a recipe reads which can change and isn't noted for it.
+fn first_lacking<'a>(
+    subject: &Subject<'_>,
+    seen: &[NameSet<'_>],
+    entry: &'a Entry<'_>,
+) -> Option<&'a str>
+    requires { IsEntry subject.now entry.now }
+    ensures { (ways : List Way) → AreSeen subject.now ways seen.now →
+        MatchOption result
+        ((r : Read) → Has (reads_by subject.now entry.now.number) r → ¬ (LacksWay subject.now ways r))
+        (λ file. IsFirst (LacksWay subject.now ways) (reads_by subject.now entry.now.number)
+        (record { recipe = entry.now.number; file = file.now })) }
+{
+    let files = entry.reads();
+    for file in files {
+        if lacks(subject, seen, entry, file.as_str()) {
+            return Some(file.as_str());
+        }
+    }
+    None
+}
+
+/// The fault of a read that lacks its way.
+fn no_way(alloc: Global, entry: &Entry<'_>, file: &str) -> Result<CertFault, AllocError>
+    ensures { IfOk result (λ fault. fault ≡ NoWay entry.now.node.name file.now) }
+{
+    let recipe = entry.copy_of_name()?;
+    let file = Name::new(alloc, file)?;
+    Ok(CertFault::NoWay { recipe, file })
+}
+
+/// That each read that needs a way is noted, or the first that isn't (74).
+pub fn check_reads(
+    alloc: Global,
+    subject: &Subject<'_>,
+    seen: &[NameSet<'_>],
+) -> Result<(), CertFault>
+    ensures { (ways : List Way) → AreSeen subject.now ways seen.now →
+        (result ≡ Err Memory) ⊎ AnswersReads subject.now ways result }
+{
+    serial_reaches_each_once();
+    let _graph = subject.graph();
+    let entries = subject.entries();
+    for entry in entries {
+        if let Some(file) = first_lacking(subject, seen, entry) {
+            return Err(no_way(alloc, entry, file)?);
+        }
+    }
+    Ok(())
+}

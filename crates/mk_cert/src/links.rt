@@ -1,0 +1,167 @@
+//! What is looked up of ways.
+
+ghost use Rattle.std.specs.Prelude.{◌≡◌, ◌<◌, ◌↔◌, ◌⊎◌, ℕ, List, [], true, false, length, map, slice_index_or, IfOk, MatchOption, OnOk};
+ghost use Rattle.std.specs.String.{string_bytes};
+ghost use Rattle.mk_lines.specs.Names.{has_name};
+ghost use Rattle.mk_graph.specs.Graph.{IsGraph, node, prerequisites};
+ghost use Rattle.mk_graph.specs.Membership.{Has};
+ghost use Rattle.mk_graph.specs.Setting.{IsAlwaysMade};
+ghost use Rattle.mk_graph.specs.Setting as build;
+ghost use Rattle.mk_graph.specs.Ways.{Carries};
+ghost use Rattle.mk_cert.specs.Subject.{footprints, name_of, reads_of};
+ghost use Rattle.mk_cert.specs.Links.{AreLinks};
+
+use crate::entry::reads_in;
+use crate::subject::Subject;
+use crate::tables::names_among;
+use mk_foot::Setting;
+use mk_graph::laws::serial_reaches_each_once;
+use mk_graph::{Graph, NodeSet};
+use mk_lines::NameSet;
+use std::alloc::{AllocError, Global};
+
+/// What is looked up of ways: at the number of each node what is so of it.
+#[derive(Drop)]
+pub struct Links<'a> {
+    /// Its name.
+    pub names: NameSet<'a>,
+    /// The files that its recipe reads.
+    pub reads: Vec<NameSet<'a>>,
+    /// The recipes that it carries.
+    pub carried: Vec<NodeSet>,
+    /// Its direct prerequisites.
+    pub needed: Vec<NodeSet>,
+    /// Whether it is made in each make.
+    pub always: Vec<bool>,
+}
+
+/// The names of the nodes, at their numbers.
+fn names_of<'a>(alloc: Global, graph: &'a Graph) -> Result<NameSet<'a>, AllocError>
+    ensures { IfOk result (λ names. names ≡ map (λ n. n.name) graph.now.nodes) }
+{
+    let nodes = graph.nodes();
+    let mut names = NameSet::with_capacity(alloc, nodes.len())?;
+    for node in nodes {
+        names.insert(node.name.as_str())?;
+    }
+    Ok(names)
+}
+
+/// The files that the recipe of a node reads.
+fn reads_of<'a>(graph: &Graph, setting: &'a Setting, number: usize) -> &'a [String]
+    requires { number < length graph.now.nodes }
+    ensures { map string_bytes result.now ≡
+        build.reads graph.now (footprints setting.now) number }
+{
+    let node = &graph.nodes()[number];
+    if node.recipe {
+        reads_in(setting.record_of(node.name.as_str()))
+    } else {
+        &[]
+    }
+}
+
+/// The files that each recipe reads.
+fn read_sets<'a>(
+    alloc: Global,
+    graph: &Graph,
+    setting: &'a Setting,
+) -> Result<Vec<NameSet<'a>>, AllocError>
+    ensures { IfOk result (λ sets. (t : ℕ) (f : List ℕ) →
+        (has_name (slice_index_or sets.items t []) f ≡ true) ↔
+        Has (build.reads graph.now (footprints setting.now) t) f) }
+{
+    let count = graph.nodes().len();
+    let mut sets = Vec::with_capacity(alloc, count)?;
+    for number in 0..count {
+        sets.push(names_among(alloc, reads_of(graph, setting, number))?)?;
+    }
+    Ok(sets)
+}
+
+/// The recipes that a node carries.
+fn carried_by(subject: &Subject<'_>, number: usize) -> NodeSet
+    ensures { (o : ℕ) → Has result o ↔
+        Carries subject.now.graph (footprints subject.now.setting) number o }
+{
+    serial_reaches_each_once();
+    let graph = subject.graph();
+    let mut carried = NodeSet::new();
+    for prerequisite in graph.prerequisites(number) {
+        let name = graph.nodes()[*prerequisite].name.as_str();
+        carried.insert_all(subject.writers(name));
+    }
+    carried
+}
+
+/// The recipes that each node carries.
+fn carried_sets(alloc: Global, subject: &Subject<'_>) -> Result<Vec<NodeSet>, AllocError>
+    ensures { IfOk result (λ sets. (t o : ℕ) → Has (slice_index_or sets.items t []) o ↔
+        Carries subject.now.graph (footprints subject.now.setting) t o) }
+{
+    let count = subject.graph().nodes().len();
+    let mut sets = Vec::with_capacity(alloc, count)?;
+    for number in 0..count {
+        sets.push(carried_by(subject, number))?;
+    }
+    Ok(sets)
+}
+
+/// The direct prerequisites of each node.
+fn needed_sets(alloc: Global, graph: &Graph) -> Result<Vec<NodeSet>, AllocError>
+    ensures { IfOk result (λ sets. (t p : ℕ) → Has (slice_index_or sets.items t []) p ↔
+        Has (prerequisites graph.now t) p) }
+{
+    let count = graph.nodes().len();
+    let mut sets = Vec::with_capacity(alloc, count)?;
+    for number in 0..count {
+        let mut needed = NodeSet::new();
+        needed.insert_all(graph.prerequisites(number));
+        sets.push(needed)?;
+    }
+    Ok(sets)
+}
+
+/// Whether one of these nodes is phony.
+fn some_phony(graph: &Graph, numbers: &[usize]) -> bool
+    requires { (n : ℕ) → Has numbers.now n → n < length graph.now.nodes }
+    ensures { (result ≡ true) ↔
+        ((p : ℕ) × Has numbers.now p × ((node graph.now p).phony ≡ true)) }
+{
+    let nodes = graph.nodes();
+    for number in numbers {
+        if nodes[*number].phony {
+            return true;
+        }
+    }
+    false
+}
+
+/// Whether each node is made in each make.
+fn always_made(alloc: Global, graph: &Graph) -> Result<Vec<bool>, AllocError>
+    ensures { IfOk result (λ always. (t : ℕ) →
+        (slice_index_or always.items t false ≡ true) ↔ IsAlwaysMade graph.now t) }
+{
+    let nodes = graph.nodes();
+    let mut always = Vec::with_capacity(alloc, nodes.len())?;
+    for (number, node) in nodes.iter().enumerate() {
+        always.push(node.phony || some_phony(graph, graph.prerequisites(number)))?;
+    }
+    Ok(always)
+}
+
+/// All that is looked up of ways. It takes time linear in what is recorded, where each file has one
+/// writer.
+pub fn links_of<'a>(alloc: Global, subject: &'a Subject<'_>) -> Result<Links<'a>, AllocError>
+    ensures { IfOk result (λ l. AreLinks subject.now l.names l.reads.items l.carried.items
+        l.needed.items l.always.items) }
+{
+    let graph = subject.graph();
+    Ok(Links {
+        names: names_of(alloc, graph)?,
+        reads: read_sets(alloc, graph, subject.setting())?,
+        carried: carried_sets(alloc, subject)?,
+        needed: needed_sets(alloc, graph)?,
+        always: always_made(alloc, graph)?,
+    })
+}

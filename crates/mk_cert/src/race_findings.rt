@@ -1,0 +1,145 @@
+//! Recipes that read what others write, before these are done.
+
+ghost use Rattle.std.specs.Prelude.{◌≡◌, ◌∷◌, [], ℕ, map, IfOk, OnOk};
+ghost use Rattle.std.specs.List.{flat_map};
+ghost use Rattle.mk_graph.specs.Membership.{Has};
+ghost use Rattle.mk_graph.specs.Serial.{serial_order};
+ghost use Rattle.mk_cert.specs.Subject.{reads_of, writes_of};
+ghost use Rattle.mk_cert.specs.Candidates.{race, race_candidates};
+ghost use Rattle.mk_cert.specs.Entry.{IsEntry};
+ghost use Rattle.mk_cert.specs.Listed.{Adds};
+
+use crate::entry::Entry;
+use crate::finding::Finding;
+use crate::subject::Subject;
+use mk_graph::{BitRows, Order};
+use mk_lines::Name;
+use std::alloc::{AllocError, Global};
+
+/// Adds that a recipe reads what another one writes which isn't before it, if it is so.
+fn note_race(
+    alloc: Global,
+    subject: &Subject<'_>,
+    order: &BitRows<'_>,
+    entry: &Entry<'_>,
+    other: usize,
+    file: &str,
+    found: &mut Vec<Finding>,
+) -> Result<(), AllocError>
+    requires entry { IsEntry subject.now entry.now }
+    requires order { order.now ≡ subject.now.graph }
+    requires read { Has (reads_of subject.now entry.now.number) file.now }
+    requires written { Has (writes_of subject.now other) file.now }
+    ensures { OnOk result (Adds subject.now (race entry.now.number other file.now ∷ [])
+        found.old.items found.new.items) }
+{
+    if other == entry.number || order.before(other, entry.number) {
+        return Ok(());
+    }
+    let recipe = entry.copy_of_name()?;
+    let writer = subject.copy_of_name(other)?;
+    let file = Name::new(alloc, file)?;
+    found.push(Finding::Race {
+        recipe,
+        writer,
+        file,
+    })?;
+    Ok(())
+}
+
+/// Adds which of these writers of a file that a recipe reads aren't before it.
+fn note_races_with(
+    alloc: Global,
+    subject: &Subject<'_>,
+    order: &BitRows<'_>,
+    entry: &Entry<'_>,
+    writers: &[usize],
+    file: &str,
+    found: &mut Vec<Finding>,
+) -> Result<(), AllocError>
+    requires entry { IsEntry subject.now entry.now }
+    requires order { order.now ≡ subject.now.graph }
+    requires read { Has (reads_of subject.now entry.now.number) file.now }
+    requires written { (o : ℕ) → Has writers.now o → Has (writes_of subject.now o) file.now }
+    ensures { OnOk result (Adds subject.now
+        (map (λ o. race entry.now.number o file.now) writers.now)
+        found.old.items found.new.items) }
+{
+    for writer in writers {
+        note_race(alloc, subject, order, entry, *writer, file, found)?;
+    }
+    Ok(())
+}
+
+/// Adds which writers of a file that a recipe reads aren't before it.
+fn note_file(
+    alloc: Global,
+    subject: &Subject<'_>,
+    order: &BitRows<'_>,
+    entry: &Entry<'_>,
+    file: &str,
+    found: &mut Vec<Finding>,
+) -> Result<(), AllocError>
+    requires entry { IsEntry subject.now entry.now }
+    requires order { order.now ≡ subject.now.graph }
+    requires read { Has (reads_of subject.now entry.now.number) file.now }
+    ensures { OnOk result (Adds subject.now
+        (map (λ o. race entry.now.number o file.now) (serial_order subject.now.graph))
+        found.old.items found.new.items) }
+{
+    let writers = subject.writers(file);
+    note_races_with(alloc, subject, order, entry, writers, file, found)
+}
+
+/// Adds which writers of the files that a recipe reads aren't before it.
+fn note_files(
+    alloc: Global,
+    subject: &Subject<'_>,
+    order: &BitRows<'_>,
+    entry: &Entry<'_>,
+    found: &mut Vec<Finding>,
+) -> Result<(), AllocError>
+    requires entry { IsEntry subject.now entry.now }
+    requires order { order.now ≡ subject.now.graph }
+    ensures { OnOk result (Adds subject.now
+        (flat_map (λ f. map (λ o. race entry.now.number o f) (serial_order subject.now.graph))
+        (reads_of subject.now entry.now.number)) found.old.items found.new.items) }
+{
+    let files = entry.reads();
+    for file in files {
+        note_file(alloc, subject, order, entry, file.as_str(), found)?;
+    }
+    Ok(())
+}
+
+/// Adds which recipes read what others write that aren't before them.
+fn note_races(
+    alloc: Global,
+    subject: &Subject<'_>,
+    order: &BitRows<'_>,
+    found: &mut Vec<Finding>,
+) -> Result<(), AllocError>
+    requires { order.now ≡ subject.now.graph }
+    ensures { OnOk result (Adds subject.now (race_candidates subject.now)
+        found.old.items found.new.items) }
+{
+    let entries = subject.entries();
+    for entry in entries {
+        note_files(alloc, subject, order, entry, found)?;
+    }
+    Ok(())
+}
+
+/// Which recipes read files whose writers aren't always done before they begin: by the reader's
+/// place in the serial order, the file's place among its reads, and the writer's place in the
+/// serial order. The order of the graph is worked out once, in rows of bits. It fails for want of
+/// memory alone.
+pub fn races(alloc: Global, subject: &Subject<'_>) -> Result<Vec<Finding>, AllocError>
+    ensures { IfOk result (λ found. Adds subject.now (race_candidates subject.now) []
+        found.items) }
+{
+    let mut found = Vec::new(alloc);
+    let order = BitRows::new(alloc, subject.graph())?;
+    note_races(alloc, subject, &order, &mut found)?;
+    Ok(found)
+}

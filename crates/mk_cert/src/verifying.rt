@@ -1,0 +1,109 @@
+//! Whether a certificate shows that a build is safe.
+
+ghost use Rattle.std.specs.Prelude.{◌≡◌, ◌⊎◌, ◌↔◌, ◌∷◌, List, [], true, map, Err, MatchOption, OnOk};
+ghost use Rattle.mk_graph.specs.Right.{IsRight};
+ghost use Rattle.mk_infer.specs.Laws.{StaysSelected};
+ghost use Rattle.mk_cert.specs.Conditions.{all_writes};
+ghost use Rattle.mk_cert.specs.Subject.{footprints, name_of};
+ghost use Rattle.mk_cert.specs.Laws.{IsRightOnce};
+ghost use Rattle.mk_cert.specs.Verdict.{Verifies};
+ghost use Rattle.mk_cert.specs.Checks.{AnswersFound, AnswersWays};
+ghost use Rattle.mk_cert.specs.declared.finding.Finding.{Finding};
+ghost use Rattle.mk_cert.specs.declared.fault.CertFault.TheVariants.{Memory};
+
+use crate::fault::CertFault;
+use crate::finding::Finding;
+use crate::findings::static_findings;
+use crate::judging::{check_entries, empty_sets};
+use crate::lacking::check_reads;
+use crate::laws::verified_is_right;
+use crate::links::links_of;
+use crate::race_findings::races;
+use crate::subject::Subject;
+use mk_lines::Name;
+use mk_ways::{Certificate, Way};
+use std::alloc::Global;
+
+/// Whether these names are those of the goals, in their order.
+fn has_goals(subject: &Subject<'_>, names: &[Name]) -> bool
+    ensures { (result ≡ true) ↔ (names.now ≡ map (name_of subject.now) subject.now.graph.goals) }
+{
+    let graph = subject.graph();
+    let nodes = graph.nodes();
+    let goals = graph.goals();
+    if names.len() != goals.len() {
+        return false;
+    }
+    for (place, goal) in goals.iter().enumerate() {
+        if names[place].as_str() != nodes[*goal].name.as_str() {
+            return false;
+        }
+    }
+    true
+}
+
+/// The first of findings, if there are any.
+fn first_of(found: Vec<Finding>) -> Option<Finding>
+    ensures { MatchOption result (found.items ≡ [])
+        (λ first. (rest : List Finding) × (found.items ≡ first ∷ rest)) }
+{
+    let mut found = found;
+    if found.is_empty() {
+        return None;
+    }
+    Some(found.swap_remove(0))
+}
+
+/// That nothing is found, or the first that is: static, or else a race (76).
+fn check_found(alloc: Global, subject: &Subject<'_>) -> Result<(), CertFault>
+    ensures { (result ≡ Err Memory) ⊎ AnswersFound subject.now result }
+{
+    if let Some(finding) = first_of(static_findings(alloc, subject)?) {
+        return Err(CertFault::Static(finding));
+    }
+    if let Some(finding) = first_of(races(alloc, subject)?) {
+        return Err(CertFault::Static(finding));
+    }
+    Ok(())
+}
+
+/// That no entry is bad, or the first one that is (75); then that each read that needs a way has
+/// its entry, or the first that hasn't (74).
+fn check_ways(alloc: Global, subject: &Subject<'_>, ways: &[Way]) -> Result<(), CertFault>
+    ensures { (result ≡ Err Memory) ⊎ AnswersWays subject.now ways.now result }
+{
+    let links = links_of(alloc, subject)?;
+    let mut seen = empty_sets(alloc, subject.graph().nodes().len())?;
+    check_entries(subject, &links, ways, &mut seen)?;
+    check_reads(alloc, subject, &seen)
+}
+
+/// Whether a certificate shows that a build is safe: its goals are those of the graph, nothing is
+/// found in the footprints, no entry is bad, and each read of a file that can change has its entry.
+/// Else the first of these that fails, in the order of 73, 76, 75 and 74.
+///
+/// Where it answers `Ok`, every legal history is right: after each make of any of the goals that
+/// comes to its end, with any number of jobs and any overlap of recipes, after any edits, makes and
+/// stops, the files of all recipes that these goals reach hold what a clean build would give them.
+/// And the graph is the one that is selected whatever part of the files that recipes write is
+/// there.
+pub fn verify(
+    alloc: Global,
+    subject: &Subject<'_>,
+    certificate: &Certificate,
+) -> Result<(), CertFault>
+    ensures answer { (result ≡ Err Memory) ⊎ Verifies subject.now certificate.now result }
+    ensures right { OnOk result (IsRight subject.now.graph (footprints subject.now.setting)) }
+    ensures once { OnOk result (IsRightOnce subject.now.graph (footprints subject.now.setting)) }
+    ensures selected { OnOk result (StaysSelected subject.now.makefile subject.now.there
+        (all_writes subject.now) (map (name_of subject.now) subject.now.graph.goals)
+        subject.now.graph) }
+{
+    verified_is_right();
+    let _graph = subject.graph();
+    if !has_goals(subject, certificate.goals.as_slice()) {
+        return Err(CertFault::OtherGoals);
+    }
+    check_found(alloc, subject)?;
+    check_ways(alloc, subject, certificate.ways.as_slice())
+}

@@ -1,0 +1,186 @@
+//! Whether an entry of a certificate is good.
+
+ghost use Rattle.std.specs.Prelude.{◌≡◌, ◌↔◌, ℕ, [], true, slice_index_or, MatchOption};
+ghost use Rattle.mk_lines.specs.Names.{has_name};
+ghost use Rattle.mk_graph.specs.Membership.{Has};
+ghost use Rattle.mk_graph.specs.Setting.{Needs};
+ghost use Rattle.mk_graph.specs.Ways.{CanChange};
+ghost use Rattle.mk_cert.specs.Subject.{footprints, name_of};
+ghost use Rattle.mk_cert.specs.Conditions.{IsRecipe};
+ghost use Rattle.mk_cert.specs.Paths.{EndsAt};
+ghost use Rattle.mk_cert.specs.Verdict.{IsGood, NeedsWay};
+ghost use Rattle.mk_cert.specs.Links.{AreLinks};
+ghost use Rattle.mk_cert.specs.Walking.{GoesOver, Leads};
+
+use crate::links::Links;
+use crate::subject::Subject;
+use crate::writer_findings::has_number;
+use mk_graph::NodeSet;
+use mk_graph::growth_laws::names_have_one_number;
+use mk_graph::laws::serial_reaches_each_once;
+use mk_lines::{Name, NameSet};
+use mk_ways::{Finish, Way};
+
+/// Whether a number stands in the set at a place.
+fn has_at(sets: &[NodeSet], place: usize, number: usize) -> bool
+    ensures { (result ≡ true) ↔ Has (slice_index_or sets.now place []) number }
+{
+    match sets.get(place) {
+        Some(set) => set.has(number),
+        None => false,
+    }
+}
+
+/// Whether a name stands in the set at a place.
+pub fn stands_at(sets: &[NameSet<'_>], place: usize, name: &str) -> bool
+    ensures { result ≡ has_name (slice_index_or sets.now place []) name.now }
+{
+    match sets.get(place) {
+        Some(set) => set.contains(name),
+        None => false,
+    }
+}
+
+/// The number of the recipe with a name.
+fn recipe_named(subject: &Subject<'_>, links: &Links<'_>, name: &str) -> Option<usize>
+    requires { AreLinks subject.now links.now.names links.now.reads.items links.now.carried.items
+        links.now.needed.items links.now.always.items }
+    ensures { MatchOption result ((n : ℕ) → IsRecipe subject.now n →
+        ¬ (name_of subject.now n ≡ name.now))
+        (λ n. IsRecipe subject.now n × (name_of subject.now n ≡ name.now)) }
+{
+    names_have_one_number();
+    let number = links.names.number_of(name);
+    let Some(node) = subject.graph().nodes().get(number) else {
+        return None;
+    };
+    if !node.recipe {
+        return None;
+    }
+    Some(number)
+}
+
+/// The last recipe of a path from this one on, over recipes with these names.
+fn last_over(
+    subject: &Subject<'_>,
+    links: &Links<'_>,
+    start: usize,
+    names: &[Name],
+) -> Option<usize>
+    requires { AreLinks subject.now links.now.names links.now.reads.items links.now.carried.items
+        links.now.needed.items links.now.always.items }
+    ensures { MatchOption result
+        ((last : ℕ) → ¬ (GoesOver subject.now start names.now last))
+        (λ last. GoesOver subject.now start names.now last) }
+{
+    names_have_one_number();
+    let _graph = subject.graph();
+    let mut last = start;
+    for name in names {
+        let Some(next) = recipe_named(subject, links, name.as_str()) else {
+            return None;
+        };
+        if !has_at(&links.carried, last, next) {
+            return None;
+        }
+        last = next;
+    }
+    Some(last)
+}
+
+/// Whether a file can change.
+pub fn can_change(subject: &Subject<'_>, file: &str) -> bool
+    ensures { (result ≡ true) ↔ CanChange (footprints subject.now.setting) file.now }
+{
+    subject.setting().is_editable(file) || !subject.setting().is_given(file)
+}
+
+/// Whether a file is a direct prerequisite of a node.
+fn needs(subject: &Subject<'_>, links: &Links<'_>, number: usize, file: &str) -> bool
+    requires { AreLinks subject.now links.now.names links.now.reads.items links.now.carried.items
+        links.now.needed.items links.now.always.items }
+    ensures { (result ≡ true) ↔ Needs subject.now.graph number file.now }
+{
+    names_have_one_number();
+    let _graph = subject.graph();
+    has_at(&links.needed, number, links.names.number_of(file))
+}
+
+/// Whether a path to a file may end so at a recipe. A file has one writer where nothing was found,
+/// so its writers are no list to go through.
+pub fn ends_at(
+    subject: &Subject<'_>,
+    links: &Links<'_>,
+    file: &str,
+    finish: Finish,
+    number: usize,
+) -> bool
+    requires { AreLinks subject.now links.now.names links.now.reads.items links.now.carried.items
+        links.now.needed.items links.now.always.items }
+    ensures { (result ≡ true) ↔ EndsAt subject.now.graph (footprints subject.now.setting) file.now
+        finish number }
+{
+    serial_reaches_each_once();
+    let _graph = subject.graph();
+    match finish {
+        Finish::Written => has_number(subject.writers(file), number),
+        Finish::Source => {
+            subject.setting().is_editable(file) && needs(subject, links, number, file)
+        }
+        Finish::Always => links.always.get(number) == Some(&true),
+    }
+}
+
+/// Whether a recipe reads a file which can change.
+fn needs_way(subject: &Subject<'_>, links: &Links<'_>, number: usize, file: &str) -> bool
+    requires { AreLinks subject.now links.now.names links.now.reads.items links.now.carried.items
+        links.now.needed.items links.now.always.items }
+    ensures { (result ≡ true) ↔ NeedsWay subject.now number file.now }
+{
+    stands_at(&links.reads, number, file) && can_change(subject, file)
+}
+
+/// Whether the path of an entry goes on from its first recipe to its file.
+fn leads(subject: &Subject<'_>, links: &Links<'_>, start: usize, others: &[Name], way: &Way) -> bool
+    requires { AreLinks subject.now links.now.names links.now.reads.items links.now.carried.items
+        links.now.needed.items links.now.always.items }
+    ensures { (result ≡ true) ↔ Leads subject.now start others.now way.now }
+{
+    names_have_one_number();
+    let _graph = subject.graph();
+    let Some(last) = last_over(subject, links, start, others) else {
+        return false;
+    };
+    if others.is_empty() && way.finish == Finish::Written {
+        return false;
+    }
+    ends_at(subject, links, way.file.as_str(), way.finish, last)
+}
+
+/// The number of the recipe of an entry, where the entry is good.
+pub fn good_start(subject: &Subject<'_>, links: &Links<'_>, way: &Way) -> Option<usize>
+    requires { AreLinks subject.now links.now.names links.now.reads.items links.now.carried.items
+        links.now.needed.items links.now.always.items }
+    ensures { MatchOption result (¬ (IsGood subject.now way.now))
+        (λ n. IsGood subject.now way.now × IsRecipe subject.now n ×
+        (name_of subject.now n ≡ way.now.recipe)) }
+{
+    names_have_one_number();
+    let _graph = subject.graph();
+    let Some((first, others)) = way.path.as_slice().split_first() else {
+        return None;
+    };
+    if first.as_str() != way.recipe.as_str() {
+        return None;
+    }
+    let Some(start) = recipe_named(subject, links, first.as_str()) else {
+        return None;
+    };
+    if !needs_way(subject, links, start, way.file.as_str()) {
+        return None;
+    }
+    if !leads(subject, links, start, others, way) {
+        return None;
+    }
+    Some(start)
+}

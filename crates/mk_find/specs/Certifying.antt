@@ -1,0 +1,42 @@
+-- The certificate of a build of which nothing is found.
+use Rattle.std.specs.Prelude.{◌≡◌, ℕ, List, [], ◌∷◌, map}
+use Rattle.std.specs.List.{flat_map}
+use Rattle.mk_lines.specs.Names.{once}
+use Rattle.mk_graph.specs.Serial.{serial_order}
+use Rattle.mk_ways.specs.Certificate.{Way, Certificate}
+use Rattle.mk_cert.specs.Subject.{Subject, name_of, reads_of}
+use Rattle.mk_cert.specs.Verdict.{Read, NeedsWay, HasGoals}
+use Rattle.mk_find.specs.FirstPaths.{GoesFirst}
+
+-- the reads of recipes, each once: by the place of the recipe in the serial order, and by the place
+-- of the file
+abbrev pub reads_once : Subject → List Read
+reads_once x =
+    flat_map (λ t. map (λ f. record { recipe = t; file = f }) (once (reads_of x t)))
+    (serial_order x.graph)
+
+-- the read needs a way
+abbrev pub Needs : Subject → Read → Type 0
+Needs x r = NeedsWay x r.recipe r.file
+
+-- The entry is for the read: it has its recipe and its file, and of all paths the first, by names.
+pub record IsEntryFor (x : Subject) (r : Read) (w : Way) : Type 0 where
+  pub nodes : List ℕ
+  pub first : GoesFirst x r.file r.recipe nodes w.finish
+  pub same_recipe : w.recipe ≡ name_of x r.recipe
+  pub same_file : w.file ≡ r.file
+  pub same_path : w.path ≡ map (name_of x) nodes
+
+-- these are the entries for those of the reads that need a way, in their order
+pub data AreEntriesFor (x : Subject) : List Read → List Way → Type 0 where
+  nothing : AreEntriesFor x [] []
+  entry : {r : Read} {w : Way} {reads : List Read} {ways : List Way} → Needs x r →
+      IsEntryFor x r w → AreEntriesFor x reads ways → AreEntriesFor x (r ∷ reads) (w ∷ ways)
+  none : {r : Read} {reads : List Read} {ways : List Way} → ¬ (Needs x r) →
+      AreEntriesFor x reads ways → AreEntriesFor x (r ∷ reads) ways
+
+-- The certificate has the goals of the graph in their order, and an entry for each read that needs
+-- a way.
+pub record IsCertificate (x : Subject) (c : Certificate) : Type 0 where
+  pub goals : HasGoals x c
+  pub ways : AreEntriesFor x (reads_once x) c.ways

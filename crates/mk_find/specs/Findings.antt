@@ -1,0 +1,14 @@
+-- What is told of a build.
+use Rattle.std.specs.Prelude.{◌≡◌, List, [], ◌++◌, ◌⊎◌}
+use Rattle.mk_cert.specs.declared.finding.Finding.{Finding}
+use Rattle.mk_cert.specs.Subject.{Subject}
+use Rattle.mk_cert.specs.Candidates.{static_candidates, race_candidates, stale_candidates}
+use Rattle.mk_cert.specs.Listing.{Lists}
+use Rattle.mk_cert.specs.Listed.{Adds}
+
+-- The findings of a build. Where there are some that need no order and no ways, it is these; else
+-- it is the races, and behind them the stale reads.
+abbrev pub AreFindings : Subject → List Finding → Type 0
+AreFindings x found =
+    ((¬ (found ≡ [])) × Adds x (static_candidates x) [] found) ⊎
+    (Lists x (static_candidates x) [] × Adds x (race_candidates x ++ stale_candidates x) [] found)

@@ -1,0 +1,4 @@
+pub mod FirstPaths
+pub mod Findings
+pub mod Certifying
+pub mod Laws

@@ -1,0 +1,84 @@
+//! The first path from a recipe to a file.
+
+ghost use Rattle.std.specs.Prelude.{◌≡◌, ◌<◌, ℕ, length, IfOk, MatchOption};
+ghost use Rattle.mk_graph.specs.Membership.{Has};
+ghost use Rattle.mk_search.specs.Ways.{successors};
+ghost use Rattle.mk_ways.specs.declared.certificate.Finish.{Finish as FinishValue};
+ghost use Rattle.mk_cert.specs.Carried.{carried};
+ghost use Rattle.mk_cert.specs.Links.{AreLinks};
+ghost use Rattle.mk_cert.specs.Subject.{writes_of};
+ghost use Rattle.mk_find.specs.FirstPaths.{Ends, EndsFirst, GoesFirst, HasNoPath};
+
+use mk_cert::laws::carried_exactly;
+use mk_cert::{Links, Subject, ends_at};
+use mk_search::Search;
+use mk_search::laws::{first_by_places, none_by_places, one_way_at_a_place, places_are_below};
+use mk_ways::Finish;
+use std::alloc::{AllocError, Global};
+
+/// A path of recipes, and how it ends.
+#[derive(Debug, Drop)]
+pub(crate) struct FirstPath {
+    /// The recipes, from the one that reads the file on.
+    pub nodes: Vec<usize>,
+    /// How it ends at the last of them.
+    pub finish: Finish,
+}
+
+/// How a path to a file may end at a recipe, the first such finish.
+fn finish_at(subject: &Subject<'_>, links: &Links<'_>, file: &str, number: usize) -> Option<Finish>
+    requires { AreLinks subject.now links.now.names links.now.reads.items links.now.carried.items
+        links.now.needed.items links.now.always.items }
+    ensures { MatchOption result
+        ((finish : FinishValue) → ¬ (Ends subject.now file.now finish number))
+        (λ finish. EndsFirst subject.now file.now finish number) }
+{
+    if ends_at(subject, links, file, Finish::Written, number) {
+        return Some(Finish::Written);
+    }
+    if ends_at(subject, links, file, Finish::Source, number) {
+        return Some(Finish::Source);
+    }
+    if ends_at(subject, links, file, Finish::Always, number) {
+        return Some(Finish::Always);
+    }
+    None
+}
+
+/// The first path to a file from the recipe at which a search over carried recipes starts, which
+/// doesn't write the file; or none, where none leads there. It fails for want of memory alone.
+pub(crate) fn first_path(
+    alloc: Global,
+    subject: &Subject<'_>,
+    links: &Links<'_>,
+    search: &mut Search<'_>,
+    file: &str,
+) -> Result<Option<FirstPath>, AllocError>
+    requires links { AreLinks subject.now links.now.names links.now.reads.items
+        links.now.carried.items links.now.needed.items links.now.always.items }
+    requires rows { (t : ℕ) → successors search.old.rows t ≡ carried subject.now t }
+    requires start { search.old.start < length subject.now.graph.nodes }
+    requires out { ¬ (Has (writes_of subject.now search.old.start) file.now) }
+    ensures same { search.new ≡ search.old }
+    ensures found { IfOk result (λ found. MatchOption found
+        (HasNoPath subject.now file.now search.old.start)
+        (λ path. GoesFirst subject.now file.now search.old.start path.nodes.items path.finish)) }
+{
+    carried_exactly();
+    first_by_places();
+    none_by_places();
+    one_way_at_a_place();
+    places_are_below();
+    let _graph = subject.graph();
+    let mut place = 0;
+    while let Some(number) = search.visit(place)? {
+        if let Some(finish) = finish_at(subject, links, file, number) {
+            let Some(nodes) = search.way(alloc, place)? else {
+                return Ok(None);
+            };
+            return Ok(Some(FirstPath { nodes, finish }));
+        }
+        place += 1;
+    }
+    Ok(None)
+}

@@ -1,0 +1,57 @@
+//! Laws of first paths, findings and certificates. Each is the contract of a function that does nothing but call lower laws:
+//! who calls it has the law.
+
+ghost use Rattle.mk_find.specs.Laws.{FirstPathIsOne, FirstPathIsShortest, FindingsAreOne, NoFindings, CertificateIsOne, CertificateIsAccepted, EntriesAreShortest};
+
+use mk_cert::laws::list_is_one;
+use mk_graph::growth_laws::names_have_one_number;
+use mk_graph::laws::serial_reaches_each_once;
+use mk_search::laws::{precedes_as_read, precedes_is_an_order};
+
+/// From a recipe to a file there is at most one first path, with one finish.
+pub fn first_path_is_one()
+    ensures { FirstPathIsOne }
+{
+    precedes_is_an_order();
+}
+
+/// No path to the file is shorter than the first.
+pub fn first_path_is_shortest()
+    ensures { FirstPathIsShortest }
+{
+    precedes_as_read();
+}
+
+/// There is one list of findings.
+pub fn findings_are_one()
+    ensures { FindingsAreOne }
+{
+    list_is_one();
+}
+
+/// Where the list of findings is empty nothing is found: nothing static, no race, no stale read.
+pub fn no_findings()
+    ensures { NoFindings }
+{}
+
+/// There is one certificate.
+pub fn certificate_is_one()
+    ensures { CertificateIsOne }
+{
+    first_path_is_one();
+}
+
+/// Where nothing static and no race is found, the certificate is accepted.
+pub fn certificate_is_accepted()
+    ensures { CertificateIsAccepted }
+{
+    names_have_one_number();
+    serial_reaches_each_once();
+}
+
+/// No path for a read is shorter than that of its entry.
+pub fn entries_are_shortest()
+    ensures { EntriesAreShortest }
+{
+    first_path_is_shortest();
+}
