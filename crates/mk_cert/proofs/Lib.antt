@@ -17,5 +17,7 @@ pub mod Past
 pub mod FirstOf
 pub mod Judged
 pub mod Found
+pub mod OneAnswer
+pub mod SelectedGoals
 pub mod Accepted
 pub mod Counted

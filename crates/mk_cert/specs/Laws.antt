@@ -1,5 +1,5 @@
 -- Laws of findings: of their lists, and of what it means that there are none.
-use Rattle.std.specs.Prelude.{◌≡◌, ℕ, List, [], ◌∷◌, ◌↔◌, map, Ok}
+use Rattle.std.specs.Prelude.{◌≡◌, ℕ, List, [], ◌∷◌, ◌↔◌, map, ⊤, Result, Ok}
 use Rattle.mk_graph.specs.Membership.{Has}
 use Rattle.mk_graph.specs.Graph.{Graph, IsGraph}
 use Rattle.mk_graph.specs.Setting.{FileName, Setting}
@@ -8,7 +8,12 @@ use Rattle.mk_graph.specs.Schedule.{Step, Make, IsLegal, after_all}
 use Rattle.mk_graph.specs.BuildLaws.{AreInside}
 use Rattle.mk_graph.specs.Ways.{Way}
 use Rattle.mk_graph.specs.Right.{AreSound, HaveNoRace, HaveWays, IsRight, IsRightAt}
+use Rattle.mk_graph.specs.Setting as build
+use Rattle.mk_read.specs.Reading.{Makefile}
 use Rattle.mk_infer.specs.Laws.{StaysSelected}
+use Rattle.mk_infer.specs.Selection.{Selects}
+use Rattle.mk_infer.specs.There.{Exists}
+use Rattle.mk_cert.specs.declared.fault.CertFault.{CertFault}
 use Rattle.mk_cert.specs.Subject.{Subject, IsSubject, footprints, name_of, writes_of}
 use Rattle.mk_cert.specs.Conditions.{all_writes}
 use Rattle.mk_cert.specs.Candidates.{Candidate, Holds, selection, static_candidates, race_candidates}
@@ -87,3 +92,15 @@ VerifiedIsRight =
     (x : Subject) (c : Certificate) → IsGraph x.graph → IsSubject x → Verifies x c (Ok tt) →
     IsRight x.graph (footprints x.setting) × IsRightOnce x.graph (footprints x.setting) ×
     StaysSelected x.makefile x.there (all_writes x) (map (name_of x) x.graph.goals) x.graph
+
+-- The graph that is selected has the goals by their names, in their order.
+abbrev pub SelectedGoals : Type 0
+SelectedGoals =
+    (m : Makefile) (e : Exists) (goals : List (List ℕ)) (g : Graph) → Selects m e goals (Ok g) →
+    map (build.name g) g.goals ≡ goals
+
+-- A certificate has one answer.
+abbrev pub AnswerIsOne : Type 0
+AnswerIsOne =
+    (x : Subject) (c : Certificate) (one other : Result ⊤ CertFault) → Verifies x c one →
+    Verifies x c other → one ≡ other

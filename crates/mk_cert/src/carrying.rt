@@ -27,7 +27,8 @@ fn carried_by(alloc: Global, subject: &Subject<'_>, number: usize) -> Result<Vec
 /// for want of memory alone.
 pub fn carried_lists(alloc: Global, subject: &Subject<'_>) -> Result<Groups, AllocError>
     ensures many { IfOk result (λ lists. length lists ≡ length subject.now.graph.nodes) }
-    ensures lists { IfOk result (λ lists. (t : ℕ) → slice_index_or lists t [] ≡ carried subject.now t) }
+    ensures lists { IfOk result (λ lists. (t : ℕ) →
+        slice_index_or lists t [] ≡ carried subject.now t) }
 {
     let count = subject.graph().nodes().len();
     let mut lists = Vec::with_capacity(alloc, count)?;

@@ -50,7 +50,8 @@ fn note_good<'a>(
     requires links { AreLinks subject.now links.now.names links.now.reads.items
         links.now.carried.items links.now.needed.items links.now.always.items }
     requires sets { HasSets subject.now seen.old.items }
-    ensures judged { IfOk result (λ good. Judges subject.now way.entry.now seen.old.items seen.new.items good) }
+    ensures judged { IfOk result (λ good.
+        Judges subject.now way.entry.now seen.old.items seen.new.items good) }
     ensures sets { HasSets subject.now seen.new.items }
 {
     names_have_one_number();

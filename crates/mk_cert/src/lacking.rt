@@ -37,7 +37,8 @@ fn first_lacking<'a>(
     requires { IsEntry subject.now entry.now }
     ensures { (ways : List Way) → AreSeen subject.now ways seen.now →
         MatchOption result
-        ((r : Read) → Has (reads_by subject.now entry.now.number) r → ¬ (LacksWay subject.now ways r))
+        ((r : Read) → Has (reads_by subject.now entry.now.number) r →
+        ¬ (LacksWay subject.now ways r))
         (λ file. IsFirst (LacksWay subject.now ways) (reads_by subject.now entry.now.number)
         (record { recipe = entry.now.number; file = file.now })) }
 {

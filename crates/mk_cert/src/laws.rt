@@ -2,12 +2,13 @@
 //! law.
 
 ghost use Rattle.mk_cert.specs.Carried.{CarriedExactly};
-ghost use Rattle.mk_cert.specs.Laws.{ListIsOne, ListedExactly, AllWritesExactly, NothingFoundIsSound, NothingFoundIsSelected, NoRaceFoundIsNone, NothingFoundIsRight, PathsAreWays, VerifiedIsRight};
+ghost use Rattle.mk_cert.specs.Laws.{ListIsOne, ListedExactly, AllWritesExactly, NothingFoundIsSound, NothingFoundIsSelected, NoRaceFoundIsNone, NothingFoundIsRight};
+ghost use Rattle.mk_cert.specs.Laws.{AnswerIsOne, PathsAreWays, SelectedGoals, VerifiedIsRight};
 
 use mk_graph::build_laws::{accepted_is_right, before_is_decided, one_build_is_right};
 use mk_graph::growth_laws::names_have_one_number;
 use mk_graph::laws::serial_reaches_each_once;
-use mk_infer::laws::{graph_stays_selected, more_takes_no_choice_away};
+use mk_infer::laws::{graph_stays_selected, meets_what_is_reached, more_takes_no_choice_away};
 
 /// There is one list of those candidates of which the condition holds.
 pub fn list_is_one()
@@ -64,6 +65,18 @@ pub fn nothing_found_is_right()
 /// A recipe has a way to a file just where there is a path from it to the file.
 pub fn paths_are_ways()
     ensures { PathsAreWays }
+{}
+
+/// The graph that is selected has the goals by their names, in their order.
+pub fn selected_goals()
+    ensures { SelectedGoals }
+{
+    meets_what_is_reached();
+}
+
+/// A certificate has one answer.
+pub fn answer_is_one()
+    ensures { AnswerIsOne }
 {}
 
 /// What is listed as carried are the recipes that a node carries.
