@@ -1,4 +1,4 @@
-"""Refuses each growth of `mkcheck graph` in turn, over worked examples.
+"""Refuses each growth of mkcheck in turn, over worked examples.
 
 The program must answer the whole text, or end with status 3 and say `want of memory`: never
 anything else, and never a text that is cut. It prints a line for each example, and ends with 1 where
@@ -15,6 +15,10 @@ HERE = Path(__file__).resolve().parent
 PROGRAM = HERE.parent.parent / "bin" / "mkcheck"
 PLAIN_RULES = "p: a.o\n\tcc -o p a.o\na.o: a.c\n\tcc -c a.c\n"
 PLAIN_GRAPH = "goals p\na.c:\na.o recipe: a.c\np recipe: a.o\n"
+COPY_RULES = "b: a\n\tcp a b\n"
+COPIED = """{"format":1,"fixed":[],"sources":["a"],"records":[
+{"target":"b","commands":["cp a b"],"reads":["a"],"writes":["b"]}]}"""
+PLAN = "make 1\nbegin b\nfinish b\nend\nedit a\nmake 1\npass b"
 NO_RECORDS = '{"format":1,"fixed":[],"sources":["a.c"],"records":[]}'
 RECORDED = """{"format":1,"fixed":[],"sources":["a.c"],"records":[
 {"target":"p","commands":["cc -o p a.o"],"reads":["a.o"],"writes":["p"]},
@@ -37,7 +41,7 @@ def nested(last: str) -> dict[str, str]:
 EXAMPLES = {
     "plain rules": (
         {"makefile": PLAIN_RULES},
-        [],
+        ["graph"],
         0,
         PLAIN_GRAPH,
     ),
@@ -46,66 +50,78 @@ EXAMPLES = {
             "makefile": "m.o: m.c y.tab.h\n\tcc -c m.c\ny.tab.h: y.tab.c\n"
             "y.tab.c: gram.y\n\tyacc -d gram.y\n"
         },
-        [],
+        ["graph"],
         0,
         "goals m.o\nm.c:\ngram.y:\ny.tab.c recipe: gram.y\ny.tab.h: y.tab.c\n"
         "m.o recipe: m.c y.tab.h\n",
     ),
     "a cycle": (
         {"makefile": "a: b c\nc: d\nd: c a\n"},
-        [],
+        ["graph"],
         2,
         "refused 42 c d c\n",
     ),
-    "includes to the last level": (nested("a:\n"), [], 0, "goals a\na:\n"),
-    "an include too deep": (nested("include f17\n"), [], 2, "refused 33 f16:1\n"),
+    "includes to the last level": (nested("a:\n"), ["graph"], 0, "goals a\na:\n"),
+    "an include too deep": (nested("include f17\n"), ["graph"], 2, "refused 33 f16:1\n"),
     "a substitution": (
         {"makefile": "S = a.c b.h\nall: $(S:%.c=obj/%.o)\n"},
-        [],
+        ["graph"],
         0,
         "goals all\nobj/a.o:\nb.h:\nall: obj/a.o b.h\n",
     ),
     "an inference rule and commands": (
         {"makefile": "p: a.o\n\t$(CC) -o $@ $^\na.o:\na.c:\n"},
-        ["-c", "CC=cc"],
+        ["graph", "-c", "CC=cc"],
         0,
         "goals p\na.c:\na.o recipe: a.c\n\tcc -O1 -c a.c\np recipe: a.o\n\tcc -o p a.o\n",
     ),
     "commands with footprints": (
         {"makefile": "p: a.o\n\t$(CC) -o $@ $^\n", "B": NO_RECORDS},
-        ["-c", "-b", "B", "CC=cc"],
+        ["graph", "-c", "-b", "B", "CC=cc"],
         0,
         "goals p\na.c:\na.o recipe: a.c\n\tcc -O1 -c a.c\np recipe: a.o\n\tcc -o p a.o\n",
     ),
     "footprints with records": (
         {"makefile": PLAIN_RULES, "B": RECORDED},
-        ["-b", "B"],
+        ["graph", "-b", "B"],
         0,
         PLAIN_GRAPH,
     ),
     "footprints with shared lists": (
         {"makefile": PLAIN_RULES, "B": SHARING},
-        ["-b", "B", "p"],
+        ["graph", "-b", "B", "p"],
         0,
         PLAIN_GRAPH,
     ),
     "footprints of no JSON": (
         {"makefile": PLAIN_RULES, "B": "{"},
-        ["-b", "B"],
+        ["graph", "-b", "B"],
         2,
         "refused 51\n",
     ),
     "a name without a rule": (
         {"makefile": PLAIN_RULES, "B": '{"format":1,"fixed":[],"sources":[],"records":[]}'},
-        ["-b", "B"],
+        ["graph", "-b", "B"],
         2,
         "refused 41 a.c\n",
     ),
     "the suffixes in their order": (
         {"makefile": ".SUFFIXES: .s\n.s.o:\n\tas -o $@ $<\nx.o:\nx.s:\nx.c:\n"},
-        [],
+        ["graph"],
         0,
         "goals x.o\nx.c:\nx.o recipe: x.c\n",
+    ),
+    "a plan": (
+        {"makefile": COPY_RULES, "B": COPIED, "P": PLAN},
+        ["simulate", "-b", "B", "-p", "P"],
+        2,
+        "a 1 1\nb 2 2\nrefused 65 line 7\na 3 3\nb 2 2\n",
+    ),
+    "a plan with a malformed line": (
+        {"makefile": COPY_RULES, "B": COPIED, "P": "make 1\nbegin b\nfin"},
+        ["simulate", "-b", "B", "-p", "P"],
+        2,
+        "refused 69 line 3\n",
     ),
 }
 
@@ -115,7 +131,7 @@ def answer(folder: str, shim: str, words: list[str], refused: int) -> tuple[int,
     source, sink = os.pipe()
     environment = {"LD_PRELOAD": shim, "REFUSED": str(refused), "COUNT_TO": str(sink)}
     done = subprocess.run(
-        [PROGRAM, "graph", *words],
+        [PROGRAM, *words],
         cwd=folder,
         env=environment,
         pass_fds=[sink],
