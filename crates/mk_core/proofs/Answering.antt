@@ -23,7 +23,7 @@ use Rattle.mk_core.specs.GraphAnswer.{AnswersGraph}
 use Rattle.mk_core.specs.GraphText.{graph_text, shown_lines}
 use Rattle.mk_core.specs.Ready.{Ready, book_for, exists, makefile_for, ready_for, setting_of}
 use Rattle.mk_core.specs.Steps.{◌>>=◌, as_fault, of_infer, of_read, seen}
-use Rattle.mk_core.specs.Views.{AnswersOver, Finds, PrintsOver, ready_over, ready_with}
+use Rattle.mk_core.specs.Views.{AnswersOver, DrawsOver, Finds, PrintsOver, ready_over, ready_with}
 use Rattle.mk_core.proofs.Faults.{by_infer, by_read}
 
 -- ---- the graph, and what is printed of it
@@ -104,16 +104,14 @@ module _ {A : Type 0} (files : Told) (request : Request) (m : Makefile) (answers
   over_ready ready answer none (inr h) a =
       inr (subst (λ (failing : Option (List ℕ)). Draws answers (ready_over files failing request m) answer) (sym none) (subst (λ (r : Result Ready Fault). Draws answers r answer) (sym h) a))
 
-module _ (files : Told) (request : Request) (m : Makefile) (asked : Bool) (ready : Ready) (is : Finds (λ failing. ready_over files failing request m) (Ok ready)) where
+module _ (asked : Bool) (ready : Ready) where
   -- the text of the graph is the answer
-  pub over_text : (text : List ℕ) → PrintsOver asked ready (Ok text) → AnswersOver files request m (AnswersGraph asked) (Ok text)
-  over_text text p = over_ready files request m (AnswersGraph asked) ready (Ok text) refl is (Ok text, p, refl)
+  pub text_drawn : (text : List ℕ) → PrintsOver asked ready (Ok text) → DrawsOver asked ready (Ok text)
+  text_drawn text p = inr (Ok text, p, refl)
 
   -- its fault is the answer
-  pub over_no_text : (fault : InferFault) → PrintsOver asked ready (Err fault) → AnswersOver files request m (AnswersGraph asked) (Err (of_infer fault))
-  over_no_text fault p =
-      by_infer (λ f. AnswersOver files request m (AnswersGraph asked) (Err f)) fault (inl refl)
-      (λ settled. over_ready files request m (AnswersGraph asked) ready (Err (Infer fault)) refl is (Err fault, p settled, refl))
+  pub no_text_drawn : (fault : InferFault) → PrintsOver asked ready (Err fault) → DrawsOver asked ready (Err (of_infer fault))
+  no_text_drawn fault p = by_infer (λ f. DrawsOver asked ready (Err f)) fault (inl refl) (λ settled. inr (Err fault, p settled, refl))
 
 -- ---- what is ready has no fault of a makefile
 

@@ -3,4 +3,5 @@ pub mod NodeTexts
 pub mod Faults
 pub mod Answering
 pub mod OneAnswer
+pub mod Finding
 pub mod Simulating

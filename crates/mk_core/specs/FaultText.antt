@@ -131,7 +131,7 @@ plan_fault_text (plan.Line line) = refusal_of_line 69 line
 plan_fault_text plan.Memory = no_memory
 
 -- the refusal of a line by a step
-abbrev pub step_fault_text : ℕ → StepFault → List ℕ
+unfoldable pub step_fault_text : ℕ → StepFault → List ℕ
 step_fault_text line step.ClockSpent = refusal_of_line 59 line
 step_fault_text line step.OtherOutcome = refusal_of_line 60 line
 step_fault_text line step.NoMake = refusal_of_line 61 line

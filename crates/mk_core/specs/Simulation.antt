@@ -1,6 +1,5 @@
 -- What is shown of the run of a plan.
-use Rattle.std.specs.Prelude.{◌≡◌, ℕ, Bool, List, [], ◌∷◌, ◌++◌, codes, Option, None, Some, is_some}
-use Rattle.std.specs.Fmt.{decimal}
+use Rattle.std.specs.Prelude.{◌≡◌, ℕ, Bool, List, ◌∷◌, ◌++◌, codes, Option, None, Some, is_some}
 use Rattle.mk_foot.specs.Setting.{Setting}
 use Rattle.mk_graph.specs.Graph.{Graph}
 use Rattle.mk_graph.specs.World.{World, disk_of}

@@ -14,7 +14,7 @@ use Rattle.mk_core.specs.declared.fault.Fault.{Fault}
 use Rattle.mk_core.specs.declared.fault.Fault.TheVariants.{Infer, Memory}
 use Rattle.mk_core.specs.declared.request.Request.{Request}
 use Rattle.mk_core.specs.Answer.{Draws, failing_of}
-use Rattle.mk_core.specs.GraphAnswer.{PrintsSelected}
+use Rattle.mk_core.specs.GraphAnswer.{AnswersGraph, PrintsSelected}
 use Rattle.mk_core.specs.FileText.{text_of}
 use Rattle.mk_core.specs.Ready.{Ready, book_for, exists, setting_of}
 use Rattle.mk_core.specs.Simulation.{Simulation}
@@ -72,6 +72,10 @@ abbrev pub PrintsOver : Bool → Ready → Result (List ℕ) InferFault → Type
 PrintsOver asked ready (Ok text) = PrintsSelected asked ready (Ok text)
 PrintsOver asked ready (Err fault) =
     (is_want_of_memory fault ≡ false) → PrintsSelected asked ready (Err fault)
+
+-- what `graph` answers to what is ready, or want of memory
+abbrev pub DrawsOver : Bool → Ready → Result (List ℕ) Fault → Type 0
+DrawsOver asked ready answer = (answer ≡ Err Memory) ⊎ AnswersGraph asked ready answer
 
 -- What is defined stands behind the old text in the new one, unless memory ran out.
 abbrev pub Extends : List ℕ → List ℕ → Result ⊤ InferFault → Result (List ℕ) InferFault → Type 0

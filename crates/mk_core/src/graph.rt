@@ -1,10 +1,10 @@
 //! The answer to a request for a graph.
 
-ghost use Rattle.std.specs.Prelude.{◌≡◌, ◌<◌, ◌-◌, ◌^◌, true, IfErr, IfSome};
+ghost use Rattle.std.specs.Prelude.{◌≡◌, ◌<◌, ◌-◌, ◌^◌, ℕ, true, IfErr, IfSome};
 ghost use Rattle.mk_core.specs.Answer.{Answers, Counts};
 ghost use Rattle.mk_core.specs.GraphAnswer.{AnswersGraph};
 ghost use Rattle.mk_core.specs.Steps.{is_want_of_memory, seen};
-ghost use Rattle.mk_core.specs.Views.{AnswersOver, PrintsOver};
+ghost use Rattle.mk_core.specs.Views.{AnswersOver, DrawsOver, PrintsOver};
 ghost use Rattle.mk_core.specs.declared.fault.Fault.TheVariants.{Memory};
 
 use crate::fault::Fault;
@@ -25,6 +25,16 @@ fn selected_text(alloc: Global, ready: &Ready<'_>, commands: bool) -> Result<Vec
     text_of(alloc, &choices, &graph, commands)
 }
 
+/// The answer to what is ready. No read is counted.
+fn drawn(alloc: Global, ready: &Ready<'_>, commands: bool) -> Result<Vec<u8>, Fault>
+    ensures answer { DrawsOver commands ready.now (seen (λ text. text.items) result) }
+    ensures memory { IfErr result (λ fault. is_want_of_memory fault ≡ true → fault ≡ Memory) }
+    ensures counted { (failed : ℕ) → Counts failed failed result }
+{
+    let text = selected_text(alloc, ready, commands)?;
+    Ok(text)
+}
+
 /// The answer to a request over its makefile.
 fn answered<F: Files>(
     alloc: Global,
@@ -42,8 +52,7 @@ fn answered<F: Files>(
     ensures counted { Counts (F.failed files.old) (F.failed files.new) result }
 {
     let ready = ready_over(alloc, files, request, makefile)?;
-    let text = selected_text(alloc, &ready, request.commands)?;
-    Ok(text)
+    drawn(alloc, &ready, request.commands)
 }
 
 /// What `mkcheck graph` prints: the goals on a line, then a line for each node in serial order,

@@ -249,6 +249,7 @@ fn plan_fault_text(alloc: Global, fault: &PlanFault) -> Result<Vec<u8>, AllocErr
 }
 
 /// The line that is printed where a step refuses a line of a plan.
+#[tactic(auto, unfolding(crate::specs::FaultText::step_fault_text))]
 pub fn step_fault_text(alloc: Global, line: usize, fault: &StepFault) -> Result<Vec<u8>, AllocError>
     ensures { IfOk result (λ text. text.items ≡ step_fault_text line fault.now) }
 {

@@ -16,7 +16,9 @@ use Rattle.clap.proofs.OnLiterals.{clap_on_literals}
 use Rattle.clap.proofs.WalkLemmas.{walk_stopped}
 use Rattle.std.specs.Prelude.{slice_index_or}
 use Rattle.mkcheck.specs.CommandLine.{HasNoOption, command_line, graph_words, is_option}
-use Rattle.mkcheck.specs.Run.{asking, faults_of, request_of, requested}
+use Rattle.mk_core.specs.declared.request.Request.{Request}
+use Rattle.mkcheck.specs.Asked.{asked_of, asked_with, asking, faults_of, requested}
+use Rattle.mkcheck.specs.declared.asked.Asked.TheVariants.{Graph}
 
 -- a word that is no option is no flag and not `--`
 record IsPlain (word : Text) : Type 0 where
@@ -193,13 +195,13 @@ graph_taken rest h =
 words_taken : (words : List Text) → AreWords words → length words ≤ 18446744073709551615 → faults_of (codes "graph" ∷ words) ≡ []
 words_taken words h fits = graph_taken words (level_of_graph words h fits)
 
--- the request that they make
-request_by : (rest : List Text) → request_of (codes "graph" ∷ rest) ≡ requested (rows_after graph_shape.rules [] rest)
-request_by rest = ap (λ (w : Walk). requested (option_map_or (λ met. met.1) (entered (built command_line) w.stopped) [])) (walk_of_top rest)
+-- what they ask
+asked_rest : (rest : List Text) → asked_of (codes "graph" ∷ rest) ≡ Graph (requested (rows_after graph_shape.rules [] rest))
+asked_rest rest = ap (λ (w : Walk). asked_with (entered (built command_line) w.stopped)) (walk_of_top rest)
 
-words_asked : (words : List Text) → AreWords words → request_of (codes "graph" ∷ words) ≡ asking None words
-words_asked [] h = request_by []
-words_asked (word ∷ words) h = request_by (word ∷ words) ∙ ap (λ (w : Walk). requested (finished graph_shape.rules w.held)) (walk_all start [] start_begins word words h)
+words_asked : (words : List Text) → AreWords words → asked_of (codes "graph" ∷ words) ≡ Graph (asking None words)
+words_asked [] h = asked_rest []
+words_asked (word ∷ words) h = asked_rest (word ∷ words) ∙ ap (λ (w : Walk). Graph (requested (finished graph_shape.rules w.held))) (walk_all start [] start_begins word words h)
 
 -- ---- the same behind `-f NAME`
 
@@ -254,9 +256,9 @@ rows_named name [] h = refl
 rows_named name (word ∷ words) h = ap (λ (w : Walk). requested (finished graph_shape.rules w.held)) (walk_all (named name) (makefile_row name ∷ []) (named_begins name) word words h)
 
 named_asked : (name : Text) (words : List Text) → is_option name ≡ false → AreWords words
-    → request_of (codes "graph" ∷ codes "-f" ∷ name ∷ words) ≡ asking (Some name) words
+    → asked_of (codes "graph" ∷ codes "-f" ∷ name ∷ words) ≡ Graph (asking (Some name) words)
 named_asked name words plain h =
-    request_by (codes "-f" ∷ name ∷ words) ∙ (ap (λ (w : Walk). requested (finished graph_shape.rules w.held)) (walk_named name words (plain_word name plain)) ∙ rows_named name words h)
+    asked_rest (codes "-f" ∷ name ∷ words) ∙ ap (λ (r : Request). Graph r) (ap (λ (w : Walk). requested (finished graph_shape.rules w.held)) (walk_named name words (plain_word name plain)) ∙ rows_named name words h)
 
 -- ---- both
 
@@ -264,6 +266,6 @@ pub plain_taken : (makefile : Option Text) (words : List Text) → HasNoOption m
 plain_taken None words plain fits = words_taken words plain.words (omega arith)
 plain_taken (Some name) words plain fits = named_taken name words plain.name plain.words (omega arith)
 
-pub plain_asked : (makefile : Option Text) (words : List Text) → HasNoOption makefile words → request_of (graph_words makefile words) ≡ asking makefile words
+pub plain_asked : (makefile : Option Text) (words : List Text) → HasNoOption makefile words → asked_of (graph_words makefile words) ≡ Graph (asking makefile words)
 plain_asked None words plain = words_asked words plain.words
 plain_asked (Some name) words plain = named_asked name words plain.name plain.words

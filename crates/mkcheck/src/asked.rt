@@ -66,11 +66,7 @@ fn plan_in(alloc: Global, matches: &ArgMatches<'_>) -> Result<Name, AllocError>
 }
 
 /// What the subcommand of this name asks with these matches. The error is want of memory alone.
-pub fn asked_by(
-    alloc: Global,
-    name: &str,
-    matches: &ArgMatches<'_>,
-) -> Result<Asked, AllocError>
+pub fn asked_by(alloc: Global, name: &str, matches: &ArgMatches<'_>) -> Result<Asked, AllocError>
     ensures { IfOk result (λ asked. asked ≡ asked_by name.now (rows_of (found_of matches.now))) }
 {
     let request = requested(alloc, matches)?;

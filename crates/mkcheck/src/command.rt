@@ -58,7 +58,9 @@ fn plan_option<'a>(alloc: Global) -> Arg<'a>
         .short('p')
         .value_name("PLAN")
         .required(true)
-        .help("The plan: a line each of make, stop, begin, look, put, done, finish, run, pass, end, edit")
+        .help(
+            "The plan: a line each of make, stop, begin, look, put, done, finish, run, pass, end, edit",
+        )
 }
 
 fn commands_option<'a>(alloc: Global) -> Arg<'a>

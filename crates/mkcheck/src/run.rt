@@ -97,8 +97,8 @@ fn answered<F: Files>(
 {
     let (name, met) = matches.subcommand().unwrap();
     let asked = asked_by(alloc, name, met)?;
-    let answer = answer(alloc, files, &asked);
-    shown(alloc, answer)
+    let found = answer(alloc, files, &asked);
+    shown(alloc, found)
 }
 
 /// Reads the words behind the program's name, and answers what they ask: with status 0 and a text,

@@ -4,7 +4,7 @@ use Rattle.mk_read.specs.Files.{Told}
 use Rattle.mk_core.specs.SimulationAnswer.{AnswersSimulation}
 use Rattle.mk_core.specs.Views.{Finds, SimulatesOver, ready_over}
 use Rattle.mk_core.proofs.Faults.{some_both}
-use Rattle.mk_core.proofs.Simulating.{over_found}
+use Rattle.mk_core.proofs.Finding.{over_found}
 use Rattle.mk_core.proofs.simulation.answered.Goals as goal
 
 pub returns-clause-answer : goal.returns-clause-answer

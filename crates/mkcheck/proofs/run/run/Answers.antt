@@ -2,8 +2,9 @@ use Rattle.std.proofs.Common.{List, Option, ◌≡◌, ◌∙◌, [], ap, subst,
 use Rattle.std.proofs.lemmas.Result.{IfOk-weaker}
 use Rattle.clap.specs.Words.{App, HasKind, IsAmong, Row, Text, fault_of, is_simple, is_simple_and_free, kind_of, subcommand_of}
 use Rattle.std.specs.Option.{option_map_or}
-use Rattle.mk_core.specs.declared.request.Request.{Request}
-use Rattle.mkcheck.specs.Run.{IsAnswered, faults_of, request_of, requested, written}
+use Rattle.mkcheck.specs.declared.asked.Asked.{Asked}
+use Rattle.mkcheck.specs.Asked.{asked_of, asked_with, faults_of}
+use Rattle.mkcheck.specs.Run.{IsAnswered, written}
 use Rattle.mkcheck.proofs.PlainWords.{plain_asked, plain_taken}
 use Rattle.mkcheck.proofs.RunLemmas.{IfOk-each, explained_kind, is_simple_command, is_simple_line}
 use Rattle.mkcheck.proofs.run.run.Goals as goal
@@ -34,10 +35,10 @@ returns-in-Ok-clause-plain g c =
     let app = c.in_ok-command.ensures.app in
     let words = map g.S.AsStr.text c.args.words.now in
     let met = (c.in-Ok.ensures.matches (ap is_simple app ∙ is_simple_command)).1 ∙ ap (λ (a : App). subcommand_of a words) app in
-    let request = ap (λ (rows : Option (Text × List Row)). requested (option_map_or (λ p. p.1) rows [])) met in
+    let asks = ap asked_with met in
     IfOk-weaker c.answered.result _ _ (λ outcome h makefile asked is plain few.
-    subst (λ (r : Request). IsAnswered (g.F.Files.told c.args.files.now) (g.F.Files.failed c.args.files.now) (g.F.Files.failed c.answered.new.files) r (written outcome))
-    (request ∙ (ap request_of is ∙ plain_asked makefile asked plain)) h) c.answered.ensures.answered
+    subst (λ (a : Asked). IsAnswered (g.F.Files.told c.args.files.now) (g.F.Files.failed c.args.files.now) (g.F.Files.failed c.answered.new.files) a (written outcome))
+    (asks ∙ (ap asked_of is ∙ plain_asked makefile asked plain)) h) c.answered.ensures.answered
 
 pub returns-in-Err-clause-plain : goal.returns-in-Err-clause-plain
 returns-in-Err-clause-plain g c =
