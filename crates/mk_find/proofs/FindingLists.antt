@@ -1,5 +1,6 @@
 -- Lists of findings: there is one, and what it means that it is empty.
-use Rattle.std.proofs.Common.{◌≡◌, List, [], ◌∷◌, ◌++◌, map, inl, inr, refl, sym, ◌∙◌, ap, subst}
+use Rattle.std.proofs.lemmas.List.{nil_from_length}
+use Rattle.std.proofs.Common.{◌≡◌, length, List, [], ◌∷◌, ◌++◌, map, inl, inr, refl, sym, ◌∙◌, ap, subst}
 use Rattle.mk_cert.specs.declared.finding.Finding.{Finding}
 use Rattle.mk_cert.specs.Subject.{Subject}
 use Rattle.mk_cert.specs.Candidates.{Candidate, static_candidates, race_candidates, stale_candidates}
@@ -41,3 +42,8 @@ no_findings x (inl a) = absurd (a.0 refl)
 no_findings x (inr a) =
     let both = both_empty x (race_candidates x) (stale_candidates x) a.1.kept (none_named x a.1.kept a.1.added) a.1.right in
     ((a.0, both.0), both.1)
+
+-- where nothing is added, nothing is listed
+pub nothing_added : (x : Subject) (all : List Candidate) (found : List Finding) → Adds x all [] found → length found ≡ 0 → Lists x all []
+nothing_added x all found a e =
+    subst (λ (l : List Candidate). Lists x all l) (none_named x a.kept (sym (nil_from_length found e) ∙ a.added)) a.right

@@ -1,8 +1,10 @@
 pub mod Members
 pub mod Turned
 pub mod FirstPaths
+pub mod Adding
 pub mod FindingLists
 pub mod Entries
 pub mod ReadsOnce
 pub mod Accepted
 pub mod Trying
+pub mod Noting

@@ -2,4 +2,8 @@
 #![tactic(auto)]
 
 mod first_path;
+mod found;
 pub mod laws;
+mod stale;
+
+pub use found::findings;

@@ -1,0 +1,65 @@
+-- Lists of findings that grow.
+use Rattle.std.proofs.Common.{◌≡◌, ℕ, ◌+◌, ◌<◌, ◌≤◌, List, [], ◌∷◌, ◌++◌, length, get_or, map, drop, length-drop, refl, sym, ap, subst, ◌∙◌, append_assoc, append-nil, arith}
+use Rattle.std.specs.List.{flat_map}
+use Rattle.std.proofs.lemmas.List.{map-append, drop_more, nil_from_length}
+use Rattle.mk_cert.specs.declared.finding.Finding.{Finding}
+use Rattle.mk_cert.specs.Subject.{Subject}
+use Rattle.mk_cert.specs.Candidates.{Candidate, Holds}
+use Rattle.mk_cert.specs.Listing.{Lists, nothing, keeps, drops}
+use Rattle.mk_cert.specs.Listed.{Adds, named}
+
+-- lists one behind the other
+lists_append : (x : Subject) {one other kept more : List Candidate} → Lists x one kept → Lists x other more → Lists x (one ++ other) (kept ++ more)
+lists_append x nothing l = l
+lists_append x (keeps h m) l = keeps h (lists_append x m l)
+lists_append x (drops h m) l = drops h (lists_append x m l)
+
+-- of no candidates nothing is added
+pub adds_nothing : (x : Subject) (found : List Finding) → Adds x [] found found
+adds_nothing x found = record { kept = []; right = nothing; added = sym (append-nil found) }
+
+-- what is added of one list, and then of another
+pub adds_append : (x : Subject) (one other : List Candidate) (old mid new : List Finding) → Adds x one old mid → Adds x other mid new → Adds x (one ++ other) old new
+adds_append x one other old mid new a b = record {
+  kept = a.kept ++ b.kept;
+  right = lists_append x a.right b.right;
+  added = b.added ∙ (ap (λ l. l ++ map (named x) b.kept) a.added ∙ (append_assoc old (map (named x) a.kept) (map (named x) b.kept) ∙ ap (λ l. old ++ l) (sym (map-append (named x) a.kept b.kept))));
+}
+
+-- one candidate whose condition holds, and one whose condition doesn't
+pub adds_one : (x : Subject) (c : Candidate) (old new : List Finding) → Holds x c → new ≡ old ++ named x c ∷ [] → Adds x (c ∷ []) old new
+adds_one x c old new h e = record { kept = c ∷ []; right = keeps h nothing; added = e }
+
+pub adds_none : (x : Subject) (c : Candidate) (old : List Finding) → ¬ (Holds x c) → Adds x (c ∷ []) old old
+adds_none x c old h = record { kept = []; right = drops h nothing; added = sym (append-nil old) }
+
+-- past the end nothing is left of a list
+pub drop_past : {A : Type 0} (xs : List A) (i : ℕ) → length xs ≤ i → drop i xs ≡ []
+drop_past xs i past = nil_from_length (drop i xs) (omega (arith, length-drop i xs))
+
+-- what is left: adding the rest now leads where adding all led at first
+abbrev pub Leads : (x : Subject) (rest all : List Candidate) (now first : List Finding) → Type 0
+Leads x rest all now first = (last : List Finding) → Adds x rest now last → Adds x all first last
+
+-- at the start all is left
+pub leads_all : (x : Subject) (all : List Candidate) (first : List Finding) → Leads x all all first first
+leads_all x all first = λ last h. h
+
+-- at the end nothing is
+pub leads_done : (x : Subject) (rest all : List Candidate) (now first : List Finding) → rest ≡ [] → Leads x rest all now first → Adds x all first now
+leads_done x rest all now first none lead = lead now (subst (λ (l : List Candidate). Adds x l now now) (sym none) (adds_nothing x now))
+
+-- a part of the rest was added
+pub leads_on : (x : Subject) (part rest all : List Candidate) (now next first : List Finding) → Leads x (part ++ rest) all now first → Adds x part now next → Leads x rest all next first
+leads_on x part rest all now next first lead added = λ last more. lead last (adds_append x part rest now next last added more)
+
+module _ {A : Type 0} where
+  -- that of an element of a list
+  pub leads_each : (x : Subject) (found : A → List Candidate) (xs : List A) (i : ℕ) (d : A) (all : List Candidate) (now next first : List Finding) → i < length xs → Leads x (flat_map found (drop i xs)) all now first → Adds x (found (get_or xs i d)) now next → Leads x (flat_map found (drop (i + 1) xs)) all next first
+  leads_each x found xs i d all now next first lt lead added =
+      leads_on x (found (get_or xs i d)) (flat_map found (drop (i + 1) xs)) all now next first (subst (λ (l : List A). Leads x (flat_map found l) all now first) (drop_more xs i d lt) lead) added
+
+  -- one candidate for each element
+  pub leads_map : (x : Subject) (candidate : A → Candidate) (xs : List A) (i : ℕ) (d : A) (all : List Candidate) (now next first : List Finding) → i < length xs → Leads x (map candidate (drop i xs)) all now first → Adds x (candidate (get_or xs i d) ∷ []) now next → Leads x (map candidate (drop (i + 1) xs)) all next first
+  leads_map x candidate xs i d all now next first lt lead added =
+      leads_on x (candidate (get_or xs i d) ∷ []) (map candidate (drop (i + 1) xs)) all now next first (subst (λ (l : List A). Leads x (map candidate l) all now first) (drop_more xs i d lt) lead) added

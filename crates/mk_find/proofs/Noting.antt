@@ -1,0 +1,59 @@
+-- Whether a read is stale, by the paths that lead to the file.
+use Rattle.std.proofs.Common.{◌≡◌, ◌<◌, ℕ, zero, suc, ◌∷◌, get_or, inl, inr, arith, true, false, cond, List, [], length, Option, Some, None, MatchOption, is_some, ap, refl, sym, ◌∙◌, subst}
+use Rattle.std.proofs.lemmas.Bool.{false≢true}
+use Rattle.mk_foot.specs.Book.{Record}
+use Rattle.mk_foot.specs.Setting as foot
+use Rattle.mk_graph.specs.declared.node.Node.{Node}
+use Rattle.mk_graph.specs.Graph.{IsGraph, node}
+use Rattle.mk_graph.specs.Membership.{Has}
+use Rattle.mk_graph.specs.Ways.{CanChange, Way}
+use Rattle.mk_ways.specs.declared.certificate.Finish.{Finish}
+use Rattle.mk_cert.specs.Candidates.{static_candidates, Holds, stale}
+use Rattle.mk_cert.specs.Conditions.{IsStale}
+use Rattle.mk_cert.specs.Entry.{Entry, IsEntry, reads_in, entry_reads}
+use Rattle.mk_cert.specs.Laws.{NothingFoundIsSound, PathsAreWays}
+use Rattle.mk_cert.specs.Listing.{Lists}
+use Rattle.mk_cert.specs.Subject.{Subject, IsSubject, footprints, name_of, reads_of, writes_of}
+use Rattle.mk_find.specs.declared.first_path.FirstPath.{FirstPath}
+use Rattle.mk_find.specs.FirstPaths.{GoesFirst, HasNoPath}
+use Rattle.mk_find.proofs.ReadsOnce.{recipe_is_node, reader_is_recipe}
+
+-- what is looked up of the reads of a record is what the setting says
+reads_by : (s : foot.Setting) (name : List ℕ) (r : Option Record) → foot.record_for s.records name ≡ r → reads_in r ≡ foot.reads s name
+reads_by s name None e = rw e refl
+reads_by s name (Some r) e = rw e refl
+
+-- so an entry reads what the recipe of its node does
+pub same_reads : (x : Subject) (e : Entry) → IsEntry x e → entry_reads e ≡ reads_of x e.number
+same_reads x e is = ap (λ (n : Node). cond n.recipe (reads_in e.recorded) []) is.same_node ∙ ap (λ fs. cond (node x.graph e.number).recipe fs []) (reads_by x.setting (name_of x e.number) e.recorded (sym is.same_record))
+
+-- who reads is a node
+pub reader_low : (x : Subject) (t : ℕ) (f : List ℕ) → Has (reads_of x t) f → t < length x.graph.nodes
+reader_low x t f h = recipe_is_node x.graph t (reader_is_recipe x t f h)
+
+-- it doesn't write what it reads
+pub reader_writes_not : NothingFoundIsSound → (x : Subject) → IsGraph x.graph → IsSubject x → Lists x (static_candidates x) [] → (t : ℕ) (f : List ℕ) → Has (reads_of x t) f → ¬ (Has (writes_of x t) f)
+reader_writes_not sound x graph is none t f h = (sound x graph is none).not_own t f h
+
+-- a path leads to the file, so it isn't stale
+pub path_not_stale : PathsAreWays → (x : Subject) (f : List ℕ) (t : ℕ) (nodes : List ℕ) (finish : Finish) → GoesFirst x f t nodes finish → ¬ (IsStale x t f)
+path_not_stale ways x f t nodes finish goes is = is.2 ((ways x.graph (footprints x.setting) f t).1 (finish, _, goes.first.path))
+
+-- none does, so it is
+pub no_path_stale : PathsAreWays → (x : Subject) (f : List ℕ) (t : ℕ) → Has (reads_of x t) f → CanChange (footprints x.setting) f → HasNoPath x f t → IsStale x t f
+no_path_stale ways x f t reads can none = (reads, can, λ way. let path = (ways x.graph (footprints x.setting) f t).0 way in none path.0 path.1 path.2)
+
+-- the same of what a search has answered
+pub some_not_stale : PathsAreWays → (x : Subject) (f : List ℕ) (t : ℕ) (o : Option FirstPath) → MatchOption o (HasNoPath x f t) (λ p. GoesFirst x f t p.nodes.items p.finish) → is_some o ≡ true → ¬ (IsStale x t f)
+some_not_stale ways x f t None m e = absurd (false≢true e)
+some_not_stale ways x f t (Some p) m e = path_not_stale ways x f t p.nodes.items p.finish m
+
+pub none_is_none : (x : Subject) (f : List ℕ) (t : ℕ) (o : Option FirstPath) → MatchOption o (HasNoPath x f t) (λ p. GoesFirst x f t p.nodes.items p.finish) → is_some o ≡ false → HasNoPath x f t
+none_is_none x f t None m e = m
+none_is_none x f t (Some p) m e = absurd (false≢true (sym e))
+
+-- a file at its place stands among the files
+pub at_place : (files : List (List ℕ)) (i : ℕ) (d : List ℕ) → i < length files → Has files (get_or files i d)
+at_place [] i d h = absurd (omega arith)
+at_place (f ∷ files) zero d h = inl refl
+at_place (f ∷ files) (suc i) d h = inr (at_place files i d (omega arith))
