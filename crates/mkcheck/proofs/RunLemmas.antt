@@ -1,7 +1,7 @@
 -- What the parts of a run make together.
-use Rattle.std.proofs.Common.{◌≡◌, ◌⊎◌, ◌∙◌, ℕ, true, List, [], Option, Some, None, refl, sym, ap, ap₂, subst, inl, inr, Result, Ok, Err, IfOk}
+use Rattle.std.proofs.Common.{◌≡◌, ◌⊎◌, ◌∙◌, ℕ, true, List, Option, Some, None, refl, sym, ap, ap₂, subst, inl, inr, Result, Ok, Err, IfOk}
 use Rattle.std.specs.Prelude.{unwrap_or}
-use Rattle.std.specs.Option.{option_map, option_map_or}
+use Rattle.std.specs.Option.{option_map}
 use Rattle.clap.specs.Words.{IsAmong, Kinds, Row, Text, is_simple, is_simple_and_free}
 use Rattle.clap.specs.declared.error.ErrorKind.{ErrorKind}
 use Rattle.clap.specs.declared.error.ErrorKind.TheVariants.{OutOfMemory}
@@ -37,10 +37,14 @@ counts_seen view old new (Ok x) h = h
 counts_seen view old new (Err fault) h = h
 
 -- the subcommand that was met is the one whose name and values are told
-pub met_found : {P B : Type 0} (n : P → Text) (r : P → List Row) (name : B → Text) (rows : B → List Row) (o : Option B) (found : Option P) (p : P) → option_map n found ≡ option_map name o
-    → option_map r found ≡ option_map (λ q. q.1) (option_map (λ b. (name b, rows b)) o) → found ≡ Some p → option_map (λ b. (name b, rows b)) o ≡ Some (n p, r p)
-met_found n r name rows None found p hn hr e = let k : Some (n p) ≡ None = ap (option_map n) (sym e) ∙ hn in absurd cc
-met_found n r name rows (Some b) found p hn hr e =
-    let same_name : name b ≡ n p = sym (ap (λ (x : Option Text). unwrap_or x (n p)) (ap (option_map n) (sym e) ∙ hn)) in
-    let same_rows : rows b ≡ r p = sym (ap (λ (x : Option (List Row)). unwrap_or x (r p)) (ap (option_map r) (sym e) ∙ hr)) in
-    ap₂ (λ (x : Text) (y : List Row). Some (x, y)) same_name same_rows
+module _ {P B : Type 0} (n : P → Text) (r : P → List Row) (name : B → Text) (rows : B → List Row) where
+  abbrev met_in : Option B → Option (Text × List Row)
+  met_in o = option_map {U = Text × List Row} (λ b. (name b, rows b)) o
+
+  pub met_found : (o : Option B) (found : Option P) (p : P) → option_map n found ≡ option_map name o → option_map r found ≡ option_map (λ (q : Text × List Row). q.1) (met_in o) → found ≡ Some p
+      → met_in o ≡ Some (n p, r p)
+  met_found None found p hn hr e = let k : Some (n p) ≡ None = ap (option_map n) (sym e) ∙ hn in absurd cc
+  met_found (Some b) found p hn hr e =
+      let same_name : name b ≡ n p = sym (ap (λ (x : Option Text). unwrap_or x (n p)) (ap (option_map n) (sym e) ∙ hn)) in
+      let same_rows : rows b ≡ r p = sym (ap (λ (x : Option (List Row)). unwrap_or x (r p)) (ap (option_map r) (sym e) ∙ hr)) in
+      ap₂ (λ (x : Text) (y : List Row). Some (x, y)) same_name same_rows

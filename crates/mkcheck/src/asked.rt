@@ -61,8 +61,10 @@ fn requested(alloc: Global, matches: &ArgMatches<'_>) -> Result<Request, AllocEr
 fn plan_in(alloc: Global, matches: &ArgMatches<'_>) -> Result<Name, AllocError>
     ensures { IfOk result (λ plan. plan ≡ plan_in (rows_of (found_of matches.now))) }
 {
-    let plan = matches.get_str("plan").unwrap_or("");
-    Name::new(alloc, plan)
+    match named(alloc, matches, "plan")? {
+        Some(plan) => Ok(plan),
+        None => Name::new(alloc, ""),
+    }
 }
 
 /// What the subcommand of this name asks with these matches. The error is want of memory alone.

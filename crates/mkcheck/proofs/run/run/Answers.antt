@@ -1,7 +1,6 @@
-use Rattle.std.proofs.Common.{List, Option, ◌≡◌, ◌∙◌, [], ap, subst, map, refl}
+use Rattle.std.proofs.Common.{◌≡◌, ◌∙◌, [], ap, subst, map, refl}
 use Rattle.std.proofs.lemmas.Result.{IfOk-weaker}
-use Rattle.clap.specs.Words.{App, HasKind, IsAmong, Row, Text, fault_of, is_simple, is_simple_and_free, kind_of, subcommand_of}
-use Rattle.std.specs.Option.{option_map_or}
+use Rattle.clap.specs.Words.{App, HasKind, IsAmong, fault_of, is_simple, is_simple_and_free, kind_of, subcommand_of}
 use Rattle.mkcheck.specs.declared.asked.Asked.{Asked}
 use Rattle.mkcheck.specs.Asked.{asked_of, asked_with, faults_of}
 use Rattle.mkcheck.specs.Run.{IsAnswered, written}
