@@ -1,5 +1,5 @@
 -- A certificate has one answer.
-use Rattle.std.proofs.Common.{◌≡◌, ℕ, List, [], ◌∷◌, ◌++◌, inl, inr, ⊎_elim, refl, sym, ap, subst, ◌∙◌}
+use Rattle.std.proofs.Common.{◌≡◌, List, [], ◌∷◌, ◌++◌, inl, inr, refl, sym, ap, subst, ◌∙◌}
 use Rattle.std.specs.Prelude.{⊤, Result, Ok, Err}
 use Rattle.mk_graph.specs.Membership.{Has}
 use Rattle.mk_ways.specs.Certificate.{Way, Certificate}
@@ -10,7 +10,7 @@ use Rattle.mk_cert.specs.Subject.{Subject, name_of}
 use Rattle.mk_cert.specs.Candidates.{Candidate, Holds, static_candidates, race_candidates}
 use Rattle.mk_cert.specs.Listed.{named}
 use Rattle.mk_cert.specs.Verdict.{IsFirst, NothingFound, NoneBad, IsFirstBad, Read, LacksWay, NoneLacks, Verifies}
-use Rattle.mk_cert.proofs.FirstOf.{NoneOf, none_of_both}
+use Rattle.mk_cert.proofs.FirstOf.{none_of_both}
 use Rattle.mk_cert.proofs.Lists.{nothing_holds}
 
 module _ {A : Type 0} where

@@ -35,8 +35,8 @@ pub struct Links<'a> {
     pub always: Vec<bool>,
 }
 
-/// The names of the nodes, at their numbers.
-fn names_of<'a>(alloc: Global, graph: &'a Graph) -> Result<NameSet<'a>, AllocError>
+/// The names of the nodes of a graph, each at its number. It fails for want of memory alone.
+pub fn node_names<'a>(alloc: Global, graph: &'a Graph) -> Result<NameSet<'a>, AllocError>
     ensures { IfOk result (λ names. names ≡ map (λ n. n.name) graph.now.nodes) }
 {
     let nodes = graph.nodes();
@@ -137,8 +137,9 @@ fn some_phony(graph: &Graph, numbers: &[usize]) -> bool
     false
 }
 
-/// Whether each node is made in each make.
-fn always_made(alloc: Global, graph: &Graph) -> Result<Vec<bool>, AllocError>
+/// For each node of a graph, at its number, whether it is made in each make: it is phony, or has a
+/// phony direct prerequisite. It fails for want of memory alone.
+pub fn always_made(alloc: Global, graph: &Graph) -> Result<Vec<bool>, AllocError>
     ensures { IfOk result (λ always. (t : ℕ) →
         (slice_index_or always.items t false ≡ true) ↔ IsAlwaysMade graph.now t) }
 {
@@ -158,7 +159,7 @@ pub fn links_of<'a>(alloc: Global, subject: &'a Subject<'_>) -> Result<Links<'a>
 {
     let graph = subject.graph();
     Ok(Links {
-        names: names_of(alloc, graph)?,
+        names: node_names(alloc, graph)?,
         reads: read_sets(alloc, graph, subject.setting())?,
         carried: carried_sets(alloc, subject)?,
         needed: needed_sets(alloc, graph)?,

@@ -18,7 +18,7 @@ returns c =
     let needed = c.in_ok-needed_sets.field-0.items in
     let always = c.in_ok-always_made.field-0.items in
     record {
-      names_held = c.in_ok-names_of.ensures ∙ ap (λ (g : Graph). map (λ (n : Node). n.name) g.nodes) same;
+      names_held = c.in_ok-node_names.ensures ∙ ap (λ (g : Graph). map (λ (n : Node). n.name) g.nodes) same;
       reads_held = λ t f. subst (λ (g : Graph). (has_name (get_or reads t []) f ≡ true) ↔ Has (build.reads g (footprints x.setting) t) f) same (subst (λ (s : foot.Setting). (has_name (get_or reads t []) f ≡ true) ↔ Has (build.reads c.graph-graph.result.now (footprints s) t) f) c.setting.ensures (c.in_ok-read_sets.ensures t f));
       carried_held = c.in_ok-carried_sets.ensures;
       needed_held = λ t p. subst (λ (g : Graph). Has (get_or needed t []) p ↔ Has (prerequisites g t) p) same (c.in_ok-needed_sets.ensures t p);

@@ -2,7 +2,7 @@ use Rattle.std.proofs.Common.{◌<◌, ◌∙◌, List, ap, sym, subst, map, len
 use Rattle.mk_graph.specs.declared.node.Node.{Node}
 use Rattle.mk_graph.specs.Membership.{IsDistinct}
 use Rattle.mk_cert.proofs.Numbers.{names_more}
-use Rattle.mk_cert.proofs.links.names_of.Goals as goal
+use Rattle.mk_cert.proofs.links.node_names.Goals as goal
 
 pub loop-node-preserved : goal.loop-node-preserved
 loop-node-preserved c =

@@ -1,6 +1,6 @@
 use Rattle.std.proofs.Common.{◌≡◌, map, take}
 use Rattle.mk_graph.specs.declared.node.Node.{Node}
-use Rattle.mk_cert.proofs.links.names_of.Given as goal
+use Rattle.mk_cert.proofs.links.node_names.Given as goal
 
 -- the names so far
 abbrev pub invariant-loop-node : goal.invariant-loop-node
