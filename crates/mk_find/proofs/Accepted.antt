@@ -14,13 +14,13 @@ use Rattle.mk_find.specs.Laws.{CertificateIsAccepted}
 use Rattle.mk_find.proofs.ReadsOnce.{reads_differ, has_recipe, recipe_is_node, reader_is_recipe, stands_there}
 
 -- what stands at a place stands in the list
-has_at : (ns : List ℕ) (k d : ℕ) → k < length ns → Has ns (get_or ns k d)
+pub has_at : (ns : List ℕ) (k d : ℕ) → k < length ns → Has ns (get_or ns k d)
 has_at [] k d low = absurd (omega arith)
 has_at (n ∷ ns) zero d low = inl refl
 has_at (n ∷ ns) (suc k) d low = inr (has_at ns k d (omega arith))
 
 -- what is carried is a recipe
-carried_are_recipes : (x : Subject) (t : ℕ) (others : List ℕ) → AreCarried x.graph (footprints x.setting) t others → (n : ℕ) → Has others n → IsRecipe x n
+pub carried_are_recipes : (x : Subject) (t : ℕ) (others : List ℕ) → AreCarried x.graph (footprints x.setting) t others → (n : ℕ) → Has others n → IsRecipe x n
 carried_are_recipes x t [] are n h = absurd h
 carried_are_recipes x t (o ∷ others) are n (inl here) = subst (λ (k : ℕ). IsRecipe x k) here (has_recipe (node x.graph o).recipe _ _ are.0.2)
 carried_are_recipes x t (o ∷ others) are n (inr there) = carried_are_recipes x o others are.1 n there

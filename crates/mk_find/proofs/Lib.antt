@@ -8,3 +8,4 @@ pub mod ReadsOnce
 pub mod Accepted
 pub mod Trying
 pub mod Noting
+pub mod AddingEntries

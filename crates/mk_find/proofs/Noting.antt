@@ -1,14 +1,14 @@
 -- Whether a read is stale, by the paths that lead to the file.
-use Rattle.std.proofs.Common.{◌≡◌, ◌<◌, ℕ, zero, suc, ◌∷◌, get_or, inl, inr, arith, true, false, cond, List, [], length, Option, Some, None, MatchOption, is_some, ap, refl, sym, ◌∙◌, subst}
+use Rattle.std.proofs.Common.{◌≡◌, ◌<◌, ℕ, zero, suc, ◌∷◌, get_or, inl, inr, arith, true, false, cond, List, [], length, Option, Some, None, MatchOption, is_some, ap, refl, sym, ◌∙◌}
 use Rattle.std.proofs.lemmas.Bool.{false≢true}
 use Rattle.mk_foot.specs.Book.{Record}
 use Rattle.mk_foot.specs.Setting as foot
 use Rattle.mk_graph.specs.declared.node.Node.{Node}
 use Rattle.mk_graph.specs.Graph.{IsGraph, node}
 use Rattle.mk_graph.specs.Membership.{Has}
-use Rattle.mk_graph.specs.Ways.{CanChange, Way}
+use Rattle.mk_graph.specs.Ways.{CanChange}
 use Rattle.mk_ways.specs.declared.certificate.Finish.{Finish}
-use Rattle.mk_cert.specs.Candidates.{static_candidates, Holds, stale}
+use Rattle.mk_cert.specs.Candidates.{static_candidates}
 use Rattle.mk_cert.specs.Conditions.{IsStale}
 use Rattle.mk_cert.specs.Entry.{Entry, IsEntry, reads_in, entry_reads}
 use Rattle.mk_cert.specs.Laws.{NothingFoundIsSound, PathsAreWays}

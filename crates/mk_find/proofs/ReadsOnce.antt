@@ -1,5 +1,5 @@
 -- Reads, each once.
-use Rattle.std.proofs.Common.{◌≡◌, ℕ, ◌<◌, Bool, true, false, not, cond, List, [], ◌∷◌, length, map, inl, inr, refl, sym, ◌∙◌, ap, subst}
+use Rattle.std.proofs.Common.{◌≡◌, ℕ, ◌<◌, Bool, true, false, not, cond, List, [], ◌∷◌, length, inl, inr, refl, sym, ◌∙◌, ap, subst}
 use Rattle.std.specs.List.{flat_map}
 use Rattle.std.specs.Str.{bytes_eq}
 use Rattle.std.proofs.lemmas.Bool.{false≢true, cases_Bool, cases_lt}
@@ -14,7 +14,7 @@ use Rattle.mk_graph.specs.Serial.{serial_order}
 use Rattle.mk_cert.specs.Conditions.{IsRecipe}
 use Rattle.mk_cert.specs.Subject.{Subject, reads_of}
 use Rattle.mk_cert.specs.Verdict.{Read}
-use Rattle.mk_find.specs.Certifying.{reads_once}
+use Rattle.mk_find.specs.Certifying.{reads_by, reads_once}
 use Rattle.mk_find.proofs.Members.{distinct_joined, has_mapped, mapped_from, distinct_mapped, joined_to, joined_from, kept_from, kept_to, distinct_kept}
 
 -- a name stands in the list in which each stands once
@@ -30,11 +30,7 @@ once_distinct [] = tt
 once_distinct (name ∷ names) =
     (λ h. false≢true (ap not (sym ((bytes_eq-Decides name name).1 refl)) ∙ (kept_from (λ other. not (bytes_eq name other)) (once names) name h).1), distinct_kept (λ other. not (bytes_eq name other)) (once names) (once_distinct names))
 
--- the reads of a recipe
-abbrev reads_by : Subject → ℕ → List Read
-reads_by x t = map (λ f. record { recipe = t; file = f }) (once (reads_of x t))
-
--- have its number
+-- the reads of a recipe have its number
 read_by : (x : Subject) (t : ℕ) (r : Read) → Has (reads_by x t) r → t ≡ r.recipe
 read_by x t r h = let at = mapped_from (λ f. record { recipe = t; file = f }) (once (reads_of x t)) r h in ap (λ (k : Read). k.recipe) at.2
 

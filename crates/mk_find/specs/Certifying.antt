@@ -1,5 +1,5 @@
 -- The certificate of a build of which nothing is found.
-use Rattle.std.specs.Prelude.{◌≡◌, ℕ, List, [], ◌∷◌, map}
+use Rattle.std.specs.Prelude.{◌≡◌, ℕ, List, [], ◌∷◌, ◌++◌, map}
 use Rattle.std.specs.List.{flat_map}
 use Rattle.mk_lines.specs.Names.{once}
 use Rattle.mk_graph.specs.Serial.{serial_order}
@@ -8,12 +8,13 @@ use Rattle.mk_cert.specs.Subject.{Subject, name_of, reads_of}
 use Rattle.mk_cert.specs.Verdict.{Read, NeedsWay, HasGoals}
 use Rattle.mk_find.specs.FirstPaths.{GoesFirst}
 
--- the reads of recipes, each once: by the place of the recipe in the serial order, and by the place
--- of the file
+-- the reads of a recipe, each once, by the place of the file
+abbrev pub reads_by : Subject → ℕ → List Read
+reads_by x t = map (λ f. record { recipe = t; file = f }) (once (reads_of x t))
+
+-- those of all recipes, by the place of the recipe in the serial order
 abbrev pub reads_once : Subject → List Read
-reads_once x =
-    flat_map (λ t. map (λ f. record { recipe = t; file = f }) (once (reads_of x t)))
-    (serial_order x.graph)
+reads_once x = flat_map (reads_by x) (serial_order x.graph)
 
 -- the read needs a way
 abbrev pub Needs : Subject → Read → Type 0
@@ -34,6 +35,12 @@ pub data AreEntriesFor (x : Subject) : List Read → List Way → Type 0 where
       IsEntryFor x r w → AreEntriesFor x reads ways → AreEntriesFor x (r ∷ reads) (w ∷ ways)
   none : {r : Read} {reads : List Read} {ways : List Way} → ¬ (Needs x r) →
       AreEntriesFor x reads ways → AreEntriesFor x (r ∷ reads) ways
+
+-- the new list is the old one, and behind it the entries for these reads
+pub record AddsEntries (x : Subject) (reads : List Read) (old new : List Way) : Type 0 where
+  pub more : List Way
+  pub right : AreEntriesFor x reads more
+  pub added : new ≡ old ++ more
 
 -- The certificate has the goals of the graph in their order, and an entry for each read that needs
 -- a way.

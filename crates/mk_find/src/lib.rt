@@ -1,9 +1,11 @@
 //! What is found of a build, and the certificate of one of which nothing is.
 #![tactic(auto)]
 
+mod certifying;
 mod first_path;
 mod found;
 pub mod laws;
 mod stale;
 
+pub use certifying::certify;
 pub use found::findings;

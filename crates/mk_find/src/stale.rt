@@ -76,7 +76,15 @@ fn note_reads(
     let mut search = Search::new(alloc, rows, entry.number)?;
     let files = entry.reads();
     for file in files {
-        note_read(alloc, subject, links, &mut search, entry, file.as_str(), found)?;
+        note_read(
+            alloc,
+            subject,
+            links,
+            &mut search,
+            entry,
+            file.as_str(),
+            found,
+        )?;
     }
     Ok(())
 }

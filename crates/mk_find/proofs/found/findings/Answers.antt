@@ -1,7 +1,6 @@
 -- Where nothing static is found, the races and the stale reads are listed one after the other.
 use Rattle.std.proofs.Common.{◌≡◌, [], length, vec_len, inr, sym, eqb-true, arith}
 use Rattle.mk_cert.specs.Candidates.{static_candidates, race_candidates, stale_candidates}
-use Rattle.mk_cert.specs.Listing.{Lists}
 use Rattle.mk_find.proofs.Adding.{adds_append}
 use Rattle.mk_find.proofs.FindingLists.{nothing_added}
 use Rattle.mk_find.proofs.found.findings.Goals as goal

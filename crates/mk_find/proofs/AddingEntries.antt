@@ -1,0 +1,81 @@
+-- Entries of a certificate that grow.
+use Rattle.std.proofs.Common.{◌≡◌, ℕ, ◌<◌, Bool, true, false, cond, inl, inr, length, reverse, List, [], ◌∷◌, ◌++◌, map, sym, ap, subst, ◌∙◌, append_assoc, append-nil}
+use Rattle.mk_lines.specs.Names.{has_name, once, with_name}
+use Rattle.mk_foot.specs.Laws.{OnceKeepsFirst}
+use Rattle.mk_graph.specs.Graph.{IsGraph}
+use Rattle.mk_graph.specs.Laws.{SerialReachesEachOnce}
+use Rattle.mk_graph.specs.Membership.{Has}
+use Rattle.mk_graph.specs.Serial.{serial_order}
+use Rattle.mk_ways.specs.declared.certificate.Finish.{Finish}
+use Rattle.mk_cert.specs.Candidates.{stale, stale_candidates}
+use Rattle.mk_cert.specs.Conditions.{IsStale}
+use Rattle.mk_cert.specs.Laws.{ListedExactly}
+use Rattle.mk_cert.specs.Listing.{Lists}
+use Rattle.mk_ways.specs.Certificate.{Way}
+use Rattle.mk_cert.specs.Subject.{Subject, reads_of}
+use Rattle.mk_cert.specs.Verdict.{Read}
+use Rattle.mk_find.specs.FirstPaths.{GoesFirst}
+use Rattle.mk_find.proofs.Accepted.{carried_are_recipes}
+use Rattle.mk_find.proofs.Members.{has_mapped, joined_to}
+use Rattle.mk_find.proofs.Noting.{reader_low}
+use Rattle.mk_find.proofs.ReadsOnce.{recipe_is_node}
+use Rattle.mk_find.specs.Certifying.{Needs, IsEntryFor, AreEntriesFor, nothing, entry, none, AddsEntries}
+
+-- the reads of these files by a recipe
+abbrev pub reads_of_files : ℕ → List (List ℕ) → List Read
+reads_of_files t files = map (λ f. record { recipe = t; file = f }) files
+
+-- entries one behind the other
+entries_append : (x : Subject) (reads others : List Read) (ways more : List Way) → AreEntriesFor x reads ways → AreEntriesFor x others more → AreEntriesFor x (reads ++ others) (ways ++ more)
+entries_append x [] others ways more nothing b = b
+entries_append x (r ∷ reads) others ways more (entry {w} {ways = ws} needs is rest) b = entry needs is (entries_append x reads others ws more rest b)
+entries_append x (r ∷ reads) others ways more (none out rest) b = none out (entries_append x reads others ways more rest b)
+
+-- of no reads none is added
+pub adds_no_entries : (x : Subject) (ways : List Way) → AddsEntries x [] ways ways
+adds_no_entries x ways = record { more = []; right = nothing; added = sym (append-nil ways) }
+
+-- what is added for some reads, and then for others
+pub adds_more_entries : (x : Subject) (reads others : List Read) (old mid new : List Way) → AddsEntries x reads old mid → AddsEntries x others mid new → AddsEntries x (reads ++ others) old new
+adds_more_entries x reads others old mid new a b = record {
+  more = a.more ++ b.more;
+  right = entries_append x reads others a.more b.more a.right b.right;
+  added = b.added ∙ (ap (λ (l : List Way). l ++ b.more) a.added ∙ append_assoc old a.more b.more);
+}
+
+-- one read with its entry, and one without
+pub adds_entry : (x : Subject) (r : Read) (w : Way) (old new : List Way) → Needs x r → IsEntryFor x r w → new ≡ old ++ w ∷ [] → AddsEntries x (r ∷ []) old new
+adds_entry x r w old new needs is e = record { more = w ∷ []; right = entry needs is nothing; added = e }
+
+pub adds_no_entry : (x : Subject) (r : Read) (old : List Way) → ¬ (Needs x r) → AddsEntries x (r ∷ []) old old
+adds_no_entry x r old out = record { more = []; right = none out nothing; added = sym (append-nil old) }
+
+-- the nodes along a first path are nodes of the graph
+pub nodes_low : (x : Subject) (f : List ℕ) (t : ℕ) (nodes : List ℕ) (finish : Finish) → t < length x.graph.nodes → GoesFirst x f t nodes finish → (n : ℕ) → Has nodes n → n < length x.graph.nodes
+nodes_low x f t nodes finish low goes n h = by (subst (λ (l : List ℕ). Has l n) goes.goes h)
+  where
+    by : Has (t ∷ reverse goes.way) n → n < length x.graph.nodes
+    by (inl here) = subst (λ (m : ℕ). m < length x.graph.nodes) here low
+    by (inr there) = recipe_is_node x.graph n (carried_are_recipes x t (reverse goes.way) goes.first.path.carried n there)
+
+-- the names so far, each once, and one more
+pub once_step : OnceKeepsFirst → (files : List (List ℕ)) (f : List ℕ) (seen new : List (List ℕ)) → seen ≡ once files → new ≡ with_name seen f → new ≡ once (files ++ f ∷ [])
+once_step keeps files f seen new is e =
+    e ∙ (ap (λ (l : List (List ℕ)). with_name l f) is ∙ (ap (λ (b : Bool). cond b (once files) (once files ++ f ∷ [])) ((keeps files).same f) ∙ sym ((keeps files).order f)))
+
+-- one that was there
+pub once_same : OnceKeepsFirst → (files : List (List ℕ)) (f : List ℕ) (seen : List (List ℕ)) → seen ≡ once files → has_name seen f ≡ true → once (files ++ f ∷ []) ≡ once files
+once_same keeps files f seen is e =
+    (keeps files).order f ∙ ap (λ (b : Bool). cond b (once files) (once files ++ f ∷ [])) (sym ((keeps files).same f) ∙ (ap (λ (l : List (List ℕ)). has_name l f) (sym is) ∙ e))
+
+-- one that was not
+pub once_new : OnceKeepsFirst → (files : List (List ℕ)) (f : List ℕ) (seen : List (List ℕ)) → seen ≡ once files → has_name seen f ≡ false → once (files ++ f ∷ []) ≡ once files ++ f ∷ []
+once_new keeps files f seen is e =
+    (keeps files).order f ∙ ap (λ (b : Bool). cond b (once files) (once files ++ f ∷ [])) (sym ((keeps files).same f) ∙ (ap (λ (l : List (List ℕ)). has_name l f) (sym is) ∙ e))
+
+-- no read of a recipe is stale, where none is listed
+pub read_not_stale : ListedExactly → SerialReachesEachOnce → (x : Subject) → IsGraph x.graph → Lists x (stale_candidates x) [] → (t : ℕ) (f : List ℕ) → Has (reads_of x t) f → ¬ (IsStale x t f)
+read_not_stale listed serial x is lists t f h stale_it =
+    let in_order : Has (serial_order x.graph) t = ((serial x.graph is.no_cycle).1 t).1 (is.sound.reached t (reader_low x t f h)) in
+    let candidate : Has (stale_candidates x) (stale t f) = joined_to (λ k. map (λ g. stale k g) (reads_of x k)) (serial_order x.graph) t (stale t f) in_order (has_mapped (λ g. stale t g) (reads_of x t) f h) in
+    (listed x (stale_candidates x) [] lists (stale t f)).1 (candidate, stale_it)
