@@ -3,6 +3,9 @@ use Rattle.std.specs.Prelude.{ℕ, List, [], ◌∷◌, ◌++◌, codes, Option,
 use Rattle.std.specs.List.{flat_map}
 use Rattle.std.specs.Option.{option_map}
 use Rattle.std.specs.Fmt.{decimal}
+use Rattle.mk_cert.specs.Text as finding
+use Rattle.mk_cert.specs.declared.fault.CertFault.{CertFault}
+use Rattle.mk_cert.specs.declared.fault.CertFault.TheVariants as cert
 use Rattle.mk_foot.specs.Keys.{spelling}
 use Rattle.mk_foot.specs.declared.fault.FootFault.{FootFault}
 use Rattle.mk_foot.specs.declared.fault.FootFault.TheVariants as foot
@@ -19,12 +22,15 @@ use Rattle.mk_read.specs.declared.fault.KindFault.TheVariants as kind
 use Rattle.mk_read.specs.declared.fault.Place.{Place}
 use Rattle.mk_read.specs.declared.fault.ReadFault.{ReadFault}
 use Rattle.mk_read.specs.declared.fault.ReadFault.TheVariants as read
+use Rattle.mk_ways.specs.Keys as key
+use Rattle.mk_ways.specs.declared.fault.CertificateFault.{CertificateFault}
+use Rattle.mk_ways.specs.declared.fault.CertificateFault.TheVariants as ways
 use Rattle.mk_world.specs.declared.fault.StepFault.{StepFault}
 use Rattle.mk_world.specs.declared.fault.StepFault.TheVariants as step
 use Rattle.mk_world.specs.declared.plan.PlanFault.{PlanFault}
 use Rattle.mk_world.specs.declared.plan.PlanFault.TheVariants as plan
 use Rattle.mk_core.specs.declared.fault.Fault.{Fault}
-use Rattle.mk_core.specs.declared.fault.Fault.TheVariants.{Read, Infer, Foot, Plan, FileReadFailed, NoFile, Memory}
+use Rattle.mk_core.specs.declared.fault.Fault.TheVariants.{Read, Infer, Foot, Plan, Certificate, Verify, FileReadFailed, NoFile, Memory}
 
 -- FILE:LINE
 abbrev pub place_text : Place → List ℕ
@@ -130,6 +136,18 @@ abbrev pub plan_fault_text : PlanFault → List ℕ
 plan_fault_text (plan.Line line) = refusal_of_line 69 line
 plan_fault_text plan.Memory = no_memory
 
+abbrev pub certificate_fault_text : CertificateFault → List ℕ
+certificate_fault_text ways.NotJson = refusal 71 []
+certificate_fault_text (ways.Shape k) = refusal 72 (key.spelling k ∷ [])
+certificate_fault_text ways.Memory = no_memory
+
+abbrev pub verify_fault_text : CertFault → List ℕ
+verify_fault_text cert.OtherGoals = refusal 73 []
+verify_fault_text (cert.NoWay recipe file) = refusal 74 (recipe ∷ file ∷ [])
+verify_fault_text (cert.BadWay recipe file) = refusal 75 (recipe ∷ file ∷ [])
+verify_fault_text (cert.Static found) = refusal 76 (finding.text found ∷ [])
+verify_fault_text cert.Memory = no_memory
+
 -- the refusal of a line by a step
 unfoldable pub step_fault_text : ℕ → StepFault → List ℕ
 step_fault_text line step.ClockSpent = refusal_of_line 59 line
@@ -152,6 +170,8 @@ fault_text (Read fault) = read_fault_text fault
 fault_text (Infer fault) = infer_fault_text fault
 fault_text (Foot fault) = foot_fault_text fault
 fault_text (Plan fault) = plan_fault_text fault
+fault_text (Certificate fault) = certificate_fault_text fault
+fault_text (Verify fault) = verify_fault_text fault
 fault_text (FileReadFailed name) = refusal 35 (name ∷ [])
 fault_text (NoFile name) = refusal 38 (name ∷ [])
 fault_text Memory = no_memory

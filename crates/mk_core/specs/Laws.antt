@@ -1,12 +1,16 @@
 -- Laws of the answer.
-use Rattle.std.specs.Prelude.{◌≡◌, List, ℕ, Result, Err}
+use Rattle.std.specs.Prelude.{◌≡◌, List, ℕ, Result, Ok, Err}
 use Rattle.mk_read.specs.declared.fault.ReadFault.TheVariants.{ReadFailed}
 use Rattle.mk_read.specs.Files.{Told}
 use Rattle.mk_core.specs.declared.fault.Fault.{Fault}
 use Rattle.mk_core.specs.declared.fault.Fault.TheVariants.{Read, FileReadFailed, Memory}
 use Rattle.mk_core.specs.declared.request.Request.{Request}
 use Rattle.mk_core.specs.Answer.{Answers}
+use Rattle.mk_core.specs.CheckAnswer.{AnswersCheck, IsYes}
 use Rattle.mk_core.specs.GraphAnswer.{AnswersGraph}
+use Rattle.mk_core.specs.Right.{IsRightFor}
+use Rattle.mk_core.specs.VerifyAnswer.{AnswersVerify}
+use Rattle.mk_core.specs.declared.verdict.Verdict.{Verdict}
 
 -- neither want of memory nor a failed read
 abbrev pub IsSettled : Result (List ℕ) Fault → Type 0
@@ -22,3 +26,15 @@ AnswerIsOne =
     (files : Told) (request : Request) (one other : Result (List ℕ) Fault) → IsSettled one →
     IsSettled other → Answers files request (AnswersGraph request.commands) one →
     Answers files request (AnswersGraph request.commands) other → one ≡ other
+
+-- Where the answer to a request for a verdict is yes, all is right.
+abbrev pub YesIsRight : Type 0
+YesIsRight =
+    (files : Told) (request : Request) (answer : Result Verdict Fault) →
+    Answers files request AnswersCheck answer → IsYes answer → IsRightFor files request
+
+-- Where a certificate is accepted, all is right.
+abbrev pub AcceptedIsRight : Type 0
+AcceptedIsRight =
+    (files : Told) (request : Request) (name text : List ℕ) →
+    Answers files request (AnswersVerify files name) (Ok text) → IsRightFor files request

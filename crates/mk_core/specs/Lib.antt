@@ -11,5 +11,10 @@ pub mod FaultText
 pub mod Selected
 pub mod Simulation
 pub mod SimulationAnswer
+pub mod Judging
+pub mod CheckAnswer
+pub mod VerdictText
+pub mod VerifyAnswer
+pub mod Right
 pub mod Views
 pub mod Laws

@@ -1,15 +1,18 @@
 -- How the parts of an answer are seen. What is answered doesn't stand on this file.
 use Rattle.std.specs.Prelude.{◌≡◌, ◌⊎◌, ℕ, Bool, false, List, ◌++◌, ⊤, Option, Result, Ok, Err}
 use Rattle.std.specs.Option.{is_none}
+use Rattle.mk_cert.specs.Subject.{Subject}
 use Rattle.mk_foot.specs.Setting.{Setting}
 use Rattle.mk_graph.specs.Graph.{Graph}
 use Rattle.mk_infer.specs.Goals.{goal_names}
 use Rattle.mk_infer.specs.Selection.{Selects}
+use Rattle.mk_infer.specs.There.{Exists}
 use Rattle.mk_infer.specs.declared.fault.InferFault.{InferFault}
 use Rattle.mk_infer.specs.Steps as inferring
 use Rattle.mk_infer.specs.Steps.{is_want_of_memory}
 use Rattle.mk_read.specs.Files.{Told}
 use Rattle.mk_read.specs.Reading.{Makefile}
+use Rattle.mk_ways.specs.Certificate.{Certificate}
 use Rattle.mk_core.specs.declared.fault.Fault.{Fault}
 use Rattle.mk_core.specs.declared.fault.Fault.TheVariants.{Infer, Memory}
 use Rattle.mk_core.specs.declared.request.Request.{Request}
@@ -20,6 +23,7 @@ use Rattle.mk_core.specs.Ready.{Ready, book_for, exists, setting_of}
 use Rattle.mk_core.specs.Simulation.{Simulation}
 use Rattle.mk_core.specs.SimulationAnswer.{AnswersSimulation, RunsText}
 use Rattle.mk_core.specs.Steps.{◌>>=◌, as_fault}
+use Rattle.mk_core.specs.VerifyAnswer.{VerifiesCertificate, VerifiesText}
 
 -- what is defined where no file fails to be read but one that is told of, or want of memory
 abbrev pub Finds : {A : Type 0} → (Option (List ℕ) → Result A Fault) → Result A Fault → Type 0
@@ -50,12 +54,11 @@ AnswersOver files request m answers answer =
     (answer ≡ Err Memory) ⊎
     Draws answers (ready_over files (failing_of answer) request m) answer
 
--- the graph that is selected for the goals; nothing is said of want of memory
-abbrev pub Selected : Ready → Result Graph InferFault → Type 0
-Selected ready (Ok g) = Selects ready.makefile (exists ready) ready.goals (Ok g)
-Selected ready (Err fault) =
-    (is_want_of_memory fault ≡ false) →
-    Selects ready.makefile (exists ready) ready.goals (Err fault)
+-- the graph that is selected for the goals with these files there; nothing is said of want of memory
+abbrev pub Selected : Exists → Ready → Result Graph InferFault → Type 0
+Selected there ready (Ok g) = Selects ready.makefile there ready.goals (Ok g)
+Selected there ready (Err fault) =
+    (is_want_of_memory fault ≡ false) → Selects ready.makefile there ready.goals (Err fault)
 
 -- the run of the plan of this name, or want of memory
 abbrev pub RunsTextOver : Told → List ℕ → Graph → Setting → Result Simulation Fault → Type 0
@@ -66,6 +69,16 @@ RunsTextOver files plan g s answer =
 abbrev pub SimulatesOver : Told → List ℕ → Ready → Result Simulation Fault → Type 0
 SimulatesOver files plan ready answer =
     (answer ≡ Err Memory) ⊎ AnswersSimulation files plan ready answer
+
+-- what is answered to a certificate, or want of memory
+abbrev pub AcceptsOver : Subject → Certificate → Result (List ℕ) Fault → Type 0
+AcceptsOver x certificate answer =
+    (answer ≡ Err Memory) ⊎ VerifiesCertificate x (Ok certificate) answer
+
+-- what is answered to that of this name, or want of memory
+abbrev pub VerifiesOver : Told → List ℕ → Subject → Result (List ℕ) Fault → Type 0
+VerifiesOver files name x answer =
+    (answer ≡ Err Memory) ⊎ VerifiesText x (text_of files (failing_of answer) name) answer
 
 -- the text of the graph that is selected for the goals, or want of memory
 abbrev pub PrintsOver : Bool → Ready → Result (List ℕ) InferFault → Type 0

@@ -1,19 +1,21 @@
 //! Why a request is refused.
 
 ghost use Rattle.std.specs.Prelude.{◌≡◌};
-ghost use Rattle.mk_core.specs.Steps.{is_want_of_memory, of_foot, of_infer, of_plan, of_read};
+ghost use Rattle.mk_core.specs.Steps.{is_want_of_memory, of_certificate, of_foot, of_infer, of_plan, of_read, of_verify};
 ghost use Rattle.mk_core.specs.declared.fault.Fault.TheVariants.{Memory};
 
+use mk_cert::CertFault;
 use mk_foot::FootFault;
 use mk_infer::InferFault;
 use mk_lines::Name;
 use mk_read::ReadFault;
+use mk_ways::CertificateFault;
 use mk_world::PlanFault;
 use std::alloc::{AllocError, AllocFailed};
 use thiserror::Error;
 
 /// Why a request is refused: the first fault of the makefile, of the goals, of the footprints, of
-/// the graph, of the commands, of the plan.
+/// the graph, of the commands, of the plan or the certificate.
 #[derive(Debug, Drop, Error)]
 pub enum Fault {
     /// The makefile is refused (faults 1 to 37). The fault is none of memory.
@@ -29,6 +31,12 @@ pub enum Fault {
     /// The plan is refused (fault 69). The fault is none of memory.
     #[error(transparent)]
     Plan(PlanFault),
+    /// The text is no certificate (faults 71 and 72). The fault is none of memory.
+    #[error(transparent)]
+    Certificate(CertificateFault),
+    /// The certificate isn't accepted (faults 73 to 76). The fault is none of memory.
+    #[error(transparent)]
+    Verify(CertFault),
     /// The reader failed to read this file, which is no makefile (fault 35).
     #[error("a file could not be read: {0}")]
     FileReadFailed(Name),
@@ -47,6 +55,7 @@ impl Fault {
     {
         match self {
             Fault::Memory | Fault::Foot(FootFault::Memory) | Fault::Plan(PlanFault::Memory) => true,
+            Fault::Certificate(CertificateFault::Memory) | Fault::Verify(CertFault::Memory) => true,
             Fault::Read(fault) => fault.is_want_of_memory(),
             Fault::Infer(fault) => fault.is_want_of_memory(),
             _ => false,
@@ -96,6 +105,28 @@ impl From<PlanFault> for Fault {
         match fault {
             PlanFault::Memory => Fault::Memory,
             fault => Fault::Plan(fault),
+        }
+    }
+}
+
+impl From<CertificateFault> for Fault {
+    ghost from_gives = { λ r e. e ≡ of_certificate r };
+
+    fn from(fault: CertificateFault) -> Fault {
+        match fault {
+            CertificateFault::Memory => Fault::Memory,
+            fault => Fault::Certificate(fault),
+        }
+    }
+}
+
+impl From<CertFault> for Fault {
+    ghost from_gives = { λ r e. e ≡ of_verify r };
+
+    fn from(fault: CertFault) -> Fault {
+        match fault {
+            CertFault::Memory => Fault::Memory,
+            fault => Fault::Verify(fault),
         }
     }
 }

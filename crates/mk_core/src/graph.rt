@@ -1,18 +1,20 @@
 //! The answer to a request for a graph.
 
 ghost use Rattle.std.specs.Prelude.{◌≡◌, ◌<◌, ◌-◌, ◌^◌, ℕ, true, IfErr, IfSome};
+ghost use Rattle.mk_core.proofs.Answering.{graph_not_read};
 ghost use Rattle.mk_core.specs.Answer.{Answers, Counts};
 ghost use Rattle.mk_core.specs.GraphAnswer.{AnswersGraph};
 ghost use Rattle.mk_core.specs.Steps.{is_want_of_memory, seen};
-ghost use Rattle.mk_core.specs.Views.{AnswersOver, DrawsOver, PrintsOver};
+ghost use Rattle.mk_core.specs.Views.{DrawsOver, PrintsOver};
 ghost use Rattle.mk_core.specs.declared.fault.Fault.TheVariants.{Memory};
 
+use crate::command::{Command, answer_request};
 use crate::fault::Fault;
 use crate::printing::text_of;
-use crate::ready::{Ready, ready_over};
+use crate::ready::Ready;
 use crate::request::Request;
 use mk_infer::{Choices, InferFault, select};
-use mk_read::{Files, Makefile, read_makefile};
+use mk_read::Files;
 use std::alloc::Global;
 
 /// The text of the graph that is selected for the goals.
@@ -35,24 +37,29 @@ fn drawn(alloc: Global, ready: &Ready<'_>, commands: bool) -> Result<Vec<u8>, Fa
     Ok(text)
 }
 
-/// The answer to a request over its makefile.
-fn answered<F: Files>(
-    alloc: Global,
-    files: &mut F,
-    request: &Request,
-    makefile: &Makefile,
-) -> Result<Vec<u8>, Fault>
-    requires { F.failed files.old < 2 ^ 64 - 1 }
-    ensures map { F.told files.new ≡ F.told files.old }
-    ensures answer { IfSome (F.told files.old)
-        (λ told.
-        AnswersOver told request.now makefile.now (AnswersGraph request.now.commands)
-        (seen (λ text. text.items) result)) }
-    ensures memory { IfErr result (λ fault. is_want_of_memory fault ≡ true → fault ≡ Memory) }
-    ensures counted { Counts (F.failed files.old) (F.failed files.new) result }
-{
-    let ready = ready_over(alloc, files, request, makefile)?;
-    drawn(alloc, &ready, request.commands)
+/// The command `graph`.
+#[derive(Drop)]
+struct DrawGraph {
+    /// Whether the commands of nodes are shown.
+    commands: bool,
+}
+
+impl Command for DrawGraph {
+    type Answer = Vec<u8>;
+
+    ghost answers = { λ c told ready answer.
+        AnswersGraph c.commands ready (seen (λ text. text.items) answer) };
+
+    fn answer<F: Files>(
+        &self,
+        alloc: Global,
+        _files: &mut F,
+        ready: &Ready<'_>,
+    ) -> Result<Vec<u8>, Fault> {
+        drawn(alloc, ready, self.commands)
+    }
+
+    ghost not_read = { λ c told ready fault. graph_not_read c.commands ready fault };
 }
 
 /// What `mkcheck graph` prints: the goals on a line, then a line for each node in serial order,
@@ -76,12 +83,8 @@ pub fn graph_text<F: Files>(
     ensures memory { IfErr result (λ fault. is_want_of_memory fault ≡ true → fault ≡ Memory) }
     ensures counted { Counts (F.failed files.old) (F.failed files.new) result }
 {
-    let makefile = read_makefile(
-        alloc,
-        files,
-        request.makefile.as_ref(),
-        request.defaults,
-        request.operands.as_slice(),
-    )?;
-    answered(alloc, files, request, &makefile)
+    let command = DrawGraph {
+        commands: request.commands,
+    };
+    answer_request(alloc, files, request, &command)
 }

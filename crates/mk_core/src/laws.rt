@@ -1,8 +1,10 @@
-//! The law of the answer. It is the contract of a function that does nothing: who calls it has the
+//! Laws of answers. Each is the contract of a function that calls laws alone: who calls it has the
 //! law.
 
-ghost use Rattle.mk_core.specs.Laws.{AnswerIsOne};
+ghost use Rattle.mk_core.specs.Laws.{AnswerIsOne, YesIsRight, AcceptedIsRight};
 
+use mk_cert::laws::{selected_goals, verified_is_right};
+use mk_find::laws::{certificate_is_accepted, no_findings};
 use mk_infer::laws::selection_is_one;
 
 /// A request over files that are told has at most one answer, beside want of memory and failed
@@ -11,4 +13,23 @@ pub fn answer_is_one()
     ensures { AnswerIsOne }
 {
     selection_is_one();
+}
+
+/// Where `check` answers yes, every legal history of the build is right, one make from a start is,
+/// and the selection made anew in a make gives the same graph.
+pub fn yes_is_right()
+    ensures { YesIsRight }
+{
+    certificate_is_accepted();
+    no_findings();
+    selected_goals();
+    verified_is_right();
+}
+
+/// The same where `verify_text` answers yes.
+pub fn accepted_is_right()
+    ensures { AcceptedIsRight }
+{
+    selected_goals();
+    verified_is_right();
 }

@@ -3,6 +3,7 @@
 ghost use Rattle.std.specs.Prelude.{◌≡◌, ◌<◌, ◌-◌, ◌^◌, true, IfErr, IfOk, IfSome};
 ghost use Rattle.std.specs.Option.{option_copied};
 ghost use Rattle.mk_core.specs.Answer.{Counts};
+ghost use Rattle.mk_core.specs.Judging.{recorded};
 ghost use Rattle.mk_core.specs.Ready.{book_for, exists, setting_of};
 ghost use Rattle.mk_core.specs.Steps.{is_want_of_memory};
 ghost use Rattle.mk_core.specs.Views.{Finds, ready_over, ready_with};
@@ -75,6 +76,16 @@ impl<'m> Ready<'m> {
     {
         Exists {
             any_leaf: self.any_leaf,
+            ..self.recorded()
+        }
+    }
+
+    /// The files that are there before a make, by what is recorded.
+    pub fn recorded(&self) -> Exists<'_>
+        ensures { result ≡ recorded self.now }
+    {
+        Exists {
+            any_leaf: false,
             sources: self.setting.sources(),
             fixed: self.setting.fixed(),
             texts: self.setting.texts(),

@@ -3,22 +3,24 @@
 ghost use Rattle.std.specs.Prelude.{◌≡◌, ◌<◌, ◌-◌, ◌^◌, true, IfErr, IfOk, IfSome};
 ghost use Rattle.mk_world.specs.Running.{stage_of};
 ghost use Rattle.mk_world.specs.State.{world_of};
+ghost use Rattle.mk_core.proofs.Simulating.{simulation_not_read};
 ghost use Rattle.mk_core.specs.Answer.{Answers, Counts};
 ghost use Rattle.mk_core.specs.Simulation.{ShowsRun, last_lines};
 ghost use Rattle.mk_core.specs.SimulationAnswer.{AnswersSimulation};
 ghost use Rattle.mk_core.specs.Steps.{is_want_of_memory};
-ghost use Rattle.mk_core.specs.Views.{AnswersOver, RunsTextOver, Selected, SimulatesOver};
+ghost use Rattle.mk_core.specs.Views.{RunsTextOver, SimulatesOver};
 ghost use Rattle.mk_core.specs.declared.fault.Fault.TheVariants.{Memory};
 
+use crate::command::{Command, answer_request};
 use crate::fault::Fault;
 use crate::file_text::file_text;
-use crate::ready::{Ready, ready_over};
+use crate::ready::Ready;
 use crate::request::Request;
+use crate::selecting::selected;
 use crate::wording::step_fault_text;
 use mk_foot::Setting;
 use mk_graph::Graph;
-use mk_infer::{Choices, InferFault, select};
-use mk_read::{Files, Makefile, read_makefile};
+use mk_read::Files;
 use mk_world::{Plan, StepFault, World, print_files, read_plan, run_plan};
 use std::alloc::{AllocError, Global};
 use std::marker::Model;
@@ -99,15 +101,6 @@ fn run_file<F: Files>(
     Ok(shown)
 }
 
-/// The graph that is selected for the goals.
-fn selected(alloc: Global, ready: &Ready<'_>) -> Result<Graph, InferFault>
-    ensures { Selected ready.now result }
-{
-    let exists = ready.exists();
-    let choices = Choices::new(alloc, ready.table(), &exists)?;
-    select(alloc, &choices, ready.goals())
-}
-
 /// The answer to what is ready.
 fn simulated<F: Files>(
     alloc: Global,
@@ -122,28 +115,31 @@ fn simulated<F: Files>(
     ensures memory { IfErr result (λ fault. is_want_of_memory fault ≡ true → fault ≡ Memory) }
     ensures counted { Counts (F.failed files.old) (F.failed files.new) result }
 {
-    let graph = selected(alloc, ready)?;
+    let graph = selected(alloc, ready, &ready.exists())?;
     run_file(alloc, files, &graph, ready.setting(), plan)
 }
 
-/// The answer to a request over its makefile.
-fn answered<F: Files>(
-    alloc: Global,
-    files: &mut F,
-    request: &Request,
-    makefile: &Makefile,
-    plan: &str,
-) -> Result<Simulation, Fault>
-    requires { F.failed files.old < 2 ^ 64 - 1 }
-    ensures map { F.told files.new ≡ F.told files.old }
-    ensures answer { IfSome (F.told files.old)
-        (λ told.
-        AnswersOver told request.now makefile.now (AnswersSimulation told plan.now) result) }
-    ensures memory { IfErr result (λ fault. is_want_of_memory fault ≡ true → fault ≡ Memory) }
-    ensures counted { Counts (F.failed files.old) (F.failed files.new) result }
-{
-    let ready = ready_over(alloc, files, request, makefile)?;
-    simulated(alloc, files, &ready, plan)
+/// The command `simulate`, with the name of the file of the plan.
+#[derive(Drop)]
+struct SimulatePlan<'a> {
+    plan: &'a str,
+}
+
+impl Command for SimulatePlan<'_> {
+    type Answer = Simulation;
+
+    ghost answers = { λ c told ready answer. AnswersSimulation told c.plan.now ready answer };
+
+    fn answer<F: Files>(
+        &self,
+        alloc: Global,
+        files: &mut F,
+        ready: &Ready<'_>,
+    ) -> Result<Simulation, Fault> {
+        simulated(alloc, files, ready, self.plan)
+    }
+
+    ghost not_read = { λ c told ready fault. simulation_not_read told c.plan.now ready fault };
 }
 
 /// What `mkcheck simulate` prints: what the run of the plan in the file of this name prints over
@@ -166,12 +162,5 @@ pub fn simulate_text<F: Files>(
     ensures memory { IfErr result (λ fault. is_want_of_memory fault ≡ true → fault ≡ Memory) }
     ensures counted { Counts (F.failed files.old) (F.failed files.new) result }
 {
-    let makefile = read_makefile(
-        alloc,
-        files,
-        request.makefile.as_ref(),
-        request.defaults,
-        request.operands.as_slice(),
-    )?;
-    answered(alloc, files, request, &makefile, plan)
+    answer_request(alloc, files, request, &SimulatePlan { plan })
 }

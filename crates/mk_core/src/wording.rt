@@ -4,15 +4,17 @@ ghost use Rattle.std.specs.Prelude.{◌≡◌, ◌∷◌, ◌++◌, [], map, IfO
 ghost use Rattle.std.specs.List.{flat_map};
 ghost use Rattle.std.specs.Option.{option_copied};
 ghost use Rattle.std.specs.String.{string_bytes};
-ghost use Rattle.mk_core.specs.FaultText.{failed_read_words, fault_text, foot_fault_text, graph_fault_text, infer_fault_text, kind_fault_text, line_fault_text, macro_fault_text, no_memory, place_text, plan_fault_text, read_fault_text, refusal, refusal_at, refusal_in, refusal_of, refusal_of_line, step_fault_text};
+ghost use Rattle.mk_core.specs.FaultText.{certificate_fault_text, failed_read_words, fault_text, foot_fault_text, graph_fault_text, infer_fault_text, kind_fault_text, line_fault_text, macro_fault_text, no_memory, place_text, plan_fault_text, read_fault_text, refusal, refusal_at, refusal_in, refusal_of, refusal_of_line, step_fault_text, verify_fault_text};
 
 use crate::fault::Fault;
+use mk_cert::CertFault;
 use mk_foot::FootFault;
 use mk_graph::GraphFault;
 use mk_infer::InferFault;
 use mk_lines::{LineFault, Name};
 use mk_macros::MacroFault;
 use mk_read::{KindFault, Place, ReadFault};
+use mk_ways::CertificateFault;
 use mk_world::{PlanFault, StepFault};
 use std::alloc::{AllocError, Global};
 
@@ -248,6 +250,46 @@ fn plan_fault_text(alloc: Global, fault: &PlanFault) -> Result<Vec<u8>, AllocErr
     }
 }
 
+/// The line that is printed of a text that is no certificate.
+fn certificate_fault_text(alloc: Global, fault: &CertificateFault) -> Result<Vec<u8>, AllocError>
+    ensures { IfOk result (λ text. text.items ≡ certificate_fault_text fault.now) }
+{
+    match fault {
+        CertificateFault::NotJson => refusal(alloc, 71, &[]),
+        CertificateFault::Shape(key) => refusal(alloc, 72, &[key.as_str().as_bytes()]),
+        CertificateFault::Memory => no_memory(alloc),
+    }
+}
+
+/// A refusal whose words are a recipe and a file.
+fn refusal_of_read(
+    alloc: Global,
+    number: usize,
+    recipe: &Name,
+    file: &Name,
+) -> Result<Vec<u8>, AllocError>
+    ensures { IfOk result (λ text. text.items ≡ refusal number (recipe.now ∷ file.now ∷ [])) }
+{
+    let words = [recipe.as_str().as_bytes(), file.as_str().as_bytes()];
+    refusal(alloc, number, &words)
+}
+
+/// The line that is printed of a certificate that isn't accepted.
+fn verify_fault_text(alloc: Global, fault: &CertFault) -> Result<Vec<u8>, AllocError>
+    ensures { IfOk result (λ text. text.items ≡ verify_fault_text fault.now) }
+{
+    match fault {
+        CertFault::OtherGoals => refusal(alloc, 73, &[]),
+        CertFault::NoWay { recipe, file } => refusal_of_read(alloc, 74, recipe, file),
+        CertFault::BadWay { recipe, file } => refusal_of_read(alloc, 75, recipe, file),
+        CertFault::Static(finding) => {
+            let words = format!(in alloc; "{finding}")?;
+            refusal(alloc, 76, &[words.as_bytes()])
+        }
+        CertFault::Memory => no_memory(alloc),
+    }
+}
+
 /// The line that is printed where a step refuses a line of a plan.
 #[tactic(auto, unfolding(crate::specs::FaultText::step_fault_text))]
 pub fn step_fault_text(alloc: Global, line: usize, fault: &StepFault) -> Result<Vec<u8>, AllocError>
@@ -282,6 +324,8 @@ pub fn fault_text(alloc: Global, fault: &Fault) -> Result<Vec<u8>, AllocError>
         Fault::Infer(fault) => infer_fault_text(alloc, fault),
         Fault::Foot(fault) => foot_fault_text(alloc, fault),
         Fault::Plan(fault) => plan_fault_text(alloc, fault),
+        Fault::Certificate(fault) => certificate_fault_text(alloc, fault),
+        Fault::Verify(fault) => verify_fault_text(alloc, fault),
         Fault::FileReadFailed(name) => refusal(alloc, 35, &[name.as_str().as_bytes()]),
         Fault::NoFile(name) => refusal(alloc, 38, &[name.as_str().as_bytes()]),
         Fault::Memory => no_memory(alloc),

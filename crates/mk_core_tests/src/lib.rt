@@ -9,3 +9,5 @@ mod rows;
 mod selections;
 #[cfg(test)]
 mod simulations;
+#[cfg(test)]
+mod verdicts;

@@ -1,0 +1,26 @@
+-- What a yes promises.
+use Rattle.std.specs.Prelude.{◌≡◌, None, Ok}
+use Rattle.mk_cert.specs.Conditions.{all_writes}
+use Rattle.mk_cert.specs.Laws.{IsRightOnce}
+use Rattle.mk_cert.specs.Subject.{footprints}
+use Rattle.mk_graph.specs.Graph.{Graph}
+use Rattle.mk_graph.specs.Right.{IsRight}
+use Rattle.mk_infer.specs.Laws.{StaysSelected}
+use Rattle.mk_infer.specs.Selection.{Selects}
+use Rattle.mk_read.specs.Files.{Told}
+use Rattle.mk_core.specs.declared.request.Request.{Request}
+use Rattle.mk_core.specs.Judging.{recorded, subject_over}
+use Rattle.mk_core.specs.Ready.{Ready, ready_for}
+
+-- The files and the request give makefile, goals and footprints, and by these a graph. Over its
+-- footprints every legal history is right, and so is one make from a start. And in each make the
+-- selection made anew, with whatever part of the written files is there, gives this graph.
+pub record IsRightFor (files : Told) (request : Request) : Type 0 where
+  pub ready : Ready
+  pub graph : Graph
+  pub is_ready : ready_for files None request ≡ Ok ready
+  pub is_selected : Selects ready.makefile (recorded ready) ready.goals (Ok graph)
+  pub is_right : IsRight graph (footprints ready.setting)
+  pub is_right_once : IsRightOnce graph (footprints ready.setting)
+  pub stays_selected : StaysSelected ready.makefile (recorded ready)
+      (all_writes (subject_over ready graph)) ready.goals graph

@@ -1,0 +1,81 @@
+//! The printed words of a verdict.
+
+ghost use Rattle.std.specs.Prelude.{◌≡◌, ◌++◌, IfOk, OnOk};
+ghost use Rattle.std.specs.List.{flat_map};
+ghost use Rattle.mk_core.specs.VerdictText.{finding_line, findings_text, verdict_text, way_line, ways_text, yes_line};
+
+use crate::verdict::Verdict;
+use mk_cert::Finding;
+use mk_ways::Way;
+use std::alloc::{AllocError, Global};
+
+/// The line of a yes: how many recipes were judged, and how many files they read.
+pub(crate) fn yes_line(alloc: Global, recipes: usize, reads: u128) -> Result<Vec<u8>, AllocError>
+    ensures { IfOk result (λ text. text.items ≡ yes_line recipes reads) }
+{
+    let text = format!(in alloc; "yes {recipes} recipes {reads} reads\n")?;
+    Ok(text.into_bytes())
+}
+
+/// Adds the line of a way.
+fn push_way(alloc: Global, out: &mut Vec<u8>, way: &Way) -> Result<(), AllocError>
+    ensures { OnOk result (out.new.items ≡ out.old.items ++ way_line way.now) }
+{
+    let (recipe, file, finish) = (&way.recipe, &way.file, way.finish);
+    let head = format!(in alloc; "way {recipe} {file} {finish}")?;
+    out.extend_from_slice(head.as_bytes())?;
+    for name in way.path.as_slice() {
+        out.push(b' ')?;
+        out.extend_from_slice(name.as_str().as_bytes())?;
+    }
+    out.push(b'\n')?;
+    Ok(())
+}
+
+/// Adds a line for each way.
+fn push_ways(alloc: Global, out: &mut Vec<u8>, ways: &[Way]) -> Result<(), AllocError>
+    ensures { OnOk result (out.new.items ≡ out.old.items ++ ways_text ways.now) }
+{
+    for way in ways {
+        push_way(alloc, out, way)?;
+    }
+    Ok(())
+}
+
+/// Adds the line of a finding.
+fn push_finding(alloc: Global, out: &mut Vec<u8>, finding: &Finding) -> Result<(), AllocError>
+    ensures { OnOk result (out.new.items ≡ out.old.items ++ finding_line finding.now) }
+{
+    let line = format!(in alloc; "no {finding}\n")?;
+    out.extend_from_slice(line.as_bytes())
+}
+
+/// The lines of findings.
+fn findings_text(alloc: Global, found: &[Finding]) -> Result<Vec<u8>, AllocError>
+    ensures { IfOk result (λ text. text.items ≡ findings_text found.now) }
+{
+    let mut out = Vec::new(alloc);
+    for finding in found {
+        push_finding(alloc, &mut out, finding)?;
+    }
+    Ok(out)
+}
+
+/// What `mkcheck check` prints: `yes`, the number of recipes and of their reads, and a line for
+/// each way; or a line for each finding, behind `no`. The error is want of memory alone.
+pub fn render(alloc: Global, verdict: &Verdict) -> Result<Vec<u8>, AllocError>
+    ensures { IfOk result (λ text. text.items ≡ verdict_text verdict.now) }
+{
+    match verdict {
+        Verdict::Yes {
+            certificate,
+            recipes,
+            reads,
+        } => {
+            let mut out = yes_line(alloc, *recipes, *reads)?;
+            push_ways(alloc, &mut out, certificate.ways.as_slice())?;
+            Ok(out)
+        }
+        Verdict::No(found) => findings_text(alloc, found.as_slice()),
+    }
+}

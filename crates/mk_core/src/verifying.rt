@@ -1,0 +1,115 @@
+//! The answer to a certificate.
+
+ghost use Rattle.std.specs.Prelude.{◌≡◌, ◌⊎◌, ◌<◌, ◌-◌, ◌^◌, ℕ, true, Err, IfErr, IfOk, IfSome, OnOk};
+ghost use Rattle.mk_core.proofs.Judging.{verified_not_read};
+ghost use Rattle.mk_core.specs.Answer.{Answers, Counts, failing_of};
+ghost use Rattle.mk_core.specs.FileText.{text_of};
+ghost use Rattle.mk_core.specs.Right.{IsRightFor};
+ghost use Rattle.mk_core.specs.Steps.{is_want_of_memory, seen};
+ghost use Rattle.mk_core.specs.VerifyAnswer.{AnswersVerify, VerifiesCertificate, VerifiesText};
+ghost use Rattle.mk_core.specs.Views.{AcceptsOver, VerifiesOver};
+ghost use Rattle.mk_core.specs.declared.fault.Fault.TheVariants.{Memory};
+
+use crate::command::answer_request;
+use crate::fault::Fault;
+use crate::file_text::file_text;
+use crate::judging::{Judge, Judged};
+use crate::laws::accepted_is_right;
+use crate::rendering::yes_line;
+use crate::request::Request;
+use mk_cert::{Subject, counts, verify};
+use mk_lines::Name;
+use mk_read::Files;
+use mk_ways::{Certificate, read_certificate};
+use std::alloc::Global;
+
+/// The answer to a certificate: yes, or its fault.
+fn accepted(
+    alloc: Global,
+    subject: &Subject<'_>,
+    certificate: &Certificate,
+) -> Result<Vec<u8>, Fault>
+    ensures answer { AcceptsOver subject.now certificate.now (seen (λ text. text.items) result) }
+    ensures memory { IfErr result (λ fault. is_want_of_memory fault ≡ true → fault ≡ Memory) }
+    ensures counted { (failed : ℕ) → Counts failed failed result }
+{
+    verify(alloc, subject, certificate)?;
+    let (recipes, reads) = counts(subject);
+    let line = yes_line(alloc, recipes, reads)?;
+    Ok(line)
+}
+
+/// The answer to the certificate in the file of this name.
+fn verified<F: Files>(
+    alloc: Global,
+    files: &mut F,
+    subject: &Subject<'_>,
+    name: &str,
+) -> Result<Vec<u8>, Fault>
+    requires { F.failed files.old < 2 ^ 64 - 1 }
+    ensures map { F.told files.new ≡ F.told files.old }
+    ensures answer { IfSome (F.told files.old)
+        (λ told. VerifiesOver told name.now subject.now (seen (λ text. text.items) result)) }
+    ensures memory { IfErr result (λ fault. is_want_of_memory fault ≡ true → fault ≡ Memory) }
+    ensures counted { Counts (F.failed files.old) (F.failed files.new) result }
+{
+    let text = file_text(alloc, files, name)?;
+    let certificate = read_certificate(alloc, &text)?;
+    accepted(alloc, subject, &certificate)
+}
+
+/// The command `verify`, with the name of the file of the certificate.
+#[derive(Drop)]
+struct VerifyBuild<'a> {
+    name: &'a str,
+}
+
+impl Judge for VerifyBuild<'_> {
+    type Answer = Vec<u8>;
+
+    ghost judges = { λ v told x answer.
+        VerifiesText x (text_of told (failing_of answer) v.name.now)
+        (seen (λ text. text.items) answer) };
+
+    fn judge<F: Files>(
+        &self,
+        alloc: Global,
+        files: &mut F,
+        subject: &Subject<'_>,
+    ) -> Result<Vec<u8>, Fault> {
+        verified(alloc, files, subject, self.name)
+    }
+
+    ghost not_read = { λ v told x fault. verified_not_read told v.name.now x fault };
+}
+
+/// Whether the certificate in the file of this name shows that the build of the goals is right, as
+/// `mkcheck verify` tells: `yes N recipes M reads`.
+///
+/// Where it says yes, all holds that `check` promises of a yes.
+///
+/// The first fault is the answer: those of `check`; then of the certificate 35, 38, 71 and 72; 73,
+/// 76, 75 entry by entry, 74 read by read.
+pub fn verify_text<F: Files>(
+    alloc: Global,
+    files: &mut F,
+    request: &Request,
+    certificate: &str,
+) -> Result<Vec<u8>, Fault>
+    requires { F.failed files.old < 2 ^ 64 - 1 }
+    ensures map { F.told files.new ≡ F.told files.old }
+    ensures answer { IfSome (F.told files.old)
+        (λ told.
+        Answers told request.now (AnswersVerify told certificate.now)
+        (seen (λ text. text.items) result)) }
+    ensures right { IfSome (F.told files.old)
+        (λ told. OnOk result (IsRightFor told request.now)) }
+    ensures memory { IfErr result (λ fault. is_want_of_memory fault ≡ true → fault ≡ Memory) }
+    ensures counted { Counts (F.failed files.old) (F.failed files.new) result }
+{
+    accepted_is_right();
+    let command = Judged {
+        judge: VerifyBuild { name: certificate },
+    };
+    answer_request(alloc, files, request, &command)
+}
