@@ -11,7 +11,7 @@ use Rattle.mk_read.specs.Following as following
 use Rattle.mk_read.specs.Reading.{Makefile, Reader}
 use Rattle.mk_read.specs.Steps as reading
 use Rattle.mk_core.specs.declared.fault.Fault.{Fault}
-use Rattle.mk_core.specs.declared.fault.Fault.TheVariants.{Read, Infer, Foot, Plan, FileReadFailed, NoFile, Memory}
+use Rattle.mk_core.specs.declared.fault.Fault.TheVariants.{Read, Infer, Foot, Plan, Certificate, Verify, FileReadFailed, NoFile, Memory}
 use Rattle.mk_core.specs.declared.request.Request.{Request}
 use Rattle.mk_core.specs.Answer.{Answers, Draws}
 use Rattle.mk_core.specs.GraphAnswer.{AnswersGraph, Prints, PrintsSelected}
@@ -59,6 +59,8 @@ module _ (files : Told) (request : Request) (answers : Ready → Result (List �
   drawn (Err (Infer fault)) s a = a
   drawn (Err (Foot fault)) s a = a
   drawn (Err (Plan fault)) s a = a
+  drawn (Err (Certificate fault)) s a = a
+  drawn (Err (Verify fault)) s a = a
   drawn (Err (Read fault)) s (w, h) =
       subst (λ (r : Result Makefile ReadFault). Draws answers (as_fault Read r >>= ready_over files None request) (Err (Read fault))) (sym (settled_read files (makefile_for request) fault s w h)) refl
 
