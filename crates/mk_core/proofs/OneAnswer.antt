@@ -50,9 +50,9 @@ module _ (files : Told) (reads_as : Reader → Result Makefile ReadFault) where
   settled_read (read.NoMakefile name) s w h = settled made (read.NoMakefile name) w h
   settled_read read.Memory s w h = settled made read.Memory w h
 
-module _ (files : Told) (request : Request) (answers : Ready → Result (List ℕ) Fault → Type 0) where
-  drawn : (answer : Result (List ℕ) Fault) → IsSettled answer → Answers files request answers answer → Draws answers (ready_for files None request) answer
-  drawn (Ok text) s a = a
+module _ {A : Type 0} (files : Told) (request : Request) (answers : Ready → Result A Fault → Type 0) where
+  pub drawn : (answer : Result A Fault) → IsSettled answer → Answers files request answers answer → Draws answers (ready_for files None request) answer
+  drawn (Ok x) s a = a
   drawn (Err Memory) s a = absurd s
   drawn (Err (FileReadFailed name)) s a = absurd s
   drawn (Err (NoFile name)) s a = a
