@@ -47,6 +47,7 @@ bench: all
 	@python3 bench/reading.py
 	@python3 bench/footprint.py
 	@python3 bench/rows.py
+	@python3 bench/verdicts.py
 
 install: all
 	mkdir -p $(DESTDIR)$(PREFIX)/bin
