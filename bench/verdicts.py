@@ -112,9 +112,9 @@ def waiting(count: int) -> Build:
 
 
 def large(count: int) -> Build:
-    """Targets with commands of 4 KB, and a source each."""
+    """Targets with commands of 8 KB, and a source each."""
     names, files = [f"verdicts/y{n}" for n in range(count)], [f"verdicts/y{n}.c" for n in range(count)]
-    option = " ".join(f"-Dname{number}=value{number}" for number in range(185))
+    option = " ".join(f"-Dname{number}=value{number}" for number in range(470))
     records = [(name, [f"cc {option} {name}"], [file]) for name, file in zip(names, files)]
     rules = [f"{name}: {file}\n\t{commands[0]}\n" for (name, commands, _), file in zip(records, files)]
     return Build(gather(names) + "".join(rules), files, records)
