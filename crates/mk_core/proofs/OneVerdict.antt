@@ -1,6 +1,6 @@
 -- The answer to a build that is judged is one.
-use Rattle.std.proofs.Common.{◌≡◌, ◌⊎◌, ◌×◌, ◌<◌, ◌∙◌, ℕ, zero, suc, true, false, ⊤, List, [], ◌∷◌, Option, None, Some, Result, Ok, Err, length, inl, inr, refl, sym, ap, subst, arith}
-use Rattle.std.specs.Prelude.{slice_index}
+use Rattle.std.proofs.Common.{◌≡◌, ◌⊎◌, ◌<◌, ◌∙◌, ℕ, zero, suc, true, false, List, [], ◌∷◌, Option, None, Some, Result, Ok, Err, length, inl, inr, refl, sym, ap, subst, arith}
+use Rattle.std.specs.Prelude.{⊤, slice_index}
 use Rattle.std.specs.Option.{ok_or}
 use Rattle.std.proofs.lemmas.Bool.{cases_lt}
 use Rattle.mk_graph.specs.Graph as value
@@ -58,7 +58,7 @@ module _ (reaches : SerialReachesEachOnce) (x : Subject) where
       let found = is_subject.told n low in
       let e = sym found.1 ∙ first.here in absurd cc
 
-  fault_of : Result Commands InferFault → InferFault
+  abbrev fault_of : Result Commands InferFault → InferFault
   fault_of (Ok found) = infer.NoGoal
   fault_of (Err fault) = fault
 
@@ -111,12 +111,15 @@ module _ {A : Type 0} (reaches : SerialReachesEachOnce) (one_selection : inferri
 
 -- ---- verdicts
 
+same_yes : (c d : ways.Certificate) (recipes n reads m : ℕ) → c ≡ d → recipes ≡ n → reads ≡ m → Yes c recipes reads ≡ Yes d n m
+same_yes c d recipes n reads m e f g = rw (e, f, g) refl
+
 module _ (one_list : FindingsAreOne) (one_certificate : CertificateIsOne) (x : Subject) where
   verdict_one : (one other : Verdict) → IsVerdict x one → IsVerdict x other → one ≡ other
-  verdict_one (Yes c recipes reads) (Yes d n m) (none, is, (e, k)) (also, it, (f, l)) =
-      let same = one_certificate x c d is it in rw (same, e, k, f, l) refl
-  verdict_one (Yes c recipes reads) (No found) (none, is, counted) (some, are) = absurd (some (one_list x found [] are none))
-  verdict_one (No found) (Yes c recipes reads) (some, are) (none, is, counted) = absurd (some (one_list x found [] are none))
+  verdict_one (Yes c recipes reads) (Yes d n m) (none, is, e, k) (also, it, f, l) =
+      let same = one_certificate x c d is it in same_yes c d recipes n reads m same (e ∙ sym f) (k ∙ sym l)
+  verdict_one (Yes c recipes reads) (No found) (none, is, counted, read) (some, are) = absurd (some (one_list x found [] are none))
+  verdict_one (No found) (Yes c recipes reads) (some, are) (none, is, counted, read) = absurd (some (one_list x found [] are none))
   verdict_one (No found) (No other) (some, are) (also, they) = ap (λ list. No list) (one_list x found other are they)
 
   given_one : (one other : Result Verdict Fault) → GivesVerdict x one → GivesVerdict x other → one ≡ other

@@ -1,5 +1,6 @@
 -- A yes is a promise.
-use Rattle.std.proofs.Common.{◌≡◌, ◌×◌, ℕ, ⊤, List, Option, None, Some, Result, Ok, Err, inl, inr, refl, sym, subst}
+use Rattle.std.proofs.Common.{◌≡◌, ℕ, List, Option, None, Some, Result, Ok, Err, inl, inr, refl, sym, subst}
+use Rattle.std.specs.Prelude.{⊤}
 use Rattle.std.specs.Option.{ok_or}
 use Rattle.mk_graph.specs.Graph as value
 use Rattle.mk_graph.specs.Graph.{IsGraph}
@@ -43,8 +44,8 @@ module _ (right : VerifiedIsRight) (selected : SelectedGoals) (files : Told) (re
         is_ready = is_ready;
         is_selected = s;
         is_right = all.0;
-        is_right_once = all.1.0;
-        stays_selected = subst (λ (goals : List (List ℕ)). StaysSelected ready.makefile (recorded ready) (all_writes x) goals g) (selected ready.makefile (recorded ready) ready.goals g s) all.1.1;
+        is_right_once = all.1;
+        stays_selected = subst (λ (goals : List (List ℕ)). StaysSelected ready.makefile (recorded ready) (all_writes x) goals g) (selected ready.makefile (recorded ready) ready.goals g s) all.2;
       }
 
 -- ---- a verdict
@@ -52,23 +53,26 @@ module _ (right : VerifiedIsRight) (selected : SelectedGoals) (files : Told) (re
 module _ (accepts : CertificateIsAccepted) (nothing : NoFindings) where
   -- a verdict of yes has a certificate that is accepted
   has_accepted : (x : Subject) → IsGraph x.graph → (verdict : Verdict) → IsVerdict x verdict → IsYes (Ok verdict) → (c : Certificate) × Verifies x c (Ok tt)
-  has_accepted x is_graph (Yes c recipes reads) (none, is, counted) yes = (c, accepts x c is_graph (nothing x none).0 is)
-  has_accepted x is_graph (No found) is yes = absurd yes
+  has_accepted x is_graph (Yes c recipes reads) (none, is, counted, read) agreed = (c, accepts x c is_graph (nothing x none).0 is)
+  has_accepted x is_graph (No found) is agreed = absurd agreed
 
   module _ (right : VerifiedIsRight) (selected : SelectedGoals) (files : Told) (request : Request) where
-    of_check : (answer : Result Verdict Fault) → IsYes answer → (r : Result Ready Fault) → ready_for files None request ≡ r → Draws AnswersCheck r answer → IsRightFor files request
-    of_check answer yes (Err fault) is e = let k : IsYes (Err fault) = subst IsYes e yes in absurd k
-    of_check answer yes (Ok ready) is (Err fault, s, (settled, e)) = let k = subst IsYes e yes in absurd k
-    of_check answer yes (Ok ready) is (Ok g, s, inr (fault, first, e)) = let k = subst IsYes e yes in absurd k
-    of_check answer yes (Ok ready) is (Ok g, s, inl (is_graph, is_subject, (verdict, v, e))) =
-        let found = has_accepted (subject_over ready g) is_graph verdict v (subst IsYes e yes) in
+    of_build : (answer : Result Verdict Fault) → IsYes answer → (ready : Ready) → ready_for files None request ≡ Ok ready → AnswersCheck ready answer → IsRightFor files request
+    of_build answer agreed ready is (Err fault, s, (settled, e)) = absurd (subst IsYes e agreed)
+    of_build answer agreed ready is (Ok g, s, inr (fault, first, e)) = absurd (subst IsYes e agreed)
+    of_build answer agreed ready is (Ok g, s, inl (is_graph, is_subject, (verdict, v, e))) =
+        let found = has_accepted (subject_over ready g) is_graph verdict v (subst IsYes e agreed) in
         promised right selected files request ready is g s is_graph is_subject found.0 found.1
 
+    of_check : (answer : Result Verdict Fault) → IsYes answer → (r : Result Ready Fault) → ready_for files None request ≡ r → Draws AnswersCheck r answer → IsRightFor files request
+    of_check answer agreed (Err fault) is e = absurd (subst IsYes e agreed)
+    of_check answer agreed (Ok ready) is d = of_build answer agreed ready is d
+
 pub yes_is_right : CertificateIsAccepted → NoFindings → SelectedGoals → VerifiedIsRight → YesIsRight
-yes_is_right accepts nothing selected right files request (Ok (Yes c recipes reads)) a yes =
-    of_check accepts nothing right selected files request (Ok (Yes c recipes reads)) yes (ready_for files None request) refl a
-yes_is_right accepts nothing selected right files request (Ok (No found)) a yes = absurd yes
-yes_is_right accepts nothing selected right files request (Err fault) a yes = absurd yes
+yes_is_right accepts nothing selected right files request (Ok (Yes c recipes reads)) a agreed =
+    of_check accepts nothing right selected files request (Ok (Yes c recipes reads)) agreed (ready_for files None request) refl a
+yes_is_right accepts nothing selected right files request (Ok (No found)) a agreed = absurd agreed
+yes_is_right accepts nothing selected right files request (Err fault) a agreed = absurd agreed
 
 -- ---- a certificate
 
