@@ -1,4 +1,4 @@
-use Rattle.std.proofs.Common.{◌≡◌, ◌⊎◌, ◌∙◌, Ok, Err, ℕ, List, map, sym, subst}
+use Rattle.std.proofs.Common.{◌≡◌, ◌⊎◌, ◌∙◌, Ok, Err, map, sym, subst}
 use Rattle.mk_cert.specs.Subject.{Subject}
 use Rattle.mk_graph.specs.Setting as build
 use Rattle.mk_infer.specs.Selection.{Selects}
