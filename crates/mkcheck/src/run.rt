@@ -20,6 +20,9 @@ use std::convert::AsStr;
 /// The exit status of an answer, and of help.
 pub const DONE: u8 = 0;
 
+/// The exit status of a no.
+pub const NO: u8 = 1;
+
 /// The exit status of a refusal.
 pub const REFUSED: u8 = 2;
 
@@ -30,7 +33,7 @@ pub struct Outcome {
     pub out: Vec<u8>,
     /// What goes to standard error.
     pub err: String,
-    /// 0 done, 2 refused or a fault of the command line.
+    /// 0 yes or done, 1 no, 2 refused or a fault of the command line.
     pub status: u8,
 }
 
