@@ -1,16 +1,21 @@
 -- What the parts of a run make together.
-use Rattle.std.proofs.Common.{◌≡◌, ◌⊎◌, ◌∙◌, ℕ, true, List, Option, Some, None, refl, sym, ap, ap₂, subst, inl, inr, Result, Ok, Err, IfOk}
-use Rattle.std.specs.Prelude.{unwrap_or}
+use Rattle.std.proofs.Common.{◌≡◌, ◌⊎◌, ◌∙◌, ℕ, Bool, true, List, Option, Some, None, refl, sym, ap, ap₂, arith, subst, inl, inr, Result, Ok, Err, IfOk}
+use Rattle.std.specs.Prelude.{IfSome, unwrap_or}
 use Rattle.std.specs.Option.{option_map}
 use Rattle.clap.specs.Words.{IsAmong, Kinds, Row, Text, is_simple, is_simple_and_free}
 use Rattle.clap.specs.declared.error.ErrorKind.{ErrorKind}
 use Rattle.clap.specs.declared.error.ErrorKind.TheVariants.{OutOfMemory}
 use Rattle.clap.proofs.OnLiterals.{clap_on_literals}
 use Rattle.mk_core.specs.Answer.{Counts}
+use Rattle.mk_core.specs.CheckAnswer.{IsYes}
+use Rattle.mk_core.specs.Files.{Told}
 use Rattle.mk_core.specs.Steps.{seen}
 use Rattle.mk_core.specs.declared.fault.Fault.{Fault}
+use Rattle.mk_core.specs.declared.verdict.Verdict.{Verdict}
+use Rattle.mk_core.specs.declared.verdict.Verdict.TheVariants.{Yes, No}
+use Rattle.mkcheck.specs.declared.asked.Asked.{Asked}
 use Rattle.mkcheck.specs.CommandLine.{command_line}
-use Rattle.mkcheck.specs.Run.{Explains, Written}
+use Rattle.mkcheck.specs.Run.{Explains, Promises, Shown, Shows, Written, shown_verdict}
 
 -- the port says which words the command line takes
 pub is_simple_line : is_simple_and_free command_line ≡ true
@@ -35,6 +40,19 @@ is_simple_command = refl
 pub counts_seen : {X Y : Type 0} (view : X → Y) (old new : ℕ) (r : Result X Fault) → Counts old new r → Counts old new (seen view r)
 counts_seen view old new (Ok x) h = h
 counts_seen view old new (Err fault) h = h
+
+-- a verdict that is shown with status 0 is a yes
+pub yes_shown : (only_certificate : Bool) (verdict : Verdict) → (shown_verdict only_certificate verdict).status ≡ 0 → IsYes (Ok verdict)
+yes_shown only_certificate (Yes certificate recipes reads) e = tt
+yes_shown only_certificate (No found) e = let bad : 1 ≡ 0 = e in absurd (omega arith)
+
+-- what status 0 of an answer promises, it promises where it is written
+pub promised : (told : Option Told) (asked : Asked) (answer : Result Shown Fault) (w : Written)
+    → IfSome told (λ files. IfOk answer (λ shown. shown.status ≡ 0 → Promises files asked)) → Shows answer w → w.status ≡ 0 → IfSome told (λ files. Promises files asked)
+promised None asked answer w h shows e = tt
+promised (Some files) asked (Ok shown) w h shows e = h (sym (ap (λ (x : Written). x.status) shows) ∙ e)
+promised (Some files) asked (Err fault) w h shows e =
+    let bad : 2 ≡ 0 = sym (ap (λ (x : Written). x.status) shows.1) ∙ e in absurd (omega arith)
 
 -- the subcommand that was met is the one whose name and values are told
 module _ {P B : Type 0} (n : P → Text) (r : P → List Row) (name : B → Text) (rows : B → List Row) where

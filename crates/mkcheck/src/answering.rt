@@ -2,9 +2,10 @@
 
 ghost use Rattle.std.specs.Prelude.{◌≡◌, ◌<◌, ◌-◌, ◌^◌, ◌∷◌, ◌++◌, [], IfOk, IfSome};
 ghost use Rattle.mk_core.specs.Answer.{Counts};
+ghost use Rattle.mk_core.specs.Right.{IsRightFor};
 ghost use Rattle.mk_ways.specs.Writing.{value_of};
 ghost use Rattle.serde_json.specs.Written.{compact_text};
-ghost use Rattle.mkcheck.specs.Run.{AnswersAsked, shown_run, shown_text, shown_verdict};
+ghost use Rattle.mkcheck.specs.Run.{AnswersAsked, Promises, shown_run, shown_text, shown_verdict};
 ghost use Rattle.mkcheck.specs.declared.asked.Asked.TheVariants.{Check};
 
 use crate::asked::Asked;
@@ -93,6 +94,8 @@ fn answer_check<F: Files>(
     ensures map { F.told files.new ≡ F.told files.old }
     ensures answer { IfSome (F.told files.old)
         (λ told. AnswersAsked told (Check request.now only_certificate) result) }
+    ensures right { IfSome (F.told files.old)
+        (λ told. IfOk result (λ shown. shown.status ≡ 0 → IsRightFor told request.now)) }
     ensures counted { Counts (F.failed files.old) (F.failed files.new) result }
 {
     let verdict = check(alloc, files, request)?;
@@ -105,6 +108,8 @@ pub fn answer<F: Files>(alloc: Global, files: &mut F, asked: &Asked) -> Result<S
     requires { F.failed files.old < 2 ^ 64 - 1 }
     ensures map { F.told files.new ≡ F.told files.old }
     ensures answer { IfSome (F.told files.old) (λ told. AnswersAsked told asked.now result) }
+    ensures right { IfSome (F.told files.old)
+        (λ told. IfOk result (λ shown. shown.status ≡ 0 → Promises told asked.now)) }
     ensures counted { Counts (F.failed files.old) (F.failed files.new) result }
 {
     match asked {
