@@ -15,12 +15,17 @@ all:
 	mkdir -p bin
 	cp -f crates/mkcheck/out/mkcheck bin/mkcheck
 
-# The last line holds the program to the text that the documents show.
+# The lines with cmp hold the program to the texts that the documents show. The
+# second check is of a copy of the makefile from which one header is left out.
 demo: all
 	cd examples/wordcount && cat makefile
 	cd examples/wordcount && ../../bin/mkcheck graph
 	cd examples/wordcount && ../../bin/mkcheck graph reader.o table.o
 	@cd examples/wordcount && ../../bin/mkcheck graph | cmp - graph.txt
+	cd examples/wordcount && ../../bin/mkcheck check -b footprint.json
+	@cd examples/wordcount && ../../bin/mkcheck check -b footprint.json | cmp - check.txt
+	cd examples/wordcount && sed '/^main.o/s/ table.h//' makefile > forgotten.mk
+	cd examples/wordcount && ! ../../bin/mkcheck check -f forgotten.mk -b footprint.json
 
 # The gate proves and runs everything from nothing, so it needs no `all`. Its
 # last line, `N passed, M failed`, is to stay the last one that is printed.
@@ -42,6 +47,7 @@ bench: all
 	@python3 bench/reading.py
 	@python3 bench/footprint.py
 	@python3 bench/rows.py
+	@python3 bench/verdicts.py
 
 install: all
 	mkdir -p $(DESTDIR)$(PREFIX)/bin
@@ -49,4 +55,4 @@ install: all
 
 clean:
 	rm -rf bin bench/data bench/__pycache__ crates/*/out
-	cd examples/wordcount && rm -f wordcount *.o counted.txt
+	cd examples/wordcount && rm -f wordcount *.o counted.txt forgotten.mk

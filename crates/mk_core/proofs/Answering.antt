@@ -16,7 +16,7 @@ use Rattle.mk_read.specs.Files.{Told, text_at}
 use Rattle.mk_read.specs.Following as following
 use Rattle.mk_read.specs.Reading.{Makefile, makefile}
 use Rattle.mk_core.specs.declared.fault.Fault.{Fault}
-use Rattle.mk_core.specs.declared.fault.Fault.TheVariants.{Read, Infer, Foot, Plan, FileReadFailed, NoFile, Memory}
+use Rattle.mk_core.specs.declared.fault.Fault.TheVariants.{Read, Infer, Foot, Plan, Certificate, Verify, FileReadFailed, NoFile, Memory}
 use Rattle.mk_core.specs.declared.request.Request.{Request}
 use Rattle.mk_core.specs.Answer.{Answers, Draws, failed_file, failing_of}
 use Rattle.mk_core.specs.GraphAnswer.{AnswersGraph}
@@ -186,5 +186,29 @@ module _ {A : Type 0} (files : Told) (request : Request) (answers : Ready → Re
     over (Err (Foot f)) (inr d) = lifted (Err (Foot f)) d
     over (Err (Plan f)) (inl k) = absurd cc
     over (Err (Plan f)) (inr d) = lifted (Err (Plan f)) d
+    over (Err (Certificate f)) (inl k) = absurd cc
+    over (Err (Certificate f)) (inr d) = lifted (Err (Certificate f)) d
+    over (Err (Verify f)) (inl k) = absurd cc
+    over (Err (Verify f)) (inr d) = lifted (Err (Verify f)) d
     over (Err (Read f)) (inl k) = absurd cc
     over (Err (Read f)) (inr d) = absurd (not_drawn answers f (ready_over files None request m) (λ ready. not_read ready f) (not_ready files None f request m) d)
+
+-- ---- an answer as a contract sees it
+
+module _ {A B : Type 0} (f : A → B) (files : Told) (request : Request) (answers : Ready → Result B Fault → Type 0) where
+  drawn_seen : (r : Result Ready Fault) (answer : Result A Fault) → Draws (λ ready one. answers ready (seen f one)) r answer → Draws answers r (seen f answer)
+  drawn_seen (Ok ready) answer d = d
+  drawn_seen (Err fault) (Ok x) d = absurd cc
+  drawn_seen (Err fault) (Err other) d = fault_same other fault d
+
+  pub seen_answers : (answer : Result A Fault) → Answers files request (λ ready one. answers ready (seen f one)) answer → Answers files request answers (seen f answer)
+  seen_answers (Ok x) a = drawn_seen (ready_for files None request) (Ok x) a
+  seen_answers (Err Memory) a = tt
+  seen_answers (Err (Read fault)) a = a
+  seen_answers (Err (FileReadFailed name)) a = drawn_seen (ready_for files (Some name) request) (Err (FileReadFailed name)) a
+  seen_answers (Err (NoFile name)) a = drawn_seen (ready_for files None request) (Err (NoFile name)) a
+  seen_answers (Err (Infer fault)) a = drawn_seen (ready_for files None request) (Err (Infer fault)) a
+  seen_answers (Err (Foot fault)) a = drawn_seen (ready_for files None request) (Err (Foot fault)) a
+  seen_answers (Err (Plan fault)) a = drawn_seen (ready_for files None request) (Err (Plan fault)) a
+  seen_answers (Err (Certificate fault)) a = drawn_seen (ready_for files None request) (Err (Certificate fault)) a
+  seen_answers (Err (Verify fault)) a = drawn_seen (ready_for files None request) (Err (Verify fault)) a

@@ -10,7 +10,7 @@ use Rattle.mk_infer.specs.declared.fault.InferFault.{InferFault}
 use Rattle.mk_read.specs.Files.{Told, text_at}
 use Rattle.mk_read.specs.Reading.{Makefile}
 use Rattle.mk_core.specs.declared.fault.Fault.{Fault}
-use Rattle.mk_core.specs.declared.fault.Fault.TheVariants.{Read, Infer, Foot, Plan, FileReadFailed, NoFile, Memory}
+use Rattle.mk_core.specs.declared.fault.Fault.TheVariants.{Read, Infer, Foot, Plan, Certificate, Verify, FileReadFailed, NoFile, Memory}
 use Rattle.mk_core.specs.declared.request.Request.{Request}
 use Rattle.mk_core.specs.Answer.{Draws}
 use Rattle.mk_core.specs.FileText.{text_of}
@@ -69,5 +69,7 @@ module _ {A : Type 0} (files : Told) (request : Request) (m : Makefile) (answers
   over_found ready (Err (Infer fault)) is (inr a) = over_ready files request m answers ready (Err (Infer fault)) refl is a
   over_found ready (Err (Foot fault)) is (inr a) = over_ready files request m answers ready (Err (Foot fault)) refl is a
   over_found ready (Err (Plan fault)) is (inr a) = over_ready files request m answers ready (Err (Plan fault)) refl is a
+  over_found ready (Err (Certificate fault)) is (inr a) = over_ready files request m answers ready (Err (Certificate fault)) refl is a
+  over_found ready (Err (Verify fault)) is (inr a) = over_ready files request m answers ready (Err (Verify fault)) refl is a
   over_found ready (Err (NoFile n)) is (inr a) = over_ready files request m answers ready (Err (NoFile n)) refl is a
   over_found ready (Err Memory) is (inr a) = inl refl

@@ -11,7 +11,7 @@ use Rattle.mk_read.specs.Following as following
 use Rattle.mk_read.specs.Reading.{Makefile, Reader}
 use Rattle.mk_read.specs.Steps as reading
 use Rattle.mk_core.specs.declared.fault.Fault.{Fault}
-use Rattle.mk_core.specs.declared.fault.Fault.TheVariants.{Read, Infer, Foot, Plan, FileReadFailed, NoFile, Memory}
+use Rattle.mk_core.specs.declared.fault.Fault.TheVariants.{Read, Infer, Foot, Plan, Certificate, Verify, FileReadFailed, NoFile, Memory}
 use Rattle.mk_core.specs.declared.request.Request.{Request}
 use Rattle.mk_core.specs.Answer.{Answers, Draws}
 use Rattle.mk_core.specs.GraphAnswer.{AnswersGraph, Prints, PrintsSelected}
@@ -31,36 +31,38 @@ module _ (files : Told) (reads_as : Reader → Result Makefile ReadFault) where
   abbrev made : Result Makefile ReadFault
   made = reads_as (following.reader_of files None)
 
-  settled_read : (fault : ReadFault) → IsSettled (Err (Read fault)) → reading.is_want_of_memory fault ≡ false → following.Answers files reads_as (Err fault) → made ≡ Err fault
-  settled_read (read.ReadFailed place name) s w h = absurd s
-  settled_read (read.Line file fault) s w h = settled made (read.Line file fault) w h
-  settled_read (read.Macro place fault) s w h = settled made (read.Macro place fault) w h
-  settled_read (read.Kind place fault) s w h = settled made (read.Kind place fault) w h
-  settled_read (read.StrayCommand place) s w h = settled made (read.StrayCommand place) w h
-  settled_read (read.BadName place) s w h = settled made (read.BadName place) w h
-  settled_read (read.BadMakefileName name) s w h = settled made (read.BadMakefileName name) w h
-  settled_read (read.ArchiveMember place) s w h = settled made (read.ArchiveMember place) w h
-  settled_read (read.UnknownSpecial place) s w h = settled made (read.UnknownSpecial place) w h
-  settled_read (read.SpecialShape place) s w h = settled made (read.SpecialShape place) w h
-  settled_read (read.TwoRecipes place name) s w h = settled made (read.TwoRecipes place name) w h
-  settled_read (read.IncludeMissing place name) s w h = settled made (read.IncludeMissing place name) w h
-  settled_read (read.IncludeDepth place) s w h = settled made (read.IncludeDepth place) w h
-  settled_read (read.IncludeEmpty place) s w h = settled made (read.IncludeEmpty place) w h
-  settled_read (read.TooManyFiles place) s w h = settled made (read.TooManyFiles place) w h
-  settled_read (read.NoMakefile name) s w h = settled made (read.NoMakefile name) w h
-  settled_read read.Memory s w h = settled made read.Memory w h
+  settled_read : (A : Type 0) (fault : ReadFault) → IsSettled {A = A} (Err (Read fault)) → reading.is_want_of_memory fault ≡ false → following.Answers files reads_as (Err fault) → made ≡ Err fault
+  settled_read A (read.ReadFailed place name) s w h = absurd s
+  settled_read A (read.Line file fault) s w h = settled made (read.Line file fault) w h
+  settled_read A (read.Macro place fault) s w h = settled made (read.Macro place fault) w h
+  settled_read A (read.Kind place fault) s w h = settled made (read.Kind place fault) w h
+  settled_read A (read.StrayCommand place) s w h = settled made (read.StrayCommand place) w h
+  settled_read A (read.BadName place) s w h = settled made (read.BadName place) w h
+  settled_read A (read.BadMakefileName name) s w h = settled made (read.BadMakefileName name) w h
+  settled_read A (read.ArchiveMember place) s w h = settled made (read.ArchiveMember place) w h
+  settled_read A (read.UnknownSpecial place) s w h = settled made (read.UnknownSpecial place) w h
+  settled_read A (read.SpecialShape place) s w h = settled made (read.SpecialShape place) w h
+  settled_read A (read.TwoRecipes place name) s w h = settled made (read.TwoRecipes place name) w h
+  settled_read A (read.IncludeMissing place name) s w h = settled made (read.IncludeMissing place name) w h
+  settled_read A (read.IncludeDepth place) s w h = settled made (read.IncludeDepth place) w h
+  settled_read A (read.IncludeEmpty place) s w h = settled made (read.IncludeEmpty place) w h
+  settled_read A (read.TooManyFiles place) s w h = settled made (read.TooManyFiles place) w h
+  settled_read A (read.NoMakefile name) s w h = settled made (read.NoMakefile name) w h
+  settled_read A read.Memory s w h = settled made read.Memory w h
 
-module _ (files : Told) (request : Request) (answers : Ready → Result (List ℕ) Fault → Type 0) where
-  drawn : (answer : Result (List ℕ) Fault) → IsSettled answer → Answers files request answers answer → Draws answers (ready_for files None request) answer
-  drawn (Ok text) s a = a
+module _ {A : Type 0} (files : Told) (request : Request) (answers : Ready → Result A Fault → Type 0) where
+  pub drawn : (answer : Result A Fault) → IsSettled answer → Answers files request answers answer → Draws answers (ready_for files None request) answer
+  drawn (Ok x) s a = a
   drawn (Err Memory) s a = absurd s
   drawn (Err (FileReadFailed name)) s a = absurd s
   drawn (Err (NoFile name)) s a = a
   drawn (Err (Infer fault)) s a = a
   drawn (Err (Foot fault)) s a = a
   drawn (Err (Plan fault)) s a = a
+  drawn (Err (Certificate fault)) s a = a
+  drawn (Err (Verify fault)) s a = a
   drawn (Err (Read fault)) s (w, h) =
-      subst (λ (r : Result Makefile ReadFault). Draws answers (as_fault Read r >>= ready_over files None request) (Err (Read fault))) (sym (settled_read files (makefile_for request) fault s w h)) refl
+      subst (λ (r : Result Makefile ReadFault). Draws answers (as_fault Read r >>= ready_over files None request) (Err (Read fault))) (sym (settled_read files (makefile_for request) A fault s w h)) refl
 
 -- ---- what is drawn is one
 

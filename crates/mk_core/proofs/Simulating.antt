@@ -10,7 +10,7 @@ use Rattle.mk_world.specs.declared.plan.PlanLine.{PlanLine}
 use Rattle.mk_world.specs.Plans.{plan_of}
 use Rattle.mk_core.specs.declared.fault.Fault.{Fault}
 use Rattle.mk_core.specs.declared.fault.Fault.TheVariants.{Read, NoFile}
-use Rattle.mk_core.specs.Ready.{Ready}
+use Rattle.mk_core.specs.Ready.{Ready, exists}
 use Rattle.mk_core.specs.Simulation.{Simulation}
 use Rattle.mk_core.specs.SimulationAnswer.{AnswersSimulation, RunsLines, RunsText}
 use Rattle.mk_core.specs.Steps.{of_infer}
@@ -19,11 +19,11 @@ use Rattle.mk_core.proofs.Faults.{by_infer}
 
 module _ (files : Told) (plan : List ℕ) (ready : Ready) where
   -- the goals have no graph
-  pub no_graph : (fault : InferFault) → Selected ready (Err fault) → SimulatesOver files plan ready (Err (of_infer fault))
+  pub no_graph : (fault : InferFault) → Selected (exists ready) ready (Err fault) → SimulatesOver files plan ready (Err (of_infer fault))
   no_graph fault s = by_infer (λ f. SimulatesOver files plan ready (Err f)) fault (inl refl) (λ settled. inr (Err fault, s settled, (settled, refl)))
 
   -- they have one, and the plan is run
-  pub over_graph : (g : value.Graph) → Selected ready (Ok g) → (answer : Result Simulation Fault) → RunsTextOver files plan g ready.setting answer → SimulatesOver files plan ready answer
+  pub over_graph : (g : value.Graph) → Selected (exists ready) ready (Ok g) → (answer : Result Simulation Fault) → RunsTextOver files plan g ready.setting answer → SimulatesOver files plan ready answer
   over_graph g s answer (inl k) = inl k
   over_graph g s answer (inr h) = inr (Ok g, s, h)
 

@@ -13,7 +13,7 @@ use Rattle.mk_core.specs.VerifyAnswer.{AnswersVerify}
 use Rattle.mk_core.specs.declared.verdict.Verdict.{Verdict}
 
 -- neither want of memory nor a failed read
-abbrev pub IsSettled : Result (List ℕ) Fault → Type 0
+abbrev pub IsSettled : {A : Type 0} → Result A Fault → Type 0
 IsSettled (Err Memory) = ⊥
 IsSettled (Err (FileReadFailed name)) = ⊥
 IsSettled (Err (Read (ReadFailed place name))) = ⊥
@@ -26,6 +26,20 @@ AnswerIsOne =
     (files : Told) (request : Request) (one other : Result (List ℕ) Fault) → IsSettled one →
     IsSettled other → Answers files request (AnswersGraph request.commands) one →
     Answers files request (AnswersGraph request.commands) other → one ≡ other
+
+-- So has a request for a verdict.
+abbrev pub VerdictIsOne : Type 0
+VerdictIsOne =
+    (files : Told) (request : Request) (one other : Result Verdict Fault) → IsSettled one →
+    IsSettled other → Answers files request AnswersCheck one →
+    Answers files request AnswersCheck other → one ≡ other
+
+-- So has one for the verification of a certificate.
+abbrev pub VerificationIsOne : Type 0
+VerificationIsOne =
+    (files : Told) (request : Request) (name : List ℕ) (one other : Result (List ℕ) Fault) →
+    IsSettled one → IsSettled other → Answers files request (AnswersVerify files name) one →
+    Answers files request (AnswersVerify files name) other → one ≡ other
 
 -- Where the answer to a request for a verdict is yes, all is right.
 abbrev pub YesIsRight : Type 0

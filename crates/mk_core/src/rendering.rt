@@ -1,11 +1,11 @@
 //! The printed words of a verdict.
 
 ghost use Rattle.std.specs.Prelude.{◌≡◌, ◌++◌, IfOk, OnOk};
-ghost use Rattle.std.specs.List.{flat_map};
-ghost use Rattle.mk_core.specs.VerdictText.{finding_line, findings_text, verdict_text, way_line, ways_text, yes_line};
+ghost use Rattle.mk_core.specs.VerdictText.{finding_line, findings_text, names_text, verdict_text, way_line, ways_text, yes_line};
 
 use crate::verdict::Verdict;
 use mk_cert::Finding;
+use mk_lines::Name;
 use mk_ways::Way;
 use std::alloc::{AllocError, Global};
 
@@ -17,6 +17,17 @@ pub(crate) fn yes_line(alloc: Global, recipes: usize, reads: u128) -> Result<Vec
     Ok(text.into_bytes())
 }
 
+/// Adds each name behind a space.
+fn push_names(out: &mut Vec<u8>, names: &[Name]) -> Result<(), AllocError>
+    ensures { OnOk result (out.new.items ≡ out.old.items ++ names_text names.now) }
+{
+    for name in names {
+        out.push(b' ')?;
+        out.extend_from_slice(name.as_str().as_bytes())?;
+    }
+    Ok(())
+}
+
 /// Adds the line of a way.
 fn push_way(alloc: Global, out: &mut Vec<u8>, way: &Way) -> Result<(), AllocError>
     ensures { OnOk result (out.new.items ≡ out.old.items ++ way_line way.now) }
@@ -24,10 +35,7 @@ fn push_way(alloc: Global, out: &mut Vec<u8>, way: &Way) -> Result<(), AllocErro
     let (recipe, file, finish) = (&way.recipe, &way.file, way.finish);
     let head = format!(in alloc; "way {recipe} {file} {finish}")?;
     out.extend_from_slice(head.as_bytes())?;
-    for name in way.path.as_slice() {
-        out.push(b' ')?;
-        out.extend_from_slice(name.as_str().as_bytes())?;
-    }
+    push_names(out, way.path.as_slice())?;
     out.push(b'\n')?;
     Ok(())
 }

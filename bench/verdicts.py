@@ -1,0 +1,221 @@
+"""Measures `mkcheck check` beside reading the makefile and the footprints with other programs, and prints a table.
+
+What it is held against is the processor time of the faster of `make -n -r` and `bmake -n -r` on the makefile, and
+that of Python's `json.load` on the footprints, added up.
+"""
+
+import json
+import os
+import resource
+import subprocess
+import sys
+from collections.abc import Callable
+from dataclasses import dataclass
+from pathlib import Path
+
+from generate import gather, recipe
+from run import DATA, RUNS, Measure, Tool, asked, summary
+
+# What is to be reached. The table shows it; no figure makes the run fail.
+RATIO_BOUND = 1.00
+GROWTH_BOUND = 2.3
+MEMORY_BOUND = 10.0
+
+# From this many megabytes on, what is read and written is held against the memory.
+LARGE = 2
+
+
+@dataclass(frozen=True)
+class Build:
+    """A makefile, its sources, which are written to the disk, and for each recipe its target, commands and reads."""
+
+    text: str
+    sources: list[str]
+    records: list[tuple[str, list[str], list[str]]]
+
+    def book(self) -> str:
+        """The footprints; each recipe writes its target."""
+        records = [
+            {"target": target, "commands": commands, "reads": reads, "writes": [target]}
+            for target, commands, reads in self.records
+        ]
+        return json.dumps({"format": 1, "fixed": [], "sources": self.sources, "records": records})
+
+
+def touched(targets: dict[str, list[str]]) -> list[tuple[str, list[str], list[str]]]:
+    """The records of recipes that read their prerequisites."""
+    return [(target, [f"touch {target}"], reads) for target, reads in targets.items()]
+
+
+def ruled(top: list[str], targets: dict[str, list[str]], sources: list[str], extra: str = "") -> Build:
+    """A build of these targets, each from its prerequisites, which it reads; `all` gathers the top ones."""
+    rules = [recipe(target, reads) for target, reads in targets.items()]
+    return Build(extra + gather(top) + "".join(rules), sources, touched(targets))
+
+
+def flat(count: int) -> Build:
+    """Targets without prerequisites."""
+    names = [f"f{number}" for number in range(count)]
+    return ruled(names, dict.fromkeys(names, []), [])
+
+
+def deep(count: int) -> Build:
+    """A chain, each target reads the one below it."""
+    names = [f"f{number}" for number in range(count)]
+    below = [[name] for name in names[1:]] + [[]]
+    return ruled(names[:1], dict(zip(names, below)), [])
+
+
+def layered(width: int) -> Build:
+    """As many layers as a layer has targets; each reads three of the next layer."""
+    def name(layer: int, column: int) -> str:
+        return f"l{layer}n{column % width}"
+
+    targets = {
+        name(layer, column): [name(layer + 1, column + offset) for offset in (0, 1, 2)] if layer + 1 < width else []
+        for layer in range(width)
+        for column in range(width)
+    }
+    return ruled([name(0, column) for column in range(width)], targets, [])
+
+
+def objects(count: int) -> tuple[list[str], list[str], list[list[str]], list[str]]:
+    """Objects with a source and ten headers each, and all headers."""
+    numbers = range(count)
+    headers = [f"verdicts/h{number}.h" for number in range(min(80, 7 * count + 3))]
+    needed = [[headers[(7 * number + column) % len(headers)] for column in range(10)] for number in numbers]
+    return [f"verdicts/x{n}.o" for n in numbers], [f"verdicts/x{n}.c" for n in numbers], needed, headers
+
+
+def inferred(count: int, told: bool = True) -> Build:
+    """Objects by an inference rule, with ten headers each, which the makefile names or forgets."""
+    names, files, needed, headers = objects(count)
+    rules = [f"{name}: {' '.join(chosen)}\n" for name, chosen in zip(names, needed)] if told else []
+    text = "".join([".SUFFIXES:\n.SUFFIXES: .o .c\n.c.o:\n\ttouch $@\n", gather(names), *rules])
+    records = [(name, [f"touch {name}"], [file, *chosen]) for name, file, chosen in zip(names, files, needed)]
+    return Build(text, [*headers, *files], records)
+
+
+def forgotten(count: int) -> Build:
+    """The same with all headers forgotten."""
+    return inferred(count, told=False)
+
+
+def waiting(count: int) -> Build:
+    """Objects that read a header which a recipe makes before them, by `.WAIT` alone."""
+    names, files = [f"verdicts/x{n}.o" for n in range(count)], [f"verdicts/x{n}.c" for n in range(count)]
+    header = "verdicts/config.h"
+    rules = [recipe(name, [file]) for name, file in zip(names, files)]
+    text = "".join([f"all: {header} .WAIT\n", gather(names), recipe(header, []), *rules])
+    records = [(header, [f"touch {header}"], []), *((name, [f"touch {name}"], [file, header]) for name, file in zip(names, files))]
+    return Build(text, files, records)
+
+
+def large(count: int) -> Build:
+    """Targets with commands of 8 KB, and a source each."""
+    names, files = [f"verdicts/y{n}" for n in range(count)], [f"verdicts/y{n}.c" for n in range(count)]
+    option = " ".join(f"-Dname{number}=value{number}" for number in range(470))
+    records = [(name, [f"cc {option} {name}"], [file]) for name, file in zip(names, files)]
+    rules = [f"{name}: {file}\n\t{commands[0]}\n" for (name, commands, _), file in zip(records, files)]
+    return Build(gather(names) + "".join(rules), files, records)
+
+
+def far(count: int) -> Build:
+    """A chain in which each reads the 40 below it: its certificate has tens of MB."""
+    names = [f"f{number}" for number in range(count)]
+    rules = [recipe(name, below) for name, below in zip(names, [*([name] for name in names[1:]), []])]
+    records = [(name, [f"touch {name}"], names[number + 1 : number + 41]) for number, name in enumerate(names)]
+    return Build("".join(rules), [], records)
+
+
+# Each shape with its largest size, and the statuses that `check` ends with.
+SHAPES: list[tuple[Callable[[int], Build], int, int]] = [
+    (flat, 4000, 0),
+    (deep, 4000, 0),
+    (layered, 60, 0),
+    (inferred, 2000, 0),
+    (waiting, 1900, 1),
+    (forgotten, 2000, 1),
+    (large, 3900 // 2, 0),
+    (far, 1500, 0),
+]
+
+
+@dataclass(frozen=True)
+class Figures:
+    """What is read and written in megabytes; mkcheck; the faster make; Python's json."""
+
+    size: float
+    own: Measure
+    make: float
+    json: float
+
+    def ratio(self) -> float:
+        """The time of mkcheck divided by that of the others together."""
+        return self.own.time / (self.make + self.json)
+
+
+def spent(command: list[str], statuses: set[int], output: Path) -> resource.struct_rusage:
+    """Runs a command, and ends the benchmark where it ends with another status."""
+    environment = {"PATH": os.environ.get("PATH", os.defpath), "LC_ALL": "C"}
+    with output.open("wb") as stream:
+        pid = os.posix_spawn(command[0], command, environment, file_actions=[(os.POSIX_SPAWN_DUP2, stream.fileno(), 1)])
+    _, status, usage = os.wait4(pid, 0)
+    if os.waitstatus_to_exitcode(status) not in statuses:
+        sys.exit(f"bench: {' '.join(command)}: status {os.waitstatus_to_exitcode(status)}")
+    return usage
+
+
+def json_time(book: Path) -> float:
+    """The processor time that Python takes to read the footprints, in milliseconds."""
+    code = "import json,sys,time\nf=open(sys.argv[1]);s=time.process_time();json.load(f);print(time.process_time()-s)"
+    done = subprocess.run([sys.executable, "-c", code, book], capture_output=True, text=True, check=True)
+    return 1000 * float(done.stdout)
+
+
+def written(build: Build, label: str) -> tuple[Path, Path]:
+    """Writes the makefile, its sources and the footprints."""
+    makefile, book = DATA / f"{label}.mk", DATA / f"{label}.json"
+    makefile.write_text(build.text)
+    book.write_text(build.book())
+    for name in build.sources:
+        file = DATA / name
+        file.parent.mkdir(exist_ok=True)
+        file.touch()
+    return makefile, book
+
+
+def measure(build: Build, label: str, status: int, measured: list[Tool]) -> Figures:
+    """The tools take turns; the least time of each counts."""
+    makefile, book = written(build, label)
+    check = [measured[0].path, "check", "-f", makefile.name, "-b", book.name]
+    output = DATA / "output"
+    spent(check, {status}, output)
+    size = (makefile.stat().st_size + book.stat().st_size + output.stat().st_size) / 2**20
+    own, others, loads = [], {tool.name: [] for tool in measured[1:]}, []
+    for _ in range(RUNS):
+        own.append(spent(check, {status}, Path(os.devnull)))
+        for tool in measured[1:]:
+            others[tool.name].append(spent([tool.path, *tool.arguments, makefile.name], {0}, Path(os.devnull)))
+        loads.append(json_time(book))
+    return Figures(size, summary(own), min(summary(taken).time for taken in others.values()), min(loads))
+
+
+def main() -> None:
+    measured = asked(__doc__)
+    DATA.mkdir(exist_ok=True)
+    os.chdir(DATA)
+    print(f"processor time, least of {RUNS} runs; {', '.join(tool.path for tool in measured)}")
+    print(f"{'build':<18}{'MB':>6}{'check ms':>10}{'make ms':>9}{'json ms':>9}{'ratio':>7}{'growth':>8}{'memory MB':>11}{'by MB':>7}")
+    for shape, count, status in SHAPES:
+        half = measure(shape(count // 2), "half", status, measured)
+        whole = measure(shape(count), "whole", status, measured)
+        by_size = f"{whole.own.memory / whole.size:>7.1f}" if whole.size >= LARGE else ""
+        growth = whole.own.time / half.own.time
+        label = f"{shape.__name__} {count}"
+        print(f"{label:<18}{whole.size:>6.1f}{whole.own.time:>10.1f}{whole.make:>9.1f}{whole.json:>9.1f}{whole.ratio():>7.2f}{growth:>8.1f}{whole.own.memory:>11.0f}{by_size}", flush=True)
+    print(f"{'at most':<52}{RATIO_BOUND:>7.2f}{GROWTH_BOUND:>8.1f}{MEMORY_BOUND:>18.1f}")
+
+
+if __name__ == "__main__":
+    main()

@@ -1,0 +1,88 @@
+-- What is answered to a build that is judged.
+use Rattle.std.proofs.Common.{◌≡◌, ◌⊎◌, ◌∙◌, ℕ, true, false, List, Option, None, Some, Result, Ok, Err, Vec, map, inl, inr, refl, sym, ap, subst}
+use Rattle.std.specs.declared.alloc.Global.{Global}
+use Rattle.std.specs.Prelude.{⊤}
+use Rattle.std.specs.Option.{ok_or}
+use Rattle.mk_graph.specs.Graph as value
+use Rattle.mk_graph.specs.Graph.{IsGraph}
+use Rattle.mk_cert.specs.Entry.{IsFaultOf}
+use Rattle.mk_cert.specs.Laws.{SelectedGoals}
+use Rattle.mk_cert.specs.Subject.{Subject, IsSubject, name_of}
+use Rattle.mk_cert.specs.Verdict.{Verifies}
+use Rattle.mk_cert.specs.declared.fault.CertFault.{CertFault}
+use Rattle.mk_infer.specs.Selection.{Selects}
+use Rattle.mk_infer.specs.Steps as inferring
+use Rattle.mk_infer.specs.declared.fault.InferFault.{InferFault}
+use Rattle.mk_read.specs.declared.fault.ReadFault.{ReadFault}
+use Rattle.mk_read.specs.Files.{Told, text_at}
+use Rattle.mk_ways.specs.Certificate.{Certificate}
+use Rattle.mk_ways.specs.Reading.{certificate_from}
+use Rattle.mk_ways.specs.declared.fault.CertificateFault.{CertificateFault}
+use Rattle.mk_core.specs.declared.fault.Fault.{Fault}
+use Rattle.mk_core.specs.declared.fault.Fault.TheVariants.{Read, NoFile, Memory}
+use Rattle.mk_core.specs.Answer.{failing_of}
+use Rattle.mk_core.specs.CheckAnswer.{GivesVerdict}
+use Rattle.mk_core.specs.FileText.{text_of}
+use Rattle.mk_core.specs.Judging.{AnswersJudged, AnswersTold, recorded, subject_over}
+use Rattle.mk_core.specs.Ready.{Ready}
+use Rattle.mk_core.specs.Steps.{of_infer, seen}
+use Rattle.mk_core.specs.VerifyAnswer.{VerifiesCertificate, VerifiesText, accepted}
+use Rattle.mk_core.specs.Views.{Selected}
+use Rattle.mk_core.proofs.Faults.{by_infer}
+
+-- ---- none of these answers is a fault of a makefile
+
+pub judged_not_read : {A : Type 0} (judges : Subject → Result A Fault → Type 0) (ready : Ready) (f : ReadFault) → ((x : Subject) → judges x (Err (Read f)) → ⊥) → AnswersJudged judges ready (Err (Read f)) → ⊥
+judged_not_read judges ready f none (Ok g, s, inl (is_graph, is_subject, h)) = none (subject_over ready g) h
+judged_not_read judges ready f none (Ok g, s, inr (fault, first, e)) = absurd cc
+judged_not_read judges ready f none (Err fault, s, (settled, e)) = absurd cc
+
+pub verdict_not_read : (x : Subject) (f : ReadFault) → GivesVerdict x (Err (Read f)) → ⊥
+verdict_not_read x f (verdict, is, e) = absurd cc
+
+pub verified_not_read : (files : Told) (name : List ℕ) (x : Subject) (f : ReadFault) → VerifiesText x (text_of files None name) (Err (Read f)) → ⊥
+verified_not_read files name x f h = by (text_at files name) h
+  where
+    of_verdict : (verdict : Result ⊤ CertFault) → Err (Read f) ≡ accepted x verdict → ⊥
+    of_verdict (Ok done) e = absurd cc
+    of_verdict (Err why) e = absurd cc
+
+    of_certificate : (r : Result Certificate CertificateFault) → VerifiesCertificate x r (Err (Read f)) → ⊥
+    of_certificate (Ok certificate) (verdict, v, e) = of_verdict verdict e
+    of_certificate (Err why) e = absurd cc
+
+    by : (text : Option (List ℕ)) → VerifiesText x (ok_or text (NoFile name)) (Err (Read f)) → ⊥
+    by None e = absurd cc
+    by (Some text) v = of_certificate (certificate_from text) v
+
+-- ---- the build of a graph
+
+module _ {A : Type 0} (judges : Subject → Result A Fault → Type 0) where
+  -- some commands can't be told
+  pub told_fails : (x : Subject) (fault : InferFault) → IsFaultOf x fault → (◌≡◌ {A = Result A Fault} (Err (of_infer fault)) (Err Memory)) ⊎ AnswersTold judges x (Err (of_infer fault))
+  told_fails x fault (inl e) =
+      by_infer (λ f. (◌≡◌ {A = Result A Fault} (Err f) (Err Memory)) ⊎ AnswersTold judges x (Err f)) fault (inl refl) (λ settled. let k : true ≡ false = ap inferring.is_want_of_memory (sym e) ∙ settled in absurd cc)
+  told_fails x fault (inr first) =
+      by_infer (λ f. (◌≡◌ {A = Result A Fault} (Err f) (Err Memory)) ⊎ AnswersTold judges x (Err f)) fault (inl refl) (λ settled. inr (inr (fault, first, refl)))
+
+  -- all can be told
+  pub told_well : (x : Subject) → IsGraph x.graph → IsSubject x → (answer : Result A Fault) → (answer ≡ Err Memory) ⊎ judges x answer → (answer ≡ Err Memory) ⊎ AnswersTold judges x answer
+  told_well x is_graph is_subject answer (inl k) = inl k
+  told_well x is_graph is_subject answer (inr h) = inr (inl (is_graph, is_subject, h))
+
+  module _ (ready : Ready) where
+    -- the goals have no graph
+    pub no_graph : (fault : InferFault) → Selected (recorded ready) ready (Err fault) → (◌≡◌ {A = Result A Fault} (Err (of_infer fault)) (Err Memory)) ⊎ AnswersJudged judges ready (Err (of_infer fault))
+    no_graph fault s =
+        by_infer (λ f. (◌≡◌ {A = Result A Fault} (Err f) (Err Memory)) ⊎ AnswersJudged judges ready (Err f)) fault (inl refl) (λ settled. inr (Err fault, s settled, (settled, refl)))
+
+    -- they have one, and its build is judged
+    pub over_graph : (g : value.Graph) → Selected (recorded ready) ready (Ok g) → (answer : Result A Fault) → (answer ≡ Err Memory) ⊎ AnswersTold judges (subject_over ready g) answer
+        → (answer ≡ Err Memory) ⊎ AnswersJudged judges ready answer
+    over_graph g s answer (inl k) = inl k
+    over_graph g s answer (inr h) = inr (Ok g, s, h)
+
+-- the goals of the graph are those that were asked for
+pub as_goals : SelectedGoals → (ready : Ready) (g : value.Graph) → Selects ready.makefile (recorded ready) ready.goals (Ok g)
+    → Selects ready.makefile (recorded ready) (map (name_of (subject_over ready g)) g.goals) (Ok g)
+as_goals law ready g s = subst (λ (goals : List (List ℕ)). Selects ready.makefile (recorded ready) goals (Ok g)) (sym (law ready.makefile (recorded ready) ready.goals g s)) s
