@@ -109,11 +109,14 @@ program =
           { no_binary_name = true; subcommand_required = true; disable_help_subcommand = true };
     }
 
+-- with the subcommands that judge a build
+abbrev pub with_judging : App → App
+with_judging app = with_subcommand (with_subcommand app check_command.top) verify_command.top
+
 -- `mkcheck` with these subcommands
 abbrev pub command_line : App
 command_line =
-    with_subcommand (with_subcommand (with_subcommand (with_subcommand program graph_command.top)
-    check_command.top) verify_command.top) simulate_command.top
+    with_subcommand (with_judging (with_subcommand program graph_command.top)) simulate_command.top
 
 -- a word of `-` and more is read as an option, or as `--`
 abbrev pub is_option : List ℕ → Bool

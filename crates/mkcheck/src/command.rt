@@ -3,7 +3,7 @@
 ghost use Rattle.std.specs.Prelude.{◌≡◌, IfOk, false};
 ghost use Rattle.clap.specs.Words.{app_of, rule_of};
 ghost use Rattle.clap.specs.declared.builder.command.Command.TheViews.{out-Command as fields_of};
-ghost use Rattle.mkcheck.specs.CommandLine.{book_option, certificate_option, check_command, command_line, commands_option, graph_command, makefile_option, named_check, named_graph, named_program, named_simulate, named_verify, needed_book_option, no_defaults_option, only_certificate_option, plan_option, program, simulate_command, verify_command, with_reading, words_argument};
+ghost use Rattle.mkcheck.specs.CommandLine.{book_option, certificate_option, check_command, command_line, commands_option, graph_command, makefile_option, named_check, named_graph, named_program, named_simulate, named_verify, needed_book_option, no_defaults_option, only_certificate_option, plan_option, program, simulate_command, verify_command, with_judging, with_reading, words_argument};
 
 use clap::{Arg, ArgAction, Command};
 use std::alloc::{AllocError, Global};
@@ -239,6 +239,17 @@ fn program<'a>(alloc: Global) -> Command<'a>
         .disable_help_subcommand(true)
 }
 
+// A command with the subcommands that judge a build.
+fn with_judging<'a>(alloc: Global, command: Command<'a>) -> Result<Command<'a>, AllocError>
+    requires { (fields_of command).has_globals ≡ false }
+    ensures app { IfOk result (λ c. app_of c ≡ with_judging (app_of command.entry)) }
+    ensures local { IfOk result (λ c. (fields_of c).has_globals ≡ false) }
+{
+    command
+        .subcommand(check_command(alloc)?)?
+        .subcommand(verify_command(alloc)?)
+}
+
 /// The command line of the program: `graph [-f F] [-r] [-b BOOK] [-c] [WORD..]`, `check [-f F]
 /// [-r] -b BOOK [-c] [WORD..]`, `verify [-f F] [-r] -b BOOK -k CERT [WORD..]`, `simulate [-f F]
 /// [-r] -b BOOK -p PLAN [WORD..]`, `--help` and `--version`. It reads the words behind the
@@ -247,9 +258,6 @@ pub fn command_line<'a>(alloc: Global) -> Result<Command<'a>, AllocError>
     ensures app { IfOk result (λ c. app_of c ≡ command_line) }
     ensures local { IfOk result (λ c. (fields_of c).has_globals ≡ false) }
 {
-    program(alloc)
-        .subcommand(graph_command(alloc)?)?
-        .subcommand(check_command(alloc)?)?
-        .subcommand(verify_command(alloc)?)?
-        .subcommand(simulate_command(alloc)?)
+    let drawing = program(alloc).subcommand(graph_command(alloc)?)?;
+    with_judging(alloc, drawing)?.subcommand(simulate_command(alloc)?)
 }

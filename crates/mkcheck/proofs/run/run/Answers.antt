@@ -48,6 +48,15 @@ returns-in-Err-clause-plain g c =
     IfOk-weaker c.explained.result _ _ (λ outcome h makefile asked is plain few.
     absurd (subst (IsAmong (kind_of c.in-Err.error)) (ap faults_of is ∙ plain_taken makefile asked plain few) (explained_kind _ _ _ h kinds))) c.explained.ensures
 
+pub returns-in-Ok-clause-taken : goal.returns-in-Ok-clause-taken
+returns-in-Ok-clause-taken g c =
+    let app = c.in_ok-command.ensures.app in
+    let words = map g.S.AsStr.text c.args.words.now in
+    let met = (c.in-Ok.ensures.matches (ap is_simple app ∙ is_simple_command)).1 ∙ ap (λ (a : App). subcommand_of a words) app in
+    IfOk-weaker c.answered.result _ _ (λ outcome h taken.
+    subst (λ (a : Asked). IsAnswered (g.F.Files.told c.args.files.now) (g.F.Files.failed c.args.files.now) (g.F.Files.failed c.answered.new.files) a (written outcome))
+    (ap asked_with met) h) c.answered.ensures.answered
+
 pub returns-in-Ok-clause-right : goal.returns-in-Ok-clause-right
 returns-in-Ok-clause-right g c =
     let app = c.in_ok-command.ensures.app in
