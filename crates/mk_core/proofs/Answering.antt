@@ -40,17 +40,12 @@ module _ (asked : Bool) (ready : Ready) where
   graph_printed g (Err fault) s (inl k) = λ settled. let e : true ≡ false = ap inferring.is_want_of_memory (sym k) ∙ settled in absurd cc
   graph_printed g (Err fault) s (inr h) = λ settled. (Ok g, s, sym h)
 
--- the command `graph` answers no fault of a makefile
-pub graph_not_read : (asked : Bool) (ready : Ready) (f : ReadFault) → AnswersGraph asked ready (Err (Read f)) → ⊥
-graph_not_read asked ready f (Ok text, s, e) = absurd cc
-graph_not_read asked ready f (Err fault, s, e) = absurd cc
-
 -- the fault of an answer
 abbrev of_error : {A : Type 0} → Result A Fault → Fault
 of_error (Ok x) = Memory
 of_error (Err fault) = fault
 
-fault_same : {A B : Type 0} (one other : Fault) → ◌≡◌ {A = Result A Fault} (Err one) (Err other) → ◌≡◌ {A = Result B Fault} (Err one) (Err other)
+pub fault_same : {A B : Type 0} (one other : Fault) → ◌≡◌ {A = Result A Fault} (Err one) (Err other) → ◌≡◌ {A = Result B Fault} (Err one) (Err other)
 fault_same {A} {B} one other h = ap (λ (f : Fault). Err f) (ap (of_error {A = A}) h)
 
 -- ---- what is ready
@@ -195,13 +190,14 @@ module _ {A : Type 0} (files : Told) (request : Request) (answers : Ready → Re
 
 -- ---- an answer as a contract sees it
 
-module _ {A B : Type 0} (f : A → B) (files : Told) (request : Request) (answers : Ready → Result B Fault → Type 0) where
-  drawn_seen : (r : Result Ready Fault) (answer : Result A Fault) → Draws (λ ready one. answers ready (seen f one)) r answer → Draws answers r (seen f answer)
-  drawn_seen (Ok ready) answer d = d
+module _ {A B : Type 0} (f : A → B) (files : Told) (request : Request) (one : Ready → Result A Fault → Type 0) (other : Ready → Result B Fault → Type 0)
+    (turn : (ready : Ready) (answer : Result A Fault) → one ready answer → other ready (seen f answer)) where
+  drawn_seen : (r : Result Ready Fault) (answer : Result A Fault) → Draws one r answer → Draws other r (seen f answer)
+  drawn_seen (Ok ready) answer d = turn ready answer d
   drawn_seen (Err fault) (Ok x) d = absurd cc
-  drawn_seen (Err fault) (Err other) d = fault_same other fault d
+  drawn_seen (Err fault) (Err also) d = fault_same also fault d
 
-  pub seen_answers : (answer : Result A Fault) → Answers files request (λ ready one. answers ready (seen f one)) answer → Answers files request answers (seen f answer)
+  pub seen_answers : (answer : Result A Fault) → Answers files request one answer → Answers files request other (seen f answer)
   seen_answers (Ok x) a = drawn_seen (ready_for files None request) (Ok x) a
   seen_answers (Err Memory) a = tt
   seen_answers (Err (Read fault)) a = a

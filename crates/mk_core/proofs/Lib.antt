@@ -5,6 +5,6 @@ pub mod Answering
 pub mod OneAnswer
 pub mod Finding
 pub mod Simulating
-pub mod Judging
+pub mod Builds
 pub mod Promising
 pub mod OneVerdict

@@ -26,17 +26,3 @@ module _ (files : Told) (plan : List ℕ) (ready : Ready) where
   pub over_graph : (g : value.Graph) → Selected (exists ready) ready (Ok g) → (answer : Result Simulation Fault) → RunsTextOver files plan g ready.setting answer → SimulatesOver files plan ready answer
   over_graph g s answer (inl k) = inl k
   over_graph g s answer (inr h) = inr (Ok g, s, h)
-
--- ---- the command `simulate` answers no fault of a makefile
-
-pub simulation_not_read : (files : Told) (plan : List ℕ) (ready : Ready) (f : ReadFault) → AnswersSimulation files plan ready (Err (Read f)) → ⊥
-simulation_not_read files plan ready f (Err fault, s, (settled, e)) = absurd cc
-simulation_not_read files plan ready f (Ok g, s, runs) = by (text_at files plan) runs
-  where
-    of_lines : (r : Result (List PlanLine) PlanFault) → RunsLines g ready.setting r (Err (Read f)) → ⊥
-    of_lines (Ok lines) (shown, run, e) = absurd cc
-    of_lines (Err fault) e = absurd cc
-
-    by : (text : Option (List ℕ)) → RunsText g ready.setting (ok_or text (NoFile plan)) (Err (Read f)) → ⊥
-    by None e = absurd cc
-    by (Some text) h = of_lines (plan_of text) h

@@ -16,5 +16,6 @@ pub mod CheckAnswer
 pub mod VerdictText
 pub mod VerifyAnswer
 pub mod Right
+pub mod NotRead
 pub mod Views
 pub mod Laws

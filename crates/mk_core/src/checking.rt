@@ -1,7 +1,7 @@
 //! The verdict on a build.
 
 ghost use Rattle.std.specs.Prelude.{◌≡◌, ◌<◌, ◌-◌, ◌^◌, true, IfErr, IfOk, IfSome, OnOk};
-ghost use Rattle.mk_core.proofs.Judging.{verdict_not_read};
+ghost use Rattle.mk_core.specs.NotRead.{verdict_not_read};
 ghost use Rattle.mk_core.specs.Answer.{Answers, Counts};
 ghost use Rattle.mk_core.specs.CheckAnswer.{AnswersCheck, GivesVerdict, IsVerdict, IsYes};
 ghost use Rattle.mk_core.specs.Right.{IsRightFor};

@@ -22,7 +22,7 @@ pub(crate) trait Command {
     type Answer: Drop;
 
     /// Over files that are told, the answers to what is ready.
-    ghost answers: { Self → Told → ReadyValue → Result Answer faults.Fault → Type 0 };
+    ghost answers: { Self → Told → ReadyValue → Result Self.Answer faults.Fault → Type 0 };
 
     /// The answer to what is ready. It may read files that are no makefile.
     fn answer<F: Files>(

@@ -1,7 +1,7 @@
 //! The answer to a request for a graph.
 
 ghost use Rattle.std.specs.Prelude.{◌≡◌, ◌<◌, ◌-◌, ◌^◌, ℕ, true, IfErr, IfSome};
-ghost use Rattle.mk_core.proofs.Answering.{graph_not_read};
+ghost use Rattle.mk_core.specs.NotRead.{graph_not_read};
 ghost use Rattle.mk_core.specs.Answer.{Answers, Counts};
 ghost use Rattle.mk_core.specs.GraphAnswer.{AnswersGraph};
 ghost use Rattle.mk_core.specs.Steps.{is_want_of_memory, seen};

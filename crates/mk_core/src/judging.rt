@@ -5,7 +5,7 @@ ghost use Rattle.mk_cert.specs.Subject.{Subject as SubjectValue};
 ghost use Rattle.mk_infer.specs.Selection.{Selects};
 ghost use Rattle.mk_read.specs.Files.{Told};
 ghost use Rattle.mk_read.specs.declared.fault.ReadFault as read;
-ghost use Rattle.mk_core.proofs.Judging.{judged_not_read};
+ghost use Rattle.mk_core.specs.NotRead.{judged_not_read};
 ghost use Rattle.mk_core.specs.Answer.{Counts};
 ghost use Rattle.mk_core.specs.Judging.{AnswersJudged, AnswersTold, recorded, subject_over};
 ghost use Rattle.mk_core.specs.Steps.{is_want_of_memory};
@@ -28,7 +28,7 @@ pub(crate) trait Judge {
     type Answer: Drop;
 
     /// Over files that are told, the answers to a build.
-    ghost judges: { Self → Told → SubjectValue → Result Answer faults.Fault → Type 0 };
+    ghost judges: { Self → Told → SubjectValue → Result Self.Answer faults.Fault → Type 0 };
 
     /// The answer to a build. It may read files that are no makefile.
     fn judge<F: Files>(

@@ -3,7 +3,7 @@
 ghost use Rattle.std.specs.Prelude.{◌≡◌, ◌<◌, ◌-◌, ◌^◌, true, IfErr, IfOk, IfSome};
 ghost use Rattle.mk_world.specs.Running.{stage_of};
 ghost use Rattle.mk_world.specs.State.{world_of};
-ghost use Rattle.mk_core.proofs.Simulating.{simulation_not_read};
+ghost use Rattle.mk_core.specs.NotRead.{simulation_not_read};
 ghost use Rattle.mk_core.specs.Answer.{Answers, Counts};
 ghost use Rattle.mk_core.specs.Simulation.{ShowsRun, last_lines};
 ghost use Rattle.mk_core.specs.SimulationAnswer.{AnswersSimulation};

@@ -1,7 +1,7 @@
 //! The answer to a certificate.
 
 ghost use Rattle.std.specs.Prelude.{◌≡◌, ◌⊎◌, ◌<◌, ◌-◌, ◌^◌, ℕ, true, Err, IfErr, IfOk, IfSome, OnOk};
-ghost use Rattle.mk_core.proofs.Judging.{verified_not_read};
+ghost use Rattle.mk_core.specs.NotRead.{verified_not_read};
 ghost use Rattle.mk_core.specs.Answer.{Answers, Counts, failing_of};
 ghost use Rattle.mk_core.specs.FileText.{text_of};
 ghost use Rattle.mk_core.specs.Right.{IsRightFor};

@@ -1,7 +1,8 @@
-use Rattle.std.proofs.Common.{IfSome, refl, subst}
+use Rattle.std.proofs.Common.{IfSome, Ok, Err, refl, subst}
 use Rattle.std.proofs.lemmas.Result.{err_from_is_err_and}
 use Rattle.mk_foot.specs.Setting.{Setting}
-use Rattle.mk_core.specs.Views.{RunsTextOver}
+use Rattle.mk_infer.specs.There.{Exists}
+use Rattle.mk_core.specs.Views.{RunsTextOver, Selected}
 use Rattle.mk_core.proofs.Faults.{plain_infer, some_all, some_with, stays_infer}
 use Rattle.mk_core.proofs.Simulating.{no_graph, over_graph}
 use Rattle.mk_core.proofs.simulation.simulated.Goals as goal
@@ -9,7 +10,10 @@ use Rattle.mk_core.proofs.simulation.simulated.Goals as goal
 pub returns-in_err-graph-clause-answer : goal.returns-in_err-graph-clause-answer
 returns-in_err-graph-clause-answer g c =
     let p = err_from_is_err_and c.from_residual.result c.from_residual.ensures.1 in
-    rw (p.1, p.2) (some_all (g.F.Files.told c.args.files.now) (λ told. no_graph told c.args.plan.now c.args.ready.now c.in_err-graph.field-0.0 c.in_err-graph.ensures))
+    let ready = c.args.ready.now in
+    let fault = c.in_err-graph.field-0.0 in
+    let selected = subst (λ (e : Exists). Selected e ready (Err fault)) c.exists.ensures c.in_err-graph.ensures in
+    rw (p.1, p.2) (some_all (g.F.Files.told c.args.files.now) (λ told. no_graph told c.args.plan.now ready fault selected))
 
 pub returns-in_err-graph-clause-memory : goal.returns-in_err-graph-clause-memory
 returns-in_err-graph-clause-memory g c =
@@ -28,4 +32,5 @@ returns-clause-answer g c =
     let graph = c.in_ok-graph.graph in
     let found = c.run_file.result in
     let over_it = subst (λ (s : Setting). IfSome (g.F.Files.told c.args.files.now) (λ told. RunsTextOver told plan graph s found)) c.setting.ensures c.run_file.ensures.answer in
-    some_with {P = λ told. RunsTextOver told plan graph ready.setting found} (g.F.Files.told c.args.files.now) over_it (λ told h. over_graph told plan ready graph c.in_ok-graph.ensures found h)
+    let selected = subst (λ (e : Exists). Selected e ready (Ok graph)) c.exists.ensures c.in_ok-graph.ensures in
+    some_with {P = λ told. RunsTextOver told plan graph ready.setting found} (g.F.Files.told c.args.files.now) over_it (λ told h. over_graph told plan ready graph selected found h)

@@ -7,53 +7,32 @@ use Rattle.mk_graph.specs.Graph as value
 use Rattle.mk_graph.specs.Graph.{IsGraph}
 use Rattle.mk_cert.specs.Entry.{IsFaultOf}
 use Rattle.mk_cert.specs.Laws.{SelectedGoals}
-use Rattle.mk_cert.specs.Subject.{Subject, IsSubject, name_of}
+use Rattle.mk_cert.specs.Subject.{Subject, IsSubject, name_of, subject_of}
+use Rattle.mk_foot.specs.Setting.{Setting}
 use Rattle.mk_cert.specs.Verdict.{Verifies}
 use Rattle.mk_cert.specs.declared.fault.CertFault.{CertFault}
 use Rattle.mk_infer.specs.Selection.{Selects}
+use Rattle.mk_infer.specs.There.{Exists}
 use Rattle.mk_infer.specs.Steps as inferring
 use Rattle.mk_infer.specs.declared.fault.InferFault.{InferFault}
 use Rattle.mk_read.specs.declared.fault.ReadFault.{ReadFault}
-use Rattle.mk_read.specs.Files.{Told, text_at}
+use Rattle.mk_read.specs.Files.{Told}
+use Rattle.mk_read.specs.Reading.{Makefile}
 use Rattle.mk_ways.specs.Certificate.{Certificate}
 use Rattle.mk_ways.specs.Reading.{certificate_from}
 use Rattle.mk_ways.specs.declared.fault.CertificateFault.{CertificateFault}
 use Rattle.mk_core.specs.declared.fault.Fault.{Fault}
-use Rattle.mk_core.specs.declared.fault.Fault.TheVariants.{Read, NoFile, Memory}
+use Rattle.mk_core.specs.declared.fault.Fault.TheVariants.{Read, Infer, NoFile, Memory}
 use Rattle.mk_core.specs.Answer.{failing_of}
 use Rattle.mk_core.specs.CheckAnswer.{GivesVerdict}
 use Rattle.mk_core.specs.FileText.{text_of}
 use Rattle.mk_core.specs.Judging.{AnswersJudged, AnswersTold, recorded, subject_over}
 use Rattle.mk_core.specs.Ready.{Ready}
 use Rattle.mk_core.specs.Steps.{of_infer, seen}
-use Rattle.mk_core.specs.VerifyAnswer.{VerifiesCertificate, VerifiesText, accepted}
+use Rattle.mk_core.specs.VerifyAnswer.{AnswersVerify, VerifiesCertificate, VerifiesText, accepted}
 use Rattle.mk_core.specs.Views.{Selected}
+use Rattle.mk_core.proofs.Answering.{fault_same}
 use Rattle.mk_core.proofs.Faults.{by_infer}
-
--- ---- none of these answers is a fault of a makefile
-
-pub judged_not_read : {A : Type 0} (judges : Subject → Result A Fault → Type 0) (ready : Ready) (f : ReadFault) → ((x : Subject) → judges x (Err (Read f)) → ⊥) → AnswersJudged judges ready (Err (Read f)) → ⊥
-judged_not_read judges ready f none (Ok g, s, inl (is_graph, is_subject, h)) = none (subject_over ready g) h
-judged_not_read judges ready f none (Ok g, s, inr (fault, first, e)) = absurd cc
-judged_not_read judges ready f none (Err fault, s, (settled, e)) = absurd cc
-
-pub verdict_not_read : (x : Subject) (f : ReadFault) → GivesVerdict x (Err (Read f)) → ⊥
-verdict_not_read x f (verdict, is, e) = absurd cc
-
-pub verified_not_read : (files : Told) (name : List ℕ) (x : Subject) (f : ReadFault) → VerifiesText x (text_of files None name) (Err (Read f)) → ⊥
-verified_not_read files name x f h = by (text_at files name) h
-  where
-    of_verdict : (verdict : Result ⊤ CertFault) → Err (Read f) ≡ accepted x verdict → ⊥
-    of_verdict (Ok done) e = absurd cc
-    of_verdict (Err why) e = absurd cc
-
-    of_certificate : (r : Result Certificate CertificateFault) → VerifiesCertificate x r (Err (Read f)) → ⊥
-    of_certificate (Ok certificate) (verdict, v, e) = of_verdict verdict e
-    of_certificate (Err why) e = absurd cc
-
-    by : (text : Option (List ℕ)) → VerifiesText x (ok_or text (NoFile name)) (Err (Read f)) → ⊥
-    by None e = absurd cc
-    by (Some text) v = of_certificate (certificate_from text) v
 
 -- ---- the build of a graph
 
@@ -82,7 +61,26 @@ module _ {A : Type 0} (judges : Subject → Result A Fault → Type 0) where
     over_graph g s answer (inl k) = inl k
     over_graph g s answer (inr h) = inr (Ok g, s, h)
 
+-- a subject of equal parts
+pub same_subject : (m n : Makefile) (e f : Exists) (g : value.Graph) (s t : Setting) → m ≡ n → e ≡ f → s ≡ t → subject_of m e g s ≡ subject_of n f g t
+same_subject m n e f g s t one two three = rw (one, two, three) refl
+
 -- the goals of the graph are those that were asked for
 pub as_goals : SelectedGoals → (ready : Ready) (g : value.Graph) → Selects ready.makefile (recorded ready) ready.goals (Ok g)
     → Selects ready.makefile (recorded ready) (map (name_of (subject_over ready g)) g.goals) (Ok g)
 as_goals law ready g s = subst (λ (goals : List (List ℕ)). Selects ready.makefile (recorded ready) goals (Ok g)) (sym (law ready.makefile (recorded ready) ready.goals g s)) s
+
+-- ---- a certificate's answer as a contract sees it
+
+module _ {A : Type 0} (f : A → List ℕ) (files : Told) (name : List ℕ) (ready : Ready) where
+  -- an answer, seen, to a certificate
+  abbrev seen_judges : Subject → Result A Fault → Type 0
+  seen_judges x answer = VerifiesText x (text_of files (failing_of answer) name) (seen f answer)
+
+  pub seen_verify : (answer : Result A Fault) → AnswersJudged seen_judges ready answer → AnswersVerify files name ready (seen f answer)
+  seen_verify (Ok a) (Ok g, s, inl (is_graph, is_subject, v)) = (Ok g, s, inl (is_graph, is_subject, v))
+  seen_verify (Ok a) (Ok g, s, inr (fault, first, e)) = absurd cc
+  seen_verify (Ok a) (Err fault, s, (settled, e)) = absurd cc
+  seen_verify (Err also) (Ok g, s, inl (is_graph, is_subject, v)) = (Ok g, s, inl (is_graph, is_subject, v))
+  seen_verify (Err also) (Ok g, s, inr (fault, first, e)) = (Ok g, s, inr (fault, first, fault_same also (Infer fault) e))
+  seen_verify (Err also) (Err fault, s, (settled, e)) = (Err fault, s, (settled, fault_same also (Infer fault) e))
