@@ -1,16 +1,21 @@
 -- What the parts of a run make together.
-use Rattle.std.proofs.Common.{◌≡◌, ◌⊎◌, ◌∙◌, ℕ, true, List, Option, Some, None, refl, sym, ap, ap₂, subst, inl, inr, Result, Ok, Err, IfOk}
-use Rattle.std.specs.Prelude.{unwrap_or}
+use Rattle.std.proofs.Common.{◌≡◌, ◌⊎◌, ◌∙◌, ℕ, Bool, true, true≢false, nat_eq, List, Option, Some, None, refl, sym, ap, ap₂, subst, inl, inr, Result, Ok, Err, IfOk}
+use Rattle.std.specs.Prelude.{IfSome, unwrap_or}
 use Rattle.std.specs.Option.{option_map}
 use Rattle.clap.specs.Words.{IsAmong, Kinds, Row, Text, is_simple, is_simple_and_free}
 use Rattle.clap.specs.declared.error.ErrorKind.{ErrorKind}
 use Rattle.clap.specs.declared.error.ErrorKind.TheVariants.{OutOfMemory}
 use Rattle.clap.proofs.OnLiterals.{clap_on_literals}
 use Rattle.mk_core.specs.Answer.{Counts}
+use Rattle.mk_core.specs.Files.{Told}
 use Rattle.mk_core.specs.Steps.{seen}
 use Rattle.mk_core.specs.declared.fault.Fault.{Fault}
+use Rattle.mk_core.specs.declared.fault.Fault.TheVariants.{Memory}
+use Rattle.mk_core.specs.declared.request.Request.{Request}
+use Rattle.mkcheck.specs.declared.asked.Asked.{Asked}
+use Rattle.mkcheck.specs.declared.asked.Asked.TheVariants.{Check}
 use Rattle.mkcheck.specs.CommandLine.{command_line}
-use Rattle.mkcheck.specs.Run.{Explains, Written}
+use Rattle.mkcheck.specs.Run.{AnswersAsked, Explains, Promises, Shown, Shows, Written}
 
 -- the port says which words the command line takes
 pub is_simple_line : is_simple_and_free command_line ≡ true
@@ -35,6 +40,19 @@ is_simple_command = refl
 pub counts_seen : {X Y : Type 0} (view : X → Y) (old new : ℕ) (r : Result X Fault) → Counts old new r → Counts old new (seen view r)
 counts_seen view old new (Ok x) h = h
 counts_seen view old new (Err fault) h = h
+
+-- want of memory is an answer to a request for a verdict
+pub no_memory_answers : (told : Option Told) (request : Request) (only_certificate : Bool) → IfSome told (λ files. AnswersAsked files (Check request only_certificate) (Err Memory))
+no_memory_answers None request only_certificate = tt
+no_memory_answers (Some files) request only_certificate = (Err Memory, tt, refl)
+
+-- what status 0 of an answer promises, it promises where it is written
+pub promised : (told : Option Told) (asked : Asked) (answer : Result Shown Fault) (w : Written)
+    → IfSome told (λ files. IfOk answer (λ shown. shown.status ≡ 0 → Promises files asked)) → Shows answer w → w.status ≡ 0 → IfSome told (λ files. Promises files asked)
+promised None asked answer w h shows e = tt
+promised (Some files) asked (Ok shown) w h shows e = h (sym (ap (λ (x : Written). x.status) shows) ∙ e)
+promised (Some files) asked (Err fault) w h shows e =
+    let bad : 2 ≡ 0 = sym (ap (λ (x : Written). x.status) shows.1) ∙ e in absurd (true≢false (ap (λ (n : ℕ). nat_eq n 2) bad))
 
 -- the subcommand that was met is the one whose name and values are told
 module _ {P B : Type 0} (n : P → Text) (r : P → List Row) (name : B → Text) (rows : B → List Row) where

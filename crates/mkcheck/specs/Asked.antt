@@ -5,7 +5,7 @@ use Rattle.clap.specs.Words.{Kinds, Row, Text, all_of, count_of, fault_of, first
 use Rattle.mk_core.specs.declared.request.Request.{Request}
 use Rattle.mk_core.specs.Words.{goals_of, operands_of}
 use Rattle.mkcheck.specs.declared.asked.Asked.{Asked}
-use Rattle.mkcheck.specs.declared.asked.Asked.TheVariants.{Graph, Simulate}
+use Rattle.mkcheck.specs.declared.asked.Asked.TheVariants.{Graph, Check, Verify, Simulate}
 use Rattle.mkcheck.specs.CommandLine.{command_line}
 
 -- the kinds of fault that the command line finds in the words: none where it takes them
@@ -39,15 +39,20 @@ requested rows =
       commands = is_set (codes "commands") rows;
     }
 
--- the plan that is named; the command line takes no `simulate` without one
-abbrev pub plan_in : List Row → List ℕ
-plan_in rows = unwrap_or (first_of (codes "plan") rows) []
+-- the value of an option without which the command line takes no words
+abbrev pub needed : Text → List Row → List ℕ
+needed id rows = unwrap_or (first_of id rows) []
 
 -- what a subcommand of this name asks with these values
 abbrev pub asked_by : Text → List Row → Asked
 asked_by name rows =
-    if bytes_eq name (codes "simulate") then Simulate (requested rows) (plan_in rows)
-    else Graph (requested rows)
+    if bytes_eq name (codes "check")
+    then Check (requested rows) (is_set (codes "only-certificate") rows) else
+    (if bytes_eq name (codes "verify")
+    then Verify (requested rows) (needed (codes "certificate") rows) else
+    (if bytes_eq name (codes "simulate")
+    then Simulate (requested rows) (needed (codes "plan") rows)
+    else Graph (requested rows)))
 
 -- what the subcommand asks that the words name; the command line takes no words without one
 abbrev pub asked_with : Option (Text × List Row) → Asked

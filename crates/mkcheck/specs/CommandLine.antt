@@ -26,6 +26,16 @@ commands_option = record (new_rule (codes "commands")) { short = Some 99; action
 abbrev pub needed_book_option : Rule
 needed_book_option = record book_option { required = true }
 
+-- `-c`, any number of times
+abbrev pub only_certificate_option : Rule
+only_certificate_option =
+    record (new_rule (codes "only-certificate")) { short = Some 99; action = Some Count }
+
+-- `-k CERT`, once
+abbrev pub certificate_option : Rule
+certificate_option =
+    record (new_rule (codes "certificate")) { short = Some 107; value_names = 1; required = true }
+
 -- `-p PLAN`, once
 abbrev pub plan_option : Rule
 plan_option =
@@ -43,6 +53,14 @@ words_argument =
 abbrev pub named_graph : App
 named_graph = new_app (codes "graph")
 
+-- `check`
+abbrev pub named_check : App
+named_check = new_app (codes "check")
+
+-- `verify`
+abbrev pub named_verify : App
+named_verify = new_app (codes "verify")
+
 -- `simulate`
 abbrev pub named_simulate : App
 named_simulate = new_app (codes "simulate")
@@ -56,6 +74,18 @@ abbrev pub graph_command : App
 graph_command =
     with_rule (with_rule (with_rule (with_reading named_graph) book_option) commands_option)
     words_argument
+
+-- `check [-f F] [-r] -b BOOK [-c] [WORD..]`
+abbrev pub check_command : App
+check_command =
+    with_rule (with_rule (with_rule (with_reading named_check) needed_book_option)
+    only_certificate_option) words_argument
+
+-- `verify [-f F] [-r] -b BOOK -k CERT [WORD..]`
+abbrev pub verify_command : App
+verify_command =
+    with_rule (with_rule (with_rule (with_reading named_verify) needed_book_option)
+    certificate_option) words_argument
 
 -- `simulate [-f F] [-r] -b BOOK -p PLAN [WORD..]`
 abbrev pub simulate_command : App
@@ -79,9 +109,14 @@ program =
           { no_binary_name = true; subcommand_required = true; disable_help_subcommand = true };
     }
 
+-- with the subcommands that judge a build
+abbrev pub with_judging : App → App
+with_judging app = with_subcommand (with_subcommand app check_command.top) verify_command.top
+
 -- `mkcheck` with these subcommands
 abbrev pub command_line : App
-command_line = with_subcommand (with_subcommand program graph_command.top) simulate_command.top
+command_line =
+    with_subcommand (with_judging (with_subcommand program graph_command.top)) simulate_command.top
 
 -- a word of `-` and more is read as an option, or as `--`
 abbrev pub is_option : List ℕ → Bool

@@ -1,19 +1,27 @@
 -- What a run of the program writes.
-use Rattle.std.specs.Prelude.{◌≡◌, ℕ, false, List, [], ◌∷◌, ◌++◌, Option, Result, Ok, Err, IfSome, if◌then◌else◌}
+use Rattle.std.specs.Prelude.{◌≡◌, ℕ, Bool, false, List, [], ◌∷◌, ◌++◌, Option, Result, Ok, Err, IfSome, if◌then◌else◌}
 use Rattle.std.specs.String.{string_bytes}
 use Rattle.clap.specs.Words.{IsAmong, Kinds}
 use Rattle.clap.specs.declared.error.ErrorKind.{ErrorKind}
 use Rattle.clap.specs.declared.error.ErrorKind.TheVariants.{DisplayHelp, DisplayVersion, OutOfMemory}
 use Rattle.mk_core.specs.declared.fault.Fault.{Fault}
 use Rattle.mk_core.specs.Answer.{Answers, Counts}
+use Rattle.mk_core.specs.CheckAnswer.{AnswersCheck}
 use Rattle.mk_core.specs.GraphAnswer.{AnswersGraph}
 use Rattle.mk_core.specs.SimulationAnswer.{AnswersSimulation}
 use Rattle.mk_core.specs.Simulation.{Simulation}
 use Rattle.mk_core.specs.FaultText.{fault_text}
+use Rattle.mk_core.specs.Right.{IsRightFor}
 use Rattle.mk_core.specs.Steps.{is_want_of_memory, seen}
+use Rattle.mk_core.specs.VerdictText.{verdict_text}
+use Rattle.mk_core.specs.VerifyAnswer.{AnswersVerify}
+use Rattle.mk_core.specs.declared.verdict.Verdict.{Verdict}
+use Rattle.mk_core.specs.declared.verdict.Verdict.TheVariants.{Yes, No}
 use Rattle.mk_core.specs.Files.{Told}
+use Rattle.mk_ways.specs.Writing.{value_of}
+use Rattle.serde_json.specs.Written.{compact_text}
 use Rattle.mkcheck.specs.declared.asked.Asked.{Asked}
-use Rattle.mkcheck.specs.declared.asked.Asked.TheVariants.{Graph, Simulate}
+use Rattle.mkcheck.specs.declared.asked.Asked.TheVariants.{Graph, Check, Verify, Simulate}
 use Rattle.mkcheck.specs.declared.run.Outcome.{Outcome}
 
 -- what goes to standard output and to standard error, and the exit status
@@ -31,9 +39,17 @@ pub record Shown : Type 0 where
   pub text : List ℕ
   pub status : ℕ
 
--- a graph has status 0
-abbrev pub shown_graph : List ℕ → Shown
-shown_graph text = record { text = text; status = 0 }
+-- a graph, and what an accepted certificate is answered, have status 0
+abbrev pub shown_text : List ℕ → Shown
+shown_text text = record { text = text; status = 0 }
+
+-- A yes has status 0, and shows the certificate alone on a line where only that is asked for. A no
+-- has status 1.
+abbrev pub shown_verdict : Bool → Verdict → Shown
+shown_verdict only_certificate (Yes certificate recipes reads) =
+    shown_text (if only_certificate then compact_text (value_of certificate) ++ 10 ∷ []
+    else verdict_text (Yes certificate recipes reads))
+shown_verdict only_certificate (No found) = record { text = verdict_text (No found); status = 1 }
 
 -- the run of a plan has status 2 where a line was refused
 abbrev pub shown_run : Simulation → Shown
@@ -43,10 +59,24 @@ shown_run run = record { text = run.text; status = if run.refused then 2 else 0 
 abbrev pub AnswersAsked : Told → Asked → Result Shown Fault → Type 0
 AnswersAsked files (Graph request) answer =
     (text : Result (List ℕ) Fault) ×
-    Answers files request (AnswersGraph request.commands) text × (answer ≡ seen shown_graph text)
+    Answers files request (AnswersGraph request.commands) text × (answer ≡ seen shown_text text)
+AnswersAsked files (Check request only_certificate) answer =
+    (verdict : Result Verdict Fault) ×
+    Answers files request AnswersCheck verdict ×
+    (answer ≡ seen (shown_verdict only_certificate) verdict)
+AnswersAsked files (Verify request certificate) answer =
+    (text : Result (List ℕ) Fault) ×
+    Answers files request (AnswersVerify files certificate) text × (answer ≡ seen shown_text text)
 AnswersAsked files (Simulate request plan) answer =
     (run : Result Simulation Fault) ×
     Answers files request (AnswersSimulation files plan) run × (answer ≡ seen shown_run run)
+
+-- What status 0 says of what is asked, over files that are told: a build that is judged, by itself
+-- or by a certificate, is right.
+abbrev pub Promises : Told → Asked → Type 0
+Promises files (Check request only_certificate) = IsRightFor files request
+Promises files (Verify request certificate) = IsRightFor files request
+Promises files asked = Unit {0}
 
 -- What is shown is written to standard output, with its status; or a refusal on a line, with status
 -- 2. Want of memory is not written here.

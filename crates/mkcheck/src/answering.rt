@@ -1,13 +1,21 @@
 //! The answer to what is asked.
 
-ghost use Rattle.std.specs.Prelude.{◌≡◌, ◌<◌, ◌-◌, ◌^◌, IfSome};
+ghost use Rattle.std.specs.Prelude.{◌≡◌, ◌<◌, ◌-◌, ◌^◌, ◌∷◌, ◌++◌, [], IfOk, IfSome};
 ghost use Rattle.mk_core.specs.Answer.{Counts};
-ghost use Rattle.mkcheck.specs.Run.{AnswersAsked, shown_graph, shown_run};
+ghost use Rattle.mk_core.specs.Right.{IsRightFor};
+ghost use Rattle.mk_ways.specs.Writing.{value_of};
+ghost use Rattle.serde_json.specs.Written.{compact_text};
+ghost use Rattle.mkcheck.specs.Run.{AnswersAsked, Promises, shown_run, shown_text, shown_verdict};
+ghost use Rattle.mkcheck.specs.declared.asked.Asked.TheVariants.{Check};
 
 use crate::asked::Asked;
-use crate::run::{DONE, REFUSED};
-use mk_core::{Fault, Files, Simulation, graph_text, simulate_text};
-use std::alloc::Global;
+use crate::run::{DONE, NO, REFUSED};
+use mk_core::{
+    Fault, Files, Request, Simulation, Verdict, check, graph_text, render, simulate_text,
+    verify_text,
+};
+use mk_ways::{Certificate, certificate_text};
+use std::alloc::{AllocError, Global};
 use std::marker::Model;
 
 /// What is shown on standard output, and the exit status.
@@ -15,7 +23,7 @@ use std::marker::Model;
 pub struct Shown {
     /// The text.
     pub text: Vec<u8>,
-    /// 0 done, 2 refused.
+    /// 0 yes or done, 1 no, 2 refused.
     pub status: u8,
 }
 
@@ -27,11 +35,41 @@ impl Model for Shown {
     ghost view = { λ s. record { text = s.text.items; status = s.status } };
 }
 
-// What is shown of a graph.
-fn shown_graph(text: Vec<u8>) -> Shown
-    ensures { result ≡ shown_graph text.items }
+// What is shown of a graph, and of a certificate that is accepted.
+fn shown_text(text: Vec<u8>) -> Shown
+    ensures { result ≡ shown_text text.items }
 {
     Shown { text, status: DONE }
+}
+
+// A certificate on a line.
+fn certificate_line(alloc: Global, certificate: &Certificate) -> Result<Vec<u8>, AllocError>
+    ensures { IfOk result (λ text. text.items ≡
+        compact_text (value_of certificate.now) ++ 10 ∷ []) }
+{
+    let mut text = certificate_text(alloc, certificate)?.into_bytes();
+    text.push(b'\n')?;
+    Ok(text)
+}
+
+// What is shown of a verdict.
+fn shown_verdict(
+    alloc: Global,
+    verdict: &Verdict,
+    only_certificate: bool,
+) -> Result<Shown, AllocError>
+    ensures { IfOk result (λ shown. shown ≡ shown_verdict only_certificate verdict.now) }
+{
+    match verdict {
+        Verdict::Yes { certificate, .. } if only_certificate => {
+            Ok(shown_text(certificate_line(alloc, certificate)?))
+        }
+        Verdict::Yes { .. } => Ok(shown_text(render(alloc, verdict)?)),
+        Verdict::No(_) => Ok(Shown {
+            text: render(alloc, verdict)?,
+            status: NO,
+        }),
+    }
 }
 
 // What is shown of the run of a plan.
@@ -45,17 +83,50 @@ fn shown_run(run: Simulation) -> Shown
     }
 }
 
+// The verdict on a build.
+fn answer_check<F: Files>(
+    alloc: Global,
+    files: &mut F,
+    request: &Request,
+    only_certificate: bool,
+) -> Result<Shown, Fault>
+    requires { F.failed files.old < 2 ^ 64 - 1 }
+    ensures map { F.told files.new ≡ F.told files.old }
+    ensures answer { IfSome (F.told files.old)
+        (λ told. AnswersAsked told (Check request.now only_certificate) result) }
+    ensures right { IfSome (F.told files.old)
+        (λ told. IfOk result (λ shown. shown.status ≡ 0 → IsRightFor told request.now)) }
+    ensures counted { Counts (F.failed files.old) (F.failed files.new) result }
+{
+    let verdict = check(alloc, files, request)?;
+    let shown = shown_verdict(alloc, &verdict, only_certificate)?;
+    Ok(shown)
+}
+
 /// The answer to what is asked, or its fault.
 pub fn answer<F: Files>(alloc: Global, files: &mut F, asked: &Asked) -> Result<Shown, Fault>
     requires { F.failed files.old < 2 ^ 64 - 1 }
     ensures map { F.told files.new ≡ F.told files.old }
     ensures answer { IfSome (F.told files.old) (λ told. AnswersAsked told asked.now result) }
+    ensures right { IfSome (F.told files.old)
+        (λ told. IfOk result (λ shown. shown.status ≡ 0 → Promises told asked.now)) }
     ensures counted { Counts (F.failed files.old) (F.failed files.new) result }
 {
     match asked {
         Asked::Graph(request) => {
             let text = graph_text(alloc, files, request)?;
-            Ok(shown_graph(text))
+            Ok(shown_text(text))
+        }
+        Asked::Check {
+            request,
+            only_certificate,
+        } => answer_check(alloc, files, request, *only_certificate),
+        Asked::Verify {
+            request,
+            certificate,
+        } => {
+            let text = verify_text(alloc, files, request, certificate.as_str())?;
+            Ok(shown_text(text))
         }
         Asked::Simulate { request, plan } => {
             let run = simulate_text(alloc, files, request, plan.as_str())?;

@@ -3,7 +3,7 @@
 ghost use Rattle.std.specs.Prelude.{◌≡◌, [], codes, unwrap_or, IfOk};
 ghost use Rattle.clap.specs.Words.{all_of, first_of, found_of, rows_of};
 ghost use Rattle.mk_core.specs.Words.{goals_of, operands_of};
-ghost use Rattle.mkcheck.specs.Asked.{asked_by, plan_in, requested};
+ghost use Rattle.mkcheck.specs.Asked.{asked_by, needed, requested};
 
 use clap::ArgMatches;
 use mk_core::{Name, Names, Operands, Request, split_words};
@@ -14,8 +14,22 @@ use std::alloc::{AllocError, Global};
 pub enum Asked {
     /// `graph`: the graph of the goals.
     Graph(Request),
+    /// `check`: the verdict on the build of the goals.
+    Check {
+        request: Request,
+        /// Whether a yes shows the certificate alone.
+        only_certificate: bool,
+    },
+    /// `verify`: whether the certificate of this name shows that the build is right.
+    Verify {
+        request: Request,
+        certificate: Name,
+    },
     /// `simulate`: the run of the plan of this name.
-    Simulate { request: Request, plan: Name },
+    Simulate {
+        request: Request,
+        plan: Name,
+    },
 }
 
 // The value of an option, where it has one.
@@ -57,12 +71,12 @@ fn requested(alloc: Global, matches: &ArgMatches<'_>) -> Result<Request, AllocEr
     })
 }
 
-// The plan that the matches name.
-fn plan_in(alloc: Global, matches: &ArgMatches<'_>) -> Result<Name, AllocError>
-    ensures { IfOk result (λ plan. plan ≡ plan_in (rows_of (found_of matches.now))) }
+// The value of an option that is needed.
+fn needed(alloc: Global, matches: &ArgMatches<'_>, id: &str) -> Result<Name, AllocError>
+    ensures { IfOk result (λ name. name ≡ needed id.now (rows_of (found_of matches.now))) }
 {
-    match named(alloc, matches, "plan")? {
-        Some(plan) => Ok(plan),
+    match named(alloc, matches, id)? {
+        Some(name) => Ok(name),
         None => Name::new(alloc, ""),
     }
 }
@@ -72,9 +86,19 @@ pub fn asked_by(alloc: Global, name: &str, matches: &ArgMatches<'_>) -> Result<A
     ensures { IfOk result (λ asked. asked ≡ asked_by name.now (rows_of (found_of matches.now))) }
 {
     let request = requested(alloc, matches)?;
-    if name == "simulate" {
-        let plan = plan_in(alloc, matches)?;
-        return Ok(Asked::Simulate { request, plan });
+    match name {
+        "check" => Ok(Asked::Check {
+            request,
+            only_certificate: matches.get_count("only-certificate") > 0,
+        }),
+        "verify" => Ok(Asked::Verify {
+            request,
+            certificate: needed(alloc, matches, "certificate")?,
+        }),
+        "simulate" => Ok(Asked::Simulate {
+            request,
+            plan: needed(alloc, matches, "plan")?,
+        }),
+        _ => Ok(Asked::Graph(request)),
     }
-    Ok(Asked::Graph(request))
 }

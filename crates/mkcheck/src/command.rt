@@ -3,12 +3,34 @@
 ghost use Rattle.std.specs.Prelude.{◌≡◌, IfOk, false};
 ghost use Rattle.clap.specs.Words.{app_of, rule_of};
 ghost use Rattle.clap.specs.declared.builder.command.Command.TheViews.{out-Command as fields_of};
-ghost use Rattle.mkcheck.specs.CommandLine.{book_option, command_line, commands_option, graph_command, makefile_option, named_graph, named_program, named_simulate, needed_book_option, no_defaults_option, plan_option, program, simulate_command, with_reading, words_argument};
+ghost use Rattle.mkcheck.specs.CommandLine.{book_option, certificate_option, check_command, command_line, commands_option, graph_command, makefile_option, named_check, named_graph, named_program, named_simulate, named_verify, needed_book_option, no_defaults_option, only_certificate_option, plan_option, program, simulate_command, verify_command, with_judging, with_reading, words_argument};
 
 use clap::{Arg, ArgAction, Command};
 use std::alloc::{AllocError, Global};
 
-const STATUSES: &str = "Status: 0 done, 2 refused or a fault of the command line, 3 want of memory";
+macro_rules! with_statuses {
+    ($lead:literal) => {
+        concat!(
+            $lead,
+            "Status: 0 yes or done, 1 no, 2 refused or a fault of the command line, ",
+            "3 want of memory"
+        )
+    };
+}
+
+const STATUSES: &str = with_statuses!("");
+
+const BEHIND_GRAPH: &str = with_statuses!("Example: mkcheck graph -c -f Makefile CC=cc prog\n\n");
+
+const BEHIND_CHECK: &str = with_statuses!("Example: mkcheck check -b footprints.json prog\n\n");
+
+const BEHIND_VERIFY: &str = with_statuses!(
+    "Example: mkcheck verify -b footprints.json -k certificate.json prog\n\n"
+);
+
+const BEHIND_SIMULATE: &str = with_statuses!(
+    "Example: mkcheck simulate -b footprints.json -p plan.txt prog\n\n"
+);
 
 fn makefile_option<'a>(alloc: Global) -> Arg<'a>
     ensures rule { rule_of result ≡ makefile_option }
@@ -48,6 +70,27 @@ fn needed_book_option<'a>(alloc: Global) -> Arg<'a>
         .value_name("BOOK")
         .required(true)
         .help("The file of recorded footprints")
+}
+
+fn only_certificate_option<'a>(alloc: Global) -> Arg<'a>
+    ensures rule { rule_of result ≡ only_certificate_option }
+    ensures local { result.global ≡ false }
+{
+    Arg::new(alloc, "only-certificate")
+        .short('c')
+        .action(ArgAction::Count)
+        .help("Prints of a yes the certificate alone, on one line")
+}
+
+fn certificate_option<'a>(alloc: Global) -> Arg<'a>
+    ensures rule { rule_of result ≡ certificate_option }
+    ensures local { result.global ≡ false }
+{
+    Arg::new(alloc, "certificate")
+        .short('k')
+        .value_name("CERT")
+        .required(true)
+        .help("The certificate: what check -c printed")
 }
 
 fn plan_option<'a>(alloc: Global) -> Arg<'a>
@@ -92,7 +135,27 @@ fn named_graph<'a>(alloc: Global) -> Command<'a>
     Command::new(alloc, "graph")
         .about("Prints the goals, then a line for each target in serial order")
         .override_usage("mkcheck graph [-f F] [-r] [-b BOOK] [-c] [WORD]...")
-        .after_help(STATUSES)
+        .after_help(BEHIND_GRAPH)
+}
+
+fn named_check<'a>(alloc: Global) -> Command<'a>
+    ensures app { app_of result ≡ named_check }
+    ensures local { (fields_of result).has_globals ≡ false }
+{
+    Command::new(alloc, "check")
+        .about("Says yes where parallel and incremental makes build right, else no and why")
+        .override_usage("mkcheck check [-f F] [-r] -b BOOK [-c] [WORD]...")
+        .after_help(BEHIND_CHECK)
+}
+
+fn named_verify<'a>(alloc: Global) -> Command<'a>
+    ensures app { app_of result ≡ named_verify }
+    ensures local { (fields_of result).has_globals ≡ false }
+{
+    Command::new(alloc, "verify")
+        .about("Says yes where a certificate shows that makes build right, else refuses it")
+        .override_usage("mkcheck verify [-f F] [-r] -b BOOK -k CERT [WORD]...")
+        .after_help(BEHIND_VERIFY)
 }
 
 fn named_simulate<'a>(alloc: Global) -> Command<'a>
@@ -102,7 +165,7 @@ fn named_simulate<'a>(alloc: Global) -> Command<'a>
     Command::new(alloc, "simulate")
         .about("Runs a plan line by line, and prints the files at the end of each make")
         .override_usage("mkcheck simulate [-f F] [-r] -b BOOK -p PLAN [WORD]...")
-        .after_help(STATUSES)
+        .after_help(BEHIND_SIMULATE)
 }
 
 // A subcommand with the options that tell the makefile.
@@ -123,6 +186,26 @@ fn graph_command<'a>(alloc: Global) -> Result<Command<'a>, AllocError>
     with_reading(alloc, named_graph(alloc))?
         .arg(book_option(alloc))?
         .arg(commands_option(alloc))?
+        .arg(words_argument(alloc))
+}
+
+fn check_command<'a>(alloc: Global) -> Result<Command<'a>, AllocError>
+    ensures app { IfOk result (λ c. app_of c ≡ check_command) }
+    ensures local { IfOk result (λ c. (fields_of c).has_globals ≡ false) }
+{
+    with_reading(alloc, named_check(alloc))?
+        .arg(needed_book_option(alloc))?
+        .arg(only_certificate_option(alloc))?
+        .arg(words_argument(alloc))
+}
+
+fn verify_command<'a>(alloc: Global) -> Result<Command<'a>, AllocError>
+    ensures app { IfOk result (λ c. app_of c ≡ verify_command) }
+    ensures local { IfOk result (λ c. (fields_of c).has_globals ≡ false) }
+{
+    with_reading(alloc, named_verify(alloc))?
+        .arg(needed_book_option(alloc))?
+        .arg(certificate_option(alloc))?
         .arg(words_argument(alloc))
 }
 
@@ -156,13 +239,25 @@ fn program<'a>(alloc: Global) -> Command<'a>
         .disable_help_subcommand(true)
 }
 
-/// The command line of the program: `graph [-f F] [-r] [-b BOOK] [-c] [WORD..]`, `simulate [-f F]
-/// [-r] -b BOOK -p PLAN [WORD..]`, `--help` and `--version`. It reads the words behind the program's name. The error is want of memory alone.
+// A command with the subcommands that judge a build.
+fn with_judging<'a>(alloc: Global, command: Command<'a>) -> Result<Command<'a>, AllocError>
+    requires { (fields_of command).has_globals ≡ false }
+    ensures app { IfOk result (λ c. app_of c ≡ with_judging (app_of command.entry)) }
+    ensures local { IfOk result (λ c. (fields_of c).has_globals ≡ false) }
+{
+    command
+        .subcommand(check_command(alloc)?)?
+        .subcommand(verify_command(alloc)?)
+}
+
+/// The command line of the program: `graph [-f F] [-r] [-b BOOK] [-c] [WORD..]`, `check [-f F]
+/// [-r] -b BOOK [-c] [WORD..]`, `verify [-f F] [-r] -b BOOK -k CERT [WORD..]`, `simulate [-f F]
+/// [-r] -b BOOK -p PLAN [WORD..]`, `--help` and `--version`. It reads the words behind the
+/// program's name. The error is want of memory alone.
 pub fn command_line<'a>(alloc: Global) -> Result<Command<'a>, AllocError>
     ensures app { IfOk result (λ c. app_of c ≡ command_line) }
     ensures local { IfOk result (λ c. (fields_of c).has_globals ≡ false) }
 {
-    program(alloc)
-        .subcommand(graph_command(alloc)?)?
-        .subcommand(simulate_command(alloc)?)
+    let drawing = program(alloc).subcommand(graph_command(alloc)?)?;
+    with_judging(alloc, drawing)?.subcommand(simulate_command(alloc)?)
 }

@@ -10,6 +10,8 @@ mod run;
 mod slurp;
 #[cfg(test)]
 mod tests;
+#[cfg(test)]
+mod verdict_tests;
 
 use disk::Disk;
 use ending::{end, end_without_memory, end_without_words};

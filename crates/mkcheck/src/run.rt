@@ -1,10 +1,10 @@
 //! A run of the program, from the words of its command line to what it writes.
 
-ghost use Rattle.std.specs.Prelude.{ℕ, List, Option, length, ◌≡◌, ◌≢◌, ◌<◌, ◌^◌, ◌-◌, [], true, map, Err, IfOk};
+ghost use Rattle.std.specs.Prelude.{ℕ, List, Option, length, ◌≡◌, ◌≢◌, ◌<◌, ◌^◌, ◌-◌, [], true, map, Err, IfOk, IfSome};
 ghost use Rattle.clap.specs.Words.{has_subcommand, kind_of, subcommand_rows_of};
 ghost use Rattle.mkcheck.specs.Asked.{asked_of, asked_with, asking, faults_of};
 ghost use Rattle.mkcheck.specs.CommandLine.{HasNoOption, graph_words};
-ghost use Rattle.mkcheck.specs.Run.{Explains, IsAnswered, IsRefused, Shows, written};
+ghost use Rattle.mkcheck.specs.Run.{Explains, IsAnswered, IsRefused, Promises, Shows, written};
 ghost use Rattle.mkcheck.specs.declared.asked.Asked.TheVariants.{Graph};
 
 use crate::answering::{Shown, answer};
@@ -20,6 +20,9 @@ use std::convert::AsStr;
 /// The exit status of an answer, and of help.
 pub const DONE: u8 = 0;
 
+/// The exit status of a no.
+pub const NO: u8 = 1;
+
 /// The exit status of a refusal.
 pub const REFUSED: u8 = 2;
 
@@ -30,7 +33,7 @@ pub struct Outcome {
     pub out: Vec<u8>,
     /// What goes to standard error.
     pub err: String,
-    /// 0 done, 2 refused or a fault of the command line.
+    /// 0 yes or done, 1 no, 2 refused or a fault of the command line.
     pub status: u8,
 }
 
@@ -94,6 +97,8 @@ fn answered<F: Files>(
     ensures map { F.told files.new ≡ F.told files.old }
     ensures answered { IfOk result (λ outcome. IsAnswered (F.told files.old) (F.failed files.old)
         (F.failed files.new) (asked_with (subcommand_rows_of matches.now)) (written outcome)) }
+    ensures right { IfOk result (λ outcome. outcome.status ≡ 0 → IfSome (F.told files.old)
+        (λ told. Promises told (asked_with (subcommand_rows_of matches.now)))) }
 {
     let (name, met) = matches.subcommand().unwrap();
     let asked = asked_by(alloc, name, met)?;
@@ -102,8 +107,9 @@ fn answered<F: Files>(
 }
 
 /// Reads the words behind the program's name, and answers what they ask: with status 0 and a text,
-/// with 2 and a refusal, the run of a plan that was refused, or a fault of the words, with 0 and
-/// help or the version. The error is want of memory alone (the standard's `make`, "Options", "Operands" and "Exit Status").
+/// with 1 and what stands against a build, with 2 and a refusal, the run of a plan that was
+/// refused, or a fault of the words, with 0 and help or the version. The error is want of memory
+/// alone (the standard's `make`, "Options", "Operands" and "Exit Status").
 pub fn run<F: Files, S: AsStr>(
     alloc: Global,
     files: &mut F,
@@ -116,6 +122,11 @@ pub fn run<F: Files, S: AsStr>(
     ensures taken { IfOk result (λ outcome. faults_of (map S.text words.now) ≡ [] →
         IsAnswered (F.told files.old) (F.failed files.old) (F.failed files.new)
         (asked_of (map S.text words.now)) (written outcome)) }
+
+    // Where they ask whether a build is right, status 0 says that it is, over files that are told.
+    ensures right { IfOk result (λ outcome. faults_of (map S.text words.now) ≡ [] →
+        outcome.status ≡ 0 → IfSome (F.told files.old)
+        (λ told. Promises told (asked_of (map S.text words.now)))) }
 
     // In plain words: `graph [-f F] WORD..` asks what it says.
     ensures plain { IfOk result (λ outcome. (makefile : Option (List ℕ)) (asked : List (List ℕ)) →

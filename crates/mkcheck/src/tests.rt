@@ -156,7 +156,7 @@ fn expect_fault(rt: &impl Abort, outcome: Outcome) {
 #[test]
 fn refuses_other_words(rt: HostRuntime) -> Result<(), Fail> {
     expect_fault(&rt, ran(rt.alloc(), PROGRAM, &[])?);
-    expect_fault(&rt, ran(rt.alloc(), PROGRAM, &["check"])?);
+    expect_fault(&rt, ran(rt.alloc(), PROGRAM, &["repair"])?);
     expect_fault(&rt, ran(rt.alloc(), PROGRAM, &["help"])?);
     expect_fault(&rt, ran(rt.alloc(), PROGRAM, &["graph", "-x"])?);
     expect_fault(
@@ -188,7 +188,7 @@ fn prints_help_and_version(rt: HostRuntime) -> Result<(), Fail> {
     expect(&rt, outcome, "mkcheck 0.1.0\n", 0);
     let outcome = ran(rt.alloc(), PROGRAM, &["--help"])?;
     assert!(rt; !outcome.out.is_empty() && outcome.err.is_empty() && outcome.status == 0);
-    for name in ["graph", "simulate"] {
+    for name in ["graph", "check", "verify", "simulate"] {
         let outcome = ran(rt.alloc(), PROGRAM, &[name, "--help"])?;
         assert!(rt; !outcome.out.is_empty() && outcome.err.is_empty() && outcome.status == 0);
     }
