@@ -17,33 +17,43 @@ pub fn part<'a>(row: &'a str, number: usize) -> &'a str {
     row.split("‖").nth(number).unwrap_or("")
 }
 
+/// Adds what stands before an item of a list of JSON: a comma, and before the first one nothing.
+fn push_comma(out: &mut String) -> Result<(), AllocError> {
+    if out.as_str().ends_with("[") {
+        return Ok(());
+    }
+    out.push(',')
+}
+
+/// Adds a text of JSON.
+fn push_text(out: &mut String, text: &str) -> Result<(), AllocError> {
+    out.push('"')?;
+    out.push_str(text)?;
+    out.push('"')
+}
+
 /// Adds words as a list of JSON, those that end in a slash or those that don't.
 fn push_words(out: &mut String, words: &str, prefixes: bool) -> Result<(), AllocError> {
-    let mut front = "[\"";
-    let mut back = "[]";
+    out.push('[')?;
     for word in words.split_whitespace() {
         if word.ends_with("/") == prefixes {
-            out.push_str(front)?;
-            out.push_str(word)?;
-            front = "\",\"";
-            back = "\"]";
+            push_comma(out)?;
+            push_text(out, word)?;
         }
     }
-    out.push_str(back)
+    out.push(']')
 }
 
 /// Adds commands, which have `|` between, as a list of JSON.
 fn push_commands(out: &mut String, commands: &str) -> Result<(), AllocError> {
-    if commands.is_empty() {
-        return out.push_str("[]");
-    }
-    let mut front = "[\"";
+    out.push('[')?;
     for command in commands.split("|") {
-        out.push_str(front)?;
-        out.push_str(command)?;
-        front = "\",\"";
+        if !commands.is_empty() {
+            push_comma(out)?;
+            push_text(out, command)?;
+        }
     }
-    out.push_str("\"]")
+    out.push(']')
 }
 
 /// Adds a record, as JSON.
@@ -51,28 +61,27 @@ fn push_record(out: &mut String, record: &str) -> Result<(), AllocError> {
     let (files, commands) = record.split_once(" = ").unwrap_or((record, ""));
     let (target, files) = files.split_once(": ").unwrap_or((files, ""));
     let (reads, writes) = files.split_once(">").unwrap_or((files, ""));
-    out.push_str("{\"target\":\"")?;
-    out.push_str(target)?;
-    out.push_str("\",\"commands\":")?;
+    out.push_str("{\"target\":")?;
+    push_text(out, target)?;
+    out.push_str(",\"commands\":")?;
     push_commands(out, commands)?;
     out.push_str(",\"reads\":")?;
     push_words(out, reads, false)?;
     out.push_str(",\"writes\":")?;
     push_words(out, writes, false)?;
-    out.push_str("}")
+    out.push('}')
 }
 
 /// Adds records, as a list of JSON.
 fn push_records(out: &mut String, records: &str) -> Result<(), AllocError> {
-    let mut front = "[";
+    out.push('[')?;
     for record in records.split("; ") {
-        out.push_str(front)?;
         if !record.is_empty() {
+            push_comma(out)?;
             push_record(out, record)?;
         }
-        front = ",";
     }
-    out.push_str("]")
+    out.push(']')
 }
 
 /// The footprints of a build. Where its sources begin with `{`, they are the text itself.
@@ -96,28 +105,27 @@ fn push_entry(out: &mut String, entry: &str) -> Result<(), AllocError> {
     let (recipe, rest) = entry.split_once(" ").unwrap_or((entry, ""));
     let (file, rest) = rest.split_once(" ").unwrap_or((rest, ""));
     let (finish, path) = rest.split_once(" ").unwrap_or((rest, ""));
-    out.push_str("{\"end\":\"")?;
-    out.push_str(finish)?;
-    out.push_str("\",\"file\":\"")?;
-    out.push_str(file)?;
-    out.push_str("\",\"path\":")?;
+    out.push_str("{\"end\":")?;
+    push_text(out, finish)?;
+    out.push_str(",\"file\":")?;
+    push_text(out, file)?;
+    out.push_str(",\"path\":")?;
     push_words(out, path, false)?;
-    out.push_str(",\"recipe\":\"")?;
-    out.push_str(recipe)?;
-    out.push_str("\"}")
+    out.push_str(",\"recipe\":")?;
+    push_text(out, recipe)?;
+    out.push('}')
 }
 
 /// Adds entries, which have `; ` between, as a list of JSON.
 fn push_entries(out: &mut String, entries: &str) -> Result<(), AllocError> {
-    let mut front = "[";
+    out.push('[')?;
     for entry in entries.split("; ") {
-        out.push_str(front)?;
         if !entry.is_empty() {
+            push_comma(out)?;
             push_entry(out, entry)?;
         }
-        front = ",";
     }
-    out.push_str("]")
+    out.push(']')
 }
 
 /// The text of a certificate that is told as `goals | entries`. Where it begins with `{` or `[`, it
