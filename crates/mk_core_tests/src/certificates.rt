@@ -241,16 +241,20 @@ fn first_line(alloc: Global, build: &str) -> Result<String, Fail> {
     Ok(format!(in alloc; "{first}\n")?)
 }
 
+/// Expects that a build's own certificate, with this behind it, is accepted.
+fn expect_accepted(rt: &impl Abort, alloc: Global, build: &str, end: &str) -> Result<(), Fail> {
+    let want = first_line(alloc, build)?;
+    assert!(rt; want.as_str().starts_with("yes "), "of {build:?}");
+    let got = verified_again(alloc, build, end)?;
+    assert_eq!(rt; got.as_str(), want.as_str(), "of {build:?}");
+    Ok(())
+}
+
 #[test]
 fn accepts_its_own_certificates(rt: HostRuntime) -> Result<(), Fail> {
-    let alloc = rt.alloc();
     for build in RIGHT.lines() {
-        let want = first_line(alloc, build)?;
-        assert!(rt; want.as_str().starts_with("yes "), "of {build:?}");
-        let got = verified_again(alloc, build, "")?;
-        assert_eq!(rt; got.as_str(), want.as_str(), "of {build:?}");
-        let got = verified_again(alloc, build, "\n")?;
-        assert_eq!(rt; got.as_str(), want.as_str(), "of {build:?}");
+        expect_accepted(&rt, rt.alloc(), build, "")?;
+        expect_accepted(&rt, rt.alloc(), build, "\n")?;
     }
     Ok(())
 }
@@ -259,14 +263,17 @@ fn accepts_its_own_certificates(rt: HostRuntime) -> Result<(), Fail> {
 const PART: &str =
     "p: a.o¶→cc -o p a.o¶a.o: a.c¶→cc -c a.c¶‖a.o‖a.c‖p: a.o a.c > p = cc -o p a.o; a.o: a.c > a.o = cc -c a.c";
 
+/// What is printed of the certificate that a build has, for another build.
+fn verified_for(alloc: Global, build: &str, other: &str) -> Result<String, Fail> {
+    let text = certificate_of(alloc, build)?;
+    verified(alloc, other, text.as_str())
+}
+
 #[test]
 fn refuses_certificates_of_other_goals(rt: HostRuntime) -> Result<(), Fail> {
-    let alloc = rt.alloc();
-    let whole = certificate_of(alloc, OBJECT)?;
-    let got = verified(alloc, PART, whole.as_str())?;
+    let got = verified_for(rt.alloc(), OBJECT, PART)?;
     assert_eq!(rt; got.as_str(), "refused 73");
-    let part = certificate_of(alloc, PART)?;
-    let got = verified(alloc, OBJECT, part.as_str())?;
+    let got = verified_for(rt.alloc(), PART, OBJECT)?;
     assert_eq!(rt; got.as_str(), "refused 73");
     Ok(())
 }
