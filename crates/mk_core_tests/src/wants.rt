@@ -1,8 +1,5 @@
 //! Verdicts and certificates where a growth is refused.
 
-ghost use Rattle.std.specs.Prelude.{◌≡◌, ◌<◌, ◌-◌, ◌^◌};
-ghost use Rattle.mk_read.specs.MemFiles.{failures_of};
-
 use crate::builds::{certificate, part, verdict, verified};
 use crate::rows::unfolded;
 use std::process::Abort;
