@@ -2,6 +2,12 @@
 #![tactic(auto)]
 
 #[cfg(test)]
+mod builds;
+#[cfg(test)]
+mod certificates;
+#[cfg(test)]
+mod findings;
+#[cfg(test)]
 mod graph_texts;
 #[cfg(test)]
 mod rows;
@@ -11,3 +17,5 @@ mod selections;
 mod simulations;
 #[cfg(test)]
 mod verdicts;
+#[cfg(test)]
+mod wants;

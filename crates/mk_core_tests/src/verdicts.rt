@@ -3,43 +3,121 @@
 ghost use Rattle.std.specs.Prelude.{◌≡◌, ◌<◌, ◌-◌, ◌^◌};
 ghost use Rattle.mk_read.specs.MemFiles.{failures_of};
 
-use crate::rows::{asked_by, unfolded};
-use mk_core::{Fault, MemFiles, Request, check, fault_text, render, verify_text};
-use std::alloc::Global;
+use crate::builds::{expect_verdicts, files_of_build, request_of, verdict, verdict_over};
+use mk_core::MemFiles;
 use std::process::Abort;
 use std::test::Fail;
 
-const PROGRAM: &str = "p: a.o¶→cc -o p a.o¶a.o: a.c¶→cc -c a.c¶";
+/// Builds that are right, and builds that aren't.
+const BUILDS: &str =
+    r"p: a.o¶→cc -o p a.o¶a.o: a.c¶→cc -c a.c¶‖‖a.c‖p: a.o > p = cc -o p a.o; a.o: a.c > a.o = cc -c a.c‖yes 2 recipes 2 reads¶way a.o a.c source a.o¶way p a.o written p a.o¶
+p: a.o¶→cc -o p a.o¶a.o: a.c¶→cc -c a.c¶‖‖a.c h.h‖p: a.o > p = cc -o p a.o; a.o: a.c h.h > a.o = cc -c a.c‖no stale a.o h.h¶
+p: a.o¶→cc -o p a.o¶a.o: a.c¶→cc -c a.c¶‖‖a.c‖p: a.o a.c > p = cc -o p a.o; a.o: a.c > a.o = cc -c a.c‖yes 2 recipes 3 reads¶way a.o a.c source a.o¶way p a.o written p a.o¶way p a.c source p a.o¶
+.PHONY: b¶all: x y¶x: a .WAIT b¶y: b¶a:¶→touch a¶b:¶→cat a¶‖‖‖a: > a = touch a; b: a > = cat a‖no race b a a¶
+.PHONY: b¶all: x¶x: a .WAIT b¶a:¶→touch a¶b:¶→cat a¶‖‖‖a: > a = touch a; b: a > = cat a‖yes 2 recipes 1 reads¶way b a always b¶
+.NOTPARALLEL:¶.PHONY: b¶all: a b¶a:¶→touch a¶b:¶→cat a¶‖‖‖a: > a = touch a; b: a > = cat a‖yes 2 recipes 1 reads¶way b a always b¶
+.NOTPARALLEL:¶.PHONY: b¶all: b a¶a:¶→touch a¶b:¶→cat a¶‖‖‖a: > a = touch a; b: a > = cat a‖no race b a a¶
+.NOTPARALLEL:¶.PHONY: b¶all: a b¶a:¶→touch a¶b:¶→cat a¶‖a b‖‖a: > a = touch a; b: a > = cat a‖no race b a a¶
+b: a¶→do b¶a:¶→do a¶‖‖‖a: > a log = do a; b: a > b log = do b‖no writers a b log¶
+m.o: m.c y.tab.h¶→cc -c m.c¶y.tab.h: y.tab.c¶y.tab.c: gram.y¶→yacc -d gram.y¶‖‖m.c gram.y‖m.o: m.c y.tab.h > m.o = cc -c m.c; y.tab.c: gram.y > y.tab.c y.tab.h = yacc -d gram.y‖yes 2 recipes 3 reads¶way y.tab.c gram.y source y.tab.c¶way m.o m.c source m.o¶way m.o y.tab.h written m.o y.tab.c¶
+all: y.tab.c .WAIT m.o¶m.o: m.c y.tab.h¶→cc -c m.c¶y.tab.h:¶y.tab.c: gram.y¶→yacc -d gram.y¶‖‖m.c gram.y‖m.o: m.c y.tab.h > m.o = cc -c m.c; y.tab.c: gram.y > y.tab.c y.tab.h = yacc -d gram.y‖no loose y.tab.h y.tab.c¶
+lib.a: a.o¶→ar rv $@ $?¶‖‖a.o‖lib.a: a.o > lib.a = ar rv lib.a ‖no varying lib.a¶
+.SUFFIXES:¶.SUFFIXES: .o .c .s¶.c.o:¶→cc -c $<¶.s.o:¶→as -o $@ $<¶all: gen .WAIT x.o¶gen:¶→mk¶‖‖x.s‖gen: > gen x.c = mk; x.o: x.s > x.o = as -o x.o x.s‖no selection x.o x.c¶
+-include a.d¶a.o: a.c¶→cc -MMD -c a.c¶‖‖a.c‖a.o: a.c > a.o a.d = cc -MMD -c a.c‖no given a.o a.d¶
+p: a.o¶→cc -o p a.o¶a.o: a.c¶→cc -c a.c¶‖‖a.c‖‖no record a.o¶no record p¶
+b: a¶→cp a b¶c: b¶→cp b c¶‖c b‖a‖b: a > b = cp a b; c: b > c = cp b c‖yes 2 recipes 2 reads¶way b a source b¶way c b written c b¶
+p: s¶→mk p¶s: a¶‖‖a‖p: a > p = mk p‖no stale p a¶";
 
-const BOOK: &str = r#"{"format":1,"fixed":[],"sources":["a.c"],"records":[
-{"target":"p","commands":["cc -o p a.o"],"reads":["a.o"],"writes":["p"]},
-{"target":"a.o","commands":["cc -c a.c"],"reads":["a.c"],"writes":["a.o"]}]}"#;
+#[test]
+fn judges_builds(rt: HostRuntime) -> Result<(), Fail> {
+    expect_verdicts(&rt, rt.alloc(), BUILDS)
+}
 
-/// What is printed of a verdict, or the words of the fault.
-fn printed(alloc: Global, files: &mut MemFiles, request: &Request) -> Result<String, Fail>
-    requires { failures_of files.old < 2 ^ 64 - 1 }
-{
-    let bytes = match check(alloc, files, request) {
-        Ok(verdict) => render(alloc, &verdict)?,
-        Err(fault) => fault_text(alloc, &fault)?,
-    };
-    Ok(String::from_utf8(bytes)?)
+/// Ways that are told: the shortest, among equals the first by the order of direct prerequisites;
+/// at its last recipe that a recipe writes the file, then that it is a source, then that the recipe
+/// is always made. Reads of what is given and can't be edited have none.
+const WAYS: &str =
+    r"t: b a¶→mk t¶a: z¶→mk a¶b: z¶→mk b¶z: s¶→mk z¶‖‖s‖t: b a z s > t = mk t; a: z > a = mk a; b: z > b = mk b; z: s > z = mk z‖yes 4 recipes 7 reads¶way z s source z¶way b z written b z¶way a z written a z¶way t b written t b¶way t a written t a¶way t z written t b z¶way t s source t b z¶
+t: b z¶→mk t¶b: z¶→mk b¶z: s¶→mk z¶‖‖s‖t: z > t = mk t; b: z > b = mk b; z: s > z = mk z‖yes 3 recipes 3 reads¶way z s source z¶way b z written b z¶way t z written t z¶
+.PHONY: o¶t: p¶→mk t¶p: o¶o:¶→mk o¶‖‖‖t: p f > t = mk t; o: > p f = mk o‖yes 2 recipes 2 reads¶way t p written t o¶way t f written t o¶
+.PHONY: t¶t: s¶→mk t¶‖‖s u‖t: s u > = mk t‖yes 1 recipes 2 reads¶way t s source t¶way t u always t¶
+.PHONY: force¶t: force s¶→mk t¶force:¶‖‖s u‖t: s u > t = mk t‖yes 1 recipes 2 reads¶way t s source t¶way t u always t¶
+p: a.o¶→cc -o p a.o¶a.o: a.c¶→cc -c a.c¶‖‖/usr/ a.c makefile‖p: a.o > p = cc -o p a.o; a.o: a.c /usr/h.h makefile > a.o = cc -c a.c‖yes 2 recipes 4 reads¶way a.o a.c source a.o¶way p a.o written p a.o¶
+p: s¶→mk p¶q: s¶→mk q¶‖‖s‖p: s > p x = mk p; q: y > p x = mk q‖yes 1 recipes 1 reads¶way p s source p¶
+all:¶‖‖‖‖yes 0 recipes 0 reads¶";
+
+#[test]
+fn shows_ways(rt: HostRuntime) -> Result<(), Fail> {
+    expect_verdicts(&rt, rt.alloc(), WAYS)
+}
+
+/// Footprints with groups of goals and shared lists, and such as are no footprints.
+const BOOKS: &str =
+    r#"p: a.o¶→cc -o p a.o¶a.o: a.c¶→cc -c a.c¶‖‖{"format":2,"fixed":[],"sources":["a.c","h.h"],"lists":{"hd":["h.h"]},"groups":[{"goals":["p"],"records":[{"target":"p","commands":["cc -o p a.o"],"reads":["a.o"],"writes":["p"],"shared":[]},{"target":"a.o","commands":["cc -c a.c"],"reads":["a.c"],"writes":["a.o"],"shared":["hd"]}]}]}‖‖no stale a.o h.h¶
+p: a.o¶→cc -o p a.o¶a.o: a.c¶→cc -c a.c¶‖a.o‖{"format":2,"fixed":[],"sources":["a.c","h.h"],"lists":{"hd":["h.h"]},"groups":[{"goals":["p"],"records":[{"target":"p","commands":["cc -o p a.o"],"reads":["a.o"],"writes":["p"],"shared":[]},{"target":"a.o","commands":["cc -c a.c"],"reads":["a.c"],"writes":["a.o"],"shared":["hd"]}]}]}‖‖refused 57
+p: a.o¶→cc -o p a.o¶a.o: a.c¶→cc -c a.c¶‖‖{"format":2,"fixed":[],"sources":["a.c","h.h"],"lists":{"hd":["h.h"]},"groups":[{"goals":["p"],"records":[{"target":"p","commands":["cc -o p a.o"],"reads":["a.o"],"writes":["p"],"shared":[]},{"target":"a.o","commands":["cc -c a.c"],"reads":["a.c"],"writes":["a.o"],"shared":["x"]}]}]}‖‖refused 58
+p: a.o¶→cc -o p a.o¶a.o: a.c¶→cc -c a.c¶‖‖{"format":2,"fixed":[],"sources":["a.c"],"lists":{},"groups":[{"goals":["p"],"records":[{"target":"p","commands":["cc -o p a.o"],"reads":["a.o"],"writes":["p"],"shared":[]},{"target":"a.o","commands":["cc -c a.c"],"reads":["a.c"],"writes":["a.o"],"shared":[]}]}]}‖‖yes 2 recipes 2 reads¶way a.o a.c source a.o¶way p a.o written p a.o¶
+p: a.o¶→cc -o p a.o¶a.o: a.c¶→cc -c a.c¶‖‖{"format":3}‖‖refused 53
+p: a.o¶→cc -o p a.o¶a.o: a.c¶→cc -c a.c¶‖‖{‖‖refused 51"#;
+
+#[test]
+fn minds_footprints(rt: HostRuntime) -> Result<(), Fail> {
+    expect_verdicts(&rt, rt.alloc(), BOOKS)
+}
+
+/// Builds that are refused, though something would be found of them.
+const REFUSED: &str = r"‖‖‖‖refused 44
+.c.o: x¶‖‖‖‖refused 45 makefile:1
+p: a(b)¶→mk p¶‖‖‖‖refused 28 makefile:1
+p: s¶→mk p¶‖p (‖{‖‖refused 28 goal:2
+p: s¶→mk p¶‖‖‖‖refused 41 s
+p: q¶→mk p¶q: p¶→mk q¶‖‖‖‖refused 42 p q p
+p: s¶→mk $(X¶‖‖s‖‖refused 13 makefile:2
+q: p¶→mk $(X¶p:¶→mk $%¶‖‖‖‖refused 17 makefile:4
+q: p¶→mk $(X)¶X = $(X)¶p:¶→mk p¶‖‖‖‖refused 12 makefile:2 X";
+
+#[test]
+fn refuses_builds(rt: HostRuntime) -> Result<(), Fail> {
+    expect_verdicts(&rt, rt.alloc(), REFUSED)
+}
+
+/// Builds that are judged again.
+const AGAIN: &str =
+    r"p: a.o¶→cc -o p a.o¶a.o: a.c¶→cc -c a.c¶‖‖a.c‖p: a.o a.c > p = cc -o p a.o; a.o: a.c > a.o = cc -c a.c
+all: a b t¶a:¶→a¶b:¶→b¶t:¶→t¶‖‖‖a: > a = a; b: > b = b; t: b a > t = t
+p: a.o¶→cc -o p a.o¶a.o: a.c¶→cc -c a.c¶‖‖a.c‖
+p: a.o¶→cc -o p a.o¶‖‖‖";
+
+#[test]
+fn says_the_same_again(rt: HostRuntime) -> Result<(), Fail> {
+    let alloc = rt.alloc();
+    for build in AGAIN.lines() {
+        let first = verdict(alloc, build)?;
+        let second = verdict(alloc, build)?;
+        assert_eq!(rt; first.as_str(), second.as_str(), "of {build:?}");
+    }
+    Ok(())
+}
+
+/// A build of one recipe.
+const COPY: &str = "b: a¶→cp a b¶‖‖a‖b: a > b = cp a b";
+
+#[test]
+fn refuses_reads_that_fail(rt: HostRuntime) -> Result<(), Fail> {
+    let alloc = rt.alloc();
+    let mut files = files_of_build(alloc, COPY)?;
+    files.fail_at(2);
+    let got = verdict_over(alloc, &mut files, &request_of(alloc, COPY)?)?;
+    assert_eq!(rt; got.as_str(), "refused 35 B");
+    Ok(())
 }
 
 #[test]
-fn answers_yes(rt: HostRuntime) -> Result<(), Fail> {
+fn refuses_without_footprints(rt: HostRuntime) -> Result<(), Fail> {
     let alloc = rt.alloc();
     let mut files = MemFiles::new(alloc);
-    files.add("makefile", unfolded(alloc, PROGRAM)?.as_bytes())?;
-    files.add("B", BOOK.as_bytes())?;
-    files.add("K", b"{}")?;
-    let asked = asked_by(alloc, "-b B")?;
-    let got = printed(alloc, &mut files, &asked)?;
-    assert_eq!(rt; got.as_str(), "yes 2 recipes 2 reads\nway a.o a.c source a.o\nway p a.o written p a.o\n");
-    let text = match verify_text(alloc, &mut files, &asked, "K") {
-        Ok(text) => text,
-        Err(fault) => fault_text(alloc, &fault)?,
-    };
-    assert_eq!(rt; String::from_utf8(text)?.as_str(), "refused 72 format");
+    files.add("makefile", b"b:")?;
+    let got = verdict_over(alloc, &mut files, &request_of(alloc, COPY)?)?;
+    assert_eq!(rt; got.as_str(), "refused 38 B");
     Ok(())
 }

@@ -1,0 +1,45 @@
+//! Verdicts and certificates where a growth is refused.
+
+use crate::builds::{certificate, part, verdict, verified};
+use crate::rows::unfolded;
+use std::process::Abort;
+use std::test::Fail;
+
+/// Builds, what is printed of their verdicts, a certificate, and what is printed of that.
+const BUILDS: &str =
+    r"p: a.o¶→cc -o p a.o¶a.o: a.c¶→cc -c a.c¶‖‖a.c‖p: a.o > p = cc -o p a.o; a.o: a.c > a.o = cc -c a.c‖yes 2 recipes 2 reads¶way a.o a.c source a.o¶way p a.o written p a.o¶‖p | a.o a.c source a.o; p a.o written p a.o‖yes 2 recipes 2 reads¶
+p: a.o¶→cc -o p a.o¶a.o: a.c¶→cc -c a.c¶‖‖a.c‖p: a.o a.c > p = cc -o p a.o; a.o: a.c > a.o = cc -c a.c‖yes 2 recipes 3 reads¶way a.o a.c source a.o¶way p a.o written p a.o¶way p a.c source p a.o¶‖p | a.o a.c source a.o; p a.o written p a.o; p a.c source p‖refused 75 p a.c
+.PHONY: b¶all: x y¶x: a .WAIT b¶y: b¶a:¶→touch a¶b:¶→cat a¶‖‖‖a: > a = touch a; b: a > = cat a‖no race b a a¶‖all | b a always b‖refused 76 race b a a
+m.o: m.c y.tab.h¶→cc -c m.c¶y.tab.h: y.tab.c¶y.tab.c: gram.y¶→yacc -d gram.y¶‖‖m.c gram.y‖m.o: m.c y.tab.h > m.o = cc -c m.c; y.tab.c: gram.y > y.tab.c y.tab.h = yacc -d gram.y‖yes 2 recipes 3 reads¶way y.tab.c gram.y source y.tab.c¶way m.o m.c source m.o¶way m.o y.tab.h written m.o y.tab.c¶‖m.o | y.tab.c gram.y source y.tab.c; m.o m.c source m.o‖refused 74 m.o y.tab.h";
+
+/// Expects this, or want of memory.
+fn expect_or_memory(rt: &impl Abort, got: &str, want: &str, row: &str) {
+    assert!(rt;
+        got == want || got == "want of memory",
+        "of {row:?}: {got:?}"
+    );
+}
+
+/// With a growth refused the verdict is want of memory, or the whole one.
+#[test]
+fn judges_or_wants_memory(rt: HostRuntime) -> Result<(), Fail> {
+    let alloc = rt.alloc();
+    for row in BUILDS.lines() {
+        let want = unfolded(alloc, part(row, 4))?;
+        expect_or_memory(&rt, verdict(alloc, row)?.as_str(), want.as_str(), row);
+    }
+    Ok(())
+}
+
+/// With a growth refused the answer to a certificate is want of memory, or the whole one.
+#[test]
+fn verifies_or_wants_memory(rt: HostRuntime) -> Result<(), Fail> {
+    let alloc = rt.alloc();
+    for row in BUILDS.lines() {
+        let told = certificate(alloc, part(row, 5))?;
+        let want = unfolded(alloc, part(row, 6))?;
+        let got = verified(alloc, row, told.as_str())?;
+        expect_or_memory(&rt, got.as_str(), want.as_str(), row);
+    }
+    Ok(())
+}
