@@ -1,3 +1,4 @@
+mod EndingLemmas
 mod ReaderLemmas
 mod RunLemmas
 mod PlainWords

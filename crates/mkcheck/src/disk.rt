@@ -1,10 +1,13 @@
 //! The files of the disk.
 
-ghost use Rattle.std.specs.Prelude.{◌≡◌, None};
+ghost use Rattle.std.specs.Prelude.{◌≡◌, ◌≢◌, None, Ok, Err, IfOk, IfSome, IsSomeAnd};
+ghost use Rattle.std.specs.IoError.{error_kind};
 
 use crate::slurp::slurp;
+use crate::source::Source;
 use mk_core::{Files, FilesError};
 use std::alloc::Global;
+use std::io::ErrorKind;
 use std::{fs, io, rt};
 
 /// The files of the disk. Its map is untold, since a file may change between two reads.
@@ -23,28 +26,46 @@ impl<'a, R> Disk<'a, R> {
     }
 }
 
+// What is answered where a file was not opened: there is none, memory is wanted, or, for each other
+// error, the read failed.
+fn unopened(error: &io::Error) -> Result<Option<Vec<u8>>, FilesError>
+    ensures missing { error_kind error.now ≡ ErrorKind.NotFound → result ≡ Ok None }
+    ensures memory { error_kind error.now ≡ ErrorKind.OutOfMemory
+        → result ≡ Err FilesError.Memory }
+    ensures others { error_kind error.now ≢ ErrorKind.NotFound
+        → error_kind error.now ≢ ErrorKind.OutOfMemory → result ≡ Err FilesError.ReadFailed }
+{
+    match error.kind() {
+        ErrorKind::NotFound => Ok(None),
+        ErrorKind::OutOfMemory => Err(FilesError::Memory),
+        _ => Err(FilesError::ReadFailed),
+    }
+}
+
+// The text of a file that was opened.
+fn opened<F: io::Read + Drop>(alloc: Global, file: F) -> Result<Option<Vec<u8>>, FilesError>
+    ensures { IfOk result (λ found. IsSomeAnd found
+        (λ text. IfSome (F.remaining file) (λ left. text.items ≡ left))) }
+{
+    Ok(Some(slurp(alloc, &mut Source::new(file))?))
+}
+
 impl<'a, R: rt::Files> Files for Disk<'a, R> {
     ghost told = { λ _. None };
 
     ghost failed = { λ disk. disk.failures };
 
+    /// A file that is not there is `None`. Each other failed open, a failed read, and a file of which
+    /// too much is there or which takes too many reads, is `ReadFailed`, and is counted.
     fn read(&mut self, alloc: Global, name: &str) -> Result<Option<Vec<u8>>, FilesError> {
         let read = match fs::open(self.rt, name) {
-            Ok(mut file) => slurp(alloc, &mut file),
-            Err(error) => match error.kind() {
-                io::ErrorKind::NotFound => return Ok(None),
-                io::ErrorKind::OutOfMemory => Err(FilesError::Memory),
-                _ => Err(FilesError::ReadFailed),
-            },
+            Ok(file) => opened(alloc, file),
+            Err(error) => unopened(&error),
         };
-        match read {
-            Ok(text) => Ok(Some(text)),
-            Err(FilesError::Memory) => Err(FilesError::Memory),
-            Err(FilesError::ReadFailed) => {
-                self.failures += 1;
-                Err(FilesError::ReadFailed)
-            }
+        if let Err(FilesError::ReadFailed) = read {
+            self.failures += 1;
         }
+        read
     }
 
     fn failures(&self) -> u64 {

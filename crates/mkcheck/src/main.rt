@@ -5,18 +5,22 @@ mod answering;
 mod asked;
 mod command;
 mod disk;
+#[cfg(test)]
+mod edge_tests;
+mod emit;
 mod ending;
+mod ran;
 mod run;
 mod slurp;
+mod source;
 #[cfg(test)]
 mod tests;
 #[cfg(test)]
 mod verdict_tests;
 
 use disk::Disk;
-use ending::{end, end_without_memory, end_without_words};
-use run::run;
-use std::alloc::Global;
+use ending::conclude;
+use ran::ran;
 use std::env::Env;
 use std::process::ExitCode;
 use std::{env, io};
@@ -29,20 +33,6 @@ fn words<R: Env + AllocGlobal>(rt: &R) -> io::Result<Vec<String>> {
 }
 
 fn main(rt: HostRuntime) -> ExitCode {
-    let mut err = rt.stderr();
-    let words = match words(&rt) {
-        Ok(words) => words,
-        Err(error) => {
-            let status = match error.kind() {
-                io::ErrorKind::OutOfMemory => end_without_memory(&mut err),
-                _ => end_without_words(&mut err),
-            };
-            return ExitCode::from(status);
-        }
-    };
-    let status = match run(rt.alloc(), &mut Disk::new(&rt), words.as_slice()) {
-        Ok(outcome) => end(&mut rt.stdout(), &mut err, &outcome),
-        Err(_) => end_without_memory(&mut err),
-    };
-    ExitCode::from(status)
+    let ran = ran(rt.alloc(), &mut Disk::new(&rt), words(&rt));
+    conclude(&mut rt.stdout(), &mut rt.stderr(), &ran)
 }

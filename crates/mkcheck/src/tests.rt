@@ -1,16 +1,11 @@
-//! Worked rows of `run`, and what no clause says of `slurp` and `Disk`.
+//! Worked rows of `run`.
 
 ghost use Rattle.std.specs.Prelude.{◌≡◌, IfOk};
 ghost use Rattle.mk_core.specs.MemFiles.{failures_of};
 
-use crate::disk::Disk;
-use crate::ending::{end, end_without_memory, end_without_words};
 use crate::run::{Outcome, run};
-use crate::slurp::slurp;
-use mk_core::{Files, FilesError, MemFiles};
+use mk_core::MemFiles;
 use std::alloc::{AllocError, Global};
-use std::io;
-use std::io::{ErrorKind, Read};
 use std::process::Abort;
 use std::test::Fail;
 
@@ -192,89 +187,5 @@ fn prints_help_and_version(rt: HostRuntime) -> Result<(), Fail> {
         let outcome = ran(rt.alloc(), PROGRAM, &[name, "--help"])?;
         assert!(rt; !outcome.out.is_empty() && outcome.err.is_empty() && outcome.status == 0);
     }
-    Ok(())
-}
-
-// A reader that gives a byte, is interrupted, and then gives another byte or fails.
-#[derive(Drop)]
-struct Uneven {
-    reads: u8,
-    fails: bool,
-}
-
-impl Read for Uneven {
-    fn read(&mut self, buf: &mut [u8]) -> io::Result<usize> {
-        self.reads = self.reads.saturating_add(1);
-        match self.reads {
-            2 => Err(io::Error::from(ErrorKind::Interrupted)),
-            3 if self.fails => Err(io::Error::from(ErrorKind::Other)),
-            1 | 3 => match buf.first_mut() {
-                Some(first) => {
-                    *first = b'a';
-                    Ok(1)
-                }
-                None => Ok(0),
-            },
-            _ => Ok(0),
-        }
-    }
-}
-
-#[test]
-fn reads_to_the_end(rt: HostRuntime) -> Result<(), Fail> {
-    let mut bytes: &[u8] = b"a: b\n";
-    assert!(rt; slurp(rt.alloc(), &mut bytes)?.as_slice() == b"a: b\n".as_slice());
-    let mut uneven = Uneven {
-        reads: 0,
-        fails: false,
-    };
-    assert!(rt; slurp(rt.alloc(), &mut uneven)?.as_slice() == b"aa".as_slice());
-    let mut failing = Uneven {
-        reads: 0,
-        fails: true,
-    };
-    assert!(rt; matches!(slurp(rt.alloc(), &mut failing), Err(FilesError::ReadFailed)));
-    Ok(())
-}
-
-#[test]
-fn reads_up_to_the_limit(rt: HostRuntime) -> Result<(), Fail> {
-    let mut longest = io::repeat(b'a').take(16_777_216);
-    assert_eq!(rt; slurp(rt.alloc(), &mut longest)?.len(), 16_777_216);
-    let mut longer = io::repeat(b'a').take(16_777_217);
-    assert!(rt; matches!(slurp(rt.alloc(), &mut longer), Err(FilesError::ReadFailed)));
-    Ok(())
-}
-
-#[test]
-fn reads_the_disk(rt: HostRuntime) -> Result<(), Fail> {
-    let text = Disk::new(&rt).read(rt.alloc(), "/dev/null")?;
-    assert!(rt; matches!(&text, Some(text) if text.is_empty()));
-    let text = Disk::new(&rt).read(rt.alloc(), "/dev/none")?;
-    assert!(rt; text.is_none());
-    for name in ["/", "/dev/zero"] {
-        let mut disk = Disk::new(&rt);
-        let text = disk.read(rt.alloc(), name);
-        assert!(rt; matches!(&text, Err(FilesError::ReadFailed)));
-        assert_eq!(rt; disk.failures(), 1);
-    }
-    Ok(())
-}
-
-#[test]
-fn ends_with_a_status(rt: HostRuntime) -> Result<(), Fail> {
-    let alloc = rt.alloc();
-    let (mut out, mut err) = (Vec::new(alloc), Vec::new(alloc));
-    let outcome = Outcome {
-        out: Vec::from_slice(alloc, b"out")?,
-        err: String::from_str(alloc, "err")?,
-        status: 0,
-    };
-    assert_eq!(rt; end(&mut out, &mut err, &outcome), 0);
-    assert_eq!(rt; out.as_slice(), b"out".as_slice());
-    assert_eq!(rt; err.as_slice(), b"err".as_slice());
-    assert_eq!(rt; end_without_memory(&mut out), 3);
-    assert_eq!(rt; end_without_words(&mut err), 2);
-    assert_eq!(rt; out.as_slice(), b"outwant of memory\n".as_slice());
     Ok(())
 }
