@@ -5,8 +5,8 @@
 ghost use Rattle.std.specs.Prelude.{◌≡◌, ◌<◌, ◌-◌, ◌^◌, IfOk};
 ghost use Rattle.mk_read.specs.MemFiles.{failures_of};
 
-use crate::rows::{asked_by, unfolded};
-use mk_core::{MemFiles, Request, Verdict, check, fault_text, render, verify_text};
+use crate::rows::{asked_by, bytes_of, unfolded};
+use mk_core::{Fault, MemFiles, Request, Verdict, check, fault_text, render, verify_text};
 use mk_ways::certificate_text;
 use std::alloc::{AllocError, Global};
 use std::process::Abort;
@@ -160,14 +160,27 @@ pub fn request_of(alloc: Global, build: &str) -> Result<Request, Fail> {
     asked_by(alloc, words.as_str())
 }
 
+/// What is printed of a verdict, or the line of its fault.
+fn rendered(alloc: Global, answer: Result<Verdict, Fault>) -> Result<Vec<u8>, AllocError> {
+    match answer {
+        Ok(verdict) => render(alloc, &verdict),
+        Err(fault) => fault_text(alloc, &fault),
+    }
+}
+
+/// The text of the certificate of a yes, and of another answer nothing.
+fn certificate_in(alloc: Global, answer: Result<Verdict, Fault>) -> Result<String, AllocError> {
+    match answer {
+        Ok(Verdict::Yes { certificate, .. }) => certificate_text(alloc, &certificate),
+        _ => Ok(String::new(alloc)),
+    }
+}
+
 /// What is printed of a verdict over files, or the words of the fault.
 pub fn verdict_over(alloc: Global, files: &mut MemFiles, asked: &Request) -> Result<String, Fail>
     requires { failures_of files.old < 2 ^ 64 - 1 }
 {
-    let bytes = match check(alloc, files, asked) {
-        Ok(verdict) => render(alloc, &verdict)?,
-        Err(fault) => fault_text(alloc, &fault)?,
-    };
+    let bytes = rendered(alloc, check(alloc, files, asked))?;
     Ok(String::from_utf8(bytes)?)
 }
 
@@ -181,10 +194,7 @@ pub fn verdict(alloc: Global, build: &str) -> Result<String, Fail> {
 fn certificate_over(alloc: Global, files: &mut MemFiles, asked: &Request) -> Result<String, Fail>
     requires { failures_of files.old < 2 ^ 64 - 1 }
 {
-    match check(alloc, files, asked) {
-        Ok(Verdict::Yes { certificate, .. }) => Ok(certificate_text(alloc, &certificate)?),
-        _ => Ok(String::new(alloc)),
-    }
+    Ok(certificate_in(alloc, check(alloc, files, asked))?)
 }
 
 /// The text of the certificate of a build, where there is one.
@@ -197,10 +207,7 @@ pub fn certificate_of(alloc: Global, build: &str) -> Result<String, Fail> {
 pub fn answer_over(alloc: Global, files: &mut MemFiles, asked: &Request) -> Result<String, Fail>
     requires { failures_of files.old < 2 ^ 64 - 1 }
 {
-    let bytes = match verify_text(alloc, files, asked, "K") {
-        Ok(text) => text,
-        Err(fault) => fault_text(alloc, &fault)?,
-    };
+    let bytes = bytes_of(alloc, verify_text(alloc, files, asked, "K"))?;
     Ok(String::from_utf8(bytes)?)
 }
 

@@ -51,7 +51,7 @@ pub fn asked_by(alloc: Global, words: &str) -> Result<Request, Fail> {
 }
 
 /// The text of an answer, or the line of its fault.
-fn bytes_of(alloc: Global, answer: Result<Vec<u8>, Fault>) -> Result<Vec<u8>, AllocError> {
+pub fn bytes_of(alloc: Global, answer: Result<Vec<u8>, Fault>) -> Result<Vec<u8>, AllocError> {
     match answer {
         Ok(text) => Ok(text),
         Err(fault) => fault_text(alloc, &fault),

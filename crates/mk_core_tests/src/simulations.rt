@@ -4,8 +4,8 @@ ghost use Rattle.std.specs.Prelude.{◌≡◌, ◌<◌, ◌-◌, ◌^◌};
 ghost use Rattle.mk_read.specs.MemFiles.{failures_of};
 
 use crate::rows::{asked_by, unfolded};
-use mk_core::{MemFiles, Request, fault_text, simulate_text};
-use std::alloc::Global;
+use mk_core::{Fault, MemFiles, Request, Simulation, fault_text, simulate_text};
+use std::alloc::{AllocError, Global};
 use std::process::Abort;
 use std::test::Fail;
 
@@ -48,14 +48,19 @@ make 1/make 1 a => refused 62 line 2/a 1 1/
 stop => refused 61 line 1/a 1 1/
 make 1/begin b/stop => refused 68 line 3/a 1 1/";
 
+/// The text of a run, or the line of its fault.
+fn text_of(alloc: Global, answer: Result<Simulation, Fault>) -> Result<Vec<u8>, AllocError> {
+    match answer {
+        Ok(run) => Ok(run.text),
+        Err(fault) => fault_text(alloc, &fault),
+    }
+}
+
 /// What is printed of the run of a plan, or the words of the fault.
 fn printed(alloc: Global, files: &mut MemFiles, request: &Request) -> Result<String, Fail>
     requires { failures_of files.old < 2 ^ 64 - 1 }
 {
-    let bytes = match simulate_text(alloc, files, request, "P") {
-        Ok(run) => run.text,
-        Err(fault) => fault_text(alloc, &fault)?,
-    };
+    let bytes = text_of(alloc, simulate_text(alloc, files, request, "P"))?;
     Ok(String::from_utf8(bytes)?)
 }
 
