@@ -24,6 +24,7 @@ PLACES = {
     ("mk_read/src/fault.rt", "ReadFault::Memory"): "the pattern of the test for want of memory",
     ("mk_read/src/reading.rt", "return ReadFault::Memory;"): "behind the test that the fault is want of memory",
     ("mk_world/src/running.rt", "return Err(AllocError);"): "behind the test that the fault is want of memory",
+    ("mkcheck/src/ran.rt", "Err(_) => Err(Stop::Memory),"): "the call has no other error",
     ("mkcheck/src/run.rt", "return Err(AllocError);"): "behind the test that the fault is want of memory",
 }
 
