@@ -128,16 +128,16 @@ def far(count: int) -> Build:
     return Build("".join(rules), [], records)
 
 
-# Each shape with its largest size, and the statuses that `check` ends with.
-SHAPES: list[tuple[Callable[[int], Build], int, int]] = [
-    (flat, 4000, 0),
-    (deep, 4000, 0),
-    (layered, 60, 0),
-    (inferred, 2000, 0),
-    (waiting, 1900, 1),
-    (forgotten, 2000, 1),
-    (large, 3900 // 2, 0),
-    (far, 1500, 0),
+# Each shape with a size, one of twice as many targets, and the status that `check` ends with.
+SHAPES: list[tuple[Callable[[int], Build], int, int, int]] = [
+    (flat, 2000, 4000, 0),
+    (deep, 2000, 4000, 0),
+    (layered, 42, 60, 0),
+    (inferred, 1000, 2000, 0),
+    (waiting, 950, 1900, 1),
+    (forgotten, 1000, 2000, 1),
+    (large, 975, 1950, 0),
+    (far, 750, 1500, 0),
 ]
 
 
@@ -185,20 +185,28 @@ def written(build: Build, label: str) -> tuple[Path, Path]:
     return makefile, book
 
 
+def reads(tool: Tool, makefile: Path) -> bool:
+    """Whether the tool reads the makefile: GNU make does without `.WAIT` before its version 4.4."""
+    done = subprocess.run([tool.path, *tool.arguments, makefile.name], capture_output=True, check=False)
+    return done.returncode == 0
+
+
 def measure(build: Build, label: str, status: int, measured: list[Tool]) -> Figures:
     """The tools take turns; the least time of each counts."""
     makefile, book = written(build, label)
     check = [measured[0].path, "check", "-f", makefile.name, "-b", book.name]
     output = DATA / "output"
     spent(check, {status}, output)
+    peers = [tool for tool in measured[1:] if reads(tool, makefile)]
     size = (makefile.stat().st_size + book.stat().st_size + output.stat().st_size) / 2**20
-    own, others, loads = [], {tool.name: [] for tool in measured[1:]}, []
+    own, others, loads = [], {tool.name: [] for tool in peers}, []
     for _ in range(RUNS):
         own.append(spent(check, {status}, Path(os.devnull)))
-        for tool in measured[1:]:
+        for tool in peers:
             others[tool.name].append(spent([tool.path, *tool.arguments, makefile.name], {0}, Path(os.devnull)))
         loads.append(json_time(book))
-    return Figures(size, summary(own), min(summary(taken).time for taken in others.values()), min(loads))
+    fastest = min((summary(taken).time for taken in others.values()), default=0.0)
+    return Figures(size, summary(own), fastest, min(loads))
 
 
 def main() -> None:
@@ -207,8 +215,8 @@ def main() -> None:
     os.chdir(DATA)
     print(f"processor time, least of {RUNS} runs; {', '.join(tool.path for tool in measured)}")
     print(f"{'build':<18}{'MB':>6}{'check ms':>10}{'make ms':>9}{'json ms':>9}{'ratio':>7}{'growth':>8}{'memory MB':>11}{'by MB':>7}")
-    for shape, count, status in SHAPES:
-        half = measure(shape(count // 2), "half", status, measured)
+    for shape, smaller, count, status in SHAPES:
+        half = measure(shape(smaller), "half", status, measured)
         whole = measure(shape(count), "whole", status, measured)
         by_size = f"{whole.own.memory / whole.size:>7.1f}" if whole.size >= LARGE else ""
         growth = whole.own.time / half.own.time
