@@ -1,12 +1,15 @@
 //! From the words of the command line, or the error in their place, to an outcome.
 
-ghost use Rattle.std.specs.Prelude.{◌≡◌, ◌≢◌, ◌<◌, ◌^◌, ◌-◌, Err, IfErr, OnOk};
+ghost use Rattle.std.specs.Prelude.{◌≡◌, ◌≢◌, ◌<◌, ◌^◌, ◌-◌, [], map, Err, IfErr, IfOk, IfSome, OnOk};
 ghost use Rattle.std.specs.IoError.{error_kind};
+ghost use Rattle.mkcheck.specs.Asked.{asked_of, faults_of};
+ghost use Rattle.mkcheck.specs.Run.{IsAnswered, Promises, written};
 
 use crate::ending::Stop;
 use crate::run::{Outcome, run};
 use mk_core::Files;
 use std::alloc::Global;
+use std::convert::AsStr;
 use std::io;
 use std::io::ErrorKind;
 
@@ -22,6 +25,19 @@ pub fn ran<F: Files>(
         → result ≡ Err Stop.Memory) }
     ensures words { IfErr words (λ error. error_kind error ≢ ErrorKind.OutOfMemory
         → result ≡ Err Stop.Words) }
+
+    // Words that the command line takes ask something, which is answered; and status 0 of a verdict
+    // says that the build is right.
+    ensures taken { IfOk words (λ given. IfOk result (λ outcome.
+        faults_of (map ⟦<String as AsStr>⟧.text given.items) ≡ [] →
+        IsAnswered (F.told files.old) (F.failed files.old) (F.failed files.new)
+        (asked_of (map ⟦<String as AsStr>⟧.text given.items)) (written outcome))) }
+    ensures right { IfOk words (λ given. IfOk result (λ outcome.
+        faults_of (map ⟦<String as AsStr>⟧.text given.items) ≡ [] → outcome.status ≡ 0 →
+        IfSome (F.told files.old)
+        (λ told. Promises told (asked_of (map ⟦<String as AsStr>⟧.text given.items))))) }
+
+    // Nothing but want of memory stands in place of an outcome then.
     ensures want { OnOk words (IfErr result (λ stop. stop ≡ Stop.Memory)) }
 {
     match words {
