@@ -6,7 +6,7 @@
 PREFIX = /usr/local
 CRATE =
 
-.PHONY: all demo check edits growths bench install clean
+.PHONY: all demo check program edits growths bench install clean
 
 # rt looks by itself at what changed since the last build, so `all` is always
 # run and names no source. It proves the program, links it, and runs it once.
@@ -31,6 +31,10 @@ demo: all
 # last line, `N passed, M failed`, is to stay the last one that is printed.
 check:
 	@rt ci
+
+# Runs the program over real files, and compares its streams and its status.
+program: all
+	@python3 tests/program/run.py
 
 # Tries the wrong edits that the gate leaves out, those of all crates or of one:
 # the prover has to refuse each.

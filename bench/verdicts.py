@@ -136,7 +136,7 @@ SHAPES: list[tuple[Callable[[int], Build], int, int, int]] = [
     (inferred, 1000, 2000, 0),
     (waiting, 950, 1900, 1),
     (forgotten, 1000, 2000, 1),
-    (large, 975, 1950, 0),
+    (large, 940, 1880, 0),
     (far, 750, 1500, 0),
 ]
 

@@ -27,6 +27,24 @@ SHARING = """{"format":2,"fixed":["/usr/"],"sources":["a.c","h.h","a.c"],"lists"
 {"target":"p","commands":["cc -o p a.o"],"reads":["a.o"],"writes":["p"],"shared":[]},
 {"target":"a.o","commands":["cc -c a.c"],"reads":["a.c"],"writes":["a.o"],"shared":["hd"]}]}]}"""
 
+CERTIFICATE = (
+    '{"format":1,"goals":["p"],"ways":['
+    '{"end":"source","file":"a.c","path":["a.o"],"recipe":"a.o"},'
+    '{"end":"written","file":"a.o","path":["p","a.o"],"recipe":"p"}'
+)
+FAR_READ = RECORDED.replace('"reads":["a.o"]', '"reads":["a.o","a.c"]')
+FAR_CERTIFICATE = CERTIFICATE + ',{"end":"source","file":"a.c","path":["p","a.o"],"recipe":"p"}]}'
+RACE_RULES = ".PHONY: b\nall: x y\nx: a .WAIT b\ny: b\na:\n\ttouch a\nb:\n\tcat a\n"
+RACE = """{"format":1,"fixed":[],"sources":[],"records":[
+{"target":"a","commands":["touch a"],"reads":[],"writes":["a"]},
+{"target":"b","commands":["cat a"],"reads":["a"],"writes":[]}]}"""
+BESIDE_RULES = (
+    "m.o: m.c y.tab.h\n\tcc -c m.c\ny.tab.h: y.tab.c\ny.tab.c: gram.y\n\tyacc -d gram.y\n"
+)
+BESIDE = """{"format":1,"fixed":[],"sources":["m.c","gram.y"],"records":[
+{"target":"m.o","commands":["cc -c m.c"],"reads":["m.c","y.tab.h"],"writes":["m.o"]},
+{"target":"y.tab.c","commands":["yacc -d gram.y"],"reads":["gram.y"],"writes":["y.tab.c","y.tab.h"]}]}"""
+
 
 def nested(last: str) -> dict[str, str]:
     """A makefile and sixteen files, each of which includes the next one."""
@@ -47,8 +65,7 @@ EXAMPLES = {
     ),
     "a file that is written beside another": (
         {
-            "makefile": "m.o: m.c y.tab.h\n\tcc -c m.c\ny.tab.h: y.tab.c\n"
-            "y.tab.c: gram.y\n\tyacc -d gram.y\n"
+            "makefile": BESIDE_RULES,
         },
         ["graph"],
         0,
@@ -122,6 +139,61 @@ EXAMPLES = {
         ["simulate", "-b", "B", "-p", "P"],
         2,
         "refused 69 line 3\n",
+    ),
+    "a yes": (
+        {"makefile": PLAIN_RULES, "B": RECORDED},
+        ["check", "-b", "B"],
+        0,
+        "yes 2 recipes 2 reads\nway a.o a.c source a.o\nway p a.o written p a.o\n",
+    ),
+    "a certificate": (
+        {"makefile": PLAIN_RULES, "B": FAR_READ},
+        ["check", "-c", "-b", "B"],
+        0,
+        FAR_CERTIFICATE + "\n",
+    ),
+    "a race": (
+        {"makefile": RACE_RULES, "B": RACE},
+        ["check", "-b", "B"],
+        1,
+        "no race b a a\n",
+    ),
+    "a yes of a file that is written beside another": (
+        {"makefile": BESIDE_RULES, "B": BESIDE},
+        ["check", "-b", "B"],
+        0,
+        "yes 2 recipes 3 reads\nway y.tab.c gram.y source y.tab.c\nway m.o m.c source m.o\n"
+        "way m.o y.tab.h written m.o y.tab.c\n",
+    ),
+    "recipes without records": (
+        {"makefile": PLAIN_RULES, "B": NO_RECORDS},
+        ["check", "-b", "B"],
+        1,
+        "no record a.o\nno record p\n",
+    ),
+    "a stale read": (
+        {"makefile": PLAIN_RULES, "B": SHARING},
+        ["check", "-b", "B"],
+        1,
+        "no stale a.o h.h\n",
+    ),
+    "a yes verified": (
+        {"makefile": PLAIN_RULES, "B": FAR_READ, "C": FAR_CERTIFICATE},
+        ["verify", "-b", "B", "-k", "C"],
+        0,
+        "yes 2 recipes 3 reads\n",
+    ),
+    "a way that is missing": (
+        {"makefile": PLAIN_RULES, "B": FAR_READ, "C": CERTIFICATE + "]}"},
+        ["verify", "-b", "B", "-k", "C"],
+        2,
+        "refused 74 p a.c\n",
+    ),
+    "a certificate of no JSON": (
+        {"makefile": PLAIN_RULES, "B": FAR_READ, "C": CERTIFICATE},
+        ["verify", "-b", "B", "-k", "C"],
+        2,
+        "refused 71\n",
     ),
 }
 
