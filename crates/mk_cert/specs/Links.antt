@@ -10,17 +10,22 @@ use Rattle.mk_ways.specs.Certificate.{Way}
 use Rattle.mk_cert.specs.Subject.{Subject, footprints, name_of, reads_of}
 use Rattle.mk_cert.specs.Verdict.{HasEntry}
 
--- at each number stands what is so of the node with it: the files that it reads, the recipes that
--- it carries, its direct prerequisites, and whether it is always made
+-- at each number stands what is so of the node with it: its name, its direct prerequisites, and
+-- whether it is always made
+pub record AreEnds (x : Subject) (names : List (List ℕ)) (needed : List (List ℕ))
+    (always : List Bool) : Type 0 where
+  pub names_held : names ≡ map (λ (n : Node). n.name) x.graph.nodes
+  pub needed_held : (t p : ℕ) → Has (slice_index_or needed t []) p ↔ Has (prerequisites x.graph t) p
+  pub always_held : (t : ℕ) → (slice_index_or always t false ≡ true) ↔ IsAlwaysMade x.graph t
+
+-- so do these, and the files that its recipe reads, and the recipes that it carries
 pub record AreLinks (x : Subject) (names : List (List ℕ)) (reads : List (List (List ℕ)))
     (carried needed : List (List ℕ)) (always : List Bool) : Type 0 where
-  pub names_held : names ≡ map (λ (n : Node). n.name) x.graph.nodes
+  pub ends : AreEnds x names needed always
   pub reads_held : (t : ℕ) (f : List ℕ) →
       (has_name (slice_index_or reads t []) f ≡ true) ↔ Has (reads_of x t) f
   pub carried_held : (t o : ℕ) →
       Has (slice_index_or carried t []) o ↔ Carries x.graph (footprints x.setting) t o
-  pub needed_held : (t p : ℕ) → Has (slice_index_or needed t []) p ↔ Has (prerequisites x.graph t) p
-  pub always_held : (t : ℕ) → (slice_index_or always t false ≡ true) ↔ IsAlwaysMade x.graph t
 
 -- at the number of each recipe stand the files for which it has an entry among these
 abbrev pub AreSeen : Subject → List Way → List (List (List ℕ)) → Type 0

@@ -47,8 +47,8 @@ fn note_good<'a>(
     way: &'a Way,
     seen: &mut Vec<NameSet<'a>>,
 ) -> Result<bool, AllocError>
-    requires links { AreLinks subject.now links.now.names links.now.reads.items
-        links.now.carried.items links.now.needed.items links.now.always.items }
+    requires links { AreLinks subject.now links.now.ends.names links.now.reads.items
+        links.now.carried.items links.now.ends.needed.items links.now.ends.always.items }
     requires sets { HasSets subject.now seen.old.items }
     ensures judged { IfOk result (λ good.
         Judges subject.now way.entry.now seen.old.items seen.new.items good) }
@@ -78,8 +78,8 @@ pub fn check_entries<'a>(
     ways: &'a [Way],
     seen: &mut Vec<NameSet<'a>>,
 ) -> Result<(), CertFault>
-    requires links { AreLinks subject.now links.now.names links.now.reads.items
-        links.now.carried.items links.now.needed.items links.now.always.items }
+    requires links { AreLinks subject.now links.now.ends.names links.now.reads.items
+        links.now.carried.items links.now.ends.needed.items links.now.ends.always.items }
     requires sets { HasSets subject.now seen.old.items }
     requires empty { AreSeen subject.now [] seen.old.items }
     ensures answer { (result ≡ Err Memory) ⊎ AnswersEntries subject.now ways.entry.now result }

@@ -32,7 +32,7 @@ pub use entry::Entry;
 pub use fault::CertFault;
 pub use finding::Finding;
 pub use findings::static_findings;
-pub use links::{Links, always_made, links_of, node_names};
+pub use links::{Ends, Links, always_made, ends_of, links_of, node_names};
 pub use race_findings::races;
 pub use subject::Subject;
 pub use verifying::verify;

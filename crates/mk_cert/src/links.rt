@@ -9,7 +9,7 @@ ghost use Rattle.mk_graph.specs.Setting.{IsAlwaysMade};
 ghost use Rattle.mk_graph.specs.Setting as build;
 ghost use Rattle.mk_graph.specs.Ways.{Carries};
 ghost use Rattle.mk_cert.specs.Subject.{footprints, name_of, reads_of};
-ghost use Rattle.mk_cert.specs.Links.{AreLinks};
+ghost use Rattle.mk_cert.specs.Links.{AreEnds, AreLinks};
 
 use crate::entry::reads_in;
 use crate::subject::Subject;
@@ -20,19 +20,26 @@ use mk_graph::{Graph, NodeSet};
 use mk_lines::NameSet;
 use std::alloc::{AllocError, Global};
 
-/// What is looked up of ways: at the number of each node what is so of it.
+/// What is looked up where ways end: at the number of each node what is so of it.
 #[derive(Drop)]
-pub struct Links<'a> {
+pub struct Ends<'a> {
     /// Its name.
     pub names: NameSet<'a>,
-    /// The files that its recipe reads.
-    pub reads: Vec<NameSet<'a>>,
-    /// The recipes that it carries.
-    pub carried: Vec<NodeSet>,
     /// Its direct prerequisites.
     pub needed: Vec<NodeSet>,
     /// Whether it is made in each make.
     pub always: Vec<bool>,
+}
+
+/// What is looked up along ways: at the number of each node what is so of it.
+#[derive(Drop)]
+pub struct Links<'a> {
+    /// What is looked up where they end.
+    pub ends: Ends<'a>,
+    /// The files that its recipe reads.
+    pub reads: Vec<NameSet<'a>>,
+    /// The recipes that it carries.
+    pub carried: Vec<NodeSet>,
 }
 
 /// The names of the nodes of a graph, each at its number. It fails for want of memory alone.
@@ -151,18 +158,28 @@ pub fn always_made(alloc: Global, graph: &Graph) -> Result<Vec<bool>, AllocError
     Ok(always)
 }
 
-/// All that is looked up of ways. It takes time linear in what is recorded, where each file has one
-/// writer.
+/// All that is looked up where ways end. It takes time linear in the graph.
+pub fn ends_of<'a>(alloc: Global, subject: &'a Subject<'_>) -> Result<Ends<'a>, AllocError>
+    ensures { IfOk result (λ e. AreEnds subject.now e.names e.needed.items e.always.items) }
+{
+    let graph = subject.graph();
+    Ok(Ends {
+        names: node_names(alloc, graph)?,
+        needed: needed_sets(alloc, graph)?,
+        always: always_made(alloc, graph)?,
+    })
+}
+
+/// All that is looked up along ways. It takes time linear in what is recorded, where each file has
+/// one writer.
 pub fn links_of<'a>(alloc: Global, subject: &'a Subject<'_>) -> Result<Links<'a>, AllocError>
-    ensures { IfOk result (λ l. AreLinks subject.now l.names l.reads.items l.carried.items
-        l.needed.items l.always.items) }
+    ensures { IfOk result (λ l. AreLinks subject.now l.ends.names l.reads.items l.carried.items
+        l.ends.needed.items l.ends.always.items) }
 {
     let graph = subject.graph();
     Ok(Links {
-        names: node_names(alloc, graph)?,
+        ends: ends_of(alloc, subject)?,
         reads: read_sets(alloc, graph, subject.setting())?,
         carried: carried_sets(alloc, subject)?,
-        needed: needed_sets(alloc, graph)?,
-        always: always_made(alloc, graph)?,
     })
 }

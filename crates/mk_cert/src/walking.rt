@@ -9,10 +9,10 @@ ghost use Rattle.mk_cert.specs.Subject.{footprints, name_of};
 ghost use Rattle.mk_cert.specs.Conditions.{IsRecipe};
 ghost use Rattle.mk_cert.specs.Paths.{EndsAt};
 ghost use Rattle.mk_cert.specs.Verdict.{IsGood, NeedsWay};
-ghost use Rattle.mk_cert.specs.Links.{AreLinks};
+ghost use Rattle.mk_cert.specs.Links.{AreEnds, AreLinks};
 ghost use Rattle.mk_cert.specs.Walking.{GoesOver, Leads};
 
-use crate::links::Links;
+use crate::links::{Ends, Links};
 use crate::subject::Subject;
 use crate::writer_findings::has_number;
 use mk_graph::NodeSet;
@@ -42,15 +42,14 @@ pub fn stands_at(sets: &[NameSet<'_>], place: usize, name: &str) -> bool
 }
 
 /// The number of the recipe with a name.
-fn recipe_named(subject: &Subject<'_>, links: &Links<'_>, name: &str) -> Option<usize>
-    requires { AreLinks subject.now links.now.names links.now.reads.items links.now.carried.items
-        links.now.needed.items links.now.always.items }
+fn recipe_named(subject: &Subject<'_>, ends: &Ends<'_>, name: &str) -> Option<usize>
+    requires { AreEnds subject.now ends.now.names ends.now.needed.items ends.now.always.items }
     ensures { MatchOption result ((n : ℕ) → IsRecipe subject.now n →
         ¬ (name_of subject.now n ≡ name.now))
         (λ n. IsRecipe subject.now n × (name_of subject.now n ≡ name.now)) }
 {
     names_have_one_number();
-    let number = links.names.number_of(name);
+    let number = ends.names.number_of(name);
     let Some(node) = subject.graph().nodes().get(number) else {
         return None;
     };
@@ -67,8 +66,8 @@ fn last_over(
     start: usize,
     names: &[Name],
 ) -> Option<usize>
-    requires { AreLinks subject.now links.now.names links.now.reads.items links.now.carried.items
-        links.now.needed.items links.now.always.items }
+    requires { AreLinks subject.now links.now.ends.names links.now.reads.items
+        links.now.carried.items links.now.ends.needed.items links.now.ends.always.items }
     ensures { MatchOption result
         ((last : ℕ) → ¬ (GoesOver subject.now start names.now last))
         (λ last. GoesOver subject.now start names.now last) }
@@ -77,7 +76,7 @@ fn last_over(
     let _graph = subject.graph();
     let mut last = start;
     for name in names {
-        let Some(next) = recipe_named(subject, links, name.as_str()) else {
+        let Some(next) = recipe_named(subject, &links.ends, name.as_str()) else {
             return None;
         };
         if !has_at(&links.carried, last, next) {
@@ -96,27 +95,25 @@ pub fn can_change(subject: &Subject<'_>, file: &str) -> bool
 }
 
 /// Whether a file is a direct prerequisite of a node.
-fn needs(subject: &Subject<'_>, links: &Links<'_>, number: usize, file: &str) -> bool
-    requires { AreLinks subject.now links.now.names links.now.reads.items links.now.carried.items
-        links.now.needed.items links.now.always.items }
+fn needs(subject: &Subject<'_>, ends: &Ends<'_>, number: usize, file: &str) -> bool
+    requires { AreEnds subject.now ends.now.names ends.now.needed.items ends.now.always.items }
     ensures { (result ≡ true) ↔ Needs subject.now.graph number file.now }
 {
     names_have_one_number();
     let _graph = subject.graph();
-    has_at(&links.needed, number, links.names.number_of(file))
+    has_at(&ends.needed, number, ends.names.number_of(file))
 }
 
 /// Whether a path to a file may end so at a recipe. A file has one writer where nothing was found,
 /// so its writers are no list to go through.
 pub fn ends_at(
     subject: &Subject<'_>,
-    links: &Links<'_>,
+    ends: &Ends<'_>,
     file: &str,
     finish: Finish,
     number: usize,
 ) -> bool
-    requires { AreLinks subject.now links.now.names links.now.reads.items links.now.carried.items
-        links.now.needed.items links.now.always.items }
+    requires { AreEnds subject.now ends.now.names ends.now.needed.items ends.now.always.items }
     ensures { (result ≡ true) ↔ EndsAt subject.now.graph (footprints subject.now.setting) file.now
         finish number }
 {
@@ -125,16 +122,16 @@ pub fn ends_at(
     match finish {
         Finish::Written => has_number(subject.writers(file), number),
         Finish::Source => {
-            subject.setting().is_editable(file) && needs(subject, links, number, file)
+            subject.setting().is_editable(file) && needs(subject, ends, number, file)
         }
-        Finish::Always => links.always.get(number) == Some(&true),
+        Finish::Always => ends.always.get(number) == Some(&true),
     }
 }
 
 /// Whether a recipe reads a file which can change.
 fn needs_way(subject: &Subject<'_>, links: &Links<'_>, number: usize, file: &str) -> bool
-    requires { AreLinks subject.now links.now.names links.now.reads.items links.now.carried.items
-        links.now.needed.items links.now.always.items }
+    requires { AreLinks subject.now links.now.ends.names links.now.reads.items
+        links.now.carried.items links.now.ends.needed.items links.now.ends.always.items }
     ensures { (result ≡ true) ↔ NeedsWay subject.now number file.now }
 {
     stands_at(&links.reads, number, file) && can_change(subject, file)
@@ -142,8 +139,8 @@ fn needs_way(subject: &Subject<'_>, links: &Links<'_>, number: usize, file: &str
 
 /// Whether the path of an entry goes on from its first recipe to its file.
 fn leads(subject: &Subject<'_>, links: &Links<'_>, start: usize, others: &[Name], way: &Way) -> bool
-    requires { AreLinks subject.now links.now.names links.now.reads.items links.now.carried.items
-        links.now.needed.items links.now.always.items }
+    requires { AreLinks subject.now links.now.ends.names links.now.reads.items
+        links.now.carried.items links.now.ends.needed.items links.now.ends.always.items }
     ensures { (result ≡ true) ↔ Leads subject.now start others.now way.now }
 {
     names_have_one_number();
@@ -154,13 +151,13 @@ fn leads(subject: &Subject<'_>, links: &Links<'_>, start: usize, others: &[Name]
     if others.is_empty() && way.finish == Finish::Written {
         return false;
     }
-    ends_at(subject, links, way.file.as_str(), way.finish, last)
+    ends_at(subject, &links.ends, way.file.as_str(), way.finish, last)
 }
 
 /// The number of the recipe of an entry, where the entry is good.
 pub fn good_start(subject: &Subject<'_>, links: &Links<'_>, way: &Way) -> Option<usize>
-    requires { AreLinks subject.now links.now.names links.now.reads.items links.now.carried.items
-        links.now.needed.items links.now.always.items }
+    requires { AreLinks subject.now links.now.ends.names links.now.reads.items
+        links.now.carried.items links.now.ends.needed.items links.now.ends.always.items }
     ensures { MatchOption result (¬ (IsGood subject.now way.now))
         (λ n. IsGood subject.now way.now × IsRecipe subject.now n ×
         (name_of subject.now n ≡ way.now.recipe)) }
@@ -173,7 +170,7 @@ pub fn good_start(subject: &Subject<'_>, links: &Links<'_>, way: &Way) -> Option
     if first.as_str() != way.recipe.as_str() {
         return None;
     }
-    let Some(start) = recipe_named(subject, links, first.as_str()) else {
+    let Some(start) = recipe_named(subject, &links.ends, first.as_str()) else {
         return None;
     };
     if !needs_way(subject, links, start, way.file.as_str()) {

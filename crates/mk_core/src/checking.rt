@@ -15,8 +15,8 @@ use crate::laws::yes_is_right;
 use crate::request::Request;
 use crate::verdict::{Findings, Verdict};
 use mk_cert::{Subject, counts};
+use mk_find::judge;
 use mk_find::laws::no_findings;
-use mk_find::{certify, findings};
 use mk_read::Files;
 use std::alloc::{AllocError, Global};
 
@@ -25,17 +25,17 @@ fn verdict_of(alloc: Global, subject: &Subject<'_>) -> Result<Verdict, AllocErro
     ensures { IfOk result (λ verdict. IsVerdict subject.now verdict) }
 {
     no_findings();
-    let found = findings(alloc, subject)?;
-    if !found.is_empty() {
-        return Ok(Verdict::No(Findings::new(found)));
+    match judge(alloc, subject)? {
+        Err(found) => Ok(Verdict::No(Findings::new(found))),
+        Ok(certificate) => {
+            let (recipes, reads) = counts(subject);
+            Ok(Verdict::Yes {
+                certificate,
+                recipes,
+                reads,
+            })
+        }
     }
-    let certificate = certify(alloc, subject)?;
-    let (recipes, reads) = counts(subject);
-    Ok(Verdict::Yes {
-        certificate,
-        recipes,
-        reads,
-    })
 }
 
 /// The command `check`.

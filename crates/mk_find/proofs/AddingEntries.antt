@@ -1,13 +1,13 @@
 -- Entries of a certificate that grow.
-use Rattle.std.proofs.Common.{◌≡◌, ℕ, ◌<◌, Bool, true, false, cond, inl, inr, length, reverse, List, [], ◌∷◌, ◌++◌, map, sym, ap, subst, ◌∙◌, append_assoc, append-nil}
+use Rattle.std.proofs.Common.{◌≡◌, ℕ, ◌+◌, ◌<◌, Bool, true, false, cond, inl, inr, length, length-append, reverse, List, [], ◌∷◌, ◌++◌, map, sym, ap, subst, ◌∙◌, append_assoc, append-nil, arith}
+use Rattle.std.proofs.lemmas.List.{length-map, nil_from_length}
 use Rattle.mk_lines.specs.Names.{has_name, once, with_name}
 use Rattle.mk_foot.specs.Laws.{OnceKeepsFirst}
-use Rattle.mk_graph.specs.Graph.{IsGraph}
-use Rattle.mk_graph.specs.Laws.{SerialReachesEachOnce}
 use Rattle.mk_graph.specs.Membership.{Has}
-use Rattle.mk_graph.specs.Serial.{serial_order}
 use Rattle.mk_ways.specs.declared.certificate.Finish.{Finish}
-use Rattle.mk_cert.specs.Candidates.{stale, stale_candidates}
+use Rattle.mk_cert.specs.declared.finding.Finding.{Finding}
+use Rattle.mk_cert.specs.Candidates.{Candidate, stale}
+use Rattle.mk_cert.specs.Listed.{Adds, named}
 use Rattle.mk_cert.specs.Conditions.{IsStale}
 use Rattle.mk_cert.specs.Laws.{ListedExactly}
 use Rattle.mk_cert.specs.Listing.{Lists}
@@ -16,8 +16,7 @@ use Rattle.mk_cert.specs.Subject.{Subject, reads_of}
 use Rattle.mk_cert.specs.Verdict.{Read}
 use Rattle.mk_find.specs.FirstPaths.{GoesFirst}
 use Rattle.mk_find.proofs.Accepted.{carried_are_recipes}
-use Rattle.mk_find.proofs.Members.{has_mapped, joined_to}
-use Rattle.mk_find.proofs.Noting.{reader_low}
+use Rattle.mk_find.proofs.Members.{has_mapped}
 use Rattle.mk_find.proofs.ReadsOnce.{recipe_is_node}
 use Rattle.mk_find.specs.Certifying.{Needs, IsEntryFor, AreEntriesFor, nothing, entry, none, AddsEntries}
 
@@ -73,9 +72,20 @@ pub once_new : OnceKeepsFirst → (files : List (List ℕ)) (f : List ℕ) (seen
 once_new keeps files f seen is e =
     (keeps files).order f ∙ ap (λ (b : Bool). cond b (once files) (once files ++ f ∷ [])) (sym ((keeps files).same f) ∙ (ap (λ (l : List (List ℕ)). has_name l f) (sym is) ∙ e))
 
--- no read of a recipe is stale, where none is listed
-pub read_not_stale : ListedExactly → SerialReachesEachOnce → (x : Subject) → IsGraph x.graph → Lists x (stale_candidates x) [] → (t : ℕ) (f : List ℕ) → Has (reads_of x t) f → ¬ (IsStale x t f)
-read_not_stale listed serial x is lists t f h stale_it =
-    let in_order : Has (serial_order x.graph) t = ((serial x.graph is.no_cycle).1 t).1 (is.sound.reached t (reader_low x t f h)) in
-    let candidate : Has (stale_candidates x) (stale t f) = joined_to (λ k. map (λ g. stale k g) (reads_of x k)) (serial_order x.graph) t (stale t f) in_order (has_mapped (λ g. stale t g) (reads_of x t) f h) in
-    (listed x (stale_candidates x) [] lists (stale t f)).1 (candidate, stale_it)
+-- where nothing is found behind the reads of a recipe, nothing was found before them
+pub nothing_before : (x : Subject) (all : List Candidate) (old new : List Finding) → Adds x all old new → new ≡ [] → old ≡ []
+nothing_before x all old new a empty =
+    let long : length new ≡ length old + length (map (named x) a.kept) = ap length a.added ∙ length-append old (map (named x) a.kept) in
+    nil_from_length old (omega (arith, long, ap length empty))
+
+-- nor was one of them kept
+pub nothing_kept : (x : Subject) (all : List Candidate) (old new : List Finding) → Adds x all old new → new ≡ [] → Lists x all []
+nothing_kept x all old new a empty =
+    let long : length new ≡ length old + length (map (named x) a.kept) = ap length a.added ∙ length-append old (map (named x) a.kept) in
+    let kept : length (map (named x) a.kept) ≡ length a.kept = length-map a.kept (named x) in
+    subst (λ (l : List Candidate). Lists x all l) (nil_from_length a.kept (omega (arith, long, kept, ap length empty))) a.right
+
+-- so no read of the recipe is stale
+pub reads_not_stale : ListedExactly → (x : Subject) (t : ℕ) (old new : List Finding) → Adds x (map (λ f. stale t f) (reads_of x t)) old new → new ≡ [] → (f : List ℕ) → Has (reads_of x t) f → ¬ (IsStale x t f)
+reads_not_stale listed x t old new a empty f h stale_it =
+    (listed x (map (λ g. stale t g) (reads_of x t)) [] (nothing_kept x (map (λ g. stale t g) (reads_of x t)) old new a empty) (stale t f)).1 (has_mapped (λ g. stale t g) (reads_of x t) f h, stale_it)

@@ -15,7 +15,7 @@ same_added list_is_one x all one other a b =
     a.added ∙ (ap (λ (l : List Candidate). map (named x) l) (list_is_one x all a.kept b.kept a.right b.right) ∙ sym b.added)
 
 -- what is added of nothing is nothing
-none_added : ListIsOne → (x : Subject) (all : List Candidate) (found : List Finding) → Lists x all [] → Adds x all [] found → found ≡ []
+pub none_added : ListIsOne → (x : Subject) (all : List Candidate) (found : List Finding) → Lists x all [] → Adds x all [] found → found ≡ []
 none_added list_is_one x all found none a = a.added ∙ ap (λ (l : List Candidate). map (named x) l) (list_is_one x all a.kept [] a.right none)
 
 -- there is one list

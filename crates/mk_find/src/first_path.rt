@@ -5,12 +5,13 @@ ghost use Rattle.mk_graph.specs.Membership.{Has};
 ghost use Rattle.mk_search.specs.Ways.{successors};
 ghost use Rattle.mk_ways.specs.declared.certificate.Finish.{Finish as FinishValue};
 ghost use Rattle.mk_cert.specs.Carried.{carried};
-ghost use Rattle.mk_cert.specs.Links.{AreLinks};
-ghost use Rattle.mk_cert.specs.Subject.{writes_of};
-ghost use Rattle.mk_find.specs.FirstPaths.{Ends, EndsFirst, GoesFirst, HasNoPath};
+ghost use Rattle.mk_cert.specs.Links.{AreEnds};
+ghost use Rattle.mk_cert.specs.Paths.{EndsAt};
+ghost use Rattle.mk_cert.specs.Subject.{footprints, writes_of};
+ghost use Rattle.mk_find.specs.FirstPaths.{EndsFirst, GoesFirst, HasNoPath};
 
 use mk_cert::laws::carried_exactly;
-use mk_cert::{Links, Subject, ends_at};
+use mk_cert::{Ends, Subject, ends_at};
 use mk_search::Search;
 use mk_search::laws::{first_by_places, none_by_places, one_way_at_a_place, places_are_below};
 use mk_ways::Finish;
@@ -26,20 +27,21 @@ pub(crate) struct FirstPath {
 }
 
 /// How a path to a file may end at a recipe, the first such finish.
-fn finish_at(subject: &Subject<'_>, links: &Links<'_>, file: &str, number: usize) -> Option<Finish>
-    requires { AreLinks subject.now links.now.names links.now.reads.items links.now.carried.items
-        links.now.needed.items links.now.always.items }
+fn finish_at(subject: &Subject<'_>, ends: &Ends<'_>, file: &str, number: usize) -> Option<Finish>
+    requires { AreEnds subject.now ends.now.names ends.now.needed.items
+        ends.now.always.items }
     ensures { MatchOption result
-        ((finish : FinishValue) → ¬ (Ends subject.now file.now finish number))
+        ((finish : FinishValue) → ¬ (EndsAt subject.now.graph (footprints subject.now.setting)
+        file.now finish number))
         (λ finish. EndsFirst subject.now file.now finish number) }
 {
-    if ends_at(subject, links, file, Finish::Written, number) {
+    if ends_at(subject, ends, file, Finish::Written, number) {
         return Some(Finish::Written);
     }
-    if ends_at(subject, links, file, Finish::Source, number) {
+    if ends_at(subject, ends, file, Finish::Source, number) {
         return Some(Finish::Source);
     }
-    if ends_at(subject, links, file, Finish::Always, number) {
+    if ends_at(subject, ends, file, Finish::Always, number) {
         return Some(Finish::Always);
     }
     None
@@ -50,12 +52,12 @@ fn finish_at(subject: &Subject<'_>, links: &Links<'_>, file: &str, number: usize
 pub(crate) fn first_path(
     alloc: Global,
     subject: &Subject<'_>,
-    links: &Links<'_>,
+    ends: &Ends<'_>,
     search: &mut Search<'_>,
     file: &str,
 ) -> Result<Option<FirstPath>, AllocError>
-    requires links { AreLinks subject.now links.now.names links.now.reads.items
-        links.now.carried.items links.now.needed.items links.now.always.items }
+    requires ends { AreEnds subject.now ends.now.names ends.now.needed.items
+        ends.now.always.items }
     requires rows { (t : ℕ) → successors search.old.rows t ≡ carried subject.now t }
     requires start { search.old.start < length subject.now.graph.nodes }
     requires out { ¬ (Has (writes_of subject.now search.old.start) file.now) }
@@ -72,7 +74,7 @@ pub(crate) fn first_path(
     let _graph = subject.graph();
     let mut place = 0;
     while let Some(number) = search.visit(place)? {
-        if let Some(finish) = finish_at(subject, links, file, number) {
+        if let Some(finish) = finish_at(subject, ends, file, number) {
             let Some(nodes) = search.way(alloc, place)? else {
                 return Ok(None);
             };

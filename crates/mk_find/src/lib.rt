@@ -4,8 +4,9 @@
 mod certifying;
 mod first_path;
 mod found;
+mod judging;
 pub mod laws;
 mod stale;
 
 pub use certifying::certify;
-pub use found::findings;
+pub use found::{findings, judge};

@@ -1,10 +1,8 @@
-use Rattle.std.proofs.Common.{◌≡◌, ◌∙◌, [], true, false, map, get_or, ap, subst}
+use Rattle.std.proofs.Common.{◌≡◌, [], true, get_or, subst}
 use Rattle.std.specs.Prelude.{◌↔◌}
 use Rattle.mk_lines.specs.Names.{has_name}
-use Rattle.mk_graph.specs.declared.node.Node.{Node}
-use Rattle.mk_graph.specs.Graph.{Graph, prerequisites}
+use Rattle.mk_graph.specs.Graph.{Graph}
 use Rattle.mk_graph.specs.Membership.{Has}
-use Rattle.mk_graph.specs.Setting.{IsAlwaysMade}
 use Rattle.mk_graph.specs.Setting as build
 use Rattle.mk_foot.specs.Setting as foot
 use Rattle.mk_cert.specs.Subject.{footprints}
@@ -15,12 +13,8 @@ returns c =
     let x = c.args.subject.now in
     let same = c.graph-graph.ensures.value in
     let reads = c.in_ok-read_sets.field-0.items in
-    let needed = c.in_ok-needed_sets.field-0.items in
-    let always = c.in_ok-always_made.field-0.items in
     record {
-      names_held = c.in_ok-node_names.ensures ∙ ap (λ (g : Graph). map (λ (n : Node). n.name) g.nodes) same;
+      ends = c.in_ok-ends_of.ensures;
       reads_held = λ t f. subst (λ (g : Graph). (has_name (get_or reads t []) f ≡ true) ↔ Has (build.reads g (footprints x.setting) t) f) same (subst (λ (s : foot.Setting). (has_name (get_or reads t []) f ≡ true) ↔ Has (build.reads c.graph-graph.result.now (footprints s) t) f) c.setting.ensures (c.in_ok-read_sets.ensures t f));
       carried_held = c.in_ok-carried_sets.ensures;
-      needed_held = λ t p. subst (λ (g : Graph). Has (get_or needed t []) p ↔ Has (prerequisites g t) p) same (c.in_ok-needed_sets.ensures t p);
-      always_held = λ t. subst (λ (g : Graph). (get_or always t false ≡ true) ↔ IsAlwaysMade g t) same (c.in_ok-always_made.ensures t);
     }

@@ -11,7 +11,7 @@ returns c =
     let t = c.args.number in
     let f = c.args.file.now in
     let is = c.graph-graph.ensures.graph in
-    let rows : c.deref.result.now ≡ c.args.links.now.needed.items = c.deref.ensures.value in
+    let rows : c.deref.result.now ≡ c.args.ends.now.needed.items = c.deref.ensures.value in
     let number : c.number_of.result ≡ number_of (all_names x) f = c.number_of.ensures ∙ ap (λ (ns : List (List ℕ)). number_of ns f) c.requires.names_held in (
       λ t_yes.
           let here : Has (prerequisites x.graph t) c.number_of.result = (c.requires.needed_held t c.number_of.result).0 (subst (λ (l : List (List ℕ)). Has (get_or l t []) c.number_of.result) rows (c.has_at.ensures.0 t_yes)) in

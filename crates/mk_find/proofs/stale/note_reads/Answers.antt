@@ -4,7 +4,6 @@ use Rattle.std.specs.String.{string_bytes}
 use Rattle.std.proofs.lemmas.List.{get_or-map, length-map}
 use Rattle.mk_graph.specs.Membership.{Has}
 use Rattle.mk_cert.specs.Candidates.{stale}
-use Rattle.mk_cert.specs.Entry.{Entry}
 use Rattle.mk_cert.specs.Listed.{Adds}
 use Rattle.mk_cert.specs.Subject.{reads_of}
 use Rattle.mk_search.specs.Places.{Task}
@@ -24,11 +23,11 @@ loop-file-init c =
 
 pub note_read-requires-clause-rows : goal.note_read-requires-clause-rows
 note_read-requires-clause-rows c =
-    subst (λ (task : Task). (t : ℕ) → successors task.rows t ≡ carried c.args.subject.now t) (sym (c.loop-file.invariant.0 ∙ c.in_ok-search.ensures)) c.requires.rows
+    subst (λ (task : Task). (t : ℕ) → successors task.rows t ≡ carried c.args.subject.now t) (sym c.loop-file.invariant.0) c.requires.rows
 
 pub note_read-requires-clause-start : goal.note_read-requires-clause-start
 note_read-requires-clause-start c =
-    ap (λ (task : Task). task.start) (c.loop-file.invariant.0 ∙ c.in_ok-search.ensures) ∙ ap (λ (k : Entry). k.number) c.entry.view_is
+    ap (λ (task : Task). task.start) c.loop-file.invariant.0 ∙ c.requires.start
 
 pub note_read-requires-clause-read : goal.note_read-requires-clause-read
 note_read-requires-clause-read c =
@@ -53,8 +52,8 @@ loop-file-preserved c =
     let is : get_or (map string_bytes files) i [] ≡ c.as_str.result.now = get_or-map string_bytes files i c.file-item.result [] lt ∙ (ap string_bytes (sym c.file-item.is) ∙ sym c.as_str.ensures.value) in
     (c.in_ok-note_read.ensures.same ∙ c.loop-file.invariant.0, leads_map x (λ f. stale e.number f) (map string_bytes files) i [] _ c.loop-file.found.items c.note_read.new.found.items c.args.found.now.items low c.loop-file.invariant.1 (subst (λ (f : List ℕ). Adds x (stale e.number f ∷ []) c.loop-file.found.items c.note_read.new.found.items) (sym is) c.in_ok-note_read.ensures.found))
 
-pub returns : goal.returns
-returns c =
+pub returns-clause-found : goal.returns-clause-found
+returns-clause-found c =
     let x = c.args.subject.now in
     let e = c.args.entry.now in
     let files = c.reads-files.result.now in
