@@ -6,7 +6,7 @@
 PREFIX = /usr/local
 CRATE =
 
-.PHONY: all demo check edits growths bench install clean
+.PHONY: all demo check edits growths recorder bench install clean
 
 # rt looks by itself at what changed since the last build, so `all` is always
 # run and names no source. It proves the program, links it, and runs it once.
@@ -41,6 +41,10 @@ edits:
 growths: all
 	@python3 tests/growths/sweep.py
 
+# Tests the recorder on small projects, by strace and a compiler where these are there.
+recorder: all
+	@MKCHECK=bin/mkcheck python3 tests/recorder/run.py
+
 bench: all
 	@python3 bench/run.py
 	@python3 bench/texts.py
@@ -51,8 +55,11 @@ bench: all
 
 install: all
 	mkdir -p $(DESTDIR)$(PREFIX)/bin
-	cp -f bin/mkcheck $(DESTDIR)$(PREFIX)/bin/mkcheck
+	cp -f bin/mkcheck tools/mkcheck-record $(DESTDIR)$(PREFIX)/bin
+	mkdir -p $(DESTDIR)$(PREFIX)/lib/mkcheck/mkcheck_record
+	cp -f tools/mkcheck_record/*.py $(DESTDIR)$(PREFIX)/lib/mkcheck/mkcheck_record
 
 clean:
 	rm -rf bin bench/data bench/__pycache__ crates/*/out
+	rm -rf tools/mkcheck_record/__pycache__ tests/recorder/__pycache__
 	cd examples/wordcount && rm -f wordcount *.o counted.txt forgotten.mk
