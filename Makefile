@@ -6,7 +6,7 @@
 PREFIX = /usr/local
 CRATE =
 
-.PHONY: all demo check edits growths recorder bench install clean
+.PHONY: all demo check edits growths recorder realcheck bench install clean
 
 # rt looks by itself at what changed since the last build, so `all` is always
 # run and names no source. It proves the program, links it, and runs it once.
@@ -26,6 +26,12 @@ demo: all
 	@cd examples/wordcount && ../../bin/mkcheck check -b footprint.json | cmp - check.txt
 	cd examples/wordcount && sed '/^main.o/s/ table.h//' makefile > forgotten.mk
 	cd examples/wordcount && ! ../../bin/mkcheck check -f forgotten.mk -b footprint.json
+	@cd examples/lua && ../../bin/mkcheck check -b footprint.json all | sed -n 1p | cmp - check.txt
+	cd examples/lua && cat check.txt
+	@cd examples/figlet && ../../bin/mkcheck check -b footprint.json | cmp - check.txt
+	cd examples/figlet && ! ../../bin/mkcheck check -b footprint.json
+	@cd examples/awk && ../../bin/mkcheck check -b footprint.json | cmp - check.txt
+	cd examples/awk && ! ../../bin/mkcheck check -b footprint.json
 
 # The gate proves and runs everything from nothing, so it needs no `all`. Its
 # last line, `N passed, M failed`, is to stay the last one that is printed.
@@ -44,6 +50,10 @@ growths: all
 # Tests the recorder on small projects, by strace and a compiler where these are there.
 recorder: all
 	@MKCHECK=bin/mkcheck python3 tests/recorder/run.py
+
+# Records the examples anew, where strace and their compilers are there.
+realcheck: all
+	@MKCHECK=bin/mkcheck python3 tests/recorder/real.py
 
 bench: all
 	@python3 bench/run.py
