@@ -6,7 +6,7 @@
 PREFIX = /usr/local
 CRATE =
 
-.PHONY: all demo check edits growths recorder realcheck bench install clean
+.PHONY: all demo check edits growths recorder realcheck manuals bench install clean
 
 # rt looks by itself at what changed since the last build, so `all` is always
 # run and names no source. It proves the program, links it, and runs it once.
@@ -55,6 +55,12 @@ recorder: all
 realcheck: all
 	@MKCHECK=bin/mkcheck python3 tests/recorder/real.py
 
+# Reads the manual pages by a linter, where one is there.
+manuals:
+	@if command -v mandoc; then mandoc -T lint -W warning man/*.1; \
+	elif command -v groff; then ! groff -mandoc -Tascii -ww man/*.1 2>&1 >/dev/null | grep .; \
+	else echo 'manuals: no mandoc and no groff, so nothing was read'; fi
+
 bench: all
 	@python3 bench/run.py
 	@python3 bench/texts.py
@@ -68,6 +74,8 @@ install: all
 	cp -f bin/mkcheck tools/mkcheck-record $(DESTDIR)$(PREFIX)/bin
 	mkdir -p $(DESTDIR)$(PREFIX)/lib/mkcheck/mkcheck_record
 	cp -f tools/mkcheck_record/*.py $(DESTDIR)$(PREFIX)/lib/mkcheck/mkcheck_record
+	mkdir -p $(DESTDIR)$(PREFIX)/share/man/man1
+	cp -f man/mkcheck.1 man/mkcheck-record.1 $(DESTDIR)$(PREFIX)/share/man/man1
 
 clean:
 	rm -rf bin bench/data bench/__pycache__ crates/*/out
