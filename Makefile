@@ -6,7 +6,7 @@
 PREFIX = /usr/local
 CRATE =
 
-.PHONY: all demo check edits growths recorder realcheck manuals bench install clean
+.PHONY: all demo check edits growths recorder realcheck manuals pages bench install clean
 
 # rt looks by itself at what changed since the last build, so `all` is always
 # run and names no source. It proves the program, links it, and runs it once.
@@ -54,6 +54,10 @@ recorder: all
 # Records the examples anew, where strace and their compilers are there.
 realcheck: all
 	@MKCHECK=bin/mkcheck python3 tests/recorder/real.py
+
+# Tries the makefiles that docs/FROM_GNU_MAKE.md shows.
+pages: all
+	@python3 tests/pages/run.py bin/mkcheck
 
 # Reads the manual pages by a linter, where one is there.
 manuals:
