@@ -139,6 +139,33 @@ class ShellTest(ProjectTest):
         self.write({"makefile": "d/x: a\n\tmkdir t t/s; cp a t/x; cp a t/s/y; mv t d; cat d/x\n", "a": ""})
         self.assertEqual(self.recorded().own("d/x"), ({"a"}, {"d/x", "d/s/y"}))
 
+    def test_a_folder_of_sources_that_is_moved(self) -> None:
+        self.write({"makefile": "d/x:\n\tmv s d\n", "s/x": "", "s/t/y": ""})
+        outcome = self.recorded()
+        self.assertEqual(outcome.own("d/x"), (set(), {"d/x", "d/t/y"}))
+        away = [f"the recipe of d/x takes away {name}, which it didn't make" for name in ("s/t/y", "s/x")]
+        self.assertEqual(outcome.warnings(), away)
+
+    def test_a_stamp_of_a_folder_is_none_of_its_files(self) -> None:
+        self.write({"makefile": "out: d/x\n\ttouch d; cat d/x > out\n", "d/x": "", "d/y": ""})
+        self.assertEqual(self.recorded().own("out"), ({"d/x"}, {"out"}))
+
+    def test_a_copied_folder(self) -> None:
+        self.write({"makefile": "e/x: d/x d/y\n\tcp -a d e\nout: e/x\n\tcat e/y > out\n", "d/x": "", "d/y": ""})
+        outcome = self.recorded("out")
+        self.assertEqual(outcome.own("e/x"), ({"d/x", "d/y"}, {"e/x", "e/y"}))
+        self.assertEqual(outcome.own("out"), ({"e/y"}, {"out"}))
+
+    def test_a_file_that_is_made_anew_is_no_read(self) -> None:
+        self.write({"makefile": "out: a\n\trm -f out; cat a >> out\n", "a": "", "out": "old\n"})
+        self.assertEqual(self.recorded("--in-place").own("out"), ({"a"}, {"out"}))
+        self.write({"makefile": "out: a\n\tcat a >> out\n"})
+        self.assertEqual(self.recorded("--in-place").own("out"), ({"a", "out"}, {"out"}))
+
+    def test_a_lock_that_is_made_is_written(self) -> None:
+        self.write({"makefile": "out: a\n\tflock lock cat a > out\n", "a": ""})
+        self.assertEqual(self.recorded().own("out"), ({"a"}, {"lock", "out"}))
+
     def test_a_symbolic_link(self) -> None:
         self.write({"makefile": "out: l\n\tcat l > out\nl: a\n\tln -s a l\n", "a": ""})
         outcome = self.recorded()
@@ -208,6 +235,12 @@ class FolderTest(ProjectTest):
         outcome = self.recorded()
         self.assertEqual(outcome.book["sources"], ["a"])
         self.assertEqual(outcome.warnings(), ["log was there before, and a recipe writes it: it is no source"])
+
+    def test_a_copy_inside_the_folder(self) -> None:
+        self.write({"makefile": COPY, "a": "", "tmp/kept": ""})
+        outcome = self.record(environment={"TMPDIR": str(self.folder / "tmp")})
+        self.assertEqual(outcome.own("b"), ({"a"}, {"b"}))
+        self.assertEqual(outcome.book["sources"], ["a"])
 
     def test_a_file_that_decides_a_rule_is_a_source(self) -> None:
         self.write({"makefile": ".SUFFIXES:\n.SUFFIXES: .o .s .c\n.s.o:\n\tcp $< $@\n.c.o:\n\tcp $< $@\n"

@@ -20,7 +20,7 @@ TRACES = Path(__file__).resolve().parent / "traces"
 
 def followed(name: str, there: tuple[str, ...] = ()) -> Accesses:
     """What the calls of a stored trace do, from the folder /nowhere/p on."""
-    accesses = Accesses(Disk(set(there)))
+    accesses = Accesses(Disk("/nowhere/p", set(there)))
     lines = [line for line in (TRACES / name).read_text().splitlines() if not line.startswith("#")]
     Follower(accesses, "/nowhere/p").follow(read_calls(lines))
     return accesses

@@ -22,8 +22,9 @@ class Place:
 
 @dataclass
 class Disk:
-    """What is known of files from one recipe to the next: which are there, and which links recipes made."""
+    """What is known of the folder between recipes: the files that are there, and links that recipes made."""
 
+    root: str
     there: set[str]
     links: set[str] = field(default_factory=set)
 
@@ -32,24 +33,34 @@ class Disk:
 class Accesses:
     """The files that a recipe reads and writes, by their real paths, in the order of their first use.
 
-    `removed` has what it took away. `aliases` has names that lead over a symbolic link, with the
-    links and the real path.
+    `moved` has the new names of what it renamed, which may be folders, and `removed` what it took
+    away. `aliases` has names that lead over a symbolic link, with the links and the real path.
     """
 
     disk: Disk
     reads: dict[str, None] = field(default_factory=dict)
     writes: dict[str, None] = field(default_factory=dict)
+    moved: dict[str, None] = field(default_factory=dict)
     removed: dict[str, None] = field(default_factory=dict)
     aliases: dict[str, tuple[tuple[str, ...], str]] = field(default_factory=dict)
 
     def wrote(self, path: str) -> bool:
         """Whether the recipe wrote this file before, or moved a folder there that holds it."""
-        while path not in self.writes:
+        if path in self.writes:
+            return True
+        while path not in self.moved:
             shorter = os.path.dirname(path)
             if shorter == path:
                 return False
             path = shorter
         return True
+
+    def is_new(self, path: str, flags: str) -> bool:
+        """Whether an open with these flags makes the file. Outside the folder only O_EXCL says so."""
+        if "O_CREAT" not in flags:
+            return False
+        inside = path.startswith(self.disk.root + "/")
+        return "O_EXCL" in flags or path in self.removed or (inside and path not in self.disk.there)
 
     def read(self, path: str) -> None:
         """A read, unless of a file that the recipe wrote itself."""
@@ -63,6 +74,7 @@ class Accesses:
     def remove(self, path: str) -> None:
         """A file is taken away."""
         self.writes.pop(path, None)
+        self.moved.pop(path, None)
         self.removed.setdefault(path)
 
     def rename(self, old: str, new: str) -> None:
@@ -76,6 +88,7 @@ class Accesses:
         self.remove(old)
         for path in [new, *(new + path[len(old) :] for path in inside)]:
             self.write(path)
+        self.moved.setdefault(new)
 
     def reach(self, name: str, real: str) -> None:
         """A file is reached by a name: links that a recipe made are read on the way."""
@@ -147,13 +160,13 @@ class Follower:
         if real is None or "O_PATH" in flags or "O_DIRECTORY" in flags or "O_TMPFILE" in flags:
             return
         self.accesses.reach(os.path.normpath(name), real)
-        if "O_WRONLY" not in flags and "O_RDWR" not in flags:
+        new = self.accesses.is_new(real, flags)
+        written = "O_WRONLY" in flags or "O_RDWR" in flags
+        kept = not written or ("O_TRUNC" not in flags and ("O_RDWR" in flags or "O_APPEND" in flags))
+        if kept and not new:
             self.accesses.read(real)
-            return
-        kept = "O_TRUNC" not in flags and ("O_RDWR" in flags or "O_APPEND" in flags)
-        if kept and ("O_CREAT" not in flags or real in self.accesses.disk.there):
-            self.accesses.read(real)
-        self.accesses.write(real)
+        if written or new:
+            self.accesses.write(real)
 
     def on_execve(self, call: Call) -> None:
         self.started(self.path(call, 0))

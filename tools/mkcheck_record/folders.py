@@ -93,10 +93,11 @@ def copy(root: str, goal: str, targets: frozenset[str]) -> None:
     """Copies a folder afresh, without what recipes are to make."""
     shutil.rmtree(goal, ignore_errors=True)
     left_out = {os.path.join(root, target) for target in targets}
+    above = os.path.dirname(goal)
 
     def unwanted(folder: str, names: list[str]) -> set[str]:
         paths = {name: os.path.join(folder, name) for name in names}
-        return {name for name, path in paths.items() if is_left_out(path, left_out)}
+        return {name for name, path in paths.items() if path == above or is_left_out(path, left_out)}
 
     shutil.copytree(root, goal, symlinks=True, ignore=unwanted)
 

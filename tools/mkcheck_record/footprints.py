@@ -39,34 +39,41 @@ def kind_of(path: str) -> int:
 
 
 def left(paths: Iterable[str]) -> Iterator[str]:
-    """The files and links among these that are there, of a folder that was moved all in it."""
+    """The files and links among these that are there."""
     for path in paths:
-        kind = kind_of(path)
-        if path.startswith(UNWRITTEN):
-            continue
-        if kind in (stat.S_IFREG, stat.S_IFLNK):
+        if not path.startswith(UNWRITTEN) and kind_of(path) in (stat.S_IFREG, stat.S_IFLNK):
             yield path
-        elif kind == stat.S_IFDIR:
-            inner = [os.path.join(folder, name) for folder, _, names in os.walk(path) for name in names]
-            yield from left(sorted(inner))
+
+
+def within(paths: Iterable[str]) -> Iterator[str]:
+    """What is in these folders, however deep."""
+    for path in paths:
+        if kind_of(path) == stat.S_IFDIR:
+            yield from sorted(os.path.join(folder, name) for folder, _, names in os.walk(path) for name in names)
 
 
 def footprint_of(recipe: Recipe, accesses: Accesses, naming: Naming, warn: Warn) -> Footprint:
     """The footprint, when the recipe has ended. Each file needs a name."""
-    # A folder counts only where it was moved: what is read of one is no file.
-    read = list(left(path for path in accesses.reads if kind_of(path) != stat.S_IFDIR))
-    written = list(dict.fromkeys(left(accesses.writes)))
+    read = list(left(accesses.reads))
+    written = list(dict.fromkeys(left([*accesses.writes, *within(accesses.moved)])))
     nameless = [f"reads {path}" for path in read if not has_name(path, naming)]
     nameless += [f"writes {path}" for path in written if not has_name(path, naming)]
     if nameless:
         raise RecipeFault(outside(recipe, nameless))
-    lost = [path for path in accesses.removed if path in accesses.disk.there and not os.path.lexists(path)]
-    for path in lost:
+    for path in lost(accesses):
         warn(f"the recipe of {recipe.target} takes away {naming.name(path) or path}, which it didn't make")
     accesses.disk.there.difference_update(accesses.removed)
     accesses.disk.there.update(written)
     warn_of_aliases(recipe, accesses, naming, [*read, *written], warn)
     return Footprint(recipe, named(read, naming), named(written, naming))
+
+
+def lost(accesses: Accesses) -> list[str]:
+    """The files that were there when the recipe began, and that it took away, by themselves or with a folder."""
+    gone = [path for path in accesses.removed if not os.path.lexists(path)]
+    folders = tuple(path + "/" for path in gone if path not in accesses.disk.there)
+    others = sorted(path for path in accesses.disk.there if path.startswith(folders) and not os.path.lexists(path))
+    return [*(path for path in gone if path in accesses.disk.there), *others]
 
 
 def has_name(path: str, naming: Naming) -> bool:

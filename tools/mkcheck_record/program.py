@@ -24,7 +24,7 @@ STATUS = "Status: 0 written, 1 a recipe failed or can't be recorded, 2 a fault o
 def words_of(arguments: list[str]) -> argparse.Namespace:
     """What is asked for."""
     parser = argparse.ArgumentParser(prog="mkcheck-record", description=ABOUT, epilog=STATUS)
-    parser.add_argument("-f", metavar="F", help="the makefile; without it makefile, else Makefile")
+    parser.add_argument("-f", metavar="F", help="the makefile; else makefile or Makefile")
     parser.add_argument("-r", action="store_true", help="leave out the default text, as mkcheck does")
     parser.add_argument("-C", metavar="DIR", default=".", help="the folder of the project; without it this one")
     parser.add_argument("--fixed", metavar="PREFIX", action="append", default=[], help="what is under PREFIX never changes")
@@ -94,7 +94,7 @@ def operand(word: str) -> tuple[str, str]:
 def write(text: str, path: str | None) -> None:
     """Writes the footprints: a file whole or not at all. A device or a pipe is written to and stays what it is."""
     if path is None:
-        sys.stdout.write(text)
+        sys.stdout.buffer.write(text.encode("utf-8"))
         return
     goal = Path(os.path.realpath(path))
     if goal.exists() and not goal.is_file():

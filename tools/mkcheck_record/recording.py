@@ -31,7 +31,7 @@ class Workshop:
         """Makes the copy, where one is wanted, and tells which files are there."""
         if self.place != self.folder:
             copy(self.folder, self.place, self.targets)
-        return Disk({os.path.join(self.place, name) for name in files_in(self.place)})
+        return Disk(self.place, {os.path.join(self.place, name) for name in files_in(self.place)})
 
 
 @dataclass(frozen=True)
