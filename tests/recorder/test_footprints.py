@@ -253,7 +253,13 @@ class FolderTest(ProjectTest):
                     "y.s": ""})
         outcome = self.record()
         self.assertEqual((outcome.status, outcome.book), (1, None))
-        self.assertIn("remove them, and record again", outcome.errors)
+        self.assertTrue(outcome.errors.endswith("remove them, and record again:\n\ty.s\n"), outcome.errors)
+
+    def test_a_source_that_a_recipe_writes_is_refused(self) -> None:
+        self.write({"makefile": "b: a\n\ttouch a; cp a b\n", "a": ""})
+        outcome = self.record()
+        self.assertEqual((outcome.status, outcome.book), (1, None))
+        self.assertTrue(outcome.errors.endswith("\n\ta\n"), outcome.errors)
 
     def test_a_file_outside_is_named(self) -> None:
         self.write({"makefile": f"b:\n\tcat {self.scratch}/x/y > b\n"})

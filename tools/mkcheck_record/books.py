@@ -12,8 +12,8 @@ from .graphs import Checker, Graph
 
 
 BUILT_BEFORE = (
-    "the folder holds files that recipes write, and without them the makefile means something else:"
-    " remove them, and record again"
+    "the folder holds files that recipes write, and without them the makefile means something else."
+    " Where they were built before, remove them, and record again:"
 )
 
 
@@ -60,7 +60,7 @@ def make_book(
     fixed = used(asked, names)
     sources = [name for name in files if name in names and name not in written and name not in graph.targets]
     if not is_same(checker, graph, fixed, sources, scratch):
-        raise RecipeFault(BUILT_BEFORE)
+        raise RecipeFault("\n\t".join([BUILT_BEFORE, *(name for name in files if name in written)]))
     return Book(fixed, sources, footprints)
 
 

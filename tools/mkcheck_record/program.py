@@ -27,7 +27,7 @@ def words_of(arguments: list[str]) -> argparse.Namespace:
     parser.add_argument("-f", metavar="F", help="the makefile; else makefile or Makefile")
     parser.add_argument("-r", action="store_true", help="leave out the default text, as mkcheck does")
     parser.add_argument("-C", metavar="DIR", default=".", help="the folder of the project; without it this one")
-    parser.add_argument("--fixed", metavar="PREFIX", action="append", default=[], help="what is under PREFIX never changes")
+    parser.add_argument("--fixed", metavar="PREFIX", action="append", default=[], help="files under it never change")
     parser.add_argument("-o", metavar="FILE", help="where the footprints go; without it standard output")
     parser.add_argument("--in-place", action="store_true", help="run in the folder itself and not on a fresh copy")
     parser.add_argument("--again", action="store_true", help="run all twice, and warn of contents that differ")
