@@ -80,6 +80,12 @@ class OtherRunsTest(ProjectTest):
         self.assertEqual(outcome.warnings(), [])
         self.assertEqual(outcome.own("out"), ({"a", "b"}, {"out"}))
 
+    def test_a_make_that_a_recipe_starts(self) -> None:
+        self.write({"makefile": "x: a\n\t$(MAKE) -f sub.mk x\n", "sub.mk": "x: a\n\tcat a > x\n", "a": ""})
+        outcome = self.recorded("--make")
+        self.assertEqual(outcome.warnings(), [])
+        self.assertEqual(outcome.own("x"), ({"sub.mk", "a"}, {"x"}))
+
     def test_make_does_another_thing(self) -> None:
         self.write({"makefile": 'out: a\n\tif test "$$MAKELEVEL"; then cat b; fi; cat a > out\n', "a": "", "b": ""})
         self.assertEqual(self.recorded("--make").warnings(), ["out reads b when make runs it, but not else"])

@@ -19,6 +19,7 @@ from .recording import Recorded, Workshop
 
 # The shell that make is told to use: it traces each command, and notes in which order they came.
 # Inside a traced command it is the plain shell, since a make that a recipe starts gets it too.
+SHELL_NAME = "shell"
 SHELL = """#!/bin/sh
 if [ -n "$MKCHECK_RECORD_TRACED" ]; then exec /bin/sh "$@"; fi
 MKCHECK_RECORD_TRACED=1; export MKCHECK_RECORD_TRACED
@@ -58,22 +59,24 @@ def compare_make(shop: Workshop, words: list[str], recorded: Recorded, fixed: tu
             continue
         for traced in commands[footprint.recipe.target]:
             Follower(accesses, shop.place).follow(tracing.read_trace(traced.trace))
+            # A make that the recipe starts gets the shell of this one, which is none of the project's files.
+            accesses.reads.pop(str(traced.trace.parent / SHELL_NAME), None)
         other = footprint_of(footprint.recipe, accesses, naming, lambda _: None)
         differences(footprint, other, warn)
 
 
 def run_make(shop: Workshop, words: list[str]) -> list[Traced]:
     """Runs make, and tells the commands that it ran, in their order."""
-    program = shutil.which("make")
-    if program is None:
+    if shutil.which("make") is None:
         raise Fault("make isn't there, which --make lets run the recipes")
     traces = Path(shop.scratch, "traces")
     traces.mkdir()
-    shell = traces / "shell"
+    shell = traces / SHELL_NAME
     shell.write_text(SHELL.format(folder=traces, strace=shlex.join(tracing.strace())))
     shell.chmod(shell.stat().st_mode | stat.S_IXUSR)
+    # By its bare name, since that is then the value of MAKE, as it is in mkcheck's default text.
     done = subprocess.run(
-        [program, f"SHELL={shell}", *words],
+        ["make", f"SHELL={shell}", *words],
         cwd=shop.place,
         env=tracing.environment(shop.place, {}),
         stdin=subprocess.DEVNULL,
