@@ -11,7 +11,7 @@ from project import ROOT
 sys.path.insert(0, str(ROOT / "tools"))
 
 from mkcheck_record.accesses import Accesses, Disk, Follower  # noqa: E402
-from mkcheck_record.calls import path_of, read_calls, text_of  # noqa: E402
+from mkcheck_record.calls import FORKS, SAME, TRACED, path_of, read_calls, text_of  # noqa: E402
 from mkcheck_record.folders import Naming, is_plain_path  # noqa: E402
 from mkcheck_record.graphs import Command, read_graph  # noqa: E402
 
@@ -57,6 +57,14 @@ class CallsTest(unittest.TestCase):
     def test_failed_calls_are_none(self) -> None:
         self.assertEqual(read_calls(['12 open("x", O_RDONLY) = -1 ENOENT (No such file or directory)']), [])
         self.assertEqual(read_calls(["12 +++ exited with 0 +++", "12 vfork( <unfinished ...>", ""]), [])
+
+
+class TracedTest(unittest.TestCase):
+    """What strace is asked for."""
+
+    def test_each_call_is_followed(self) -> None:
+        for name in (SAME.get(name, name) for name in TRACED if name not in FORKS):
+            self.assertTrue(hasattr(Follower, f"on_{name}"), name)
 
 
 class FollowerTest(unittest.TestCase):

@@ -6,7 +6,7 @@ import os
 from collections.abc import Iterable
 from dataclasses import dataclass, field
 
-from .calls import FORKS, Call, path_of, text_of
+from .calls import FORKS, SAME, Call, path_of, text_of
 
 LINKS_AT_MOST = 40
 INTERPRETERS_AT_MOST = 4
@@ -117,7 +117,7 @@ class Follower:
             if call.name in FORKS:
                 self.fork(call)
                 continue
-            taken = getattr(self, f"on_{call.name.removesuffix('2')}", None)
+            taken = getattr(self, f"on_{SAME.get(call.name, call.name)}", None)
             if taken is not None:
                 taken(call)
 

@@ -14,9 +14,16 @@ TRACED = (
     *("open", "openat", "openat2", "creat", "execve", "execveat", "chdir", "fchdir"),
     *("rename", "renameat", "renameat2", "link", "linkat", "symlink", "symlinkat"),
     *("unlink", "unlinkat", "mknod", "mknodat"),
-    *("truncate", "utime", "utimes", "utimensat", "futimesat"),
+    *("truncate", "truncate64", "utime", "utimes", "utimensat", "utimensat_time64", "futimesat"),
     *FORKS,
 )
+# Calls that do what another one does, with the same arguments up to the last ones.
+SAME = {
+    "openat2": "openat",
+    "renameat2": "renameat",
+    "truncate64": "truncate",
+    "utimensat_time64": "utimensat",
+}
 
 LINE = re.compile(r"(\d+) +(.*)")
 BEGUN = re.compile(r"(\w+)\(")
