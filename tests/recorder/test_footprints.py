@@ -199,11 +199,11 @@ class ShellTest(ProjectTest):
         self.assertEqual(outcome.warnings(), ["the recipe of b takes away a, which it didn't make"])
 
     def test_commands_of_more_lines_and_prefixes(self) -> None:
-        self.write({"makefile": "b: a\n\t@cp \\\n\t  a b\n\t-@false; cat a > c\n\t@\n\t+ touch d\n", "a": ""})
+        self.write({"makefile": "b: a\n\t@cp \\\n\t  a b\n\t-@false; cat a > c\n\t@\n\t- false\n\t+ touch d\n", "a": ""})
         outcome = self.recorded()
         self.assertEqual(outcome.own("b"), ({"a"}, {"b", "c", "d"}))
         commands = outcome.book["records"][0]["commands"]
-        self.assertEqual(commands, ["@cp \\\n  a b", "-@false; cat a > c", "@", "+ touch d"])
+        self.assertEqual(commands, ["@cp \\\n  a b", "-@false; cat a > c", "@", "- false", "+ touch d"])
         self.assertEqual(self.check()[0].split()[0], "yes")
 
     def test_names_beyond_ascii(self) -> None:
