@@ -199,7 +199,8 @@ class ShellTest(ProjectTest):
         self.assertEqual(outcome.warnings(), ["the recipe of b takes away a, which it didn't make"])
 
     def test_commands_of_more_lines_and_prefixes(self) -> None:
-        self.write({"makefile": "b: a\n\t@cp \\\n\t  a b\n\t-@false; cat a > c\n\t@\n\t- false\n\t+ touch d\n", "a": ""})
+        self.write({"makefile": "b: a\n\t@cp \\\n\t  a b\n\t-@false; cat a > c\n\t@\n\t- false\n\t+ touch d\n",
+                    "a": ""})
         outcome = self.recorded()
         self.assertEqual(outcome.own("b"), ({"a"}, {"b", "c", "d"}))
         commands = outcome.book["records"][0]["commands"]
