@@ -6,7 +6,8 @@
 PREFIX = /usr/local
 CRATE =
 
-.PHONY: all demo check program edits growths bench install clean
+.PHONY: all demo check program edits growths recorder realcheck manuals pages bench
+.PHONY: install clean
 
 # rt looks by itself at what changed since the last build, so `all` is always
 # run and names no source. It proves the program, links it, and runs it once.
@@ -26,6 +27,12 @@ demo: all
 	@cd examples/wordcount && ../../bin/mkcheck check -b footprint.json | cmp - check.txt
 	cd examples/wordcount && sed '/^main.o/s/ table.h//' makefile > forgotten.mk
 	cd examples/wordcount && ! ../../bin/mkcheck check -f forgotten.mk -b footprint.json
+	@cd examples/lua && ../../bin/mkcheck check -b footprint.json all | sed -n 1p | cmp - check.txt
+	cd examples/lua && cat check.txt
+	@cd examples/figlet && ../../bin/mkcheck check -b footprint.json | cmp - check.txt
+	cd examples/figlet && ! ../../bin/mkcheck check -b footprint.json
+	@cd examples/awk && ../../bin/mkcheck check -b footprint.json | cmp - check.txt
+	cd examples/awk && ! ../../bin/mkcheck check -b footprint.json
 
 # The gate proves and runs everything from nothing, so it needs no `all`. Its
 # last line, `N passed, M failed`, is to stay the last one that is printed.
@@ -45,6 +52,24 @@ edits:
 growths: all
 	@python3 tests/growths/sweep.py
 
+# Tests the recorder on small projects, by strace and a compiler where these are there.
+recorder: all
+	@MKCHECK=bin/mkcheck python3 tests/recorder/run.py
+
+# Records the examples anew, where strace and their compilers are there.
+realcheck: all
+	@MKCHECK=bin/mkcheck python3 tests/recorder/real.py
+
+# Tries the makefiles that docs/FROM_GNU_MAKE.md shows.
+pages: all
+	@python3 tests/pages/run.py bin/mkcheck
+
+# Reads the manual pages by a linter, where one is there.
+manuals:
+	@if command -v mandoc; then mandoc -T lint -W warning man/*.1; \
+	elif command -v groff; then ! groff -mandoc -Tascii -ww man/*.1 2>&1 >/dev/null | grep .; \
+	else echo 'manuals: no mandoc and no groff, so nothing was read'; fi
+
 bench: all
 	@python3 bench/run.py
 	@python3 bench/texts.py
@@ -55,8 +80,13 @@ bench: all
 
 install: all
 	mkdir -p $(DESTDIR)$(PREFIX)/bin
-	cp -f bin/mkcheck $(DESTDIR)$(PREFIX)/bin/mkcheck
+	cp -f bin/mkcheck tools/mkcheck-record $(DESTDIR)$(PREFIX)/bin
+	mkdir -p $(DESTDIR)$(PREFIX)/lib/mkcheck/mkcheck_record
+	cp -f tools/mkcheck_record/*.py $(DESTDIR)$(PREFIX)/lib/mkcheck/mkcheck_record
+	mkdir -p $(DESTDIR)$(PREFIX)/share/man/man1
+	cp -f man/mkcheck.1 man/mkcheck-record.1 $(DESTDIR)$(PREFIX)/share/man/man1
 
 clean:
 	rm -rf bin bench/data bench/__pycache__ crates/*/out
+	rm -rf tools/mkcheck_record/__pycache__ tests/recorder/__pycache__
 	cd examples/wordcount && rm -f wordcount *.o counted.txt forgotten.mk

@@ -1,0 +1,55 @@
+"""Tries the makefiles that docs/FROM_GNU_MAKE.md shows, each of which is refused by its number or read, and our own.
+
+The word is the path of mkcheck; without it MKCHECK names it, else it is bin/mkcheck.
+"""
+
+from __future__ import annotations
+
+import os
+import re
+import subprocess
+import sys
+import tempfile
+from collections.abc import Sequence
+from pathlib import Path
+
+ROOT = Path(__file__).resolve().parents[2]
+PAGE = ROOT / "docs" / "FROM_GNU_MAKE.md"
+BLOCK = re.compile(r"^```make ?(\d*)\n(.*?)^```$", re.MULTILINE | re.DOTALL)
+
+
+def answer(mkcheck: str, makefile: str, goals: Sequence[str] = ()) -> str:
+    """The number of the refusal of a makefile, or nothing where its graph and commands are printed."""
+    with tempfile.TemporaryDirectory() as folder:
+        Path(folder, "makefile").write_text(makefile)
+        done = subprocess.run([mkcheck, "graph", "-c", *goals], cwd=folder, capture_output=True, text=True, check=False)
+    words = done.stdout.split()
+    return words[1] if words[:1] == ["refused"] else "" if done.returncode == 0 else f"status {done.returncode}"
+
+
+def read_own(mkcheck: str) -> int:
+    """Tells whether the repository's own Makefile isn't read, with all its phony targets as goals: 1, else 0."""
+    text = (ROOT / "Makefile").read_text()
+    goals = re.search(r"^\.PHONY:(.*)$", text, re.MULTILINE)
+    words = goals.group(1).split() if goals else []
+    said = answer(mkcheck, text, words)
+    if said:
+        print(f"pages: {said} and not read: the repository's Makefile")
+    return 1 if said or not words else 0
+
+
+def main() -> int:
+    mkcheck = os.path.abspath(sys.argv[1] if len(sys.argv) > 1 else os.environ.get("MKCHECK", ROOT / "bin" / "mkcheck"))
+    wrong = read_own(mkcheck)
+    blocks = BLOCK.findall(PAGE.read_text(encoding="utf-8"))
+    for number, makefile in blocks:
+        said = answer(mkcheck, makefile)
+        if said != number:
+            wrong += 1
+            print(f"pages: {said or 'read'} and not {number or 'read'}:\n{makefile}")
+    print(f"pages: {len(blocks) + 1 - wrong} makefiles as they are said to be, {wrong} not")
+    return 1 if wrong else 0
+
+
+if __name__ == "__main__":
+    sys.exit(main())

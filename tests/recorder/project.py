@@ -1,0 +1,104 @@
+"""Projects for the tests of mkcheck-record: files in a folder of their own, and what was recorded of them."""
+
+from __future__ import annotations
+
+import json
+import os
+import shutil
+import subprocess
+import tempfile
+import unittest
+from dataclasses import dataclass, replace
+from pathlib import Path
+
+ROOT = Path(__file__).resolve().parents[2]
+RECORDER = ROOT / "tools" / "mkcheck-record"
+MKCHECK = os.path.abspath(os.environ.get("MKCHECK", ROOT / "bin" / "mkcheck"))
+SYSTEM = ("/usr/", "/lib/", "/lib64/", "/bin/", "/etc/", "/opt/")
+
+traced = unittest.skipUnless(shutil.which("strace") and os.access(MKCHECK, os.X_OK), "no strace, or no mkcheck")
+compiled = unittest.skipUnless(shutil.which("cc") and shutil.which("ar"), "no compiler")
+
+
+@dataclass(frozen=True)
+class Outcome:
+    """What the recorder left: its status, its two texts, and the footprints, where it wrote some."""
+
+    status: int
+    output: str
+    errors: str
+    book: dict | None
+
+    def own(self, target: str) -> tuple[set[str], set[str]]:
+        """What the recipe of a target reads and writes beside what is the system's."""
+        assert self.book is not None, self.errors
+        record = next(record for record in self.book["records"] if record["target"] == target)
+        reads, writes = set(record["reads"]), set(record["writes"])
+        assert len(reads) == len(record["reads"]) and len(writes) == len(record["writes"]), record
+        return {name for name in reads if not name.startswith(SYSTEM)}, writes
+
+    def reads(self, target: str) -> list[str]:
+        """All that the recipe of a target reads."""
+        assert self.book is not None, self.errors
+        return next(record["reads"] for record in self.book["records"] if record["target"] == target)
+
+    def warnings(self) -> list[str]:
+        """The warnings, without what stands before each."""
+        front = "mkcheck-record: warning: "
+        return [line[len(front) :] for line in self.errors.splitlines() if line.startswith(front)]
+
+
+class ProjectTest(unittest.TestCase):
+    """A test with a folder of its own."""
+
+    def setUp(self) -> None:
+        self.scratch = Path(tempfile.mkdtemp(prefix="recorder-test-")).resolve()
+        self.addCleanup(shutil.rmtree, self.scratch)
+        self.folder = self.scratch / "project"
+        self.folder.mkdir()
+        self.book = self.scratch / "book.json"
+
+    def write(self, files: dict[str, str]) -> None:
+        """Writes files; one whose text begins with `#!` can be run."""
+        for name, text in files.items():
+            path = self.folder / name
+            path.parent.mkdir(parents=True, exist_ok=True)
+            path.write_text(text)
+            if text.startswith("#!"):
+                path.chmod(0o755)
+
+    def record(self, *words: str, environment: dict[str, str] | None = None) -> Outcome:
+        """Runs the recorder on the folder, for a file of footprints."""
+        self.book.unlink(missing_ok=True)
+        outcome = self.record_plainly("-o", str(self.book), *words, environment=environment)
+        book = json.loads(self.book.read_text()) if self.book.exists() else None
+        return replace(outcome, book=book)
+
+    def record_plainly(self, *words: str, environment: dict[str, str] | None = None) -> Outcome:
+        """Runs the recorder on the folder."""
+        kept = {name: value for name, value in os.environ.items() if name not in ("MAKEFLAGS", "MAKELEVEL", "MFLAGS")}
+        done = subprocess.run(
+            ["python3", str(RECORDER), "-C", str(self.folder), *words],
+            env={**kept, "MKCHECK": MKCHECK, **(environment or {})},
+            capture_output=True,
+            text=True,
+            check=False,
+        )
+        return Outcome(done.returncode, done.stdout, done.stderr, None)
+
+    def recorded(self, *words: str) -> Outcome:
+        """Runs the recorder, which has to succeed."""
+        outcome = self.record(*words)
+        self.assertEqual((outcome.status, outcome.output), (0, ""), outcome.errors)
+        return outcome
+
+    def check(self, *words: str) -> list[str]:
+        """The lines of `mkcheck check` over what was recorded."""
+        done = subprocess.run(
+            [MKCHECK, "check", "-b", str(self.book), *words],
+            cwd=self.folder,
+            capture_output=True,
+            text=True,
+            check=False,
+        )
+        return done.stdout.splitlines()

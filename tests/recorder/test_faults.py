@@ -1,0 +1,97 @@
+"""Recordings that fail or that warn, and the other runs."""
+
+from __future__ import annotations
+
+import sys
+
+from project import ProjectTest, traced
+
+FAILING = "out: a b\n\tcat b\na:\n\techo > a\nb: a\n\techo first\n\t@echo said; exit 7\n"
+
+
+@traced
+class FaultTest(ProjectTest):
+    """Faults and their statuses."""
+
+    def test_a_recipe_that_fails(self) -> None:
+        self.write({"makefile": FAILING})
+        outcome = self.record()
+        self.assertEqual((outcome.status, outcome.book, outcome.output), (1, None, ""))
+        self.assertEqual(
+            outcome.errors,
+            "mkcheck-record: the recipe of b failed, status 7, at 'echo said; exit 7'\n"
+            "\techo first\n\t@echo said; exit 7\nsaid\n",
+        )
+
+    def test_an_old_file_stays_where_a_recipe_fails(self) -> None:
+        self.write({"makefile": FAILING})
+        kept = self.scratch / "kept"
+        kept.write_text("old")
+        self.assertEqual(self.record("-o", str(kept)).status, 1)
+        self.assertEqual(kept.read_text(), "old")
+
+    def test_a_command_that_is_killed(self) -> None:
+        self.write({"makefile": "a:\n\tkill -9 $$$$\n"})
+        outcome = self.record()
+        self.assertEqual((outcome.status, outcome.book), (1, None))
+
+    def test_what_mkcheck_refuses(self) -> None:
+        self.write({"makefile": "a: b\nb: a\n"})
+        outcome = self.record()
+        self.assertEqual((outcome.status, outcome.book), (2, None))
+        self.assertEqual(outcome.errors, "mkcheck-record: mkcheck graph: refused 42 a b a\n")
+
+    def test_a_name_that_nothing_makes(self) -> None:
+        self.write({"makefile": "a: b\n\tcp b a\n"})
+        self.assertEqual(self.record().errors, "mkcheck-record: mkcheck graph: refused 41 b\n")
+
+    def test_without_strace(self) -> None:
+        self.write({"makefile": "a:\n\techo > a\n"})
+        tools = self.scratch / "tools"
+        tools.mkdir()
+        (tools / "python3").symlink_to(sys.executable)
+        outcome = self.record(environment={"PATH": str(tools)})
+        self.assertEqual((outcome.status, outcome.book), (2, None))
+        self.assertIn("strace isn't there", outcome.errors)
+
+    def test_words_that_are_no_options(self) -> None:
+        self.assertEqual(self.record("--nothing").status, 2)
+        self.assertEqual(self.record("--make", "--in-place").status, 2)
+        self.assertEqual(self.record("--fixed", "a/../b").status, 2)
+        self.assertEqual(self.record("-C", str(self.scratch / "none")).status, 2)
+
+
+@traced
+class OtherRunsTest(ProjectTest):
+    """`--again` and `--make`."""
+
+    def test_contents_that_differ(self) -> None:
+        self.write({"makefile": "all: a b\na:\n\tdate +%N > a\nb: a\n\techo same > b\n"})
+        outcome = self.recorded("--again", "--fixed", "/proc")
+        self.assertEqual(
+            outcome.warnings(), ["a differs in a second run: the recipe of a isn't a function of what it reads"]
+        )
+        self.write({"makefile": "b:\n\tpwd > b\n"})
+        self.assertEqual(self.recorded("--again").warnings(), [])
+
+    def test_make_does_the_same(self) -> None:
+        self.write({"makefile": "out: a b\n\t@cat a b > out\nb: a\n\t-cp \\\n\ta b\n\ttouch c\n", "a": ""})
+        outcome = self.recorded("--make")
+        self.assertEqual(outcome.warnings(), [])
+        self.assertEqual(outcome.own("out"), ({"a", "b"}, {"out"}))
+
+    def test_a_make_that_a_recipe_starts(self) -> None:
+        self.write({"makefile": "x: a\n\t$(MAKE) -f sub.mk x\n", "sub.mk": "x: a\n\tcat a > x\n", "a": ""})
+        outcome = self.recorded("--make")
+        self.assertEqual(outcome.warnings(), [])
+        self.assertEqual(outcome.own("x"), ({"sub.mk", "a"}, {"x"}))
+
+    def test_make_does_another_thing(self) -> None:
+        self.write({"makefile": 'out: a\n\tif test "$$MAKELEVEL"; then cat b; fi; cat a > out\n', "a": "", "b": ""})
+        self.assertEqual(self.recorded("--make").warnings(), ["out reads b when make runs it, but not else"])
+
+    def test_make_runs_other_commands(self) -> None:
+        self.write({"makefile": "out:\n\techo $(MAKE_VERSION) > out\n"})
+        first, second = self.recorded("--make").warnings()
+        self.assertRegex(first, r"^make runs a command that no recipe has: echo .+ > out$")
+        self.assertEqual(second, "make doesn't run a command of out: echo > out")

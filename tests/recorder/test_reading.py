@@ -1,0 +1,123 @@
+"""Reading strace's output, mkcheck's graph, and names. No strace is needed."""
+
+from __future__ import annotations
+
+import sys
+import unittest
+from pathlib import Path
+
+from project import ROOT
+
+sys.path.insert(0, str(ROOT / "tools"))
+
+from mkcheck_record.accesses import Accesses, Disk, Follower  # noqa: E402
+from mkcheck_record.calls import FORKS, SAME, TRACED, path_of, read_calls, text_of  # noqa: E402
+from mkcheck_record.folders import Naming, is_plain_path  # noqa: E402
+from mkcheck_record.graphs import Command, read_graph  # noqa: E402
+
+TRACES = Path(__file__).resolve().parent / "traces"
+
+
+def followed(name: str, there: tuple[str, ...] = ()) -> Accesses:
+    """What the calls of a stored trace do, from the folder /nowhere/p on."""
+    accesses = Accesses(Disk("/nowhere/p", set(there)))
+    lines = [line for line in (TRACES / name).read_text().splitlines() if not line.startswith("#")]
+    Follower(accesses, "/nowhere/p").follow(read_calls(lines))
+    return accesses
+
+
+class CallsTest(unittest.TestCase):
+    """Single lines of a trace."""
+
+    def one(self, line: str) -> tuple[str, tuple[str, ...], str]:
+        """The one call of a line."""
+        (call,) = read_calls([line])
+        return call.name, call.arguments, call.result
+
+    def test_a_call(self) -> None:
+        line = '12    openat(AT_FDCWD</tmp/a b>, "x, (y)\\"", O_WRONLY|O_CREAT, 0666) = 3</tmp/a b/x, (y)">'
+        name, arguments, result = self.one(line)
+        self.assertEqual(name, "openat")
+        self.assertEqual(text_of(arguments[1]), 'x, (y)"')
+        self.assertEqual(path_of(arguments[0]), "/tmp/a b")
+        self.assertEqual(arguments[2:], ("O_WRONLY|O_CREAT", "0666"))
+        self.assertEqual(path_of(result), '/tmp/a b/x, (y)"')
+
+    def test_brackets_hold_commas(self) -> None:
+        line = '12 execve("/bin/a", ["a", "-c", "b)"], 0x7ffe /* 3 vars */) = 0'
+        self.assertEqual(self.one(line), ("execve", ('"/bin/a"', '["a", "-c", "b)"]', "0x7ffe /* 3 vars */"), "0"))
+
+    def test_escapes(self) -> None:
+        self.assertEqual(text_of('"\\303\\244\\tb\\\\\\x41"'), "ä\tb\\A")
+        self.assertEqual(path_of("3</a\\74b\\76>"), "/a<b>")
+        self.assertEqual(path_of("3</a (deleted)>"), "/a")
+        self.assertIsNone(path_of("3<pipe:[12]>"))
+        self.assertIsNone(path_of("3"))
+
+    def test_failed_calls_are_none(self) -> None:
+        self.assertEqual(read_calls(['12 open("x", O_RDONLY) = -1 ENOENT (No such file or directory)']), [])
+        self.assertEqual(read_calls(["12 +++ exited with 0 +++", "12 vfork( <unfinished ...>", ""]), [])
+
+
+class TracedTest(unittest.TestCase):
+    """What strace is asked for."""
+
+    def test_each_call_is_followed(self) -> None:
+        for name in (SAME.get(name, name) for name in TRACED if name not in FORKS):
+            self.assertTrue(hasattr(Follower, f"on_{name}"), name)
+
+
+class FollowerTest(unittest.TestCase):
+    """Whole traces: see each file for where it comes from."""
+
+    def test_interrupted_calls_and_new_processes(self) -> None:
+        accesses = followed("forks.txt")
+        self.assertEqual(list(accesses.reads), [
+            "/nowhere/bin/sh", "/nowhere/p/b", "/nowhere/p/s/a", "/nowhere/p/s/none", "/nowhere/p/s/d",
+        ])
+        self.assertEqual(list(accesses.writes), ["/nowhere/p/s/out"])
+
+    def test_calls_of_other_machines(self) -> None:
+        accesses = followed("calls.txt", ("/nowhere/p/db",))
+        self.assertEqual(list(accesses.reads), ["/nowhere/p/tool", "/nowhere/p/x", "/nowhere/p/db", "/nowhere/p/f"])
+        self.assertEqual(list(accesses.writes), [f"/nowhere/p/{name}" for name in ("db", "t", "g", "q/r", "e")])
+        self.assertEqual(list(accesses.removed), ["/nowhere/p/x.tmp", "/nowhere/p/f"])
+
+
+class GraphTest(unittest.TestCase):
+    """What mkcheck prints."""
+
+    def test_commands_of_more_lines(self) -> None:
+        graph = read_graph("goals a\nc:\nb recipe phony: c\n\tx \\\n\ty\n\tz\\\\\na recipe: .WAIT b\n\t@w\n")
+        self.assertEqual(graph.names, ["c", "b", "a"])
+        self.assertEqual([(recipe.target, recipe.lines) for recipe in graph.recipes],
+                         [("b", ["x \\\n\ty", "z\\\\"]), ("a", ["@w"])])
+
+    def test_prefixes(self) -> None:
+        self.assertEqual(Command.of("@- + cc -c a.c"), Command("cc -c a.c", True))
+        self.assertEqual(Command.of("cc -c a.c").words, ["/bin/sh", "-ec", "cc -c a.c"])
+        self.assertEqual(Command.of("-x").words, ["/bin/sh", "-c", "x"])
+
+
+class NamesTest(unittest.TestCase):
+    """Names of files."""
+
+    def test_plain_paths(self) -> None:
+        for name in ("a", "/a", "../a", "../../a/b", "..", "a.b/.c", "ä", "a,b"):
+            self.assertTrue(is_plain_path(name), name)
+        for name in ("", "/", "a/", "a//b", "./a", "a/.", "a/../b", "/..", "/../a"):
+            self.assertFalse(is_plain_path(name), name)
+        for name in ("a b", "a\tb", "a\x7f", "a" * 4097, "\udcff"):
+            self.assertFalse(is_plain_path(name), name)
+
+    def test_names_in_the_folder_and_under_prefixes(self) -> None:
+        naming = Naming("/nowhere/p", ("/usr/", "../c/"))
+        self.assertEqual(naming.name("/nowhere/p/a/b"), "a/b")
+        self.assertEqual(naming.name("/usr/x"), "/usr/x")
+        self.assertEqual(naming.name("/nowhere/c/x"), "../c/x")
+        self.assertIsNone(naming.name("/nowhere/d"))
+        self.assertIsNone(naming.name("/nowhere/pp"))
+
+
+if __name__ == "__main__":
+    unittest.main()
