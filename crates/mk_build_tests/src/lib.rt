@@ -14,6 +14,8 @@ mod graph_turns;
 #[cfg(test)]
 mod graphs;
 #[cfg(test)]
+mod plan_texts;
+#[cfg(test)]
 mod plans;
 #[cfg(test)]
 mod searches;

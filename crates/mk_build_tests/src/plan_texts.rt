@@ -1,0 +1,82 @@
+//! Plans as they are written.
+
+use crate::graph_fixtures::graph_of;
+use mk_lines::{Name, Names};
+use mk_plans::plan_text;
+use mk_world::Step;
+use std::alloc::{AllocError, Global};
+use std::test::Fail;
+
+/// Names.
+fn names_of(alloc: Global, words: &str) -> Result<Names, AllocError> {
+    let mut names = Vec::new(alloc);
+    for word in words.split_whitespace() {
+        names.push(Name::new(alloc, word)?)?;
+    }
+    Ok(Names::new(names))
+}
+
+/// A make of these goals.
+fn make(alloc: Global, jobs: usize, goals: &str) -> Result<Step, AllocError> {
+    Ok(Step::Make {
+        jobs,
+        goals: names_of(alloc, goals)?,
+    })
+}
+
+/// The steps of a run of `p`.
+fn push_run(alloc: Global, steps: &mut Vec<Step>) -> Result<(), AllocError> {
+    let node = Name::new(alloc, "p")?;
+    steps.push(Step::Begin {
+        node: node.clone()?,
+    })?;
+    steps.push(Step::Look {
+        node: node.clone()?,
+        file: Name::new(alloc, "s")?,
+    })?;
+    steps.push(Step::Put {
+        node: node.clone()?,
+        file: Name::new(alloc, "p")?,
+        content: 18_446_744_073_709_551_615,
+    })?;
+    steps.push(Step::End { node })?;
+    Ok(())
+}
+
+/// The passing of each of these nodes.
+fn push_passes(alloc: Global, steps: &mut Vec<Step>, nodes: &str) -> Result<(), AllocError> {
+    for node in nodes.split_whitespace() {
+        let node = Name::new(alloc, node)?;
+        steps.push(Step::Pass { node })?;
+    }
+    Ok(())
+}
+
+/// Two makes with an edit between.
+fn history(alloc: Global) -> Result<Vec<Step>, AllocError> {
+    let mut steps = Vec::new(alloc);
+    steps.push(make(alloc, 1, "all")?)?;
+    push_passes(alloc, &mut steps, "s")?;
+    push_run(alloc, &mut steps)?;
+    push_passes(alloc, &mut steps, "q all")?;
+    steps.push(Step::EndMake)?;
+    steps.push(Step::Edit {
+        file: Name::new(alloc, "s")?,
+        content: 0,
+    })?;
+    steps.push(make(alloc, 4096, "p q")?)?;
+    steps.push(Step::Stop)?;
+    Ok(steps)
+}
+
+#[test]
+fn steps_are_written_as_lines(rt: HostRuntime) -> Result<(), Fail> {
+    let alloc = rt.alloc();
+    let graph = graph_of(&rt, alloc, "all:12 p!:3 q!:3 s")?;
+    let text = plan_text(alloc, &graph, &history(alloc)?)?;
+    assert_eq!(rt;
+        text.as_str(),
+        "make 1\nbegin p\nlook p s\nput p p 18446744073709551615\ndone p\npass q\nend\nedit s 0\nmake 4096 p q\nstop\n"
+    );
+    Ok(())
+}
