@@ -16,7 +16,15 @@ RECORDER = ROOT / "tools" / "mkcheck-record"
 MKCHECK = os.path.abspath(os.environ.get("MKCHECK", ROOT / "bin" / "mkcheck"))
 SYSTEM = ("/usr/", "/lib/", "/lib64/", "/bin/", "/etc/", "/opt/")
 
-traced = unittest.skipUnless(shutil.which("strace") and os.access(MKCHECK, os.X_OK), "no strace, or no mkcheck")
+
+
+def traces() -> bool:
+    """Whether strace is there, and may trace."""
+    strace = shutil.which("strace")
+    return strace is not None and subprocess.run([strace, "-o", os.devnull, "true"], capture_output=True, check=False).returncode == 0
+
+
+traced = unittest.skipUnless(traces() and os.access(MKCHECK, os.X_OK), "no strace that may trace, or no mkcheck")
 compiled = unittest.skipUnless(shutil.which("cc") and shutil.which("ar"), "no compiler")
 
 
