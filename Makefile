@@ -77,6 +77,7 @@ bench: all
 	@python3 bench/footprint.py
 	@python3 bench/rows.py
 	@python3 bench/verdicts.py
+	@python3 bench/certificates.py
 	@python3 bench/plans.py
 
 install: all
