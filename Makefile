@@ -79,6 +79,7 @@ bench: all
 	@python3 bench/verdicts.py
 	@python3 bench/certificates.py
 	@python3 bench/plans.py
+	@python3 bench/hostile.py
 
 install: all
 	mkdir -p $(DESTDIR)$(PREFIX)/bin
