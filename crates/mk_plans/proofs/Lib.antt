@@ -1,2 +1,4 @@
 pub mod Sets
 pub mod Goals
+pub mod Spelling
+pub mod Reading
