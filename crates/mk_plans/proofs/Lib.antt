@@ -6,3 +6,4 @@ pub mod Numbers
 pub mod Agreeing
 pub mod Following
 pub mod Running
+pub mod Readable

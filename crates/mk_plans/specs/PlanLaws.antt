@@ -2,6 +2,7 @@
 use Rattle.std.specs.Prelude.{◌≡◌, ℕ, ◌<◌, ◌≤◌, ◌^◌, Bool, true, false, not, List, [], length, map, filter, Option, None, Some, Ok, if◌then◌else◌}
 use Rattle.std.specs.List.{filter_map, enumerate_from}
 use Rattle.mk_lines.specs.Names.{has_name}
+use Rattle.mk_lines.specs.Paths.{is_plain_path}
 use Rattle.mk_graph.specs.Membership.{Has}
 use Rattle.mk_graph.specs.Graph.{Graph, node, IsGraph}
 use Rattle.mk_graph.specs.Setting.{FileName, Setting}
@@ -15,8 +16,10 @@ use Rattle.mk_world.specs.declared.plan.Order.TheVariants as order
 use Rattle.mk_world.specs.declared.plan.PlanLine.{PlanLine}
 use Rattle.mk_world.specs.declared.fault.StepFault.{StepFault}
 use Rattle.mk_world.specs.Plans.{lines_of, max_jobs, max_lines, plan_of}
-use Rattle.mk_world.specs.Steps.{step_of}
-use Rattle.mk_world.specs.Running.{Stage, RunsTo, goals_among}
+use Rattle.mk_world.specs.State.{State, setting, world_of}
+use Rattle.mk_world.specs.Steps.{IsFirstOf, step_of}
+use Rattle.mk_world.specs.Running.{Stage, RunsTo, goals_among, stage_of}
+use Rattle.mk_world.specs.RunLaws.{AreLegal}
 use Rattle.mk_plans.specs.PlanText.{are_all_named, is_idle, plan_text}
 use Rattle.mk_plans.specs.Spelling.{IsWellSpelled}
 
@@ -33,6 +36,22 @@ IsReadable (End t) = IsWellSpelled t
 IsReadable (Pass t) = IsWellSpelled t
 IsReadable Stop = Unit {0}
 IsReadable EndMake = Unit {0}
+
+-- The numbers of a step can be read: at most 4,096 jobs, and a content below 2 to the 64th.
+abbrev pub HasReadableNumbers : Step → Type 0
+HasReadableNumbers (Edit f c) = c < 2 ^ 64
+HasReadableNumbers (Make jobs goals) = jobs ≤ max_jobs
+HasReadableNumbers (Put t f c) = c < 2 ^ 64
+HasReadableNumbers other = Unit {0}
+
+-- A legal history speaks of names of the world alone, so its lines can be read where these names
+-- are well spelled.
+abbrev pub LegalStepsAreReadable : Type 0
+LegalStepsAreReadable =
+    (g : Graph) (s : Setting) (d : Disk) (steps : List Step) → IsGraph g →
+    ((f : FileName) → IsOfWorld g s f → IsWellSpelled f) →
+    IsLegal g s (Idle d) (map (step_of g) steps) →
+    (step : Step) → Has steps step → HasReadableNumbers step → IsReadable step
 
 -- the goals that the line of a make names: none where these are all
 abbrev pub named_goals : Graph → List FileName → List FileName
@@ -101,3 +120,17 @@ WrittenPlanRuns =
     (text : List ℕ) (refused : Option (ℕ × StepFault)) (new : World) →
     RunsTo stage (Idle d) (plan_of_steps stage.graph steps) text refused new →
     RunsAsWritten stage.graph stage.setting (Idle d) steps refused new
+
+-- The text that is written of a legal history from a first world, where names are plain paths, is
+-- read, and its plan is run as it was written.
+abbrev pub WrittenHistoryRuns : Type 0
+WrittenHistoryRuns =
+    (w : State) (steps : List Step) → IsFirstOf w.scene.graph w.scene.recorded w →
+    IsGraph w.scene.graph →
+    ((f : FileName) → has_name w.disk.names f ≡ true → is_plain_path f ≡ true) →
+    AreLegal w steps → ((step : Step) → Has steps step → HasReadableNumbers step) →
+    length (lines_of (plan_text w.scene.graph steps)) ≤ max_lines →
+    (plan : List PlanLine) × (plan_of (plan_text w.scene.graph steps) ≡ Ok plan) ×
+    ((text : List ℕ) (refused : Option (ℕ × StepFault)) (new : World) →
+    RunsTo (stage_of w) (world_of w) plan text refused new →
+    RunsAsWritten w.scene.graph (setting w.scene) (world_of w) steps refused new)
