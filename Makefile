@@ -77,7 +77,9 @@ bench: all
 	@python3 bench/footprint.py
 	@python3 bench/rows.py
 	@python3 bench/verdicts.py
+	@python3 bench/certificates.py
 	@python3 bench/plans.py
+	@python3 bench/hostile.py
 
 install: all
 	mkdir -p $(DESTDIR)$(PREFIX)/bin

@@ -82,7 +82,7 @@ module _ (reaches : SerialReachesEachOnce) (x : Subject) where
 
 -- ---- the build of the goals
 
-is_settled : {A : Type 0} (answers : value.Graph → Result A Fault → Type 0) (selected : Result value.Graph InferFault) (answer : Result A Fault) → DrawsGraph answers selected answer → inferring.IsSettled selected
+pub is_settled : {A : Type 0} (answers : value.Graph → Result A Fault → Type 0) (selected : Result value.Graph InferFault) (answer : Result A Fault) → DrawsGraph answers selected answer → inferring.IsSettled selected
 is_settled answers (Ok g) answer d = tt
 is_settled answers (Err infer.Memory) answer (w, e) = absurd cc
 is_settled answers (Err (infer.BadGoal place)) answer d = tt
@@ -131,7 +131,7 @@ verdict_is_one one_certificate one_list one_selection reaches files request one 
 
 -- ---- certificates
 
-not_failing : {A : Type 0} (answer : Result A Fault) → IsSettled answer → failing_of answer ≡ None
+pub not_failing : {A : Type 0} (answer : Result A Fault) → IsSettled answer → failing_of answer ≡ None
 not_failing (Ok x) s = refl
 not_failing (Err Memory) s = refl
 not_failing (Err (FileReadFailed name)) s = absurd s
