@@ -18,6 +18,7 @@ from pathlib import Path
 
 ROOT = Path(__file__).resolve().parents[2]
 BLOCK = re.compile(r"^```console(?: (more)| in (\S+))?\n(.*?)^```$", re.MULTILINE | re.DOTALL)
+COMMENT = re.compile(r"<!--.*?-->", re.DOTALL)
 READS = re.compile(r"^(yes \d+ recipes) \d+ reads$", re.MULTILINE)
 SECONDS = 120
 
@@ -100,7 +101,7 @@ def environment_of(program: str, tools: Path) -> dict[str, str]:
 
 def blocks_of(page: Path) -> Iterator[tuple[int, str, str, str]]:
     """Line, word, folder and text of each block of a page."""
-    text = page.read_text(encoding="utf-8")
+    text = COMMENT.sub(lambda comment: "\n" * comment.group().count("\n"), page.read_text(encoding="utf-8"))
     for found in BLOCK.finditer(text):
         more, source, block = found.groups()
         yield text.count("\n", 0, found.start()) + 1, more or "", source or "", block
