@@ -1,5 +1,5 @@
 -- The answer to a request for the run of a plan is one.
-use Rattle.std.proofs.Common.{◌≡◌, ◌×◌, ℕ, Bool, List, ◌++◌, Option, None, Some, Result, Ok, Err, refl, sym, ap, subst, ◌∙◌}
+use Rattle.std.proofs.Common.{◌≡◌, ℕ, Bool, List, ◌++◌, Option, None, Some, Result, Ok, Err, refl, sym, ap, subst, ◌∙◌}
 use Rattle.std.specs.Prelude.{is_some}
 use Rattle.std.specs.Option.{ok_or}
 use Rattle.mk_graph.specs.Graph as value
@@ -43,8 +43,8 @@ module _ {A : Type 0} (one_selection : inferring.SelectionIsOne) (answers : Read
   ready_one (Ok ready) d h = selected_one ready d h
 
 -- what is shown of a run is one
-shown_same : (a b : Simulation) → a.text ≡ b.text → a.refused ≡ b.refused → a ≡ b
-shown_same a b e k = cc
+shown_same : (text also : List ℕ) (refused again : Bool) → text ≡ also → refused ≡ again → (let one : Simulation = record { text = text; refused = refused } in one ≡ record { text = also; refused = again })
+shown_same text also refused again e k = rw (e, k) refl
 
 ends_same : (stage : Stage) (text also : List ℕ) (refused again : Option (ℕ × StepFault)) (left other : World) → text ≡ also → refused ≡ again → left ≡ other → text ++ last_lines stage refused left ≡ also ++ last_lines stage again other
 ends_same stage text also refused again left other e k l = rw (e, k, l) refl
@@ -58,7 +58,7 @@ module _ (one_world : FirstWorldIsOne) (one_run : RunIsOne) (g : value.Graph) (s
       let same = one_run (stage_of h.first) (world_of h.first) lines h.printed j.printed h.refused j.refused h.left j.left h.runs again in
       let ends = ends_same (stage_of h.first) h.printed j.printed h.refused j.refused h.left j.left same.0 same.1 same.2 in
       let stages = ap (λ (stage : Stage). j.printed ++ last_lines stage j.refused j.left) (sym first.0) in
-      shown_same a b (h.text ∙ (ends ∙ (stages ∙ sym j.text))) (h.is_refused ∙ (ap (λ (r : Option (ℕ × StepFault)). is_some r) same.1 ∙ sym j.is_refused))
+      shown_same a.text b.text a.refused b.refused (h.text ∙ (ends ∙ (stages ∙ sym j.text))) (h.is_refused ∙ (ap (λ (r : Option (ℕ × StepFault)). is_some r) same.1 ∙ sym j.is_refused))
 
   lines_one : (read : Result (List PlanLine) PlanFault) (one other : Result Simulation Fault) → RunsLines g s read one → RunsLines g s read other → one ≡ other
   lines_one (Ok lines) one other (a, h, e) (b, j, k) = e ∙ (ap (λ (shown : Simulation). Ok shown) (run_shown lines a b h j) ∙ sym k)
