@@ -20,9 +20,11 @@ def own(count: int) -> Build:
 
 
 def reading(count: int) -> Build:
-    """Targets that read the same 200 sources."""
-    sources = [f"certificates/s{number}" for number in range(200)]
-    return ruled([f"o{number}" for number in range(count)], {f"o{number}": sources for number in range(count)}, sources)
+    """Targets that read a source each, and 200 files of the system, which never change."""
+    build = own(count)
+    system = [f"/usr/include/h{number}.h" for number in range(200)]
+    records = [(target, commands, [*reads, *system]) for target, commands, reads in build.records]
+    return Build(build.text, build.sources, records, ["/usr/"])
 
 
 def carrying(layers: int) -> Build:
