@@ -1,6 +1,6 @@
 //! What is kept of a make.
 
-ghost use Rattle.std.specs.Prelude.{◌≡◌, ◌<◌, ◌≤◌, ◌⊎◌, ◌↔◌, ℕ, List, length, map, slice_index, IfOk, MatchOption};
+ghost use Rattle.std.specs.Prelude.{◌≡◌, ◌<◌, ◌≤◌, ◌⊎◌, ◌↔◌, ℕ, List, length, map, replicate, slice_index, IfOk, MatchOption};
 ghost use Rattle.mk_graph.specs.Membership.{Has};
 ghost use Rattle.mk_graph.specs.Graph.{node};
 ghost use Rattle.mk_graph.specs.Without.{joined};
@@ -11,7 +11,7 @@ ghost use Rattle.mk_ready.specs.State.{IsAtRest, Stands, fresh, stage};
 use crate::layout::Layout;
 use crate::left::Left;
 use memchr::memchr;
-use mk_graph::{Graph, NodeSet};
+use mk_graph::{Graph, NodeSet, growth_laws};
 use std::alloc::{AllocError, Global};
 
 /// The stage of a node that isn't wanted.
@@ -84,6 +84,13 @@ fn advance(done: &NodeSet, stages: &mut Vec<u8>, left: &mut Left)
     }
 }
 
+/// So many times 0.
+fn zeros(alloc: Global, many: usize) -> Result<Vec<u8>, AllocError>
+    ensures { IfOk result (λ bytes. bytes.items ≡ replicate many 0) }
+{
+    vec![in alloc; 0; many]
+}
+
 /// What is left of each node's groups where no group is open yet.
 fn lefts_of<'a>(alloc: Global, graph: &'a Graph) -> Result<Vec<Left<'a>>, AllocError>
     ensures { IfOk result (λ lefts. lefts.items ≡ map fresh graph.entry.now.nodes) }
@@ -118,9 +125,9 @@ impl<'a> State<'a> {
         Ok(State {
             goals: NodeSet::new(),
             done: NodeSet::new(),
-            stages: vec![in alloc; NEW; graph.nodes().len()]?,
+            stages: zeros(alloc, graph.nodes().len())?,
             left: lefts_of(alloc, graph)?,
-            marks: vec![in alloc; 0; layout.order().len()]?,
+            marks: zeros(alloc, layout.order().len())?,
         })
     }
 
@@ -212,6 +219,8 @@ impl<'a> State<'a> {
         ensures goals { self.new.goals ≡ self.old.goals }
         ensures done { (n : ℕ) → Has self.new.done n ↔ ((n ≡ number) ⊎ Has self.old.done n) }
     {
+        growth_laws::wanted_grows();
+        growth_laws::turns_stay();
         let place = layout.place(number);
         self.done.insert(number);
         self.marks[place] = 0;
