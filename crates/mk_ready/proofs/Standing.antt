@@ -188,9 +188,9 @@ looked g s t stages left marks stands low wants w lefts stopped m = record {
   ];
   settled = λ n h k. elim (cases_eq n t) [
     | inl is ↦ record {
-        stopped = subst (λ j. IsStopped s.done (get_or (set s.left.items t left) j no_rest)) (sym is) (subst (λ (r : Rest). IsStopped s.done r) (sym this) stopped);
-        marked = λ over out plain i lt there. m.idle (ap (λ (r : Rest). r.group) (sym this) ∙ subst (λ j. (get_or (set s.left.items t left) j no_rest).group ≡ []) is over) (subst (λ j. ¬ (Has s.done j)) is out) (subst (λ j. (node g j).recipe ≡ false) is plain) i lt (there ∙ is);
-      }
+      stopped = subst (λ j. IsStopped s.done (get_or (set s.left.items t left) j no_rest)) (sym is) (subst (λ (r : Rest). IsStopped s.done r) (sym this) stopped);
+      marked = λ over out plain i lt there. m.idle (ap (λ (r : Rest). r.group) (sym this) ∙ subst (λ j. (get_or (set s.left.items t left) j no_rest).group ≡ []) is over) (subst (λ j. ¬ (Has s.done j)) is out) (subst (λ j. (node g j).recipe ≡ false) is plain) i lt (there ∙ is);
+    }
     | inr apart ↦
         let old = stands.settled n (was n h k (w.each n) apart).0 (was n h k (w.each n) apart).1 in
         record {

@@ -26,9 +26,9 @@ wants_one old mid group i lt low new w =
       all = λ n h. elim (cases_eq n k) [
         | inl is ↦ subst (λ m. ¬ (get_or (set mid k 1) m 0 ≡ 0)) (sym is) (λ e. let bad : get_or (set mid k 1) k 0 ≡ 0 = e in omega arith)
         | inr apart ↦ λ e. elim (more_taken group i n lt h) [
-            | inl before ↦ w.all n before (sym (get_or-set_other mid k n 1 0 apart) ∙ e)
-            | inr is ↦ apart (sym is)
-          ]
+          | inl before ↦ w.all n before (sym (get_or-set_other mid k n 1 0 apart) ∙ e)
+          | inr is ↦ apart (sym is)
+        ]
       ];
       each = λ n. elim (cases_eq n k) [
         | inl is ↦ subst (λ m. (get_or (set mid k 1) m 0 ≡ get_or old m 0) ⊎ ((get_or old m 0 ≡ 0) × (get_or (set mid k 1) m 0 ≡ 1) × Has (take (i + 1) group) m)) (sym is) (inr (was k new (w.each k), same, taken_more group i k lt (inr refl)))

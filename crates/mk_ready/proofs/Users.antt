@@ -51,26 +51,25 @@ adds was rows numbers i node v lt low items left n p =
     let k = get_or numbers i 0 in
     let same = row_same rows k v low in
     let into : Has (row rows k) p ⊎ (p ≡ node) → Has (row (set rows k v) k) p = λ h. subst (λ (l : List ℕ). Has l p) (sym (same ∙ items)) (elim h [ inl had ↦ has_left (row rows k) (node ∷ []) p had | inr is ↦ has_right (row rows k) (node ∷ []) p (inl (sym is)) ]) in
-    let out : Has (row (set rows k v) k) p → Has (row rows k) p ⊎ (p ≡ node) = λ h. elim (has_cases (row rows k) (node ∷ []) p (subst (λ (l : List ℕ). Has l p) (same ∙ items) h)) [ inl had ↦ inl had | inr now ↦ elim now [ inl is ↦ inr (sym is) | inr none ↦ absurd none ] ] in
-    (
+    let out : Has (row (set rows k v) k) p → Has (row rows k) p ⊎ (p ≡ node) = λ h. elim (has_cases (row rows k) (node ∷ []) p (subst (λ (l : List ℕ). Has l p) (same ∙ items) h)) [ inl had ↦ inl had | inr now ↦ elim now [ inl is ↦ inr (sym is) | inr none ↦ absurd none ] ] in (
       λ h. elim ((left n p).0 h) [
         | inl had ↦ elim (cases_eq n k) [
-            | inl is ↦ inl (subst (λ m. Has (row (set rows k v) m) p) (sym is) (into (inl (subst (λ m. Has (row rows m) p) is had))))
-            | inr apart ↦ inl (subst (λ (l : List ℕ). Has l p) (sym (row_other rows k n v apart)) had)
-          ]
+          | inl is ↦ inl (subst (λ m. Has (row (set rows k v) m) p) (sym is) (into (inl (subst (λ m. Has (row rows m) p) is had))))
+          | inr apart ↦ inl (subst (λ (l : List ℕ). Has l p) (sym (row_other rows k n v apart)) had)
+        ]
         | inr later ↦ elim (rest_is numbers i n lt later.1) [
-            | inl here ↦ inl (subst (λ m. Has (row (set rows k v) m) p) here (into (inr later.0)))
-            | inr after ↦ inr (later.0, after)
-          ]
+          | inl here ↦ inl (subst (λ m. Has (row (set rows k v) m) p) here (into (inr later.0)))
+          | inr after ↦ inr (later.0, after)
+        ]
       ],
       λ h. (left n p).1 (elim h [
         | inl has ↦ elim (cases_eq n k) [
-            | inl is ↦ elim (out (subst (λ m. Has (row (set rows k v) m) p) is has)) [
-                | inl had ↦ inl (subst (λ m. Has (row rows m) p) (sym is) had)
-                | inr new ↦ inr (new, rest_has numbers i n lt (inl (sym is)))
-              ]
-            | inr apart ↦ inl (subst (λ (l : List ℕ). Has l p) (row_other rows k n v apart) has)
+          | inl is ↦ elim (out (subst (λ m. Has (row (set rows k v) m) p) is has)) [
+            | inl had ↦ inl (subst (λ m. Has (row rows m) p) (sym is) had)
+            | inr new ↦ inr (new, rest_has numbers i n lt (inl (sym is)))
           ]
+          | inr apart ↦ inl (subst (λ (l : List ℕ). Has l p) (row_other rows k n v apart) has)
+        ]
         | inr later ↦ inr (later.0, rest_has numbers i n lt (inr later.1))
       ]),
     )

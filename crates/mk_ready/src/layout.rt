@@ -63,7 +63,8 @@ impl<'a> Layout<'a> {
 
     /// The serial order of the nodes.
     pub fn order(&self) -> &[usize]
-        ensures { result.now ≡ serial_order self.now }
+        ensures value { result.now ≡ serial_order self.now }
+        ensures graph { IsGraph self.now }
     {
         self.order.as_slice()
     }

@@ -21,8 +21,8 @@ impl<'a> Model for Left<'a> {
     ghost Value = { value.Rest };
 
     ghost view = { λ l. record {
-        group = l.group.now;
-        behind = map (λ group. group.items) l.behind.now;
+      group = l.group.now;
+      behind = map (λ group. group.items) l.behind.now;
     } };
 }
 

@@ -2,6 +2,7 @@
 
 ghost use Rattle.std.specs.Prelude.{◌≡◌, ◌<◌, ◌↔◌, ℕ, length, true, IfOk, OnOk, OnErr, MatchOption};
 ghost use Rattle.mk_graph.specs.Membership.{Has};
+ghost use Rattle.mk_graph.specs.Graph.{IsGraph};
 ghost use Rattle.mk_graph.specs.Serial.{serial_order};
 ghost use Rattle.mk_graph.specs.Turns.{MayTurn, Wanted};
 ghost use Rattle.mk_ready.specs.Progress.{AreNotIdle, GoesOn, IsBlank, IsFirstIdle, Starts};
@@ -33,9 +34,9 @@ impl<'a> Model for Readiness<'a> {
     ghost Value = { value.Progress };
 
     ghost view = { λ r. record {
-        graph = r.layout;
-        goals = r.state.goals;
-        done = r.state.done;
+      graph = r.layout;
+      goals = r.state.goals;
+      done = r.state.done;
     } };
 
     ghost invariant = { λ r. Stands r.layout r.state × IsAtRest r.state };
@@ -91,10 +92,14 @@ impl<'a> Readiness<'a> {
 
     /// The first node in the serial order that is idle.
     pub fn next_idle(&self) -> Option<usize>
-        ensures { MatchOption result (AreNotIdle self.now (serial_order self.now.graph))
+        ensures found { MatchOption result (AreNotIdle self.now (serial_order self.now.graph))
             (λ n. IsFirstIdle self.now (serial_order self.now.graph) n) }
+        ensures graph { IsGraph self.now.graph }
     {
-        let place = first_of(1, &self.state.marks)?;
-        Some(self.layout.order()[place])
+        let order = self.layout.order();
+        match first_of(1, &self.state.marks) {
+            Some(place) => Some(order[place]),
+            None => None,
+        }
     }
 }

@@ -1,13 +1,12 @@
-use Rattle.std.proofs.Common.{◌≡◌, ◌<◌, ◌≤◌, ℕ, zero, suc, true, false, length, get_or, not, eqb, List, refl, ap, sym, ◌∙◌, arith}
-use Rattle.std.proofs.lemmas.Bool.{true≢false, false≢true, eq-eqb}
+use Rattle.std.proofs.Common.{◌≡◌, ◌<◌, ◌≤◌, ℕ, true, false, length, get_or, not, eqb, List, inl, inr, ap, sym, ◌∙◌, arith}
+use Rattle.std.proofs.lemmas.Bool.{cases_Bool, true≢false, false≢true, eq-eqb, eqb-true}
 use Rattle.mk_graph.specs.Turns.{Wanted}
 use Rattle.mk_ready.specs.State.{stage}
 use Rattle.mk_ready.proofs.Standing.{wanted_is, at_nonzero}
 use Rattle.mk_ready.proofs.readiness.Readiness.is_wanted.Goals as goal
 
 isnt : (x : ℕ) → ¬ (x ≡ 0) → not (eqb x 0) ≡ true
-isnt zero h = absurd (h refl)
-isnt (suc x) h = refl
+isnt x h = elim (cases_Bool (eqb x 0)) [ inl t ↦ absurd (h (eqb-true x 0 t)) | inr f ↦ ap (λ b. not b) f ]
 
 pub returns-in-Some : goal.returns-in-Some
 returns-in-Some c =
