@@ -21,6 +21,7 @@ use crate::{ending, finishing, passing, recipes};
 use mk_foot::Setting;
 use mk_graph::Graph;
 use mk_lines::Name;
+use mk_ready::Readiness;
 use std::alloc::{AllocError, Global};
 use std::marker::Model;
 
@@ -33,18 +34,22 @@ pub struct World<'a> {
     scene: Scene<'a>,
     disk: Disk,
     make: Option<Making>,
+    readiness: Readiness<'a>,
 }
 
 impl<'a> Model for World<'a> {
     ghost use Rattle.mk_world.specs.State as state;
     ghost use Rattle.mk_world.specs.First.{AreNamesOf};
     ghost use Rattle.mk_world.specs.Fits.{FitsIn};
+    ghost use Rattle.mk_world.specs.Kept.{IsKeptIn};
 
     ghost Value = { state.State };
 
     ghost view = { λ w. record { scene = w.scene; disk = w.disk; make = w.make } };
 
-    ghost invariant = { λ w. FitsIn w.scene w.make × AreNamesOf w.scene w.disk.names };
+    ghost invariant = { λ w.
+        FitsIn w.scene w.make × AreNamesOf w.scene w.disk.names ×
+        IsKeptIn w.scene w.make w.readiness };
 }
 
 impl<'a> World<'a> {
@@ -66,6 +71,7 @@ impl<'a> World<'a> {
             scene: Scene::new(alloc, graph, setting)?,
             disk,
             make: None,
+            readiness: Readiness::new(alloc, graph)?,
         })
     }
 
@@ -141,6 +147,7 @@ impl<'a> World<'a> {
             return Err(StepFault::NotAGoal);
         };
         let many = graph.nodes().len();
+        self.readiness.start(self.alloc, &numbers)?;
         self.make = Some(Making::new(self.alloc, jobs, numbers, many)?);
         Ok(())
     }
@@ -154,7 +161,7 @@ impl<'a> World<'a> {
             return Err(StepFault::NoMake);
         };
         let number = self.scene.number(node);
-        recipes::begin(self.alloc, &self.scene, making, number)
+        recipes::begin(self.alloc, &self.scene, making, &self.readiness, number)
     }
 
     /// A running recipe looks at a file.
@@ -190,7 +197,9 @@ impl<'a> World<'a> {
             return Err(StepFault::NoMake);
         };
         let number = self.scene.number(node);
-        ending::end(self.alloc, &self.scene, &mut self.disk, making, number)
+        ending::end(self.alloc, &self.scene, &mut self.disk, making, number)?;
+        self.readiness.note_done(number);
+        Ok(())
     }
 
     /// A node is passed.
@@ -202,7 +211,9 @@ impl<'a> World<'a> {
             return Err(StepFault::NoMake);
         };
         let number = self.scene.number(node);
-        recipes::pass(&self.scene, &self.disk, making, number)
+        recipes::pass(&self.scene, &self.disk, making, &self.readiness, number)?;
+        self.readiness.note_done(number);
+        Ok(())
     }
 
     /// The make is given up.
@@ -250,6 +261,7 @@ impl<'a> World<'a> {
         }
         let goals = Vec::from_slice(self.alloc, graph.goals())?;
         let many = graph.nodes().len();
+        self.readiness.start(self.alloc, &goals)?;
         self.make = Some(Making::new(self.alloc, jobs, goals, many)?);
         Ok(())
     }
@@ -263,7 +275,9 @@ impl<'a> World<'a> {
             return Err(StepFault::NoMake);
         };
         let number = self.scene.number(node);
-        finishing::finish(self.alloc, &self.scene, &mut self.disk, making, number)
+        finishing::finish(self.alloc, &self.scene, &mut self.disk, making, number)?;
+        self.readiness.note_done(number);
+        Ok(())
     }
 
     /// All ready nodes without recipe are passed, if a make is in progress.
@@ -273,7 +287,7 @@ impl<'a> World<'a> {
         let Some(making) = &mut self.make else {
             return Ok(());
         };
-        passing::pass_idle(&self.scene, making)
+        passing::pass_idle(&self.scene, making, &mut self.readiness)
     }
 
     /// Whether a name is a node's.
