@@ -142,8 +142,8 @@ module _ (scene : Scene) where
 
   -- whether such a step is taken or not
   pub kept_judged : (old new : MakeState) (d e : DiskState) (step : Step) (result : Result (Unit {0}) StepFault) (p : Progress) → IsQuiet step → Judges scene (busy scene old d) (busy scene new e) step result → OnErr result (new ≡ old) → IsKept scene old p → IsKept scene new p
-  kept_judged old new d e step (Ok u) p q takes err k = kept_quiet old new d e step p q takes k
-  kept_judged old new d e step (Err fault) p q judged err k = subst (λ (m : MakeState). IsKept scene m p) (sym err) k
+  kept_judged old new d e s (Ok u) p q takes err k = kept_quiet old new d e s p q takes k
+  kept_judged old new d e s (Err fault) p q judged err k = subst (λ (m : MakeState). IsKept scene m p) (sym err) k
 
   -- a recipe ends, or a node is passed
   pub kept_end : (old new : MakeState) (d e : DiskState) (t : ℕ) (p q : Progress) → Takes scene.graph (setting scene) (busy scene old d) (busy scene new e) (End t) → GoesOn p q t → IsKept scene old p → IsKept scene new q
@@ -211,10 +211,10 @@ module _ (g : Graph) (s : Setting) (t : ℕ) (new : World) (r : Result (Unit {0}
   ends_so : (m : Making) (d : Disk) → TakesInTurn g s (Busy m d) new (End t ∷ []) r → IsFinished m t new r
   ends_so m d h = elim h [
     | inl taken ↦ record {
-        goals = ap goals_in taken.1.0;
-        ok = subst (λ (q : Result (Unit {0}) StepFault). OnOk q ((done_in new ≡ t ∷ m.done) × (running_in new ≡ filter (λ n. not (nat_eq t n)) m.running))) (sym taken.1.1) (ap done_in taken.1.0, ap running_in taken.1.0);
-        err = subst (λ (q : Result (Unit {0}) StepFault). OnErr q ((done_in new ≡ m.done) × (running_in new ≡ m.running))) (sym taken.1.1) tt;
-      }
+      goals = ap goals_in taken.1.0;
+      ok = subst (λ (q : Result (Unit {0}) StepFault). OnOk q ((done_in new ≡ t ∷ m.done) × (running_in new ≡ filter (λ n. not (nat_eq t n)) m.running))) (sym taken.1.1) (ap done_in taken.1.0, ap running_in taken.1.0);
+      err = subst (λ (q : Result (Unit {0}) StepFault). OnErr q ((done_in new ≡ m.done) × (running_in new ≡ m.running))) (sym taken.1.1) tt;
+    }
     | inr refused ↦ refused_so m refused.fault refused.is (record { goals = ap goals_in refused.unchanged; done = ap done_in refused.unchanged; running = ap running_in refused.unchanged })
   ]
 

@@ -64,6 +64,7 @@ impl<'a> World<'a> {
     ) -> Result<World<'a>, AllocError>
         ensures { IfOk result (λ w. IsFirstOf graph.entry.now setting.entry.now w) }
     {
+        let readiness = Readiness::new(alloc, graph)?;
         let names = names_of(alloc, graph, setting)?;
         let disk = Disk::first(alloc, setting, names)?;
         Ok(World {
@@ -71,7 +72,7 @@ impl<'a> World<'a> {
             scene: Scene::new(alloc, graph, setting)?,
             disk,
             make: None,
-            readiness: Readiness::new(alloc, graph)?,
+            readiness,
         })
     }
 

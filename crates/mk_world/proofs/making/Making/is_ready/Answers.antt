@@ -8,8 +8,7 @@ returns-then-may_turn c = λ scene k.
     let m = c.args.self.now in
     let n = c.args.number in
     let may = turn_from scene c.turns_stay.ensures m c.args.readiness.now k n (c.may_turn.ensures.0 c.if-may_turn.true) in
-    let runs = c.is_running.ensures in
-    (
+    let runs = c.is_running.ensures in (
       λ e. (may, λ r. true≢false (sym e ∙ ap (λ b. not b) (runs.1 r))),
       λ h. elim (cases_Bool c.is_running.result) [ inl t ↦ absurd (h.1 (runs.0 t)) | inr f ↦ ap (λ b. not b) f ],
     )
