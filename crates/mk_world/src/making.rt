@@ -27,7 +27,7 @@ pub struct Making {
 }
 
 impl Model for Making {
-    ghost use Rattle.std.specs.Prelude.{ℕ, ◌↔◌};
+    ghost use Rattle.std.specs.Prelude.{ℕ, ◌↔◌, reverse};
     ghost use Rattle.mk_graph.specs.Membership.{Has};
     ghost use Rattle.mk_world.specs.State as state;
 
@@ -37,12 +37,12 @@ impl Model for Making {
         record {
           jobs = m.jobs;
           goals = m.goals.items;
-          done = m.done.items;
+          done = reverse m.done.items;
           running = m.running.items;
           runs = m.runs.items;
         } };
 
-    ghost invariant = { λ m. (n : ℕ) → Has m.is_done n ↔ Has m.done.items n };
+    ghost invariant = { λ m. (n : ℕ) → Has m.is_done n ↔ Has (reverse m.done.items) n };
 }
 
 /// Takes out a number.
@@ -147,7 +147,7 @@ impl Making {
         ensures ok { OnOk result (self.new ≡ finished self.old number) }
         ensures err { OnErr result (self.new ≡ self.old) }
     {
-        self.done.insert(0, number)?;
+        self.done.push(number)?;
         self.is_done.insert(number);
         take_out(&mut self.running, number);
         self.runs[number].clear();
