@@ -18,4 +18,6 @@ mod plan_texts;
 #[cfg(test)]
 mod plans;
 #[cfg(test)]
+mod readiness;
+#[cfg(test)]
 mod searches;

@@ -18,3 +18,4 @@ pub mod Lines
 pub mod Fronts
 pub mod OneRun
 pub mod OneFirst
+pub mod Keeping

@@ -4,12 +4,14 @@ ghost use Rattle.std.specs.Prelude.{◌≡◌, ℕ, [], ◌<◌, ◌↔◌, leng
 ghost use Rattle.std.specs.Bool.{OnTrue, OnFalse};
 ghost use Rattle.mk_lines.specs.Names.{has_name};
 ghost use Rattle.mk_graph.specs.Membership.{Has};
-ghost use Rattle.mk_graph.specs.Turns.{MayTurn, HasAll, Wanted};
-ghost use Rattle.mk_world.specs.State.{begun, finished, run_at, no_run, start_of, HasLooked, HasPut};
+ghost use Rattle.mk_graph.specs.Turns.{MayTurn, HasAll};
+ghost use Rattle.mk_world.specs.Kept.{IsKept};
+ghost use Rattle.mk_world.specs.State.{Scene, begun, finished, run_at, no_run, start_of, HasLooked, HasPut};
 
 use crate::progress::Run;
-use mk_graph::{Graph, NodeSet, growth_laws, wanted_with};
+use mk_graph::{NodeSet, growth_laws};
 use mk_lines::NameTable;
+use mk_ready::Readiness;
 use std::alloc::{AllocError, Global};
 use std::marker::Model;
 
@@ -25,7 +27,7 @@ pub struct Making {
 }
 
 impl Model for Making {
-    ghost use Rattle.std.specs.Prelude.{ℕ, ◌↔◌};
+    ghost use Rattle.std.specs.Prelude.{ℕ, ◌↔◌, reverse};
     ghost use Rattle.mk_graph.specs.Membership.{Has};
     ghost use Rattle.mk_world.specs.State as state;
 
@@ -35,12 +37,12 @@ impl Model for Making {
         record {
           jobs = m.jobs;
           goals = m.goals.items;
-          done = m.done.items;
+          done = reverse m.done.items;
           running = m.running.items;
           runs = m.runs.items;
         } };
 
-    ghost invariant = { λ m. (n : ℕ) → Has m.is_done n ↔ Has m.done.items n };
+    ghost invariant = { λ m. (n : ℕ) → Has m.is_done n ↔ Has (reverse m.done.items) n };
 }
 
 /// Takes out a number.
@@ -109,34 +111,14 @@ impl Making {
         self.is_done.has_all(&self.goals)
     }
 
-    /// The nodes that it wants.
-    pub fn wanted(&self, graph: &Graph) -> NodeSet
-        requires { (n : ℕ) → Has self.now.goals n → n < length graph.now.nodes }
-        ensures { (n : ℕ) → Has result n ↔ Wanted graph.now self.now.goals self.now.done n }
+    /// Whether a node's turn may come and it isn't running, by what is kept of the make.
+    pub fn is_ready(&self, readiness: &Readiness, number: usize) -> bool
+        ensures { (scene : Scene) → IsKept scene self.now readiness.now → ((result ≡ true) ↔
+            (MayTurn scene.graph self.now.goals self.now.done number ×
+            (¬ (Has self.now.running number)))) }
     {
-        growth_laws::wanted_grows();
-        wanted_with(graph, &self.goals, &self.is_done)
-    }
-
-    /// Whether the turn of a node may come and it isn't running, where these nodes are wanted.
-    pub fn is_ready_among(&self, graph: &Graph, wanted: &NodeSet, number: usize) -> bool
-        requires { (n : ℕ) → Has wanted.now n ↔ Wanted graph.now self.now.goals self.now.done n }
-        ensures { (result ≡ true) ↔ (MayTurn graph.now self.now.goals self.now.done number ×
-            (¬ (Has self.now.running number))) }
-    {
-        if self.is_done.has(number) || self.is_running(number) {
-            return false;
-        }
-        wanted.has(number) && self.is_done.has_all(graph.prerequisites(number))
-    }
-
-    /// Whether a node's turn may come and it isn't running.
-    pub fn is_ready(&self, graph: &Graph, number: usize) -> bool
-        requires { (n : ℕ) → Has self.now.goals n → n < length graph.now.nodes }
-        ensures { (result ≡ true) ↔ (MayTurn graph.now self.now.goals self.now.done number ×
-            (¬ (Has self.now.running number))) }
-    {
-        self.is_ready_among(graph, &self.wanted(graph), number)
+        growth_laws::turns_stay();
+        readiness.may_turn(number) && !self.is_running(number)
     }
 
     /// The run of a node's recipe.
@@ -165,7 +147,7 @@ impl Making {
         ensures ok { OnOk result (self.new ≡ finished self.old number) }
         ensures err { OnErr result (self.new ≡ self.old) }
     {
-        self.done.insert(0, number)?;
+        self.done.push(number)?;
         self.is_done.insert(number);
         take_out(&mut self.running, number);
         self.runs[number].clear();

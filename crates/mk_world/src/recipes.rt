@@ -7,6 +7,7 @@ ghost use Rattle.mk_graph.specs.Setting.{FileName, writes};
 ghost use Rattle.mk_graph.specs.Membership.{Has};
 ghost use Rattle.mk_world.specs.State.{DiskState, busy, setting};
 ghost use Rattle.mk_world.specs.Fits.{Fits};
+ghost use Rattle.mk_world.specs.Kept.{IsKept};
 ghost use Rattle.mk_world.specs.Steps.{Judges};
 
 use crate::disk::Disk;
@@ -15,6 +16,7 @@ use crate::judging::must_run;
 use crate::making::Making;
 use crate::progress::Run;
 use crate::scene::Scene;
+use mk_ready::Readiness;
 use std::alloc::Global;
 
 /// A recipe begins.
@@ -22,16 +24,18 @@ pub fn begin(
     alloc: Global,
     scene: &Scene,
     making: &mut Making,
+    readiness: &Readiness,
     number: usize,
 ) -> Result<(), StepFault>
-    requires { Fits scene.now making.old }
+    requires fits { Fits scene.now making.old }
+    requires kept { IsKept scene.now making.old readiness.now }
     ensures fits { Fits scene.now making.new }
     ensures err { OnErr result (making.new ≡ making.old) }
     ensures judged { (d : DiskState) → Judges scene.now (busy scene.now making.old d)
         (busy scene.now making.new d) (model.Begin number) result }
 {
     let graph = scene.graph();
-    if !making.is_ready(graph, number) {
+    if !making.is_ready(readiness, number) {
         return Err(StepFault::NotReady);
     }
     let nodes = graph.nodes();
@@ -111,15 +115,23 @@ pub fn put(
 }
 
 /// A node is passed.
-pub fn pass(scene: &Scene, disk: &Disk, making: &mut Making, number: usize) -> Result<(), StepFault>
-    requires { Fits scene.now making.old }
+pub fn pass(
+    scene: &Scene,
+    disk: &Disk,
+    making: &mut Making,
+    readiness: &Readiness,
+    number: usize,
+) -> Result<(), StepFault>
+    requires fits { Fits scene.now making.old }
+    requires kept { IsKept scene.now making.old readiness.now }
     ensures fits { Fits scene.now making.new }
+    ensures node { OnOk result (number < length scene.now.graph.nodes) }
     ensures err { OnErr result (making.new ≡ making.old) }
     ensures judged { Judges scene.now (busy scene.now making.old disk.now)
         (busy scene.now making.new disk.now) (model.Pass number) result }
 {
     let graph = scene.graph();
-    if !making.is_ready(graph, number) {
+    if !making.is_ready(readiness, number) {
         return Err(StepFault::NotReady);
     }
     let nodes = graph.nodes();

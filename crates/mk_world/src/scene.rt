@@ -2,8 +2,6 @@
 
 ghost use Rattle.std.specs.Prelude.{◌≡◌, ◌<◌, ◌≤◌, length, true, IfOk};
 ghost use Rattle.mk_foot.specs.Setting as recorded;
-ghost use Rattle.mk_graph.specs.Graph.{IsGraph};
-ghost use Rattle.mk_graph.specs.Serial.{serial_order};
 ghost use Rattle.mk_world.specs.State.{number_of, setting};
 ghost use Rattle.mk_world.specs.Fits.{footprint};
 ghost use Rattle.mk_world.specs.Running.{is_node};
@@ -15,22 +13,20 @@ use mk_lines::NameTable;
 use std::alloc::{AllocError, Global};
 use std::marker::Model;
 
-/// The graph and what is recorded, with the numbers of nodes by their names, the footprints by
-/// numbers, and the serial order.
+/// The graph and what is recorded, with the numbers of nodes by their names, and the footprints by
+/// numbers.
 #[derive(Drop)]
 pub struct Scene<'a> {
     graph: &'a Graph,
     recorded: &'a Setting,
     numbers: NameTable,
     footprints: Vec<Footprint>,
-    order: Vec<usize>,
 }
 
 impl<'a> Model for Scene<'a> {
     ghost use Rattle.std.specs.Prelude.{◌≡◌, map};
     ghost use Rattle.mk_graph.specs.declared.node.Node.{Node};
     ghost use Rattle.mk_graph.specs.Graph.{IsGraph};
-    ghost use Rattle.mk_graph.specs.Serial.{serial_order};
     ghost use Rattle.mk_world.specs.State as state;
     ghost use Rattle.mk_world.specs.Fits.{AreFootprints};
 
@@ -40,8 +36,7 @@ impl<'a> Model for Scene<'a> {
 
     ghost invariant = { λ s. IsGraph s.graph.now ×
         (s.numbers ≡ map (λ (n : Node). n.name) s.graph.now.nodes) ×
-        AreFootprints s.graph.now (state.setting_of s.recorded.now) s.footprints.items ×
-        (s.order.items ≡ serial_order s.graph.now) };
+        AreFootprints s.graph.now (state.setting_of s.recorded.now) s.footprints.items };
 }
 
 impl<'a> Scene<'a> {
@@ -60,7 +55,6 @@ impl<'a> Scene<'a> {
             recorded,
             numbers: NameTable::new(alloc, names_of_nodes(alloc, nodes)?)?,
             footprints: footprints_of(alloc, recorded, nodes)?,
-            order: graph.serial()?,
         })
     }
 
@@ -69,14 +63,6 @@ impl<'a> Scene<'a> {
         ensures { result.now ≡ self.now.graph }
     {
         self.graph
-    }
-
-    /// The serial order of the nodes.
-    pub fn order(&self) -> &[usize]
-        ensures value { result.now ≡ serial_order self.now.graph }
-        ensures graph { IsGraph self.now.graph }
-    {
-        self.order.as_slice()
     }
 
     /// Whether a name is a node's.

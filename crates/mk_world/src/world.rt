@@ -22,6 +22,7 @@ use crate::{ending, finishing, passing, recipes};
 use mk_foot::Setting;
 use mk_graph::Graph;
 use mk_lines::Name;
+use mk_ready::Readiness;
 use std::alloc::{AllocError, Global};
 use std::marker::Model;
 
@@ -34,18 +35,22 @@ pub struct World<'a> {
     scene: Scene<'a>,
     disk: Disk,
     make: Option<Making>,
+    readiness: Readiness<'a>,
 }
 
 impl<'a> Model for World<'a> {
     ghost use Rattle.mk_world.specs.State as state;
     ghost use Rattle.mk_world.specs.First.{AreNamesOf};
     ghost use Rattle.mk_world.specs.Fits.{FitsIn};
+    ghost use Rattle.mk_world.specs.Kept.{IsKeptIn};
 
     ghost Value = { state.State };
 
     ghost view = { λ w. record { scene = w.scene; disk = w.disk; make = w.make } };
 
-    ghost invariant = { λ w. FitsIn w.scene w.make × AreNamesOf w.scene w.disk.names };
+    ghost invariant = { λ w.
+        FitsIn w.scene w.make × AreNamesOf w.scene w.disk.names ×
+        IsKeptIn w.scene w.make w.readiness };
 }
 
 impl<'a> World<'a> {
@@ -60,6 +65,7 @@ impl<'a> World<'a> {
     ) -> Result<World<'a>, AllocError>
         ensures { IfOk result (λ w. IsFirstOf graph.entry.now setting.entry.now w) }
     {
+        let readiness = Readiness::new(alloc, graph)?;
         let names = names_of(alloc, graph, setting)?;
         let disk = Disk::first(alloc, setting, names)?;
         Ok(World {
@@ -67,6 +73,7 @@ impl<'a> World<'a> {
             scene: Scene::new(alloc, graph, setting)?,
             disk,
             make: None,
+            readiness,
         })
     }
 
@@ -181,6 +188,7 @@ impl<'a> World<'a> {
             return Err(StepFault::NotAGoal);
         };
         let many = graph.nodes().len();
+        self.readiness.start(self.alloc, &numbers)?;
         self.make = Some(Making::new(self.alloc, jobs, numbers, many)?);
         Ok(())
     }
@@ -194,7 +202,7 @@ impl<'a> World<'a> {
             return Err(StepFault::NoMake);
         };
         let number = self.scene.number(node);
-        recipes::begin(self.alloc, &self.scene, making, number)
+        recipes::begin(self.alloc, &self.scene, making, &self.readiness, number)
     }
 
     /// A running recipe looks at a file.
@@ -230,7 +238,9 @@ impl<'a> World<'a> {
             return Err(StepFault::NoMake);
         };
         let number = self.scene.number(node);
-        ending::end(self.alloc, &self.scene, &mut self.disk, making, number)
+        ending::end(self.alloc, &self.scene, &mut self.disk, making, number)?;
+        self.readiness.note_done(number);
+        Ok(())
     }
 
     /// A node is passed.
@@ -242,7 +252,9 @@ impl<'a> World<'a> {
             return Err(StepFault::NoMake);
         };
         let number = self.scene.number(node);
-        recipes::pass(&self.scene, &self.disk, making, number)
+        recipes::pass(&self.scene, &self.disk, making, &self.readiness, number)?;
+        self.readiness.note_done(number);
+        Ok(())
     }
 
     /// The make is given up.
@@ -290,6 +302,7 @@ impl<'a> World<'a> {
         }
         let goals = Vec::from_slice(self.alloc, graph.goals())?;
         let many = graph.nodes().len();
+        self.readiness.start(self.alloc, &goals)?;
         self.make = Some(Making::new(self.alloc, jobs, goals, many)?);
         Ok(())
     }
@@ -303,7 +316,9 @@ impl<'a> World<'a> {
             return Err(StepFault::NoMake);
         };
         let number = self.scene.number(node);
-        finishing::finish(self.alloc, &self.scene, &mut self.disk, making, number)
+        finishing::finish(self.alloc, &self.scene, &mut self.disk, making, number)?;
+        self.readiness.note_done(number);
+        Ok(())
     }
 
     /// All ready nodes without recipe are passed, if a make is in progress.
@@ -313,7 +328,7 @@ impl<'a> World<'a> {
         let Some(making) = &mut self.make else {
             return Ok(());
         };
-        passing::pass_idle(&self.scene, making)
+        passing::pass_idle(&self.scene, making, &mut self.readiness)
     }
 
     /// Whether a name is a node's.

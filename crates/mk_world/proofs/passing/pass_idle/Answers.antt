@@ -1,40 +1,82 @@
-use Rattle.std.proofs.Common.{◌<◌, length, sym, subst, arith}
+use Rattle.std.proofs.Common.{◌<◌, length, refl, sym, subst, arith}
+use Rattle.mk_graph.specs.Graph.{IsGraph}
+use Rattle.mk_graph.specs.Serial.{serial_order}
+use Rattle.mk_ready.specs.Progress.{Progress}
 use Rattle.mk_world.specs.State.{making_of, setting, disk_of, busy}
 use Rattle.mk_world.specs.State as lists
 use Rattle.mk_world.specs.Fits.{Fits}
+use Rattle.mk_world.specs.Running.{IsFirstIdle}
 use Rattle.mk_world.proofs.Changes.{finished_fits}
 use Rattle.mk_world.proofs.Idle.{missing, idle_low, idle_fewer, passed_more, passes_lead}
+use Rattle.mk_world.proofs.Keeping.{first_from, none_from, kept_done}
 use Rattle.mk_world.proofs.passing.pass_idle.Goals as goal
 
 pub finish-requires-clause-node : goal.finish-requires-clause-node
 finish-requires-clause-node c =
     let scene = c.args.scene.now in
-    rw c.loop-number.invariant.fits.many (idle_low scene c.loop-number.making c.in-Some.number c.in-Some.ensures.graph c.loop-number.invariant.fits c.in-Some.ensures.found)
+    let m = c.loop-number.making in
+    let k = c.loop-number.invariant.kept in
+    let is = subst IsGraph k.graph c.in-Some.ensures.graph in
+    let first = first_from scene c.turns_stay.ensures m c.loop-number.readiness k c.in-Some.number c.in-Some.ensures.found in
+    rw c.loop-number.invariant.fits.many (idle_low scene m c.in-Some.number is c.loop-number.invariant.fits first)
 
 pub finish-requires-clause-small : goal.finish-requires-clause-small
 finish-requires-clause-small c =
-    let low = idle_low c.args.scene.now c.loop-number.making c.in-Some.number c.in-Some.ensures.graph c.loop-number.invariant.fits c.in-Some.ensures.found in
-    let few = c.in-Some.ensures.graph.few in
+    let scene = c.args.scene.now in
+    let m = c.loop-number.making in
+    let k = c.loop-number.invariant.kept in
+    let is = subst IsGraph k.graph c.in-Some.ensures.graph in
+    let first = first_from scene c.turns_stay.ensures m c.loop-number.readiness k c.in-Some.number c.in-Some.ensures.found in
+    let low = idle_low scene m c.in-Some.number is c.loop-number.invariant.fits first in
+    let few = is.few in
     omega arith
+
+pub note_done-requires : goal.note_done-requires
+note_done-requires c =
+    let scene = c.args.scene.now in
+    let m = c.loop-number.making in
+    let k = c.loop-number.invariant.kept in
+    let is = subst IsGraph k.graph c.in-Some.ensures.graph in
+    let first = first_from scene c.turns_stay.ensures m c.loop-number.readiness k c.in-Some.number c.in-Some.ensures.found in
+    rw k.graph (idle_low scene m c.in-Some.number is c.loop-number.invariant.fits first)
 
 pub loop-number-smaller : goal.loop-number-smaller
 loop-number-smaller c =
-    let fewer = idle_fewer c.args.scene.now c.loop-number.making c.in-Some.number c.in-Some.ensures.graph c.loop-number.invariant.fits c.in-Some.ensures.found in
-    subst (λ (m : lists.MakeState). missing (length c.args.scene.now.graph.nodes) m.done < missing (length c.args.scene.now.graph.nodes) c.loop-number.making.done) (sym c.in_ok-finish.ensures.ok) fewer
+    let scene = c.args.scene.now in
+    let m = c.loop-number.making in
+    let k = c.loop-number.invariant.kept in
+    let is = subst IsGraph k.graph c.in-Some.ensures.graph in
+    let first = first_from scene c.turns_stay.ensures m c.loop-number.readiness k c.in-Some.number c.in-Some.ensures.found in
+    let fewer = idle_fewer scene m c.in-Some.number is c.loop-number.invariant.fits first in
+    subst (λ (w : lists.MakeState). missing (length scene.graph.nodes) w.done < missing (length scene.graph.nodes) m.done) (sym c.in_ok-finish.ensures.ok) fewer
 
 pub loop-number-preserved : goal.loop-number-preserved
 loop-number-preserved c =
     let scene = c.args.scene.now in
-    let low = idle_low scene c.loop-number.making c.in-Some.number c.in-Some.ensures.graph c.loop-number.invariant.fits c.in-Some.ensures.found in
+    let m = c.loop-number.making in
+    let k = c.loop-number.invariant.kept in
+    let is = subst IsGraph k.graph c.in-Some.ensures.graph in
+    let first = first_from scene c.turns_stay.ensures m c.loop-number.readiness k c.in-Some.number c.in-Some.ensures.found in
+    let low = idle_low scene m c.in-Some.number is c.loop-number.invariant.fits first in
     record {
-      fits = subst (Fits scene) (sym c.in_ok-finish.ensures.ok) (finished_fits scene c.loop-number.making c.in-Some.number c.loop-number.invariant.fits low);
-      passes = rw c.in_ok-finish.ensures.ok (passed_more scene c.args.making.now c.loop-number.making c.in-Some.number c.in-Some.ensures.graph c.loop-number.invariant.fits c.in-Some.ensures.found c.loop-number.invariant.passes);
+      fits = subst (Fits scene) (sym c.in_ok-finish.ensures.ok) (finished_fits scene m c.in-Some.number c.loop-number.invariant.fits low);
+      kept = kept_done scene m c.finish.new.self c.loop-number.readiness c.note_done.new.self c.in-Some.number k c.note_done.ensures c.in_ok-finish.ensures.ok;
+      passes = rw c.in_ok-finish.ensures.ok (passed_more scene c.args.making.now m c.in-Some.number is c.loop-number.invariant.fits first c.loop-number.invariant.passes);
     }
+
+pub returns-in_err-finish-clause-kept : goal.returns-in_err-finish-clause-kept
+returns-in_err-finish-clause-kept c = rw c.in_err-finish.ensures.err c.loop-number.invariant.kept
 
 pub returns-in_err-finish-clause-leads : goal.returns-in_err-finish-clause-leads
 returns-in_err-finish-clause-leads c =
     let scene = c.args.scene.now in
     λ d. rw c.in_err-finish.ensures.err (passes_lead scene.graph (setting scene) (disk_of d) (making_of scene c.args.making.now) c.loop-number.invariant.passes.0 (making_of scene c.loop-number.making) c.loop-number.invariant.passes.1)
+
+pub returns-clause-ok : goal.returns-clause-ok
+returns-clause-ok c =
+    let scene = c.args.scene.now in
+    let none = none_from scene c.turns_stay.ensures c.loop-number.making c.loop-number.readiness c.loop-number.invariant.kept c.in_default.ensures.found in
+    λ d. record { nodes = c.loop-number.invariant.passes.0; end = making_of scene c.loop-number.making; passes = c.loop-number.invariant.passes.1; none_left = none; leaves = refl }
 
 pub returns-clause-leads : goal.returns-clause-leads
 returns-clause-leads c =

@@ -3,6 +3,7 @@ use Rattle.mk_graph.specs.World.{IsFirst}
 use Rattle.mk_world.specs.State.{Scene, DiskState, setting_of, disk_of}
 use Rattle.mk_world.specs.First.{AreNamesOf}
 use Rattle.mk_world.specs.Fits.{FitsIn}
+use Rattle.mk_world.specs.Kept.{IsKeptIn}
 use Rattle.mk_world.proofs.Tables.{name_there, there_name}
 use Rattle.mk_world.proofs.FirstDisk.{is_first}
 use Rattle.mk_world.proofs.world.World.new.Goals as goal
@@ -10,10 +11,11 @@ use Rattle.mk_world.proofs.world.World.new.Goals as goal
 pub invariant_of-result : goal.invariant_of-result
 invariant_of-result c =
     let all = c.in_ok-names.ensures.all in
-    subst (λ (sc : Scene). FitsIn sc None × AreNamesOf sc c.in_ok-disk.disk.names) (sym c.in_ok-new.ensures) (
+    subst (λ (sc : Scene). FitsIn sc None × AreNamesOf sc c.in_ok-disk.disk.names × IsKeptIn sc None c.in_ok-readiness.readiness) (sym c.in_ok-new.ensures) (
       tt,
       subst (λ (d : DiskState). AreNamesOf (record { graph = c.args.graph.now; recorded = c.args.setting.now }) d.names) (sym c.in_ok-disk.ensures)
           (record { sorted = c.in_ok-names.ensures.sorted; all = λ f. (λ e. (all f).0 (name_there _ f e), λ w. there_name _ f ((all f).1 w)) }),
+      c.in_ok-readiness.ensures.graph,
     )
 
 pub returns : goal.returns

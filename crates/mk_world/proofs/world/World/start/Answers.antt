@@ -1,16 +1,33 @@
 use Rattle.std.proofs.Common.{◌<◌, List, ℕ, map, length, refl, sym, subst, arith}
+use Rattle.mk_graph.specs.Membership.{Has}
 use Rattle.mk_graph.specs.Schedule as model
+use Rattle.mk_ready.specs.Progress.{Starts}
 use Rattle.mk_world.specs.State.{MakeState, setting, world_in, busy, start_of, number_of}
 use Rattle.mk_world.specs.Fits.{Fits}
 use Rattle.mk_world.specs.Steps.{Takes}
 use Rattle.mk_world.proofs.Changes.{some_of, started_fits, started_takes, is_none}
+use Rattle.mk_world.proofs.Keeping.{kept_graph, kept_started}
 use Rattle.mk_world.proofs.world.World.start.Goals as goal
 
-pub invariant_of-self : goal.invariant_of-self
-invariant_of-self c =
+pub start-requires : goal.start-requires
+start-requires c = λ n h.
+    let scene = c.self.inside.scene in
     let found = some_of _ _ c.in-Some.is c.in_ok-numbers.ensures in
     let is = rw c.graph-graph.ensures at c.nodes-many.ensures.graph in
-    (subst (Fits c.self.inside.scene) (sym c.in_ok-new.ensures) (rw (c.nodes-many.ensures.value, c.graph-graph.ensures) (started_fits c.self.inside.scene c.args.jobs c.in-Some.numbers.items is found.1.within)), c.self.invariant.1)
+    let same = kept_graph scene c.self.inside.make c.self.inside.readiness c.self.invariant.2 in
+    rw same ((started_fits scene c.args.jobs c.in-Some.numbers.items is found.1.within).goals n (subst (λ (l : List ℕ). Has l n) c.deref.ensures.value h))
+
+pub invariant_of-self-2 : goal.invariant_of-self-2
+invariant_of-self-2 c =
+    let scene = c.self.inside.scene in
+    let found = some_of _ _ c.in-Some.is c.in_ok-numbers.ensures in
+    let is = rw c.graph-graph.ensures at c.nodes-many.ensures.graph in
+    let same = kept_graph scene c.self.inside.make c.self.inside.readiness c.self.invariant.2 in
+    let starts = subst (λ (l : List ℕ). Starts c.self.inside.readiness c.start.new.self l) c.deref.ensures.value c.in_ok-start.ensures.ok in (
+      subst (Fits scene) (sym c.in_ok-new.ensures) (rw (c.nodes-many.ensures.value, c.graph-graph.ensures) (started_fits scene c.args.jobs c.in-Some.numbers.items is found.1.within)),
+      c.self.invariant.1,
+      kept_started scene _ c.self.inside.readiness c.start.new.self c.args.jobs c.in-Some.numbers.items _ same starts c.in_ok-new.ensures,
+    )
 
 pub returns : goal.returns
 returns c =

@@ -1,0 +1,84 @@
+//! What is kept of a make: what it wants, whose turn may come, and which node is passed next.
+
+ghost use Rattle.std.specs.Prelude.{◌≡◌, OnOk};
+
+use crate::graph_fixtures::{are_below, graph_of};
+use mk_graph::Graph;
+use mk_ready::Readiness;
+use std::alloc::{AllocError, Global};
+use std::process::Abort;
+use std::test::Fail;
+
+/// `all: first second`, `first: gate hidden` with `.WAIT` between, `second: early .WAIT late`,
+/// `hidden: late`; `all`, `first` and `second` have no recipe.
+const GATED: &str = "all:14 first:2|3 gate! hidden!:6 second:5|6 early! late!";
+
+/// A make of these goals begins.
+fn begin(
+    rt: &impl Abort,
+    alloc: Global,
+    graph: &Graph,
+    readiness: &mut Readiness,
+    goals: &[usize],
+) -> Result<(), AllocError>
+    requires { readiness.old.graph ≡ graph.now }
+    ensures { OnOk result (readiness.new.graph ≡ graph.now) }
+{
+    assert!(rt; are_below(goals, graph.nodes().len()));
+    readiness.start(alloc, goals)
+}
+
+/// A node is done.
+fn done(rt: &impl Abort, graph: &Graph, readiness: &mut Readiness, number: usize)
+    requires { readiness.old.graph ≡ graph.now }
+    ensures { readiness.new.graph ≡ graph.now }
+{
+    assert!(rt; number < graph.nodes().len());
+    readiness.note_done(number);
+}
+
+/// For each of seven nodes `t` where its turn may come, else `w` where it is wanted, else `-`.
+fn shown(alloc: Global, readiness: &Readiness) -> Result<String, AllocError> {
+    let mut text = String::new(alloc);
+    for number in 0..7 {
+        let turns = readiness.may_turn(number);
+        let wants = readiness.is_wanted(number);
+        text.push(if turns {
+            't'
+        } else if wants {
+            'w'
+        } else {
+            '-'
+        })?;
+    }
+    Ok(text)
+}
+
+/// A node that is done, what is shown then, and the node that is passed next.
+const STEPS: [(usize, &str, Option<usize>); 7] = [
+    (2, "wwwwwtt", None),
+    (6, "wwwtwtw", None),
+    (3, "wtwwwtw", Some(1)),
+    (5, "wtwwtww", Some(1)),
+    (1, "wwwwtww", Some(4)),
+    (4, "twwwwww", Some(0)),
+    (0, "wwwwwww", None),
+];
+
+#[test]
+fn what_is_kept_as_nodes_are_done(rt: HostRuntime) -> Result<(), Fail> {
+    let alloc = rt.alloc();
+    let graph = graph_of(&rt, alloc, GATED)?;
+    let mut readiness = Readiness::new(alloc, &graph)?;
+    assert_eq!(rt; shown(alloc, &readiness)?.as_str(), "-------");
+    begin(&rt, alloc, &graph, &mut readiness, &[0])?;
+    assert_eq!(rt; shown(alloc, &readiness)?.as_str(), "wwt-wt-");
+    for (number, text, next) in STEPS {
+        done(&rt, &graph, &mut readiness, number);
+        assert_eq!(rt; shown(alloc, &readiness)?.as_str(), text, "{number}");
+        assert_eq!(rt; readiness.next_idle(), next, "{number}");
+    }
+    begin(&rt, alloc, &graph, &mut readiness, &[6])?;
+    assert_eq!(rt; shown(alloc, &readiness)?.as_str(), "------t");
+    Ok(())
+}

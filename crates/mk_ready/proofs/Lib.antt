@@ -1,0 +1,4 @@
+pub mod Lists
+pub mod Users
+pub mod Stepping
+pub mod Standing

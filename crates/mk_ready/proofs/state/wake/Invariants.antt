@@ -1,0 +1,7 @@
+use Rattle.std.proofs.Common.{take}
+use Rattle.mk_ready.specs.Stages.{Wakes}
+use Rattle.mk_ready.proofs.state.wake.Given as goal
+
+-- the nodes so far are to be looked at
+abbrev pub invariant-loop-number : goal.invariant-loop-number
+invariant-loop-number l = Wakes l.fn.stages.items l.stages.items (take l.number-index l.numbers)

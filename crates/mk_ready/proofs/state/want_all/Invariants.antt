@@ -1,0 +1,8 @@
+use Rattle.std.proofs.Common.{◌≡◌, ℕ, ◌≤◌, take, drop, length, get_or, ◌⊎◌}
+use Rattle.mk_graph.specs.Membership.{Has}
+use Rattle.mk_ready.specs.Stages.{Wants}
+use Rattle.mk_ready.proofs.state.want_all.Given as goal
+
+-- the members so far are wanted
+abbrev pub invariant-loop-number : goal.invariant-loop-number
+invariant-loop-number l = Wants l.fn.stages.items l.stages.items (take l.number-index l.group)

@@ -1,0 +1,47 @@
+-- The stages of nodes: 0 where a node isn't wanted, 1 where it is and wasn't looked at since, else
+-- another number.
+use Rattle.std.specs.Prelude.{◌≡◌, ℕ, zero, suc, ◌+◌, ◌≤◌, List, [], ◌∷◌, length, slice_index, ◌⊎◌}
+use Rattle.mk_graph.specs.Membership.{Has}
+use Rattle.mk_graph.specs.Turns.{InOpenGroup}
+use Rattle.mk_ready.specs.Rest.{Rest}
+use Rattle.mk_ready.specs.Left.{IsLeft}
+
+-- how many stages are still to come
+abbrev pub to_come : ℕ → ℕ
+to_come zero = 2
+to_come (suc zero) = 1
+to_come (suc (suc n)) = 0
+
+abbrev pub work : List ℕ → ℕ
+work [] = 0
+work (stage ∷ stages) = to_come stage + work stages
+
+-- Members of a group are wanted too.
+pub record Wants (old new group : List ℕ) : Type 0 where
+  pub many : length new ≡ length old
+  pub all : (n : ℕ) → Has group n → ¬ (slice_index new n ≡ 0)
+  pub each : (n : ℕ) →
+      (slice_index new n ≡ slice_index old n) ⊎
+      ((slice_index old n ≡ 0) × (slice_index new n ≡ 1) × Has group n)
+  pub less : work new ≤ work old
+
+-- what is in an open group of each groups of which this is left
+abbrev pub IsOpened : (stages done : List ℕ) → Rest → ℕ → Type 0
+IsOpened stages done rest n =
+    (groups : List (List ℕ)) → IsLeft stages done groups rest → InOpenGroup done groups n
+
+-- Groups are opened one after another, and their members are wanted.
+pub record WantsOpened (old new done : List ℕ) (rest : Rest) : Type 0 where
+  pub many : length new ≡ length old
+  pub each : (n : ℕ) →
+      (slice_index new n ≡ slice_index old n) ⊎
+      ((slice_index old n ≡ 0) × (slice_index new n ≡ 1) × IsOpened old done rest n)
+  pub less : work new ≤ work old
+
+-- Of these nodes those that are wanted are to be looked at.
+pub record Wakes (old new numbers : List ℕ) : Type 0 where
+  pub many : length new ≡ length old
+  pub was_new : (n : ℕ) → slice_index new n ≡ 0 → slice_index old n ≡ 0
+  pub stays_new : (n : ℕ) → slice_index old n ≡ 0 → slice_index new n ≡ 0
+  pub others : (n : ℕ) → ¬ (slice_index new n ≡ 0) → ¬ (slice_index new n ≡ 1) →
+      (slice_index new n ≡ slice_index old n) × (¬ (Has numbers n))

@@ -1,0 +1,55 @@
+-- What is kept of a make: what is wanted, what is left of each node's groups, and which nodes may
+-- be passed.
+use Rattle.std.specs.Prelude.{◌≡◌, ℕ, ◌<◌, List, [], length, false, slice_index, slice_index_or}
+use Rattle.mk_graph.specs.declared.node.Node.{Node}
+use Rattle.mk_graph.specs.Membership.{Has}
+use Rattle.mk_graph.specs.Graph.{Graph, node}
+use Rattle.mk_graph.specs.Serial.{serial_order}
+use Rattle.mk_graph.specs.Turns.{Wanted}
+use Rattle.mk_ready.specs.Rest.{Rest}
+use Rattle.mk_ready.specs.Left.{IsLeft, IsStopped}
+use Rattle.mk_ready.specs.Progress.{Progress, IsIdle}
+use Rattle.mk_ready.specs.declared.state.State.{State}
+
+abbrev pub no_rest : Rest
+no_rest = record { group = []; behind = [] }
+
+-- all of a node's groups
+abbrev pub fresh : Node → Rest
+fresh n = record { group = []; behind = n.groups }
+
+-- what is left of a node's groups
+abbrev pub rest_at : State → ℕ → Rest
+rest_at s n = slice_index_or s.left.items n no_rest
+
+-- the stage of a node
+abbrev pub stage : State → ℕ → ℕ
+stage s n = slice_index s.stages.items n
+
+-- the node at a place of the serial order
+abbrev pub node_at : Graph → ℕ → ℕ
+node_at g i = slice_index (serial_order g) i
+
+abbrev pub progress : Graph → State → Progress
+progress g s = record { graph = g; goals = s.goals; done = s.done }
+
+-- A node that was looked at waits for one that isn't done, or, if it is idle, its place is marked.
+pub record IsSettled (g : Graph) (s : State) (n : ℕ) : Type 0 where
+  pub stopped : IsStopped s.done (rest_at s n)
+  pub marked : (rest_at s n).group ≡ [] → ¬ (Has s.done n) → (node g n).recipe ≡ false →
+      (i : ℕ) → i < length (serial_order g) → node_at g i ≡ n → slice_index s.marks.items i ≡ 1
+
+pub record Stands (g : Graph) (s : State) : Type 0 where
+  pub stages : length s.stages.items ≡ length g.nodes
+  pub lefts : length s.left.items ≡ length g.nodes
+  pub marks : length s.marks.items ≡ length (serial_order g)
+  pub goals : (n : ℕ) → Has s.goals n → ¬ (stage s n ≡ 0)
+  pub wanted : (n : ℕ) → ¬ (stage s n ≡ 0) → Wanted g s.goals s.done n
+  pub left : (n : ℕ) → n < length g.nodes →
+      IsLeft s.stages.items s.done (node g n).groups (rest_at s n)
+  pub settled : (n : ℕ) → ¬ (stage s n ≡ 0) → ¬ (stage s n ≡ 1) → IsSettled g s n
+  pub marked : (i : ℕ) → slice_index s.marks.items i ≡ 1 → IsIdle (progress g s) (node_at g i)
+
+-- nothing is left to be looked at
+abbrev pub IsAtRest : State → Type 0
+IsAtRest s = (n : ℕ) → ¬ (stage s n ≡ 1)
