@@ -61,7 +61,7 @@ VERIFIED: list[tuple[Callable[[int], Build], int, int]] = [
     (deep, 2000, 4000),
     (reading, 1000, 2000),
     (carrying, 30, 60),
-    (far, 180, 360),
+    (far, 1000, 2000),
 ]
 FOUND: list[tuple[Callable[[int], Build], int, int]] = [(unrecorded, 2000, 4000), (unknown, 2000, 4000)]
 
