@@ -90,15 +90,15 @@ pub steps_readable : LegalStepsAreReadable
 steps_readable g s d steps is spelled legal step h small = all_readable g s is spelled (Idle d) steps tt legal step h small
 
 pub history_runs : WrittenTextIsRead → PlainPathsAreWellSpelled → LegalStepsAreReadable → WrittenPlanRuns → WrittenHistoryRuns
-history_runs read plain readable runs w steps first is paths legal small few =
+history_runs read plain readable runs w steps first is can =
     let g = w.scene.graph in
     let s = setting w.scene in
     let rest : world_of w ≡ Idle (lists.disk_of w.disk) = ap (world_in w.scene w.disk) first.idle in
     let known : (f : FileName) → IsOfWorld g s f → has_name w.disk.names f ≡ true = λ f h. (first.names.all f).1 h in
-    let from : IsLegal g s (Idle (lists.disk_of w.disk)) (map (step_of g) steps) = subst (λ (v : World). IsLegal g s v (map (step_of g) steps)) rest legal in
-    let each = readable g s (lists.disk_of w.disk) steps is (λ f h. plain f (paths f (known f h))) from in (
+    let from : IsLegal g s (Idle (lists.disk_of w.disk)) (map (step_of g) steps) = subst (λ (v : World). IsLegal g s v (map (step_of g) steps)) rest can.legal in
+    let each = readable g s (lists.disk_of w.disk) steps is (λ f h. plain f (can.paths f (known f h))) from in (
       plan_of_steps g steps,
-      read g steps (λ step h. each step h (small step h)) few,
+      read g steps (λ step h. each step h (can.numbers step h)) can.few,
       λ text refused new run.
           subst (λ (v : World). RunsAsWritten g s v steps refused new) (sym rest) (runs (stage_of w) (lists.disk_of w.disk) steps is known from text refused new (subst (λ (v : World). RunsTo (stage_of w) v (plan_of_steps g steps) text refused new) rest run)),
     )

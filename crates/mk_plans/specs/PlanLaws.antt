@@ -121,15 +121,20 @@ WrittenPlanRuns =
     RunsTo stage (Idle d) (plan_of_steps stage.graph steps) text refused new →
     RunsAsWritten stage.graph stage.setting (Idle d) steps refused new
 
--- The text that is written of a legal history from a first world, where names are plain paths, is
--- read, and its plan is run as it was written.
+-- A history that can be written as a plan: it is legal, names of its world are plain paths, its
+-- numbers can be read, and its text hasn't too many lines.
+pub record CanBeWritten (w : State) (steps : List Step) : Type 0 where
+  pub legal : AreLegal w steps
+  pub paths : (f : FileName) → has_name w.disk.names f ≡ true → is_plain_path f ≡ true
+  pub numbers : (step : Step) → Has steps step → HasReadableNumbers step
+  pub few : length (lines_of (plan_text w.scene.graph steps)) ≤ max_lines
+
+-- The text that is written of such a history from a first world is read, and each run of its plan
+-- goes as it was written.
 abbrev pub WrittenHistoryRuns : Type 0
 WrittenHistoryRuns =
     (w : State) (steps : List Step) → IsFirstOf w.scene.graph w.scene.recorded w →
-    IsGraph w.scene.graph →
-    ((f : FileName) → has_name w.disk.names f ≡ true → is_plain_path f ≡ true) →
-    AreLegal w steps → ((step : Step) → Has steps step → HasReadableNumbers step) →
-    length (lines_of (plan_text w.scene.graph steps)) ≤ max_lines →
+    IsGraph w.scene.graph → CanBeWritten w steps →
     (plan : List PlanLine) × (plan_of (plan_text w.scene.graph steps) ≡ Ok plan) ×
     ((text : List ℕ) (refused : Option (ℕ × StepFault)) (new : World) →
     RunsTo (stage_of w) (world_of w) plan text refused new →
