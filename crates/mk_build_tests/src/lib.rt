@@ -19,3 +19,5 @@ mod plan_texts;
 mod plans;
 #[cfg(test)]
 mod searches;
+#[cfg(test)]
+mod written_plans;
