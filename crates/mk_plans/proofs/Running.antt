@@ -21,11 +21,12 @@ use Rattle.mk_world.specs.State.{number_of}
 use Rattle.mk_world.specs.Steps.{step_of}
 use Rattle.mk_world.specs.StepLaws.{AllowedWhereAllHolds}
 use Rattle.mk_world.specs.Faults.{Check, checks, AllHold, FirstFails}
-use Rattle.mk_world.specs.Running.{Stage, PassesBefore, IsRefusal, RunsTo, TakesInTurn, is_known, is_node, own_steps}
+use Rattle.mk_world.specs.Running.{Follows, Stage, PassesBefore, IsRefusal, RunsTo, TakesInTurn, is_known, is_node, own_steps, printed}
 use Rattle.mk_plans.specs.PlanText.{are_all_named, is_idle}
-use Rattle.mk_plans.specs.PlanLaws.{WrittenPlanRuns, is_idle_pass, named_goals, order_of, planned, run_step_of, without_idle_passes}
+use Rattle.mk_plans.specs.PlanLaws.{HasARun, WrittenPlanRuns, is_idle_pass, named_goals, order_of, planned, run_step_of, without_idle_passes}
 use Rattle.mk_plans.proofs.Numbers.{busy_is, idle_is, low_known, name_there}
 use Rattle.mk_plans.proofs.Agreeing.{AgreesIn, wanted_low, within_all}
+use Rattle.mk_plans.proofs.Passing.{HasGoalsOf, passed_before}
 use Rattle.mk_plans.proofs.Following.{Agrees, GoesOn, at_rest, begin_goes, edit_goes, end_goes, end_make_goes, in_make, look_goes, make_goes, pass_goes, passed_agrees, put_goes, recipe_low, stop_goes}
 
 -- the names of the world are known
@@ -263,14 +264,42 @@ module _ (holds : AllowedWhereAllHolds) (one : NamesHaveOneNumber) (reaches : Se
   same_disk g past old at_rest = refl
   same_disk g past old (in_make agrees) = refl
 
+  goals_of : (g : Graph) (past old : World) → Agrees g past old → HasGoalsOf g old
+  goals_of g past old at_rest = tt
+  goals_of g past old (in_make agrees) = agrees.of_graph
+
+  -- The lines that are left have a run to their end.
+  abbrev HasRunOn : Stage → List Step → Type 0
+  HasRunOn stage steps =
+      (past old : World) (n : ℕ) → Agrees stage.graph past old → IsLegal stage.graph stage.setting past (map (step_of stage.graph) steps) → HasARun stage old (map planned (enumerate_from n (filter_map (order_of stage.graph) steps)))
+
+  line_runs : (stage : Stage) (past old : World) (n : ℕ) (step : Step) (steps : List Step) (o : Option Order) → IsGraph stage.graph → HasGoalsOf stage.graph old → IsDone stage past old step o → IsLegal stage.graph stage.setting (after stage.graph stage.setting past (step_of stage.graph step)) (map (step_of stage.graph) steps) → HasRunOn stage steps → HasARun stage old (map planned (enumerate_from n (cons_option o (filter_map (order_of stage.graph) steps))))
+  line_runs stage past old n step steps None is of done legal rest = rest (after stage.graph stage.setting past (step_of stage.graph step)) old n done.agrees legal
+  line_runs stage past old n step steps (Some o) is of done legal rest =
+      let before = passed_before stage.graph o old is of in
+      let goes = done.goes before.0 before.1 in
+      let behind = after stage.graph stage.setting before.0 (run_step_of stage.graph step) in
+      let later = rest (after stage.graph stage.setting past (step_of stage.graph step)) behind (n + 1) goes.agrees legal in
+      let takes = subst (λ l. TakesInTurn stage.graph stage.setting before.0 behind l (Ok tt)) (sym (done.own (disk_of before.0))) (inl (goes.allowed, (refl, refl))) in
+      let follows : Follows stage old behind o (Ok tt) = record { known = done.known; behind = before.0; passes = before.1; takes = takes } in
+      (printed stage.names o behind ++ later.0, later.1, inl (behind, later.0, follows, later.2, refl))
+
+  has_run : (stage : Stage) (steps : List Step) → IsGraph stage.graph → AreKnown stage → HasRunOn stage steps
+  has_run stage [] is known past old n agrees legal = ([], old, (refl, refl, refl))
+  has_run stage (step ∷ steps) is known past old n agrees legal =
+      line_runs stage past old n step steps (order_of stage.graph step) is (goals_of stage.graph past old agrees) (step_done one stay reaches stage past old step is known agrees legal.0) legal.1 (has_run stage steps is known)
+
   pub plan_runs : WrittenPlanRuns
-  plan_runs stage d steps is known legal text refused new run =
-      let went = runs_on stage steps is known (Idle d) (Idle d) 1 text refused new at_rest legal run in
-      record {
-        to_its_end = went.to_its_end;
-        leaves = same_disk stage.graph _ new went.agrees;
-        taken = went.taken;
-        legal = went.legal;
-        takes = went.takes;
-        same = went.same;
-      }
+  plan_runs stage d steps history = (
+    has_run stage steps history.graph history.known (Idle d) (Idle d) 1 at_rest history.legal,
+    λ text refused new run.
+        let went = runs_on stage steps history.graph history.known (Idle d) (Idle d) 1 text refused new at_rest history.legal run in
+        record {
+          to_its_end = went.to_its_end;
+          leaves = same_disk stage.graph _ new went.agrees;
+          taken = went.taken;
+          legal = went.legal;
+          takes = went.takes;
+          same = went.same;
+        },
+  )

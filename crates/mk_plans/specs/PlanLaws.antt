@@ -16,7 +16,7 @@ use Rattle.mk_world.specs.declared.plan.Order.TheVariants as order
 use Rattle.mk_world.specs.declared.plan.PlanLine.{PlanLine}
 use Rattle.mk_world.specs.declared.fault.StepFault.{StepFault}
 use Rattle.mk_world.specs.Plans.{lines_of, max_jobs, max_lines, plan_of}
-use Rattle.mk_world.specs.State.{State, setting, world_of}
+use Rattle.mk_world.specs.State.{State, world_of}
 use Rattle.mk_world.specs.Steps.{IsFirstOf, step_of}
 use Rattle.mk_world.specs.Running.{Stage, RunsTo, goals_among, stage_of}
 use Rattle.mk_world.specs.RunLaws.{AreLegal}
@@ -110,16 +110,30 @@ pub record RunsAsWritten (g : Graph) (s : Setting) (old : World) (steps : List S
   pub takes : new ≡ after_all g s old taken
   pub same : without_idle_passes g taken ≡ without_idle_passes g (map (run_step_of g) steps)
 
--- A legal history that begins without a make is run by the plan of its steps as it was written, in
--- each world whose names are known.
+-- the plan has a run to its end
+abbrev pub HasARun : Stage → World → List PlanLine → Type 0
+HasARun stage old plan = (text : List ℕ) × (new : World) × RunsTo stage old plan text None new
+
+-- each run of the plan goes as these steps
+abbrev pub EachRunIsAsWritten : Stage → World → List Step → List PlanLine → Type 0
+EachRunIsAsWritten stage old steps plan =
+    (text : List ℕ) (refused : Option (ℕ × StepFault)) (new : World) →
+    RunsTo stage old plan text refused new →
+    RunsAsWritten stage.graph stage.setting old steps refused new
+
+-- a legal history that begins without a make, in a world whose names are known
+pub record IsHistory (stage : Stage) (d : Disk) (steps : List Step) : Type 0 where
+  pub graph : IsGraph stage.graph
+  pub known : (f : FileName) → IsOfWorld stage.graph stage.setting f →
+      has_name stage.names f ≡ true
+  pub legal : IsLegal stage.graph stage.setting (Idle d) (map (step_of stage.graph) steps)
+
+-- The plan of such a history has a run to its end, and each of its runs goes as it was written.
 abbrev pub WrittenPlanRuns : Type 0
 WrittenPlanRuns =
-    (stage : Stage) (d : Disk) (steps : List Step) → IsGraph stage.graph →
-    ((f : FileName) → IsOfWorld stage.graph stage.setting f → has_name stage.names f ≡ true) →
-    IsLegal stage.graph stage.setting (Idle d) (map (step_of stage.graph) steps) →
-    (text : List ℕ) (refused : Option (ℕ × StepFault)) (new : World) →
-    RunsTo stage (Idle d) (plan_of_steps stage.graph steps) text refused new →
-    RunsAsWritten stage.graph stage.setting (Idle d) steps refused new
+    (stage : Stage) (d : Disk) (steps : List Step) → IsHistory stage d steps →
+    HasARun stage (Idle d) (plan_of_steps stage.graph steps) ×
+    EachRunIsAsWritten stage (Idle d) steps (plan_of_steps stage.graph steps)
 
 -- A history that can be written as a plan: it is legal, names of its world are plain paths, its
 -- numbers can be read, and its text hasn't too many lines.
@@ -129,13 +143,11 @@ pub record CanBeWritten (w : State) (steps : List Step) : Type 0 where
   pub numbers : (step : Step) → Has steps step → HasReadableNumbers step
   pub few : length (lines_of (plan_text w.scene.graph steps)) ≤ max_lines
 
--- The text that is written of such a history from a first world is read, and each run of its plan
--- goes as it was written.
+-- The text that is written of such a history from a first world is read, and its plan has a run to
+-- its end, and each of its runs goes as it was written.
 abbrev pub WrittenHistoryRuns : Type 0
 WrittenHistoryRuns =
     (w : State) (steps : List Step) → IsFirstOf w.scene.graph w.scene.recorded w →
     IsGraph w.scene.graph → CanBeWritten w steps →
     (plan : List PlanLine) × (plan_of (plan_text w.scene.graph steps) ≡ Ok plan) ×
-    ((text : List ℕ) (refused : Option (ℕ × StepFault)) (new : World) →
-    RunsTo (stage_of w) (world_of w) plan text refused new →
-    RunsAsWritten w.scene.graph (setting w.scene) (world_of w) steps refused new)
+    HasARun (stage_of w) (world_of w) plan × EachRunIsAsWritten (stage_of w) (world_of w) steps plan
