@@ -27,7 +27,7 @@ use Rattle.mk_plans.specs.PlanLaws.{HasARun, WrittenPlanRuns, is_idle_pass, name
 use Rattle.mk_plans.proofs.Numbers.{busy_is, idle_is, low_known, name_there}
 use Rattle.mk_plans.proofs.Agreeing.{AgreesIn, wanted_low, within_all}
 use Rattle.mk_plans.proofs.Passing.{HasGoalsOf, passed_before}
-use Rattle.mk_plans.proofs.Following.{Agrees, GoesOn, at_rest, begin_goes, edit_goes, end_goes, end_make_goes, in_make, look_goes, make_goes, pass_goes, passed_agrees, put_goes, recipe_low, stop_goes}
+use Rattle.mk_plans.proofs.Following.{Agrees, GoesOn, at_rest, begin_goes, edit_goes, end_goes, end_make_goes, goals_read, in_make, look_goes, make_goes, pass_goes, passed_agrees, put_goes, recipe_low, stop_goes}
 
 -- the names of the world are known
 abbrev AreKnown : Stage → Type 0
@@ -89,7 +89,7 @@ module _ (one : NamesHaveOneNumber) (stay : TurnsStay) (reaches : SerialReachesE
   }
   idle_done stage d (Make jobs goals) is known allowed = record {
     known = named_known stage.graph goals is (within_all stage.graph.goals (map (number_of stage.graph) goals) allowed.1.within);
-    own = λ e. refl;
+    own = λ e. ap (λ l. model.Make jobs l ∷ []) (goals_read stage.graph goals allowed.1.not_empty);
     goes = λ behind passes. subst (λ w. GoesOn stage.graph stage.setting (Idle d) (Idle d) w (step_of stage.graph (Make jobs goals)) (run_step_of stage.graph (Make jobs goals))) (sym passes) (make_goes one stage.graph stage.setting d jobs goals is allowed);
   }
   idle_done stage d (Begin t) is known allowed = absurd allowed

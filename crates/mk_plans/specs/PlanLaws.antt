@@ -16,9 +16,9 @@ use Rattle.mk_world.specs.declared.plan.Order.TheVariants as order
 use Rattle.mk_world.specs.declared.plan.PlanLine.{PlanLine}
 use Rattle.mk_world.specs.declared.fault.StepFault.{StepFault}
 use Rattle.mk_world.specs.Plans.{lines_of, max_jobs, max_lines, plan_of}
-use Rattle.mk_world.specs.State.{State, world_of}
+use Rattle.mk_world.specs.State.{State, number_of, world_of}
 use Rattle.mk_world.specs.Steps.{IsFirstOf, step_of}
-use Rattle.mk_world.specs.Running.{Stage, RunsTo, goals_among, stage_of}
+use Rattle.mk_world.specs.Running.{Stage, RunsTo, stage_of}
 use Rattle.mk_world.specs.RunLaws.{AreLegal}
 use Rattle.mk_plans.specs.PlanText.{are_all_named, is_idle, plan_text}
 use Rattle.mk_plans.specs.Spelling.{IsWellSpelled}
@@ -93,9 +93,13 @@ is_idle_pass g other = false
 abbrev pub without_idle_passes : Graph → List model.Step → List model.Step
 without_idle_passes g steps = filter (λ step. not (is_idle_pass g step)) steps
 
--- the step as a run takes it: a make that names all goals makes them in the graph's order
+-- the goals of a make as a run takes it: all goals stand in the graph's order
+abbrev pub run_goals : Graph → List FileName → List ℕ
+run_goals g goals = if are_all_named g goals then g.goals else map (number_of g) goals
+
+-- the step as a run takes it
 abbrev pub run_step_of : Graph → Step → model.Step
-run_step_of g (Make jobs goals) = model.Make jobs (goals_among g (named_goals g goals))
+run_step_of g (Make jobs goals) = model.Make jobs (run_goals g goals)
 run_step_of g step = step_of g step
 
 -- What the run of a plan owes to the steps of which it was written: it isn't refused; it leaves the
