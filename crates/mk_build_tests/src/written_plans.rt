@@ -137,27 +137,54 @@ fn text_told(
     }
 }
 
+/// The plan of the history.
+fn written(alloc: Global, graph: &Graph) -> Result<String, AllocError> {
+    let steps = history(alloc)?;
+    plan_text(alloc, graph, &steps)
+}
+
 /// Sees what is told of the run of the history's plan.
-fn see_history(
+fn see_told(rt: &impl Abort, told: &str) {
+    assert_eq!(rt;
+        told,
+        "p 18446744073709551615 3\nq 9 2\ns 1 1\np 0 6\nq 3 5\ns 0 4\nnot refused\n"
+    );
+}
+
+/// Sees it of the plan of this text.
+fn see_run(
+    rt: &impl Abort,
+    alloc: Global,
+    graph: &Graph,
+    setting: &Setting,
+    text: &str,
+) -> Result<(), AllocError> {
+    let told = text_told(alloc, graph, setting, text)?;
+    see_told(rt, told.as_str());
+    Ok(())
+}
+
+/// Sees it over what a book records.
+fn see_recorded(
     rt: &impl Abort,
     alloc: Global,
     graph: &Graph,
     book: Book,
+    text: &str,
 ) -> Result<(), AllocError> {
     let setting = Setting::new(alloc, book, &[], &[])?;
-    let text = plan_text(alloc, graph, &history(alloc)?)?;
-    let got = text_told(alloc, graph, &setting, text.as_str())?;
-    assert_eq!(rt;
-        got.as_str(),
-        "p 18446744073709551615 3\nq 9 2\ns 1 1\np 0 6\nq 3 5\ns 0 4\nnot refused\n"
-    );
-    Ok(())
+    see_run(rt, alloc, graph, &setting, text)
+}
+
+/// Sees it over the book.
+fn see_text(rt: &impl Abort, alloc: Global, graph: &Graph, text: &str) -> Result<(), Fail> {
+    let book = read_book(alloc, BOOK.as_bytes(), &[])?;
+    Ok(see_recorded(rt, alloc, graph, book, text)?)
 }
 
 #[test]
 fn a_history_is_written_and_run(rt: HostRuntime) -> Result<(), Fail> {
-    let alloc = rt.alloc();
-    let graph = graph_of(&rt, alloc, "all:12 p!:3 q!:3 s")?;
-    let book = read_book(alloc, BOOK.as_bytes(), &[])?;
-    Ok(see_history(&rt, alloc, &graph, book)?)
+    let graph = graph_of(&rt, rt.alloc(), "all:12 p!:3 q!:3 s")?;
+    let text = written(rt.alloc(), &graph)?;
+    see_text(&rt, rt.alloc(), &graph, text.as_str())
 }

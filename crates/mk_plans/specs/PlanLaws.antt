@@ -58,23 +58,23 @@ abbrev pub named_goals : Graph → List FileName → List FileName
 named_goals g goals = if are_all_named g goals then [] else goals
 
 -- what the line of a step orders; a node without recipe isn't passed by a line
-abbrev pub order_of : Graph → Step → Option Order
-order_of g (Edit f c) = Some (order.Edit f (Some c))
-order_of g (Make jobs goals) = Some (order.Make jobs (named_goals g goals))
-order_of g (Begin t) = Some (order.Begin t)
-order_of g (Look t f) = Some (order.Look t f)
-order_of g (Put t f c) = Some (order.Put t f (Some c))
-order_of g (End t) = Some (order.Done t)
-order_of g (Pass t) = if is_idle g t then None else Some (order.Pass t)
-order_of g Stop = Some order.Stop
-order_of g EndMake = Some order.End
+abbrev pub order_of_step : Graph → Step → Option Order
+order_of_step g (Edit f c) = Some (order.Edit f (Some c))
+order_of_step g (Make jobs goals) = Some (order.Make jobs (named_goals g goals))
+order_of_step g (Begin t) = Some (order.Begin t)
+order_of_step g (Look t f) = Some (order.Look t f)
+order_of_step g (Put t f c) = Some (order.Put t f (Some c))
+order_of_step g (End t) = Some (order.Done t)
+order_of_step g (Pass t) = if is_idle g t then None else Some (order.Pass t)
+order_of_step g Stop = Some order.Stop
+order_of_step g EndMake = Some order.End
 
-abbrev pub planned : ℕ × Order → PlanLine
-planned e = record { number = e.0; order = e.1 }
+abbrev pub plan_line : ℕ × Order → PlanLine
+plan_line e = record { number = e.0; order = e.1 }
 
 -- the plan of these steps: their orders, numbered from 1
 abbrev pub plan_of_steps : Graph → List Step → List PlanLine
-plan_of_steps g steps = map planned (enumerate_from 1 (filter_map (order_of g) steps))
+plan_of_steps g steps = map plan_line (enumerate_from 1 (filter_map (order_of_step g) steps))
 
 -- The text that is written of steps is read as the plan of these steps, where each line can be read
 -- and there aren't too many.
