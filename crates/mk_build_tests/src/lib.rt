@@ -21,3 +21,5 @@ mod plans;
 mod readiness;
 #[cfg(test)]
 mod searches;
+#[cfg(test)]
+mod written_plans;

@@ -40,7 +40,7 @@ has_is (m ∷ ns) n e = at (nat_eq m n) refl e (has_is ns n)
     at true t k ih = inl (eqb-true m n t)
     at false t k ih = inr (ih k)
 
-has_not : (ns : List ℕ) (n : ℕ) → has ns n ≡ false → ¬ (Has ns n)
+pub has_not : (ns : List ℕ) (n : ℕ) → has ns n ≡ false → ¬ (Has ns n)
 has_not [] n e h = h
 has_not (m ∷ ns) n e h = at (nat_eq m n) refl e h (has_not ns n)
   where
@@ -104,7 +104,7 @@ has_back : (xs ys : List ℕ) (n : ℕ) → Has ys n → Has (xs ++ ys) n
 has_back [] ys n h = h
 has_back (x ∷ xs) ys n h = inr (has_back xs ys n h)
 
-open_joined : (done : List ℕ) (groups : List (List ℕ)) (n : ℕ) → InOpenGroup done groups n → Has (flat_map (λ group. group) groups) n
+pub open_joined : (done : List ℕ) (groups : List (List ℕ)) (n : ℕ) → InOpenGroup done groups n → Has (flat_map (λ group. group) groups) n
 open_joined done [] n h = absurd h
 open_joined done (group ∷ groups) n (inl here) = has_front group (flat_map (λ l. l) groups) n here
 open_joined done (group ∷ groups) n (inr later) = has_back group (flat_map (λ l. l) groups) n (open_joined done groups n later.1)

@@ -18,7 +18,7 @@ use Rattle.mk_graph.specs.Schedule.{Allowed, IsLegal, MustRun, MayEnd, after, af
 use Rattle.mk_world.specs.State.{number_of}
 use Rattle.mk_world.specs.Running.{Passes, PassesAll, goals_among}
 use Rattle.mk_plans.specs.PlanText.{are_all_named}
-use Rattle.mk_plans.specs.PlanLaws.{is_idle_pass, named_goals}
+use Rattle.mk_plans.specs.PlanLaws.{is_idle_pass, named_goals, run_goals}
 use Rattle.mk_plans.proofs.Numbers.{all_named}
 use Rattle.mk_plans.proofs.Agreeing.{AgreesIn, all_done, all_within, changed_beside, changed_same, filter_has, first_is_idle, nothing_out, on_off, passes_agree, ready_too, within_all}
 
@@ -95,32 +95,34 @@ some_goals : (xs all : List ℕ) → IsPart xs all → ¬ (all ≡ [])
 some_goals [] all part none = part.not_empty refl
 some_goals (x ∷ xs) all part none = subst (λ l. Has l x) none part.within.0
 
-pub make_goes : (one : NamesHaveOneNumber) (g : Graph) (s : Setting) (d : Disk) (jobs : ℕ) (names : List FileName) → IsGraph g → Allowed g s (Idle d) (model.Make jobs (map (number_of g) names)) → GoesOn g s (Idle d) (Idle d) (Idle d) (model.Make jobs (map (number_of g) names)) (model.Make jobs (goals_among g (named_goals g names)))
+-- the goals that are read of a line are those that the run takes
+pub goals_read : (g : Graph) (names : List FileName) → ¬ (map (number_of g) names ≡ []) → goals_among g (named_goals g names) ≡ run_goals g names
+goals_read g names some = at (are_all_named g names) names some
+  where
+    at : (b : Bool) (fs : List FileName) → ¬ (map (number_of g) fs ≡ []) → goals_among g (cond b [] fs) ≡ cond b g.goals (map (number_of g) fs)
+    at true fs some = refl
+    at false [] some = absurd (some refl)
+    at false (f ∷ fs) some = refl
+
+pub make_goes : (one : NamesHaveOneNumber) (g : Graph) (s : Setting) (d : Disk) (jobs : ℕ) (names : List FileName) → IsGraph g → Allowed g s (Idle d) (model.Make jobs (map (number_of g) names)) → GoesOn g s (Idle d) (Idle d) (Idle d) (model.Make jobs (map (number_of g) names)) (model.Make jobs (run_goals g names))
 make_goes one g s d jobs names is allowed = at (are_all_named g names) refl
   where
     within : IsWithin (map (number_of g) names) g.goals
     within = within_all g.goals (map (number_of g) names) allowed.1.within
 
-    all : are_all_named g names ≡ true → GoesOn g s (Idle d) (Idle d) (Idle d) (model.Make jobs (map (number_of g) names)) (model.Make jobs g.goals)
-    all e = record {
+    at : (b : Bool) → are_all_named g names ≡ b → GoesOn g s (Idle d) (Idle d) (Idle d) (model.Make jobs (map (number_of g) names)) (model.Make jobs (cond b g.goals (map (number_of g) names)))
+    at true e = record {
       prepared = not_prepared g s (Idle d);
       allowed = (allowed.0, record { not_empty = some_goals (map (number_of g) names) g.goals allowed.1; within = all_within g.goals g.goals (λ n h. h) });
       agrees = in_make (made g jobs (map (number_of g) names) g.goals within (λ n h. all_named one g names n is e h) (λ n h. h));
       counted = refl;
     }
-
-    part : (fs : List FileName) → Allowed g s (Idle d) (model.Make jobs (map (number_of g) fs)) → GoesOn g s (Idle d) (Idle d) (Idle d) (model.Make jobs (map (number_of g) fs)) (model.Make jobs (goals_among g fs))
-    part [] a = absurd (a.1.not_empty refl)
-    part (f ∷ fs) a = record {
+    at false e = record {
       prepared = not_prepared g s (Idle d);
-      allowed = a;
-      agrees = in_make (made g jobs (map (number_of g) (f ∷ fs)) (map (number_of g) (f ∷ fs)) (λ n h. h) (λ n h. h) (within_all g.goals (map (number_of g) (f ∷ fs)) a.1.within));
+      allowed = allowed;
+      agrees = in_make (made g jobs (map (number_of g) names) (map (number_of g) names) (λ n h. h) (λ n h. h) within);
       counted = refl;
     }
-
-    at : (b : Bool) → are_all_named g names ≡ b → GoesOn g s (Idle d) (Idle d) (Idle d) (model.Make jobs (map (number_of g) names)) (model.Make jobs (goals_among g (cond b [] names)))
-    at true e = all e
-    at false e = part names allowed
 
 pub edit_goes : (g : Graph) (s : Setting) (d : Disk) (f : FileName) (c : ℕ) → Allowed g s (Idle d) (model.Edit f c) → GoesOn g s (Idle d) (Idle d) (Idle d) (model.Edit f c) (model.Edit f c)
 edit_goes g s d f c allowed = record { prepared = not_prepared g s (Idle d); allowed = allowed; agrees = at_rest; counted = refl }

@@ -5,5 +5,6 @@ pub mod Reading
 pub mod Numbers
 pub mod Agreeing
 pub mod Following
+pub mod Passing
 pub mod Running
 pub mod Readable

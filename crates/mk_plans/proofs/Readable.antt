@@ -13,9 +13,9 @@ use Rattle.mk_world.specs.declared.step.Step.TheVariants.{Edit, Make, Begin, Loo
 use Rattle.mk_world.specs.State.{State, number_of, setting, world_in, world_of}
 use Rattle.mk_world.specs.State as lists
 use Rattle.mk_world.specs.Steps.{step_of}
-use Rattle.mk_world.specs.Running.{RunsTo, stage_of}
+use Rattle.mk_world.specs.Running.{stage_of}
 use Rattle.mk_plans.specs.Spelling.{IsWellSpelled, PlainPathsAreWellSpelled}
-use Rattle.mk_plans.specs.PlanLaws.{HasReadableNumbers, IsReadable, LegalStepsAreReadable, RunsAsWritten, WrittenHistoryRuns, WrittenPlanRuns, WrittenTextIsRead, plan_of_steps}
+use Rattle.mk_plans.specs.PlanLaws.{EachRunIsAsWritten, HasARun, IsHistory, HasReadableNumbers, IsReadable, LegalStepsAreReadable, WrittenHistoryRuns, WrittenPlanRuns, WrittenTextIsRead, plan_of_steps}
 use Rattle.mk_plans.proofs.Numbers.{low_number, name_there}
 use Rattle.mk_plans.proofs.Agreeing.{filter_has, wanted_low, within_all}
 use Rattle.mk_plans.proofs.Following.{recipe_low}
@@ -90,15 +90,18 @@ pub steps_readable : LegalStepsAreReadable
 steps_readable g s d steps is spelled legal step h small = all_readable g s is spelled (Idle d) steps tt legal step h small
 
 pub history_runs : WrittenTextIsRead → PlainPathsAreWellSpelled → LegalStepsAreReadable → WrittenPlanRuns → WrittenHistoryRuns
-history_runs read plain readable runs w steps first is paths legal small few =
+history_runs read plain readable runs w steps first is can =
     let g = w.scene.graph in
     let s = setting w.scene in
-    let rest : world_of w ≡ Idle (lists.disk_of w.disk) = ap (world_in w.scene w.disk) first.idle in
+    let start = Idle (lists.disk_of w.disk) in
+    let rest : world_of w ≡ start = ap (world_in w.scene w.disk) first.idle in
     let known : (f : FileName) → IsOfWorld g s f → has_name w.disk.names f ≡ true = λ f h. (first.names.all f).1 h in
-    let from : IsLegal g s (Idle (lists.disk_of w.disk)) (map (step_of g) steps) = subst (λ (v : World). IsLegal g s v (map (step_of g) steps)) rest legal in
-    let each = readable g s (lists.disk_of w.disk) steps is (λ f h. plain f (paths f (known f h))) from in (
+    let from : IsLegal g s start (map (step_of g) steps) = subst (λ (v : World). IsLegal g s v (map (step_of g) steps)) rest can.legal in
+    let each = readable g s (lists.disk_of w.disk) steps is (λ f h. plain f (can.paths f (known f h))) from in
+    let history : IsHistory (stage_of w) (lists.disk_of w.disk) steps = record { graph = is; known = known; legal = from } in
+    let run = runs (stage_of w) (lists.disk_of w.disk) steps history in (
       plan_of_steps g steps,
-      read g steps (λ step h. each step h (small step h)) few,
-      λ text refused new run.
-          subst (λ (v : World). RunsAsWritten g s v steps refused new) (sym rest) (runs (stage_of w) (lists.disk_of w.disk) steps is known from text refused new (subst (λ (v : World). RunsTo (stage_of w) v (plan_of_steps g steps) text refused new) rest run)),
+      read g steps (λ step h. each step h (can.numbers step h)) can.few,
+      subst (λ (v : World). HasARun (stage_of w) v (plan_of_steps g steps)) (sym rest) run.0,
+      subst (λ (v : World). EachRunIsAsWritten (stage_of w) v steps (plan_of_steps g steps)) (sym rest) run.1,
     )

@@ -21,7 +21,7 @@ use Rattle.mk_world.specs.Plans as plans
 use Rattle.mk_world.specs.Plans.{lines_of, without_empty_last, is_passed_over, is_bad, order_by, number_in, is_number, jobs_in, jobs_among, max_jobs, max_lines, unless_bad, plan_of, numbered}
 use Rattle.mk_plans.specs.PlanText.{are_all_named, goals_text, names_text, is_idle, make_line, pass_line, step_text, plan_text}
 use Rattle.mk_plans.specs.Spelling.{is_of_word, IsWellSpelled}
-use Rattle.mk_plans.specs.PlanLaws.{IsReadable, named_goals, order_of, planned, WrittenTextIsRead}
+use Rattle.mk_plans.specs.PlanLaws.{IsReadable, named_goals, order_of_step, plan_line, WrittenTextIsRead}
 use Rattle.mk_plans.proofs.Spelling.{AreSpelled, joined, words_joined, joined_names, decimal_spelled, decimal_digits, no_newline}
 
 -- what stands before others is no empty last piece
@@ -50,7 +50,7 @@ Writes text (Some o) = (line : List ℕ) × IsLineOf line o × (text ≡ line ++
 -- Lines, numbered on from n, are read as these orders.
 record ReadFrom (n : ℕ) (ls : List (List ℕ)) (os : List Order) : Type 0 where
   bad : find is_bad (enumerate_from n ls) ≡ None
-  plan : filter_map plans.planned (enumerate_from n ls) ≡ map planned (enumerate_from n os)
+  plan : filter_map plans.planned (enumerate_from n ls) ≡ map plan_line (enumerate_from n os)
 
 not_bad : (n : ℕ) (line : List ℕ) (o : Order) → IsLineOf line o → n ≤ max_lines → is_bad (n, line) ≡ false
 not_bad n line o is few = at (nat_lt max_lines n) (is_passed_over line) (plans.order_of line) (le-ltb max_lines n few) is.not_passed is.read
@@ -61,13 +61,13 @@ not_bad n line o is few = at (nat_lt max_lines n) (is_passed_over line) (plans.o
     at false true (Some p) h k e = absurd cc
     at false false (Some p) h k e = refl
 
-line_planned : (n : ℕ) (line : List ℕ) (o : Order) → IsLineOf line o → plans.planned (n, line) ≡ Some (planned (n, o))
-line_planned n line o is = cond-false (is_passed_over line) None (option_map (λ p. planned (n, p)) (plans.order_of line)) is.not_passed ∙ ap (option_map (λ p. planned (n, p))) is.read
+line_planned : (n : ℕ) (line : List ℕ) (o : Order) → IsLineOf line o → plans.planned (n, line) ≡ Some (plan_line (n, o))
+line_planned n line o is = cond-false (is_passed_over line) None (option_map (λ p. plan_line (n, p)) (plans.order_of line)) is.not_passed ∙ ap (option_map (λ p. plan_line (n, p))) is.read
 
 taken : (n : ℕ) (line : List ℕ) (ls : List (List ℕ)) (o : Order) (os : List Order) → IsLineOf line o → n ≤ max_lines → ReadFrom (n + 1) ls os → ReadFrom n (line ∷ ls) (o ∷ os)
 taken n line ls o os is few rest = record {
   bad = cond-false (is_bad (n, line)) (Some (n, line)) (find is_bad (enumerate_from (n + 1) ls)) (not_bad n line o is few) ∙ rest.bad;
-  plan = ap (λ p. cons_option p (filter_map plans.planned (enumerate_from (n + 1) ls))) (line_planned n line o is) ∙ ap (λ ps. planned (n, o) ∷ ps) rest.plan;
+  plan = ap (λ p. cons_option p (filter_map plans.planned (enumerate_from (n + 1) ls))) (line_planned n line o is) ∙ ap (λ ps. plan_line (n, o) ∷ ps) rest.plan;
 }
 
 one : (n : ℕ) (text rest : List ℕ) (o : Option Order) (os : List Order) → Writes text o → n + length (lines_of (text ++ rest)) ≤ max_lines + 1 → ((m : ℕ) → m + length (lines_of rest) ≤ max_lines + 1 → ReadFrom m (lines_of rest) os) → ReadFrom n (lines_of (text ++ rest)) (cons_option o os)
@@ -77,10 +77,10 @@ one n text rest (Some o) os w bound ih =
     let many : n + length (w.0 ∷ lines_of rest) ≤ max_lines + 1 = subst (λ ls. n + length ls ≤ max_lines + 1) cut bound in
     subst (λ ls. ReadFrom n ls (o ∷ os)) (sym cut) (taken n w.0 (lines_of rest) o os w.1 (omega arith) (ih (n + 1) (omega arith)))
 
-read_steps : (g : Graph) (steps : List Step) → ((step : Step) → Has steps step → Writes (step_text g step) (order_of g step)) → (n : ℕ) → n + length (lines_of (plan_text g steps)) ≤ max_lines + 1 → ReadFrom n (lines_of (plan_text g steps)) (filter_map (order_of g) steps)
+read_steps : (g : Graph) (steps : List Step) → ((step : Step) → Has steps step → Writes (step_text g step) (order_of_step g step)) → (n : ℕ) → n + length (lines_of (plan_text g steps)) ≤ max_lines + 1 → ReadFrom n (lines_of (plan_text g steps)) (filter_map (order_of_step g) steps)
 read_steps g [] writes n bound = record { bad = refl; plan = refl }
 read_steps g (step ∷ steps) writes n bound =
-    one n (step_text g step) (plan_text g steps) (order_of g step) (filter_map (order_of g) steps) (writes step (inl refl)) bound (read_steps g steps (λ other h. writes other (inr h)))
+    one n (step_text g step) (plan_text g steps) (order_of_step g step) (filter_map (order_of_step g) steps) (writes step (inl refl)) bound (read_steps g steps (λ other h. writes other (inr h)))
 
 -- the lines of words
 
@@ -226,7 +226,7 @@ stop_writes = (codes "stop", line_of_words (codes "stop" ∷ []) order.Stop (sto
 end_writes : Writes (codes "end\n") (Some order.End)
 end_writes = (codes "end", line_of_words (codes "end" ∷ []) order.End (end_spelled, tt) refl refl, refl)
 
-step_writes : (g : Graph) (step : Step) → IsReadable step → Writes (step_text g step) (order_of g step)
+step_writes : (g : Graph) (step : Step) → IsReadable step → Writes (step_text g step) (order_of_step g step)
 step_writes g (Edit f c) readable = edit_writes f c readable.0 readable.1
 step_writes g (Make jobs goals) readable = make_writes g jobs goals readable.0 readable.1 readable.2
 step_writes g (Begin t) readable = begin_writes t readable

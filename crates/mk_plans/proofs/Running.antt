@@ -21,12 +21,13 @@ use Rattle.mk_world.specs.State.{number_of}
 use Rattle.mk_world.specs.Steps.{step_of}
 use Rattle.mk_world.specs.StepLaws.{AllowedWhereAllHolds}
 use Rattle.mk_world.specs.Faults.{Check, checks, AllHold, FirstFails}
-use Rattle.mk_world.specs.Running.{Stage, PassesBefore, IsRefusal, RunsTo, TakesInTurn, is_known, is_node, own_steps}
+use Rattle.mk_world.specs.Running.{Follows, Stage, PassesBefore, IsRefusal, RunsTo, TakesInTurn, is_known, is_node, own_steps, printed}
 use Rattle.mk_plans.specs.PlanText.{are_all_named, is_idle}
-use Rattle.mk_plans.specs.PlanLaws.{WrittenPlanRuns, is_idle_pass, named_goals, order_of, planned, run_step_of, without_idle_passes}
+use Rattle.mk_plans.specs.PlanLaws.{HasARun, WrittenPlanRuns, is_idle_pass, named_goals, order_of_step, plan_line, run_step_of, without_idle_passes}
 use Rattle.mk_plans.proofs.Numbers.{busy_is, idle_is, low_known, name_there}
 use Rattle.mk_plans.proofs.Agreeing.{AgreesIn, wanted_low, within_all}
-use Rattle.mk_plans.proofs.Following.{Agrees, GoesOn, at_rest, begin_goes, edit_goes, end_goes, end_make_goes, in_make, look_goes, make_goes, pass_goes, passed_agrees, put_goes, recipe_low, stop_goes}
+use Rattle.mk_plans.proofs.Passing.{HasGoalsOf, passed_before}
+use Rattle.mk_plans.proofs.Following.{Agrees, GoesOn, at_rest, begin_goes, edit_goes, end_goes, end_make_goes, goals_read, in_make, look_goes, make_goes, pass_goes, passed_agrees, put_goes, recipe_low, stop_goes}
 
 -- the names of the world are known
 abbrev AreKnown : Stage → Type 0
@@ -80,7 +81,7 @@ module _ (one : NamesHaveOneNumber) (stay : TurnsStay) (reaches : SerialReachesE
         goes = λ behind passes. pass_goes one stay reaches stage.graph stage.setting m k d behind (number_of stage.graph t) is agrees passes on allowed;
       }
 
-  idle_done : (stage : Stage) (d : Disk) (step : Step) → IsGraph stage.graph → AreKnown stage → Allowed stage.graph stage.setting (Idle d) (step_of stage.graph step) → IsDone stage (Idle d) (Idle d) step (order_of stage.graph step)
+  idle_done : (stage : Stage) (d : Disk) (step : Step) → IsGraph stage.graph → AreKnown stage → Allowed stage.graph stage.setting (Idle d) (step_of stage.graph step) → IsDone stage (Idle d) (Idle d) step (order_of_step stage.graph step)
   idle_done stage d (Edit f c) is known allowed = record {
     known = known f (inr (inl (name_there stage.setting.sources f (and_parts (has_name stage.setting.sources f) _ allowed.0).0)));
     own = λ e. refl;
@@ -88,7 +89,7 @@ module _ (one : NamesHaveOneNumber) (stay : TurnsStay) (reaches : SerialReachesE
   }
   idle_done stage d (Make jobs goals) is known allowed = record {
     known = named_known stage.graph goals is (within_all stage.graph.goals (map (number_of stage.graph) goals) allowed.1.within);
-    own = λ e. refl;
+    own = λ e. ap (λ l. model.Make jobs l ∷ []) (goals_read stage.graph goals allowed.1.not_empty);
     goes = λ behind passes. subst (λ w. GoesOn stage.graph stage.setting (Idle d) (Idle d) w (step_of stage.graph (Make jobs goals)) (run_step_of stage.graph (Make jobs goals))) (sym passes) (make_goes one stage.graph stage.setting d jobs goals is allowed);
   }
   idle_done stage d (Begin t) is known allowed = absurd allowed
@@ -99,7 +100,7 @@ module _ (one : NamesHaveOneNumber) (stay : TurnsStay) (reaches : SerialReachesE
   idle_done stage d Stop is known allowed = absurd allowed
   idle_done stage d EndMake is known allowed = absurd allowed
 
-  busy_done : (stage : Stage) (m k : Making) (d : Disk) (step : Step) → IsGraph stage.graph → AreKnown stage → AgreesIn stage.graph m k → Allowed stage.graph stage.setting (Busy m d) (step_of stage.graph step) → IsDone stage (Busy m d) (Busy k d) step (order_of stage.graph step)
+  busy_done : (stage : Stage) (m k : Making) (d : Disk) (step : Step) → IsGraph stage.graph → AreKnown stage → AgreesIn stage.graph m k → Allowed stage.graph stage.setting (Busy m d) (step_of stage.graph step) → IsDone stage (Busy m d) (Busy k d) step (order_of_step stage.graph step)
   busy_done stage m k d (Edit f c) is known agrees allowed = absurd allowed
   busy_done stage m k d (Make jobs goals) is known agrees allowed = absurd allowed
   busy_done stage m k d (Begin t) is known agrees allowed = record {
@@ -134,7 +135,7 @@ module _ (one : NamesHaveOneNumber) (stay : TurnsStay) (reaches : SerialReachesE
     goes = λ behind passes. end_make_goes one stay reaches stage.graph stage.setting m k d behind is agrees passes allowed;
   }
 
-  step_done : (stage : Stage) (past old : World) (step : Step) → IsGraph stage.graph → AreKnown stage → Agrees stage.graph past old → Allowed stage.graph stage.setting past (step_of stage.graph step) → IsDone stage past old step (order_of stage.graph step)
+  step_done : (stage : Stage) (past old : World) (step : Step) → IsGraph stage.graph → AreKnown stage → Agrees stage.graph past old → Allowed stage.graph stage.setting past (step_of stage.graph step) → IsDone stage past old step (order_of_step stage.graph step)
   step_done stage past old step is known (at_rest {d = d}) allowed = idle_done stage d step is known allowed
   step_done stage past old step is known (in_make {m = m} {k = k} {d = d} agrees) allowed = busy_done stage m k d step is known agrees allowed
 
@@ -234,9 +235,9 @@ module _ (holds : AllowedWhereAllHolds) (one : NamesHaveOneNumber) (reaches : Se
   -- The run of the lines that are left, numbered on from n.
   abbrev RunsOn : Stage → List Step → Type 0
   RunsOn stage steps =
-      (past old : World) (n : ℕ) (text : List ℕ) (refused : Option (ℕ × StepFault)) (new : World) → Agrees stage.graph past old → IsLegal stage.graph stage.setting past (map (step_of stage.graph) steps) → RunsTo stage old (map planned (enumerate_from n (filter_map (order_of stage.graph) steps))) text refused new → WentOn stage.graph stage.setting past old steps refused new
+      (past old : World) (n : ℕ) (text : List ℕ) (refused : Option (ℕ × StepFault)) (new : World) → Agrees stage.graph past old → IsLegal stage.graph stage.setting past (map (step_of stage.graph) steps) → RunsTo stage old (map plan_line (enumerate_from n (filter_map (order_of_step stage.graph) steps))) text refused new → WentOn stage.graph stage.setting past old steps refused new
 
-  goes_on : (stage : Stage) (past old : World) (n : ℕ) (step : Step) (steps : List Step) (o : Option Order) (text : List ℕ) (refused : Option (ℕ × StepFault)) (new : World) → IsDone stage past old step o → IsLegal stage.graph stage.setting (after stage.graph stage.setting past (step_of stage.graph step)) (map (step_of stage.graph) steps) → RunsOn stage steps → RunsTo stage old (map planned (enumerate_from n (cons_option o (filter_map (order_of stage.graph) steps)))) text refused new → WentOn stage.graph stage.setting past old (step ∷ steps) refused new
+  goes_on : (stage : Stage) (past old : World) (n : ℕ) (step : Step) (steps : List Step) (o : Option Order) (text : List ℕ) (refused : Option (ℕ × StepFault)) (new : World) → IsDone stage past old step o → IsLegal stage.graph stage.setting (after stage.graph stage.setting past (step_of stage.graph step)) (map (step_of stage.graph) steps) → RunsOn stage steps → RunsTo stage old (map plan_line (enumerate_from n (cons_option o (filter_map (order_of_step stage.graph) steps)))) text refused new → WentOn stage.graph stage.setting past old (step ∷ steps) refused new
   goes_on stage past old n step steps None text refused new done legal rest run =
       no_line stage.graph stage.setting past old step steps refused new done (rest (after stage.graph stage.setting past (step_of stage.graph step)) old n text refused new done.agrees legal run)
   goes_on stage past old n step steps (Some o) text refused new done legal rest (inr stopped) = absurd (no_refusal holds stage past old new step o stopped.0 done stopped.1)
@@ -244,7 +245,7 @@ module _ (holds : AllowedWhereAllHolds) (one : NamesHaveOneNumber) (reaches : Se
       let follows = run.2 in
       let goes = done.goes follows.behind follows.passes in
       let is = takes_one holds stage.graph stage.setting follows.behind run.0 (run_step_of stage.graph step) (own_steps stage.graph stage.setting (disk_of follows.behind) o) (done.own (disk_of follows.behind)) goes.allowed follows.takes in
-      let later = subst (λ w. RunsTo stage w (map planned (enumerate_from (n + 1) (filter_map (order_of stage.graph) steps))) run.1 refused new) is run.3 in
+      let later = subst (λ w. RunsTo stage w (map plan_line (enumerate_from (n + 1) (filter_map (order_of_step stage.graph) steps))) run.1 refused new) is run.3 in
       one_line stage.graph stage.setting past old follows.behind step steps refused new goes (rest (after stage.graph stage.setting past (step_of stage.graph step)) (after stage.graph stage.setting follows.behind (run_step_of stage.graph step)) (n + 1) run.1 refused new goes.agrees legal later)
 
   runs_on : (stage : Stage) (steps : List Step) → IsGraph stage.graph → AreKnown stage → RunsOn stage steps
@@ -257,20 +258,48 @@ module _ (holds : AllowedWhereAllHolds) (one : NamesHaveOneNumber) (reaches : Se
     same = refl;
   }
   runs_on stage (step ∷ steps) is known past old n text refused new agrees legal run =
-      goes_on stage past old n step steps (order_of stage.graph step) text refused new (step_done one stay reaches stage past old step is known agrees legal.0) legal.1 (runs_on stage steps is known) run
+      goes_on stage past old n step steps (order_of_step stage.graph step) text refused new (step_done one stay reaches stage past old step is known agrees legal.0) legal.1 (runs_on stage steps is known) run
 
   same_disk : (g : Graph) (past old : World) → Agrees g past old → disk_of old ≡ disk_of past
   same_disk g past old at_rest = refl
   same_disk g past old (in_make agrees) = refl
 
+  goals_of : (g : Graph) (past old : World) → Agrees g past old → HasGoalsOf g old
+  goals_of g past old at_rest = tt
+  goals_of g past old (in_make agrees) = agrees.of_graph
+
+  -- The lines that are left have a run to their end.
+  abbrev HasRunOn : Stage → List Step → Type 0
+  HasRunOn stage steps =
+      (past old : World) (n : ℕ) → Agrees stage.graph past old → IsLegal stage.graph stage.setting past (map (step_of stage.graph) steps) → HasARun stage old (map plan_line (enumerate_from n (filter_map (order_of_step stage.graph) steps)))
+
+  line_runs : (stage : Stage) (past old : World) (n : ℕ) (step : Step) (steps : List Step) (o : Option Order) → IsGraph stage.graph → HasGoalsOf stage.graph old → IsDone stage past old step o → IsLegal stage.graph stage.setting (after stage.graph stage.setting past (step_of stage.graph step)) (map (step_of stage.graph) steps) → HasRunOn stage steps → HasARun stage old (map plan_line (enumerate_from n (cons_option o (filter_map (order_of_step stage.graph) steps))))
+  line_runs stage past old n step steps None is of done legal rest = rest (after stage.graph stage.setting past (step_of stage.graph step)) old n done.agrees legal
+  line_runs stage past old n step steps (Some o) is of done legal rest =
+      let before = passed_before stage.graph o old is of in
+      let goes = done.goes before.0 before.1 in
+      let behind = after stage.graph stage.setting before.0 (run_step_of stage.graph step) in
+      let later = rest (after stage.graph stage.setting past (step_of stage.graph step)) behind (n + 1) goes.agrees legal in
+      let takes = subst (λ l. TakesInTurn stage.graph stage.setting before.0 behind l (Ok tt)) (sym (done.own (disk_of before.0))) (inl (goes.allowed, (refl, refl))) in
+      let follows : Follows stage old behind o (Ok tt) = record { known = done.known; behind = before.0; passes = before.1; takes = takes } in
+      (printed stage.names o behind ++ later.0, later.1, inl (behind, later.0, follows, later.2, refl))
+
+  has_run : (stage : Stage) (steps : List Step) → IsGraph stage.graph → AreKnown stage → HasRunOn stage steps
+  has_run stage [] is known past old n agrees legal = ([], old, (refl, refl, refl))
+  has_run stage (step ∷ steps) is known past old n agrees legal =
+      line_runs stage past old n step steps (order_of_step stage.graph step) is (goals_of stage.graph past old agrees) (step_done one stay reaches stage past old step is known agrees legal.0) legal.1 (has_run stage steps is known)
+
   pub plan_runs : WrittenPlanRuns
-  plan_runs stage d steps is known legal text refused new run =
-      let went = runs_on stage steps is known (Idle d) (Idle d) 1 text refused new at_rest legal run in
-      record {
-        to_its_end = went.to_its_end;
-        leaves = same_disk stage.graph _ new went.agrees;
-        taken = went.taken;
-        legal = went.legal;
-        takes = went.takes;
-        same = went.same;
-      }
+  plan_runs stage d steps history = (
+    has_run stage steps history.graph history.known (Idle d) (Idle d) 1 at_rest history.legal,
+    λ text refused new run.
+        let went = runs_on stage steps history.graph history.known (Idle d) (Idle d) 1 text refused new at_rest history.legal run in
+        record {
+          to_its_end = went.to_its_end;
+          leaves = same_disk stage.graph _ new went.agrees;
+          taken = went.taken;
+          legal = went.legal;
+          takes = went.takes;
+          same = went.same;
+        },
+  )

@@ -16,9 +16,9 @@ use Rattle.mk_world.specs.declared.plan.Order.TheVariants as order
 use Rattle.mk_world.specs.declared.plan.PlanLine.{PlanLine}
 use Rattle.mk_world.specs.declared.fault.StepFault.{StepFault}
 use Rattle.mk_world.specs.Plans.{lines_of, max_jobs, max_lines, plan_of}
-use Rattle.mk_world.specs.State.{State, setting, world_of}
+use Rattle.mk_world.specs.State.{State, number_of, world_of}
 use Rattle.mk_world.specs.Steps.{IsFirstOf, step_of}
-use Rattle.mk_world.specs.Running.{Stage, RunsTo, goals_among, stage_of}
+use Rattle.mk_world.specs.Running.{Stage, RunsTo, stage_of}
 use Rattle.mk_world.specs.RunLaws.{AreLegal}
 use Rattle.mk_plans.specs.PlanText.{are_all_named, is_idle, plan_text}
 use Rattle.mk_plans.specs.Spelling.{IsWellSpelled}
@@ -58,23 +58,23 @@ abbrev pub named_goals : Graph → List FileName → List FileName
 named_goals g goals = if are_all_named g goals then [] else goals
 
 -- what the line of a step orders; a node without recipe isn't passed by a line
-abbrev pub order_of : Graph → Step → Option Order
-order_of g (Edit f c) = Some (order.Edit f (Some c))
-order_of g (Make jobs goals) = Some (order.Make jobs (named_goals g goals))
-order_of g (Begin t) = Some (order.Begin t)
-order_of g (Look t f) = Some (order.Look t f)
-order_of g (Put t f c) = Some (order.Put t f (Some c))
-order_of g (End t) = Some (order.Done t)
-order_of g (Pass t) = if is_idle g t then None else Some (order.Pass t)
-order_of g Stop = Some order.Stop
-order_of g EndMake = Some order.End
+abbrev pub order_of_step : Graph → Step → Option Order
+order_of_step g (Edit f c) = Some (order.Edit f (Some c))
+order_of_step g (Make jobs goals) = Some (order.Make jobs (named_goals g goals))
+order_of_step g (Begin t) = Some (order.Begin t)
+order_of_step g (Look t f) = Some (order.Look t f)
+order_of_step g (Put t f c) = Some (order.Put t f (Some c))
+order_of_step g (End t) = Some (order.Done t)
+order_of_step g (Pass t) = if is_idle g t then None else Some (order.Pass t)
+order_of_step g Stop = Some order.Stop
+order_of_step g EndMake = Some order.End
 
-abbrev pub planned : ℕ × Order → PlanLine
-planned e = record { number = e.0; order = e.1 }
+abbrev pub plan_line : ℕ × Order → PlanLine
+plan_line e = record { number = e.0; order = e.1 }
 
 -- the plan of these steps: their orders, numbered from 1
 abbrev pub plan_of_steps : Graph → List Step → List PlanLine
-plan_of_steps g steps = map planned (enumerate_from 1 (filter_map (order_of g) steps))
+plan_of_steps g steps = map plan_line (enumerate_from 1 (filter_map (order_of_step g) steps))
 
 -- The text that is written of steps is read as the plan of these steps, where each line can be read
 -- and there aren't too many.
@@ -93,9 +93,13 @@ is_idle_pass g other = false
 abbrev pub without_idle_passes : Graph → List model.Step → List model.Step
 without_idle_passes g steps = filter (λ step. not (is_idle_pass g step)) steps
 
--- the step as a run takes it: a make that names all goals makes them in the graph's order
+-- the goals of a make as a run takes it: all goals stand in the graph's order
+abbrev pub run_goals : Graph → List FileName → List ℕ
+run_goals g goals = if are_all_named g goals then g.goals else map (number_of g) goals
+
+-- the step as a run takes it
 abbrev pub run_step_of : Graph → Step → model.Step
-run_step_of g (Make jobs goals) = model.Make jobs (goals_among g (named_goals g goals))
+run_step_of g (Make jobs goals) = model.Make jobs (run_goals g goals)
 run_step_of g step = step_of g step
 
 -- What the run of a plan owes to the steps of which it was written: it isn't refused; it leaves the
@@ -110,27 +114,44 @@ pub record RunsAsWritten (g : Graph) (s : Setting) (old : World) (steps : List S
   pub takes : new ≡ after_all g s old taken
   pub same : without_idle_passes g taken ≡ without_idle_passes g (map (run_step_of g) steps)
 
--- A legal history that begins without a make is run by the plan of its steps as it was written, in
--- each world whose names are known.
+-- the plan has a run to its end
+abbrev pub HasARun : Stage → World → List PlanLine → Type 0
+HasARun stage old plan = (text : List ℕ) × (new : World) × RunsTo stage old plan text None new
+
+-- each run of the plan goes as these steps
+abbrev pub EachRunIsAsWritten : Stage → World → List Step → List PlanLine → Type 0
+EachRunIsAsWritten stage old steps plan =
+    (text : List ℕ) (refused : Option (ℕ × StepFault)) (new : World) →
+    RunsTo stage old plan text refused new →
+    RunsAsWritten stage.graph stage.setting old steps refused new
+
+-- a legal history that begins without a make, in a world whose names are known
+pub record IsHistory (stage : Stage) (d : Disk) (steps : List Step) : Type 0 where
+  pub graph : IsGraph stage.graph
+  pub known : (f : FileName) → IsOfWorld stage.graph stage.setting f →
+      has_name stage.names f ≡ true
+  pub legal : IsLegal stage.graph stage.setting (Idle d) (map (step_of stage.graph) steps)
+
+-- The plan of such a history has a run to its end, and each of its runs goes as it was written.
 abbrev pub WrittenPlanRuns : Type 0
 WrittenPlanRuns =
-    (stage : Stage) (d : Disk) (steps : List Step) → IsGraph stage.graph →
-    ((f : FileName) → IsOfWorld stage.graph stage.setting f → has_name stage.names f ≡ true) →
-    IsLegal stage.graph stage.setting (Idle d) (map (step_of stage.graph) steps) →
-    (text : List ℕ) (refused : Option (ℕ × StepFault)) (new : World) →
-    RunsTo stage (Idle d) (plan_of_steps stage.graph steps) text refused new →
-    RunsAsWritten stage.graph stage.setting (Idle d) steps refused new
+    (stage : Stage) (d : Disk) (steps : List Step) → IsHistory stage d steps →
+    HasARun stage (Idle d) (plan_of_steps stage.graph steps) ×
+    EachRunIsAsWritten stage (Idle d) steps (plan_of_steps stage.graph steps)
 
--- The text that is written of a legal history from a first world, where names are plain paths, is
--- read, and its plan is run as it was written.
+-- A history that can be written as a plan: it is legal, names of its world are plain paths, its
+-- numbers can be read, and its text hasn't too many lines.
+pub record CanBeWritten (w : State) (steps : List Step) : Type 0 where
+  pub legal : AreLegal w steps
+  pub paths : (f : FileName) → has_name w.disk.names f ≡ true → is_plain_path f ≡ true
+  pub numbers : (step : Step) → Has steps step → HasReadableNumbers step
+  pub few : length (lines_of (plan_text w.scene.graph steps)) ≤ max_lines
+
+-- The text that is written of such a history from a first world is read, and its plan has a run to
+-- its end, and each of its runs goes as it was written.
 abbrev pub WrittenHistoryRuns : Type 0
 WrittenHistoryRuns =
     (w : State) (steps : List Step) → IsFirstOf w.scene.graph w.scene.recorded w →
-    IsGraph w.scene.graph →
-    ((f : FileName) → has_name w.disk.names f ≡ true → is_plain_path f ≡ true) →
-    AreLegal w steps → ((step : Step) → Has steps step → HasReadableNumbers step) →
-    length (lines_of (plan_text w.scene.graph steps)) ≤ max_lines →
+    IsGraph w.scene.graph → CanBeWritten w steps →
     (plan : List PlanLine) × (plan_of (plan_text w.scene.graph steps) ≡ Ok plan) ×
-    ((text : List ℕ) (refused : Option (ℕ × StepFault)) (new : World) →
-    RunsTo (stage_of w) (world_of w) plan text refused new →
-    RunsAsWritten w.scene.graph (setting w.scene) (world_of w) steps refused new)
+    HasARun (stage_of w) (world_of w) plan × EachRunIsAsWritten (stage_of w) (world_of w) steps plan

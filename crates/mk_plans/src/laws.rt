@@ -26,9 +26,10 @@ pub fn legal_steps_are_readable()
     ensures { LegalStepsAreReadable }
 {}
 
-/// The plan of a legal history that begins without a make is never refused, leaves the files, the
-/// clock and the outcomes that the history leaves, and takes the steps of which it was written, but
-/// for passes of nodes without recipe.
+/// The plan of a legal history that begins without a make has a run to its end. Each of its runs
+/// isn't refused, leaves the files, the clock and the outcomes that the history leaves, and takes
+/// the steps of which it was written, but for passes of nodes without recipe, which it takes by
+/// itself, and a make that names all goals, which names them in the graph's order.
 pub fn written_plan_runs()
     ensures { WrittenPlanRuns }
 {
@@ -40,8 +41,7 @@ pub fn written_plan_runs()
 
 /// The text that is written of a legal history from a first world whose names are plain paths, where
 /// makes have at most 4,096 jobs, contents are below 2 to the 64th, and there are at most 65,536
-/// lines, is read, and its plan is never refused, leaves what the history leaves, and takes its
-/// steps.
+/// lines, is read, and the plan that is read runs to its end as the history does.
 pub fn written_history_runs()
     ensures { WrittenHistoryRuns }
 {

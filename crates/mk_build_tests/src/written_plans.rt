@@ -1,0 +1,190 @@
+//! Histories that are written as plans, read again and run.
+
+use crate::graph_fixtures::graph_of;
+use mk_foot::{Book, Setting, read_book};
+use mk_graph::Graph;
+use mk_lines::{Name, Names};
+use mk_plans::plan_text;
+use mk_world::{Plan, PlanFault, Run, Step, World, read_plan, run_plan};
+use std::alloc::{AllocError, Global};
+use std::process::Abort;
+use std::test::Fail;
+
+/// Two recipes that read one source.
+const BOOK: &str = r#"{"format":1,"fixed":[],"sources":["s"],"records":[
+{"target":"p","commands":["p"],"reads":["s"],"writes":["p"]},
+{"target":"q","commands":["q"],"reads":["s"],"writes":["q"]}]}"#;
+
+/// A make of `all`.
+fn make(alloc: Global, jobs: usize) -> Result<Step, AllocError> {
+    let mut goals = Vec::new(alloc);
+    goals.push(Name::new(alloc, "all")?)?;
+    Ok(Step::Make {
+        jobs,
+        goals: Names::new(goals),
+    })
+}
+
+/// The passing of a node.
+fn pass(alloc: Global, node: &str) -> Result<Step, AllocError> {
+    Ok(Step::Pass {
+        node: Name::new(alloc, node)?,
+    })
+}
+
+/// The begin of a recipe.
+fn begin(alloc: Global, node: &str) -> Result<Step, AllocError> {
+    Ok(Step::Begin {
+        node: Name::new(alloc, node)?,
+    })
+}
+
+/// What a recipe does behind its begin: it looks at `s`, puts a content into its target, and ends.
+fn push_rest(
+    alloc: Global,
+    steps: &mut Vec<Step>,
+    node: &str,
+    content: u64,
+) -> Result<(), AllocError> {
+    let node = Name::new(alloc, node)?;
+    steps.push(Step::Look {
+        node: node.clone()?,
+        file: Name::new(alloc, "s")?,
+    })?;
+    steps.push(Step::Put {
+        node: node.clone()?,
+        file: node.clone()?,
+        content,
+    })?;
+    steps.push(Step::End { node })?;
+    Ok(())
+}
+
+/// A make in which two recipes run side by side.
+fn push_both(alloc: Global, steps: &mut Vec<Step>) -> Result<(), AllocError> {
+    steps.push(make(alloc, 2)?)?;
+    steps.push(pass(alloc, "s")?)?;
+    steps.push(begin(alloc, "p")?)?;
+    steps.push(begin(alloc, "q")?)?;
+    push_rest(alloc, steps, "q", 9)?;
+    push_rest(alloc, steps, "p", 18_446_744_073_709_551_615)?;
+    steps.push(pass(alloc, "all")?)?;
+    steps.push(Step::EndMake)?;
+    Ok(())
+}
+
+/// A make in which one runs behind the other.
+fn push_one_by_one(alloc: Global, steps: &mut Vec<Step>) -> Result<(), AllocError> {
+    steps.push(make(alloc, 1)?)?;
+    steps.push(pass(alloc, "s")?)?;
+    steps.push(begin(alloc, "q")?)?;
+    push_rest(alloc, steps, "q", 3)?;
+    steps.push(begin(alloc, "p")?)?;
+    push_rest(alloc, steps, "p", 0)?;
+    steps.push(pass(alloc, "all")?)?;
+    steps.push(Step::EndMake)?;
+    Ok(())
+}
+
+/// Both makes with an edit between, a make that is stopped, and one that passes all.
+fn history(alloc: Global) -> Result<Vec<Step>, AllocError> {
+    let mut steps = Vec::new(alloc);
+    push_both(alloc, &mut steps)?;
+    steps.push(Step::Edit {
+        file: Name::new(alloc, "s")?,
+        content: 0,
+    })?;
+    push_one_by_one(alloc, &mut steps)?;
+    steps.push(make(alloc, 1)?)?;
+    steps.push(Step::Stop)?;
+    steps.push(make(alloc, 1)?)?;
+    steps.push(pass(alloc, "s")?)?;
+    steps.push(pass(alloc, "p")?)?;
+    Ok(steps)
+}
+
+/// What a run printed, and the number of the line at which it was refused.
+fn told(alloc: Global, run: &Run) -> Result<String, AllocError> {
+    let text = run.text.as_str();
+    match &run.refused {
+        Some((line, _fault)) => format!(in alloc; "{text}refused at {line}\n"),
+        None => format!(in alloc; "{text}not refused\n"),
+    }
+}
+
+/// What is told of the run of a plan.
+fn run_told(
+    alloc: Global,
+    graph: &Graph,
+    setting: &Setting,
+    plan: &Plan,
+) -> Result<String, AllocError> {
+    let mut world = World::new(alloc, graph, setting)?;
+    told(alloc, &run_plan(alloc, &mut world, plan)?)
+}
+
+/// What is told of the run of a text, if it is read.
+fn text_told(
+    alloc: Global,
+    graph: &Graph,
+    setting: &Setting,
+    text: &str,
+) -> Result<String, AllocError> {
+    match read_plan(alloc, text.as_bytes()) {
+        Ok(plan) => run_told(alloc, graph, setting, &plan),
+        Err(PlanFault::Line(line)) => format!(in alloc; "not read at {line}\n"),
+        Err(PlanFault::Memory) => Err(AllocError),
+    }
+}
+
+/// The plan of the history.
+fn written(alloc: Global, graph: &Graph) -> Result<String, AllocError> {
+    let steps = history(alloc)?;
+    plan_text(alloc, graph, &steps)
+}
+
+/// Sees what is told of the run of the history's plan.
+fn see_told(rt: &impl Abort, told: &str) {
+    assert_eq!(rt;
+        told,
+        "p 18446744073709551615 3\nq 9 2\ns 1 1\np 0 6\nq 3 5\ns 0 4\nnot refused\n"
+    );
+}
+
+/// Sees it of the plan of this text.
+fn see_run(
+    rt: &impl Abort,
+    alloc: Global,
+    graph: &Graph,
+    setting: &Setting,
+    text: &str,
+) -> Result<(), AllocError> {
+    let told = text_told(alloc, graph, setting, text)?;
+    see_told(rt, told.as_str());
+    Ok(())
+}
+
+/// Sees it over what a book records.
+fn see_recorded(
+    rt: &impl Abort,
+    alloc: Global,
+    graph: &Graph,
+    book: Book,
+    text: &str,
+) -> Result<(), AllocError> {
+    let setting = Setting::new(alloc, book, &[], &[])?;
+    see_run(rt, alloc, graph, &setting, text)
+}
+
+/// Sees it over the book.
+fn see_text(rt: &impl Abort, alloc: Global, graph: &Graph, text: &str) -> Result<(), Fail> {
+    let book = read_book(alloc, BOOK.as_bytes(), &[])?;
+    Ok(see_recorded(rt, alloc, graph, book, text)?)
+}
+
+#[test]
+fn a_history_is_written_and_run(rt: HostRuntime) -> Result<(), Fail> {
+    let graph = graph_of(&rt, rt.alloc(), "all:12 p!:3 q!:3 s")?;
+    let text = written(rt.alloc(), &graph)?;
+    see_text(&rt, rt.alloc(), &graph, text.as_str())
+}
