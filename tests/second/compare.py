@@ -1,0 +1,166 @@
+#!/usr/bin/env python3
+"""Asks mkcheck and the second program the same random questions, and compares what they say.
+
+    compare.py PROGRAM [--seed S] [--cases N] [--command C] [--seconds T] [--gate] [--counts]
+
+It prints for each command how many cases were tried, and each case that differs, whose files it keeps.
+"""
+
+import argparse
+import collections
+import os
+import random
+import shutil
+import subprocess
+import sys
+import tempfile
+import time
+
+sys.path.insert(0, os.path.dirname(os.path.abspath(__file__)))
+
+from cases import FOLDER, case_of                                     # noqa: E402
+from limits import limits                                             # noqa: E402
+from second import Disk, answered                                     # noqa: E402
+
+COMMANDS = ["graph", "check", "verify", "simulate"]
+GATE_CASES = {"graph": 800, "check": 800, "verify": 600, "simulate": 600}
+GATE_SEED = 20261124
+KEPT = 20
+
+
+def emptied(folder):
+    for entry in os.scandir(folder):
+        if entry.is_dir(follow_symlinks=False):
+            shutil.rmtree(entry.path)
+        else:
+            os.unlink(entry.path)
+
+
+def written(folder, files):
+    """The files of a case, in a folder that is emptied first."""
+    emptied(folder)
+    for name, data in files.items():
+        path = os.path.join(folder, os.fsdecode(name))
+        if os.path.dirname(path) != folder:
+            os.makedirs(os.path.dirname(path), exist_ok=True)
+        if data is FOLDER:
+            os.makedirs(path, exist_ok=True)
+        else:
+            with open(path, "wb") as file:
+                file.write(data)
+
+
+def asked(program, words, folder):
+    """Standard output and status of the program."""
+    done = subprocess.run([program, *words], cwd=folder, stdin=subprocess.DEVNULL,
+                          stdout=subprocess.PIPE, stderr=subprocess.DEVNULL, check=False)
+    return done.stdout, done.returncode
+
+
+def sort_of(told):
+    """A short name for what was told, to be counted."""
+    text, status = told
+    words = text.split(None, 2)[:2]
+    if not words:
+        return "usage" if status == 2 else "status %d" % status
+    if words[0] == b"no":
+        kinds = {line.split()[1].decode() for line in text.splitlines() if line}
+        return "no " + " ".join(sorted(kinds))
+    if words[0] == b"refused":
+        return b" ".join(words).decode("utf-8", "replace")
+    if b"\nrefused " in text:
+        return "refused " + text.split(b"\nrefused ")[1].split()[0].decode()
+    return {b"yes": "yes", b"goals": "graph", b"plan": "plan ok"}.get(
+        words[0], "certificate" if text.startswith(b"{") else "plan ok")
+
+
+class Comparer:
+    def __init__(self, program, folder):
+        self.program = os.path.abspath(program)
+        self.folder = folder
+        self.tried = collections.Counter()
+        self.sorts = collections.defaultdict(collections.Counter)
+        self.differing = 0
+
+    def compare(self, command, label, case):
+        """Whether both answer the case alike."""
+        written(self.folder, case.files)
+        first = asked(self.program, case.words, self.folder)
+        second = answered(case.words, Disk(self.folder))
+        self.tried[command] += 1
+        self.sorts[command][sort_of(second)] += 1
+        if first == second:
+            return True
+        self.differing += 1
+        self.report(label, case, first, second)
+        return False
+
+    def report(self, label, case, first, second):
+        print(f"fuzz: {label} differs: mkcheck {' '.join(map(repr, case.words))}")
+        print(f"  mkcheck {first[1]}: {first[0][:300]!r}")
+        print(f"  second  {second[1]}: {second[0][:300]!r}")
+        if self.differing <= KEPT:
+            kept = os.path.join(tempfile.mkdtemp(prefix="fuzz-"), "files")
+            shutil.copytree(self.folder, kept)
+            with open(os.path.join(os.path.dirname(kept), "words"), "w", encoding="utf-8",
+                      errors="surrogateescape") as file:
+                file.write("\n".join(case.words) + "\n")
+            print(f"  kept in {os.path.dirname(kept)}", flush=True)
+
+    def random_cases(self, command, seed, cases, until):
+        for number in range(cases):
+            if time.monotonic() > until:
+                break
+            rng = random.Random(f"{seed} {command} {number}")
+            self.compare(command, f"{command} {number} of seed {seed}", case_of(rng, command))
+
+
+def takes_evidence(program):
+    """Whether `check` knows `-e N`, the plan that shows a finding."""
+    with tempfile.TemporaryDirectory() as folder:
+        written(folder, {
+            b"makefile": b"a: b\n\tc\n",
+            b"B": b'{"format":1,"fixed":[],"sources":["b"],"records":[]}'})
+        return asked(os.path.abspath(program), ["check", "-e", "1", "-b", "B"], folder)[1] != 2
+
+
+def arguments():
+    parser = argparse.ArgumentParser(description=__doc__.split("\n", maxsplit=1)[0])
+    parser.add_argument("program")
+    parser.add_argument("--seed", default=GATE_SEED)
+    parser.add_argument("--cases", type=int, default=1000)
+    parser.add_argument("--command", choices=COMMANDS)
+    parser.add_argument("--seconds", type=float, default=float("inf"))
+    parser.add_argument("--gate", action="store_true")
+    parser.add_argument("--counts", action="store_true")
+    return parser.parse_args()
+
+
+def main():
+    given = arguments()
+    until = time.monotonic() + given.seconds
+    with tempfile.TemporaryDirectory(prefix="fuzz-") as folder:
+        comparer = Comparer(given.program, folder)
+        for command in [given.command] if given.command else COMMANDS:
+            cases = GATE_CASES[command] if given.gate else given.cases
+            comparer.random_cases(command, given.seed, cases, until)
+        for label, command, case in limits(given.gate):
+            if given.command in (None, command):
+                comparer.compare(command, label, case)
+    for command, tried in comparer.tried.items():
+        print(f"{command}: {tried} cases")
+        if given.counts:
+            for sort, count in sorted(comparer.sorts[command].items()):
+                print(f"  {sort}: {count}")
+    if not takes_evidence(given.program):
+        print("evidence: skipped, since the program knows no check -e")
+    total = sum(comparer.tried.values())
+    if comparer.differing:
+        print(f"fuzz: {comparer.differing} of {total} cases differ")
+        return 1
+    print(f"fuzz: {total} cases agree")
+    return 0
+
+
+if __name__ == "__main__":
+    sys.exit(main())
