@@ -8,10 +8,11 @@ from certificates import certificate_of
 from footprints import Model, book_of, format_one
 from judge import Subject
 from lines import Refused
-from makefiles import project_of
+from makefiles import mutated, structural
 from plans import WRONG, plan_of
 from graph import Graph, There
-from second import Request, Usage
+from request import Request, Usage
+from shapes import inferences, jungle, orders
 
 FOLDER = object()
 OPERANDS = [b"X=x.o", b"A=$(B)", b"CC=cc", b"CFLAGS =  -g ", b"A::=$(CFLAGS)$$", b"B:::=$(A) $$v",
@@ -25,6 +26,20 @@ ODD_GOALS = [b".WAIT", b"-", b"./x", b"lib(x)", b"a//b", b"", b".c", b".c.o", b"
              b"lib(", b"a;b", b"d/.o", b".hid.o", b"zz.o"]
 USAGE = [["-x"], ["-e"], ["-q", "a"], ["--zz"], ["-f"], ["-f", "makefile", "-f", "makefile"], ["-b", "B", "-b", "B"],
          ["-k", "K", "-k", "K"], ["-p"], ["-f", "-x"], ["--no", "x"]]
+
+
+def project_of(rng, command, valid):
+    """A makefile with its included files; where `valid`, seldom at fault."""
+    draw = rng.random()
+    if draw < (0.1 if command == "graph" else 0.25):
+        project = inferences(rng)
+    elif draw < (0.12 if command == "graph" else 0.45):
+        project = orders(rng)
+    elif draw < (0.45 if command == "graph" else 0.47):
+        project = jungle(rng)
+    else:
+        project = structural(rng, valid)
+    return mutated(rng, project) if rng.random() < (0.02 if valid else 0.2) else project
 
 
 def words_of(rng, command, valid):
@@ -88,7 +103,7 @@ def named(rng, command, project):
         del project.files[b"makefile"]
     elif draw < 0.05:
         project.files[b"makefile"] = FOLDER
-    if rng.random() < 0.3:
+    if rng.random() < 0.02:
         project.files[b"folder"] = FOLDER
 
 
@@ -110,6 +125,8 @@ class WithoutFolders:
     def __init__(self, project):
         self.files = readable(project.files)
         self.names = project.names
+        self.crossing = project.crossing
+        self.inferring = project.inferring
 
 
 def book_for(model, names, valid):
@@ -126,10 +143,12 @@ def case_of(rng, command):
     """A case of a command."""
     share = {"graph": 0.0, "check": 0.75, "verify": 0.9, "simulate": 0.9}[command]
     valid = rng.random() < share
-    project = project_of(rng, valid)
+    project = project_of(rng, command, valid)
     names = project.targets[:]
     named(rng, command, project)
     words = words_of(rng, command, valid)
+    if b"folder" in b"".join(data for data in project.files.values() if data is not FOLDER):
+        project.files[b"folder"] = FOLDER
     others = other_words(rng, project, valid)
     project.targets = names
     if command == "graph" and rng.random() < 0.7:

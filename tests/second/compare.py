@@ -16,16 +16,21 @@ import sys
 import tempfile
 import time
 
-sys.path.insert(0, os.path.dirname(os.path.abspath(__file__)))
+from cases import FOLDER, case_of
+from evidence import shows
+from limits import limits
+from request import Disk
+from second import answered
 
-from cases import FOLDER, case_of                                     # noqa: E402
-from limits import limits                                             # noqa: E402
-from second import Disk, answered                                     # noqa: E402
-
-COMMANDS = ["graph", "check", "verify", "simulate"]
-GATE_CASES = {"graph": 800, "check": 800, "verify": 600, "simulate": 600}
+COMMANDS = ["graph", "check", "verify", "simulate", "evidence"]
+GATE_CASES = {"graph": 500, "check": 400, "verify": 400, "simulate": 400, "evidence": 200}
 GATE_SEED = 20261124
 KEPT = 20
+
+
+def memory_folder():
+    """Where files are made soonest."""
+    return "/dev/shm" if os.access("/dev/shm", os.W_OK) else None
 
 
 def emptied(folder):
@@ -83,17 +88,21 @@ class Comparer:
         self.differing = 0
 
     def compare(self, command, label, case):
-        """Whether both answer the case alike."""
+        """Asks both about the case. A plan that shows a race need not be the same one."""
         written(self.folder, case.files)
+        disk = Disk(self.folder)
+        second = answered(case.words, disk)
+        if command == "evidence" and second[1] == 1:
+            number = 1 + len(second[0]) % (second[0].count(b"\n") + 1)
+            case.words[1:1] = ["-e", str(number)]
+            second = answered(case.words, disk)
         first = asked(self.program, case.words, self.folder)
-        second = answered(case.words, Disk(self.folder))
         self.tried[command] += 1
         self.sorts[command][sort_of(second)] += 1
-        if first == second:
-            return True
+        if first == second or command == "evidence" and shows(first, second, case.words, disk):
+            return
         self.differing += 1
         self.report(label, case, first, second)
-        return False
 
     def report(self, label, case, first, second):
         print(f"fuzz: {label} differs: mkcheck {' '.join(map(repr, case.words))}")
@@ -112,7 +121,8 @@ class Comparer:
             if time.monotonic() > until:
                 break
             rng = random.Random(f"{seed} {command} {number}")
-            self.compare(command, f"{command} {number} of seed {seed}", case_of(rng, command))
+            case = case_of(rng, "check" if command == "evidence" else command)
+            self.compare(command, f"{command} {number} of seed {seed}", case)
 
 
 def takes_evidence(program):
@@ -139,9 +149,12 @@ def arguments():
 def main():
     given = arguments()
     until = time.monotonic() + given.seconds
-    with tempfile.TemporaryDirectory(prefix="fuzz-") as folder:
+    with tempfile.TemporaryDirectory(prefix="fuzz-", dir=memory_folder()) as folder:
         comparer = Comparer(given.program, folder)
         for command in [given.command] if given.command else COMMANDS:
+            if command == "evidence" and not takes_evidence(given.program):
+                print("evidence: skipped, since the program knows no check -e")
+                continue
             cases = GATE_CASES[command] if given.gate else given.cases
             comparer.random_cases(command, given.seed, cases, until)
         for label, command, case in limits(given.gate):
@@ -152,8 +165,6 @@ def main():
         if given.counts:
             for sort, count in sorted(comparer.sorts[command].items()):
                 print(f"  {sort}: {count}")
-    if not takes_evidence(given.program):
-        print("evidence: skipped, since the program knows no check -e")
     total = sum(comparer.tried.values())
     if comparer.differing:
         print(f"fuzz: {comparer.differing} of {total} cases differ")

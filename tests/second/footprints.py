@@ -35,8 +35,9 @@ class Model:
         self.goals = goal_names(self.rules, request.goals)
         self.passed_over = set(makefile.passed_over)
         self.fixed = [front for front in FIXED if rng.random() < (0.05 if front == "/" else 0.15)]
+        often = 0.3 if project.inferring else 0.8
         self.sources = [name.decode("utf-8") for name in project.names
-                        if name not in self.rules.targets and rng.random() < 0.8]
+                        if name not in self.rules.targets and rng.random() < often]
         if rng.random() < 0.1:
             self.sources += ["spare.h", "zz"][:rng.randint(1, 2)]
         rng.shuffle(self.sources)
@@ -87,9 +88,11 @@ def records_of(model, mend):
                           if rng.random() < 0.4]
         if model.fixed and rng.random() < 0.3:
             reads.append(rng.choice(model.fixed) + rng.choice(["x", "lib/y", "k.h"]))
-        if rng.random() < (0.1 if mend == "all" else 0.25):
+        often = 0.8 if model.project.crossing else 0.1 if mend == "all" else 0.25
+        while rng.random() < often:
             reads.append(rng.choice(nodes + model.sources))
-        if rng.random() < 0.05:
+            often /= 2
+        if rng.random() < (0.3 if model.project.inferring else 0.05):
             writes.append(made_from(model, rng.choice(nodes)))
         if rng.random() < 0.2:
             writes.append(rng.choice(ODD_FILES + ["log", name + ".d"]))
@@ -115,9 +118,10 @@ def records_of(model, mend):
 
 def made_from(model, name):
     """A file of which an inference rule might make a name."""
-    rest = model.rules.cut(name.encode())[0].decode()
-    endings = [suffix.decode() for suffix in model.rules.suffixes] or [".c"]
-    return rest + model.rng.choice(endings)
+    rest, ending = model.rules.cut(name.encode())
+    fitting = [rest + suffix for suffix in model.rules.suffixes
+               if suffix + ending in model.rules.commands]
+    return model.rng.choice(fitting or [rest + b".c"]).decode()
 
 
 def mended(records, words):
@@ -292,7 +296,8 @@ def broken(rng, text):
 def book_of(model, valid):
     """The bytes of a file of footprints, and the records that they hold."""
     rng = model.rng
-    mend = rng.choice(["all", "all", "static"] if valid else ["all", "static", "static", "none"])
+    often = ["all", "static", "none"] if model.project.inferring else ["all", "all", "static"]
+    mend = rng.choice(often if valid else ["all", "static", "static", "none"])
     records = records_of(model, mend)
     if not valid and rng.random() < 0.3:
         spoiled(model, records)

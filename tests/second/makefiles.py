@@ -1,6 +1,6 @@
-"""Random makefiles: rules with what stands around them, jungles of macros, and near misses."""
+"""Random makefiles: rules with what stands around them, and near misses."""
 
-from texts import expression, blanks, macro_line, near_miss, torn
+from texts import expression, macro_line, near_miss, torn
 
 PLAIN = [b"a", b"b", b"c", b"d", b"e", b"f", b"g", b"h"]
 OBJECTS = [b"a.o", b"b.o", b"c.o", b"d/a.o", b"x.tar.o", b"a", b"d/e", b"prog"]
@@ -25,6 +25,8 @@ class Project:
         self.names = []
         self.macros = 0
         self.made = set()
+        self.crossing = False
+        self.inferring = False
 
     def chance(self, share):
         return self.rng.random() < share
@@ -236,38 +238,6 @@ def structural(rng, valid):
     return project
 
 
-def jungle(rng):
-    """Macros that are made of one another, and a rule whose command shows them."""
-    project = Project(rng)
-    names = [b"A", b"B", b"C", b"AB", b"a.b", b"_", b"x-y"]
-    rng.shuffle(names)
-    project.add(b"N = B")
-    project.add(b"I ::= " + rng.choice([b"y", b"@", b"^", b"<", b"A", b"B B"]))
-    wild = project.chance(0.2)
-    for number in range(rng.randint(1, 8)):
-        left = rng.choice(names)
-        if project.chance(0.05):
-            left = rng.choice([b"A$(N)", b"$(N)", b"$(NONE)B", b" _ ", expression(rng, 1, True)])
-        text = expression(rng, 2, safe=not wild or project.chance(0.7))
-        if not wild:
-            text = text.replace(left, names[number % 3] if left != names[number % 3] else b"no")
-        project.add(macro_line(rng, left, None, text))
-    shown = b" ".join(b"[" + expression(rng, 2, safe=not wild or project.chance(0.6)) + b"]"
-                      for _ in range(rng.randint(1, 4)))
-    words = expression(rng, 1, safe=True) if project.chance(0.1) else b"y.c d/z"
-    target = expression(rng, 1, safe=True) if project.chance(0.05) else b"t.o"
-    project.add(target + b":" + blanks(rng) + words)
-    project.add(b"\t" + shown)
-    if project.chance(0.3):
-        project.add(macro_line(rng, rng.choice(names), None, expression(rng, 1, safe=True)))
-    project.targets = [b"t.o"]
-    project.names = [b"t.o", b"y.c", b"d/z"]
-    blocks = shuffled_blocks(project)
-    included(project, blocks)
-    project.files[b"makefile"] = written(project, blocks)
-    return project
-
-
 def mutated(rng, project):
     """A byte or some of one text changed, left out, doubled or put in."""
     name = rng.choice(sorted(project.files))
@@ -289,15 +259,3 @@ def mutated(rng, project):
             text[place:place + 1] = bytes([rng.randrange(256)])
     project.files[name] = bytes(text)
     return project
-
-
-def project_of(rng, valid):
-    """A makefile with its included files; where `valid`, of rules and seldom at fault."""
-    draw = rng.random()
-    if valid:
-        project = structural(rng, True)
-        return mutated(rng, project) if draw < 0.02 else project
-    if draw < 0.3:
-        return mutated(rng, jungle(rng)) if rng.random() < 0.15 else jungle(rng)
-    project = structural(rng, False)
-    return mutated(rng, project) if draw < 0.5 else project

@@ -76,8 +76,15 @@ def wrong_line(rng, world):
         return rng.choice(WRONG)
     names = sorted(world.graph.nodes)
     files = sorted(world.names)
-    word = rng.choice([b"begin", b"look", b"put", b"done", b"finish", b"run", b"pass", b"end",
-                       b"stop", b"edit", b"make"])
+    fitting = [b"edit", b"make", b"make"]
+    if world.making:
+        fitting = [b"begin", b"pass", b"run", b"end", b"stop"]
+    if world.running:
+        fitting = [b"look", b"put", b"done", b"finish", b"begin", b"end", b"stop"]
+    if rng.random() < 0.25:
+        fitting = [b"begin", b"look", b"put", b"done", b"finish", b"run", b"pass", b"end",
+                   b"stop", b"edit", b"make"]
+    word = rng.choice(fitting)
     line = [word]
     if word == b"make":
         line += [b"1"] + [rng.choice(names) for _ in range(rng.randint(0, 2))]
@@ -89,7 +96,10 @@ def wrong_line(rng, world):
         if word == b"put" and rng.random() < 0.5:
             line.append(b"5")
     elif word not in (b"end", b"stop"):
-        line.append(rng.choice(names))
+        twin = copied(world)
+        twin.pass_without_recipe()
+        likely = sorted(world.running) if word in (b"done", b"finish") else twin.ready()
+        line.append(rng.choice(likely if likely and rng.random() < 0.7 else names))
     return b" ".join(line)
 
 

@@ -3,7 +3,7 @@
 import re
 
 from judge import turns
-from lines import Refused, place, words
+from lines import Refused, words
 
 CLOCK_LIMIT = 2 ** 64 - 1
 PLAN_LIMIT = 65536
