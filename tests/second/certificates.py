@@ -38,7 +38,8 @@ def alter_entry(rng, subject, ways):
         ways.append({"end": rng.choice(["source", "written", "always"]), "file": rng.choice(names),
                      "path": [recipe], "recipe": recipe})
         return
-    place = rng.randrange(len(ways))
+    places = [at for at, way in enumerate(ways) if len(way["path"]) > 1]
+    place = rng.choice(places) if places and rng.random() < 0.7 else rng.randrange(len(ways))
     way = ways[place]
     kind = rng.randrange(11)
     if kind == 0:

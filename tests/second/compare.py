@@ -98,6 +98,8 @@ class Comparer:
             second = answered(case.words, disk)
         first = asked(self.program, case.words, self.folder)
         self.tried[command] += 1
+        if sum(self.tried.values()) % 200 == 0:
+            print(f"fuzz: {sum(self.tried.values())} cases so far", file=sys.stderr, flush=True)
         self.sorts[command][sort_of(second)] += 1
         if first == second or command == "evidence" and shows(first, second, case.words, disk):
             return
@@ -116,13 +118,35 @@ class Comparer:
                 file.write("\n".join(case.words) + "\n")
             print(f"  kept in {os.path.dirname(kept)}", flush=True)
 
-    def random_cases(self, command, seed, cases, until):
-        for number in range(cases):
-            if time.monotonic() > until:
-                break
-            rng = random.Random(f"{seed} {command} {number}")
-            case = case_of(rng, "check" if command == "evidence" else command)
-            self.compare(command, f"{command} {number} of seed {seed}", case)
+    def random_case(self, command, seed, number):
+        rng = random.Random(f"{seed} {command} {number}")
+        case = case_of(rng, "check" if command == "evidence" else command)
+        self.compare(command, f"{command} {number} of seed {seed}", case)
+
+    def all_cases(self, commands, given):
+        """The random cases, of the commands in turn, and those at limits, as time allows."""
+        until = time.monotonic() + given.seconds
+        cases = GATE_CASES if given.gate else dict.fromkeys(COMMANDS, given.cases)
+        for number in range(max(cases[command] for command in commands)):
+            for command in commands:
+                if number < cases[command] and time.monotonic() < until:
+                    self.random_case(command, given.seed, number)
+        for label, command, case in limits(given.gate):
+            if command in commands and time.monotonic() < until:
+                self.compare(command, label, case)
+
+    def told(self, counts):
+        """What was tried, and whether nothing differs."""
+        for command, tried in self.tried.items():
+            print(f"{command}: {tried} cases")
+            for sort, count in sorted(self.sorts[command].items()) if counts else []:
+                print(f"  {sort}: {count}")
+        total = sum(self.tried.values())
+        if self.differing:
+            print(f"fuzz: {self.differing} of {total} cases differ")
+        else:
+            print(f"fuzz: {total} cases agree")
+        return not self.differing
 
 
 def takes_evidence(program):
@@ -148,29 +172,16 @@ def arguments():
 
 def main():
     given = arguments()
-    until = time.monotonic() + given.seconds
+    commands = [given.command] if given.command else list(COMMANDS)
+    if "evidence" in commands and not takes_evidence(given.program):
+        print("evidence: skipped, since the program knows no check -e")
+        commands.remove("evidence")
+    if not commands:
+        return 0
     with tempfile.TemporaryDirectory(prefix="fuzz-", dir=memory_folder()) as folder:
         comparer = Comparer(given.program, folder)
-        for command in [given.command] if given.command else COMMANDS:
-            if command == "evidence" and not takes_evidence(given.program):
-                print("evidence: skipped, since the program knows no check -e")
-                continue
-            cases = GATE_CASES[command] if given.gate else given.cases
-            comparer.random_cases(command, given.seed, cases, until)
-        for label, command, case in limits(given.gate):
-            if given.command in (None, command):
-                comparer.compare(command, label, case)
-    for command, tried in comparer.tried.items():
-        print(f"{command}: {tried} cases")
-        if given.counts:
-            for sort, count in sorted(comparer.sorts[command].items()):
-                print(f"  {sort}: {count}")
-    total = sum(comparer.tried.values())
-    if comparer.differing:
-        print(f"fuzz: {comparer.differing} of {total} cases differ")
-        return 1
-    print(f"fuzz: {total} cases agree")
-    return 0
+        comparer.all_cases(commands, given)
+    return 0 if comparer.told(given.counts) else 1
 
 
 if __name__ == "__main__":

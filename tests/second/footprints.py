@@ -93,7 +93,7 @@ def records_of(model, mend):
             reads.append(rng.choice(nodes + model.sources))
             often /= 2
         if rng.random() < (0.3 if model.project.inferring else 0.05):
-            writes.append(made_from(model, rng.choice(nodes)))
+            writes.append(made_from(model, nodes))
         if rng.random() < 0.2:
             writes.append(rng.choice(ODD_FILES + ["log", name + ".d"]))
         if rng.random() < 0.1:
@@ -116,12 +116,16 @@ def records_of(model, mend):
     return records
 
 
-def made_from(model, name):
-    """A file of which an inference rule might make a name."""
-    rest, ending = model.rules.cut(name.encode())
-    fitting = [rest + suffix for suffix in model.rules.suffixes
-               if suffix + ending in model.rules.commands]
-    return model.rng.choice(fitting or [rest + b".c"]).decode()
+def made_from(model, names):
+    """A file, not there yet, of which an inference rule might make one of the names."""
+    fitting = []
+    for name in names:
+        rest, ending = model.rules.cut(name.encode())
+        fitting += [rest + suffix for suffix in model.rules.suffixes
+                    if suffix + ending in model.rules.commands]
+    fitting = [file for file in fitting if not model.graph.there.is_given(file)
+               and file not in model.rules.targets]
+    return model.rng.choice(fitting or [b"made.c"]).decode()
 
 
 def mended(records, words):
@@ -132,7 +136,7 @@ def mended(records, words):
         file = names[0] if kind == b"loose" else names[-1]
         return drop(records[target]["writes"], file)
     if kind == b"selection":
-        return any([drop(record["writes"], names[1]) for record in records.values()])
+        return len(names[1]) % 2 == 0 and any([drop(record["writes"], names[1]) for record in records.values()])
     if kind in (b"own", b"unknown", b"race", b"stale"):
         return drop(records[names[0]]["reads"], names[-1])
     if kind == b"target":

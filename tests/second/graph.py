@@ -147,7 +147,7 @@ def goal_names(rules, given):
         return list(dict.fromkeys(given))
     for rule in rules.makefile.rules:
         for target in rule.targets:
-            if target in rules.targets:
+            if target in rules.targets and not rule.default:
                 return [target]
     raise Refused(44)
 

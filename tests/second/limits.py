@@ -1,6 +1,9 @@
-"""Cases at the limits, which are too large for random ones."""
+"""Cases at the limits, which are too large for random ones, and each near miss once."""
 
-from cases import Case
+from cases import FOLDER, Case
+from corners import corners
+from documents import documents
+from texts import MISSES
 
 RULE = b"a: b\n\tc\n"
 BOOK = b'{"format":1,"fixed":[],"sources":["b"],"records":[%s]}' % (
@@ -117,8 +120,15 @@ def plans_at_limit():
     yield simulated(b"")
 
 
-QUICK = (lines_at_limit, values_at_limit, references_at_limit, texts_at_limit, names_at_limit,
-         plans_at_limit)
+def near_misses():
+    for miss in MISSES:
+        files = {b"inc0.mk": b"e: f\n", b"folder": FOLDER}
+        yield graph(miss + b"\nz: y\n\tc\n", files)
+        yield graph(b"z: y\n" + miss, files)
+
+
+QUICK = (corners, documents, near_misses, lines_at_limit, values_at_limit, references_at_limit,
+         texts_at_limit, names_at_limit, plans_at_limit)
 
 
 def limits(quick):

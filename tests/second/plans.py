@@ -1,6 +1,7 @@
 """Random plans: walks of the second program's own world, and lines that go wrong."""
 
-from world import Fault, World, take
+from lines import Refused
+from world import Fault, World, read_plan, take
 
 WRONG = [b"make", b"make 0", b"make 4097", b"make x", b"make 1 nowhere", b"make -1", b"begin", b"begin nowhere",
          b"look", b"put", b"end x", b"stop x", b"done", b"edit", b"edit nowhere", b"run a b", b"pass", b"jump",
@@ -70,6 +71,18 @@ def running_line(rng, world, name):
     return [b"finish", name]
 
 
+def tempting(rng, world):
+    """A line that is nearly allowed: a pass of what must run, one job too many, an early end."""
+    twin = copied(world)
+    twin.pass_without_recipe()
+    ready = [name for name in twin.ready() if world.graph.nodes[name].recipe]
+    lines = [b"done " + name for name in sorted(world.running)]
+    lines += [b"pass " + name for name in ready]
+    if len(world.running) >= world.jobs:
+        lines += [b"begin " + name for name in ready] * 2
+    return rng.choice(lines or [b"end"])
+
+
 def wrong_line(rng, world):
     """A line that is often refused."""
     if rng.random() < 0.25:
@@ -114,6 +127,16 @@ def spelled(rng, line):
     return text
 
 
+def refused(world, text):
+    """Whether a line is refused; where it isn't, the world takes its steps."""
+    try:
+        for _number, line in read_plan(text):
+            take(world, line)
+    except (Fault, Refused):
+        return True
+    return False
+
+
 def plan_of(rng, graph, book):
     """The bytes of a plan."""
     world = World(graph, book)
@@ -122,20 +145,21 @@ def plan_of(rng, graph, book):
     for _ in range(rng.choice([2, 5, 10, 20, 30])):
         if rng.random() < 0.06:
             out.append(rng.choice([b"", b"# note", b" \t", b"  # x", b"#\xff"]))
-        if wrong and rng.random() < 0.08:
-            out.append(wrong_line(rng, world))
+        if wrong and rng.random() < 0.12:
+            out.append((wrong_line if rng.random() < 0.5 else tempting)(rng, world))
+            if refused(world, out[-1]) and rng.random() < 0.9:
+                break
             continue
         line = line_of(rng, world)
         twin = copied(world)
-        written = [word for word in line]
+        written = list(line)
         if line[0] in (b"put", b"edit"):
             most = 3 if line[0] == b"put" else 2
             line = line + [None] * (most + 1 - len(line))
         try:
             take(twin, line)
         except Fault:
-            if rng.random() < 0.9:
-                continue
+            continue
         out.append(spelled(rng, written))
         world = twin
     text = b"\n".join(out)
