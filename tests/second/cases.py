@@ -17,7 +17,7 @@ from shapes import inferences, jungle, orders
 FOLDER = object()
 OPERANDS = [b"X=x.o", b"A=$(B)", b"CC=cc", b"CFLAGS =  -g ", b"A::=$(CFLAGS)$$", b"B:::=$(A) $$v",
             b"OUT=", b"X = $(Y) z", b"AB=1", b"M1=a.o b.o", b"A=x\ny", b"B=b\tc", b"E=a", b"X:::= $(CC)",
-            b"a.b=%", b"x-y=d/e", b"NONE=zz", b"X=", b"A=a=b", b"_::=$(A)"]
+            b"a.b=%", b"x-y=d/e", b"NONE=zz", b"-O=1", b"X=", b"A=a=b", b"_::=$(A)"]
 ODD_OPERANDS = [b"=x", b"A+=x", b"A:=x", b"A?=x", b"A!=x", b"A B=x", b"A::::=x", b"X::=$(", b"X::=$(X)$",
                 b"X::=$(%)", b"X::=$(REC", b"\xc3\xa9=x", b"$(A)=x", b" =", b"A=$(A)", b"B:::=$(A:x)", b"A==",
                 b"A= =", b"X=$(", b"::=x", b"A:: =x", b"@=x"]

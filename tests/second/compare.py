@@ -23,7 +23,7 @@ from request import Disk
 from second import answered
 
 COMMANDS = ["graph", "check", "verify", "simulate", "evidence"]
-GATE_CASES = {"graph": 500, "check": 400, "verify": 400, "simulate": 400, "evidence": 200}
+GATE_CASES = {"graph": 300, "check": 300, "verify": 250, "simulate": 250, "evidence": 150}
 GATE_SEED = 20261124
 KEPT = 20
 
@@ -98,7 +98,7 @@ class Comparer:
             second = answered(case.words, disk)
         first = asked(self.program, case.words, self.folder)
         self.tried[command] += 1
-        if sum(self.tried.values()) % 200 == 0:
+        if sum(self.tried.values()) % 5000 == 0:
             print(f"fuzz: {sum(self.tried.values())} cases so far", file=sys.stderr, flush=True)
         self.sorts[command][sort_of(second)] += 1
         if first == second or command == "evidence" and shows(first, second, case.words, disk):

@@ -32,7 +32,7 @@ GRAPHS = [
     b"\ta\n", b"\t#a\na:", b"\t \t#a\na:\n\t#b", b" a: b\n \tc: d", b"a:\\\nb\\\n\\\n c", b"a: b\\\\\nc: d", b"a:\n\tb\\\\\n\tc\\\n\td\\\n\t\te",
     b"a: b\\", b"a:\n\tb\\", b"a: b # c \\\n d\n\te", b"a: b \\# c", b"a: b ; c # d \\# e", b"a: b # ; c", b"#\\\n\tx\na:", b"a: $(X#)\nX = b)",
     b"include inc0.mk inc0.mk\n", b"include $(no)inc0.mk\nz: y", b"X = inc0.mk gone.mk\n-include $(X)\nz:", b"include  inc0.mk # gone.mk\nz:",
-    b"include inc0.mk\\\n\nz:", b".SUFFIXES: .mk\n.mk.o: ; x $<\ninclude inc0.mk\nz: inc0.o makefile.o", b".POSIX:\n.IGNORE:\n.SILENT: x\n.PRECIOUS: y z\n.WAIT:\na:", b".SUFFIXES: .c .c .d\n.d.c:;x\na.c:\na.d:",
+    b"include inc0.mk\\\n\nz:", b".SUFFIXES: .mk\n.mk.o: ; x $<\nz: inc0.o makefile.o\ninclude inc0.mk", b".POSIX:\n.IGNORE:\n.SILENT: x\n.PRECIOUS: y z\n.WAIT:\na:", b".SUFFIXES: .c .c .d\n.d.c:;x\na.c:\na.d:",
 ]
 # A makefile, sources, fixed prefixes, and of each target what it reads and what it writes.
 BUILDS = [
@@ -90,10 +90,16 @@ def corners():
     for text in GRAPHS:
         files = {b"makefile": text, b"inc0.mk": b"e: f\n"}
         yield "graph", Case(files, ["graph", "-c"])
+    empty = json.dumps({"format": 1, "fixed": [], "sources": ["k"], "records": []}).encode()
+    for goals in (["x", "y"], ["y", "x"], ["k", "y", "x"], ["a", "x"], ["x", "a"]):
+        files = {b"makefile": b"a: b k c\nb: k d\nk: e\n", b"B": empty}
+        yield "graph", Case(files, ["graph", "-b", "B", *goals])
     for build in BUILDS:
         files = built(build)
         yield "check", Case(files, ["check", "-b", "B"])
         yield "check", Case(files, ["check", "-b", "B", "-c"])
+        other = files[b"B"].replace(b'"commands": ["', b'"commands": ["x", "')
+        yield "check", Case({**files, b"B": other}, ["check", "-b", "B"])
         renamed = {b"Makefile" if name == b"makefile" else name: data
                    for name, data in files.items()}
         yield "check", Case(renamed, ["check", "-b", "B"])

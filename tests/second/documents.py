@@ -15,6 +15,9 @@ BOOK = (b'{"format":1,"fixed":[],"sources":["a.c","h.h"],"records":['
 TWO = (b'{"format":2,"fixed":[],"sources":["a.c"],"lists":{"x":["a.c","a.o"],"y":["a.o","b"]},"groups":['
        b'{"goals":["p","a.o"],"records":[]},{"goals":["p"],"records":[{"target":"p","commands":["l"],"reads":["a.o"],'
        b'"writes":["p","p"],"shared":["x","x","y"]}]},{"goals":["p"],"records":[]}]}')
+ORDERED = (b'{"format":2,"fixed":[],"sources":["a.c"],"lists":{},"groups":[{"goals":["b.o","p"],"records":[]},'
+           b'{"goals":["p","b.o"],"records":[{"target":"p","commands":[],"reads":[],"writes":[],"shared":[]}]},'
+           b'{"goals":["p"],"records":[{"target":"a.o","commands":[],"reads":[],"writes":[],"shared":[]}]}]}')
 WAYS = [b'{"end":"source","file":"a.c","path":["a.o"],"recipe":"a.o"}',
         b'{"end":"written","file":"a.o","path":["p","a.o"],"recipe":"p"}',
         b'{"end":"source","file":"a.c","path":["p","a.o"],"recipe":"p"}']
@@ -54,7 +57,8 @@ CERTIFICATES = [
     [0, b'{"end":"source","file":"a","path":["a"],"z":1}'], [0, 1, b'{"end":"no","end":"source","file":"a.c","path":["p","a.o"],"recipe":"p"}'],
 ]
 PLANS = [
-    b"make 1\npass r", b"make 1\nrun q\nrun r\nend\nmake 1\npass q", b"make 1\nrun q\nrun r\nend\nmake 1\nrun q\npass r", b"make 1\nbegin q\nend",
+    b"make 1\npass r", b"make 1 r\nrun q\nrun r\nend\nmake 1 r\npass q", b"make 1 r\nrun q\nrun r\nend\nmake 1 r\nrun q\npass r",
+    b"make 1 r\nrun q\nrun r\nend\nmake 1 r\nrun q\nrun r\nend\n", b"make 1\nbegin q\nend",
     b"make 1\nrun r", b"make 2\nbegin a.o\nbegin b.o\nbegin a.o", b"make 1\nbegin a.o\nbegin b.o", b"make 2\nbegin a.o\nput a.o a.o\ndone a.o", b"make 1\nbegin a.o\nlook a.o a.c\ndone a.o",
     b"make 1\nbegin a.o\nlook a.o h.h", b"make 1\nbegin a.o\nput a.o a.c", b"make 1\nbegin a.o\nput a.o v", b"make 1\nbegin a.o\nlook a.o zz", b"make 1 t\nrun a.o\nrun b.o\nrun t\nend\nmake 1 t\npass a.o\npass b.o\npass t\nend",
     b"make 1 t\nrun a.o\nrun b.o\nrun t\nend\nedit h.h\nmake 1 t\nrun a.o\npass b.o\npass t", b"make 1 t\nrun a.o\nrun b.o\nrun t\nend\nedit a.c 1\nmake 1 t\nrun a.o\nrun b.o\nrun t\nend\nedit a.c 5\nmake 4096 t\nfinish t",
@@ -84,6 +88,9 @@ def documents():
         yield "graph", Case({b"makefile": MAKEFILE, b"B": book}, ["graph", "-b", "B"])
     for book in BOOKS:
         yield "check", Case({b"makefile": MAKEFILE, b"B": book}, ["check", "-b", "B", "-c"])
+    for goals in (["p", "b.o"], ["b.o", "p"], ["p", "p"], ["b.o"], []):
+        files = {b"makefile": MAKEFILE, b"B": ORDERED}
+        yield "check", Case(files, ["check", "-b", "B", *goals])
     for ways in CERTIFICATES:
         yield verified(certificate(ways))
     right = certificate([0, 1, 2])
@@ -94,5 +101,6 @@ def documents():
                      (right, b"[]"), (right, b""), (right, b"{"), (right, right + b"\n \t\r"), (right, right + b"x"), (b'"source"', b'"so\\u0075rce"')]:
         yield verified(right.replace(old, new))
     for plan in PLANS:
-        files = {b"makefile": MAKEFILE, b"B": BOOK, b"P": plan}
-        yield "simulate", Case(files, ["simulate", "-b", "B", "-p", "P", "t", "r"])
+        for book in BOOK, BOOK.replace(b'["h.h"],"writes":[]', b'["h.h"],"writes":["q"]'):
+            files = {b"makefile": MAKEFILE, b"B": book, b"P": plan}
+            yield "simulate", Case(files, ["simulate", "-b", "B", "-p", "P", "t", "r"])

@@ -103,6 +103,9 @@ def names_at_limit():
         yield graph(text + b"n7: a\n")
         yield graph(text + b"n4094:;x\n", {b"B": BOOK.replace(b'"b"', b",".join(
             b'"n%d"' % i for i in range(4094)))}, ["-b", "B"])
+
+
+def deep_names():
     deep = b"".join(b"n%d: n%d\n" % (i, i + 1) for i in range(4095))
     yield graph(deep)
     yield graph(deep + b"n4095: n4096\n")
@@ -133,6 +136,6 @@ QUICK = (corners, documents, near_misses, lines_at_limit, values_at_limit, refer
 
 def limits(quick):
     """Each with a label and its command; the quick ones alone, or all."""
-    for makes in QUICK if quick else QUICK + (many_lines, many_references):
+    for makes in QUICK if quick else QUICK + (many_lines, many_references, deep_names):
         for number, (command, case) in enumerate(makes()):
             yield f"{makes.__name__} {number}", command, case

@@ -49,6 +49,8 @@ def orders(rng):
     project = Project(rng)
     project.crossing = True
     pool = [b"a", b"b", b"c", b"d", b"e", b"f", b"g"][:rng.randint(3, 7)]
+    if rng.random() < 0.04:
+        pool = [b"n%d" % number for number in range(rng.randint(8, 40))]
     head = [b"all", b"x", b"y"][:rng.randint(1, 3)]
     project.names = head + pool
     project.targets = head + pool
