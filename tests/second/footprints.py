@@ -271,10 +271,26 @@ def spelled(rng, value):
     return (text.rstrip()[:-1] + "," + twice + "}").encode("utf-8")
 
 
+TOKENS = [b"[", b"]", b"{", b"}", b",", b":", b'"a"', b'"b"', b"1", b"-", b"0", b".", b"e", b"E", b"+", b"9", b"null", b"true",
+          b"false", b"nul", b"True", b'"', b"\\", b'"\\', b"\\u", b"d83d", b"dc00", b"\\ud83d\\udc00", b'"\\udc00"', b"00e1", b" ", b"\t",
+          b"\n", b"\r", b"\x0c", b"\xa0", b"\xc2\xa0", b"\xef\xbb\xbf", b"/", b"'", b"//", b"#", b"\x00", b"\x1f", b"\x7f", b'"\\/"', b'"\\b\\f\\n"',
+          b'"\\a"', b'"\\u00zz"', b'"\x80"', b'"\xed\xa0\x80"', b'"\xc3\xa9"', b"1e5", b"1E+5", b"1e", b"1.5", b"-0", b"-0.0", b"1e309", b"-1e309",
+          b"123456789012345678901234567890", b"1" + b"0" * 308, b"1" + b"0" * 309, b"0.1e-400", b"NaN", b"-Infinity", b"[]", b"{}"]
+
+
+def soup(rng):
+    """A member that may be JSON, put together of tokens."""
+    if rng.random() < 0.3:
+        return b'"' + b"".join(token.strip(b'"') for token in rng.choices(TOKENS, k=rng.randint(0, 4))) + b'"'
+    if rng.random() < 0.5:
+        return b"[" + b",".join(rng.choices(TOKENS, k=rng.randint(0, 3))) + b"]"
+    return b"".join(rng.choices(TOKENS, k=rng.randint(1, 4)))
+
+
 def broken(rng, text):
     """A text that may be no JSON."""
     data = text.encode("utf-8")
-    kind = rng.randrange(8)
+    kind = rng.randrange(9)
     place = rng.randint(0, len(data))
     if kind == 0:
         return data[:place]
@@ -291,7 +307,9 @@ def broken(rng, text):
     number = rng.choice([b"1.0", b"1e0", b"-0", b"01", b"1.", b"1e400", b"NaN", b"Infinity", b"+1", b"0x1",
                          b"18446744073709551616", b"-9223372036854775809", b"9" * 400, b"1E+2", b"-1",
                          b"18446744073709551615", b"1e-400", b".5", b"-", b"0", b"3", b"0.0", b"2.5e1"])
-    if kind < 7:
+    if kind == 5:
+        return b'{"soup":' + soup(rng) + b"," + data[1:]
+    if kind < 8:
         return data.replace(b'"format":1', b'"format":' + number).replace(
             b'"format": 1', b'"format":' + number)
     return rng.choice([b"", b"null", b"[]", b"1", b'"x"', b"{}", b"{} {}", b" ", b"tru", b"{\"a\":1,}"])
