@@ -3,7 +3,7 @@
 import json
 
 from book import certificate_text
-from footprints import ODD_VALUES, altered, spelled
+from footprints import altered, odd_value, spelled
 
 
 def ways_of(subject):
@@ -81,5 +81,5 @@ def certificate_of(rng, subject):
     else:
         value = altered(rng, value)
         if isinstance(value.get("ways"), list) and value["ways"] and rng.random() < 0.3:
-            value["ways"][rng.randrange(len(value["ways"]))] = rng.choice(ODD_VALUES)
+            value["ways"][rng.randrange(len(value["ways"]))] = odd_value(rng)
     return spelled(rng, value)

@@ -1,5 +1,6 @@
 """Random footprints for a makefile, true as far as they go or with faults, of both formats."""
 
+import copy
 import json
 
 from book import Book, Record
@@ -227,6 +228,10 @@ ODD_VALUES = [None, True, 0, 1, 2, 3, -1, 1.0, "", "x", [], ["x"], [1], [["x"]],
               ["x\u0000"], ["x\u007f"], ["l"], ["none"], 18446744073709551615]
 
 
+def odd_value(rng):
+    return copy.deepcopy(rng.choice(ODD_VALUES))
+
+
 def altered(rng, value):
     """A value with one of its members changed, missing, or one more; two may be changed."""
     value = json.loads(json.dumps(value))
@@ -237,19 +242,18 @@ def altered(rng, value):
         if kind == 0 and keys:
             del one[rng.choice(keys)]
         elif kind == 1 and keys:
-            one[rng.choice(keys)] = rng.choice(ODD_VALUES)
+            one[rng.choice(keys)] = odd_value(rng)
         elif kind == 2:
-            one[rng.choice(["more", "shared", "lists", "format", "target", ""])] = rng.choice(
-                ODD_VALUES)
+            one[rng.choice(["more", "shared", "lists", "format", "target", ""])] = odd_value(rng)
         elif keys:
             key = rng.choice(keys)
             if not isinstance(one[key], list):
                 continue
             if kind == 3 and one[key]:
-                one[key].append(rng.choice(one[key]))
+                one[key].append(copy.deepcopy(rng.choice(one[key])))
             elif kind == 4:
                 one[key].insert(rng.randint(0, len(one[key])), rng.choice(
-                    ["./x", "", "a/", "x", "usr/x", "/usr/q", "a//b", 7, None, {}, [], "\u00a0x"]))
+                    ["./x", "", "a/", "x", "usr/x", "/usr/q", "a//b", 7, None, "\u00a0x"]))
             elif one[key]:
                 rng.shuffle(one[key])
     return value
