@@ -60,7 +60,7 @@ recorder: all
 realcheck: all
 	@MKCHECK=bin/mkcheck python3 tests/recorder/real.py
 
-# Tries the makefiles that docs/FROM_GNU_MAKE.md shows.
+# Tries the makefiles and the sessions that the pages show.
 pages: all
 	@python3 tests/pages/run.py bin/mkcheck
 
@@ -82,7 +82,9 @@ bench: all
 	@python3 bench/footprint.py
 	@python3 bench/rows.py
 	@python3 bench/verdicts.py
+	@python3 bench/certificates.py
 	@python3 bench/plans.py
+	@python3 bench/hostile.py
 
 install: all
 	mkdir -p $(DESTDIR)$(PREFIX)/bin

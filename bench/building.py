@@ -8,8 +8,22 @@ from pathlib import Path
 from run import DATA, HERE
 
 
-def built(name: str, crates: tuple[str, ...], libraries: str, empty: str, task: str) -> Path:
-    """The program `name`, from `name/main.rt.in`, over these crates of the repository and these libraries.
+def needed(libraries: str) -> dict[str, str]:
+    """The crates of the repository that these libraries are and stand on, each with its line of crates.txt."""
+    listed = (HERE.parent / "crates.txt").read_text().splitlines()
+    lines = {line.partition(":")[0]: line for line in listed if line and not line.startswith("#")}
+    found: dict[str, str] = {}
+    pending = libraries.split()
+    while pending:
+        crate = pending.pop()
+        if crate in lines and crate not in found:
+            found[crate] = lines[crate]
+            pending += lines[crate].partition(":")[2].split()
+    return found
+
+
+def built(name: str, libraries: str, empty: str, task: str) -> Path:
+    """The program `name`, from `name/main.rt.in`, over copies of the crates that it needs.
 
     The run that builds it does the task on a file with the text `empty`.
     """
@@ -19,12 +33,11 @@ def built(name: str, crates: tuple[str, ...], libraries: str, empty: str, task: 
     (own / "src").mkdir(parents=True)
     shutil.copy(HERE / name / "main.rt.in", own / "src" / "main.rt")
     shutil.copy(HERE.parent / "HANDLES", repository / "HANDLES")
+    crates = needed(libraries)
     for crate in crates:
         # With what earlier checks left in out/, so that little is proved again.
         shutil.copytree(HERE.parent / "crates" / crate, repository / "crates" / crate)
-    listed = (HERE.parent / "crates.txt").read_text().splitlines()
-    kept = [line for line in listed if line.partition(":")[0] in crates]
-    (repository / "crates.txt").write_text("\n".join([*kept, f"{name}: {libraries}", ""]))
+    (repository / "crates.txt").write_text("\n".join([*crates.values(), f"{name}: {libraries}", ""]))
     file = DATA / f"{name}.empty"
     file.write_text(empty)
     command = ["rt", "run", "--", task, str(file)]

@@ -10,7 +10,7 @@ import resource
 import subprocess
 import sys
 from collections.abc import Callable
-from dataclasses import dataclass
+from dataclasses import dataclass, field
 from pathlib import Path
 
 from generate import gather, recipe
@@ -32,6 +32,7 @@ class Build:
     text: str
     sources: list[str]
     records: list[tuple[str, list[str], list[str]]]
+    fixed: list[str] = field(default_factory=list)
 
     def book(self) -> str:
         """The footprints; each recipe writes its target."""
@@ -39,7 +40,7 @@ class Build:
             {"target": target, "commands": commands, "reads": reads, "writes": [target]}
             for target, commands, reads in self.records
         ]
-        return json.dumps({"format": 1, "fixed": [], "sources": self.sources, "records": records})
+        return json.dumps({"format": 1, "fixed": self.fixed, "sources": self.sources, "records": records})
 
 
 def touched(targets: dict[str, list[str]]) -> list[tuple[str, list[str], list[str]]]:

@@ -1,4 +1,5 @@
-"""Tries the makefiles that docs/FROM_GNU_MAKE.md shows, each of which is refused by its number or read, and our own.
+"""Tries the makefiles that docs/FROM_GNU_MAKE.md shows, each of which is refused by its number or read, and our own; and
+the sessions that README.md, examples/ and docs/ show; and follows the links from page to page.
 
 The word is the path of mkcheck; without it MKCHECK names it, else it is bin/mkcheck.
 """
@@ -13,8 +14,12 @@ import tempfile
 from collections.abc import Sequence
 from pathlib import Path
 
+from links import broken_links
+from sessions import try_page
+
 ROOT = Path(__file__).resolve().parents[2]
 PAGE = ROOT / "docs" / "FROM_GNU_MAKE.md"
+SESSIONS = (ROOT / "README.md", ROOT / "examples" / "README.md", *sorted((ROOT / "docs").glob("*.md")))
 BLOCK = re.compile(r"^```make ?(\d*)\n(.*?)^```$", re.MULTILINE | re.DOTALL)
 
 
@@ -38,6 +43,16 @@ def read_own(mkcheck: str) -> int:
     return 1 if said or not words else 0
 
 
+def try_sessions(mkcheck: str) -> int:
+    """Runs the sessions of all pages, and tells how many of their steps differ."""
+    tried = [try_page(mkcheck, page) for page in SESSIONS]
+    ran, wrong, left_out = (sum(column) for column in zip(*tried))
+    print(f"pages: {ran} sessions, {wrong} of their steps wrong")
+    if left_out:
+        print(f"pages: {left_out} sessions didn't run: no strace that may trace, or no compiler")
+    return wrong
+
+
 def main() -> int:
     mkcheck = os.path.abspath(sys.argv[1] if len(sys.argv) > 1 else os.environ.get("MKCHECK", ROOT / "bin" / "mkcheck"))
     wrong = read_own(mkcheck)
@@ -48,6 +63,7 @@ def main() -> int:
             wrong += 1
             print(f"pages: {said or 'read'} and not {number or 'read'}:\n{makefile}")
     print(f"pages: {len(blocks) + 1 - wrong} makefiles as they are said to be, {wrong} not")
+    wrong += try_sessions(mkcheck) + broken_links()
     return 1 if wrong else 0
 
 

@@ -141,6 +141,29 @@ PLACES = [
     Run(["--help"], 2, err="write failed\n", sink="/dev/full"),
 ]
 
+# The most bytes that a file may have.
+MOST = 16_777_216
+
+
+def commented(text: str, size: int) -> str:
+    """The text, with lines of comments behind it, so that it has this size."""
+    line = "#" + "x" * 65_534 + "\n"
+    rest = size - len(text)
+    return text + line * (rest // len(line)) + ("#" * (rest % len(line) - 1) + "\n" if rest % len(line) else "")
+
+
+# Files of the most bytes that they may have, and of one more.
+SIZES = [
+    Run(["graph"], 0, GRAPH, files={"makefile": commented(RULES, MOST)}),
+    Run(["graph"], 2, "refused 35 makefile\n", files={"makefile": commented(RULES, MOST + 1)}),
+    Run(["check", "-b", "B"], 0, WAYS, files={**FILES, "B": RECORDS.ljust(MOST)}),
+    Run(["check", "-b", "B"], 2, "refused 35 B\n", files={**FILES, "B": RECORDS.ljust(MOST + 1)}),
+    Run(["verify", "-b", "B", "-k", "C"], 0, "yes 2 recipes 2 reads\n", files={**FILES, "C": CERTIFICATE.ljust(MOST)}),
+    Run(["verify", "-b", "B", "-k", "C"], 2, "refused 35 C\n", files={**FILES, "C": CERTIFICATE.ljust(MOST + 1)}),
+    Run(["simulate", "-b", "B", "-p", "Q"], 0, "a 1 1\nb 2 2\nplan ok\n", files={**COPY, "Q": commented(COPY["Q"], MOST)}),
+    Run(["simulate", "-b", "B", "-p", "Q"], 2, "refused 35 Q\n", files={**COPY, "Q": commented(COPY["Q"], MOST + 1)}),
+]
+
 
 def ran(program: Path, run: Run, folder: str) -> tuple[int, bytes, bytes]:
     """The status and both streams of the program, run in this folder."""
@@ -169,7 +192,7 @@ def differs(program: Path, run: Run) -> bool:
 
 def main() -> None:
     program = Path(sys.argv[1] if len(sys.argv) > 1 else PROGRAM).resolve()
-    runs = [*ANSWERS, *WORDS, *PLACES]
+    runs = [*ANSWERS, *WORDS, *PLACES, *SIZES]
     wrong = [run for run in runs if differs(program, run)]
     print(f"program: {len(runs)} runs, {len(wrong)} of them wrong")
     sys.exit(1 if wrong else 0)

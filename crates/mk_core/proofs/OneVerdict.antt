@@ -1,6 +1,6 @@
 -- The answer to a build that is judged is one.
-use Rattle.std.proofs.Common.{◌≡◌, ◌⊎◌, ◌<◌, ◌∙◌, ℕ, zero, suc, true, false, List, [], ◌∷◌, Option, None, Some, Result, Ok, Err, length, inl, inr, refl, sym, ap, subst, arith}
-use Rattle.std.specs.Prelude.{⊤, slice_index}
+use Rattle.std.proofs.Common.{◌≡◌, ◌<◌, ◌∙◌, ℕ, zero, suc, List, [], ◌∷◌, Option, None, Some, Result, Ok, Err, length, inl, inr, refl, sym, ap, subst, arith}
+use Rattle.std.specs.Prelude.{slice_index}
 use Rattle.std.specs.Option.{ok_or}
 use Rattle.std.proofs.lemmas.Bool.{cases_lt}
 use Rattle.mk_graph.specs.Graph as value
@@ -11,12 +11,9 @@ use Rattle.mk_graph.specs.Serial.{serial_order}
 use Rattle.mk_cert.specs.Entry.{IsFirstFault}
 use Rattle.mk_cert.specs.Laws as judging
 use Rattle.mk_cert.specs.Subject.{Subject, IsSubject, commands_of}
-use Rattle.mk_cert.specs.Verdict.{Verifies}
-use Rattle.mk_cert.specs.declared.fault.CertFault.{CertFault}
 use Rattle.mk_find.specs.Laws.{CertificateIsOne, FindingsAreOne}
 use Rattle.mk_infer.specs.Commands.{Commands}
 use Rattle.mk_infer.specs.Laws as inferring
-use Rattle.mk_infer.specs.Steps.{is_want_of_memory}
 use Rattle.mk_infer.specs.declared.fault.InferFault.{InferFault}
 use Rattle.mk_infer.specs.declared.fault.InferFault.TheVariants as infer
 use Rattle.mk_read.specs.Files.{Told, text_at}
@@ -82,7 +79,7 @@ module _ (reaches : SerialReachesEachOnce) (x : Subject) where
 
 -- ---- the build of the goals
 
-is_settled : {A : Type 0} (answers : value.Graph → Result A Fault → Type 0) (selected : Result value.Graph InferFault) (answer : Result A Fault) → DrawsGraph answers selected answer → inferring.IsSettled selected
+pub is_settled : {A : Type 0} (answers : value.Graph → Result A Fault → Type 0) (selected : Result value.Graph InferFault) (answer : Result A Fault) → DrawsGraph answers selected answer → inferring.IsSettled selected
 is_settled answers (Ok g) answer d = tt
 is_settled answers (Err infer.Memory) answer (w, e) = absurd cc
 is_settled answers (Err (infer.BadGoal place)) answer d = tt
@@ -131,7 +128,7 @@ verdict_is_one one_certificate one_list one_selection reaches files request one 
 
 -- ---- certificates
 
-not_failing : {A : Type 0} (answer : Result A Fault) → IsSettled answer → failing_of answer ≡ None
+pub not_failing : {A : Type 0} (answer : Result A Fault) → IsSettled answer → failing_of answer ≡ None
 not_failing (Ok x) s = refl
 not_failing (Err Memory) s = refl
 not_failing (Err (FileReadFailed name)) s = absurd s

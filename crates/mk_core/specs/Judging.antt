@@ -1,5 +1,5 @@
 -- What a command answers to a build that is judged.
-use Rattle.std.specs.Prelude.{◌≡◌, ◌⊎◌, false, Result, Ok, Err}
+use Rattle.std.specs.Prelude.{◌≡◌, ◌⊎◌, false, Result, Err}
 use Rattle.mk_cert.specs.Entry.{IsFirstFault}
 use Rattle.mk_cert.specs.Subject.{Subject, IsSubject, subject_of}
 use Rattle.mk_graph.specs.Graph.{Graph, IsGraph}

@@ -9,6 +9,8 @@ use Rattle.mk_core.specs.Answer.{Answers}
 use Rattle.mk_core.specs.CheckAnswer.{AnswersCheck, IsYes}
 use Rattle.mk_core.specs.GraphAnswer.{AnswersGraph}
 use Rattle.mk_core.specs.Right.{IsRightFor}
+use Rattle.mk_core.specs.Simulation.{Simulation}
+use Rattle.mk_core.specs.SimulationAnswer.{AnswersSimulation}
 use Rattle.mk_core.specs.VerifyAnswer.{AnswersVerify}
 use Rattle.mk_core.specs.declared.verdict.Verdict.{Verdict}
 
@@ -40,6 +42,13 @@ VerificationIsOne =
     (files : Told) (request : Request) (name : List ℕ) (one other : Result (List ℕ) Fault) →
     IsSettled one → IsSettled other → Answers files request (AnswersVerify files name) one →
     Answers files request (AnswersVerify files name) other → one ≡ other
+
+-- So has one for the run of a plan.
+abbrev pub SimulationIsOne : Type 0
+SimulationIsOne =
+    (files : Told) (request : Request) (plan : List ℕ) (one other : Result Simulation Fault) →
+    IsSettled one → IsSettled other → Answers files request (AnswersSimulation files plan) one →
+    Answers files request (AnswersSimulation files plan) other → one ≡ other
 
 -- Where the answer to a request for a verdict is yes, all is right.
 abbrev pub YesIsRight : Type 0

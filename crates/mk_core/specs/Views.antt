@@ -19,7 +19,7 @@ use Rattle.mk_core.specs.declared.request.Request.{Request}
 use Rattle.mk_core.specs.Answer.{Draws, failing_of}
 use Rattle.mk_core.specs.GraphAnswer.{AnswersGraph, PrintsSelected}
 use Rattle.mk_core.specs.FileText.{text_of}
-use Rattle.mk_core.specs.Ready.{Ready, book_for, exists, setting_of}
+use Rattle.mk_core.specs.Ready.{Ready, book_for, setting_of}
 use Rattle.mk_core.specs.Simulation.{Simulation}
 use Rattle.mk_core.specs.SimulationAnswer.{AnswersSimulation, RunsText}
 use Rattle.mk_core.specs.Steps.{◌>>=◌, as_fault}

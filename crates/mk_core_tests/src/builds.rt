@@ -85,7 +85,7 @@ fn push_records(out: &mut String, records: &str) -> Result<(), AllocError> {
 }
 
 /// The footprints of a build. Where its sources begin with `{`, they are the text itself.
-fn footprints(alloc: Global, build: &str) -> Result<String, AllocError> {
+pub fn footprints(alloc: Global, build: &str) -> Result<String, AllocError> {
     let sources = part(build, 2);
     if sources.starts_with("{") {
         return String::from_str(alloc, sources);

@@ -8,6 +8,8 @@ mod certificates;
 #[cfg(test)]
 mod findings;
 #[cfg(test)]
+mod fronts;
+#[cfg(test)]
 mod graph_texts;
 #[cfg(test)]
 mod rows;

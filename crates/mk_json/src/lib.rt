@@ -11,6 +11,3 @@ pub use fields::{
 };
 pub use kinds::{elements_of, members_of, text_of, texts_of};
 pub use reading::json_of;
-
-#[cfg(test)]
-mod tests;

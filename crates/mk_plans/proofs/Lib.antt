@@ -1,2 +1,9 @@
 pub mod Sets
 pub mod Goals
+pub mod Spelling
+pub mod Reading
+pub mod Numbers
+pub mod Agreeing
+pub mod Following
+pub mod Running
+pub mod Readable

@@ -1,1 +1,3 @@
 pub mod PlanText
+pub mod Spelling
+pub mod PlanLaws

@@ -2,11 +2,15 @@
 #![tactic(auto)]
 
 #[cfg(test)]
+mod certificates;
+#[cfg(test)]
 mod fixtures;
 #[cfg(test)]
 mod foot;
 #[cfg(test)]
 mod infer;
+#[cfg(test)]
+mod json;
 #[cfg(test)]
 mod lines;
 #[cfg(test)]

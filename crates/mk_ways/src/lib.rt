@@ -14,6 +14,3 @@ pub use fault::CertificateFault;
 pub use key::Key;
 pub use reading::read_certificate;
 pub use writing::certificate_text;
-
-#[cfg(test)]
-mod tests;

@@ -27,7 +27,7 @@ none_fails [] fault h none = none
 none_fails (c ∷ cs) fault h fails = elim fails [ inl f ↦ f.0 h.0 | inr later ↦ none_fails cs fault h.1 later.1 ]
 
 -- an allowed step has no test that fails
-not_refused : (g : Graph) (s : Setting) (w : World) (one : model.Step) (fault : StepFault) → model.Allowed g s w one → FirstFails (checks g s w one) fault → ⊥
+pub not_refused : (g : Graph) (s : Setting) (w : World) (one : model.Step) (fault : StepFault) → model.Allowed g s w one → FirstFails (checks g s w one) fault → ⊥
 not_refused g s w one fault allowed fails = none_fails (checks g s w one) fault ((allowed_as g s w one).0 allowed) fails
 
 legal_in : (now first : State) (steps : List code.Step) → now.scene ≡ first.scene → AreLegal now steps → IsLegal first.scene.graph (setting first.scene) (world_of now) (map (step_of first.scene.graph) steps)
@@ -96,7 +96,7 @@ passes_in_one : (g : Graph) (old a b : World) → PassesAllIn g old a → Passes
 passes_in_one g (Idle d) a b h j = h ∙ sym j
 passes_in_one g (Busy m d) a b h j = passes_all_one g m d a b h j
 
-before_one : (g : Graph) (order : Order) (old a b : World) → PassesBefore g order old a → PassesBefore g order old b → a ≡ b
+pub before_one : (g : Graph) (order : Order) (old a b : World) → PassesBefore g order old a → PassesBefore g order old b → a ≡ b
 before_one g (Make jobs goals) old a b h j = h ∙ sym j
 before_one g Stop old a b h j = h ∙ sym j
 before_one g (Begin t) old a b h j = passes_in_one g old a b h j
@@ -138,13 +138,13 @@ legal_or g s old new (x ∷ steps) fault h not legal = elim h [
     same a b e = cc
 
 -- a line that is followed leaves one world, and isn't refused
-follows_one : (stage : Stage) (old a b : World) (order : Order) → Follows stage old a order (Ok tt) → Follows stage old b order (Ok tt) → a ≡ b
+pub follows_one : (stage : Stage) (old a b : World) (order : Order) → Follows stage old a order (Ok tt) → Follows stage old b order (Ok tt) → a ≡ b
 follows_one stage old a b order h j =
     let same = before_one stage.graph order old j.behind h.behind j.passes h.passes in
     let takes = subst (λ (w : World). TakesInTurn stage.graph stage.setting w b (own_steps stage.graph stage.setting (disk_of w) order) (Ok tt)) same j.takes in
     (takes_legal stage.graph stage.setting h.behind a _ h.takes).1 ∙ sym (takes_legal stage.graph stage.setting h.behind b _ takes).1
 
-follows_or : (stage : Stage) (old a b : World) (order : Order) (fault : StepFault) → Follows stage old a order (Ok tt) → IsRefusal stage old b order fault → ⊥
+pub follows_or : (stage : Stage) (old a b : World) (order : Order) (fault : StepFault) → Follows stage old a order (Ok tt) → IsRefusal stage old b order fault → ⊥
 follows_or stage old a b order fault h refusal = elim refusal [
   | inl unknown ↦ false≢true (sym unknown.unknown ∙ h.known)
   | inr fails ↦

@@ -16,3 +16,5 @@ pub mod InTurn
 pub mod Stamps
 pub mod Lines
 pub mod Fronts
+pub mod OneRun
+pub mod OneFirst

@@ -10,3 +10,4 @@ pub mod StepLaws
 pub mod Plans
 pub mod Running
 pub mod RunLaws
+pub mod OneRun

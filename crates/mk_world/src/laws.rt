@@ -1,6 +1,7 @@
 //! Laws of steps and plans. Each is the contract of a function that does nothing: who calls it has
 //! the law.
 
+ghost use Rattle.mk_world.specs.OneRun.{FirstWorldIsOne, RunIsOne};
 ghost use Rattle.mk_world.specs.StepLaws.{AllowedWhereAllHolds};
 ghost use Rattle.mk_world.specs.RunLaws.{TakenStepsAreLegal, LegalStepsAreTaken, FrontsRunFirst};
 
@@ -23,4 +24,14 @@ pub fn legal_steps_are_taken()
 /// run prints, and is then the run of the rest from the world that the front leaves.
 pub fn fronts_run_first()
     ensures { FrontsRunFirst }
+{}
+
+/// A graph and what is recorded have one first world.
+pub fn first_world_is_one()
+    ensures { FirstWorldIsOne }
+{}
+
+/// The lines of a plan have one run from a world.
+pub fn run_is_one()
+    ensures { RunIsOne }
 {}

@@ -1,4 +1,6 @@
-use crate::{
+//! Tests of mk_json: fields that are taken, and kinds of values.
+
+use mk_json::{
     elements_of, fields_of, has_only, integer_at, json_of, members_of, take, take_elements,
     take_text, take_texts, text_of, texts_of,
 };

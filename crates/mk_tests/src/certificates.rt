@@ -1,5 +1,7 @@
-use crate::{Certificate, CertificateFault, Finish, Way, certificate_text, read_certificate};
+//! Tests of mk_ways: certificates as they are written and read.
+
 use mk_lines::{Name, Names};
+use mk_ways::{Certificate, CertificateFault, Finish, Way, certificate_text, read_certificate};
 use std::alloc::{AllocError, Global};
 use std::process::Abort;
 use std::test::Fail;

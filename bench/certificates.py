@@ -1,0 +1,114 @@
+"""Measures `mkcheck verify` on the certificates of large builds, and `mkcheck check` on builds that it finds much of."""
+
+import os
+import sys
+from collections.abc import Callable
+from pathlib import Path
+
+from generate import recipe
+from run import DATA, RUNS, Measure, asked, summary
+from verdicts import GROWTH_BOUND, LARGE, Build, deep, flat, ruled, spent, written
+
+# What is to be reached. The table shows it; no figure makes the run fail.
+MEMORY_BOUND = 8.0
+
+
+def own(count: int) -> Build:
+    """Targets that read a source each."""
+    targets = {f"o{number}": [f"certificates/s{number}"] for number in range(count)}
+    return ruled(list(targets), targets, [file for files in targets.values() for file in files])
+
+
+def reading(count: int) -> Build:
+    """Targets that read a source each, and 200 files of the system, which never change."""
+    build = own(count)
+    system = [f"/usr/include/h{number}.h" for number in range(200)]
+    records = [(target, commands, [*reads, *system]) for target, commands, reads in build.records]
+    return Build(build.text, build.sources, records, ["/usr/"])
+
+
+def carrying(layers: int) -> Build:
+    """Layers of 60 targets, each of which reads all of the next layer, and so carries its recipes."""
+    names = [[f"l{layer}n{column}" for column in range(60)] for layer in range(layers)]
+    below = [*names[1:], []]
+    return ruled(names[0], {name: reads for layer, reads in zip(names, below) for name in layer}, [])
+
+
+def far(count: int) -> Build:
+    """A chain in which each target reads the 40 below it, so that its certificate is long."""
+    names = [f"f{number}" for number in range(count)]
+    rules = [recipe(name, below) for name, below in zip(names, [*([name] for name in names[1:]), []])]
+    records = [(name, [f"touch {name}"], names[number + 1 : number + 41]) for number, name in enumerate(names)]
+    return Build("".join(rules), [], records)
+
+
+def unrecorded(count: int) -> Build:
+    """Targets of which nothing is recorded: a finding for each."""
+    build = flat(count)
+    return Build(build.text, [], [])
+
+
+def unknown(count: int) -> Build:
+    """Targets that read 100 files each of which nothing is known: a finding for each read."""
+    build = flat(count)
+    files = [f"certificates/u{number}" for number in range(100)]
+    return Build(build.text, [], [(target, commands, files) for target, commands, _ in build.records])
+
+
+# Each shape with a size, and one of twice as many targets.
+VERIFIED: list[tuple[Callable[[int], Build], int, int]] = [
+    (own, 1000, 2000),
+    (deep, 2000, 4000),
+    (reading, 1000, 2000),
+    (carrying, 30, 60),
+    (far, 180, 360),
+]
+FOUND: list[tuple[Callable[[int], Build], int, int]] = [(unrecorded, 2000, 4000), (unknown, 2000, 4000)]
+
+
+def measured(command: list[str], status: int, read: list[Path]) -> tuple[float, Measure]:
+    """What is read, in megabytes, and the least time of some runs."""
+    taken = [spent(command, {status}, Path(os.devnull)) for _ in range(RUNS)]
+    return sum(file.stat().st_size for file in read) / 2**20, summary(taken)
+
+
+def verified(program: str, build: Build) -> tuple[float, Measure]:
+    """`verify` of the certificate that `check` gives."""
+    makefile, book = written(build, "certificates")
+    certificate = DATA / "certificates.cert"
+    words = ["-f", makefile.name, "-b", book.name]
+    spent([program, "check", *words, "-c"], {0}, certificate)
+    return measured([program, "verify", *words, "-k", certificate.name], 0, [makefile, book, certificate])
+
+
+def found(program: str, build: Build) -> tuple[float, Measure]:
+    """`check` of a build that is found to be wrong without a search for ways."""
+    makefile, book = written(build, "certificates")
+    return measured([program, "check", "-f", makefile.name, "-b", book.name], 1, [makefile, book])
+
+
+def show(label: str, half: tuple[float, Measure], whole: tuple[float, Measure]) -> None:
+    """A row of the table."""
+    size, figures = whole
+    by_size = f"{figures.memory / size:>7.1f}" if size >= LARGE else ""
+    growth = figures.time / half[1].time
+    print(f"{label:<18}{size:>6.1f}{figures.time:>10.1f}{growth:>8.1f}{figures.memory:>11.0f}{by_size}", flush=True)
+
+
+def main() -> None:
+    program = asked(__doc__)[0].path
+    DATA.mkdir(exist_ok=True)
+    (DATA / "certificates").mkdir(exist_ok=True)
+    os.chdir(DATA)
+    print(f"processor time, least of {RUNS} runs; {program}")
+    print(f"{'verify':<18}{'MB':>6}{'ms':>10}{'growth':>8}{'memory MB':>11}{'by MB':>7}")
+    for shape, smaller, count in VERIFIED:
+        show(f"{shape.__name__} {count}", verified(program, shape(smaller)), verified(program, shape(count)))
+    print(f"{'check':<18}")
+    for shape, smaller, count in FOUND:
+        show(f"{shape.__name__} {count}", found(program, shape(smaller)), found(program, shape(count)))
+    print(f"{'at most':<34}{GROWTH_BOUND:>8.1f}{MEMORY_BOUND:>18.1f}")
+
+
+if __name__ == "__main__":
+    sys.exit(main())
