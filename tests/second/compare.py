@@ -68,6 +68,8 @@ def sort_of(told):
     words = text.split(None, 2)[:2]
     if not words:
         return "usage" if status == 2 else "status %d" % status
+    if text == b"no plan\n":
+        return "no plan"
     if words[0] == b"no":
         kinds = {line.split()[1].decode() for line in text.splitlines() if line}
         return "no " + " ".join(sorted(kinds))

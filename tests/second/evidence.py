@@ -83,16 +83,14 @@ def race_plan(subject, book, recipe, writer):
 
 
 def plan_of_finding(subject, book, number):
-    """The plan of the finding of this number, counted from 1; None where it has none."""
+    """The plan of the finding of this number, counted from 1, or that it has none."""
     found = subject.findings()
-    if not 1 <= number <= len(found):
-        return None
-    words = found[number - 1]
+    words = found[number - 1] if number <= len(found) else [b""]
     if words[0] == b"stale":
         return stale_plan(subject, book, words[1], words[2])
     if words[0] == b"race":
         return race_plan(subject, book, words[1], words[2])
-    return None
+    return b"no plan\n"
 
 
 def shows_race(data, subject, book, recipe, writer):

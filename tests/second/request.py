@@ -49,7 +49,7 @@ class Request:
         self.tell(arguments[1:])
         if any(letter not in self.values for letter in self.NEEDED[self.command]):
             raise Usage
-        if not self.values.get("e", b"1").isdigit():
+        if not self.values.get("e", b"1").isdigit() or int(self.values.get("e", b"1")) == 0:
             raise Usage
         self.operands = [word for word in self.words if b"=" in word]
         self.goals = [word for word in self.words if b"=" not in word]

@@ -25,9 +25,8 @@ def answer(request, files):
     if request.command == "verify":
         subject.verify(file_of(files, request.values["k"]))
         return subject.counts() + b"\n", 0
-    shown = plan_of_finding(subject, book, int(request.values.get("e", b"0")))
-    if shown is not None:
-        return shown, 1
+    if "e" in request.values and subject.findings():
+        return plan_of_finding(subject, book, int(request.values["e"])), 1
     return verdict(subject, "c" in request.flags)
 
 
