@@ -26,6 +26,7 @@ COMMANDS = ["graph", "check", "verify", "simulate", "evidence"]
 GATE_CASES = {"graph": 300, "check": 300, "verify": 250, "simulate": 250, "evidence": 150}
 GATE_SEED = 20261124
 KEPT = 20
+SECONDS = 300
 
 
 def memory_folder():
@@ -56,9 +57,12 @@ def written(folder, files):
 
 
 def asked(program, words, folder):
-    """Standard output and status of the program."""
-    done = subprocess.run([program, *words], cwd=folder, stdin=subprocess.DEVNULL,
-                          stdout=subprocess.PIPE, stderr=subprocess.DEVNULL, check=False)
+    """Standard output and status of the program; no status where it gives no answer."""
+    try:
+        done = subprocess.run([program, *words], cwd=folder, stdin=subprocess.DEVNULL, check=False,
+                              stdout=subprocess.PIPE, stderr=subprocess.DEVNULL, timeout=SECONDS)
+    except subprocess.TimeoutExpired:
+        return b"no answer", None
     return done.stdout, done.returncode
 
 

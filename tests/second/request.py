@@ -62,10 +62,12 @@ class Request:
                 break
             if word == "-" or not word.startswith("-"):
                 self.words.append(os.fsencode(word))
-            elif word[1:] in self.FLAGS[self.command]:
+            elif word[1:] in list(self.FLAGS[self.command]):
                 self.flags.add(word[1:])
-            elif word[1:] in self.VALUES[self.command]:
-                if word[1:] in self.values or not rest or rest[0][:1] == "-" != rest[0]:
+            elif word[1:] in list(self.VALUES[self.command]):
+                if word[1:] in self.values or not rest:
+                    raise Usage
+                if rest[0].startswith("-") and rest[0] != "-":
                     raise Usage
                 self.values[word[1:]] = os.fsencode(rest.pop(0))
             else:
