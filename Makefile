@@ -6,7 +6,7 @@
 PREFIX = /usr/local
 CRATE =
 
-.PHONY: all demo check program edits growths recorder realcheck manuals pages bench
+.PHONY: all demo check program edits growths recorder realcheck manuals pages fuzz bench
 .PHONY: install clean
 
 # rt looks by itself at what changed since the last build, so `all` is always
@@ -64,6 +64,11 @@ realcheck: all
 pages: all
 	@python3 tests/pages/run.py bin/mkcheck
 
+# Asks mkcheck and a second program, which was written from the documents alone,
+# the same random questions.
+fuzz: all
+	@python3 tests/second/compare.py bin/mkcheck
+
 # Reads the manual pages by a linter, where one is there.
 manuals:
 	@if command -v mandoc; then mandoc -T lint -W warning man/*.1; \
@@ -91,5 +96,5 @@ install: all
 
 clean:
 	rm -rf bin bench/data bench/__pycache__ crates/*/out
-	rm -rf tools/mkcheck_record/__pycache__ tests/recorder/__pycache__
+	rm -rf tools/mkcheck_record/__pycache__ tests/recorder/__pycache__ tests/second/__pycache__
 	cd examples/wordcount && rm -f wordcount *.o counted.txt forgotten.mk

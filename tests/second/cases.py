@@ -1,0 +1,206 @@
+"""One random case of a command: the files of a folder, and the words."""
+
+import json
+import os
+
+from book import read_book
+from certificates import certificate_of
+from footprints import Model, book_of, format_one
+from judge import Subject
+from lines import Refused
+from makefiles import mutated, structural
+from plans import WRONG, plan_of
+from graph import Graph, There
+from request import Request, Usage
+from shapes import inferences, jungle, orders
+
+FOLDER = object()
+OPERANDS = [b"X=x.o", b"A=$(B)", b"CC=cc", b"CFLAGS =  -g ", b"A::=$(CFLAGS)$$", b"B:::=$(A) $$v",
+            b"OUT=", b"X = $(Y) z", b"AB=1", b"M1=a.o b.o", b"A=x\ny", b"B=b\tc", b"E=a", b"X:::= $(CC)",
+            b"a.b=%", b"x-y=d/e", b"NONE=zz", b"-O=1", b"X=", b"A=a=b", b"_::=$(A)"]
+ODD_OPERANDS = [b"=x", b"A+=x", b"A:=x", b"A?=x", b"A!=x", b"A B=x", b"A::::=x", b"X::=$(", b"X::=$(X)$",
+                b"X::=$(%)", b"X::=$(REC", b"\xc3\xa9=x", b"$(A)=x", b" =", b"A=$(A)", b"B:::=$(A:x)", b"A==",
+                b"A= =", b"X=$(", b"::=x", b"A:: =x", b"@=x"]
+ODD_GOALS = [b".WAIT", b"-", b"./x", b"lib(x)", b"a//b", b"", b".c", b".c.o", b".o.c", b".PHONY", b"nowhere",
+             b"makefile", b"/usr/x", b"..", b"a%", b"x y", b"\xc3\xa9", b".hid", b".SUFFIXES", b"inc0.mk",
+             b"lib(", b"a;b", b"d/.o", b".hid.o", b"zz.o"]
+USAGE = [["-x"], ["-e"], ["-q", "a"], ["--zz"], ["-f"], ["-f", "makefile", "-f", "makefile"], ["-b", "B", "-b", "B"],
+         ["-k", "K", "-k", "K"], ["-p"], ["-f", "-x"], ["--no", "x"]]
+
+
+def project_of(rng, command, valid):
+    """A makefile with its included files; where `valid`, seldom at fault."""
+    draw = rng.random()
+    if draw < (0.1 if command == "graph" else 0.25):
+        project = inferences(rng)
+    elif draw < (0.12 if command == "graph" else 0.45):
+        project = orders(rng)
+    elif draw < (0.45 if command == "graph" else 0.47):
+        project = jungle(rng)
+    else:
+        project = structural(rng, valid)
+    return mutated(rng, project) if rng.random() < (0.02 if valid else 0.2) else project
+
+
+def words_of(rng, command, valid):
+    """Options and other words, without those that name footprints, certificate and plan."""
+    words = [command]
+    if rng.random() < 0.12:
+        words.append("-r")
+    if command == "graph" and rng.random() < 0.7:
+        words.append("-c")
+    if command == "check" and rng.random() < 0.3:
+        words += ["-c"] * rng.choice([1, 1, 2])
+    if rng.random() < 0.06:
+        words += ["-f", "makefile"]
+    elif rng.random() < 0.03:
+        words += ["-f", rng.choice(["inc0.mk", "./makefile", "-", "gone.mk", "a//b", "folder",
+                                    "makefile/x", "../x", "a b", "folder/"])]
+    if not valid and rng.random() < 0.01:
+        words += rng.choice(USAGE)
+    return words
+
+
+def other_words(rng, project, valid):
+    """Operands and goals, in the order in which they are given."""
+    out = []
+    for _ in range(rng.choice([1, 1, 2, 3]) if rng.random() < 0.2 else 0):
+        odd = not valid and rng.random() < 0.15
+        out.append(rng.choice(ODD_OPERANDS if odd else OPERANDS))
+    for _ in range(rng.choice([1, 1, 2, 2, 3]) if rng.random() < 0.45 else 0):
+        draw = rng.random()
+        if draw < (0.02 if valid else 0.1):
+            goal = rng.choice(ODD_GOALS)
+        else:
+            goal = rng.choice((project.targets if draw < 0.9 else project.names) or [b"a"])
+        out.insert(rng.randint(0, len(out)), goal)
+    if rng.random() < 0.002:
+        out.append(b"\xff")
+    if any(word.startswith(b"-") and word != b"-" for word in out) or rng.random() < 0.02:
+        out.insert(0, b"--")
+    return [os.fsdecode(word) for word in out]
+
+
+def mixed(rng, options, others):
+    """The words in the order in which they are given: others may come before options."""
+    if others[:1] == ["--"] or rng.random() < 0.85:
+        return options + others
+    return options[:1] + others + options[1:]
+
+
+class Case:
+    def __init__(self, files, words):
+        self.files = files
+        self.words = words
+
+
+def named(rng, command, project):
+    """The makefile stands sometimes under the other usual name, or is missing."""
+    draw = rng.random()
+    if draw < 0.04:
+        project.files[b"Makefile"] = project.files.pop(b"makefile")
+    elif draw < 0.045:
+        del project.files[b"makefile"]
+    elif draw < 0.05:
+        project.files[b"makefile"] = FOLDER
+    if rng.random() < 0.02:
+        project.files[b"folder"] = FOLDER
+
+
+def readable(files):
+    return {name: "failed" if data is FOLDER else data for name, data in files.items()}
+
+
+def model_of(rng, project, words):
+    """What the second program makes of the makefile, or None where it refuses it."""
+    try:
+        return Model(rng, WithoutFolders(project), Request(list(words)))
+    except (Refused, Usage):
+        return None
+
+
+class WithoutFolders:
+    """A project as the reading sees it."""
+
+    def __init__(self, project):
+        self.files = readable(project.files)
+        self.names = project.names
+        self.crossing = project.crossing
+        self.inferring = project.inferring
+
+
+def book_for(model, names, valid):
+    if model is None:
+        sources = [name.decode("utf-8") for name in names]
+        return json.dumps({"format": 1, "fixed": [], "sources": sources, "records": []}).encode()
+    try:
+        return book_of(model, valid)
+    except Refused:
+        return json.dumps(format_one(model, [])).encode("utf-8")
+
+
+def case_of(rng, command):
+    """A case of a command."""
+    share = {"graph": 0.0, "check": 0.75, "verify": 0.9, "simulate": 0.9}[command]
+    valid = rng.random() < share
+    project = project_of(rng, command, valid)
+    names = project.targets[:]
+    named(rng, command, project)
+    words = words_of(rng, command, valid)
+    if b"folder" in b"".join(data for data in project.files.values() if data is not FOLDER):
+        project.files[b"folder"] = FOLDER
+    others = other_words(rng, project, valid)
+    project.targets = names
+    if command == "graph" and rng.random() < 0.7:
+        return Case(project.files, mixed(rng, words, others))
+    needed = {"graph": [], "check": [], "verify": ["-k", "K"], "simulate": ["-p", "P"]}[command]
+    model = model_of(rng, project, words + ["-b", "B"] + needed + others)
+    files = project.files
+    files[b"B"] = book_for(model, project.names, valid and rng.random() < 0.8)
+    words += ["-b", "B"]
+    if command == "verify":
+        words += ["-k", "K"]
+        files[b"K"] = judged(rng, model, files[b"B"], certificate_for)
+    if command == "simulate":
+        words += ["-p", "P"]
+        files[b"P"] = judged(rng, model, files[b"B"], plan_for)
+    if rng.random() < 0.01:
+        broken_word(rng, files, words)
+    return Case(files, mixed(rng, words, others))
+
+
+def broken_word(rng, files, words):
+    """An option less, or a file missing, a folder in its place, or not to be read."""
+    name = rng.choice(["B", "K", "P"])
+    if name not in words:
+        return
+    at = words.index(name)
+    kind = rng.randrange(4)
+    if kind == 0:
+        words[at] = rng.choice(["gone", "./B", "makefile/B"])
+    elif kind == 1:
+        files.pop(os.fsencode(name), None)
+    elif kind == 2:
+        files[os.fsencode(name)] = FOLDER
+    else:
+        del words[at - 1:at + 1]
+
+
+def certificate_for(rng, graph, book, passed_over):
+    return certificate_of(rng, Subject(graph, book, passed_over))
+
+
+def plan_for(rng, graph, book, _passed_over):
+    return plan_of(rng, graph, book)
+
+
+def judged(rng, model, data, make):
+    """What `make` gives for the graph under the footprints; something else where there is none."""
+    try:
+        if model is None:
+            raise Refused(0)
+        book = read_book(data, model.goals)
+        there = There(book.sources, book.fixed, model.rules.makefile.texts)
+        return make(rng, Graph(model.rules, model.goals, there), book, model.passed_over)
+    except Refused:
+        return rng.choice([b'{"format":1,"goals":[],"ways":[]}', b"make 1\nend\n", b"x"] + WRONG)

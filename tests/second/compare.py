@@ -1,0 +1,194 @@
+#!/usr/bin/env python3
+"""Asks mkcheck and the second program the same random questions, and compares what they say.
+
+    compare.py PROGRAM [--seed S] [--cases N] [--command C] [--seconds T] [--gate] [--counts]
+
+It prints for each command how many cases were tried, and each case that differs, whose files it keeps.
+"""
+
+import argparse
+import collections
+import os
+import random
+import shutil
+import subprocess
+import sys
+import tempfile
+import time
+
+from cases import FOLDER, case_of
+from evidence import shows
+from limits import limits
+from request import Disk
+from second import answered
+
+COMMANDS = ["graph", "check", "verify", "simulate", "evidence"]
+GATE_CASES = {"graph": 300, "check": 300, "verify": 250, "simulate": 250, "evidence": 150}
+GATE_SEED = 20261124
+KEPT = 20
+SECONDS = 300
+
+
+def memory_folder():
+    """Where files are made soonest."""
+    return "/dev/shm" if os.access("/dev/shm", os.W_OK) else None
+
+
+def emptied(folder):
+    for entry in os.scandir(folder):
+        if entry.is_dir(follow_symlinks=False):
+            shutil.rmtree(entry.path)
+        else:
+            os.unlink(entry.path)
+
+
+def written(folder, files):
+    """The files of a case, in a folder that is emptied first."""
+    emptied(folder)
+    for name, data in files.items():
+        path = os.path.join(folder, os.fsdecode(name))
+        if os.path.dirname(path) != folder:
+            os.makedirs(os.path.dirname(path), exist_ok=True)
+        if data is FOLDER:
+            os.makedirs(path, exist_ok=True)
+        else:
+            with open(path, "wb") as file:
+                file.write(data)
+
+
+def asked(program, words, folder):
+    """Standard output and status of the program; no status where it gives no answer."""
+    try:
+        done = subprocess.run([program, *words], cwd=folder, stdin=subprocess.DEVNULL, check=False,
+                              stdout=subprocess.PIPE, stderr=subprocess.DEVNULL, timeout=SECONDS)
+    except subprocess.TimeoutExpired:
+        return b"no answer", None
+    return done.stdout, done.returncode
+
+
+def sort_of(told):
+    """A short name for what was told, to be counted."""
+    text, status = told
+    words = text.split(None, 2)[:2]
+    if not words:
+        return "usage" if status == 2 else "status %d" % status
+    if text == b"no plan\n":
+        return "no plan"
+    if words[0] == b"no":
+        kinds = {line.split()[1].decode() for line in text.splitlines() if line}
+        return "no " + " ".join(sorted(kinds))
+    if words[0] == b"refused":
+        return b" ".join(words).decode("utf-8", "replace")
+    if b"\nrefused " in text:
+        return "refused " + text.split(b"\nrefused ")[1].split()[0].decode()
+    return {b"yes": "yes", b"goals": "graph", b"plan": "plan ok"}.get(
+        words[0], "certificate" if text.startswith(b"{") else "plan ok")
+
+
+class Comparer:
+    def __init__(self, program, folder):
+        self.program = os.path.abspath(program)
+        self.folder = folder
+        self.tried = collections.Counter()
+        self.sorts = collections.defaultdict(collections.Counter)
+        self.differing = 0
+
+    def compare(self, command, label, case):
+        """Asks both about the case. A plan that shows a race need not be the same one."""
+        written(self.folder, case.files)
+        disk = Disk(self.folder)
+        second = answered(case.words, disk)
+        if command == "evidence" and second[1] == 1:
+            number = 1 + len(second[0]) % (second[0].count(b"\n") + 1)
+            case.words[1:1] = ["-e", str(number)]
+            second = answered(case.words, disk)
+        first = asked(self.program, case.words, self.folder)
+        self.tried[command] += 1
+        if sum(self.tried.values()) % 5000 == 0:
+            print(f"fuzz: {sum(self.tried.values())} cases so far", file=sys.stderr, flush=True)
+        self.sorts[command][sort_of(second)] += 1
+        if first == second or command == "evidence" and shows(first, second, case.words, disk):
+            return
+        self.differing += 1
+        self.report(label, case, first, second)
+
+    def report(self, label, case, first, second):
+        print(f"fuzz: {label} differs: mkcheck {' '.join(map(repr, case.words))}")
+        print(f"  mkcheck {first[1]}: {first[0][:300]!r}")
+        print(f"  second  {second[1]}: {second[0][:300]!r}")
+        if self.differing <= KEPT:
+            kept = os.path.join(tempfile.mkdtemp(prefix="fuzz-"), "files")
+            shutil.copytree(self.folder, kept)
+            with open(os.path.join(os.path.dirname(kept), "words"), "w", encoding="utf-8",
+                      errors="surrogateescape") as file:
+                file.write("\n".join(case.words) + "\n")
+            print(f"  kept in {os.path.dirname(kept)}", flush=True)
+
+    def random_case(self, command, seed, number):
+        rng = random.Random(f"{seed} {command} {number}")
+        case = case_of(rng, "check" if command == "evidence" else command)
+        self.compare(command, f"{command} {number} of seed {seed}", case)
+
+    def all_cases(self, commands, given):
+        """The random cases, of the commands in turn, and those at limits, as time allows."""
+        until = time.monotonic() + given.seconds
+        cases = GATE_CASES if given.gate else dict.fromkeys(COMMANDS, given.cases)
+        for number in range(max(cases[command] for command in commands)):
+            for command in commands:
+                if number < cases[command] and time.monotonic() < until:
+                    self.random_case(command, given.seed, number)
+        for label, command, case in limits(given.gate):
+            if command in commands and time.monotonic() < until:
+                self.compare(command, label, case)
+
+    def told(self, counts):
+        """What was tried, and whether nothing differs."""
+        for command, tried in self.tried.items():
+            print(f"{command}: {tried} cases")
+            for sort, count in sorted(self.sorts[command].items()) if counts else []:
+                print(f"  {sort}: {count}")
+        total = sum(self.tried.values())
+        if self.differing:
+            print(f"fuzz: {self.differing} of {total} cases differ")
+        else:
+            print(f"fuzz: {total} cases agree")
+        return not self.differing
+
+
+def takes_evidence(program):
+    """Whether `check` knows `-e N`, the plan that shows a finding."""
+    with tempfile.TemporaryDirectory() as folder:
+        written(folder, {
+            b"makefile": b"a: b\n\tc\n",
+            b"B": b'{"format":1,"fixed":[],"sources":["b"],"records":[]}'})
+        return asked(os.path.abspath(program), ["check", "-e", "1", "-b", "B"], folder)[1] != 2
+
+
+def arguments():
+    parser = argparse.ArgumentParser(description=__doc__.split("\n", maxsplit=1)[0])
+    parser.add_argument("program")
+    parser.add_argument("--seed", default=GATE_SEED)
+    parser.add_argument("--cases", type=int, default=1000)
+    parser.add_argument("--command", choices=COMMANDS)
+    parser.add_argument("--seconds", type=float, default=float("inf"))
+    parser.add_argument("--gate", action="store_true")
+    parser.add_argument("--counts", action="store_true")
+    return parser.parse_args()
+
+
+def main():
+    given = arguments()
+    commands = [given.command] if given.command else list(COMMANDS)
+    if "evidence" in commands and not takes_evidence(given.program):
+        print("evidence: skipped, since the program knows no check -e")
+        commands.remove("evidence")
+    if not commands:
+        return 0
+    with tempfile.TemporaryDirectory(prefix="fuzz-", dir=memory_folder()) as folder:
+        comparer = Comparer(given.program, folder)
+        comparer.all_cases(commands, given)
+    return 0 if comparer.told(given.counts) else 1
+
+
+if __name__ == "__main__":
+    sys.exit(main())

@@ -1,0 +1,220 @@
+"""Inference rules, goals, the graph of what they reach, and the commands of its nodes."""
+
+from lines import Refused, Unplaced, place, tested_name
+from macros import Locals
+from reading import SPECIAL
+
+NODE_LIMIT = 4096
+
+
+class Node:
+    """A name that the goals reach."""
+
+    def __init__(self, name, groups, recipe, phony):
+        self.name = name
+        self.groups = groups
+        self.recipe = recipe
+        self.phony = phony
+        self.prerequisites = [one for group in groups for one in group]
+
+
+class There:
+    """What counts as there, and as given, besides the targets of the makefile."""
+
+    def __init__(self, sources=(), fixed=(), texts=(), any_leaf=False):
+        self.sources = set(sources)
+        self.fixed = list(fixed)
+        self.texts = set(texts)
+        self.any_leaf = any_leaf
+
+    def is_fixed(self, name):
+        return any(name.startswith(front) for front in self.fixed)
+
+    def is_given(self, name):
+        return name in self.sources or name in self.texts or self.is_fixed(name)
+
+    def is_editable(self, name):
+        return name in self.sources and name not in self.texts
+
+
+class Rules:
+    """What the rule lines say of names, once all is read."""
+
+    def __init__(self, makefile):
+        self.makefile = makefile
+        self.suffixes = makefile.suffixes
+        self.phony = set(makefile.phony)
+        self.known = set(makefile.suffixes)
+        self.targets = set()
+        self.words = {}
+        self.commands = {}
+        for rule in makefile.rules:
+            self.take(rule)
+
+    def take(self, rule):
+        for target in dict.fromkeys(rule.targets):
+            inference = self.is_inference(target)
+            if rule.default and not inference:
+                continue
+            if not inference:
+                self.targets.add(target)
+                self.words.setdefault(target, []).extend(rule.words)
+            if rule.commands is not None:
+                self.commands[target] = rule.commands
+
+    def is_inference(self, name):
+        """Whether a name is a known suffix, or two in a row; a special target is none."""
+        if SPECIAL.match(name):
+            return False
+        return name in self.known or any(
+            name.endswith(suffix) and name[:-len(suffix)] in self.known
+            for suffix in self.known)
+
+    def own_commands(self, name):
+        """The commands of a target by its rule lines, or None without any."""
+        return self.commands.get(name) if name in self.targets else None
+
+    def cut(self, name):
+        """The name without its known suffix, and this suffix; the name and nothing without one."""
+        for suffix in self.known:
+            if name.endswith(suffix) and len(name) > len(suffix):
+                return name[:-len(suffix)], suffix
+        return name, b""
+
+    def choice(self, name, there, more=()):
+        """The suffix whose inference rule makes the name, and the prerequisite; or None."""
+        if self.own_commands(name) is not None or name in self.phony or there.is_fixed(name):
+            return None
+        rest, ending = self.cut(name)
+        for suffix in self.suffixes:
+            made_from = rest + suffix
+            is_there = (made_from in there.sources or made_from in there.texts
+                        or made_from in self.targets or made_from in more)
+            if suffix + ending in self.commands and is_there:
+                return suffix + ending, made_from
+        return None
+
+    def groups(self, name, chosen):
+        """The groups of prerequisites, the inferred one first."""
+        groups = [[]]
+        for word in self.words.get(name, []):
+            if word == b".WAIT":
+                groups.append([])
+            elif self.makefile.not_parallel:
+                groups.append([word])
+            else:
+                groups[-1].append(word)
+        groups = [group for group in groups if group]
+        if chosen is None:
+            return groups
+        if not groups or self.makefile.not_parallel:
+            return [[chosen[1]]] + groups
+        return [[chosen[1]] + groups[0]] + groups[1:]
+
+    def node(self, name, there):
+        chosen = self.choice(name, there)
+        lines = self.commands[chosen[0]] if chosen else self.own_commands(name)
+        return Node(name, self.groups(name, chosen), bool(lines), name in self.phony)
+
+    def expanded(self, node, there):
+        """The commands of a node, and whether they vary from make to make."""
+        chosen = self.choice(node.name, there)
+        lines = self.commands[chosen[0]] if chosen else self.own_commands(node.name)
+        local = Locals(node.name, self.cut(node.name)[0], node.prerequisites)
+        texts = []
+        varies = False
+        for where, text in lines or []:
+            try:
+                expanded, varying = self.makefile.macros.expand(text, local)
+            except Unplaced as fault:
+                raise fault.at(where)
+            texts.append(expanded)
+            varies = varies or varying
+        return texts, varies
+
+
+def goal_names(rules, given):
+    """45, then the goals: those given, each once, or the first target that may be one."""
+    for rule in rules.makefile.rules:
+        inference = any(rules.is_inference(target) for target in rule.targets)
+        if inference and any(word != b".WAIT" for word in rule.words):
+            raise Refused(45, rule.where)
+    for number, goal in enumerate(given, 1):
+        tested_name(goal, place(b"goal", number))
+        if goal in (b".WAIT", b"-"):
+            raise Refused(27, place(b"goal", number))
+    if given:
+        return list(dict.fromkeys(given))
+    for rule in rules.makefile.rules:
+        for target in rule.targets:
+            if target in rules.targets and not rule.default:
+                return [target]
+    raise Refused(44)
+
+
+class Graph:
+    """The nodes that the goals reach, by name, in the order in which a walk meets them."""
+
+    def __init__(self, rules, goals, there):
+        self.rules = rules
+        self.goals = goals
+        self.there = there
+        self.nodes = {}
+        self.meet_all()
+        self.serial = self.serial_order()
+
+    def meet_all(self):
+        waiting = list(reversed(self.goals))
+        while waiting:
+            name = waiting.pop()
+            if name in self.nodes:
+                continue
+            if len(self.nodes) == NODE_LIMIT:
+                raise Refused(43)
+            node = self.rules.node(name, self.there)
+            made = (name in self.rules.targets or node.phony
+                    or self.rules.choice(name, self.there) is not None)
+            if not made and not self.there.any_leaf and not self.there.is_given(name):
+                raise Refused(41, name)
+            self.nodes[name] = node
+            waiting.extend(reversed(node.prerequisites))
+
+    def serial_order(self):
+        """Depth first, left to right, each node after its prerequisites; or 42."""
+        done = {}
+        path = []
+        on_path = set()
+        for goal in self.goals:
+            stack = [(goal, None)]
+            while stack:
+                name, rest = stack.pop()
+                if rest is None:
+                    if name in done:
+                        continue
+                    if name in on_path:
+                        raise Refused(42, *path[path.index(name):], name)
+                    path.append(name)
+                    on_path.add(name)
+                    rest = iter(self.nodes[name].prerequisites)
+                following = next(rest, None)
+                if following is None:
+                    done[name] = True
+                    on_path.remove(path.pop())
+                else:
+                    stack.append((name, rest))
+                    stack.append((following, None))
+        return [self.nodes[name] for name in done]
+
+    def recipes(self):
+        return [node for node in self.serial if node.recipe]
+
+    def text(self, commands):
+        """What `graph` prints."""
+        lines = [b" ".join([b"goals"] + self.goals)]
+        for node in self.serial:
+            head = node.name + b" recipe" * node.recipe + b" phony" * node.phony + b":"
+            listed = b" .WAIT ".join(b" ".join(group) for group in node.groups)
+            lines.append(head + (b" " + listed if listed else b""))
+            for text in self.rules.expanded(node, self.there)[0] if commands else []:
+                lines.append(b"\t" + text)
+        return b"".join(line + b"\n" for line in lines)

@@ -1,0 +1,202 @@
+"""Lines of a text, comments, names, and what is outside references."""
+
+BLANKS = b" \t"
+LINE_LIMIT = 65536
+NAME_LIMIT = 4096
+BAD_IN_NAMES = b"%*?[]:;=#$\\\"'`|&<>()"
+
+
+class Refused(Exception):
+    """A refusal: its number, and its words as bytes."""
+
+    def __init__(self, number, *words):
+        super().__init__(number, words)
+        self.number = number
+        self.words = list(words)
+
+    def line(self):
+        return b" ".join([b"refused", str(self.number).encode()] + self.words)
+
+
+class Unplaced(Exception):
+    """A fault of a line or of a text in it; who knows the place makes a refusal of it."""
+
+    def __init__(self, number, *words):
+        super().__init__(number, words)
+        self.number = number
+        self.words = words
+
+    def at(self, where):
+        return Refused(self.number, where, *self.words)
+
+
+class Line:
+    """A logical line: its first number, whether it is a command line, its text."""
+
+    def __init__(self, first, command, text):
+        self.first = first
+        self.command = command
+        self.text = text
+
+
+def words(text):
+    """The words of a text: its longest parts without blanks."""
+    return [word for word in text.replace(b"\t", b" ").split(b" ") if word]
+
+
+def place(file, number):
+    """FILE:LINE."""
+    return file + b":" + str(number).encode()
+
+
+def newline_is_escaped(piece):
+    """Whether an odd number of backslashes ends the piece."""
+    return (len(piece) - len(piece.rstrip(b"\\"))) % 2 == 1
+
+
+def joined_lines(text):
+    """The logical lines of a text that aren't of blanks alone."""
+    pieces = text.split(b"\n")
+    at = 0
+    while at < len(pieces):
+        first = at + 1
+        command = pieces[at].startswith(b"\t")
+        joined = [pieces[at][1:] if command else pieces[at]]
+        while newline_is_escaped(pieces[at]) and at + 1 < len(pieces):
+            at += 1
+            piece = pieces[at]
+            if command:
+                joined.append(b"\n" + (piece[1:] if piece.startswith(b"\t") else piece))
+            else:
+                joined[-1] = joined[-1][:-1]
+                joined.append(b" ")
+                joined.append(piece.lstrip(BLANKS))
+        at += 1
+        whole = b"".join(joined)
+        if whole.strip(BLANKS):
+            yield Line(first, command, whole)
+
+
+def logical_lines(text, file):
+    """The logical lines of a text, or its first fault among 1, 2 and 3."""
+    lines = []
+    for line in joined_lines(text):
+        if b"\0" in line.text:
+            raise Refused(1, place(file, line.first))
+        if len(line.text) > LINE_LIMIT:
+            raise Refused(2, place(file, line.first))
+        if len(lines) == LINE_LIMIT:
+            raise Refused(3, place(file, line.first))
+        lines.append(line)
+    return lines
+
+
+def first_outside(text, wanted, start=0):
+    """The place of the first byte among the wanted that no reference holds, or None.
+
+    `$(` lasts to its `)` and `${` to its `}`, with references inside; `$$` is
+    passed over as two bytes; another `$` is one byte like any other."""
+    closers = []
+    at = start
+    while at < len(text):
+        two = text[at:at + 2]
+        if two in (b"$$", b"$(", b"${"):
+            if two != b"$$":
+                closers.append(b")" if two == b"$(" else b"}")
+            at += 2
+            continue
+        byte = text[at:at + 1]
+        if closers:
+            if byte == closers[-1]:
+                closers.pop()
+        elif byte in wanted:
+            return at
+        at += 1
+    return None
+
+
+def reference_end(text, start):
+    """The place of the byte that closes the reference whose `$` is at start, or None."""
+    closers = []
+    at = start
+    while at < len(text):
+        two = text[at:at + 2]
+        if two in (b"$$", b"$(", b"${"):
+            if two != b"$$":
+                closers.append(b")" if two == b"$(" else b"}")
+            at += 2
+            continue
+        if text[at:at + 1] == closers[-1]:
+            closers.pop()
+            if not closers:
+                return at
+        at += 1
+    return None
+
+
+WANTED = (b"=", b":", b";")
+
+
+def include_word(text):
+    """The first word, where it makes an include line of the text, else None."""
+    first = words(text)[:1]
+    return first[0] if first and first[0] in (b"include", b"-include") else None
+
+
+def is_rule_line(text):
+    """Whether a text with its comment is a rule line, to know where that may begin."""
+    if include_word(text):
+        return False
+    at = first_outside(text, WANTED)
+    if at is None or text[at:at + 1] != b":":
+        return False
+    return not any(text.startswith(op, at) for op in (b":=", b"::=", b":::="))
+
+
+def uncomment(text):
+    """A plain line without its comment; `\\#` becomes `#`."""
+    limit = len(text)
+    if is_rule_line(text):
+        semicolon = first_outside(text, (b";",))
+        limit = len(text) if semicolon is None else semicolon
+    at = text.find(b"#", 0, limit)
+    while at > 0 and text[at - 1:at] == b"\\":
+        at = text.find(b"#", at + 1, limit)
+    if at >= 0:
+        return text[:at].replace(b"\\#", b"#")
+    return text[:limit].replace(b"\\#", b"#") + text[limit:]
+
+
+def is_plain_path(name):
+    """Whether bytes are a plain path."""
+    try:
+        name.decode("utf-8")
+    except UnicodeDecodeError:
+        return False
+    if not 1 <= len(name) <= NAME_LIMIT or any(byte <= 32 or byte == 127 for byte in name):
+        return False
+    parts = name.split(b"/")
+    absolute = parts[0] == b""
+    if absolute:
+        parts = parts[1:]
+    leading = not absolute
+    for part in parts:
+        if part in (b"", b"."):
+            return False
+        if part == b".." and not leading:
+            return False
+        leading = leading and part == b".."
+    return True
+
+
+def is_make_name(name):
+    return is_plain_path(name) and not any(byte in BAD_IN_NAMES for byte in name)
+
+
+def tested_name(word, where):
+    """The word, or 28 or 27 at that place."""
+    if b"(" in word or b")" in word:
+        raise Refused(28, where)
+    if not is_make_name(word):
+        raise Refused(27, where)
+    return word

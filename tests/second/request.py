@@ -1,0 +1,102 @@
+"""The command line, told apart, and what a request prepares: the graph and its footprints."""
+
+import os
+
+from book import Book, read_book
+from graph import Graph, Rules, There, goal_names
+from lines import Refused
+from reading import read_makefile
+
+FILE_LIMIT = 16777216
+
+
+class Disk:
+    """The files of a folder."""
+
+    def __init__(self, folder="."):
+        self.folder = os.fsencode(folder)
+
+    def read(self, name):
+        """The bytes of a file, None where it isn't there, or "failed"."""
+        try:
+            with open(os.path.join(self.folder, name), "rb") as file:
+                data = file.read(FILE_LIMIT + 1)
+        except FileNotFoundError:
+            return None
+        except OSError:
+            return "failed"
+        return "failed" if len(data) > FILE_LIMIT else data
+
+
+class Usage(Exception):
+    """A fault of the command line."""
+
+
+class Request:
+    """The words of a command line, told apart."""
+
+    VALUES = {"graph": "fb", "check": "fbe", "verify": "fbk", "simulate": "fbp"}
+    FLAGS = {"graph": "rc", "check": "rc", "verify": "r", "simulate": "r"}
+    NEEDED = {"graph": "", "check": "b", "verify": "bk", "simulate": "bp"}
+
+    def __init__(self, arguments):
+        if not arguments or arguments[0] not in self.VALUES:
+            raise Usage
+        self.command = arguments[0]
+        self.values = {}
+        self.flags = set()
+        self.words = []
+        self.tell(arguments[1:])
+        if any(letter not in self.values for letter in self.NEEDED[self.command]):
+            raise Usage
+        if not self.values.get("e", b"1").isdigit() or int(self.values.get("e", b"1")) == 0:
+            raise Usage
+        self.operands = [word for word in self.words if b"=" in word]
+        self.goals = [word for word in self.words if b"=" not in word]
+
+    def tell(self, rest):
+        while rest:
+            word = rest.pop(0)
+            if word == "--":
+                self.words.extend(os.fsencode(one) for one in rest)
+                break
+            if word == "-" or not word.startswith("-"):
+                self.words.append(os.fsencode(word))
+            elif word[1:] in list(self.FLAGS[self.command]):
+                self.flags.add(word[1:])
+            elif word[1:] in list(self.VALUES[self.command]):
+                if word[1:] in self.values or not rest:
+                    raise Usage
+                if rest[0].startswith("-") and rest[0] != "-":
+                    raise Usage
+                self.values[word[1:]] = os.fsencode(rest.pop(0))
+            else:
+                raise Usage
+        for word in self.words:
+            try:
+                word.decode("utf-8")
+            except UnicodeDecodeError:
+                raise Usage
+
+
+def file_of(files, name):
+    """A file besides makefiles: 38 where it isn't there, 35 where it can't be read."""
+    found = files.read(name)
+    if found is None:
+        raise Refused(38, name)
+    if found == "failed":
+        raise Refused(35, name)
+    return found
+
+
+def prepared(request, files):
+    """The graph, its book, and the names that the reading passed over."""
+    makefile = read_makefile(files, request.values.get("f"), "r" not in request.flags,
+                             request.operands)
+    rules = Rules(makefile)
+    goals = goal_names(rules, request.goals)
+    book = Book([], [], {})
+    if "b" in request.values:
+        book = read_book(file_of(files, request.values["b"]), goals)
+    there = There(book.sources, book.fixed, makefile.texts, "b" not in request.values)
+    return Graph(rules, goals, there), book, set(makefile.passed_over)

@@ -1,0 +1,58 @@
+#!/usr/bin/env python3
+"""A second reading of mkcheck's rules: it answers what mkcheck answers."""
+
+import sys
+
+from evidence import plan_of_finding
+from judge import Subject
+from lines import Refused
+from request import Disk, Request, Usage, file_of, prepared
+from world import World, read_plan, run_plan
+
+sys.setrecursionlimit(20000)
+
+
+def answer(request, files):
+    """What is printed, and the status."""
+    graph, book, passed_over = prepared(request, files)
+    if request.command == "graph":
+        return graph.text("c" in request.flags), 0
+    if request.command == "simulate":
+        text, refused = run_plan(World(graph, book),
+                                 read_plan(file_of(files, request.values["p"])))
+        return text, 2 if refused else 0
+    subject = Subject(graph, book, passed_over)
+    if request.command == "verify":
+        subject.verify(file_of(files, request.values["k"]))
+        return subject.counts() + b"\n", 0
+    if "e" in request.values and subject.findings():
+        return plan_of_finding(subject, book, int(request.values["e"])), 1
+    return verdict(subject, "c" in request.flags)
+
+
+def verdict(subject, certificate):
+    found = subject.findings()
+    if found:
+        return b"".join(b" ".join([b"no"] + words) + b"\n" for words in found), 1
+    if certificate:
+        return subject.certificate() + b"\n", 0
+    lines = [subject.counts()]
+    for way in subject.ways():
+        lines.append(b" ".join([b"way", way.recipe, way.file, way.end] + way.path))
+    return b"".join(line + b"\n" for line in lines), 0
+
+
+def answered(arguments, files):
+    """Standard output and status; of a fault of the command line nothing and 2."""
+    try:
+        return answer(Request(list(arguments)), files)
+    except Refused as fault:
+        return fault.line() + b"\n", 2
+    except Usage:
+        return b"", 2
+
+
+if __name__ == "__main__":
+    printed, status = answered(sys.argv[1:], Disk())
+    sys.stdout.buffer.write(printed)
+    sys.exit(status)
