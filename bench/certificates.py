@@ -5,9 +5,8 @@ import sys
 from collections.abc import Callable
 from pathlib import Path
 
-from generate import recipe
 from run import DATA, RUNS, Measure, asked, summary
-from verdicts import GROWTH_BOUND, LARGE, Build, deep, flat, ruled, spent, written
+from verdicts import GROWTH_BOUND, LARGE, Build, deep, far, flat, ruled, spent, written
 
 # What is to be reached. The table shows it; no figure makes the run fail.
 MEMORY_BOUND = 8.0
@@ -32,14 +31,6 @@ def carrying(layers: int) -> Build:
     names = [[f"l{layer}n{column}" for column in range(60)] for layer in range(layers)]
     below = [*names[1:], []]
     return ruled(names[0], {name: reads for layer, reads in zip(names, below) for name in layer}, [])
-
-
-def far(count: int) -> Build:
-    """A chain in which each target reads the 40 below it, so that its certificate is long."""
-    names = [f"f{number}" for number in range(count)]
-    rules = [recipe(name, below) for name, below in zip(names, [*([name] for name in names[1:]), []])]
-    records = [(name, [f"touch {name}"], names[number + 1 : number + 41]) for number, name in enumerate(names)]
-    return Build("".join(rules), [], records)
 
 
 def unrecorded(count: int) -> Build:

@@ -95,7 +95,7 @@ MISSES = [
     b"$(NONE): x\n\ty", b"$(NONE): a = b", b"$(NONE): $(X", b"$(NONE) $(NONE): ; $(", b"a: $(X", b"$(X: a",
     b"X = $(Y", b"a: $(b#c)", b"a: b ; c # d $(X)", b"a: b # ; c", b"a: b \\# ; c", b"X = a \\# b # c", b"#a\\\nb",
     b"a: b ; \\\n\tc", b"a: b \\", b"X = a\\\\", b"X += a\nX += b", b"X ::= $(X) a", b"X = $(X)", b"a: $(REC)\nREC = $(REC)",
-    b"REC = $(REC)\na: $(REC)", b"R1 = $(R2)\nR2 = x$(R1)\n$(R1): x", b"$+=x", b"a::::=x", b"a:::=x", b"a::= x", b"=x",
+    b"REC = $(REC)\na: $(REC)", b"MA = $(MB)\nMB = x$(MA)\n$(MA): x", b"$+=x", b"a::::=x", b"a:::=x", b"a::= x", b"=x",
     b" = x", b"A B = x", b"$(NONE)=x", b"A$(NONE) = x", b"$(X) = y", b"a?b = c", b"a+b=c", b"a! = c", b"a !=c", b"a+ = c",
     b"a: b\x0bc", b"a: b\rc", b"a: b\r", b"x\0y: a", b"X = \0", b"#\0", b"\t\0", b"a: b::c", b"a: b:c", b"a: b: c", b"~: a",
     b"a: =", b"a: $$", b"a: $$x", b"a\\: b", b"a: b\\c", b"a$$: b", b"a,b: c@d", b"a: .PHONY", b"a: .DEFAULT", b"a: -",
