@@ -65,6 +65,24 @@ const STEPS: [(usize, &str, Option<usize>); 7] = [
     (0, "wwwwwww", None),
 ];
 
+/// The nodes are done in turn.
+fn goes_on(
+    rt: &impl Abort,
+    alloc: Global,
+    graph: &Graph,
+    readiness: &mut Readiness,
+) -> Result<(), AllocError>
+    requires { readiness.old.graph ≡ graph.now }
+    ensures { OnOk result (readiness.new.graph ≡ graph.now) }
+{
+    for (number, text, next) in STEPS {
+        done(rt, graph, readiness, number);
+        assert_eq!(rt; shown(alloc, readiness)?.as_str(), text, "{number}");
+        assert_eq!(rt; readiness.next_idle(), next, "{number}");
+    }
+    Ok(())
+}
+
 #[test]
 fn what_is_kept_as_nodes_are_done(rt: HostRuntime) -> Result<(), Fail> {
     let alloc = rt.alloc();
@@ -73,11 +91,7 @@ fn what_is_kept_as_nodes_are_done(rt: HostRuntime) -> Result<(), Fail> {
     assert_eq!(rt; shown(alloc, &readiness)?.as_str(), "-------");
     begin(&rt, alloc, &graph, &mut readiness, &[0])?;
     assert_eq!(rt; shown(alloc, &readiness)?.as_str(), "wwt-wt-");
-    for (number, text, next) in STEPS {
-        done(&rt, &graph, &mut readiness, number);
-        assert_eq!(rt; shown(alloc, &readiness)?.as_str(), text, "{number}");
-        assert_eq!(rt; readiness.next_idle(), next, "{number}");
-    }
+    goes_on(&rt, alloc, &graph, &mut readiness)?;
     begin(&rt, alloc, &graph, &mut readiness, &[6])?;
     assert_eq!(rt; shown(alloc, &readiness)?.as_str(), "------t");
     Ok(())

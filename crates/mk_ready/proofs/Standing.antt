@@ -1,5 +1,5 @@
 -- What is kept of a make, as nodes are looked at and done.
-use Rattle.std.proofs.Common.{◌≡◌, ◌≢◌, ℕ, zero, suc, ◌+◌, ◌<◌, ◌≤◌, Bool, true, false, List, [], ◌∷◌, ◌++◌, length, get_or, set, map, replicate, Vec, inl, inr, ◌⊎◌, refl, sym, ap, subst, ◌∙◌, arith}
+use Rattle.std.proofs.Common.{◌≡◌, ◌≢◌, ℕ, zero, suc, ◌<◌, false, List, [], ◌∷◌, length, get_or, set, map, replicate, Vec, inl, inr, ◌⊎◌, refl, sym, ap, subst, ◌∙◌, arith}
 use Rattle.std.specs.Prelude.{◌↔◌}
 use Rattle.std.specs.Vec.{with_item}
 use Rattle.std.specs.declared.alloc.Global.{Global}
@@ -11,13 +11,13 @@ use Rattle.mk_graph.specs.Membership.{Has}
 use Rattle.mk_graph.specs.Graph.{Graph, IsGraph, node, no_node, prerequisites}
 use Rattle.mk_graph.specs.GrowthLaws.{WantedGrows, TurnsStay}
 use Rattle.mk_graph.specs.Serial.{serial_order}
-use Rattle.mk_graph.specs.Turns.{Wanted, goal, onward, MayTurn}
+use Rattle.mk_graph.specs.Turns.{Wanted, goal, onward}
 use Rattle.mk_graph.specs.Without.{joined}
 use Rattle.mk_ready.specs.Rest.{Rest}
 use Rattle.mk_ready.specs.Left.{IsLeft, IsStopped}
 use Rattle.mk_ready.specs.Progress.{Progress, IsIdle, IsFirstIdle, AreNotIdle}
 use Rattle.mk_ready.specs.Stages.{Wants, WantsOpened, Wakes, IsOpened, to_come, work}
-use Rattle.mk_ready.specs.State.{no_rest, fresh, rest_at, stage, node_at, progress, IsSettled, Stands, IsAtRest}
+use Rattle.mk_ready.specs.State.{no_rest, fresh, rest_at, stage, node_at, progress, Stands, IsAtRest}
 use Rattle.mk_ready.specs.declared.state.State.{State}
 use Rattle.mk_ready.proofs.Stepping.{left_grows, open_wanted, over_done, done_over, left_member, behind_member, work_set, still_stopped}
 

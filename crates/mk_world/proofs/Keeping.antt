@@ -1,12 +1,10 @@
 -- What is kept of the make in progress, as steps are taken.
 use Rattle.std.proofs.Common.{◌≡◌, ℕ, ◌<◌, true, false, List, [], ◌∷◌, ◌++◌, map, length, filter, not, nat_eq, Option, None, Some, Result, Ok, Err, OnOk, OnErr, inl, inr, ◌⊎◌, refl, sym, ap, subst, ◌∙◌}
-use Rattle.std.specs.Prelude.{◌↔◌}
 use Rattle.std.proofs.lemmas.Bool.{true≢false}
 use Rattle.mk_graph.specs.Membership.{Has}
-use Rattle.mk_graph.specs.Graph.{Graph, IsGraph, node}
+use Rattle.mk_graph.specs.Graph.{Graph, node}
 use Rattle.mk_graph.specs.GrowthLaws.{TurnsStay}
-use Rattle.mk_graph.specs.Schedule.{Step, Edit, Make, Begin, Look, Put, End, Pass, Stop, EndMake, looked, has_put, finished}
-use Rattle.mk_graph.specs.Schedule as model
+use Rattle.mk_graph.specs.Schedule.{Step, Edit, Make, Begin, Look, Put, End, Pass, Stop, EndMake, looked, has_put}
 use Rattle.mk_graph.specs.SerialMake.{puts, rest_of_run}
 use Rattle.mk_graph.specs.Setting.{FileName, Setting, reads, writes}
 use Rattle.mk_graph.specs.Serial.{serial_order}
@@ -19,7 +17,7 @@ use Rattle.mk_world.specs.State.{Scene, MakeState, DiskState, setting, making_of
 use Rattle.mk_world.specs.State as lists
 use Rattle.mk_world.specs.Fits.{Fits}
 use Rattle.mk_world.specs.Kept.{IsKept, IsKeptIn}
-use Rattle.mk_world.specs.Running.{IsIdle, IsFirstIdle, AreNotIdle, TakesInTurn, Refuses}
+use Rattle.mk_world.specs.Running.{IsIdle, IsFirstIdle, AreNotIdle, TakesInTurn}
 use Rattle.mk_world.specs.Steps.{Takes, Judges}
 use Rattle.mk_world.proofs.Changes.{left}
 

@@ -1,4 +1,4 @@
-use Rattle.std.proofs.Common.{◌≡◌, ℕ, List, [], ◌∷◌, ◌++◌, take, get_or, sym, subst}
+use Rattle.std.proofs.Common.{ℕ, List, [], ◌∷◌, take, get_or, sym, subst}
 use Rattle.std.proofs.lemmas.List.{take_more}
 use Rattle.mk_graph.specs.Turns.{HasAll}
 use Rattle.mk_ready.proofs.Lists.{all_joined}

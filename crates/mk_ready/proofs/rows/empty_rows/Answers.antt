@@ -1,4 +1,4 @@
-use Rattle.std.proofs.Common.{◌≡◌, ◌++◌, ◌∷◌, [], List, ℕ, arith, ap, sym, ◌∙◌, replicate}
+use Rattle.std.proofs.Common.{◌≡◌, [], List, ℕ, arith, ap, ◌∙◌, replicate}
 use Rattle.mk_ready.proofs.rows.empty_rows.Goals as goal
 
 pub returns : goal.returns

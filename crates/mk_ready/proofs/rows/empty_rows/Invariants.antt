@@ -1,4 +1,4 @@
-use Rattle.std.proofs.Common.{◌≡◌, replicate, [], map, List, ℕ, Vec}
+use Rattle.std.proofs.Common.{◌≡◌, replicate, [], map, ℕ, Vec}
 use Rattle.std.specs.declared.alloc.Global.{Global}
 use Rattle.mk_ready.proofs.rows.empty_rows.Given as goal
 

@@ -1,4 +1,4 @@
-use Rattle.std.proofs.Common.{◌<◌, ℕ, length, get_or, arith}
+use Rattle.std.proofs.Common.{ℕ, arith}
 use Rattle.std.proofs.lemmas.List.{length-set}
 use Rattle.mk_ready.proofs.Lists.{has_at}
 use Rattle.mk_ready.proofs.Users.{notes}

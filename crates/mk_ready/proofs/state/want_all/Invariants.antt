@@ -1,5 +1,4 @@
-use Rattle.std.proofs.Common.{◌≡◌, ℕ, ◌≤◌, take, drop, length, get_or, ◌⊎◌}
-use Rattle.mk_graph.specs.Membership.{Has}
+use Rattle.std.proofs.Common.{take}
 use Rattle.mk_ready.specs.Stages.{Wants}
 use Rattle.mk_ready.proofs.state.want_all.Given as goal
 

@@ -1,11 +1,8 @@
 use Rattle.std.proofs.Common.{◌<◌, length, refl, sym, subst, arith}
 use Rattle.mk_graph.specs.Graph.{IsGraph}
-use Rattle.mk_graph.specs.Serial.{serial_order}
-use Rattle.mk_ready.specs.Progress.{Progress}
 use Rattle.mk_world.specs.State.{making_of, setting, disk_of, busy}
 use Rattle.mk_world.specs.State as lists
 use Rattle.mk_world.specs.Fits.{Fits}
-use Rattle.mk_world.specs.Running.{IsFirstIdle}
 use Rattle.mk_world.proofs.Changes.{finished_fits}
 use Rattle.mk_world.proofs.Idle.{missing, idle_low, idle_fewer, passed_more, passes_lead}
 use Rattle.mk_world.proofs.Keeping.{first_from, none_from, kept_done}

@@ -1,6 +1,5 @@
-use Rattle.std.proofs.Common.{◌≡◌, ℕ, List, get_or, ap, sym, subst, ◌∙◌, arith}
+use Rattle.std.proofs.Common.{arith}
 use Rattle.mk_graph.specs.Serial.{serial_order}
-use Rattle.mk_ready.specs.Progress.{IsIdle, AreNotIdle, IsFirstIdle}
 use Rattle.mk_ready.specs.State.{progress}
 use Rattle.mk_ready.proofs.Standing.{idle_marked, first_at, none_at}
 use Rattle.mk_ready.proofs.readiness.Readiness.next_idle.Goals as goal

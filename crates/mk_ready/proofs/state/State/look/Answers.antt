@@ -1,11 +1,11 @@
-use Rattle.std.proofs.Common.{◌≡◌, ℕ, ◌<◌, List, [], false, get_or, length, set, ap, sym, subst, ◌∙◌, arith}
+use Rattle.std.proofs.Common.{◌≡◌, ℕ, ◌<◌, List, [], false, length, set, ap, sym, subst, ◌∙◌, arith}
 use Rattle.std.proofs.lemmas.Bool.{true≢false}
 use Rattle.mk_graph.specs.Membership.{Has}
 use Rattle.mk_graph.specs.Graph.{Graph, node}
 use Rattle.mk_ready.specs.Rest.{Rest}
 use Rattle.mk_ready.specs.Left.{IsLeft}
 use Rattle.mk_ready.specs.Stages.{WantsOpened}
-use Rattle.mk_ready.specs.State.{no_rest, rest_at, stage}
+use Rattle.mk_ready.specs.State.{no_rest, stage}
 use Rattle.mk_ready.proofs.Lists.{at_any}
 use Rattle.mk_ready.proofs.Standing.{MarksOne, looked, looked_less, behind_low, written_left, marks_none, marks_one}
 use Rattle.mk_ready.proofs.state.State.look.Goals as goal

@@ -1,7 +1,6 @@
-use Rattle.std.proofs.Common.{◌≡◌, ℕ, List, length, map, replicate, get_or, ap, sym, subst, ◌∙◌, arith}
+use Rattle.std.proofs.Common.{◌≡◌, ℕ, List, length, map, get_or, ap, ◌∙◌, arith}
 use Rattle.mk_graph.specs.declared.node.Node.{Node}
 use Rattle.mk_graph.specs.Graph.{Graph}
-use Rattle.mk_graph.specs.Serial.{serial_order}
 use Rattle.mk_ready.specs.State.{fresh}
 use Rattle.mk_ready.proofs.Standing.{zero_at, zeros_many, blank}
 use Rattle.mk_ready.proofs.state.State.new.Goals as goal

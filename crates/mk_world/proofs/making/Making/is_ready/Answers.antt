@@ -1,4 +1,4 @@
-use Rattle.std.proofs.Common.{◌≡◌, true, not, inl, inr, ap, sym, ◌∙◌}
+use Rattle.std.proofs.Common.{not, inl, inr, ap, sym, ◌∙◌}
 use Rattle.std.proofs.lemmas.Bool.{cases_Bool, true≢false, false≢true}
 use Rattle.mk_world.proofs.Keeping.{turn_from, turn_to}
 use Rattle.mk_world.proofs.making.Making.is_ready.Goals as goal

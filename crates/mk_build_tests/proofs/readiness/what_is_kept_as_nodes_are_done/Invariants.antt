@@ -1,5 +1,0 @@
-use Rattle.std.proofs.Common.{◌≡◌}
-use Rattle.mk_build_tests.proofs.readiness.what_is_kept_as_nodes_are_done.Given as goal
-
-abbrev pub invariant-loop-number : goal.invariant-loop-number
-invariant-loop-number l = l.readiness.graph ≡ l.graph
