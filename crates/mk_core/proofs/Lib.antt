@@ -8,3 +8,4 @@ pub mod Simulating
 pub mod Builds
 pub mod Promising
 pub mod OneVerdict
+pub mod Showing

@@ -47,7 +47,7 @@ fn run_over(alloc: Global, files: &mut MemFiles, asked: &Request) -> Result<Vec<
 }
 
 /// The plan that shows the finding of a build under a number.
-fn plan_for(alloc: Global, build: &str, number: u64) -> Result<Vec<u8>, Fail> {
+pub(crate) fn plan_for(alloc: Global, build: &str, number: u64) -> Result<Vec<u8>, Fail> {
     let mut files = files_of_build(alloc, build)?;
     Ok(plan_over(alloc, &mut files, &request_of(alloc, build)?, number)?)
 }
@@ -60,7 +60,7 @@ fn ran(alloc: Global, build: &str, plan: &[u8]) -> Result<Vec<u8>, Fail> {
 }
 
 /// The number that a row names, and 0 for none.
-fn number_in(row: &str) -> u64 {
+pub(crate) fn number_in(row: &str) -> u64 {
     match part(row, 4).parse::<u64>() {
         Ok(number) => number,
         Err(_) => 0,

@@ -2,10 +2,10 @@
 #![tactic(auto)]
 
 mod bound;
-mod evidence;
 mod history;
 mod making;
 mod race;
+mod showing;
 mod stale;
 
-pub use evidence::evidence;
+pub use showing::evidence;
