@@ -25,10 +25,10 @@ fn numbered(found: &[Finding], number: u64) -> Option<&Finding>
         ((finding : found.Finding) → ¬ (IsNumbered found.now number finding))
         (λ finding. IsNumbered found.now number finding.now) }
 {
-    if number == 0 {
+    if number == 0 || number > found.len() as u64 {
         return None;
     }
-    found.get((number - 1) as usize)
+    Some(&found[(number - 1) as usize])
 }
 
 /// The plan that shows what is found under this number, if there is one.

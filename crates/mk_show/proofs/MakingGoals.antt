@@ -1,11 +1,12 @@
 -- How histories go on by makes of all goals and by edits.
-use Rattle.std.proofs.Common.{◌≡◌, ℕ, ◌+◌, ◌<◌, List, [], ◌∷◌, ◌++◌, length, map, Option, Some, None, true, false, ◌⊎◌, inl, inr, ◌↔◌, refl, sym, ◌∙◌, ap, subst, append_assoc, arith}
+use Rattle.std.proofs.Common.{◌≡◌, ℕ, ◌+◌, ◌*◌, ◌<◌, ◌≤◌, List, [], ◌∷◌, ◌++◌, length, map, Option, Some, None, true, false, ◌⊎◌, inl, inr, ◌↔◌, refl, sym, ◌∙◌, ap, subst, append_assoc, arith}
 use Rattle.std.proofs.lemmas.List.{map-append}
 use Rattle.mk_graph.specs.Membership.{Has}
 use Rattle.mk_graph.specs.Graph.{Graph, IsGraph, Reached, goal, onward}
 use Rattle.mk_graph.specs.Laws.{OrderOfAllGoals, SerialReachesEachOnce}
 use Rattle.mk_graph.specs.Serial.{serial_order}
-use Rattle.mk_graph.specs.Setting.{FileName, Setting}
+use Rattle.mk_graph.specs.Setting.{FileName, Setting, writings}
+use Rattle.mk_graph.specs.BuildLaws.{FirstIsAStart, StaleIsShown}
 use Rattle.mk_graph.specs.World.{Disk, World, Idle, Busy, IsFirst, last_stamp}
 use Rattle.mk_graph.specs.World as model_world
 use Rattle.mk_graph.specs.Schedule as model
@@ -16,13 +17,17 @@ use Rattle.mk_graph.specs.Stale.{Chain, IsEditOf, stale_history, MakesGoalsBut, 
 use Rattle.mk_world.specs.declared.step.Step.{Step}
 use Rattle.mk_world.specs.State.{Scene, DiskState, MakeState, State, setting, disk_of, world_in, world_of}
 use Rattle.mk_world.specs.Steps.{step_of, IsFirstOf}
-use Rattle.mk_cert.specs.Subject.{Subject, footprints}
+use Rattle.mk_cert.specs.Candidates.{static_candidates}
+use Rattle.mk_cert.specs.Conditions.{IsStale}
+use Rattle.mk_cert.specs.Laws.{NothingFoundIsSound}
+use Rattle.mk_cert.specs.Listing.{Lists}
+use Rattle.mk_cert.specs.Subject.{Subject, IsSubject, footprints}
 use Rattle.mk_show.specs.Histories.{History, MayGoOn, GoesOn, MakesOn, GoesOnMaking}
 use Rattle.mk_show.specs.Makes.{IsIdle, MakesGoalsOn, MayMakeGoals, GoesOnMakingGoals, IsEditOn, MayEdit, GoesOnEditing}
 use Rattle.mk_show.specs.Shown.{EndsStale}
 use Rattle.mk_show.proofs.Histories.{goes_further, may_further}
-use Rattle.mk_show.proofs.Steps.{makes_exist, legal_front, after_appended}
-use Rattle.mk_show.proofs.StaleSteps.{AreShown, same_passed, first_legal, edit_legal, second_legal}
+use Rattle.mk_show.proofs.Steps.{makes_alike, makes_exist, legal_front, after_appended}
+use Rattle.mk_show.proofs.StaleSteps.{AreShown, first_legal, edit_legal, second_legal}
 use Rattle.mk_show.proofs.FirstDisks.{one_first}
 
 -- what a graph reaches are its nodes
@@ -174,6 +179,12 @@ module _ (x : Subject) (d : Disk) (h : History) (xs : List model.Step) (came : C
     pub came_editing : Came x d k (xs ++ edited.edit)
     came_editing = came_on k edited.edit edited.goes_on edited.idle
 
+-- where nothing static is found, and there are stamps enough, a stale read can be shown
+pub are_shown : FirstIsAStart → NothingFoundIsSound → OrderOfAllGoals → StaleIsShown → (x : Subject) → IsGraph x.graph → IsSubject x → Lists x (static_candidates x) [] → (t : ℕ) (f : FileName) → IsStale x t f → (d : Disk) → IsFirst x.graph (footprints x.setting) d
+    → d.clock + (2 * writings x.graph (footprints x.setting) (serial_order x.graph) + 1) ≤ last_stamp → AreShown x.graph (footprints x.setting) t f d
+are_shown starts sound all stale x is is_subject none t f is_stale d first room edited_first edit second shows =
+    stale x.graph (footprints x.setting) is (sound x is is_subject none) t f is_stale.0 is_stale.1 is_stale.2 d (starts x.graph (footprints x.setting) d first) (subst (λ (order : List ℕ). d.clock + (2 * writings x.graph (footprints x.setting) order + 1) ≤ last_stamp) (sym (all x.graph)) room) edited_first edit second shows
+
 -- The history of a stale read, part by part.
 module _ (x : Subject) (t : ℕ) (f : FileName) (passed : List ℕ) (exact : (n : ℕ) → Has passed n ↔ Chain x.graph (footprints x.setting) t n) (none : List ℕ) (empty : (n : ℕ) → ¬ (Has none n)) (one : History) (first : IsFirstOf x.graph x.setting one.world) (no_steps : one.steps ≡ []) (shown : AreShown x.graph (footprints x.setting) t f (disk_of one.world.disk)) where
   came_one : Came x (disk_of one.world.disk) one []
@@ -181,7 +192,7 @@ module _ (x : Subject) (t : ℕ) (f : FileName) (passed : List ℕ) (exact : (n 
 
   -- where nothing is to be passed all is made
   makes_all : (steps : List model.Step) → MakesGoalsBut x.graph (footprints x.setting) (Has none) (disk_of one.world.disk) steps → MakesGoalsBut x.graph (footprints x.setting) (λ n. ⊥) (disk_of one.world.disk) steps
-  makes_all steps makes = same_passed x.graph (footprints x.setting) (Has none) (λ n. ⊥) (λ n. (λ h. empty n h, λ h. absurd h)) makes
+  makes_all steps makes = makes_alike x.graph (footprints x.setting) (Has none) (λ n. ⊥) empty (λ n h. absurd h) makes
 
   -- the first make
   pub may_make_first : MayMakeGoals one none
@@ -191,7 +202,7 @@ module _ (x : Subject) (t : ℕ) (f : FileName) (passed : List ℕ) (exact : (n 
     makes_first : MakesGoalsBut x.graph (footprints x.setting) (λ n. ⊥) (disk_of one.world.disk) made.steps
     makes_first = makes_all made.steps (makes_there x (disk_of one.world.disk) one [] came_one two none made)
 
-    came_two : Came x (disk_of one.world.disk) two (one_make x.graph.goals made.steps)
+    pub came_two : Came x (disk_of one.world.disk) two (one_make x.graph.goals made.steps)
     came_two = came_making x (disk_of one.world.disk) one [] came_one two none made
 
     -- the edit
@@ -202,12 +213,12 @@ module _ (x : Subject) (t : ℕ) (f : FileName) (passed : List ℕ) (exact : (n 
       edits_then : IsEditOf (footprints x.setting) f (model.disk_after x.graph (footprints x.setting) (disk_of one.world.disk) (one_make x.graph.goals made.steps)) edited.edit
       edits_then = edits_there x (disk_of one.world.disk) two (one_make x.graph.goals made.steps) came_two three f edited
 
-      came_three : Came x (disk_of one.world.disk) three (one_make x.graph.goals made.steps ++ edited.edit)
+      pub came_three : Came x (disk_of one.world.disk) three (one_make x.graph.goals made.steps ++ edited.edit)
       came_three = came_editing x (disk_of one.world.disk) two (one_make x.graph.goals made.steps) came_two three f edited
 
       -- what the set has is passed
       makes_but : (steps : List model.Step) → (e : Disk) → MakesGoalsBut x.graph (footprints x.setting) (Has passed) e steps → MakesGoalsBut x.graph (footprints x.setting) (Chain x.graph (footprints x.setting) t) e steps
-      makes_but steps e makes = same_passed x.graph (footprints x.setting) (Has passed) (Chain x.graph (footprints x.setting) t) exact makes
+      makes_but steps e makes = makes_alike x.graph (footprints x.setting) (Has passed) (Chain x.graph (footprints x.setting) t) (λ n. (exact n).0) (λ n. (exact n).1) makes
 
       -- the second make
       pub may_make_second : MayMakeGoals three passed

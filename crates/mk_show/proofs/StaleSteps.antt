@@ -10,13 +10,7 @@ use Rattle.mk_graph.specs.Clean.{order_of}
 use Rattle.mk_graph.specs.SerialMake.{one_make}
 use Rattle.mk_graph.specs.InTurn.{MakesBut, ends, passes, runs}
 use Rattle.mk_graph.specs.Stale.{Chain, IsEditOf, stale_history, MakesGoalsBut, ShowsStale, IsLaterThanAll}
-use Rattle.mk_show.proofs.Steps.{makes_exist, legal_front, legal_behind}
-
--- nodes are made in the same steps where the same nodes are to be passed
-pub same_passed : (g : Graph) (s : Setting) (some others : ℕ → Type 0) → ((n : ℕ) → some n ↔ others n) → {w : World} {ns : List ℕ} {steps : List Step} → MakesBut g s some w ns steps → MakesBut g s others w ns steps
-same_passed g s some others same ends = ends
-same_passed g s some others same (passes {n = n} why rest) = passes (elim why [ inl none ↦ inl none | inr is ↦ inr ((same n).0 is) ]) (same_passed g s some others same rest)
-same_passed g s some others same (runs {t = t} recipe not rest) = runs recipe (λ is. not ((same t).1 is)) (same_passed g s some others same rest)
+use Rattle.mk_show.proofs.Steps.{makes_alike, makes_exist, legal_front, legal_behind}
 
 -- there is an edit of an editable file, or none of another
 edit_exists : (s : Setting) (f : FileName) (d : Disk) → (edit : List Step) × IsEditOf s f d edit
@@ -32,7 +26,7 @@ module _ (g : Graph) (s : Setting) (t : ℕ) (f : FileName) (d : Disk) where
     second_exists : (before : Disk) → (steps : List Step) × MakesGoalsBut g s (Chain g s t) before steps
     second_exists before =
         let some = makes_exist g s passed (Busy (make_of 1 g.goals) before) (order_of g g.goals) in
-        (some.0, same_passed g s (Has passed) (Chain g s t) exact some.1)
+        (some.0, makes_alike g s (Has passed) (Chain g s t) (λ n. (exact n).0) (λ n. (exact n).1) some.1)
 
     -- the first make is legal
     pub first_legal : IsLegal g s (Idle d) (one_make g.goals first)

@@ -56,6 +56,12 @@ Shows x finding steps =
     (d : Disk) → IsFirst x.graph (footprints x.setting) d →
     ShowsFrom x d finding (map (step_of x.graph) steps)
 
+-- The steps show that this read is stale: they do from the first disk of the world.
+abbrev pub ShowsStaleRead : Subject → ℕ → FileName → List Step → Type 0
+ShowsStaleRead x t f steps =
+    (d : Disk) → IsFirst x.graph (footprints x.setting) d →
+    EndsStale x.graph (footprints x.setting) d t f (map (step_of x.graph) steps)
+
 -- the finding is a race or a stale read
 abbrev pub IsOfHistories : Finding → Type 0
 IsOfHistories (Race recipe writer f) = Unit {0}

@@ -6,8 +6,10 @@ ghost use Rattle.mk_show.specs.Shown.{IsNotShown, IsTold, Shows};
 
 use crate::race::race;
 use crate::stale::stale;
+use mk_cert::laws::listed_exactly;
 use mk_cert::{Finding, Subject};
 use mk_graph::Graph;
+use mk_graph::growth_laws::names_have_one_number;
 use mk_lines::Name;
 use mk_world::Step;
 use std::alloc::{AllocError, Global};
@@ -42,10 +44,15 @@ pub fn evidence(
     ensures { IfOk result (λ found. MatchOption found (IsNotShown subject.now finding.now)
         (λ steps. Shows subject.now finding.now steps.items)) }
 {
+    listed_exactly();
+    names_have_one_number();
     let graph = subject.graph();
     match finding {
         Finding::Race { recipe, writer, .. } => {
-            let (Some(o), Some(t)) = (number_of(graph, writer), number_of(graph, recipe)) else {
+            let Some(o) = number_of(graph, writer) else {
+                return Ok(None);
+            };
+            let Some(t) = number_of(graph, recipe) else {
                 return Ok(None);
             };
             race(alloc, subject, o, t)

@@ -1,17 +1,18 @@
 //! Evidence for a stale read.
 
-ghost use Rattle.std.specs.Prelude.{◌≡◌, ◌<◌, ◌↔◌, [], ℕ, length, map, IfOk, MatchOption, OnOk};
+ghost use Rattle.std.specs.Prelude.{◌≡◌, ◌<◌, ◌≤◌, ◌+◌, ◌*◌, ◌↔◌, [], ℕ, length, IfOk, MatchOption, OnOk};
 ghost use Rattle.mk_graph.specs.Membership.{Has};
 ghost use Rattle.mk_graph.specs.Serial.{serial_order};
 ghost use Rattle.mk_graph.specs.Stale.{Chain};
-ghost use Rattle.mk_graph.specs.World.{Disk, IsFirst};
-ghost use Rattle.mk_world.specs.Steps.{step_of};
+ghost use Rattle.mk_graph.specs.Setting.{writings};
+ghost use Rattle.mk_graph.specs.World.{last_stamp};
+ghost use Rattle.mk_world.specs.Steps.{IsFirstOf};
 ghost use Rattle.mk_cert.specs.Candidates.{static_candidates};
 ghost use Rattle.mk_cert.specs.Conditions.{IsStale};
 ghost use Rattle.mk_cert.specs.Listing.{Lists};
 ghost use Rattle.mk_cert.specs.Subject.{footprints};
 ghost use Rattle.mk_show.specs.Makes.{GoesOnEditing, GoesOnMakingGoals, IsIdle, MayEdit, MayMakeGoals};
-ghost use Rattle.mk_show.specs.Shown.{EndsStale, HasStamps};
+ghost use Rattle.mk_show.specs.Shown.{HasStamps, ShowsStaleRead};
 
 use crate::bound::has_stamps;
 use crate::history::History;
@@ -89,6 +90,36 @@ fn edit_if_editable(
     Ok(())
 }
 
+/// A make of all goals, an edit of the file where it is editable, and a make of all goals again in
+/// which these nodes are passed.
+fn make_edit_make(
+    subject: &Subject<'_>,
+    history: &mut History<'_>,
+    t: usize,
+    file: &str,
+    passed: &NodeSet,
+) -> Result<(), AllocError>
+    requires nothing { Lists subject.now (static_candidates subject.now) [] }
+    requires stale { IsStale subject.now t file.now }
+    requires first { IsFirstOf subject.now.graph subject.now.setting history.old.world }
+    requires steps { history.old.steps ≡ [] }
+    requires stamps { history.old.world.disk.clock + (2 * writings subject.now.graph
+        (footprints subject.now.setting) (serial_order subject.now.graph) + 1) ≤ last_stamp }
+    requires passed { (n : ℕ) → Has passed.now n ↔
+        Chain subject.now.graph (footprints subject.now.setting) t n }
+    ensures { OnOk result (ShowsStaleRead subject.now t file.now history.new.steps) }
+{
+    first_is_a_start();
+    nothing_found_is_sound();
+    order_of_all_goals();
+    stale_is_shown();
+    let graph = subject.graph();
+    let order = graph.serial()?;
+    make_all(graph, history, &order, &NodeSet::new())?;
+    edit_if_editable(subject, history, file)?;
+    make_all(graph, history, &order, passed)
+}
+
 /// A make of all with one job, an edit of the file where it is editable, and the same make again
 /// in which the recipe of `t` and all that it reaches by carrying are passed; or none, where there
 /// are too few stamps.
@@ -102,23 +133,13 @@ pub fn stale(
     requires nothing { Lists subject.now (static_candidates subject.now) [] }
     requires stale { IsStale subject.now t file.now }
     ensures { IfOk result (λ found. MatchOption found (¬ (HasStamps subject.now))
-        (λ steps. (d : Disk) → IsFirst subject.now.graph (footprints subject.now.setting) d →
-        EndsStale subject.now.graph (footprints subject.now.setting) d t file.now
-        (map (step_of subject.now.graph) steps.items))) }
+        (λ steps. ShowsStaleRead subject.now t file.now steps.items)) }
 {
-    first_is_a_start();
-    nothing_found_is_sound();
-    order_of_all_goals();
-    stale_is_shown();
-    let graph = subject.graph();
-    let order = graph.serial()?;
     let passed = chained(alloc, subject, t)?;
-    let mut history = History::new(alloc, graph, subject.setting())?;
+    let mut history = History::new(alloc, subject.graph(), subject.setting())?;
     if !has_stamps(subject, history.clock()) {
         return Ok(None);
     }
-    make_all(graph, &mut history, &order, &NodeSet::new())?;
-    edit_if_editable(subject, &mut history, file)?;
-    make_all(graph, &mut history, &order, &passed)?;
+    make_edit_make(subject, &mut history, t, file, &passed)?;
     Ok(Some(history.into_steps()))
 }
