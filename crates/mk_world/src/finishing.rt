@@ -48,7 +48,7 @@ fn stamps_for(alloc: Global, disk: &Disk, files: &[String]) -> Result<Vec<u64>, 
 }
 
 /// What a recipe is finished with: what is known of a run that sees what is there, else new stamps.
-fn contents_of(
+pub fn contents_of(
     alloc: Global,
     scene: &Scene,
     disk: &Disk,

@@ -2,11 +2,11 @@
 
 ghost use Rattle.std.specs.Prelude.{◌≡◌, map, true, IfOk};
 ghost use Rattle.mk_graph.specs.Schedule as model;
-ghost use Rattle.mk_world.specs.State.{number_of};
+ghost use Rattle.mk_world.specs.State.{disk_of, number_of, setting};
 ghost use Rattle.mk_world.specs.First.{AreSorted};
 ghost use Rattle.mk_world.specs.Listing.{listing};
 ghost use Rattle.mk_world.specs.Steps.{Answers, IsFirstOf, step_of};
-ghost use Rattle.mk_world.specs.Running.{AnswersInTurn, PassesIdle, finish_steps, is_node, new_stamp};
+ghost use Rattle.mk_world.specs.Running.{AnswersInTurn, PassesIdle, contents_of, finish_steps, is_node, new_stamp};
 ghost use Rattle.mk_lines.specs.Names.{has_name};
 
 use crate::disk::Disk;
@@ -91,21 +91,47 @@ impl<'a> World<'a> {
     pub fn step(&mut self, step: Step) -> Result<(), StepFault>
         ensures { Answers self.old self.new (step_of self.old.scene.graph step) result }
     {
+        self.take(&step)
+    }
+
+    /// Takes a step, as `step` does, and leaves it to the caller.
+    pub fn take(&mut self, step: &Step) -> Result<(), StepFault>
+        ensures { Answers self.old self.new (step_of self.old.scene.graph step.now) result }
+    {
         match step {
-            Step::Edit { file, content } => self.edit(file.as_str(), content),
-            Step::Make { jobs, goals } => self.start(jobs, goals.as_slice()),
+            Step::Edit { file, content } => self.edit(file.as_str(), *content),
+            Step::Make { jobs, goals } => self.start(*jobs, goals.as_slice()),
             Step::Begin { node } => self.begin(node.as_str()),
             Step::Look { node, file } => self.look(node.as_str(), file.as_str()),
             Step::Put {
                 node,
                 file,
                 content,
-            } => self.put(node.as_str(), file.as_str(), content),
+            } => self.put(node.as_str(), file.as_str(), *content),
             Step::End { node } => self.end(node.as_str()),
             Step::Pass { node } => self.pass(node.as_str()),
             Step::Stop => self.stop(),
             Step::EndMake => self.end_make(),
         }
+    }
+
+    /// The last stamp that was given; where no step was taken, how many files are given.
+    pub fn clock(&self) -> u64
+        ensures { result ≡ self.now.disk.clock }
+    {
+        self.disk.clock()
+    }
+
+    /// What a recipe is finished with where a plan leaves it open: what is known of a run that sees
+    /// what is there, else the stamps that follow one another. The error is want of memory alone.
+    pub fn contents_for(&self, node: &str) -> Result<Vec<u64>, AllocError>
+        requires { is_node self.now.scene.graph node.now ≡ true }
+        ensures { IfOk result (λ contents. contents.items ≡
+            contents_of self.now.scene.graph (setting self.now.scene) (disk_of self.now.disk)
+            (number_of self.now.scene.graph node.now)) }
+    {
+        let number = self.scene.number(node);
+        finishing::contents_of(self.alloc, &self.scene, &self.disk, number)
     }
 
     /// A source is edited.

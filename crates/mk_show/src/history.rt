@@ -1,0 +1,237 @@
+//! Histories, step by step from the first world.
+
+ghost use Rattle.std.specs.Prelude.{◌≡◌, ◌∷◌, ◌<◌, ◌+◌, [], length, map, option_map, true, None, IfOk, OnOk};
+ghost use Rattle.std.specs.String.{string_bytes};
+ghost use Rattle.mk_foot.specs.Setting.{record_for};
+ghost use Rattle.mk_graph.specs.Graph.{node};
+ghost use Rattle.mk_graph.specs.Schedule as model;
+ghost use Rattle.mk_graph.specs.Setting.{name};
+ghost use Rattle.mk_graph.specs.SerialMake.{puts, whole_run};
+ghost use Rattle.mk_graph.specs.World.{last_stamp};
+ghost use Rattle.mk_world.specs.State.{setting};
+ghost use Rattle.mk_world.specs.Steps.{step_of};
+ghost use Rattle.mk_show.specs.Histories.{GoesOn, MayGoOn, puts_in};
+
+use mk_foot::{Record, Setting};
+use mk_graph::Graph;
+use mk_lines::{Name, Names};
+use mk_world::{Step, World};
+use std::alloc::{AllocError, Global};
+use std::marker::Model;
+
+/// The steps that were taken from the first world of a graph and a setting, and the world that
+/// they left.
+#[derive(Drop)]
+pub struct History<'a> {
+    alloc: Global,
+    graph: &'a Graph,
+    setting: &'a Setting,
+    world: World<'a>,
+    steps: Vec<Step>,
+}
+
+impl<'a> Model for History<'a> {
+    ghost use Rattle.std.specs.Prelude.{◌≡◌};
+    ghost use Rattle.mk_show.specs.Histories as value;
+
+    ghost Value = { value.History };
+
+    ghost view = { λ h. record { world = h.world; steps = h.steps.items } };
+
+    ghost invariant = { λ h. (h.world.scene ≡ record { graph = h.graph.now; recorded = h.setting.now }) ×
+        value.IsFromFirst (record { world = h.world; steps = h.steps.items }) };
+}
+
+impl<'a> History<'a> {
+    /// No steps.
+    pub fn new(
+        alloc: Global,
+        graph: &'a Graph,
+        setting: &'a Setting,
+    ) -> Result<History<'a>, AllocError>
+        ensures scene { IfOk result (λ h. h.world.scene ≡
+            record { graph = graph.entry.now; recorded = setting.entry.now }) }
+        ensures idle { IfOk result (λ h. h.world.make ≡ None) }
+        ensures steps { IfOk result (λ h. h.steps ≡ []) }
+    {
+        Ok(History {
+            alloc,
+            graph,
+            setting,
+            world: World::new(alloc, graph, setting)?,
+            steps: Vec::new(alloc),
+        })
+    }
+
+    /// The steps.
+    pub fn into_steps(self) -> Vec<Step>
+        ensures { result.items ≡ self.steps }
+    {
+        self.steps
+    }
+
+    /// The last stamp that was given.
+    pub fn clock(&self) -> u64
+        ensures { result ≡ self.now.world.disk.clock }
+    {
+        self.world.clock()
+    }
+
+    /// Takes a step that is allowed.
+    fn take(&mut self, step: Step) -> Result<(), AllocError>
+        requires { MayGoOn self.old (step_of self.old.world.scene.graph step ∷ []) }
+        ensures { OnOk result (GoesOn self.old self.new
+            (step_of self.old.world.scene.graph step ∷ [])) }
+    {
+        match self.world.take(&step) {
+            Ok(()) => Ok(self.steps.push(step)?),
+            Err(_refused) => Err(AllocError),
+        }
+    }
+
+    /// A copy of the name of a node.
+    fn name_of(&self, number: usize) -> Result<Name, AllocError>
+        requires { number < length self.now.world.scene.graph.nodes }
+        ensures { IfOk result (λ found. found ≡ name self.now.world.scene.graph number) }
+    {
+        self.graph.nodes()[number].name.clone()
+    }
+
+    /// The names of all goals.
+    fn goals(&self) -> Result<Names, AllocError>
+        ensures { IfOk result (λ goals. goals ≡
+            map (name self.now.world.scene.graph) self.now.world.scene.graph.goals) }
+    {
+        let goals = self.graph.goals();
+        let mut names = Vec::with_capacity(self.alloc, goals.len())?;
+        for goal in goals {
+            names.push(self.name_of(*goal)?)?;
+        }
+        Ok(Names::new(names))
+    }
+
+    /// A make of all goals with one job starts.
+    pub fn start(&mut self) -> Result<(), AllocError>
+        requires { MayGoOn self.old (model.Make 1 self.old.world.scene.graph.goals ∷ []) }
+        ensures { OnOk result (GoesOn self.old self.new
+            (model.Make 1 self.old.world.scene.graph.goals ∷ [])) }
+    {
+        let goals = self.goals()?;
+        self.take(Step::Make { jobs: 1, goals })
+    }
+
+    /// The make ends.
+    pub fn end_make(&mut self) -> Result<(), AllocError>
+        requires { MayGoOn self.old (model.EndMake ∷ []) }
+        ensures { OnOk result (GoesOn self.old self.new (model.EndMake ∷ [])) }
+    {
+        self.take(Step::EndMake)
+    }
+
+    /// A file is edited, and holds its new stamp then.
+    pub fn edit(&mut self, file: &str) -> Result<(), AllocError>
+        requires stamp { self.old.world.disk.clock < last_stamp }
+        requires legal { MayGoOn self.old
+            (model.Edit file.now (self.old.world.disk.clock + 1) ∷ []) }
+        ensures { OnOk result (GoesOn self.old self.new
+            (model.Edit file.now (self.old.world.disk.clock + 1) ∷ [])) }
+    {
+        let content = self.clock() + 1;
+        let file = Name::new(self.alloc, file)?;
+        self.take(Step::Edit { file, content })
+    }
+
+    /// A node is passed.
+    pub fn pass(&mut self, number: usize) -> Result<(), AllocError>
+        requires node { number < length self.old.world.scene.graph.nodes }
+        requires legal { MayGoOn self.old (model.Pass number ∷ []) }
+        ensures { OnOk result (GoesOn self.old self.new (model.Pass number ∷ [])) }
+    {
+        let node = self.name_of(number)?;
+        self.take(Step::Pass { node })
+    }
+
+    /// A recipe begins.
+    pub fn begin(&mut self, number: usize) -> Result<(), AllocError>
+        requires node { number < length self.old.world.scene.graph.nodes }
+        requires legal { MayGoOn self.old (model.Begin number ∷ []) }
+        ensures { OnOk result (GoesOn self.old self.new (model.Begin number ∷ [])) }
+    {
+        let node = self.name_of(number)?;
+        self.take(Step::Begin { node })
+    }
+
+    /// What is recorded of a node's recipe.
+    fn record_of(&self, number: usize) -> Option<&'a Record>
+        requires { number < length self.now.world.scene.graph.nodes }
+        ensures { option_map (λ found. found.now) result ≡
+            record_for self.now.world.scene.recorded.records
+            (name self.now.world.scene.graph number) }
+    {
+        self.setting
+            .record_of(self.graph.nodes()[number].name.as_str())
+    }
+
+    /// A running recipe looks at each of these files.
+    fn look_at(&mut self, number: usize, files: &[String]) -> Result<(), AllocError>
+        requires node { number < length self.old.world.scene.graph.nodes }
+        requires legal { MayGoOn self.old
+            (map (λ f. model.Look number f) (map string_bytes files.now)) }
+        ensures { OnOk result (GoesOn self.old self.new
+            (map (λ f. model.Look number f) (map string_bytes files.now))) }
+    {
+        for file in files {
+            let node = self.name_of(number)?;
+            let file = Name::new(self.alloc, file.as_str())?;
+            self.take(Step::Look { node, file })?;
+        }
+        Ok(())
+    }
+
+    /// A running recipe puts these contents into these files.
+    fn put_into(
+        &mut self,
+        number: usize,
+        files: &[String],
+        contents: &[u64],
+    ) -> Result<(), AllocError>
+        requires node { number < length self.old.world.scene.graph.nodes }
+        requires legal { MayGoOn self.old
+            (puts number (map string_bytes files.now) contents.now) }
+        ensures { OnOk result (GoesOn self.old self.new
+            (puts number (map string_bytes files.now) contents.now)) }
+    {
+        for (file, content) in files.iter().zip(contents) {
+            let node = self.name_of(number)?;
+            let file = Name::new(self.alloc, file.as_str())?;
+            let content = *content;
+            self.take(Step::Put {
+                node,
+                file,
+                content,
+            })?;
+        }
+        Ok(())
+    }
+
+    /// A recipe is run whole: it begins, looks at all that it reads, puts what is known of a run
+    /// that saw the same, else new stamps, into all that it writes, and ends.
+    pub fn run(&mut self, number: usize) -> Result<(), AllocError>
+        requires node { number < length self.old.world.scene.graph.nodes }
+        requires recipe { (node self.old.world.scene.graph number).recipe ≡ true }
+        requires legal { MayGoOn self.old (whole_run self.old.world.scene.graph
+            (setting self.old.world.scene) number (puts_in self.old number)) }
+        ensures { OnOk result (GoesOn self.old self.new (whole_run self.old.world.scene.graph
+            (setting self.old.world.scene) number (puts_in self.old number))) }
+    {
+        let name = self.graph.nodes()[number].name.as_str();
+        let contents = self.world.contents_for(name)?;
+        self.begin(number)?;
+        if let Some(record) = self.record_of(number) {
+            self.look_at(number, &record.reads)?;
+            self.put_into(number, &record.writes, &contents)?;
+        }
+        let node = self.name_of(number)?;
+        self.take(Step::End { node })
+    }
+}
