@@ -9,6 +9,8 @@ ghost use Rattle.mk_world.specs.Steps.{Answers, IsFirstOf, step_of};
 ghost use Rattle.mk_world.specs.Running.{AnswersInTurn, PassesIdle, contents_of, finish_steps, is_node, new_stamp};
 ghost use Rattle.mk_lines.specs.Names.{has_name};
 
+mod allowed;
+
 use crate::disk::Disk;
 use crate::fault::StepFault;
 use crate::file::Listed;
@@ -91,23 +93,16 @@ impl<'a> World<'a> {
     pub fn step(&mut self, step: Step) -> Result<(), StepFault>
         ensures { Answers self.old self.new (step_of self.old.scene.graph step) result }
     {
-        self.take(&step)
-    }
-
-    /// Takes a step, as `step` does, and leaves it to the caller.
-    pub fn take(&mut self, step: &Step) -> Result<(), StepFault>
-        ensures { Answers self.old self.new (step_of self.old.scene.graph step.now) result }
-    {
         match step {
-            Step::Edit { file, content } => self.edit(file.as_str(), *content),
-            Step::Make { jobs, goals } => self.start(*jobs, goals.as_slice()),
+            Step::Edit { file, content } => self.edit(file.as_str(), content),
+            Step::Make { jobs, goals } => self.start(jobs, goals.as_slice()),
             Step::Begin { node } => self.begin(node.as_str()),
             Step::Look { node, file } => self.look(node.as_str(), file.as_str()),
             Step::Put {
                 node,
                 file,
                 content,
-            } => self.put(node.as_str(), file.as_str(), *content),
+            } => self.put(node.as_str(), file.as_str(), content),
             Step::End { node } => self.end(node.as_str()),
             Step::Pass { node } => self.pass(node.as_str()),
             Step::Stop => self.stop(),
