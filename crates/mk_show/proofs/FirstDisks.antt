@@ -37,9 +37,9 @@ same_names (x ∷ xs) (y ∷ ys) up on all =
     let first : x ≡ y = elim ((all x).0 (inl refl)) [
       | inl e ↦ sym e
       | inr among ↦ elim ((all y).1 (inl refl)) [
-          | inl e ↦ e
-          | inr there ↦ absurd (not_both x y (first_is_least x xs up y there) (first_is_least y ys on x among))
-        ]
+        | inl e ↦ e
+        | inr there ↦ absurd (not_both x y (first_is_least x xs up y there) (first_is_least y ys on x among))
+      ]
     ] in
     let forth : (f : FileName) → Has xs f → Has ys f = λ f h. elim ((all f).0 (inr h)) [
       | inl e ↦ absurd (not_less x (subst (λ (k : FileName). slice_cmp nat_cmp x k ≡ Less) (sym (first ∙ e)) (first_is_least x xs up f h)))

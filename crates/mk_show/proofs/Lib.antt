@@ -4,3 +4,8 @@ pub mod Counts
 pub mod Stamps
 pub mod Names
 pub mod Histories
+pub mod Taken
+pub mod Races
+pub mod RaceHistories
+pub mod Texts
+pub mod WholeRuns

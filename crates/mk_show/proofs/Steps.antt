@@ -39,8 +39,14 @@ makes_exist g s passed w (n ∷ ns) =
     let passing : ((node g n).recipe ≡ false) ⊎ Has passed n → (steps : List Step) × MakesBut g s (Has passed) w (n ∷ ns) steps = λ why. let rest = makes_exist g s passed (after g s w (Pass n)) ns in (Pass n ∷ rest.0, passes why rest.1) in
     elim (cases_Bool (node g n).recipe) [
       | inl recipe ↦ elim (cases_Has passed n) [
-          | inl is ↦ passing (inr is)
-          | inr not ↦ let rest = makes_exist g s passed (after_all g s w (whole_run g s n (to_put g s (disk_of w) n))) ns in (whole_run g s n (to_put g s (disk_of w) n) ++ rest.0, runs recipe not rest.1)
-        ]
+        | inl is ↦ passing (inr is)
+        | inr not ↦ let rest = makes_exist g s passed (after_all g s w (whole_run g s n (to_put g s (disk_of w) n))) ns in (whole_run g s n (to_put g s (disk_of w) n) ++ rest.0, runs recipe not rest.1)
+      ]
       | inr none ↦ passing (inl none)
     ]
+
+-- what is made is the same where the same nodes are to be passed
+pub makes_alike : (g : Graph) (s : Setting) (one other : ℕ → Type 0) → ((n : ℕ) → one n → other n) → ((n : ℕ) → other n → one n) → {w : World} {ns : List ℕ} {steps : List Step} → MakesBut g s one w ns steps → MakesBut g s other w ns steps
+makes_alike g s one other forth back ends = ends
+makes_alike g s one other forth back (passes {n = n} why rest) = passes (elim why [ inl none ↦ inl none | inr is ↦ inr (forth n is) ]) (makes_alike g s one other forth back rest)
+makes_alike g s one other forth back (runs {t = t} recipe not rest) = runs recipe (λ is. not (back t is)) (makes_alike g s one other forth back rest)

@@ -4,18 +4,18 @@ ghost use Rattle.std.specs.Prelude.{◌≡◌, ◌∷◌, ◌<◌, ◌+◌, [], 
 ghost use Rattle.std.specs.Option.{option_copied};
 ghost use Rattle.std.specs.String.{string_bytes};
 ghost use Rattle.mk_foot.specs.Setting.{record_for};
-ghost use Rattle.mk_graph.specs.Graph.{node};
+ghost use Rattle.mk_graph.specs.Graph.{IsGraph, node};
 ghost use Rattle.mk_graph.specs.Schedule as model;
 ghost use Rattle.mk_graph.specs.Setting.{name};
 ghost use Rattle.mk_graph.specs.SerialMake.{puts, whole_run};
 ghost use Rattle.mk_graph.specs.World.{last_stamp};
 ghost use Rattle.mk_world.specs.Running.{contents_of};
-ghost use Rattle.mk_world.specs.State.{disk_of, setting};
+ghost use Rattle.mk_world.specs.State.{disk_of, number_of, setting};
 ghost use Rattle.mk_world.specs.Steps.{IsFirstOf, step_of};
 ghost use Rattle.mk_show.specs.Histories.{GoesOn, MayGoOn, looks_and_puts, puts_in};
 
 use mk_foot::{Record, Setting};
-use mk_graph::Graph;
+use mk_graph::{Graph, Node};
 use mk_lines::{Name, Names};
 use mk_world::{Step, World};
 use std::alloc::{AllocError, Global};
@@ -65,7 +65,7 @@ impl<'a> History<'a> {
 
     /// The steps.
     pub fn into_steps(self) -> Vec<Step>
-        ensures { result.items ≡ self.steps }
+        ensures { result.items ≡ self.entry.steps }
     {
         self.steps
     }
@@ -84,7 +84,8 @@ impl<'a> History<'a> {
             (step_of self.old.world.scene.graph step ∷ [])) }
     {
         self.world.take_allowed(&step)?;
-        self.steps.push(step)
+        self.steps.push(step)?;
+        Ok(())
     }
 
     /// A copy of a text as a name.
@@ -94,18 +95,30 @@ impl<'a> History<'a> {
         Name::new(self.alloc, text)
     }
 
+    /// A node.
+    fn node(&self, number: usize) -> &'a Node
+        requires { number < length self.now.world.scene.graph.nodes }
+        ensures value { result.now ≡ node self.now.world.scene.graph number }
+        ensures graph { IsGraph self.now.world.scene.graph }
+    {
+        let nodes = self.graph.nodes();
+        &nodes[number]
+    }
+
     /// A copy of the name of a node.
     fn name_of(&self, number: usize) -> Result<Name, AllocError>
         requires { number < length self.now.world.scene.graph.nodes }
-        ensures { IfOk result (λ found. found ≡ name self.now.world.scene.graph number) }
+        ensures { IfOk result (λ name. number_of self.now.world.scene.graph name ≡ number) }
     {
-        self.graph.nodes()[number].name.clone()
+        let node = self.node(number);
+        let copy = self.copy(node.name.as_str())?;
+        Ok(copy)
     }
 
     /// The names of all goals.
     fn goals(&self) -> Result<Names, AllocError>
-        ensures { IfOk result (λ goals. goals ≡
-            map (name self.now.world.scene.graph) self.now.world.scene.graph.goals) }
+        ensures { IfOk result (λ goals. map (number_of self.now.world.scene.graph) goals ≡
+            self.now.world.scene.graph.goals) }
     {
         let goals = self.graph.goals();
         let mut names = Vec::with_capacity(self.alloc, goals.len())?;
@@ -208,8 +221,8 @@ impl<'a> History<'a> {
         ensures { option_copied result ≡ record_for self.now.world.scene.recorded.records
             (name self.now.world.scene.graph number) }
     {
-        self.setting
-            .record_of(self.graph.nodes()[number].name.as_str())
+        let node = self.node(number);
+        self.setting.record_of(node.name.as_str())
     }
 
     /// What a recipe is to put: what is known of a run that saw what is there, else new stamps.
@@ -219,8 +232,9 @@ impl<'a> History<'a> {
             contents_of self.now.world.scene.graph (setting self.now.world.scene)
             (disk_of self.now.world.disk) number) }
     {
-        self.world
-            .contents_for(self.graph.nodes()[number].name.as_str())
+        let node = self.node(number);
+        let contents = self.world.contents_for(node.name.as_str())?;
+        Ok(contents)
     }
 
     /// A running recipe looks at each of these files.
@@ -273,7 +287,8 @@ impl<'a> History<'a> {
             return Ok(());
         };
         self.look_at(number, &record.reads)?;
-        self.put_into(number, &record.writes, contents)
+        self.put_into(number, &record.writes, contents)?;
+        Ok(())
     }
 
     /// A recipe is run whole: it begins, looks at all that it reads, puts what is known of a run
@@ -289,6 +304,7 @@ impl<'a> History<'a> {
         let contents = self.contents_for(number)?;
         self.begin(number)?;
         self.look_and_put(number, &contents)?;
-        self.end(number)
+        self.end(number)?;
+        Ok(())
     }
 }

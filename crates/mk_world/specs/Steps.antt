@@ -49,6 +49,10 @@ pub record Answers (old new : State) (step : model.Step) (result : Result Unit S
     pub judged : Judges old.scene (world_of old) (world_of new) step result
     pub unchanged : OnErr result (new ≡ old)
 
+-- the step is allowed in the world of this state
+abbrev pub MayTake : State → model.Step → Type 0
+MayTake w step = model.Allowed w.scene.graph (setting w.scene) (world_of w) step
+
 -- What taking an allowed step does: the graph, the setting and the names of the world stay, and the
 -- world is what the step leaves; or memory runs out, and nothing changes.
 pub record TakesAllowed (old new : State) (step : model.Step) (result : Result Unit AllocError) :

@@ -37,7 +37,8 @@ pub fn begin(
         footprint.reads.as_slice().len(),
         footprint.writes.as_slice().len(),
     )?;
-    making.begin(number, run)
+    making.begin(number, run)?;
+    Ok(())
 }
 
 /// A running recipe looks at a file that it reads.
@@ -110,7 +111,8 @@ pub fn end(
         recipe: number,
         seen,
     };
-    disk.end(sight, written, making)
+    disk.end(sight, written, making)?;
+    Ok(())
 }
 
 /// A node is passed.
@@ -123,5 +125,6 @@ pub fn pass(scene: &Scene, making: &mut Making, number: usize) -> Result<(), All
         model.finished (making_of scene.now making.old) number) }
 {
     let _few = scene.footprint(number);
-    making.finish(number)
+    making.finish(number)?;
+    Ok(())
 }

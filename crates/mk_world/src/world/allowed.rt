@@ -2,8 +2,8 @@
 
 ghost use Rattle.std.specs.Prelude.{◌≡◌, map};
 ghost use Rattle.mk_graph.specs.Schedule as model;
-ghost use Rattle.mk_world.specs.State.{number_of, setting, world_of};
-ghost use Rattle.mk_world.specs.Steps.{TakesAllowed, step_of};
+ghost use Rattle.mk_world.specs.State.{number_of};
+ghost use Rattle.mk_world.specs.Steps.{MayTake, TakesAllowed, step_of};
 
 use crate::making::Making;
 use crate::names::goals_of;
@@ -17,8 +17,7 @@ impl<'a> World<'a> {
     /// Takes a step that is allowed, as `step` does, but tests nothing. The error is want of memory
     /// alone, and nothing changes then.
     pub fn take_allowed(&mut self, step: &Step) -> Result<(), AllocError>
-        requires { model.Allowed self.old.scene.graph (setting self.old.scene)
-            (world_of self.old) (step_of self.old.scene.graph step.now) }
+        requires { MayTake self.old (step_of self.old.scene.graph step.now) }
         ensures { TakesAllowed self.old self.new
             (step_of self.old.scene.graph step.now) result }
     {
@@ -41,8 +40,7 @@ impl<'a> World<'a> {
 
     /// A source is edited.
     fn take_edit(&mut self, file: &str, content: u64) -> Result<(), AllocError>
-        requires { model.Allowed self.old.scene.graph (setting self.old.scene)
-            (world_of self.old) (model.Edit file.now content) }
+        requires { MayTake self.old (model.Edit file.now content) }
         ensures { TakesAllowed self.old self.new (model.Edit file.now content) result }
     {
         self.disk.write(file, content);
@@ -51,23 +49,25 @@ impl<'a> World<'a> {
 
     /// A make of these goals starts.
     fn take_make(&mut self, jobs: usize, goals: &[Name]) -> Result<(), AllocError>
-        requires { model.Allowed self.old.scene.graph (setting self.old.scene)
-            (world_of self.old) (model.Make jobs (map (number_of self.old.scene.graph) goals.now)) }
-        ensures { TakesAllowed self.old self.new (model.Make jobs (map (number_of self.old.scene.graph) goals.now)) result }
+        requires { MayTake self.old
+            (model.Make jobs (map (number_of self.old.scene.graph) goals.now)) }
+        ensures { TakesAllowed self.old self.new
+            (model.Make jobs (map (number_of self.old.scene.graph) goals.now)) result }
     {
+        let graph = self.scene.graph();
         let Some(numbers) = goals_of(self.alloc, &self.scene, goals)? else {
             return Ok(());
         };
-        let many = self.scene.graph().nodes().len();
+        let many = graph.nodes().len();
         self.make = Some(Making::new(self.alloc, jobs, numbers, many)?);
         Ok(())
     }
 
     /// A recipe begins.
     fn take_begin(&mut self, node: &str) -> Result<(), AllocError>
-        requires { model.Allowed self.old.scene.graph (setting self.old.scene)
-            (world_of self.old) (model.Begin (number_of self.old.scene.graph node.now)) }
-        ensures { TakesAllowed self.old self.new (model.Begin (number_of self.old.scene.graph node.now)) result }
+        requires { MayTake self.old (model.Begin (number_of self.old.scene.graph node.now)) }
+        ensures { TakesAllowed self.old self.new
+            (model.Begin (number_of self.old.scene.graph node.now)) result }
     {
         let Some(making) = &mut self.make else {
             return Ok(());
@@ -78,9 +78,10 @@ impl<'a> World<'a> {
 
     /// A running recipe looks at a file that it reads.
     fn take_look(&mut self, node: &str, file: &str) -> Result<(), AllocError>
-        requires { model.Allowed self.old.scene.graph (setting self.old.scene)
-            (world_of self.old) (model.Look (number_of self.old.scene.graph node.now) file.now) }
-        ensures { TakesAllowed self.old self.new (model.Look (number_of self.old.scene.graph node.now) file.now) result }
+        requires { MayTake self.old
+            (model.Look (number_of self.old.scene.graph node.now) file.now) }
+        ensures { TakesAllowed self.old self.new
+            (model.Look (number_of self.old.scene.graph node.now) file.now) result }
     {
         let Some(making) = &mut self.make else {
             return Ok(());
@@ -92,9 +93,10 @@ impl<'a> World<'a> {
 
     /// A running recipe puts a content into a file that it writes.
     fn take_put(&mut self, node: &str, file: &str, content: u64) -> Result<(), AllocError>
-        requires { model.Allowed self.old.scene.graph (setting self.old.scene)
-            (world_of self.old) (model.Put (number_of self.old.scene.graph node.now) file.now content) }
-        ensures { TakesAllowed self.old self.new (model.Put (number_of self.old.scene.graph node.now) file.now content) result }
+        requires { MayTake self.old
+            (model.Put (number_of self.old.scene.graph node.now) file.now content) }
+        ensures { TakesAllowed self.old self.new
+            (model.Put (number_of self.old.scene.graph node.now) file.now content) result }
     {
         let Some(making) = &mut self.make else {
             return Ok(());
@@ -106,9 +108,9 @@ impl<'a> World<'a> {
 
     /// A running recipe ends that has come to its end.
     fn take_end(&mut self, node: &str) -> Result<(), AllocError>
-        requires { model.Allowed self.old.scene.graph (setting self.old.scene)
-            (world_of self.old) (model.End (number_of self.old.scene.graph node.now)) }
-        ensures { TakesAllowed self.old self.new (model.End (number_of self.old.scene.graph node.now)) result }
+        requires { MayTake self.old (model.End (number_of self.old.scene.graph node.now)) }
+        ensures { TakesAllowed self.old self.new
+            (model.End (number_of self.old.scene.graph node.now)) result }
     {
         let Some(making) = &mut self.make else {
             return Ok(());
@@ -119,22 +121,22 @@ impl<'a> World<'a> {
 
     /// A node is passed.
     fn take_pass(&mut self, node: &str) -> Result<(), AllocError>
-        requires { model.Allowed self.old.scene.graph (setting self.old.scene)
-            (world_of self.old) (model.Pass (number_of self.old.scene.graph node.now)) }
-        ensures { TakesAllowed self.old self.new (model.Pass (number_of self.old.scene.graph node.now)) result }
+        requires { MayTake self.old (model.Pass (number_of self.old.scene.graph node.now)) }
+        ensures { TakesAllowed self.old self.new
+            (model.Pass (number_of self.old.scene.graph node.now)) result }
     {
         let Some(making) = &mut self.make else {
             return Ok(());
         };
         let number = self.scene.number(node);
+        self.scene.is_built();
         taking::pass(&self.scene, making, number)
     }
 
     /// The make is given up.
     fn take_stop(&mut self) -> Result<(), AllocError>
-        requires { model.Allowed self.old.scene.graph (setting self.old.scene)
-            (world_of self.old) (model.Stop) }
-        ensures { TakesAllowed self.old self.new (model.Stop) result }
+        requires { MayTake self.old model.Stop }
+        ensures { TakesAllowed self.old self.new model.Stop result }
     {
         self.make = None;
         Ok(())
@@ -142,9 +144,8 @@ impl<'a> World<'a> {
 
     /// The make ends.
     fn take_end_make(&mut self) -> Result<(), AllocError>
-        requires { model.Allowed self.old.scene.graph (setting self.old.scene)
-            (world_of self.old) (model.EndMake) }
-        ensures { TakesAllowed self.old self.new (model.EndMake) result }
+        requires { MayTake self.old model.EndMake }
+        ensures { TakesAllowed self.old self.new model.EndMake result }
     {
         self.make = None;
         Ok(())
