@@ -9,3 +9,4 @@ pub mod Races
 pub mod RaceHistories
 pub mod Texts
 pub mod WholeRuns
+pub mod Counted

@@ -1,5 +1,6 @@
 -- The history that shows a race, step by step.
 use Rattle.std.proofs.Common.{◌≡◌, ℕ, ◌+◌, ◌*◌, ◌<◌, ◌≤◌, List, [], ◌∷◌, ◌++◌, length, map, reverse, true, refl, sym, ap, ◌∙◌, subst, arith}
+use Rattle.std.specs.Prelude.{Option, None, Some, MatchOption}
 use Rattle.mk_foot.specs.Setting as recorded
 use Rattle.mk_graph.specs.Membership.{Has}
 use Rattle.mk_graph.specs.Graph.{Graph, IsGraph, node}
@@ -19,6 +20,14 @@ use Rattle.mk_show.proofs.Steps.{legal_front}
 use Rattle.mk_show.proofs.FirstDisks.{one_first}
 use Rattle.mk_show.proofs.Taken.{Taken, nothing_taken, taken_further, may_go_on, may_go_behind, makes_behind}
 use Rattle.mk_show.proofs.Races.{all_are_part, turns_run, not_done_before}
+
+-- what stands in an option that has a value
+pub some_of : {A : Type 0} (P : Type 0) (Q : A → Type 0) {o : Option A} {x : A} → o ≡ Some x → MatchOption o P Q → Q x
+some_of P Q e h = subst (λ o. MatchOption o P Q) e h
+
+-- and of one that has none
+pub none_of : {A : Type 0} (P : Type 0) (Q : A → Type 0) {o : Option A} → o ≡ None → MatchOption o P Q → P
+none_of P Q e h = subst (λ o. MatchOption o P Q) e h
 
 module _ (g : Graph) (r : recorded.Setting) (h : History) (first : IsFirstOf g r h.world) (none : h.steps ≡ []) (o t : ℕ) (turns : List ℕ) (is : IsGraph g) (run : TurnListsRun) (once : SerialReachesEachOnce) (starts : FirstIsAStart) (past : LeadsPast g o t (reverse turns)) (recipe : (node g t).recipe ≡ true) (room : (disk_of h.world.disk).clock + (2 * writings g (setting_of r) (serial_order g) + 1) ≤ last_stamp) where
   -- The make may start,

@@ -1,8 +1,7 @@
 //! Histories of builds that show what is found: a race, or a stale read.
 #![tactic(auto)]
 
+mod bound;
 mod history;
 mod making;
-
-pub use history::History;
-pub use making::make_but;
+pub mod race;

@@ -58,4 +58,4 @@ loop-number-preserved c =
     ]
 
 pub returns : goal.returns
-returns c = none_unmade _ _ _ _ c.loop-number.invariant (no_number c.args.order.now c.loop-number.number-index c.loop-number-test.false)
+returns c = none_unmade _ _ _ _ _ c.loop-number.invariant (no_number c.args.order.now c.loop-number.number-index c.loop-number-test.false)

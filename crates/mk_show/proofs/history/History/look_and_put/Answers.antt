@@ -21,4 +21,4 @@ returns c =
     both_go c.args.self.now c.args.number c.args.contents.now c.requires.recipe c.in-Some.record.now c.in-Some.ensures (map string_bytes c.deref.result.now) read c.look_at.new.self c.put_into.new.self (map string_bytes c.deref-2.result.now) written c.in_ok-look_at.ensures c.in_ok-put_into.ensures
 
 pub returns-in_default : goal.returns-in_default
-returns-in_default c = ?
+returns-in_default c = nothing_goes c.args.self.now c.args.number c.args.contents.now c.requires.recipe c.in_default.ensures
