@@ -1,30 +1,19 @@
 -- Histories as they are taken down: the world that steps left, and the steps.
-use Rattle.std.specs.Prelude.{◌≡◌, ℕ, List, [], ◌∷◌, ◌++◌, map}
-use Rattle.mk_graph.specs.Graph.{Graph}
+use Rattle.std.specs.Prelude.{◌≡◌, ℕ, List, ◌++◌, map}
 use Rattle.mk_graph.specs.Membership.{Has}
-use Rattle.mk_graph.specs.World.{World, Idle, IsFirst}
+use Rattle.mk_graph.specs.Setting.{reads, writes}
+use Rattle.mk_graph.specs.World as world
 use Rattle.mk_graph.specs.Schedule as model
-use Rattle.mk_graph.specs.InTurn.{MakesBut}
+use Rattle.mk_graph.specs.SerialMake.{puts}
+use Rattle.mk_graph.specs.InTurn.{MakesBut, to_put}
 use Rattle.mk_world.specs.declared.step.Step.{Step}
-use Rattle.mk_world.specs.State.{State, setting, disk_of, world_of}
-use Rattle.mk_world.specs.Steps.{step_of, IsFirstOf}
-use Rattle.mk_world.specs.Running.{contents_of}
+use Rattle.mk_world.specs.State.{State, setting, world_of}
+use Rattle.mk_world.specs.Steps.{step_of}
 
 -- the world that the steps left, and the steps
 pub record History : Type 0 where
   pub world : State
   pub steps : List Step
-
--- the steps with numbers for the names of nodes
-abbrev pub numbered : History → List model.Step
-numbered h = map (step_of h.world.scene.graph) h.steps
-
--- The steps led from the first world of the graph and the setting to this one.
-pub record IsFromFirst (h : History) : Type 0 where
-  pub first : State
-  pub is_first : IsFirstOf h.world.scene.graph h.world.scene.recorded first
-  pub leaves : world_of h.world ≡ model.after_all h.world.scene.graph (setting h.world.scene)
-      (world_of first) (numbered h)
 
 -- a list of steps is legal from the world of a history
 abbrev pub MayGoOn : History → List model.Step → Type 0
@@ -42,7 +31,13 @@ pub record GoesOn (old new : History) (steps : List model.Step) : Type 0 where
 -- what a recipe is to put in the world of a history
 abbrev pub puts_in : History → ℕ → List ℕ
 puts_in h t =
-    contents_of h.world.scene.graph (setting h.world.scene) (disk_of h.world.disk) t
+    to_put h.world.scene.graph (setting h.world.scene) (world.disk_of (world_of h.world)) t
+
+-- a running recipe looks at all that it reads, and puts these contents into all that it writes
+abbrev pub looks_and_puts : History → ℕ → List ℕ → List model.Step
+looks_and_puts h t cs =
+    map (λ f. model.Look t f) (reads h.world.scene.graph (setting h.world.scene) t) ++
+    puts t (writes h.world.scene.graph (setting h.world.scene) t) cs
 
 -- these nodes are made one after another from the world of a history, but for those that are to be
 -- passed

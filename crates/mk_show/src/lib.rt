@@ -3,6 +3,7 @@
 
 mod bound;
 mod history;
+pub mod laws;
 mod making;
 mod race;
 mod showing;

@@ -1,12 +1,25 @@
 //! Nodes that are made one after another.
 
-ghost use Rattle.std.specs.Prelude.{◌≡◌, ◌<◌, ℕ, length, OnOk};
+ghost use Rattle.std.specs.Prelude.{◌≡◌, ◌<◌, ◌⊎◌, ℕ, length, true, false, MatchBool, OnOk};
+ghost use Rattle.mk_graph.specs.Graph.{node};
 ghost use Rattle.mk_graph.specs.Membership.{Has};
 ghost use Rattle.mk_show.specs.Histories.{GoesOnMaking, MayMake};
 
 use crate::history::History;
 use mk_graph::{Graph, NodeSet};
 use std::alloc::AllocError;
+
+/// Whether a node is to be run: it has a recipe, which isn't to be passed.
+fn is_to_run(graph: &Graph, number: usize, passed: &NodeSet) -> bool
+    requires { number < length graph.now.nodes }
+    ensures { MatchBool result
+        (((node graph.now number).recipe ≡ true) × (¬ (Has passed.now number)))
+        (((node graph.now number).recipe ≡ false) ⊎ Has passed.now number) }
+{
+    let nodes = graph.nodes();
+    let node = &nodes[number];
+    node.recipe && !passed.has(number)
+}
 
 /// Makes nodes one after another: recipes are run whole, but for those that are to be passed, and
 /// the other nodes are passed.
@@ -22,7 +35,7 @@ pub fn make_but(
     ensures { OnOk result (GoesOnMaking history.old history.new passed.now order.now) }
 {
     for number in order {
-        if graph.nodes()[*number].recipe && !passed.has(*number) {
+        if is_to_run(graph, *number, passed) {
             history.run(*number)?;
         } else {
             history.pass(*number)?;

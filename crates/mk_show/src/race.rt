@@ -12,6 +12,8 @@ use crate::bound::has_stamps;
 use crate::history::History;
 use crate::making::make_but;
 use mk_cert::Subject;
+use mk_graph::build_laws::{first_is_a_start, turn_lists_run};
+use mk_graph::laws::serial_reaches_each_once;
 use mk_graph::{NodeSet, turn_list_past};
 use mk_world::Step;
 use std::alloc::{AllocError, Global};
@@ -32,6 +34,9 @@ pub fn race(
         EndsInRace subject.now.graph (footprints subject.now.setting) d o t
         (map (step_of subject.now.graph) steps.items))) }
 {
+    first_is_a_start();
+    serial_reaches_each_once();
+    turn_lists_run();
     let graph = subject.graph();
     let mut history = History::new(alloc, graph, subject.setting())?;
     if !has_stamps(subject, history.clock()) {

@@ -16,3 +16,4 @@ pub mod InTurn
 pub mod Stamps
 pub mod Lines
 pub mod Fronts
+pub mod Allowed

@@ -1,5 +1,6 @@
 -- Steps by names, and what becomes of a world where one is asked for.
-use Rattle.std.specs.Prelude.{◌≡◌, map, None, Result, Ok, Err, OnErr, ◌⊎◌}
+use Rattle.std.specs.Prelude.{◌≡◌, map, None, Result, Ok, Err, OnOk, OnErr, ◌⊎◌}
+use Rattle.std.specs.declared.alloc.AllocError.{AllocError}
 use Rattle.mk_foot.specs.Setting as recorded
 use Rattle.mk_graph.specs.Graph.{Graph}
 use Rattle.mk_graph.specs.Setting.{Setting}
@@ -47,6 +48,20 @@ pub record Answers (old new : State) (step : model.Step) (result : Result Unit S
     pub names : new.disk.names ≡ old.disk.names
     pub judged : Judges old.scene (world_of old) (world_of new) step result
     pub unchanged : OnErr result (new ≡ old)
+
+-- the step is allowed in the world of this state
+abbrev pub MayTake : State → model.Step → Type 0
+MayTake w step = model.Allowed w.scene.graph (setting w.scene) (world_of w) step
+
+-- What taking an allowed step does: the graph, the setting and the names of the world stay, and the
+-- world is what the step leaves; or memory runs out, and nothing changes.
+pub record TakesAllowed (old new : State) (step : model.Step) (result : Result Unit AllocError) :
+    Type 0 where
+  pub scene : new.scene ≡ old.scene
+  pub names : new.disk.names ≡ old.disk.names
+  pub leaves : OnOk result
+      (world_of new ≡ model.after old.scene.graph (setting old.scene) (world_of old) step)
+  pub unchanged : OnErr result (new ≡ old)
 
 -- The world of a graph and what is recorded at its beginning: no make is in progress, the disk is a
 -- first one, and the names are those of the world, in the order of their bytes.

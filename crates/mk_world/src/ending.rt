@@ -19,7 +19,7 @@ use mk_lines::NameTable;
 use std::alloc::{AllocError, Global};
 
 /// What is known of each name, if something is known of all.
-fn all_of<T: Copy + Drop>(
+pub fn all_of<T: Copy + Drop>(
     alloc: Global,
     names: &NameTable,
     values: &[Option<T>],

@@ -25,6 +25,7 @@ mod scene;
 mod sorted;
 mod step;
 mod table;
+mod taking;
 mod world;
 
 pub use fault::StepFault;

@@ -13,8 +13,8 @@ use crate::disk::Disk;
 use crate::fault::StepFault;
 use crate::judging::must_run;
 use crate::making::Making;
-use crate::progress::Run;
 use crate::scene::Scene;
+use crate::taking;
 use std::alloc::Global;
 
 /// A recipe begins.
@@ -42,13 +42,7 @@ pub fn begin(
     if !making.has_job() {
         return Err(StepFault::NoJobFree);
     }
-    let footprint = scene.footprint(number);
-    let run = Run::new(
-        alloc,
-        footprint.reads.as_slice().len(),
-        footprint.writes.as_slice().len(),
-    )?;
-    making.begin(number, run)?;
+    taking::begin(alloc, scene, making, number)?;
     Ok(())
 }
 

@@ -71,6 +71,13 @@ impl<'a> Scene<'a> {
         self.graph
     }
 
+    /// The graph is one that was built, as who calls it knows.
+    pub fn is_built(&self)
+        ensures { IsGraph self.now.graph }
+    {
+        self.graph.nodes();
+    }
+
     /// The serial order of the nodes.
     pub fn order(&self) -> &[usize]
         ensures value { result.now ≡ serial_order self.now.graph }

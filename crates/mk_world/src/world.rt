@@ -9,6 +9,8 @@ ghost use Rattle.mk_world.specs.Steps.{Answers, IsFirstOf, step_of};
 ghost use Rattle.mk_world.specs.Running.{AnswersInTurn, PassesIdle, contents_of, finish_steps, is_node, new_stamp};
 ghost use Rattle.mk_lines.specs.Names.{has_name};
 
+mod allowed;
+
 use crate::disk::Disk;
 use crate::fault::StepFault;
 use crate::file::Listed;
