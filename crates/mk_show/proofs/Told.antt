@@ -1,11 +1,16 @@
 -- What is known of a race or a stale read that is told.
-use Rattle.std.proofs.Common.{◌≡◌, ℕ, ◌<◌, List, [], ◌∷◌, ◌++◌, length, map, true, ◌⊎◌, inl, inr, refl, sym, ◌∙◌, ap, subst}
+use Rattle.std.proofs.Common.{◌≡◌, ℕ, ◌<◌, List, [], ◌∷◌, ◌++◌, length, map, true, Option, Some, None, Result, Ok, Err, Vec, ◌⊎◌, inl, inr, refl, sym, ◌∙◌, ap, subst}
 use Rattle.std.specs.List.{flat_map}
+use Rattle.std.specs.Prelude.{IfOk, MatchOption}
+use Rattle.std.specs.declared.alloc.AllocError.{AllocError}
+use Rattle.std.specs.declared.alloc.Global.{Global}
 use Rattle.mk_graph.specs.Membership.{Has}
 use Rattle.mk_graph.specs.Graph.{IsGraph, node}
 use Rattle.mk_graph.specs.Serial.{serial_order}
 use Rattle.mk_graph.specs.Setting.{IsNumberOf}
-use Rattle.mk_graph.specs.Turns.{Before}
+use Rattle.mk_graph.specs.World.{Disk, IsFirst}
+use Rattle.mk_world.specs.Steps.{step_of}
+use Rattle.mk_world.specs.declared.step.Step.{Step}
 use Rattle.mk_cert.specs.Candidates.{Candidate, Holds, no_record, other_commands, varying_commands, no_target, two_writers, given_written, own_read, unknown_read, loose, race, stale, selection, pairs_of_writers, choice_with_writes, static_candidates}
 use Rattle.mk_cert.specs.Conditions.{RacesWith, IsStale}
 use Rattle.mk_cert.specs.Laws.{ListedExactly}
@@ -15,7 +20,7 @@ use Rattle.mk_cert.specs.Subject.{Subject, footprints, name_of, reads_of, writes
 use Rattle.mk_cert.specs.declared.finding.Finding.{Finding}
 use Rattle.mk_cert.specs.declared.finding.Finding.TheVariants as found
 use Rattle.mk_find.specs.Findings.{AreFindings}
-use Rattle.mk_show.specs.Shown.{IsTold}
+use Rattle.mk_show.specs.Shown.{EndsInRace, HasStamps, IsNotShown, IsTold, Shows, ShowsStaleRead}
 use Rattle.mk_show.proofs.Chains.{has_recipe, recipe_is_node}
 
 -- some element is taken to what stands in a mapped list
@@ -160,3 +165,22 @@ race_numbers x recipe writer f is = ((writer_is_node x is.o f is.races.2, is.wri
 
 pub stale_number : (x : Subject) (recipe f : List ℕ) (is : IsStaleOf x recipe f) → IsNumberOf x.graph recipe is.t
 stale_number x recipe f is = (reader_is_node x is.t f is.stale.0, is.recipe_is)
+
+-- ---- what is answered to a finding
+
+module _ (x : Subject) (finding : Finding) where
+  -- what shows that a node races with another one shows the race that is told
+  pub race_answers : (recipe writer f : List ℕ) (o t : ℕ) → finding ≡ found.Race recipe writer f → IsNumberOf x.graph writer o → IsNumberOf x.graph recipe t → (answer : Result (Option (Vec Step Global)) AllocError)
+      → IfOk answer (λ shown. MatchOption shown (¬ (HasStamps x)) (λ steps. (d : Disk) → IsFirst x.graph (footprints x.setting) d → EndsInRace x.graph (footprints x.setting) d o t (map (step_of x.graph) steps.items)))
+      → IfOk answer (λ shown. MatchOption shown (IsNotShown x finding) (λ steps. Shows x finding steps.items))
+  race_answers recipe writer f o t is first second (Ok (Some steps)) ends = subst (λ (k : Finding). Shows x k steps.items) (sym is) (λ d one. (o, t, first, second, ends d one))
+  race_answers recipe writer f o t is first second (Ok None) few = inr few
+  race_answers recipe writer f o t is first second (Err e) h = tt
+
+  -- and what shows a stale read of a node the one that is told
+  pub stale_answers : (recipe f : List ℕ) (t : ℕ) → finding ≡ found.Stale recipe f → IsNumberOf x.graph recipe t → (answer : Result (Option (Vec Step Global)) AllocError)
+      → IfOk answer (λ shown. MatchOption shown (¬ (HasStamps x)) (λ steps. ShowsStaleRead x t f steps.items))
+      → IfOk answer (λ shown. MatchOption shown (IsNotShown x finding) (λ steps. Shows x finding steps.items))
+  stale_answers recipe f t is number (Ok (Some steps)) ends = subst (λ (k : Finding). Shows x k steps.items) (sym is) (λ d one. (t, number, ends d one))
+  stale_answers recipe f t is number (Ok None) few = inr few
+  stale_answers recipe f t is number (Err e) h = tt

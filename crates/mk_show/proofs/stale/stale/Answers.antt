@@ -1,4 +1,4 @@
-use Rattle.std.proofs.Common.{◌≡◌, ◌+◌, ◌*◌, ◌≤◌, ℕ, List, refl, sym, subst}
+use Rattle.std.proofs.Common.{◌≡◌, ◌+◌, ◌*◌, ◌≤◌, ℕ, List, sym, subst}
 use Rattle.std.proofs.lemmas.Bool.{false≢true}
 use Rattle.mk_foot.specs.Setting as recorded
 use Rattle.mk_graph.specs.Graph.{Graph}
@@ -20,13 +20,6 @@ returns-then-not-has_stamps c = λ enough.
     let room = subst (λ (n : ℕ). n + (2 * writings x.graph (footprints x.setting) (serial_order x.graph) + 1) ≤ last_stamp) (sym c.clock.ensures) (enough (disk_of h.world.disk) first.first) in
     false≢true (c.if-not-has_stamps.ensures.1 room)
 
-pub make_edit_make-requires-clause-first : goal.make_edit_make-requires-clause-first
-make_edit_make-requires-clause-first c =
-    let x = c.args.subject.now in
-    let h = c.in_ok-history.history in
-    subst (λ (k : Graph). IsFirstOf k x.setting h.world) c.graph.ensures.value (subst (λ (s : recorded.Setting). IsFirstOf c.graph.result.now s h.world) c.setting.ensures c.in_ok-history.ensures.first)
-
-pub make_edit_make-requires-clause-stamps : goal.make_edit_make-requires-clause-stamps
-make_edit_make-requires-clause-stamps c =
-    let x = c.args.subject.now in
-    subst (λ (n : ℕ). n + (2 * writings x.graph (footprints x.setting) (serial_order x.graph) + 1) ≤ last_stamp) c.clock.ensures (c.if-not-has_stamps.ensures.0 refl)
+pub returns : goal.returns
+returns c =
+    subst (λ (steps : List Step). ShowsStaleRead c.args.subject.now c.args.t c.args.file.now steps) (sym c.into_steps.ensures) c.in_ok-make_edit_make.ensures
