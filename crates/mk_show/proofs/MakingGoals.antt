@@ -68,7 +68,7 @@ module _ (old : History) (idle : IsIdle old) (passed order : List ℕ) (in_order
         let same : world_of begun.world ≡ Busy (model.make_of 1 old.world.scene.graph.goals) (disk_of old.world.disk) = starts.leaves ∙ ap (λ (w : World). model.after old.world.scene.graph (setting old.world.scene) w (model.Make 1 old.world.scene.graph.goals)) is_idle in
         let whole : order ≡ order_of old.world.scene.graph old.world.scene.graph.goals = in_order ∙ sym (all old.world.scene.graph) in
         subst (λ (ns : List ℕ). MakesBut old.world.scene.graph (setting old.world.scene) (Has passed) (Busy (model.make_of 1 old.world.scene.graph.goals) (disk_of old.world.disk)) ns steps) whole
-            (subst (λ (w : World). MakesBut old.world.scene.graph (setting old.world.scene) (Has passed) w order steps) same at_old)
+        (subst (λ (w : World). MakesBut old.world.scene.graph (setting old.world.scene) (Has passed) w order steps) same at_old)
 
     -- all that makes the nodes is legal
     pub may_make : (steps : List model.Step) → MakesOn begun passed order steps → MayGoOn begun steps
@@ -152,13 +152,13 @@ module _ (x : Subject) (d : Disk) (h : History) (xs : List model.Step) (came : C
   pub may_make_goals : (passed : List ℕ) → ((steps : List model.Step) → MakesGoalsBut x.graph (footprints x.setting) (Has passed) (model.disk_after x.graph (footprints x.setting) d xs) steps → model.IsLegal x.graph (footprints x.setting) (model.after_all x.graph (footprints x.setting) (Idle d) xs) (one_make x.graph.goals steps)) → MayMakeGoals h passed
   may_make_goals passed legal =
       subst (λ (scene : Scene). (steps : List model.Step) → MakesGoalsBut scene.graph (setting scene) (Has passed) (disk_of h.world.disk) steps → model.IsLegal scene.graph (setting scene) (world_in scene h.world.disk h.world.make) (one_make scene.graph.goals steps)) (sym came.scene)
-          (λ steps makes. subst (λ (w : World). model.IsLegal x.graph (footprints x.setting) w (one_make x.graph.goals steps)) (sym world_is) (legal steps (subst (λ (e : Disk). MakesGoalsBut x.graph (footprints x.setting) (Has passed) e steps) disk_is makes)))
+      (λ steps makes. subst (λ (w : World). model.IsLegal x.graph (footprints x.setting) w (one_make x.graph.goals steps)) (sym world_is) (legal steps (subst (λ (e : Disk). MakesGoalsBut x.graph (footprints x.setting) (Has passed) e steps) disk_is makes)))
 
   -- and edits
   pub may_edit : (f : FileName) → ((edit : List model.Step) → IsEditOf (footprints x.setting) f (model.disk_after x.graph (footprints x.setting) d xs) edit → model.IsLegal x.graph (footprints x.setting) (model.after_all x.graph (footprints x.setting) (Idle d) xs) edit) → MayEdit h f
   may_edit f legal =
       subst (λ (scene : Scene). (edit : List model.Step) → IsEditOf (setting scene) f (disk_of h.world.disk) edit → model.IsLegal scene.graph (setting scene) (world_in scene h.world.disk h.world.make) edit) (sym came.scene)
-          (λ edit is. subst (λ (w : World). model.IsLegal x.graph (footprints x.setting) w edit) (sym world_is) (legal edit (subst (λ (e : Disk). IsEditOf (footprints x.setting) f e edit) disk_is is)))
+      (λ edit is. subst (λ (w : World). model.IsLegal x.graph (footprints x.setting) w edit) (sym world_is) (legal edit (subst (λ (e : Disk). IsEditOf (footprints x.setting) f e edit) disk_is is)))
 
   -- by a make of all goals
   module _ (k : History) (passed : List ℕ) (made : GoesOnMakingGoals h k passed) where
@@ -244,5 +244,5 @@ module _ (x : Subject) (t : ℕ) (f : FileName) (passed : List ℕ) (exact : (n 
         ends_stale d is =
             let whole = shown made.steps edited.edit again.steps all_shown in
             subst (λ (e : Disk). EndsStale x.graph (footprints x.setting) e t f (map (step_of x.graph) four.steps)) (sym (one_first x.graph (footprints x.setting) d (disk_of one.world.disk) is first.first))
-                (subst (λ (steps : List model.Step). EndsStale x.graph (footprints x.setting) (disk_of one.world.disk) t f steps) (sym steps_are)
-                    (record { first = made.steps; edit = edited.edit; second = again.steps; parts = refl; shows = all_shown; legal = whole.0; later = whole.1 }))
+            (subst (λ (steps : List model.Step). EndsStale x.graph (footprints x.setting) (disk_of one.world.disk) t f steps) (sym steps_are)
+            (record { first = made.steps; edit = edited.edit; second = again.steps; parts = refl; shows = all_shown; legal = whole.0; later = whole.1 }))

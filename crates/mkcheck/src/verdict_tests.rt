@@ -139,7 +139,8 @@ fn says_no(rt: HostRuntime) -> Result<(), Fail> {
 }
 
 // All is made, the header is edited, and all but the compilation is made again.
-const STALE_PLAN: &str = "make 1\nbegin a.o\nlook a.o a.c\nlook a.o h.h\nput a.o a.o 3\ndone a.o\nbegin p\nlook p a.o\nput p p 4\ndone p\nend\nedit h.h 5\nmake 1\npass a.o\nbegin p\nlook p a.o\nput p p 4\ndone p\nend\n";
+const STALE_PLAN: &str =
+    "make 1\nbegin a.o\nlook a.o a.c\nlook a.o h.h\nput a.o a.o 3\ndone a.o\nbegin p\nlook p a.o\nput p p 4\ndone p\nend\nedit h.h 5\nmake 1\npass a.o\nbegin p\nlook p a.o\nput p p 4\ndone p\nend\n";
 
 const CHECK_FIRST: &[&str] = &["check", "-b", "B", "-e", "1"];
 

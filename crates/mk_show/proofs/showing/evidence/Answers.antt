@@ -77,4 +77,4 @@ returns-in-Some-number_of-2 c =
     let x = c.args.subject.now in
     let t = subst (λ (g : Graph). IsNumberOf g c.in-Stale.recipe c.in-Some-number_of-2.t) c.graph-graph.ensures.value c.in-Some-number_of-2.ensures in
     stale_answers x c.args.finding.now c.in-Stale.recipe c.in-Stale.file c.in-Some-number_of-2.t c.in-Stale.is t c.stale.result
-        (subst (λ (f : List ℕ). IfOk c.stale.result (λ shown. MatchOption shown (¬ (HasStamps x)) (λ steps. ShowsStaleRead x c.in-Some-number_of-2.t f steps.items))) c.as_str.ensures c.stale.ensures)
+    (subst (λ (f : List ℕ). IfOk c.stale.result (λ shown. MatchOption shown (¬ (HasStamps x)) (λ steps. ShowsStaleRead x c.in-Some-number_of-2.t f steps.items))) c.as_str.ensures c.stale.ensures)
