@@ -8,4 +8,4 @@ pub mod Simulating
 pub mod Builds
 pub mod Promising
 pub mod OneVerdict
-pub mod Showing
+pub mod FindingPlans

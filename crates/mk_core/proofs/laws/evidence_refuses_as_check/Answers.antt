@@ -1,4 +1,4 @@
-use Rattle.mk_core.proofs.Showing.{refused_alike}
+use Rattle.mk_core.proofs.FindingPlans.{refused_alike}
 use Rattle.mk_core.proofs.laws.evidence_refuses_as_check.Goals as goal
 
 pub returns : goal.returns

@@ -4,7 +4,7 @@ use Rattle.mk_core.specs.Judging.{AnswersJudged}
 use Rattle.mk_core.specs.Steps.{seen}
 use Rattle.mk_core.proofs.Answering.{seen_answers}
 use Rattle.mk_core.proofs.Faults.{some_with}
-use Rattle.mk_core.proofs.Showing.{seen_judged}
+use Rattle.mk_core.proofs.FindingPlans.{seen_judged}
 use Rattle.mk_core.proofs.showing.evidence_text.Goals as goal
 
 pub returns-clause-answer : goal.returns-clause-answer
