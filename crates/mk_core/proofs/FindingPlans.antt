@@ -1,11 +1,15 @@
 -- Plans that show what is found.
-use Rattle.std.proofs.Common.{◌≡◌, ℕ, suc, ◌+◌, ◌<◌, ◌≤◌, List, [], ◌∷◌, ◌++◌, length, get_or, inl, inr, refl, sym, ap, subst, ◌∙◌, Option, Some, None, Result, Ok, Err, arith}
-use Rattle.std.specs.Prelude.{⊤}
+use Rattle.std.proofs.Common.{◌≡◌, ℕ, zero, suc, ◌+◌, ◌<◌, ◌≤◌, List, [], ◌∷◌, ◌++◌, length, get_or, inl, inr, refl, sym, ap, subst, ◌∙◌, Option, Some, None, Result, Ok, Err, Vec, arith}
+use Rattle.std.specs.Prelude.{⊤, IfOk, MatchOption, option_map}
+use Rattle.std.specs.declared.alloc.AllocError.{AllocError}
+use Rattle.std.specs.declared.alloc.Global.{Global}
 use Rattle.std.proofs.lemmas.List.{length-append}
 use Rattle.mk_cert.specs.Subject.{Subject}
 use Rattle.mk_cert.specs.declared.finding.Finding.{Finding}
 use Rattle.mk_graph.specs.Membership.{Has}
+use Rattle.mk_find.specs.Findings.{AreFindings}
 use Rattle.mk_graph.specs.Laws.{SerialReachesEachOnce}
+use Rattle.mk_show.specs.Shown.{IsNotShown}
 use Rattle.mk_infer.specs.Laws as inferring
 use Rattle.mk_infer.specs.declared.fault.InferFault.{InferFault}
 use Rattle.mk_read.specs.Files.{Told}
@@ -13,7 +17,7 @@ use Rattle.mk_core.specs.declared.request.Request.{Request}
 use Rattle.mk_core.specs.declared.verdict.Verdict.{Verdict}
 use Rattle.mk_core.specs.Answer.{Answers}
 use Rattle.mk_core.specs.CheckAnswer.{AnswersCheck, GivesVerdict}
-use Rattle.mk_core.specs.EvidenceAnswer.{AnswersEvidence, GivesEvidence, IsNumbered}
+use Rattle.mk_core.specs.EvidenceAnswer.{AnswersEvidence, GivesEvidence, IsEvidenceText, IsNumbered, IsPlanFor}
 use Rattle.mk_core.specs.Judging.{AnswersJudged}
 use Rattle.mk_core.specs.Laws.{EvidenceRefusesAsCheck, IsSettled, refusal_of}
 use Rattle.mk_core.specs.Ready.{Ready, ready_for}
@@ -45,14 +49,15 @@ numbered_stands found number finding is = subst (λ (l : List Finding). Has l fi
 -- it is at the place before its number
 pub numbered_at : (found : List Finding) (place : ℕ) (other : Finding) → place < length found → IsNumbered found (place + 1) (get_or found place other)
 numbered_at [] place other low = absurd (omega arith)
-numbered_at (f ∷ found) 0 other low = record { before = []; after = found; parts = refl; place = refl }
+numbered_at (f ∷ found) zero other low = record { before = []; after = found; parts = refl; place = refl }
 numbered_at (f ∷ found) (suc place) other low =
     let rest = numbered_at found place other (omega arith) in
+    let more = rest.place in
     record {
       before = f ∷ rest.before;
       after = rest.after;
       parts = ap (λ (l : List Finding). f ∷ l) rest.parts;
-      place = ap (λ (n : ℕ). n + 1) rest.place;
+      place = omega arith;
     }
 
 -- a number is that of one of them
@@ -75,6 +80,13 @@ one_numbered found number one other a b =
     same (x ∷ xs) (y ∷ ys) us vs e many =
         let rest : xs ++ one ∷ us ≡ ys ++ other ∷ vs = cc in
         same xs ys us vs rest (omega arith)
+
+-- what is answered of a finding is answered of its number
+pub plan_answers : (x : Subject) (number : ℕ) (found : List Finding) → AreFindings x found → (finding : Finding) → IsNumbered found number finding → (answer : Result (Option (Vec ℕ Global)) AllocError) → IfOk answer (λ plan. MatchOption plan (IsNotShown x finding) (λ text. IsPlanFor x finding text.items))
+    → IfOk answer (λ plan. IsEvidenceText x number (option_map (λ text. text.items) plan))
+plan_answers x number found are finding is (Ok (Some text)) plan = (found, are, finding, is, plan)
+plan_answers x number found are finding is (Ok None) none = (found, are, λ other it. subst (λ (k : Finding). IsNotShown x k) (one_numbered found number finding other is it) none)
+plan_answers x number found are finding is (Err e) h = tt
 
 -- ---- a plan is refused as a verdict is
 

@@ -17,13 +17,17 @@ pub record IsNumbered (found : List Finding) (number : ℕ) (finding : Finding) 
   pub parts : found ≡ before ++ finding ∷ after
   pub place : number ≡ length before + 1
 
+-- the plan of steps that show the finding
+abbrev pub IsPlanFor : Subject → Finding → List ℕ → Type 0
+IsPlanFor x finding plan =
+    (steps : List Step) × Shows x finding steps × (plan ≡ plan_text x.graph steps)
+
 -- The plan is that of steps that show the finding with this number. There is none where there is no
 -- such finding, or nothing shows it.
 abbrev pub IsEvidenceText : Subject → ℕ → Option (List ℕ) → Type 0
 IsEvidenceText x number (Some plan) =
     (found : List Finding) × AreFindings x found ×
-    (finding : Finding) × IsNumbered found number finding ×
-    (steps : List Step) × Shows x finding steps × (plan ≡ plan_text x.graph steps)
+    (finding : Finding) × IsNumbered found number finding × IsPlanFor x finding plan
 IsEvidenceText x number None =
     (found : List Finding) × AreFindings x found ×
     ((finding : Finding) → IsNumbered found number finding → IsNotShown x finding)

@@ -1,10 +1,12 @@
 //! A plan that shows what is found.
 
 ghost use Rattle.std.specs.Prelude.{◌≡◌, ◌<◌, ◌-◌, ◌^◌, ℕ, true, option_map, IfErr, IfOk, IfSome, MatchOption};
-ghost use Rattle.mk_cert.specs.declared.finding.Finding as found;
+ghost use Rattle.mk_cert.specs.declared.finding.Finding.{Finding as FindingValue};
 ghost use Rattle.mk_core.specs.NotRead.{evidence_not_read};
 ghost use Rattle.mk_core.specs.Answer.{Answers, Counts};
-ghost use Rattle.mk_core.specs.EvidenceAnswer.{AnswersEvidence, GivesEvidence, IsEvidenceText, IsNumbered};
+ghost use Rattle.mk_plans.specs.PlanText.{plan_text};
+ghost use Rattle.mk_show.specs.Shown.{IsNotShown, IsTold};
+ghost use Rattle.mk_core.specs.EvidenceAnswer.{AnswersEvidence, GivesEvidence, IsEvidenceText, IsNumbered, IsPlanFor};
 ghost use Rattle.mk_core.specs.Steps.{is_want_of_memory, seen};
 ghost use Rattle.mk_core.specs.declared.fault.Fault.TheVariants.{Memory};
 
@@ -17,12 +19,13 @@ use mk_find::findings;
 use mk_plans::plan_text;
 use mk_read::Files;
 use mk_show::evidence;
+use mk_world::Step;
 use std::alloc::{AllocError, Global};
 
 /// The one of these with this number, counted from 1.
 fn numbered(found: &[Finding], number: u64) -> Option<&Finding>
     ensures { MatchOption result
-        ((finding : found.Finding) → ¬ (IsNumbered found.now number finding))
+        ((finding : FindingValue) → ¬ (IsNumbered found.now number finding))
         (λ finding. IsNumbered found.now number finding.now) }
 {
     if number == 0 || number > found.len() as u64 {
@@ -31,20 +34,41 @@ fn numbered(found: &[Finding], number: u64) -> Option<&Finding>
     Some(&found[(number - 1) as usize])
 }
 
+/// The plan of steps.
+fn text_of(alloc: Global, subject: &Subject<'_>, steps: &[Step]) -> Result<Vec<u8>, AllocError>
+    ensures { IfOk result (λ text. text.items ≡ plan_text subject.now.graph steps.now) }
+{
+    let text = plan_text(alloc, subject.graph(), steps)?;
+    Ok(text.into_bytes())
+}
+
+/// The plan that shows a finding of the build, if there is one.
+fn plan_for(
+    alloc: Global,
+    subject: &Subject<'_>,
+    finding: &Finding,
+) -> Result<Option<Vec<u8>>, AllocError>
+    requires { IsTold subject.now finding.now }
+    ensures { IfOk result (λ plan. MatchOption plan (IsNotShown subject.now finding.now)
+        (λ text. IsPlanFor subject.now finding.now text.items)) }
+{
+    let Some(steps) = evidence(alloc, subject, finding)? else {
+        return Ok(None);
+    };
+    let text = text_of(alloc, subject, &steps)?;
+    Ok(Some(text))
+}
+
 /// The plan that shows what is found under this number, if there is one.
 fn plan_of(alloc: Global, subject: &Subject<'_>, number: u64) -> Result<Option<Vec<u8>>, AllocError>
     ensures { IfOk result (λ plan. IsEvidenceText subject.now number
         (option_map (λ text. text.items) plan)) }
 {
     let found = findings(alloc, subject)?;
-    let Some(finding) = numbered(&found, number) else {
-        return Ok(None);
-    };
-    let Some(steps) = evidence(alloc, subject, finding)? else {
-        return Ok(None);
-    };
-    let text = plan_text(alloc, subject.graph(), &steps)?;
-    Ok(Some(text.into_bytes()))
+    match numbered(&found, number) {
+        Some(finding) => plan_for(alloc, subject, finding),
+        None => Ok(None),
+    }
 }
 
 /// The plan that shows what is found under a number.
