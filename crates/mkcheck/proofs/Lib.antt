@@ -2,4 +2,4 @@ mod EndingLemmas
 mod ReaderLemmas
 mod RunLemmas
 mod PlainWords
-pub mod NumberLemmas
+mod NumberLemmas

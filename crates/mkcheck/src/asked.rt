@@ -77,7 +77,10 @@ fn requested(alloc: Global, matches: &ArgMatches<'_>) -> Result<Request, AllocEr
 fn number_at(matches: &ArgMatches<'_>, id: &str) -> Option<u64>
     ensures { result ≡ number_at id.now (rows_of (found_of matches.now)) }
 {
-    matches.get_str(id)?.parse().ok()
+    match matches.get_str(id) {
+        Some(text) => text.parse().ok(),
+        None => None,
+    }
 }
 
 // The value of an option that is needed.
