@@ -88,6 +88,12 @@ plan_answers x number found are finding is (Ok (Some text)) plan = (found, are, 
 plan_answers x number found are finding is (Ok None) none = (found, are, λ other it. subst (λ (k : Finding). IsNotShown x k) (one_numbered found number finding other is it) none)
 plan_answers x number found are finding is (Err e) h = tt
 
+-- what a request is answered, as a contract sees it
+pub evidence_seen : (told : Told) (request : Request) (number : ℕ) (answer : Result (Option (Vec ℕ Global)) Fault) → Answers told request (λ ready one. AnswersJudged (λ x a. GivesEvidence x number (seen (option_map (λ text. text.items)) a)) ready one) answer
+    → Answers told request (AnswersEvidence number) (seen (option_map (λ text. text.items)) answer)
+evidence_seen told request number answer a =
+    seen_answers (option_map (λ text. text.items)) told request (λ ready one. AnswersJudged (λ x k. GivesEvidence x number (seen (option_map (λ text. text.items)) k)) ready one) (AnswersEvidence number) (λ ready one h. seen_judged (option_map (λ text. text.items)) (λ x. GivesEvidence x number) ready one h) answer a
+
 -- ---- a plan is refused as a verdict is
 
 -- something is given
