@@ -1,7 +1,7 @@
 //! The command line.
 
 ghost use Rattle.std.specs.Prelude.{◌≡◌, IfOk, false};
-ghost use Rattle.clap.specs.Words.{app_of, rule_of};
+ghost use Rattle.clap.specs.Words.{app_of, rule_of, with_rule};
 ghost use Rattle.clap.specs.declared.builder.command.Command.TheViews.{out-Command as fields_of};
 ghost use Rattle.mkcheck.specs.CommandLine.{book_option, certificate_option, check_command, command_line, commands_option, evidence_option, graph_command, makefile_option, named_check, named_graph, named_program, named_simulate, named_verify, needed_book_option, no_defaults_option, only_certificate_option, plan_option, program, simulate_command, verify_command, with_judging, with_reading, words_argument};
 
@@ -203,15 +203,24 @@ fn graph_command<'a>(alloc: Global) -> Result<Command<'a>, AllocError>
         .arg(words_argument(alloc))
 }
 
+// A command with the options that say what is shown of a verdict.
+fn with_showing<'a>(alloc: Global, command: Command<'a>) -> Result<Command<'a>, AllocError>
+    requires { (fields_of command).has_globals ≡ false }
+    ensures app { IfOk result (λ c. app_of c ≡
+        with_rule (with_rule (app_of command.entry) only_certificate_option) evidence_option) }
+    ensures local { IfOk result (λ c. (fields_of c).has_globals ≡ false) }
+{
+    command
+        .arg(only_certificate_option(alloc))?
+        .arg(evidence_option(alloc))
+}
+
 fn check_command<'a>(alloc: Global) -> Result<Command<'a>, AllocError>
     ensures app { IfOk result (λ c. app_of c ≡ check_command) }
     ensures local { IfOk result (λ c. (fields_of c).has_globals ≡ false) }
 {
-    with_reading(alloc, named_check(alloc))?
-        .arg(needed_book_option(alloc))?
-        .arg(only_certificate_option(alloc))?
-        .arg(evidence_option(alloc))?
-        .arg(words_argument(alloc))
+    let needing = with_reading(alloc, named_check(alloc))?.arg(needed_book_option(alloc))?;
+    with_showing(alloc, needing)?.arg(words_argument(alloc))
 }
 
 fn verify_command<'a>(alloc: Global) -> Result<Command<'a>, AllocError>
