@@ -177,6 +177,25 @@ EXAMPLES = {
         1,
         "no stale a.o h.h\n",
     ),
+    "a plan of a race": (
+        {"makefile": RACE_RULES, "B": RACE},
+        ["check", "-b", "B", "-e", "1"],
+        1,
+        "make 1\nbegin b\n",
+    ),
+    "a plan of a stale read": (
+        {"makefile": PLAIN_RULES, "B": SHARING},
+        ["check", "-b", "B", "-e", "1"],
+        1,
+        "make 1\nbegin a.o\nlook a.o a.c\nlook a.o h.h\nput a.o a.o 3\ndone a.o\nbegin p\nlook p a.o\nput p p 4\ndone p\nend\n"
+        "edit h.h 5\nmake 1\npass a.o\nbegin p\nlook p a.o\nput p p 4\ndone p\nend\n",
+    ),
+    "no plan": (
+        {"makefile": RACE_RULES, "B": RACE},
+        ["check", "-b", "B", "-e", "2"],
+        1,
+        "no plan\n",
+    ),
     "a yes verified": (
         {"makefile": PLAIN_RULES, "B": FAR_READ, "C": FAR_CERTIFICATE},
         ["verify", "-b", "B", "-k", "C"],

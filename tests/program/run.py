@@ -37,9 +37,13 @@ COPY = {
     "P": "make 1\nbegin b\nfinish b\nend\nedit a\nmake 1\npass b",
     "Q": "# one make\nmake 1\nrun b\nend\n",
 }
+PLAN = (
+    "make 1\nbegin a.o\nlook a.o a.c\nlook a.o h.h\nput a.o a.o 3\ndone a.o\nbegin p\nlook p a.o\nput p p 4\ndone p\nend\n"
+    "edit h.h 5\nmake 1\npass a.o\nbegin p\nlook p a.o\nput p p 4\ndone p\nend\n"
+)
 HINT = "\n\nFor more information, try '--help'.\n"
 PROGRAM_USAGE = "\n\nUsage: mkcheck <COMMAND>" + HINT
-CHECK_USAGE = "\n\nUsage: mkcheck check [-f F] [-r] -b BOOK [-c] [WORD]..." + HINT
+CHECK_USAGE = "\n\nUsage: mkcheck check [-f F] [-r] -b BOOK [-c] [-e N] [WORD]..." + HINT
 VERIFY_USAGE = "\n\nUsage: mkcheck verify [-f F] [-r] -b BOOK -k CERT [WORD]..." + HINT
 SIMULATE_USAGE = "\n\nUsage: mkcheck simulate [-f F] [-r] -b BOOK -p PLAN [WORD]..." + HINT
 MISSING = "error: the following required arguments were not provided:\n  "
@@ -77,6 +81,12 @@ ANSWERS = [
     Run(["check", "-b", "H"], 1, "no stale a.o h.h\n"),
     Run(["check", "-c", "-b", "H"], 1, "no stale a.o h.h\n"),
     Run(["check", "-b", "U"], 1, "no record a.o\nno record p\n"),
+    Run(["check", "-b", "H", "-e", "1"], 1, PLAN),
+    Run(["check", "-c", "-b", "H", "-e", "1"], 1, PLAN),
+    Run(["check", "-b", "H", "-e", "2"], 1, "no plan\n"),
+    Run(["check", "-b", "U", "-e", "1"], 1, "no plan\n"),
+    Run(["check", "-b", "B", "-e", "1"], 0, WAYS),
+    Run(["check", "-b", "H", "-e", "0"], 2, err="error: invalid value '0' for '-e <N>': 0 is not in 1..18446744073709551615" + HINT),
     Run(["check", "-b", "N"], 2, "refused 38 N\n"),
     Run(["check", "-b", "makefile"], 2, "refused 51\n"),
     Run(["check", "-b", "B", "q"], 2, "refused 41 q\n"),

@@ -9,3 +9,4 @@ pub mod Builds
 pub mod Promising
 pub mod OneVerdict
 mod OneSimulation
+pub mod FindingPlans

@@ -102,7 +102,7 @@ module _ {A : Type 0} (reaches : SerialReachesEachOnce) (one_selection : inferri
       let is = one_selection ready.makefile (recorded ready) ready.goals again selected (is_settled answers again other b) (is_settled answers selected one a) t s in
       graph_one ready selected a (subst (λ (r : Result value.Graph InferFault). DrawsGraph answers r other) is b)
 
-  drawn_one : (r : Result Ready Fault) → Draws (AnswersJudged judges) r one → Draws (AnswersJudged judges) r other → one ≡ other
+  pub drawn_one : (r : Result Ready Fault) → Draws (AnswersJudged judges) r one → Draws (AnswersJudged judges) r other → one ≡ other
   drawn_one (Err fault) d h = d ∙ sym h
   drawn_one (Ok ready) d h = judged_one ready d h
 

@@ -1,5 +1,5 @@
 -- Laws of the answer.
-use Rattle.std.specs.Prelude.{◌≡◌, List, ℕ, Result, Ok, Err}
+use Rattle.std.specs.Prelude.{◌≡◌, ⊤, List, ℕ, Option, Result, Ok, Err}
 use Rattle.mk_read.specs.declared.fault.ReadFault.TheVariants.{ReadFailed}
 use Rattle.mk_read.specs.Files.{Told}
 use Rattle.mk_core.specs.declared.fault.Fault.{Fault}
@@ -7,10 +7,12 @@ use Rattle.mk_core.specs.declared.fault.Fault.TheVariants.{Read, FileReadFailed,
 use Rattle.mk_core.specs.declared.request.Request.{Request}
 use Rattle.mk_core.specs.Answer.{Answers}
 use Rattle.mk_core.specs.CheckAnswer.{AnswersCheck, IsYes}
+use Rattle.mk_core.specs.EvidenceAnswer.{AnswersEvidence}
 use Rattle.mk_core.specs.GraphAnswer.{AnswersGraph}
 use Rattle.mk_core.specs.Right.{IsRightFor}
 use Rattle.mk_core.specs.Simulation.{Simulation}
 use Rattle.mk_core.specs.SimulationAnswer.{AnswersSimulation}
+use Rattle.mk_core.specs.Steps.{seen}
 use Rattle.mk_core.specs.VerifyAnswer.{AnswersVerify}
 use Rattle.mk_core.specs.declared.verdict.Verdict.{Verdict}
 
@@ -49,6 +51,19 @@ SimulationIsOne =
     (files : Told) (request : Request) (plan : List ℕ) (one other : Result Simulation Fault) →
     IsSettled one → IsSettled other → Answers files request (AnswersSimulation files plan) one →
     Answers files request (AnswersSimulation files plan) other → one ≡ other
+
+-- the fault of an answer, if it is one
+abbrev pub refusal_of : {A : Type 0} → Result A Fault → Result ⊤ Fault
+refusal_of answer = seen (λ given. tt) answer
+
+-- A request for a plan that shows a finding is refused just where one for a verdict is, with the same
+-- fault.
+abbrev pub EvidenceRefusesAsCheck : Type 0
+EvidenceRefusesAsCheck =
+    (files : Told) (request : Request) (number : ℕ) (verdict : Result Verdict Fault)
+    (plan : Result (Option (List ℕ)) Fault) → IsSettled verdict → IsSettled plan →
+    Answers files request AnswersCheck verdict →
+    Answers files request (AnswersEvidence number) plan → refusal_of verdict ≡ refusal_of plan
 
 -- Where the answer to a request for a verdict is yes, all is right.
 abbrev pub YesIsRight : Type 0

@@ -13,6 +13,7 @@ pub mod Simulation
 pub mod SimulationAnswer
 pub mod Judging
 pub mod CheckAnswer
+pub mod EvidenceAnswer
 pub mod VerdictText
 pub mod VerifyAnswer
 pub mod Right

@@ -1,7 +1,7 @@
 //! Laws of answers. Each is the contract of a function that calls laws alone: who calls it has the
 //! law.
 
-ghost use Rattle.mk_core.specs.Laws.{AnswerIsOne, VerdictIsOne, VerificationIsOne, SimulationIsOne, YesIsRight, AcceptedIsRight};
+ghost use Rattle.mk_core.specs.Laws.{AnswerIsOne, VerdictIsOne, VerificationIsOne, SimulationIsOne, EvidenceRefusesAsCheck, YesIsRight, AcceptedIsRight};
 
 use mk_cert::laws::{selected_goals, verified_is_right};
 use mk_find::laws::{certificate_is_accepted, certificate_is_one, findings_are_one, no_findings};
@@ -44,6 +44,15 @@ pub fn simulation_is_one()
     first_world_is_one();
     run_is_one();
     selection_is_one();
+}
+
+/// `evidence_text` refuses a request just where `check` does, with the same fault, beside want of
+/// memory and failed reads.
+pub fn evidence_refuses_as_check()
+    ensures { EvidenceRefusesAsCheck }
+{
+    selection_is_one();
+    serial_reaches_each_once();
 }
 
 /// Where `check` answers yes, every legal history of the build is right, one make from a start is,

@@ -6,6 +6,8 @@ mod builds;
 #[cfg(test)]
 mod certificates;
 #[cfg(test)]
+mod evidence;
+#[cfg(test)]
 mod findings;
 #[cfg(test)]
 mod fronts;

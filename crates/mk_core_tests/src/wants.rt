@@ -1,6 +1,7 @@
 //! Verdicts and certificates where a growth is refused.
 
 use crate::builds::{certificate, part, verdict, verified};
+use crate::evidence::{number_in, plan_for};
 use crate::rows::unfolded;
 use std::process::Abort;
 use std::test::Fail;
@@ -40,6 +41,23 @@ fn verifies_or_wants_memory(rt: HostRuntime) -> Result<(), Fail> {
         let want = unfolded(alloc, part(row, 6))?;
         let got = verified(alloc, row, told.as_str())?;
         expect_or_memory(&rt, got.as_str(), want.as_str(), row);
+    }
+    Ok(())
+}
+
+/// A race and a stale read: the build, the number of the finding, and the plan that shows it.
+const SHOWN: &str =
+    r".PHONY: b¶all: x y¶x: a .WAIT b¶y: b¶a:¶→touch a¶b:¶→cat a¶‖‖‖a: > a = touch a; b: a > = cat a‖1‖make 1¶begin b¶
+p: a.o¶→cc -o p a.o¶a.o: a.c¶→cc -c a.c¶‖‖a.c h.h‖p: a.o > p = cc -o p a.o; a.o: a.c h.h > a.o = cc -c a.c‖1‖make 1¶begin a.o¶look a.o a.c¶look a.o h.h¶put a.o a.o 3¶done a.o¶begin p¶look p a.o¶put p p 4¶done p¶end¶edit h.h 5¶make 1¶pass a.o¶begin p¶look p a.o¶put p p 4¶done p¶end¶";
+
+/// With a growth refused a plan is want of memory, or the whole one.
+#[test]
+fn shows_or_wants_memory(rt: HostRuntime) -> Result<(), Fail> {
+    let alloc = rt.alloc();
+    for row in SHOWN.lines() {
+        let plan = String::from_utf8(plan_for(alloc, row, number_in(row))?)?;
+        let want = unfolded(alloc, part(row, 5))?;
+        expect_or_memory(&rt, plan.as_str(), want.as_str(), row);
     }
     Ok(())
 }

@@ -2,3 +2,4 @@ mod EndingLemmas
 mod ReaderLemmas
 mod RunLemmas
 mod PlainWords
+mod NumberLemmas

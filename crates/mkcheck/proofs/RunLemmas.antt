@@ -42,9 +42,14 @@ counts_seen view old new (Ok x) h = h
 counts_seen view old new (Err fault) h = h
 
 -- want of memory is an answer to a request for a verdict
-pub no_memory_answers : (told : Option Told) (request : Request) (only_certificate : Bool) → IfSome told (λ files. AnswersAsked files (Check request only_certificate) (Err Memory))
+pub no_memory_answers : (told : Option Told) (request : Request) (only_certificate : Bool) → IfSome told (λ files. AnswersAsked files (Check request only_certificate None) (Err Memory))
 no_memory_answers None request only_certificate = tt
 no_memory_answers (Some files) request only_certificate = (Err Memory, tt, refl)
+
+-- and to one for a plan
+pub no_memory_shows : (told : Option Told) (request : Request) (only_certificate : Bool) (number : ℕ) → IfSome told (λ files. AnswersAsked files (Check request only_certificate (Some number)) (Err Memory))
+no_memory_shows None request only_certificate number = tt
+no_memory_shows (Some files) request only_certificate number = (Err Memory, tt, refl)
 
 -- what status 0 of an answer promises, it promises where it is written
 pub promised : (told : Option Told) (asked : Asked) (answer : Result Shown Fault) (w : Written)

@@ -3,6 +3,7 @@ use Rattle.std.specs.Prelude.{◌≡◌, ℕ, ◌==◌, Bool, true, false, List,
 use Rattle.std.specs.List.{list_any}
 use Rattle.std.specs.Option.{option_map_or}
 use Rattle.clap.specs.declared.builder.action.ArgAction.TheVariants.{Count}
+use Rattle.clap.specs.declared.builder.value_parser.ValueParser.TheVariants.{Unsigned}
 use Rattle.clap.specs.Words.{App, Rule, new_app, new_rule, with_rule, with_subcommand}
 
 -- `-f F`, once at most
@@ -30,6 +31,15 @@ needed_book_option = record book_option { required = true }
 abbrev pub only_certificate_option : Rule
 only_certificate_option =
     record (new_rule (codes "only-certificate")) { short = Some 99; action = Some Count }
+
+-- `-e N`, once at most, with a whole number from 1 on, below 2 to the 64th
+abbrev pub evidence_option : Rule
+evidence_option =
+    record (new_rule (codes "evidence")) {
+      short = Some 101;
+      value_names = 1;
+      parser = Some (Unsigned 1 18446744073709551615);
+    }
 
 -- `-k CERT`, once
 abbrev pub certificate_option : Rule
@@ -75,11 +85,11 @@ graph_command =
     with_rule (with_rule (with_rule (with_reading named_graph) book_option) commands_option)
     words_argument
 
--- `check [-f F] [-r] -b BOOK [-c] [WORD..]`
+-- `check [-f F] [-r] -b BOOK [-c] [-e N] [WORD..]`
 abbrev pub check_command : App
 check_command =
-    with_rule (with_rule (with_rule (with_reading named_check) needed_book_option)
-    only_certificate_option) words_argument
+    with_rule (with_rule (with_rule (with_rule (with_reading named_check) needed_book_option)
+    only_certificate_option) evidence_option) words_argument
 
 -- `verify [-f F] [-r] -b BOOK -k CERT [WORD..]`
 abbrev pub verify_command : App

@@ -1,12 +1,14 @@
 -- What a run of the program writes.
-use Rattle.std.specs.Prelude.{◌≡◌, ℕ, Bool, false, List, [], ◌∷◌, ◌++◌, Option, Result, Ok, Err, IfSome, if◌then◌else◌}
+use Rattle.std.specs.Prelude.{◌≡◌, ℕ, Bool, false, List, [], ◌∷◌, ◌++◌, codes, Option, None, Some, Result, Ok, Err, IfSome, if◌then◌else◌}
 use Rattle.std.specs.String.{string_bytes}
 use Rattle.clap.specs.Words.{IsAmong, Kinds}
 use Rattle.clap.specs.declared.error.ErrorKind.{ErrorKind}
 use Rattle.clap.specs.declared.error.ErrorKind.TheVariants.{DisplayHelp, DisplayVersion, OutOfMemory}
 use Rattle.mk_core.specs.declared.fault.Fault.{Fault}
+use Rattle.mk_core.specs.declared.request.Request.{Request}
 use Rattle.mk_core.specs.Answer.{Answers, Counts}
 use Rattle.mk_core.specs.CheckAnswer.{AnswersCheck}
+use Rattle.mk_core.specs.EvidenceAnswer.{AnswersEvidence}
 use Rattle.mk_core.specs.GraphAnswer.{AnswersGraph}
 use Rattle.mk_core.specs.SimulationAnswer.{AnswersSimulation}
 use Rattle.mk_core.specs.Simulation.{Simulation}
@@ -51,19 +53,45 @@ shown_verdict only_certificate (Yes certificate recipes reads) =
     else verdict_text (Yes certificate recipes reads))
 shown_verdict only_certificate (No found) = record { text = verdict_text (No found); status = 1 }
 
+-- a plan shows a no
+abbrev pub shown_plan : List ℕ → Shown
+shown_plan plan = record { text = plan; status = 1 }
+
+-- of a no that there is no plan, where a plan alone is to be shown
+abbrev pub shown_without_plan : Bool → Verdict → Shown
+shown_without_plan only_certificate (Yes certificate recipes reads) =
+    shown_verdict only_certificate (Yes certificate recipes reads)
+shown_without_plan only_certificate (No found) = shown_plan (codes "no plan\n")
+
 -- the run of a plan has status 2 where a line was refused
 abbrev pub shown_run : Simulation → Shown
 shown_run run = record { text = run.text; status = if run.refused then 2 else 0 }
+
+-- the verdict on a build, as it is shown
+abbrev pub ShowsVerdict : Told → Request → (Verdict → Shown) → Result Shown Fault → Type 0
+ShowsVerdict files request shown answer =
+    (verdict : Result Verdict Fault) ×
+    Answers files request AnswersCheck verdict × (answer ≡ seen shown verdict)
+
+-- The plan alone is shown, if there is one; else the verdict is, which has no plan.
+abbrev pub ShowsPlan : Told → Request → Bool → Result (Option (List ℕ)) Fault →
+    Result Shown Fault → Type 0
+ShowsPlan files request only_certificate (Ok (Some plan)) answer = answer ≡ Ok (shown_plan plan)
+ShowsPlan files request only_certificate (Ok None) answer =
+    ShowsVerdict files request (shown_without_plan only_certificate) answer
+ShowsPlan files request only_certificate (Err fault) answer = answer ≡ Err fault
 
 -- Over files that are told, what is shown of the answer to what is asked, or its fault.
 abbrev pub AnswersAsked : Told → Asked → Result Shown Fault → Type 0
 AnswersAsked files (Graph request) answer =
     (text : Result (List ℕ) Fault) ×
     Answers files request (AnswersGraph request.commands) text × (answer ≡ seen shown_text text)
-AnswersAsked files (Check request only_certificate) answer =
-    (verdict : Result Verdict Fault) ×
-    Answers files request AnswersCheck verdict ×
-    (answer ≡ seen (shown_verdict only_certificate) verdict)
+AnswersAsked files (Check request only_certificate None) answer =
+    ShowsVerdict files request (shown_verdict only_certificate) answer
+AnswersAsked files (Check request only_certificate (Some number)) answer =
+    (plan : Result (Option (List ℕ)) Fault) ×
+    Answers files request (AnswersEvidence number) plan ×
+    ShowsPlan files request only_certificate plan answer
 AnswersAsked files (Verify request certificate) answer =
     (text : Result (List ℕ) Fault) ×
     Answers files request (AnswersVerify files certificate) text × (answer ≡ seen shown_text text)
@@ -74,7 +102,7 @@ AnswersAsked files (Simulate request plan) answer =
 -- What status 0 says of what is asked, over files that are told: a build that is judged, by itself
 -- or by a certificate, is right.
 abbrev pub Promises : Told → Asked → Type 0
-Promises files (Check request only_certificate) = IsRightFor files request
+Promises files (Check request only_certificate evidence) = IsRightFor files request
 Promises files (Verify request certificate) = IsRightFor files request
 Promises files asked = Unit {0}
 

@@ -1,18 +1,18 @@
 //! The answer to what is asked.
 
-ghost use Rattle.std.specs.Prelude.{◌≡◌, ◌<◌, ◌-◌, ◌^◌, ◌∷◌, ◌++◌, [], IfOk, IfSome};
+ghost use Rattle.std.specs.Prelude.{◌≡◌, ◌<◌, ◌-◌, ◌^◌, ◌∷◌, ◌++◌, [], None, Some, IfOk, IfSome};
 ghost use Rattle.mk_core.specs.Answer.{Counts};
 ghost use Rattle.mk_core.specs.Right.{IsRightFor};
 ghost use Rattle.mk_ways.specs.Writing.{value_of};
 ghost use Rattle.serde_json.specs.Written.{compact_text};
-ghost use Rattle.mkcheck.specs.Run.{AnswersAsked, Promises, shown_run, shown_text, shown_verdict};
+ghost use Rattle.mkcheck.specs.Run.{AnswersAsked, Promises, shown_plan, shown_run, shown_text, shown_verdict, shown_without_plan};
 ghost use Rattle.mkcheck.specs.declared.asked.Asked.TheVariants.{Check};
 
 use crate::asked::Asked;
 use crate::run::{DONE, NO, REFUSED};
 use mk_core::{
-    Fault, Files, Request, Simulation, Verdict, check, graph_text, render, simulate_text,
-    verify_text,
+    Fault, Files, Request, Simulation, Verdict, check, evidence_text, graph_text, render,
+    simulate_text, verify_text,
 };
 use mk_ways::{Certificate, certificate_text};
 use std::alloc::{AllocError, Global};
@@ -72,6 +72,30 @@ fn shown_verdict(
     }
 }
 
+// What is shown of a plan that shows a finding.
+fn shown_plan(plan: Vec<u8>) -> Shown
+    ensures { result ≡ shown_plan plan.items }
+{
+    Shown {
+        text: plan,
+        status: NO,
+    }
+}
+
+// What is shown of a verdict where a plan alone is to be shown, and there is none.
+fn shown_without_plan(
+    alloc: Global,
+    verdict: &Verdict,
+    only_certificate: bool,
+) -> Result<Shown, AllocError>
+    ensures { IfOk result (λ shown. shown ≡ shown_without_plan only_certificate verdict.now) }
+{
+    match verdict {
+        Verdict::Yes { .. } => shown_verdict(alloc, verdict, only_certificate),
+        Verdict::No(_) => Ok(shown_plan(Vec::from_slice(alloc, b"no plan\n")?)),
+    }
+}
+
 // What is shown of the run of a plan.
 fn shown_run(run: Simulation) -> Shown
     ensures { result ≡ shown_run run }
@@ -93,13 +117,37 @@ fn answer_check<F: Files>(
     requires { F.failed files.old < 2 ^ 64 - 1 }
     ensures map { F.told files.new ≡ F.told files.old }
     ensures answer { IfSome (F.told files.old)
-        (λ told. AnswersAsked told (Check request.now only_certificate) result) }
+        (λ told. AnswersAsked told (Check request.now only_certificate None) result) }
     ensures right { IfSome (F.told files.old)
         (λ told. IfOk result (λ shown. shown.status ≡ 0 → IsRightFor told request.now)) }
     ensures counted { Counts (F.failed files.old) (F.failed files.new) result }
 {
     let verdict = check(alloc, files, request)?;
     let shown = shown_verdict(alloc, &verdict, only_certificate)?;
+    Ok(shown)
+}
+
+// The plan alone that shows the finding with this number, or the verdict, which has no such plan.
+fn answer_plan<F: Files>(
+    alloc: Global,
+    files: &mut F,
+    request: &Request,
+    only_certificate: bool,
+    number: u64,
+) -> Result<Shown, Fault>
+    requires { F.failed files.old < 2 ^ 64 - 1 }
+    ensures map { F.told files.new ≡ F.told files.old }
+    ensures answer { IfSome (F.told files.old)
+        (λ told. AnswersAsked told (Check request.now only_certificate (Some number)) result) }
+    ensures right { IfSome (F.told files.old)
+        (λ told. IfOk result (λ shown. shown.status ≡ 0 → IsRightFor told request.now)) }
+    ensures counted { Counts (F.failed files.old) (F.failed files.new) result }
+{
+    if let Some(plan) = evidence_text(alloc, files, request, number)? {
+        return Ok(shown_plan(plan));
+    }
+    let verdict = check(alloc, files, request)?;
+    let shown = shown_without_plan(alloc, &verdict, only_certificate)?;
     Ok(shown)
 }
 
@@ -120,7 +168,13 @@ pub fn answer<F: Files>(alloc: Global, files: &mut F, asked: &Asked) -> Result<S
         Asked::Check {
             request,
             only_certificate,
+            evidence: None,
         } => answer_check(alloc, files, request, *only_certificate),
+        Asked::Check {
+            request,
+            only_certificate,
+            evidence: Some(number),
+        } => answer_plan(alloc, files, request, *only_certificate, *number),
         Asked::Verify {
             request,
             certificate,

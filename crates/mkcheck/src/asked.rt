@@ -3,7 +3,7 @@
 ghost use Rattle.std.specs.Prelude.{◌≡◌, [], codes, unwrap_or, IfOk};
 ghost use Rattle.clap.specs.Words.{all_of, first_of, found_of, rows_of};
 ghost use Rattle.mk_core.specs.Words.{goals_of, operands_of};
-ghost use Rattle.mkcheck.specs.Asked.{asked_by, needed, requested};
+ghost use Rattle.mkcheck.specs.Asked.{asked_by, needed, number_at, requested};
 
 use clap::ArgMatches;
 use mk_core::{Name, Names, Operands, Request, split_words};
@@ -19,6 +19,8 @@ pub enum Asked {
         request: Request,
         /// Whether a yes shows the certificate alone.
         only_certificate: bool,
+        /// Of a no, the number of the finding whose plan alone is shown.
+        evidence: Option<u64>,
     },
     /// `verify`: whether the certificate of this name shows that the build is right.
     Verify {
@@ -71,6 +73,16 @@ fn requested(alloc: Global, matches: &ArgMatches<'_>) -> Result<Request, AllocEr
     })
 }
 
+// The number that an option gives, where it has one.
+fn number_at(matches: &ArgMatches<'_>, id: &str) -> Option<u64>
+    ensures { result ≡ number_at id.now (rows_of (found_of matches.now)) }
+{
+    match matches.get_str(id) {
+        Some(text) => text.parse().ok(),
+        None => None,
+    }
+}
+
 // The value of an option that is needed.
 fn needed(alloc: Global, matches: &ArgMatches<'_>, id: &str) -> Result<Name, AllocError>
     ensures { IfOk result (λ name. name ≡ needed id.now (rows_of (found_of matches.now))) }
@@ -90,6 +102,7 @@ pub fn asked_by(alloc: Global, name: &str, matches: &ArgMatches<'_>) -> Result<A
         "check" => Ok(Asked::Check {
             request,
             only_certificate: matches.get_count("only-certificate") > 0,
+            evidence: number_at(matches, "evidence"),
         }),
         "verify" => Ok(Asked::Verify {
             request,

@@ -1,11 +1,11 @@
 //! The command line.
 
 ghost use Rattle.std.specs.Prelude.{◌≡◌, IfOk, false};
-ghost use Rattle.clap.specs.Words.{app_of, rule_of};
+ghost use Rattle.clap.specs.Words.{app_of, rule_of, with_rule};
 ghost use Rattle.clap.specs.declared.builder.command.Command.TheViews.{out-Command as fields_of};
-ghost use Rattle.mkcheck.specs.CommandLine.{book_option, certificate_option, check_command, command_line, commands_option, graph_command, makefile_option, named_check, named_graph, named_program, named_simulate, named_verify, needed_book_option, no_defaults_option, only_certificate_option, plan_option, program, simulate_command, verify_command, with_judging, with_reading, words_argument};
+ghost use Rattle.mkcheck.specs.CommandLine.{book_option, certificate_option, check_command, command_line, commands_option, evidence_option, graph_command, makefile_option, named_check, named_graph, named_program, named_simulate, named_verify, needed_book_option, no_defaults_option, only_certificate_option, plan_option, program, simulate_command, verify_command, with_judging, with_reading, words_argument};
 
-use clap::{Arg, ArgAction, Command};
+use clap::{Arg, ArgAction, Command, value_parser};
 use std::alloc::{AllocError, Global};
 
 macro_rules! with_statuses {
@@ -22,7 +22,10 @@ const STATUSES: &str = with_statuses!("");
 
 const BEHIND_GRAPH: &str = with_statuses!("Example: mkcheck graph -c -f Makefile CC=cc prog\n\n");
 
-const BEHIND_CHECK: &str = with_statuses!("Example: mkcheck check -b footprints.json prog\n\n");
+const BEHIND_CHECK: &str = with_statuses!(
+    "Example: mkcheck check -b footprints.json prog\n\
+    Example: mkcheck check -b footprints.json -e 1 prog > plan.txt\n\n"
+);
 
 const BEHIND_VERIFY: &str = with_statuses!(
     "Example: mkcheck verify -b footprints.json -k certificate.json prog\n\n"
@@ -80,6 +83,17 @@ fn only_certificate_option<'a>(alloc: Global) -> Arg<'a>
         .short('c')
         .action(ArgAction::Count)
         .help("Prints of a yes the certificate alone, on one line")
+}
+
+fn evidence_option<'a>(alloc: Global) -> Arg<'a>
+    ensures rule { rule_of result ≡ evidence_option }
+    ensures local { result.global ≡ false }
+{
+    Arg::new(alloc, "evidence")
+        .short('e')
+        .value_name("N")
+        .value_parser(value_parser!(u64).range(1..))
+        .help("Prints of a no the plan that shows its finding N alone, or no plan")
 }
 
 fn certificate_option<'a>(alloc: Global) -> Arg<'a>
@@ -144,7 +158,7 @@ fn named_check<'a>(alloc: Global) -> Command<'a>
 {
     Command::new(alloc, "check")
         .about("Says yes where parallel and incremental makes build right, else no and why")
-        .override_usage("mkcheck check [-f F] [-r] -b BOOK [-c] [WORD]...")
+        .override_usage("mkcheck check [-f F] [-r] -b BOOK [-c] [-e N] [WORD]...")
         .after_help(BEHIND_CHECK)
 }
 
@@ -189,14 +203,24 @@ fn graph_command<'a>(alloc: Global) -> Result<Command<'a>, AllocError>
         .arg(words_argument(alloc))
 }
 
+// A command with the options that say what is shown of a verdict.
+fn with_showing<'a>(alloc: Global, command: Command<'a>) -> Result<Command<'a>, AllocError>
+    requires { (fields_of command).has_globals ≡ false }
+    ensures app { IfOk result (λ c. app_of c ≡
+        with_rule (with_rule (app_of command.entry) only_certificate_option) evidence_option) }
+    ensures local { IfOk result (λ c. (fields_of c).has_globals ≡ false) }
+{
+    command
+        .arg(only_certificate_option(alloc))?
+        .arg(evidence_option(alloc))
+}
+
 fn check_command<'a>(alloc: Global) -> Result<Command<'a>, AllocError>
     ensures app { IfOk result (λ c. app_of c ≡ check_command) }
     ensures local { IfOk result (λ c. (fields_of c).has_globals ≡ false) }
 {
-    with_reading(alloc, named_check(alloc))?
-        .arg(needed_book_option(alloc))?
-        .arg(only_certificate_option(alloc))?
-        .arg(words_argument(alloc))
+    let needing = with_reading(alloc, named_check(alloc))?.arg(needed_book_option(alloc))?;
+    with_showing(alloc, needing)?.arg(words_argument(alloc))
 }
 
 fn verify_command<'a>(alloc: Global) -> Result<Command<'a>, AllocError>
@@ -251,7 +275,7 @@ fn with_judging<'a>(alloc: Global, command: Command<'a>) -> Result<Command<'a>, 
 }
 
 /// The command line of the program: `graph [-f F] [-r] [-b BOOK] [-c] [WORD..]`, `check [-f F]
-/// [-r] -b BOOK [-c] [WORD..]`, `verify [-f F] [-r] -b BOOK -k CERT [WORD..]`, `simulate [-f F]
+/// [-r] -b BOOK [-c] [-e N] [WORD..]`, `verify [-f F] [-r] -b BOOK -k CERT [WORD..]`, `simulate [-f F]
 /// [-r] -b BOOK -p PLAN [WORD..]`, `--help` and `--version`. It reads the words behind the
 /// program's name. The error is want of memory alone.
 pub fn command_line<'a>(alloc: Global) -> Result<Command<'a>, AllocError>

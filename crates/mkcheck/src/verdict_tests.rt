@@ -138,6 +138,65 @@ fn says_no(rt: HostRuntime) -> Result<(), Fail> {
     Ok(())
 }
 
+// All is made, the header is edited, and all but the compilation is made again.
+const STALE_PLAN: &str =
+    "make 1\nbegin a.o\nlook a.o a.c\nlook a.o h.h\nput a.o a.o 3\ndone a.o\nbegin p\nlook p a.o\nput p p 4\ndone p\nend\nedit h.h 5\nmake 1\npass a.o\nbegin p\nlook p a.o\nput p p 4\ndone p\nend\n";
+
+const CHECK_FIRST: &[&str] = &["check", "-b", "B", "-e", "1"];
+
+#[test]
+fn shows_findings(rt: HostRuntime) -> Result<(), Fail> {
+    let alloc = rt.alloc();
+    for words in [CHECK_FIRST, &["check", "-c", "-e1", "-b", "B"]] {
+        let outcome = checked(alloc, PROGRAM, STALE_BOOK, words)?;
+        expect(&rt, outcome, STALE_PLAN, 1);
+        let outcome = checked(alloc, RACE, RACE_BOOK, words)?;
+        expect(&rt, outcome, "make 1\nbegin b\n", 1);
+        let outcome = checked(alloc, PROGRAM, NO_RECORDS, words)?;
+        expect(&rt, outcome, "no plan\n", 1);
+    }
+    for number in ["2", "18446744073709551615"] {
+        let words = ["check", "-b", "B", "-e", number];
+        let outcome = checked(alloc, RACE, RACE_BOOK, &words)?;
+        expect(&rt, outcome, "no plan\n", 1);
+    }
+    Ok(())
+}
+
+#[test]
+fn a_yes_stays(rt: HostRuntime) -> Result<(), Fail> {
+    let alloc = rt.alloc();
+    let out = "yes 2 recipes 2 reads\nway a.o a.c source a.o\nway p a.o written p a.o\n";
+    expect(&rt, checked(alloc, PROGRAM, BOOK, CHECK_FIRST)?, out, 0);
+    let words = ["check", "-b", "B", "-e", "1", "-c"];
+    let line = format!(in alloc; "{CERTIFICATE}\n")?;
+    let outcome = checked(alloc, PROGRAM, WIDE_BOOK, &words)?;
+    expect(&rt, outcome, line.as_str(), 0);
+    expect(
+        &rt,
+        checked(alloc, PROGRAM, "{", CHECK_FIRST)?,
+        "refused 51\n",
+        2,
+    );
+    Ok(())
+}
+
+#[test]
+fn needs_a_number(rt: HostRuntime) -> Result<(), Fail> {
+    let alloc = rt.alloc();
+    for number in ["0", "-1", "x", "", "1.5", "18446744073709551616"] {
+        let words = ["check", "-b", "B", "-e", number];
+        expect_fault(&rt, checked(alloc, RACE, RACE_BOOK, &words)?);
+    }
+    let words = ["check", "-b", "B", "-e"];
+    expect_fault(&rt, checked(alloc, RACE, RACE_BOOK, &words)?);
+    let words = ["check", "-b", "B", "-e", "1", "-e", "2"];
+    expect_fault(&rt, checked(alloc, RACE, RACE_BOOK, &words)?);
+    let words = ["verify", "-b", "B", "-k", "K", "-e", "1"];
+    expect_fault(&rt, checked(alloc, RACE, RACE_BOOK, &words)?);
+    Ok(())
+}
+
 #[test]
 fn refuses_to_judge(rt: HostRuntime) -> Result<(), Fail> {
     let alloc = rt.alloc();

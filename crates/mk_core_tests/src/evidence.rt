@@ -1,0 +1,130 @@
+//! Rows of plans that show what is found, and of their runs.
+
+ghost use Rattle.std.specs.Prelude.{◌≡◌, ◌<◌, ◌-◌, ◌^◌};
+ghost use Rattle.mk_read.specs.MemFiles.{failures_of};
+
+use crate::builds::{files_of_build, part, request_of};
+use crate::rows::unfolded;
+use mk_core::{Fault, MemFiles, Request, Simulation, evidence_text, fault_text, simulate_text};
+use std::alloc::{AllocError, Global};
+use std::process::Abort;
+use std::test::Fail;
+
+/// What is told of a plan: the plan, that there is none, or the line of the fault.
+fn told(alloc: Global, answer: Result<Option<Vec<u8>>, Fault>) -> Result<Vec<u8>, AllocError> {
+    match answer {
+        Ok(Some(plan)) => Ok(plan),
+        Ok(None) => Vec::from_slice(alloc, b"none\n"),
+        Err(fault) => fault_text(alloc, &fault),
+    }
+}
+
+/// The plan that shows a finding over files.
+fn plan_over(
+    alloc: Global,
+    files: &mut MemFiles,
+    asked: &Request,
+    number: u64,
+) -> Result<Vec<u8>, AllocError>
+    requires { failures_of files.old < 2 ^ 64 - 1 }
+{
+    told(alloc, evidence_text(alloc, files, asked, number))
+}
+
+/// The text of a run, or the line of its fault.
+fn text_of(alloc: Global, answer: Result<Simulation, Fault>) -> Result<Vec<u8>, AllocError> {
+    match answer {
+        Ok(run) => Ok(run.text),
+        Err(fault) => fault_text(alloc, &fault),
+    }
+}
+
+/// What is printed of the run of the plan `P` over files.
+fn run_over(alloc: Global, files: &mut MemFiles, asked: &Request) -> Result<Vec<u8>, AllocError>
+    requires { failures_of files.old < 2 ^ 64 - 1 }
+{
+    text_of(alloc, simulate_text(alloc, files, asked, "P"))
+}
+
+/// The plan that shows the finding of a build under a number.
+pub(crate) fn plan_for(alloc: Global, build: &str, number: u64) -> Result<Vec<u8>, Fail> {
+    let mut files = files_of_build(alloc, build)?;
+    Ok(plan_over(alloc, &mut files, &request_of(alloc, build)?, number)?)
+}
+
+/// What is printed of the run of a plan over a build.
+fn ran(alloc: Global, build: &str, plan: &[u8]) -> Result<Vec<u8>, Fail> {
+    let mut files = files_of_build(alloc, build)?;
+    files.add("P", plan)?;
+    Ok(run_over(alloc, &mut files, &request_of(alloc, build)?)?)
+}
+
+/// The number that a row names, and 0 for none.
+pub(crate) fn number_in(row: &str) -> u64 {
+    match part(row, 4).parse::<u64>() {
+        Ok(number) => number,
+        Err(_) => 0,
+    }
+}
+
+/// Each line of the table is a build, `‖`, the number of a finding, `‖`, its plan, `‖`, and what is
+/// printed of the plan's run, where there is one.
+fn expect_plans(rt: &impl Abort, alloc: Global, table: &str) -> Result<(), Fail> {
+    for row in table.lines() {
+        let plan = plan_for(alloc, row, number_in(row))?;
+        let text = String::from_utf8(plan.clone()?)?;
+        let want = unfolded(alloc, part(row, 5))?;
+        assert_eq!(rt; text.as_str(), want.as_str(), "the plan of {row:?}");
+        if text.as_str() != "none\n" {
+            let run = String::from_utf8(ran(alloc, row, &plan)?)?;
+            let want = unfolded(alloc, part(row, 6))?;
+            assert_eq!(rt; run.as_str(), want.as_str(), "the run of {row:?}");
+        }
+    }
+    Ok(())
+}
+
+/// Races: of a phony reader behind a `.WAIT` that another path goes round; between two goals, whose
+/// order `.NOTPARALLEL` doesn't tell; that a make of one goal shows; and of a writer of several
+/// files.
+const RACES: &str =
+    r".PHONY: b¶all: x y¶x: a .WAIT b¶y: b¶a:¶→touch a¶b:¶→cat a¶‖‖‖a: > a = touch a; b: a > = cat a‖1‖make 1¶begin b¶‖plan ok¶
+.NOTPARALLEL:¶.PHONY: b¶all: a b¶a:¶→touch a¶b:¶→cat a¶‖a b‖‖a: > a = touch a; b: a > = cat a‖1‖make 1¶begin b¶‖plan ok¶
+all: p .WAIT q¶p: s¶→mk p¶q: s¶→mk q¶‖all q‖s‖p: s > p x = mk p; q: s x > q = mk q‖1‖make 1¶begin q¶‖plan ok¶
+all: g p q¶g: s¶→mk g¶p: s¶→mk p¶q: g¶→mk q¶‖‖s‖g: s > g = mk g; p: s > p x y = mk p; q: g y > q = mk q‖1‖make 1¶begin g¶look g s¶put g g 2¶done g¶begin q¶‖plan ok¶";
+
+#[test]
+fn plans_show_races(rt: HostRuntime) -> Result<(), Fail> {
+    expect_plans(&rt, rt.alloc(), RACES)
+}
+
+/// Stale reads: of a source that isn't named, where what reads the recipe's file is run again; of
+/// one, by a recipe that carries another one over a name without a recipe; of a file that isn't
+/// given, with no edit; and of such a file beside a race.
+const STALE: &str =
+    r"p: a.o¶→cc -o p a.o¶a.o: a.c¶→cc -c a.c¶‖‖a.c h.h‖p: a.o > p = cc -o p a.o; a.o: a.c h.h > a.o = cc -c a.c‖1‖make 1¶begin a.o¶look a.o a.c¶look a.o h.h¶put a.o a.o 3¶done a.o¶begin p¶look p a.o¶put p p 4¶done p¶end¶edit h.h 5¶make 1¶pass a.o¶begin p¶look p a.o¶put p p 4¶done p¶end¶‖a.c 1 1¶a.o 3 3¶h.h 2 2¶p 4 4¶a.c 1 1¶a.o 3 3¶h.h 5 5¶p 4 6¶plan ok¶
+m.o: m.c y.tab.h¶→cc -c m.c¶y.tab.h: y.tab.c¶y.tab.c: gram.y¶→yacc -d gram.y¶‖‖m.c gram.y h.h‖m.o: m.c y.tab.h h.h > m.o = cc -c m.c; y.tab.c: gram.y > y.tab.c y.tab.h = yacc -d gram.y‖1‖make 1¶begin y.tab.c¶look y.tab.c gram.y¶put y.tab.c y.tab.c 4¶put y.tab.c y.tab.h 5¶done y.tab.c¶begin m.o¶look m.o m.c¶look m.o y.tab.h¶look m.o h.h¶put m.o m.o 6¶done m.o¶end¶edit h.h 7¶make 1¶pass y.tab.c¶pass m.o¶end¶‖gram.y 1 1¶h.h 2 2¶m.c 3 3¶m.o 6 6¶y.tab.c 4 4¶y.tab.h 5 5¶gram.y 1 1¶h.h 7 7¶m.c 3 3¶m.o 6 6¶y.tab.c 4 4¶y.tab.h 5 5¶plan ok¶
+all: p .WAIT q¶p: s¶→mk p¶q:¶→mk q¶‖‖s‖p: s > p = mk p; q: p > q = mk q‖1‖make 1¶begin p¶look p s¶put p p 2¶done p¶begin q¶look q p¶put q q 3¶done q¶end¶make 1¶begin p¶look p s¶put p p 2¶done p¶pass q¶end¶‖p 2 2¶q 3 3¶s 1 1¶p 2 4¶q 3 3¶s 1 1¶plan ok¶
+all: p q¶p:¶→mk p¶q:¶→mk q¶‖‖‖p: > p = mk p; q: p > q = mk q‖2‖make 1¶begin p¶put p p 1¶done p¶begin q¶look q p¶put q q 2¶done q¶end¶make 1¶begin p¶put p p 1¶done p¶pass q¶end¶‖p 1 1¶q 2 2¶p 1 3¶q 2 2¶plan ok¶";
+
+#[test]
+fn plans_show_stale_reads(rt: HostRuntime) -> Result<(), Fail> {
+    expect_plans(&rt, rt.alloc(), STALE)
+}
+
+/// Findings of which there is no plan, numbers of none, and a yes.
+const NONE: &str = r"b: a¶→do b¶a:¶→do a¶‖‖‖a: > a log = do a; b: a > b log = do b‖1‖none¶
+p: s¶→mk p¶‖‖s t‖p: s t > p = mk p‖2‖none¶
+p: s¶→mk p¶‖‖s t‖p: s t > p = mk p‖18446744073709551615‖none¶
+p: s¶→mk p¶‖‖s‖p: s > p = mk p‖1‖none¶
+p: s¶→mk p¶‖‖‖p: s > p = mk p‖1‖refused 41 s";
+
+#[test]
+fn other_findings_have_no_plan(rt: HostRuntime) -> Result<(), Fail> {
+    for row in NONE.lines() {
+        let plan = String::from_utf8(plan_for(rt.alloc(), row, number_in(row))?)?;
+        let want = unfolded(rt.alloc(), part(row, 5))?;
+        assert_eq!(rt; plan.as_str(), want.as_str(), "of {row:?}");
+    }
+    Ok(())
+}

@@ -1,0 +1,17 @@
+pub mod Steps
+pub mod FirstDisks
+pub mod Counts
+pub mod Stamps
+pub mod Names
+pub mod Histories
+pub mod Taken
+pub mod Races
+pub mod RaceHistories
+pub mod Texts
+pub mod WholeRuns
+pub mod Counted
+pub mod Chains
+pub mod StaleSteps
+pub mod MakingGoals
+pub mod Told
+pub mod Shown

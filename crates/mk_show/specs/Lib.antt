@@ -1,0 +1,4 @@
+pub mod Histories
+pub mod Makes
+pub mod Shown
+pub mod Laws

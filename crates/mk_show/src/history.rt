@@ -1,0 +1,310 @@
+//! Histories, step by step from the first world.
+
+ghost use Rattle.std.specs.Prelude.{◌≡◌, ◌∷◌, ◌<◌, ◌+◌, [], length, map, true, IfOk, OnOk};
+ghost use Rattle.std.specs.Option.{option_copied};
+ghost use Rattle.std.specs.String.{string_bytes};
+ghost use Rattle.mk_foot.specs.Setting.{record_for};
+ghost use Rattle.mk_graph.specs.Graph.{IsGraph, node};
+ghost use Rattle.mk_graph.specs.Schedule as model;
+ghost use Rattle.mk_graph.specs.Setting.{name};
+ghost use Rattle.mk_graph.specs.SerialMake.{puts, whole_run};
+ghost use Rattle.mk_graph.specs.World.{last_stamp};
+ghost use Rattle.mk_world.specs.Running.{contents_of};
+ghost use Rattle.mk_world.specs.State.{disk_of, number_of, setting};
+ghost use Rattle.mk_world.specs.Steps.{IsFirstOf, step_of};
+ghost use Rattle.mk_show.specs.Histories.{GoesOn, MayGoOn, looks_and_puts, puts_in};
+
+use mk_foot::{Record, Setting};
+use mk_graph::{Graph, Node};
+use mk_lines::{Name, Names};
+use mk_world::{Step, World};
+use std::alloc::{AllocError, Global};
+use std::marker::Model;
+
+/// The steps that were taken from the first world of a graph and a setting, and the world that
+/// they left.
+#[derive(Drop)]
+pub struct History<'a> {
+    alloc: Global,
+    graph: &'a Graph,
+    setting: &'a Setting,
+    world: World<'a>,
+    steps: Vec<Step>,
+}
+
+impl<'a> Model for History<'a> {
+    ghost use Rattle.std.specs.Prelude.{◌≡◌};
+    ghost use Rattle.mk_show.specs.Histories as value;
+
+    ghost Value = { value.History };
+
+    ghost view = { λ h. record { world = h.world; steps = h.steps.items } };
+
+    ghost invariant = { λ h. h.world.scene ≡
+        record { graph = h.graph.now; recorded = h.setting.now } };
+}
+
+impl<'a> History<'a> {
+    /// No steps.
+    pub fn new(
+        alloc: Global,
+        graph: &'a Graph,
+        setting: &'a Setting,
+    ) -> Result<History<'a>, AllocError>
+        ensures first { IfOk result (λ h. IsFirstOf graph.entry.now setting.entry.now h.world) }
+        ensures steps { IfOk result (λ h. h.steps ≡ []) }
+    {
+        Ok(History {
+            alloc,
+            graph,
+            setting,
+            world: World::new(alloc, graph, setting)?,
+            steps: Vec::new(alloc),
+        })
+    }
+
+    /// The steps.
+    pub fn into_steps(self) -> Vec<Step>
+        ensures { result.items ≡ self.entry.steps }
+    {
+        self.steps
+    }
+
+    /// The last stamp that was given.
+    pub fn clock(&self) -> u64
+        ensures { result ≡ self.now.world.disk.clock }
+    {
+        self.world.clock()
+    }
+
+    /// Takes a step that is allowed.
+    fn take(&mut self, step: Step) -> Result<(), AllocError>
+        requires { MayGoOn self.old (step_of self.old.world.scene.graph step ∷ []) }
+        ensures { OnOk result (GoesOn self.old self.new
+            (step_of self.old.world.scene.graph step ∷ [])) }
+    {
+        self.world.take_allowed(&step)?;
+        self.steps.push(step)?;
+        Ok(())
+    }
+
+    /// A copy of a text as a name.
+    fn copy(&self, text: &str) -> Result<Name, AllocError>
+        ensures { IfOk result (λ copy. copy ≡ text.now) }
+    {
+        Name::new(self.alloc, text)
+    }
+
+    /// A node.
+    fn node(&self, number: usize) -> &'a Node
+        requires { number < length self.now.world.scene.graph.nodes }
+        ensures value { result.now ≡ node self.now.world.scene.graph number }
+        ensures graph { IsGraph self.now.world.scene.graph }
+    {
+        let nodes = self.graph.nodes();
+        &nodes[number]
+    }
+
+    /// A copy of the name of a node.
+    fn name_of(&self, number: usize) -> Result<Name, AllocError>
+        requires { number < length self.now.world.scene.graph.nodes }
+        ensures { IfOk result (λ name. number_of self.now.world.scene.graph name ≡ number) }
+    {
+        let node = self.node(number);
+        let copy = self.copy(node.name.as_str())?;
+        Ok(copy)
+    }
+
+    /// The names of all goals.
+    fn goals(&self) -> Result<Names, AllocError>
+        ensures { IfOk result (λ goals. map (number_of self.now.world.scene.graph) goals ≡
+            self.now.world.scene.graph.goals) }
+    {
+        let goals = self.graph.goals();
+        let mut names = Vec::with_capacity(self.alloc, goals.len())?;
+        for goal in goals {
+            names.push(self.name_of(*goal)?)?;
+        }
+        Ok(Names::new(names))
+    }
+
+    /// A make of all goals with one job starts.
+    pub fn start(&mut self) -> Result<(), AllocError>
+        requires { MayGoOn self.old (model.Make 1 self.old.world.scene.graph.goals ∷ []) }
+        ensures { OnOk result (GoesOn self.old self.new
+            (model.Make 1 self.old.world.scene.graph.goals ∷ [])) }
+    {
+        let goals = self.goals()?;
+        self.take(Step::Make { jobs: 1, goals })
+    }
+
+    /// The make ends.
+    pub fn end_make(&mut self) -> Result<(), AllocError>
+        requires { MayGoOn self.old (model.EndMake ∷ []) }
+        ensures { OnOk result (GoesOn self.old self.new (model.EndMake ∷ [])) }
+    {
+        self.take(Step::EndMake)
+    }
+
+    /// A file is edited, and holds its new stamp then.
+    pub fn edit(&mut self, file: &str) -> Result<(), AllocError>
+        requires stamp { self.old.world.disk.clock < last_stamp }
+        requires legal { MayGoOn self.old
+            (model.Edit file.now (self.old.world.disk.clock + 1) ∷ []) }
+        ensures { OnOk result (GoesOn self.old self.new
+            (model.Edit file.now (self.old.world.disk.clock + 1) ∷ [])) }
+    {
+        let content = self.clock() + 1;
+        let file = self.copy(file)?;
+        self.take(Step::Edit { file, content })
+    }
+
+    /// A node is passed.
+    pub fn pass(&mut self, number: usize) -> Result<(), AllocError>
+        requires node { number < length self.old.world.scene.graph.nodes }
+        requires legal { MayGoOn self.old (model.Pass number ∷ []) }
+        ensures { OnOk result (GoesOn self.old self.new (model.Pass number ∷ [])) }
+    {
+        let node = self.name_of(number)?;
+        self.take(Step::Pass { node })
+    }
+
+    /// A recipe begins.
+    pub fn begin(&mut self, number: usize) -> Result<(), AllocError>
+        requires node { number < length self.old.world.scene.graph.nodes }
+        requires legal { MayGoOn self.old (model.Begin number ∷ []) }
+        ensures { OnOk result (GoesOn self.old self.new (model.Begin number ∷ [])) }
+    {
+        let node = self.name_of(number)?;
+        self.take(Step::Begin { node })
+    }
+
+    /// A running recipe looks at a file.
+    fn look(&mut self, number: usize, file: &str) -> Result<(), AllocError>
+        requires node { number < length self.old.world.scene.graph.nodes }
+        requires legal { MayGoOn self.old (model.Look number file.now ∷ []) }
+        ensures { OnOk result (GoesOn self.old self.new (model.Look number file.now ∷ [])) }
+    {
+        let node = self.name_of(number)?;
+        let file = self.copy(file)?;
+        self.take(Step::Look { node, file })
+    }
+
+    /// A running recipe puts a content into a file.
+    fn put(&mut self, number: usize, file: &str, content: u64) -> Result<(), AllocError>
+        requires node { number < length self.old.world.scene.graph.nodes }
+        requires legal { MayGoOn self.old (model.Put number file.now content ∷ []) }
+        ensures { OnOk result (GoesOn self.old self.new (model.Put number file.now content ∷ [])) }
+    {
+        let node = self.name_of(number)?;
+        let file = self.copy(file)?;
+        self.take(Step::Put {
+            node,
+            file,
+            content,
+        })
+    }
+
+    /// A recipe ends.
+    fn end(&mut self, number: usize) -> Result<(), AllocError>
+        requires node { number < length self.old.world.scene.graph.nodes }
+        requires legal { MayGoOn self.old (model.End number ∷ []) }
+        ensures { OnOk result (GoesOn self.old self.new (model.End number ∷ [])) }
+    {
+        let node = self.name_of(number)?;
+        self.take(Step::End { node })
+    }
+
+    /// What is recorded of a node's recipe.
+    fn record_of(&self, number: usize) -> Option<&'a Record>
+        requires { number < length self.now.world.scene.graph.nodes }
+        ensures { option_copied result ≡ record_for self.now.world.scene.recorded.records
+            (name self.now.world.scene.graph number) }
+    {
+        let node = self.node(number);
+        self.setting.record_of(node.name.as_str())
+    }
+
+    /// What a recipe is to put: what is known of a run that saw what is there, else new stamps.
+    fn contents_for(&self, number: usize) -> Result<Vec<u64>, AllocError>
+        requires { number < length self.now.world.scene.graph.nodes }
+        ensures { IfOk result (λ contents. contents.items ≡
+            contents_of self.now.world.scene.graph (setting self.now.world.scene)
+            (disk_of self.now.world.disk) number) }
+    {
+        let node = self.node(number);
+        let contents = self.world.contents_for(node.name.as_str())?;
+        Ok(contents)
+    }
+
+    /// A running recipe looks at each of these files.
+    fn look_at(&mut self, number: usize, files: &[String]) -> Result<(), AllocError>
+        requires node { number < length self.old.world.scene.graph.nodes }
+        requires legal { MayGoOn self.old
+            (map (λ f. model.Look number f) (map string_bytes files.now)) }
+        ensures { OnOk result (GoesOn self.old self.new
+            (map (λ f. model.Look number f) (map string_bytes files.now))) }
+    {
+        for file in files {
+            self.look(number, file.as_str())?;
+        }
+        Ok(())
+    }
+
+    /// A running recipe puts these contents into these files.
+    fn put_into(
+        &mut self,
+        number: usize,
+        files: &[String],
+        contents: &[u64],
+    ) -> Result<(), AllocError>
+        requires node { number < length self.old.world.scene.graph.nodes }
+        requires legal { MayGoOn self.old
+            (puts number (map string_bytes files.now) contents.now) }
+        ensures { OnOk result (GoesOn self.old self.new
+            (puts number (map string_bytes files.now) contents.now)) }
+    {
+        let mut rest = contents;
+        for file in files {
+            let [content, after @ ..] = rest else {
+                return Ok(());
+            };
+            rest = after;
+            self.put(number, file.as_str(), *content)?;
+        }
+        Ok(())
+    }
+
+    /// A running recipe looks at all that it reads, and puts these contents into all that it writes.
+    fn look_and_put(&mut self, number: usize, contents: &[u64]) -> Result<(), AllocError>
+        requires node { number < length self.old.world.scene.graph.nodes }
+        requires recipe { (node self.old.world.scene.graph number).recipe ≡ true }
+        requires legal { MayGoOn self.old (looks_and_puts self.old number contents.now) }
+        ensures { OnOk result (GoesOn self.old self.new
+            (looks_and_puts self.old number contents.now)) }
+    {
+        let Some(record) = self.record_of(number) else {
+            return Ok(());
+        };
+        self.look_at(number, &record.reads)?;
+        self.put_into(number, &record.writes, contents)?;
+        Ok(())
+    }
+
+    /// A recipe is run whole: it begins, looks at all that it reads, puts what is known of a run
+    /// that saw the same, else new stamps, into all that it writes, and ends.
+    pub fn run(&mut self, number: usize) -> Result<(), AllocError>
+        requires node { number < length self.old.world.scene.graph.nodes }
+        requires recipe { (node self.old.world.scene.graph number).recipe ≡ true }
+        requires legal { MayGoOn self.old (whole_run self.old.world.scene.graph
+            (setting self.old.world.scene) number (puts_in self.old number)) }
+        ensures { OnOk result (GoesOn self.old self.new (whole_run self.old.world.scene.graph
+            (setting self.old.world.scene) number (puts_in self.old number))) }
+    {
+        let contents = self.contents_for(number)?;
+        self.begin(number)?;
+        self.look_and_put(number, &contents)?;
+        self.end(number)?;
+        Ok(())
+    }
+}

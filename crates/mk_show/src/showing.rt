@@ -1,0 +1,68 @@
+//! Evidence for what is found.
+
+ghost use Rattle.std.specs.Prelude.{◌≡◌, ℕ, IfOk, MatchOption};
+ghost use Rattle.mk_graph.specs.Setting.{IsNumberOf};
+ghost use Rattle.mk_show.specs.Shown.{IsNotShown, IsTold, Shows};
+
+use crate::race::race;
+use crate::stale::stale;
+use mk_cert::laws::listed_exactly;
+use mk_cert::{Finding, Subject};
+use mk_graph::Graph;
+use mk_graph::growth_laws::names_have_one_number;
+use mk_lines::Name;
+use mk_world::Step;
+use std::alloc::{AllocError, Global};
+
+/// The number of the node of this name.
+fn number_of(graph: &Graph, name: &Name) -> Option<usize>
+    ensures { MatchOption result ((n : ℕ) → ¬ (IsNumberOf graph.now name.now n))
+        (λ number. IsNumberOf graph.now name.now number) }
+{
+    graph
+        .nodes()
+        .iter()
+        .position(|node| node.name.as_str() == name.as_str())
+}
+
+/// A legal history that shows a finding of a build, where it is a race or a stale read; of another
+/// finding none.
+///
+/// For a race it is a make with one job whose last step begins the recipe while the writer isn't
+/// done. For a stale read it is a make of all goals with one job, an edit of the file where it is
+/// editable, and the same make again, in which the recipe and all that chains of carried recipes
+/// lead to from it are passed; at its end the file is newer than every file of the recipe.
+///
+/// There is none either where given files, two writings of each file that a recipe writes, and an
+/// edit would take more than 18,446,744,073,709,551,615 stamps. The error is want of memory alone.
+pub fn evidence(
+    alloc: Global,
+    subject: &Subject<'_>,
+    finding: &Finding,
+) -> Result<Option<Vec<Step>>, AllocError>
+    requires { IsTold subject.now finding.now }
+    ensures { IfOk result (λ found. MatchOption found (IsNotShown subject.now finding.now)
+        (λ steps. Shows subject.now finding.now steps.items)) }
+{
+    listed_exactly();
+    names_have_one_number();
+    let graph = subject.graph();
+    match finding {
+        Finding::Race { recipe, writer, .. } => {
+            let Some(o) = number_of(graph, writer) else {
+                return Ok(None);
+            };
+            let Some(t) = number_of(graph, recipe) else {
+                return Ok(None);
+            };
+            race(alloc, subject, o, t)
+        }
+        Finding::Stale { recipe, file } => {
+            let Some(t) = number_of(graph, recipe) else {
+                return Ok(None);
+            };
+            stale(alloc, subject, t, file.as_str())
+        }
+        _ => Ok(None),
+    }
+}

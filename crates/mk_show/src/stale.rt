@@ -1,0 +1,145 @@
+//! Evidence for a stale read.
+
+ghost use Rattle.std.specs.Prelude.{◌≡◌, ◌<◌, ◌≤◌, ◌+◌, ◌*◌, ◌↔◌, [], ℕ, length, IfOk, MatchOption, OnOk};
+ghost use Rattle.mk_graph.specs.Membership.{Has};
+ghost use Rattle.mk_graph.specs.Serial.{serial_order};
+ghost use Rattle.mk_graph.specs.Stale.{Chain};
+ghost use Rattle.mk_graph.specs.Setting.{writings};
+ghost use Rattle.mk_graph.specs.World.{last_stamp};
+ghost use Rattle.mk_world.specs.Steps.{IsFirstOf};
+ghost use Rattle.mk_cert.specs.Candidates.{static_candidates};
+ghost use Rattle.mk_cert.specs.Conditions.{IsStale};
+ghost use Rattle.mk_cert.specs.Listing.{Lists};
+ghost use Rattle.mk_cert.specs.Subject.{footprints};
+ghost use Rattle.mk_show.specs.Makes.{GoesOnEditing, GoesOnMakingGoals, IsIdle, MayEdit, MayMakeGoals};
+ghost use Rattle.mk_show.specs.Shown.{HasStamps, ShowsStaleRead};
+
+use crate::bound::has_stamps;
+use crate::history::History;
+use crate::making::make_but;
+use mk_cert::laws::{carried_exactly, nothing_found_is_sound};
+use mk_cert::{Subject, carried_lists};
+use mk_graph::build_laws::{first_is_a_start, stale_is_shown};
+use mk_graph::laws::{order_of_all_goals, serial_reaches_each_once};
+use mk_graph::{Graph, NodeSet};
+use mk_search::Search;
+use mk_search::laws::{none_by_places, one_way_at_a_place, places_are_below};
+use mk_world::Step;
+use std::alloc::{AllocError, Global};
+
+/// The recipe of a node, and all that chains of recipes lead to from it, of which each carries the
+/// next.
+fn chained(alloc: Global, subject: &Subject<'_>, t: usize) -> Result<NodeSet, AllocError>
+    requires { t < length subject.now.graph.nodes }
+    ensures { IfOk result (λ set. (n : ℕ) →
+        Has set n ↔ Chain subject.now.graph (footprints subject.now.setting) t n) }
+{
+    carried_exactly();
+    none_by_places();
+    one_way_at_a_place();
+    places_are_below();
+    let _graph = subject.graph();
+    let rows = carried_lists(alloc, subject)?;
+    let mut search = Search::new(alloc, &rows, t)?;
+    let mut set = NodeSet::new();
+    let mut place = 0;
+    while let Some(number) = search.visit(place)? {
+        set.insert(number);
+        place += 1;
+    }
+    Ok(set)
+}
+
+/// A make of all goals with one job, from its start to its end, in which recipes are run whole, but
+/// for those that are to be passed.
+fn make_all(
+    graph: &Graph,
+    history: &mut History<'_>,
+    order: &[usize],
+    passed: &NodeSet,
+) -> Result<(), AllocError>
+    requires graph { graph.now ≡ history.old.world.scene.graph }
+    requires order { order.now ≡ serial_order graph.now }
+    requires idle { IsIdle history.old }
+    requires legal { MayMakeGoals history.old passed.now }
+    ensures { OnOk result (GoesOnMakingGoals history.old history.new passed.now) }
+{
+    serial_reaches_each_once();
+    order_of_all_goals();
+    let _goals = graph.goals();
+    history.start()?;
+    make_but(graph, history, order, passed)?;
+    history.end_make()
+}
+
+/// An edit of the file, if it is editable.
+fn edit_if_editable(
+    subject: &Subject<'_>,
+    history: &mut History<'_>,
+    file: &str,
+) -> Result<(), AllocError>
+    requires scene { history.old.world.scene ≡
+        record { graph = subject.now.graph; recorded = subject.now.setting } }
+    requires idle { IsIdle history.old }
+    requires legal { MayEdit history.old file.now }
+    ensures { OnOk result (GoesOnEditing history.old history.new file.now) }
+{
+    if subject.setting().is_editable(file) {
+        history.edit(file)?;
+    }
+    Ok(())
+}
+
+/// A make of all goals, an edit of the file where it is editable, and a make of all goals again in
+/// which these nodes are passed.
+fn make_edit_make(
+    subject: &Subject<'_>,
+    history: &mut History<'_>,
+    t: usize,
+    file: &str,
+    passed: &NodeSet,
+) -> Result<(), AllocError>
+    requires nothing { Lists subject.now (static_candidates subject.now) [] }
+    requires stale { IsStale subject.now t file.now }
+    requires first { IsFirstOf subject.now.graph subject.now.setting history.old.world }
+    requires steps { history.old.steps ≡ [] }
+    requires stamps { history.old.world.disk.clock + (2 * writings subject.now.graph
+        (footprints subject.now.setting) (serial_order subject.now.graph) + 1) ≤ last_stamp }
+    requires passed { (n : ℕ) → Has passed.now n ↔
+        Chain subject.now.graph (footprints subject.now.setting) t n }
+    ensures { OnOk result (ShowsStaleRead subject.now t file.now history.new.steps) }
+{
+    first_is_a_start();
+    nothing_found_is_sound();
+    order_of_all_goals();
+    stale_is_shown();
+    let graph = subject.graph();
+    let order = graph.serial()?;
+    make_all(graph, history, &order, &NodeSet::new())?;
+    edit_if_editable(subject, history, file)?;
+    make_all(graph, history, &order, passed)
+}
+
+/// A make of all with one job, an edit of the file where it is editable, and the same make again
+/// in which the recipe of `t` and all that it reaches by carrying are passed; or none, where there
+/// are too few stamps.
+pub fn stale(
+    alloc: Global,
+    subject: &Subject<'_>,
+    t: usize,
+    file: &str,
+) -> Result<Option<Vec<Step>>, AllocError>
+    requires node { t < length subject.now.graph.nodes }
+    requires nothing { Lists subject.now (static_candidates subject.now) [] }
+    requires stale { IsStale subject.now t file.now }
+    ensures { IfOk result (λ found. MatchOption found (¬ (HasStamps subject.now))
+        (λ steps. ShowsStaleRead subject.now t file.now steps.items)) }
+{
+    let passed = chained(alloc, subject, t)?;
+    let mut history = History::new(alloc, subject.graph(), subject.setting())?;
+    if !has_stamps(subject, history.clock()) {
+        return Ok(None);
+    }
+    make_edit_make(subject, &mut history, t, file, &passed)?;
+    Ok(Some(history.into_steps()))
+}
