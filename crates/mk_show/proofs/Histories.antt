@@ -1,13 +1,12 @@
 -- Histories that go on.
-use Rattle.std.proofs.Common.{◌≡◌, ℕ, ◌<◌, List, [], ◌∷◌, ◌++◌, length, map, true, false, refl, sym, ap, ◌∙◌, subst, append_assoc, ◌⊎◌, inl, inr}
+use Rattle.std.proofs.Common.{◌≡◌, ℕ, List, [], ◌∷◌, ◌++◌, map, true, false, refl, sym, ap, ◌∙◌, subst, append_assoc, ◌⊎◌}
 use Rattle.std.proofs.lemmas.List.{append-nil, map-append}
 use Rattle.mk_graph.specs.Membership.{Has}
 use Rattle.mk_graph.specs.Graph.{node}
 use Rattle.mk_graph.specs.World.{World}
-use Rattle.mk_graph.specs.World as world
 use Rattle.mk_graph.specs.Schedule.{Step, Pass, IsLegal, after, after_all}
 use Rattle.mk_graph.specs.SerialMake.{whole_run}
-use Rattle.mk_graph.specs.InTurn.{MakesBut, ends, passes, runs, to_put}
+use Rattle.mk_graph.specs.InTurn.{MakesBut, ends, passes, runs}
 use Rattle.mk_world.specs.State.{Scene, setting, world_of}
 use Rattle.mk_world.specs.Steps.{step_of}
 use Rattle.mk_world.specs.declared.step.Step as named

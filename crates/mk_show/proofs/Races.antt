@@ -9,9 +9,9 @@ use Rattle.mk_graph.specs.Graph.{Graph, IsGraph, node}
 use Rattle.mk_graph.specs.Serial.{serial_order}
 use Rattle.mk_graph.specs.Setting.{Setting, writes, writings}
 use Rattle.mk_graph.specs.World.{Disk, World, Idle, Busy, IsStart, last_stamp}
-use Rattle.mk_graph.specs.Turns.{HasAll, Wanted, goal, onward, IsPart, Turns}
-use Rattle.mk_graph.specs.TurnLists.{until_begin, MakesTurns, RunsAlone, LeadsPast}
-use Rattle.mk_graph.specs.Schedule.{Step, Make, Begin, make_of, IsLegal, after, after_all}
+use Rattle.mk_graph.specs.Turns.{HasAll, Wanted, goal, onward, IsPart}
+use Rattle.mk_graph.specs.TurnLists.{until_begin, RunsAlone, LeadsPast}
+use Rattle.mk_graph.specs.Schedule.{Step, Begin, make_of, IsLegal, after, after_all}
 use Rattle.mk_graph.specs.InTurn.{MakesBut}
 use Rattle.mk_graph.specs.BuildLaws.{TurnListsRun}
 use Rattle.mk_graph.specs.Laws.{SerialReachesEachOnce}

@@ -1,13 +1,13 @@
 -- What a recipe is to put is what a plan gives it, where a whole run with it is legal.
-use Rattle.std.proofs.Common.{◌≡◌, ℕ, ◌+◌, ◌<◌, List, [], ◌∷◌, ◌++◌, length, map, Option, Some, None, refl, sym, ap, ◌∙◌, subst, min, arith}
+use Rattle.std.proofs.Common.{◌≡◌, ℕ, ◌+◌, ◌<◌, List, [], ◌∷◌, ◌++◌, length, map, Option, Some, None, refl, ap, subst, min, arith}
 use Rattle.std.specs.Prelude.{unwrap_or}
 use Rattle.mk_graph.specs.Graph.{Graph}
 use Rattle.mk_graph.specs.Setting.{FileName, Setting, reads, writes}
 use Rattle.mk_graph.specs.World.{Disk, Making, World, Idle, Busy, disk_of, content, last_stamp, written, outcome}
-use Rattle.mk_graph.specs.Schedule.{Step, Look, Put, End, IsLegal, after_all, begun, looked, has_put}
+use Rattle.mk_graph.specs.Schedule.{Look, End, IsLegal, after_all, begun, looked, has_put}
 use Rattle.mk_graph.specs.SerialMake.{puts, whole_run}
 use Rattle.mk_graph.specs.InTurn.{next_stamps, to_put}
-use Rattle.mk_world.specs.Running.{new_stamp, new_stamps, contents_of}
+use Rattle.mk_world.specs.Running.{new_stamps, contents_of}
 use Rattle.mk_show.proofs.Steps.{legal_front, legal_behind}
 
 -- looks leave the disk

@@ -1,12 +1,12 @@
 -- Steps one behind the other, and lists of steps that make nodes.
-use Rattle.std.proofs.Common.{◌≡◌, ℕ, List, [], ◌∷◌, ◌++◌, true, false, refl, sym, ap, ◌∙◌, subst, inl, inr, ◌⊎◌}
+use Rattle.std.proofs.Common.{◌≡◌, ℕ, List, [], ◌∷◌, ◌++◌, false, inl, inr, ◌⊎◌}
 use Rattle.std.proofs.lemmas.Bool.{cases_Bool, cases_eq}
 use Rattle.std.proofs.lemmas.List.Sums.{fold-append}
 use Rattle.mk_graph.specs.Membership.{Has}
 use Rattle.mk_graph.specs.Graph.{Graph, node}
 use Rattle.mk_graph.specs.Setting.{Setting}
 use Rattle.mk_graph.specs.World.{World, disk_of}
-use Rattle.mk_graph.specs.Schedule.{Step, Pass, Allowed, IsLegal, after, after_all}
+use Rattle.mk_graph.specs.Schedule.{Step, Pass, IsLegal, after, after_all}
 use Rattle.mk_graph.specs.SerialMake.{whole_run}
 use Rattle.mk_graph.specs.InTurn.{MakesBut, ends, passes, runs, to_put}
 

@@ -1,6 +1,6 @@
 -- Histories that took given steps from the first disk of a world.
-use Rattle.std.proofs.Common.{◌≡◌, ℕ, ◌<◌, List, [], ◌∷◌, ◌++◌, length, map, refl, sym, ap, ◌∙◌, subst}
-use Rattle.std.specs.Prelude.{Option, None}
+use Rattle.std.proofs.Common.{◌≡◌, ℕ, List, [], ◌++◌, map, sym, ap, ◌∙◌, subst}
+use Rattle.std.specs.Prelude.{Option}
 use Rattle.std.proofs.lemmas.List.{map-append}
 use Rattle.mk_foot.specs.Setting as recorded
 use Rattle.mk_graph.specs.Membership.{Has}
@@ -10,8 +10,7 @@ use Rattle.mk_graph.specs.Schedule.{Step, IsLegal, after_all}
 use Rattle.mk_graph.specs.InTurn.{MakesBut}
 use Rattle.mk_world.specs.State.{Scene, MakeState, setting, setting_of, disk_of, world_in, world_of}
 use Rattle.mk_world.specs.Steps.{step_of, IsFirstOf}
-use Rattle.mk_world.specs.declared.step.Step as named
-use Rattle.mk_show.specs.Histories.{History, MayGoOn, GoesOn, MakesOn, GoesOnMaking}
+use Rattle.mk_show.specs.Histories.{History, MayGoOn, GoesOn, MakesOn}
 use Rattle.mk_show.proofs.Steps.{after_appended, legal_behind}
 
 -- the history has taken these steps from this disk, on which no make was in progress

@@ -275,7 +275,8 @@ impl<'a> History<'a> {
         Ok(())
     }
 
-    /// A running recipe looks at all that it reads, and puts these contents into all that it writes.
+    /// A running recipe looks at all that it reads, and puts these contents into all that it
+    /// writes.
     fn look_and_put(&mut self, number: usize, contents: &[u64]) -> Result<(), AllocError>
         requires node { number < length self.old.world.scene.graph.nodes }
         requires recipe { (node self.old.world.scene.graph number).recipe ≡ true }

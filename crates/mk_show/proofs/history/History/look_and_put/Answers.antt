@@ -1,4 +1,4 @@
-use Rattle.std.proofs.Common.{◌≡◌, List, ℕ, map, string_bytes, String, Global, sym, ap, ◌∙◌}
+use Rattle.std.proofs.Common.{map, string_bytes, ap, ◌∙◌}
 use Rattle.mk_foot.specs.Book.{Record}
 use Rattle.mk_show.proofs.WholeRuns.{looks_legal, puts_legal, both_go, nothing_goes}
 use Rattle.mk_show.proofs.history.History.look_and_put.Goals as goal

@@ -1,4 +1,4 @@
-use Rattle.std.proofs.Common.{◌≡◌, ◌∷◌, ◌+◌, ◌<◌, List, ℕ, length, map, drop, String, Global, string_bytes, sym, ap, ◌∙◌, subst}
+use Rattle.std.proofs.Common.{◌<◌, length, map, String, Global, string_bytes, sym, ap, ◌∙◌, subst}
 use Rattle.mk_graph.specs.Schedule.{Look}
 use Rattle.mk_world.specs.State.{Scene}
 use Rattle.mk_show.proofs.Texts.{next_text, no_text}

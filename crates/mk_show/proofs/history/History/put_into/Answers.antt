@@ -1,4 +1,4 @@
-use Rattle.std.proofs.Common.{◌≡◌, ◌∷◌, ◌+◌, ◌<◌, List, ℕ, length, map, drop, String, Global, string_bytes, sym, ap, ◌∙◌, subst}
+use Rattle.std.proofs.Common.{◌<◌, List, length, String, Global, string_bytes, sym, ap, ◌∙◌, subst}
 use Rattle.mk_graph.specs.Setting.{FileName}
 use Rattle.mk_graph.specs.SerialMake.{puts}
 use Rattle.mk_world.specs.State.{Scene}
