@@ -1,0 +1,53 @@
+"""Measures `mkcheck check -e 1`, which prints a plan that shows the first finding, beside `mkcheck check`."""
+
+import os
+import sys
+from pathlib import Path
+
+from run import DATA, RUNS, asked, summary
+from verdicts import GROWTH_BOUND, Build, forgotten, recipe, spent, waiting, written
+
+# What is to be reached. The table shows it; no figure makes the run fail.
+RATIO_BOUND = 2.0
+
+
+def racing(count: int) -> Build:
+    """Targets that read the file of the last one, which nothing makes before them."""
+    names = [f"r{number}" for number in range(count)]
+    last = names[-1]
+    text = f"all: {' '.join(names[:2000])}\nall: {' '.join(names[2000:])}\n" + "".join(recipe(name, []) for name in names)
+    records = [(name, [f"touch {name}"], [] if name == last else [last]) for name in names]
+    return Build(text, [], records)
+
+
+SHAPES = [(forgotten, 1000, 2000), (waiting, 950, 1900), (racing, 2000, 4000)]
+
+
+def measured(program: str, build: Build) -> tuple[float, float, int]:
+    """The least times of `check` and of `check -e 1` in milliseconds, which take turns, and the size of the plan."""
+    makefile, book = written(build, "evidence")
+    check = [program, "check", "-f", makefile.name, "-b", book.name]
+    plan = DATA / "evidence.plan"
+    spent([*check, "-e", "1"], {1}, plan)
+    spent([program, "simulate", *check[2:], "-p", plan.name], {0}, Path(os.devnull))
+    runs = [(spent(check, {1}, Path(os.devnull)), spent([*check, "-e", "1"], {1}, Path(os.devnull))) for _ in range(RUNS)]
+    plain, shown = (summary(list(taken)).time for taken in zip(*runs))
+    return plain, shown, plan.stat().st_size
+
+
+def main() -> None:
+    program = asked(__doc__)[0].path
+    DATA.mkdir(exist_ok=True)
+    os.chdir(DATA)
+    print(f"processor time, least of {RUNS} runs; {program}")
+    print(f"{'build':<18}{'check ms':>10}{'-e 1 ms':>10}{'ratio':>7}{'growth':>8}{'plan MB':>9}")
+    for shape, smaller, count in SHAPES:
+        _, half, _ = measured(program, shape(smaller))
+        plain, shown, size = measured(program, shape(count))
+        label = f"{shape.__name__} {count}"
+        print(f"{label:<18}{plain:>10.1f}{shown:>10.1f}{shown / plain:>7.2f}{shown / half:>8.1f}{size / 2**20:>9.1f}", flush=True)
+    print(f"{'at most':<38}{RATIO_BOUND:>7.2f}{GROWTH_BOUND:>8.1f}")
+
+
+if __name__ == "__main__":
+    sys.exit(main())
