@@ -52,7 +52,7 @@ VERIFIED: list[tuple[Callable[[int], Build], int, int]] = [
     (deep, 2000, 4000),
     (reading, 1000, 2000),
     (carrying, 30, 60),
-    (far, 1000, 2000),
+    (far, 900, 1800),
 ]
 FOUND: list[tuple[Callable[[int], Build], int, int]] = [(unrecorded, 2000, 4000), (unknown, 2000, 4000)]
 
