@@ -6,7 +6,7 @@
 PREFIX = /usr/local
 CRATE =
 
-.PHONY: all demo check program edits growths recorder realcheck manuals pages fuzz bench
+.PHONY: all look demo check program edits growths recorder realcheck manuals pages fuzz bench
 .PHONY: install clean
 
 # rt looks by itself at what changed since the last build, so `all` is always
@@ -15,6 +15,10 @@ all:
 	cd crates/mkcheck && rt run -- --version
 	mkdir -p bin
 	cp -f crates/mkcheck/out/mkcheck bin/mkcheck
+
+# The same program, of which nothing is proved, and which says so.
+look:
+	@python3 tools/look.py bin/mkcheck-look
 
 # The lines with cmp hold the program to the texts that the documents show. The
 # second check is of a copy of the makefile from which one header is left out.

@@ -15,17 +15,18 @@ ROOT = Path(__file__).resolve().parents[2]
 
 # File, the line without blanks around it, and why it may stand there.
 PLACES = {
-    ("mk_infer/src/goals.rt", "Err(_) => Err(InferFault::Memory),"): "a name has no third fault",
-    ("mk_infer/src/expanding.rt", "Err(_) => InferFault::Memory,"): "the call has no other error",
-    ("mk_read/src/including.rt", "Err(_) => ReadFault::Memory,"): "the call has no other error",
-    ("mk_read/src/rules.rt", "Err(_) => ReadFault::Memory,"): "the call has no other error",
+    ("mk_select/src/goals.rt", "Err(_) => Err(InferFault::Memory),"): "a name has no third fault",
+    ("mk_choice/src/expanding.rt", "Err(_) => InferFault::Memory,"): "the call has no other error",
+    ("mk_parse/src/including.rt", "Err(_) => ReadFault::Memory,"): "the call has no other error",
+    ("mk_parse/src/rules.rt", "Err(_) => ReadFault::Memory,"): "the call has no other error",
     ("mk_json/src/reading.rt", "Err(AllocError)"): "behind the test that the error of the reader is want of memory",
     ("mk_infer/src/fault.rt", "InferFault::Memory"): "the pattern of the test for want of memory",
     ("mk_read/src/fault.rt", "ReadFault::Memory"): "the pattern of the test for want of memory",
-    ("mk_read/src/reading.rt", "return ReadFault::Memory;"): "behind the test that the fault is want of memory",
+    ("mk_parse/src/reading.rt", "return ReadFault::Memory;"): "behind the test that the fault is want of memory",
+    ("mk_ways/src/reading.rt", "return Err(CertificateFault::Memory);"): "the call has no other error",
     ("mk_world/src/running.rt", "return Err(AllocError);"): "behind the test that the fault is want of memory",
-    ("mkcheck/src/ran.rt", "Err(_) => Err(Stop::Memory),"): "the call has no other error",
-    ("mkcheck/src/run.rt", "return Err(AllocError);"): "behind the test that the fault is want of memory",
+    ("mk_run/src/starting.rt", "Err(_) => Err(Stop::Memory),"): "the call has no other error",
+    ("mk_run/src/running.rt", "return Err(AllocError);"): "behind the test that the fault is want of memory",
 }
 
 MADE = re.compile(r"\b\w+::Memory\b|\(AllocError\)")

@@ -85,6 +85,16 @@ const TWO_ROWS: &str =
 make 1/begin p/begin q => refused 64 line 3/s 1 1/
 make 1/begin p/finish p/begin q => plan ok/";
 
+/// Plans over the first recipe that copies, each behind the stamp to which time has run on.
+const LATE_ROWS: &str = "18446744073709551615 edit a => refused 59 line 1/a 1 1/
+18446744073709551615 make 1/begin b/look b a/put b b 7 => refused 59 line 4/a 1 1/
+18446744073709551615 make 1/begin b/finish b => refused 59 line 3/a 1 1/
+18446744073709551614 edit a 5/edit a 6 => refused 59 line 2/a 5 18446744073709551615/
+18446744073709551614 make 1/run b/end/edit a => a 1 1/b 18446744073709551615 18446744073709551615/refused 59 line 4/a 1 1/b 18446744073709551615 18446744073709551615/
+18446744073709551613 edit a/make 1/run b/end => a 18446744073709551614 18446744073709551614/b 18446744073709551615 18446744073709551615/plan ok/
+1 edit a/make 1/run b/end => a 2 2/b 3 3/plan ok/
+0 edit a/make 1/run b/end => a 2 2/b 3 3/plan ok/";
+
 /// The number of a fault, 0 for want of memory.
 fn number_of(fault: &StepFault) -> usize {
     match fault {
@@ -128,14 +138,16 @@ fn printed(alloc: Global, world: &World, run: &Run) -> Result<String, AllocError
     Ok(text)
 }
 
-/// What the run of a plan prints.
+/// What the run of a plan prints in a world in which time has run on to a stamp.
 fn simulated(
     alloc: Global,
     graph: &Graph,
     setting: &Setting,
+    stamp: u64,
     plan: &Plan,
 ) -> Result<String, AllocError> {
     let mut world = World::new(alloc, graph, setting)?;
+    world.age(stamp);
     let run = run_plan(alloc, &mut world, plan)?;
     printed(alloc, &world, &run)
 }
@@ -148,12 +160,24 @@ fn line_of(alloc: Global, fault: &PlanFault) -> Result<String, AllocError> {
     }
 }
 
-/// What the run of a text as a plan prints, or the line at which it is no plan.
-fn ran(alloc: Global, graph: &Graph, setting: &Setting, plan: &[u8]) -> Result<String, AllocError> {
+/// What the run of a text as a plan prints once time has run on to a stamp, or the line at which it
+/// is no plan.
+fn ran_at(
+    alloc: Global,
+    graph: &Graph,
+    setting: &Setting,
+    stamp: u64,
+    plan: &[u8],
+) -> Result<String, AllocError> {
     match read_plan(alloc, plan) {
-        Ok(plan) => simulated(alloc, graph, setting, &plan),
+        Ok(plan) => simulated(alloc, graph, setting, stamp, &plan),
         Err(fault) => line_of(alloc, &fault),
     }
+}
+
+/// What the run of a text as a plan prints, or the line at which it is no plan.
+fn ran(alloc: Global, graph: &Graph, setting: &Setting, plan: &[u8]) -> Result<String, AllocError> {
+    ran_at(alloc, graph, setting, 0, plan)
 }
 
 /// A text with a newline for each slash.
@@ -222,6 +246,40 @@ fn see_plans(
 ) -> Result<(), Fail> {
     let book = read_book(alloc, book.as_bytes(), &[])?;
     Ok(see_recorded(rt, alloc, graph, book, rows)?)
+}
+
+/// Sees that a plan that begins at a late stamp prints what its row says.
+fn see_late_row(
+    rt: &impl Abort,
+    alloc: Global,
+    graph: &Graph,
+    setting: &Setting,
+    row: &str,
+) -> Result<(), AllocError> {
+    let (stamp, rest) = row.split_once(' ').unwrap_or((row, ""));
+    let (plan, want) = rest.split_once(" => ").unwrap_or((rest, ""));
+    let plan = unfolded(alloc, plan)?;
+    let stamp = stamp.parse::<u64>().unwrap_or(0);
+    let got = ran_at(alloc, graph, setting, stamp, plan.as_bytes())?;
+    let want = unfolded(alloc, want)?;
+    same(rt, got.as_str(), want.as_str(), row);
+    Ok(())
+}
+
+/// Sees that plans that begin at late stamps print what their rows say.
+fn see_late(rt: &impl Abort, alloc: Global, graph: &Graph, book: Book) -> Result<(), AllocError> {
+    let setting = Setting::new(alloc, book, &[], &[])?;
+    for row in LATE_ROWS.lines() {
+        see_late_row(rt, alloc, graph, &setting, row)?;
+    }
+    Ok(())
+}
+
+#[test]
+fn plans_where_time_runs_out(rt: HostRuntime) -> Result<(), Fail> {
+    let graph = graph_of(&rt, rt.alloc(), "b!:1 a")?;
+    let book = read_book(rt.alloc(), COPY.as_bytes(), &[])?;
+    Ok(see_late(&rt, rt.alloc(), &graph, book)?)
 }
 
 #[test]

@@ -19,3 +19,4 @@ pub mod Walking
 pub mod Counts
 pub mod Checks
 pub mod Carried
+pub mod Earlier

@@ -7,7 +7,7 @@ ghost use Rattle.mk_cert.specs.Entry.{reads_in, writes_in, entry_reads, entry_wr
 
 use mk_foot::Record;
 use mk_graph::Node;
-use mk_infer::Commands;
+use mk_choice::Commands;
 use mk_lines::Name;
 use std::alloc::AllocError;
 use std::marker::Model;

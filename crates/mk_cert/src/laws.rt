@@ -8,7 +8,7 @@ ghost use Rattle.mk_cert.specs.Laws.{AnswerIsOne, PathsAreWays, SelectedGoals, V
 use mk_graph::build_laws::{accepted_is_right, before_is_decided, one_build_is_right};
 use mk_graph::growth_laws::names_have_one_number;
 use mk_graph::laws::serial_reaches_each_once;
-use mk_infer::laws::{graph_stays_selected, meets_what_is_reached, more_takes_no_choice_away};
+use mk_infer_laws::laws::{graph_stays_selected, meets_what_is_reached, more_takes_no_choice_away};
 
 /// There is one list of those candidates of which the condition holds.
 pub fn list_is_one()

@@ -5,6 +5,7 @@
 mod asking;
 mod carrying;
 mod counting;
+mod earlier;
 mod entry;
 mod fault;
 mod file_findings;

@@ -2,6 +2,7 @@
 
 ghost use Rattle.std.specs.Prelude.{◌≡◌, ◌<◌, ◌⊎◌, ◌++◌, All, length, map, Err, Some, IfErr, IfOk, OnOk};
 ghost use Rattle.std.specs.List.{flat_map};
+ghost use Rattle.std.specs.Option.{option_map};
 ghost use Rattle.std.specs.String.{string_bytes};
 ghost use Rattle.mk_graph.specs.Graph.{IsGraph, node};
 ghost use Rattle.mk_graph.specs.Serial.{serial_order};
@@ -13,10 +14,11 @@ ghost use Rattle.mk_cert.specs.Subject.{footprints, commands_of, subject_of};
 ghost use Rattle.mk_cert.specs.Entry.{IsEntry, AreEntries, AreEntriesOf, IsFaultOf, IsFirstFault, choice_after};
 
 use crate::entry::{Entry, writes_in};
+use mk_choice::{Choices, Made, choice, choice_and_commands};
 use mk_foot::Setting;
 use mk_graph::Graph;
 use mk_graph::laws::serial_reaches_each_once;
-use mk_infer::{Choices, Exists, InferFault, RuleTable, choice, commands};
+use mk_infer::{Exists, InferFault, RuleTable};
 use mk_lines::{Name, NameTable};
 use std::alloc::{AllocError, Global};
 
@@ -63,15 +65,22 @@ fn writes_among(
     Ok(names)
 }
 
+/// A name that owns its text, where there is one.
+fn owned(alloc: Global, name: Option<&str>) -> Result<Option<Name>, AllocError>
+    ensures { IfOk result (λ copy. copy ≡ option_map (λ name. name.now) name.entry) }
+{
+    match name {
+        Some(name) => Ok(Some(Name::new(alloc, name)?)),
+        None => Ok(None),
+    }
+}
+
 /// The inferred prerequisite of a name, if it has one.
 fn choice_of(alloc: Global, choices: &Choices<'_>, name: &str) -> Result<Option<Name>, AllocError>
     ensures { IfOk result (λ chosen. chosen ≡
         choice choices.now.makefile choices.now.exists name.now) }
 {
-    match choice(alloc, choices, name)? {
-        Some(chosen) => Ok(Some(Name::new(alloc, chosen)?)),
-        None => Ok(None),
-    }
+    owned(alloc, choice(alloc, choices, name)?)
 }
 
 /// The inferred prerequisites of these nodes.
@@ -149,8 +158,8 @@ fn entry_of<'a>(
 {
     let node = &graph.nodes()[number];
     let name = node.name.as_str();
-    let commands = commands(alloc, choices, name)?;
-    let chosen = choice_of(alloc, choices, name)?;
+    let Made { choice, commands } = choice_and_commands(alloc, choices, name)?;
+    let chosen = owned(alloc, choice)?;
     let chosen_after = copy_of(after)?;
     Ok(Entry {
         number,

@@ -9,10 +9,10 @@ ghost use Rattle.mk_cert.specs.Candidates.{race, race_candidates};
 ghost use Rattle.mk_cert.specs.Entry.{IsEntry};
 ghost use Rattle.mk_cert.specs.Listed.{Adds};
 
+use crate::earlier::Earlier;
 use crate::entry::Entry;
 use crate::finding::Finding;
 use crate::subject::Subject;
-use mk_graph::{BitRows, Order};
 use mk_lines::Name;
 use std::alloc::{AllocError, Global};
 
@@ -20,20 +20,26 @@ use std::alloc::{AllocError, Global};
 fn note_race(
     alloc: Global,
     subject: &Subject<'_>,
-    order: &BitRows<'_>,
+    earlier: &mut Earlier<'_>,
     entry: &Entry<'_>,
     other: usize,
     file: &str,
     found: &mut Vec<Finding>,
 ) -> Result<(), AllocError>
     requires entry { IsEntry subject.now entry.now }
-    requires order { order.now ≡ subject.now.graph }
+    requires graph { earlier.old.graph ≡ subject.now.graph }
+    requires number { earlier.old.number ≡ entry.now.number }
     requires read { Has (reads_of subject.now entry.now.number) file.now }
     requires written { Has (writes_of subject.now other) file.now }
-    ensures { OnOk result (Adds subject.now (race entry.now.number other file.now ∷ [])
+    ensures same { earlier.new ≡ earlier.old }
+    ensures found { OnOk result (Adds subject.now (race entry.now.number other file.now ∷ [])
         found.old.items found.new.items) }
 {
-    if other == entry.number || order.before(other, entry.number) {
+    if other == entry.number {
+        return Ok(());
+    }
+    let before = earlier.has(alloc, other)?;
+    if before {
         return Ok(());
     }
     let recipe = entry.copy_of_name()?;
@@ -51,22 +57,24 @@ fn note_race(
 fn note_races_with(
     alloc: Global,
     subject: &Subject<'_>,
-    order: &BitRows<'_>,
+    earlier: &mut Earlier<'_>,
     entry: &Entry<'_>,
     writers: &[usize],
     file: &str,
     found: &mut Vec<Finding>,
 ) -> Result<(), AllocError>
     requires entry { IsEntry subject.now entry.now }
-    requires order { order.now ≡ subject.now.graph }
+    requires graph { earlier.old.graph ≡ subject.now.graph }
+    requires number { earlier.old.number ≡ entry.now.number }
     requires read { Has (reads_of subject.now entry.now.number) file.now }
     requires written { (o : ℕ) → Has writers.now o → Has (writes_of subject.now o) file.now }
-    ensures { OnOk result (Adds subject.now
+    ensures same { earlier.new ≡ earlier.old }
+    ensures found { OnOk result (Adds subject.now
         (map (λ o. race entry.now.number o file.now) writers.now)
         found.old.items found.new.items) }
 {
     for writer in writers {
-        note_race(alloc, subject, order, entry, *writer, file, found)?;
+        note_race(alloc, subject, earlier, entry, *writer, file, found)?;
     }
     Ok(())
 }
@@ -75,39 +83,43 @@ fn note_races_with(
 fn note_file(
     alloc: Global,
     subject: &Subject<'_>,
-    order: &BitRows<'_>,
+    earlier: &mut Earlier<'_>,
     entry: &Entry<'_>,
     file: &str,
     found: &mut Vec<Finding>,
 ) -> Result<(), AllocError>
     requires entry { IsEntry subject.now entry.now }
-    requires order { order.now ≡ subject.now.graph }
+    requires graph { earlier.old.graph ≡ subject.now.graph }
+    requires number { earlier.old.number ≡ entry.now.number }
     requires read { Has (reads_of subject.now entry.now.number) file.now }
-    ensures { OnOk result (Adds subject.now
+    ensures same { earlier.new ≡ earlier.old }
+    ensures found { OnOk result (Adds subject.now
         (map (λ o. race entry.now.number o file.now) (serial_order subject.now.graph))
         found.old.items found.new.items) }
 {
     let writers = subject.writers(file);
-    note_races_with(alloc, subject, order, entry, writers, file, found)
+    note_races_with(alloc, subject, earlier, entry, writers, file, found)
 }
 
 /// Adds which writers of the files that a recipe reads aren't before it.
 fn note_files(
     alloc: Global,
     subject: &Subject<'_>,
-    order: &BitRows<'_>,
+    earlier: &mut Earlier<'_>,
     entry: &Entry<'_>,
     found: &mut Vec<Finding>,
 ) -> Result<(), AllocError>
     requires entry { IsEntry subject.now entry.now }
-    requires order { order.now ≡ subject.now.graph }
-    ensures { OnOk result (Adds subject.now
+    requires graph { earlier.old.graph ≡ subject.now.graph }
+    ensures graph { earlier.new.graph ≡ earlier.old.graph }
+    ensures found { OnOk result (Adds subject.now
         (flat_map (λ f. map (λ o. race entry.now.number o f) (serial_order subject.now.graph))
         (reads_of subject.now entry.now.number)) found.old.items found.new.items) }
 {
+    earlier.turn_to(entry.number);
     let files = entry.reads();
     for file in files {
-        note_file(alloc, subject, order, entry, file.as_str(), found)?;
+        note_file(alloc, subject, earlier, entry, file.as_str(), found)?;
     }
     Ok(())
 }
@@ -116,30 +128,30 @@ fn note_files(
 fn note_races(
     alloc: Global,
     subject: &Subject<'_>,
-    order: &BitRows<'_>,
+    earlier: &mut Earlier<'_>,
     found: &mut Vec<Finding>,
 ) -> Result<(), AllocError>
-    requires { order.now ≡ subject.now.graph }
+    requires { earlier.old.graph ≡ subject.now.graph }
     ensures { OnOk result (Adds subject.now (race_candidates subject.now)
         found.old.items found.new.items) }
 {
     let entries = subject.entries();
     for entry in entries {
-        note_files(alloc, subject, order, entry, found)?;
+        note_files(alloc, subject, earlier, entry, found)?;
     }
     Ok(())
 }
 
 /// Which recipes read files whose writers aren't always done before they begin: by the reader's
 /// place in the serial order, the file's place among its reads, and the writer's place in the
-/// serial order. The order of the graph is worked out once, in rows of bits. It fails for want of
-/// memory alone.
+/// serial order. The order of the graph is worked out, in rows of bits, where a writer isn't a
+/// direct prerequisite of the reader, and then once. It fails for want of memory alone.
 pub fn races(alloc: Global, subject: &Subject<'_>) -> Result<Vec<Finding>, AllocError>
     ensures { IfOk result (λ found. Adds subject.now (race_candidates subject.now) []
         found.items) }
 {
     let mut found = Vec::new(alloc);
-    let order = BitRows::new(alloc, subject.graph())?;
-    note_races(alloc, subject, &order, &mut found)?;
+    let mut earlier = Earlier::new(subject.graph());
+    note_races(alloc, subject, &mut earlier, &mut found)?;
     Ok(found)
 }

@@ -24,6 +24,7 @@ use Rattle.mk_core.specs.GraphText.{graph_text, shown_lines}
 use Rattle.mk_core.specs.Ready.{Ready, book_for, exists, makefile_for, ready_for, setting_of}
 use Rattle.mk_core.specs.Steps.{◌>>=◌, as_fault, of_infer, of_read, seen}
 use Rattle.mk_core.specs.Views.{AnswersOver, DrawsOver, Finds, PrintsOver, ready_over, ready_with}
+use Rattle.mk_core.specs.Seen.{fault_same}
 use Rattle.mk_core.proofs.Faults.{by_infer, by_read}
 
 -- ---- the graph, and what is printed of it
@@ -39,14 +40,6 @@ module _ (asked : Bool) (ready : Ready) where
   graph_printed g (Ok text) s h = (Ok g, s, sym h)
   graph_printed g (Err fault) s (inl k) = λ settled. let e : true ≡ false = ap inferring.is_want_of_memory (sym k) ∙ settled in absurd cc
   graph_printed g (Err fault) s (inr h) = λ settled. (Ok g, s, sym h)
-
--- the fault of an answer
-abbrev of_error : {A : Type 0} → Result A Fault → Fault
-of_error (Ok x) = Memory
-of_error (Err fault) = fault
-
-pub fault_same : {A B : Type 0} (one other : Fault) → ◌≡◌ {A = Result A Fault} (Err one) (Err other) → ◌≡◌ {A = Result B Fault} (Err one) (Err other)
-fault_same {A} {B} one other h = ap (λ (f : Fault). Err f) (ap (of_error {A = A}) h)
 
 -- ---- what is ready
 
@@ -187,24 +180,3 @@ module _ {A : Type 0} (files : Told) (request : Request) (answers : Ready → Re
     over (Err (Verify f)) (inr d) = lifted (Err (Verify f)) d
     over (Err (Read f)) (inl k) = absurd cc
     over (Err (Read f)) (inr d) = absurd (not_drawn answers f (ready_over files None request m) (λ ready. not_read ready f) (not_ready files None f request m) d)
-
--- ---- an answer as a contract sees it
-
-module _ {A B : Type 0} (f : A → B) (files : Told) (request : Request) (one : Ready → Result A Fault → Type 0) (other : Ready → Result B Fault → Type 0)
-    (turn : (ready : Ready) (answer : Result A Fault) → one ready answer → other ready (seen f answer)) where
-  drawn_seen : (r : Result Ready Fault) (answer : Result A Fault) → Draws one r answer → Draws other r (seen f answer)
-  drawn_seen (Ok ready) answer d = turn ready answer d
-  drawn_seen (Err fault) (Ok x) d = absurd cc
-  drawn_seen (Err fault) (Err also) d = fault_same also fault d
-
-  pub seen_answers : (answer : Result A Fault) → Answers files request one answer → Answers files request other (seen f answer)
-  seen_answers (Ok x) a = drawn_seen (ready_for files None request) (Ok x) a
-  seen_answers (Err Memory) a = tt
-  seen_answers (Err (Read fault)) a = a
-  seen_answers (Err (FileReadFailed name)) a = drawn_seen (ready_for files (Some name) request) (Err (FileReadFailed name)) a
-  seen_answers (Err (NoFile name)) a = drawn_seen (ready_for files None request) (Err (NoFile name)) a
-  seen_answers (Err (Infer fault)) a = drawn_seen (ready_for files None request) (Err (Infer fault)) a
-  seen_answers (Err (Foot fault)) a = drawn_seen (ready_for files None request) (Err (Foot fault)) a
-  seen_answers (Err (Plan fault)) a = drawn_seen (ready_for files None request) (Err (Plan fault)) a
-  seen_answers (Err (Certificate fault)) a = drawn_seen (ready_for files None request) (Err (Certificate fault)) a
-  seen_answers (Err (Verify fault)) a = drawn_seen (ready_for files None request) (Err (Verify fault)) a

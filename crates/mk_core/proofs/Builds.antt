@@ -31,7 +31,7 @@ use Rattle.mk_core.specs.Ready.{Ready}
 use Rattle.mk_core.specs.Steps.{of_infer, seen}
 use Rattle.mk_core.specs.VerifyAnswer.{AnswersVerify, VerifiesCertificate, VerifiesText, accepted}
 use Rattle.mk_core.specs.Views.{Selected}
-use Rattle.mk_core.proofs.Answering.{fault_same}
+use Rattle.mk_core.specs.Seen.{fault_same}
 use Rattle.mk_core.proofs.Faults.{by_infer}
 
 -- ---- the build of a graph

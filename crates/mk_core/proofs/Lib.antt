@@ -2,11 +2,7 @@ pub mod NameLists
 pub mod NodeTexts
 pub mod Faults
 pub mod Answering
-pub mod OneAnswer
 pub mod Finding
 pub mod Simulating
 pub mod Builds
 pub mod Promising
-pub mod OneVerdict
-mod OneSimulation
-pub mod FindingPlans

@@ -1,5 +1,5 @@
 pub use Rattle.mk_read.specs.Files
-pub use Rattle.mk_read.specs.MemFiles
+pub use Rattle.mk_parse.specs.MemFiles
 pub mod Words
 pub mod Steps
 pub mod FileText
@@ -13,10 +13,10 @@ pub mod Simulation
 pub mod SimulationAnswer
 pub mod Judging
 pub mod CheckAnswer
-pub mod EvidenceAnswer
 pub mod VerdictText
 pub mod VerifyAnswer
 pub mod Right
 pub mod NotRead
+pub mod Seen
 pub mod Views
 pub mod Laws

@@ -18,7 +18,6 @@ use Rattle.mk_world.specs.Plans.{plan_of}
 use Rattle.mk_core.specs.declared.fault.Fault.{Fault}
 use Rattle.mk_core.specs.declared.fault.Fault.TheVariants.{Read, Infer, Plan, Certificate, NoFile}
 use Rattle.mk_core.specs.CheckAnswer.{GivesVerdict}
-use Rattle.mk_core.specs.EvidenceAnswer.{GivesEvidence}
 use Rattle.mk_core.specs.FileText.{text_of}
 use Rattle.mk_core.specs.GraphAnswer.{AnswersGraph}
 use Rattle.mk_core.specs.Judging.{AnswersJudged, subject_over}
@@ -34,7 +33,7 @@ IsNotRead (Err (Read fault)) = ⊥
 IsNotRead answer = Unit {0}
 
 -- another answer isn't one
-differs : {A : Type 0} (f : ReadFault) (other : Result A Fault) → IsNotRead other → ◌≡◌ {A = Result A Fault} (Err (Read f)) other → ⊥
+pub differs : {A : Type 0} (f : ReadFault) (other : Result A Fault) → IsNotRead other → ◌≡◌ {A = Result A Fault} (Err (Read f)) other → ⊥
 differs f other none e = subst IsNotRead (sym e) none
 
 pub graph_not_read : (asked : Bool) (ready : Ready) (f : ReadFault) → AnswersGraph asked ready (Err (Read f)) → ⊥
@@ -75,6 +74,3 @@ text_not_read x f name (Some text) v = certificate_not_read x f (certificate_fro
 
 pub verified_not_read : (files : Told) (name : List ℕ) (x : Subject) (f : ReadFault) → VerifiesText x (text_of files None name) (Err (Read f)) → ⊥
 verified_not_read files name x f h = text_not_read x f name (text_at files name) h
-
-pub evidence_not_read : (x : Subject) (number : ℕ) (f : ReadFault) → GivesEvidence x number (Err (Read f)) → ⊥
-evidence_not_read x number f (plan, is, e) = differs f (Ok plan) tt e

@@ -8,9 +8,8 @@ ghost use Rattle.mk_core.specs.Right.{IsRightFor};
 ghost use Rattle.mk_core.specs.Steps.{is_want_of_memory};
 ghost use Rattle.mk_core.specs.declared.fault.Fault.TheVariants.{Memory};
 
-use crate::command::answer_request;
 use crate::fault::Fault;
-use crate::judging::{Judge, Judged};
+use crate::judging::{Judge, answer_judged};
 use crate::laws::yes_is_right;
 use crate::request::Request;
 use crate::verdict::{Findings, Verdict};
@@ -21,7 +20,7 @@ use mk_read::Files;
 use std::alloc::{AllocError, Global};
 
 /// The verdict on a build.
-fn verdict_of(alloc: Global, subject: &Subject<'_>) -> Result<Verdict, AllocError>
+pub fn verdict_of(alloc: Global, subject: &Subject<'_>) -> Result<Verdict, AllocError>
     ensures { IfOk result (λ verdict. IsVerdict subject.now verdict) }
 {
     no_findings();
@@ -84,6 +83,5 @@ pub fn check<F: Files>(alloc: Global, files: &mut F, request: &Request) -> Resul
     ensures counted { Counts (F.failed files.old) (F.failed files.new) result }
 {
     yes_is_right();
-    let command = Judged { judge: CheckBuild };
-    answer_request(alloc, files, request, &command)
+    answer_judged(alloc, files, request, CheckBuild)
 }

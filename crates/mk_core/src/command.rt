@@ -13,7 +13,8 @@ ghost use Rattle.mk_core.specs.declared.fault.Fault.TheVariants.{Memory, Read};
 use crate::fault::Fault;
 use crate::ready::{Ready, ready_over};
 use crate::request::Request;
-use mk_read::{Files, Makefile, read_makefile};
+use mk_parse::read_makefile;
+use mk_read::{Files, Makefile};
 use std::alloc::Global;
 
 /// A command, by what it answers to what is ready.

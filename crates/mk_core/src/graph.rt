@@ -13,8 +13,10 @@ use crate::fault::Fault;
 use crate::printing::text_of;
 use crate::ready::Ready;
 use crate::request::Request;
-use mk_infer::{Choices, InferFault, select};
+use mk_choice::Choices;
+use mk_infer::InferFault;
 use mk_read::Files;
+use mk_select::select;
 use std::alloc::Global;
 
 /// The text of the graph that is selected for the goals.

@@ -6,15 +6,16 @@ ghost use Rattle.mk_infer.specs.Selection.{Selects};
 ghost use Rattle.mk_read.specs.Files.{Told};
 ghost use Rattle.mk_read.specs.declared.fault.ReadFault as read;
 ghost use Rattle.mk_core.specs.NotRead.{judged_not_read};
-ghost use Rattle.mk_core.specs.Answer.{Counts};
+ghost use Rattle.mk_core.specs.Answer.{Answers, Counts};
 ghost use Rattle.mk_core.specs.Judging.{AnswersJudged, AnswersTold, recorded, subject_over};
 ghost use Rattle.mk_core.specs.Steps.{is_want_of_memory};
 ghost use Rattle.mk_core.specs.declared.fault.Fault as faults;
 ghost use Rattle.mk_core.specs.declared.fault.Fault.TheVariants.{Memory, Read};
 
-use crate::command::Command;
+use crate::command::{Command, answer_request};
 use crate::fault::Fault;
 use crate::ready::Ready;
+use crate::request::Request;
 use crate::selecting::selected;
 use mk_cert::Subject;
 use mk_cert::laws::selected_goals;
@@ -23,7 +24,7 @@ use mk_read::Files;
 use std::alloc::Global;
 
 /// A command over a build that is judged, by what it answers to it.
-pub(crate) trait Judge {
+pub trait Judge {
     /// What is answered.
     type Answer: Drop;
 
@@ -77,9 +78,9 @@ fn judge_graph<F: Files, J: Judge>(
 
 /// A command over the build of the goals.
 #[derive(Drop)]
-pub(crate) struct Judged<J> {
+struct Judged<J> {
     /// What is answered to the build.
-    pub judge: J,
+    judge: J,
 }
 
 impl<J: Judge + Drop> Command for Judged<J> {
@@ -101,4 +102,25 @@ impl<J: Judge + Drop> Command for Judged<J> {
     ghost not_read = { λ c told ready fault.
         judged_not_read (J.judges c.judge told) ready fault
         (λ x. J.not_read c.judge told x fault) };
+}
+
+/// The answer of a command over a build that is judged to a request.
+///
+/// The first fault is the answer: those of `check`, in their order, and then what the command
+/// answers.
+pub fn answer_judged<F: Files, J: Judge + Drop>(
+    alloc: Global,
+    files: &mut F,
+    request: &Request,
+    judge: J,
+) -> Result<J::Answer, Fault>
+    requires { F.failed files.old < 2 ^ 64 - 1 }
+    ensures map { F.told files.new ≡ F.told files.old }
+    ensures answer { IfSome (F.told files.old)
+        (λ told. Answers told request.now (AnswersJudged (J.judges judge told)) result) }
+    ensures memory { IfErr result (λ fault. is_want_of_memory fault ≡ true → fault ≡ Memory) }
+    ensures counted { Counts (F.failed files.old) (F.failed files.new) result }
+{
+    let command = Judged { judge };
+    answer_request(alloc, files, request, &command)
 }

@@ -6,8 +6,9 @@ ghost use Rattle.mk_core.specs.GraphText.{commands_text, goals_text, graph_text,
 ghost use Rattle.mk_core.specs.Views.{Extends};
 ghost use Rattle.mk_infer.specs.Steps.{Gives};
 
+use mk_choice::{Choices, commands};
 use mk_graph::{Graph, Node};
-use mk_infer::{Choices, InferFault, commands};
+use mk_infer::InferFault;
 use std::alloc::{AllocError, Global};
 
 /// The node with this number.

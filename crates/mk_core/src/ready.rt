@@ -13,9 +13,10 @@ use crate::fault::Fault;
 use crate::file_text::file_text;
 use crate::request::Request;
 use mk_foot::{Book, Setting, read_book};
-use mk_infer::{Exists, Goals, RuleTable, goal_names};
+use mk_infer::{Exists, RuleTable};
 use mk_lines::{Name, NameTable};
 use mk_read::{Files, Makefile};
+use mk_select::{Goals, goal_names};
 use std::alloc::{AllocError, Global};
 use std::marker::Model;
 

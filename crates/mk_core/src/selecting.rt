@@ -3,8 +3,10 @@
 ghost use Rattle.mk_core.specs.Views.{Selected};
 
 use crate::ready::Ready;
+use mk_choice::Choices;
 use mk_graph::Graph;
-use mk_infer::{Choices, Exists, InferFault, select};
+use mk_infer::{Exists, InferFault};
+use mk_select::select;
 use std::alloc::Global;
 
 /// The graph that is selected for the goals, with these files there. Faults 41 or 43 as a walk

@@ -10,10 +10,9 @@ ghost use Rattle.mk_core.specs.VerifyAnswer.{AnswersVerify, VerifiesCertificate,
 ghost use Rattle.mk_core.specs.Views.{AcceptsOver, VerifiesOver};
 ghost use Rattle.mk_core.specs.declared.fault.Fault.TheVariants.{Memory};
 
-use crate::command::answer_request;
 use crate::fault::Fault;
 use crate::file_text::file_text;
-use crate::judging::{Judge, Judged};
+use crate::judging::{Judge, answer_judged};
 use crate::laws::accepted_is_right;
 use crate::rendering::yes_line;
 use crate::request::Request;
@@ -108,8 +107,6 @@ pub fn verify_text<F: Files>(
     ensures counted { Counts (F.failed files.old) (F.failed files.new) result }
 {
     accepted_is_right();
-    let command = Judged {
-        judge: VerifyBuild { name: certificate },
-    };
-    answer_request(alloc, files, request, &command)
+    let judge = VerifyBuild { name: certificate };
+    answer_judged(alloc, files, request, judge)
 }

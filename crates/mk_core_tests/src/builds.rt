@@ -3,7 +3,7 @@
 //! records have `; ` between, each `target: reads > writes = commands` with `|` between commands.
 
 ghost use Rattle.std.specs.Prelude.{◌≡◌, ◌<◌, ◌-◌, ◌^◌, IfOk};
-ghost use Rattle.mk_read.specs.MemFiles.{failures_of};
+ghost use Rattle.mk_parse.specs.MemFiles.{failures_of};
 
 use crate::rows::{asked_by, bytes_of, unfolded};
 use mk_core::{Fault, MemFiles, Request, Verdict, check, fault_text, render, verify_text};

@@ -1,7 +1,7 @@
 //! Rows of certificates, over files in memory.
 
 ghost use Rattle.std.specs.Prelude.{◌≡◌, ◌<◌, ◌-◌, ◌^◌};
-ghost use Rattle.mk_read.specs.MemFiles.{failures_of};
+ghost use Rattle.mk_parse.specs.MemFiles.{failures_of};
 
 use crate::builds::{
     answer_over, certificate, certificate_of, expect_answers, files_of_build, part, request_of,

@@ -1,11 +1,12 @@
 //! Rows of plans that show what is found, and of their runs.
 
 ghost use Rattle.std.specs.Prelude.{◌≡◌, ◌<◌, ◌-◌, ◌^◌};
-ghost use Rattle.mk_read.specs.MemFiles.{failures_of};
+ghost use Rattle.mk_parse.specs.MemFiles.{failures_of};
 
 use crate::builds::{files_of_build, part, request_of};
 use crate::rows::unfolded;
-use mk_core::{Fault, MemFiles, Request, Simulation, evidence_text, fault_text, simulate_text};
+use mk_core::{Fault, MemFiles, Request, Simulation, fault_text, render, simulate_text};
+use mk_evidence::{Evidence, evidence_or_verdict, evidence_text};
 use std::alloc::{AllocError, Global};
 use std::process::Abort;
 use std::test::Fail;
@@ -125,6 +126,56 @@ fn other_findings_have_no_plan(rt: HostRuntime) -> Result<(), Fail> {
         let plan = String::from_utf8(plan_for(rt.alloc(), row, number_in(row))?)?;
         let want = unfolded(rt.alloc(), part(row, 5))?;
         assert_eq!(rt; plan.as_str(), want.as_str(), "of {row:?}");
+    }
+    Ok(())
+}
+
+/// What is told of a plan or a verdict: the plan, the lines of the verdict behind `no plan`, or the
+/// line of the fault.
+fn told_of(alloc: Global, answer: Result<Evidence, Fault>) -> Result<Vec<u8>, AllocError> {
+    match answer {
+        Ok(Evidence::Plan(plan)) => Ok(plan),
+        Ok(Evidence::NoPlan(verdict)) => {
+            let mut text = Vec::from_slice(alloc, b"no plan\n")?;
+            text.extend_from_slice(&render(alloc, &verdict)?)?;
+            Ok(text)
+        }
+        Err(fault) => fault_text(alloc, &fault),
+    }
+}
+
+/// The plan that shows a finding over files, or the verdict.
+fn evidence_over(
+    alloc: Global,
+    files: &mut MemFiles,
+    asked: &Request,
+    number: u64,
+) -> Result<Vec<u8>, AllocError>
+    requires { failures_of files.old < 2 ^ 64 - 1 }
+{
+    told_of(alloc, evidence_or_verdict(alloc, files, asked, number))
+}
+
+/// The plan that shows the finding of a build under a number, or the verdict.
+fn evidence_for(alloc: Global, build: &str, number: u64) -> Result<Vec<u8>, Fail> {
+    let mut files = files_of_build(alloc, build)?;
+    Ok(evidence_over(alloc, &mut files, &request_of(alloc, build)?, number)?)
+}
+
+/// A finding that a plan shows; and, behind `no plan`, the verdicts on builds of which none does.
+const PLANS_OR_VERDICTS: &str =
+    r"p: s¶→mk p¶‖‖s t‖p: s t > p = mk p‖1‖make 1¶begin p¶look p s¶look p t¶put p p 3¶done p¶end¶edit t 4¶make 1¶pass p¶end¶
+p: s¶→mk p¶‖‖s t‖p: s t > p = mk p‖2‖no plan¶no stale p t¶
+b: a¶→do b¶a:¶→do a¶‖‖‖a: > a log = do a; b: a > b log = do b‖1‖no plan¶no writers a b log¶
+p: s¶→mk p¶‖‖s‖p: s > p = mk p‖1‖no plan¶yes 1 recipes 1 reads¶way p s source p¶
+p: s¶→mk p¶‖‖‖p: s > p = mk p‖1‖refused 41 s";
+
+#[test]
+fn answers_plans_or_verdicts(rt: HostRuntime) -> Result<(), Fail> {
+    for row in PLANS_OR_VERDICTS.lines() {
+        let text = String::from_utf8(evidence_for(rt.alloc(), row, number_in(row))?)?;
+        let want = unfolded(rt.alloc(), part(row, 5))?;
+        assert_eq!(rt; text.as_str(), want.as_str(), "of {row:?}");
     }
     Ok(())
 }

@@ -1,7 +1,7 @@
 //! Rows of what stands against builds, over files in memory.
 
 ghost use Rattle.std.specs.Prelude.{◌≡◌, ◌<◌, ◌-◌, ◌^◌};
-ghost use Rattle.mk_read.specs.MemFiles.{failures_of};
+ghost use Rattle.mk_parse.specs.MemFiles.{failures_of};
 
 use crate::builds::{expect_verdicts, request_of, verdict_over};
 use mk_core::MemFiles;

@@ -1,7 +1,7 @@
 //! Rows on the public calls, over files in memory.
 
 ghost use Rattle.std.specs.Prelude.{◌≡◌, ◌<◌, ◌-◌, ◌^◌, IfOk};
-ghost use Rattle.mk_read.specs.MemFiles.{failures_of};
+ghost use Rattle.mk_parse.specs.MemFiles.{failures_of};
 
 use crate::rows::{answer, expect_rows, over, request, unfolded};
 use mk_core::{Fault, Files, FilesError, MemFiles, Name, Names, fault_text, split_words};

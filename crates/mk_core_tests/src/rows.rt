@@ -1,7 +1,7 @@
 //! Rows of tests: files in memory, words of a command line, and what is printed.
 
 ghost use Rattle.std.specs.Prelude.{◌≡◌, ◌<◌, ◌-◌, ◌^◌, IfOk};
-ghost use Rattle.mk_read.specs.MemFiles.{failures_of};
+ghost use Rattle.mk_parse.specs.MemFiles.{failures_of};
 
 use mk_core::{Fault, MemFiles, Name, Request, fault_text, graph_text, split_words};
 use std::alloc::{AllocError, Global};

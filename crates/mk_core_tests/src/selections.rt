@@ -1,7 +1,7 @@
 //! Rows of inference rules, commands and footprints, over files in memory.
 
 ghost use Rattle.std.specs.Prelude.{◌≡◌};
-ghost use Rattle.mk_read.specs.MemFiles.{failures_of};
+ghost use Rattle.mk_parse.specs.MemFiles.{failures_of};
 
 use crate::rows::{answer, asked_by, expect_rows};
 use mk_core::MemFiles;

@@ -1,7 +1,7 @@
 //! Rows of plans, over files in memory.
 
 ghost use Rattle.std.specs.Prelude.{◌≡◌, ◌<◌, ◌-◌, ◌^◌};
-ghost use Rattle.mk_read.specs.MemFiles.{failures_of};
+ghost use Rattle.mk_parse.specs.MemFiles.{failures_of};
 
 use crate::rows::{asked_by, unfolded};
 use mk_core::{Fault, MemFiles, Request, Simulation, fault_text, simulate_text};

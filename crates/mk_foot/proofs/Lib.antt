@@ -13,3 +13,4 @@ pub mod NoJson
 pub mod Formats
 pub mod Taken
 pub mod Apart
+pub mod PlainNames

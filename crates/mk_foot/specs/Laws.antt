@@ -1,11 +1,12 @@
 -- Laws of books and settings.
-use Rattle.std.specs.Prelude.{◌≡◌, ◌⊎◌, ◌↔◌, ℕ, true, false, List, [], ◌∷◌, ◌++◌, map, codes, None, Err, if◌then◌else◌}
-use Rattle.std.specs.List.{list_all}
+use Rattle.std.specs.Prelude.{◌≡◌, ◌⊎◌, ◌↔◌, ℕ, true, false, List, [], ◌∷◌, ◌++◌, map, codes, None, Ok, Err, if◌then◌else◌}
+use Rattle.std.specs.List.{list_all, flat_map}
 use Rattle.mk_lines.specs.Paths.{is_plain_path}
 use Rattle.serde_json.specs.Data.{Data, number, string, unsigned}
 use Rattle.mk_json.specs.Kinds.{array_of, object_of}
 use Rattle.mk_json.specs.Reading.{json_of}
 use Rattle.mk_foot.specs.declared.fault.FootFault.TheVariants.{NotJson}
+use Rattle.mk_foot.specs.Book.{Record, Book}
 use Rattle.mk_foot.specs.Names.{Has, has_name, once}
 use Rattle.mk_foot.specs.Reading.{book_in, book_from}
 use Rattle.mk_foot.specs.Setting.{Setting, is_given, is_editable}
@@ -99,3 +100,16 @@ abbrev pub EditableIsGiven : Type 0
 EditableIsGiven =
     (setting : Setting) (name : List ℕ) → is_editable setting name ≡ true →
     is_given setting name ≡ true
+
+-- all names in a record, and in a book, but for the fronts of names of fixed files
+abbrev pub names_of_record : Record → List (List ℕ)
+names_of_record r = r.target ∷ (r.reads ++ r.writes)
+
+abbrev pub names_of : Book → List (List ℕ)
+names_of book = book.sources ++ flat_map names_of_record book.records
+
+-- All names of a book that was read are plain paths.
+abbrev pub NamesReadArePlain : Type 0
+NamesReadArePlain =
+    (goals : List (List ℕ)) (bytes : List ℕ) (book : Book) → book_from goals bytes ≡ Ok book →
+    list_all is_plain_path (names_of book) ≡ true

@@ -1,7 +1,7 @@
 //! Laws of books and settings, about the definitions alone. Each is the contract of a function that
 //! does nothing: who calls it has the law.
 
-ghost use Rattle.mk_foot.specs.Laws.{OnceKeepsFirst, OnlyTextWithoutValueIsNoJson, FormatsAgree, GivenExactly, EditableExactly, EditableIsGiven};
+ghost use Rattle.mk_foot.specs.Laws.{OnceKeepsFirst, OnlyTextWithoutValueIsNoJson, FormatsAgree, GivenExactly, EditableExactly, EditableIsGiven, NamesReadArePlain};
 
 /// Dropping repeats keeps each name, once, where it first stands.
 pub fn once_keeps_first()
@@ -33,4 +33,10 @@ pub fn editable_exactly()
 /// What is editable is given.
 pub fn editable_is_given()
     ensures { EditableIsGiven }
+{}
+
+/// All names of a book that was read are plain paths: its sources, and the targets, reads and writes
+/// of its records.
+pub fn names_read_are_plain()
+    ensures { NamesReadArePlain }
 {}

@@ -14,7 +14,7 @@ or_false false = refl
 pub has_name_push : (names : List (List ℕ)) (name other : List ℕ) → has_name (names ++ name ∷ []) other ≡ (has_name names other || bytes_eq other name)
 has_name_push names name other = list_any-append (λ n. bytes_eq other n) names (name ∷ []) ∙ ap (λ b. has_name names other || b) (or_false (bytes_eq other name))
 
-or_assoc : (a b c : Bool) → ((a || b) || c) ≡ (a || (b || c))
+pub or_assoc : (a b c : Bool) → ((a || b) || c) ≡ (a || (b || c))
 or_assoc true b c = refl
 or_assoc false b c = refl
 

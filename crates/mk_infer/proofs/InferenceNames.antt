@@ -1,8 +1,8 @@
 -- Inference names: a name is cut where its second dot stands.
-use Rattle.std.proofs.Common.{◌≡◌, ℕ, suc, ◌+◌, Bool, true, false, not, ◌==◌, ◌&&◌, ◌||◌, cond, List, [], ◌∷◌, ◌++◌, length, take, drop, inl, inr, ◌⊎◌, refl, sym, ap, ◌∙◌, arith}
+use Rattle.std.proofs.Common.{◌≡◌, ℕ, suc, ◌+◌, Bool, true, false, not, ◌==◌, ◌&&◌, ◌||◌, cond, List, [], ◌∷◌, ◌++◌, length, take, drop, inl, inr, ◌⊎◌, refl, sym, ap, ◌∙◌, append-nil, arith}
 use Rattle.std.specs.List.{list_all, list_any, position_or_len}
 use Rattle.std.specs.Str.{bytes_eq}
-use Rattle.std.proofs.lemmas.Bool.{eqb-true}
+use Rattle.std.proofs.lemmas.Bool.{both_ways, eqb-true, false_from_ne_true}
 use Rattle.std.proofs.lemmas.List.{take-append-drop}
 use Rattle.std.proofs.lemmas.Slice.Eq.{bytes_eq-Decides}
 use Rattle.std.proofs.Math.Seq.{take-append_seam, drop-append_seam}
@@ -10,8 +10,8 @@ use Rattle.mk_graph.specs.Membership.{Has}
 use Rattle.mk_lines.specs.Bytes.{is_byte}
 use Rattle.mk_read.specs.Names.{has_name, is_empty}
 use Rattle.mk_read.specs.Special.{is_inference_name, is_suffix, is_suffix_byte}
-use Rattle.mk_infer.specs.Table.{HoldsNames, second_dot, is_joined}
-use Rattle.mk_infer.proofs.Walking.{Has_name, has_name_Has}
+use Rattle.mk_infer.specs.Table.{HoldsNames, is_dotted, second_dot, is_joined}
+use Rattle.mk_infer.proofs.Members.{Has_name, has_name_Has}
 
 -- ---- tests over lists
 
@@ -150,3 +150,24 @@ joined_by set suffixes all holds name =
     ∙ (ap (λ b. has_name suffixes name || (b && has_name set (drop (second_dot name) name))) (holds (take (second_dot name) name))
     ∙ (ap (λ b. has_name suffixes name || (has_name suffixes (take (second_dot name) name) && b)) (holds (drop (second_dot name) name))
     ∙ joined_same suffixes all name))
+
+-- ---- names that don't begin with a dot
+
+begins_dotted : (s rest name : List ℕ) → is_suffix s ≡ true → name ≡ s ++ rest → is_dotted name ≡ true
+begins_dotted s rest name h e = ap is_dotted (e ∙ ap (λ (x : List ℕ). x ++ rest) (dotted s h).is)
+
+-- an inference name begins with one
+inference_dotted : (suffixes : List (List ℕ)) → list_all is_suffix suffixes ≡ true → (name : List ℕ) → is_inference_name suffixes name ≡ true → is_dotted name ≡ true
+inference_dotted suffixes all name h =
+    let first = passing _ suffixes h in
+    by first.one (each_passes is_suffix suffixes first.one all first.there) (either_is (bytes_eq name first.one) _ first.passes)
+  where
+    by : (s : List ℕ) → is_suffix s ≡ true → (bytes_eq name s ≡ true) ⊎ (list_any (λ t. bytes_eq name (s ++ t)) suffixes ≡ true) → is_dotted name ≡ true
+    by s k (inl e) = begins_dotted s [] name k ((bytes_eq-Decides name s).0 e ∙ sym (append-nil s))
+    by s k (inr more) =
+        let second = passing _ suffixes more in
+        begins_dotted s second.one name k ((bytes_eq-Decides name (s ++ second.one)).0 second.passes)
+
+-- another name is none
+pub not_inferring : (suffixes : List (List ℕ)) → list_all is_suffix suffixes ≡ true → (name : List ℕ) → is_dotted name ≡ false → is_inference_name suffixes name ≡ false
+not_inferring suffixes all name f = false_from_ne_true _ (λ t. both_ways (is_dotted name) f (inference_dotted suffixes all name t))

@@ -11,7 +11,7 @@ use Rattle.mk_read.specs.Names.{has_name}
 use Rattle.mk_read.specs.Special.{is_suffix, is_suffix_byte}
 use Rattle.mk_infer.specs.Inference.{ends_in}
 use Rattle.mk_infer.proofs.InferenceNames.{both_are, dotted, each_passes}
-use Rattle.mk_infer.proofs.Walking.{has_name_Has}
+use Rattle.mk_infer.proofs.Members.{has_name_Has}
 
 -- ---- the first of a list
 

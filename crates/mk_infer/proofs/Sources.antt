@@ -16,16 +16,14 @@ use Rattle.mk_read.specs.Reading.{Makefile}
 use Rattle.mk_read.specs.Rules.{gives_commands, has_some}
 use Rattle.mk_read.specs.Special.{is_suffix}
 use Rattle.mk_read.specs.State.{RuleRead}
-use Rattle.mk_infer.specs.Inference.{commands_from, ending, ends_in, fits, stem}
+use Rattle.mk_infer.specs.Inference.{commands_from, ending, ends_in}
 use Rattle.mk_infer.specs.Table.{AreParts, AreSources, HoldsDotted, IsCut, IsEnding, commanded_in, given, is_dotted, sources_by, targets_in}
 use Rattle.std.proofs.lemmas.Bool.{both_ways, false_from_ne_true}
-use Rattle.mk_infer.specs.There.{Exists, is_there}
-use Rattle.mk_infer.proofs.Added.{has_name_push}
-use Rattle.mk_infer.proofs.Inferable.{found_is}
+use Rattle.mk_infer.proofs.Added.{has_name_push, or_assoc}
+use Rattle.mk_infer.proofs.Members.{find_same, found_is}
 use Rattle.mk_infer.proofs.NameLists.{texts}
 use Rattle.mk_infer.proofs.InferenceNames.{Dotted, both_are, dotted, each_passes, found as found_any, same_tests}
 use Rattle.mk_infer.proofs.LastDots.{IsLastDot, begins, no_dots, one_last}
-use Rattle.mk_infer.proofs.Writes.{find_same}
 
 abbrev Name : Type 0
 Name = List ℕ
@@ -83,7 +81,7 @@ sources_more view backs name suffixes i d before after e h lt =
 
 -- ---- names that begin with a dot
 
-or_false : (a : Bool) → (a || false) ≡ a
+pub or_false : (a : Bool) → (a || false) ≡ a
 or_false true = refl
 or_false false = refl
 
@@ -143,30 +141,51 @@ cut_nowhere name none = λ one other parts e. elim parts [
   | inr p ↦ absurd (none (length one) (subst (λ (n : Name). IsLastDot n (length one)) (sym e) (suffix_begins one other p.0 p.1)) p.0)
 ]
 
--- one more name, cut in two
-pub back_more : (names : List (Bor Name)) (i : ℕ) (d front back : Bor Name) (suffix end : Name) (old new : List (Bor Name)) → front.now ++ back.now ≡ (get_or names i d).now → IsCut (get_or names i d).now front.now back.now → AreParts suffix end
-    → new ≡ cond (bytes_eq suffix front.now) (old ++ back ∷ []) old → has_name (texts old) end ≡ has_name (texts (take i names)) (suffix ++ end) → i < length names → has_name (texts new) end ≡ has_name (texts (take (i + 1) names)) (suffix ++ end)
-back_more names i d front back suffix end old new whole cut h e so_far lt =
-    let more : texts (take (i + 1) names) ≡ texts (take i names) ++ (get_or names i d).now ∷ [] =
-    ap texts (take_more names i d lt) ∙ map_push (λ (t : Bor Name). t.now) (take i names) (get_or names i d) in
+-- one more text behind a front
+pub one_back : (name : Name) (front back : Bor Name) (suffix end : Name) (old new : List (Bor Name)) → front.now ++ back.now ≡ name → IsCut name front.now back.now → AreParts suffix end
+    → new ≡ cond (bytes_eq suffix front.now) (old ++ back ∷ []) old → has_name (texts new) end ≡ (has_name (texts old) end || bytes_eq (suffix ++ end) name)
+one_back name front back suffix end old new whole cut h e =
     ap (λ ns. has_name ns end) (text_more old new back (bytes_eq suffix front.now) e)
-    ∙ (list_any-append (bytes_eq end) (texts old) (cond (bytes_eq suffix front.now) (back.now ∷ []) []) ∙ (ap (λ b. b || has_name (cond (bytes_eq suffix front.now) (back.now ∷ []) []) end) so_far
-    ∙ (ap (λ b. has_name (texts (take i names)) (suffix ++ end) || b) (one (bytes_eq suffix front.now) ∙ same_tests _ _ there here)
-    ∙ sym (ap (λ ns. has_name ns (suffix ++ end)) more ∙ has_name_push (texts (take i names)) (get_or names i d).now (suffix ++ end)))))
+    ∙ (list_any-append (bytes_eq end) (texts old) (cond (bytes_eq suffix front.now) (back.now ∷ []) []) ∙ ap (λ b. has_name (texts old) end || b) (one (bytes_eq suffix front.now) ∙ same_tests _ _ there here))
   where
     one : (b : Bool) → has_name (cond b (back.now ∷ []) []) end ≡ (b && bytes_eq end back.now)
     one true = or_false (bytes_eq end back.now)
     one false = refl
 
-    there : (bytes_eq suffix front.now && bytes_eq end back.now) ≡ true → bytes_eq (suffix ++ end) (get_or names i d).now ≡ true
+    there : (bytes_eq suffix front.now && bytes_eq end back.now) ≡ true → bytes_eq (suffix ++ end) name ≡ true
     there t =
         let parts = both_are (bytes_eq suffix front.now) (bytes_eq end back.now) t in
-        (bytes_eq-Decides (suffix ++ end) (get_or names i d).now).1 (ap (λ (xs : Name). xs ++ end) ((bytes_eq-Decides suffix front.now).0 parts.0) ∙ (ap (λ (xs : Name). front.now ++ xs) ((bytes_eq-Decides end back.now).0 parts.1) ∙ whole))
+        (bytes_eq-Decides (suffix ++ end) name).1 (ap (λ (xs : Name). xs ++ end) ((bytes_eq-Decides suffix front.now).0 parts.0) ∙ (ap (λ (xs : Name). front.now ++ xs) ((bytes_eq-Decides end back.now).0 parts.1) ∙ whole))
 
-    here : bytes_eq (suffix ++ end) (get_or names i d).now ≡ true → (bytes_eq suffix front.now && bytes_eq end back.now) ≡ true
+    here : bytes_eq (suffix ++ end) name ≡ true → (bytes_eq suffix front.now && bytes_eq end back.now) ≡ true
     here t =
-        let parts = cut suffix end h (sym ((bytes_eq-Decides (suffix ++ end) (get_or names i d).now).0 t)) in
+        let parts = cut suffix end h (sym ((bytes_eq-Decides (suffix ++ end) name).0 t)) in
         ap (λ b. b && bytes_eq end back.now) ((bytes_eq-Decides suffix front.now).1 (sym parts.0)) ∙ (bytes_eq-Decides end back.now).1 (sym parts.1)
+
+-- one more name, cut in two
+pub back_more : (names : List (Bor Name)) (i : ℕ) (d front back : Bor Name) (suffix end : Name) (old new : List (Bor Name)) → front.now ++ back.now ≡ (get_or names i d).now → IsCut (get_or names i d).now front.now back.now → AreParts suffix end
+    → new ≡ cond (bytes_eq suffix front.now) (old ++ back ∷ []) old → has_name (texts old) end ≡ has_name (texts (take i names)) (suffix ++ end) → i < length names → has_name (texts new) end ≡ has_name (texts (take (i + 1) names)) (suffix ++ end)
+back_more names i d front back suffix end old new whole cut h e so_far lt =
+    let name = (get_or names i d).now in
+    let more : texts (take (i + 1) names) ≡ texts (take i names) ++ name ∷ [] =
+    ap texts (take_more names i d lt) ∙ map_push (λ (t : Bor Name). t.now) (take i names) (get_or names i d) in
+    one_back name front back suffix end old new whole cut h e
+    ∙ (ap (λ b. b || bytes_eq (suffix ++ end) name) so_far ∙ sym (ap (λ ns. has_name ns (suffix ++ end)) more ∙ has_name_push (texts (take i names)) name (suffix ++ end)))
+
+-- one more name among those behind whose fronts something stands
+pub back_added : {A : Type 0} (view : A → Name) (names : List A) (i : ℕ) (d : A) (name whole : Name) (had before after : Bool) → name ≡ view (get_or names i d) → after ≡ (before || bytes_eq whole name)
+    → before ≡ (had || has_name (map view (take i names)) whole) → i < length names → after ≡ (had || has_name (map view (take (i + 1) names)) whole)
+back_added view names i d name whole had before after is e so_far lt =
+    let more : map view (take (i + 1) names) ≡ map view (take i names) ++ name ∷ [] =
+    ap (map view) (take_more names i d lt) ∙ (map_push view (take i names) (get_or names i d) ∙ ap (λ (n : Name). map view (take i names) ++ n ∷ []) (sym is)) in
+    e ∙ (ap (λ b. b || bytes_eq whole name) so_far ∙ (or_assoc had (has_name (map view (take i names)) whole) (bytes_eq whole name)
+    ∙ ap (λ b. had || b) (sym (ap (λ ns. has_name ns whole) more ∙ has_name_push (map view (take i names)) name whole))))
+
+-- a name that isn't cut has no suffix behind some bytes
+pub not_behind : (name front back suffix end : Name) → IsCut name front back → back ≡ [] → 0 < length suffix → is_suffix end ≡ true → bytes_eq (suffix ++ end) name ≡ false
+not_behind name front back suffix end cut none some is = false_from_ne_true _ (λ t.
+    let parts = cut suffix end (inr (some, is)) (sym ((bytes_eq-Decides (suffix ++ end) name).0 t)) in
+    both_ways (is_suffix end) (ap is_suffix (sym parts.1 ∙ none)) is)
 
 -- ---- what the table says
 
@@ -236,11 +255,3 @@ module _ (m : Makefile) (all : list_all is_suffix m.suffixes ≡ true) (commande
   are_sources sources are name p =
       ap (find p) (are (ending m name)) ∙ (first_source p backs (ending m name) m.suffixes
       ∙ find_same (λ suffix. has_name (backs suffix) (ending m name) && p suffix) (λ suffix. has_some (commands_from m name suffix) && p suffix) m.suffixes (λ suffix there. ap (λ b. b && p suffix) (has_rule name suffix there)))
-
--- the first that fits is among them
-pub first_fits : (m : Makefile) (e : Exists) (name : Name) (sources : List Name) → AreSources m name sources → find (fits m e name) sources ≡ find (fits m e name) m.suffixes
-first_fits m e name sources are = are (fits m e name) ∙ find_same _ (fits m e name) m.suffixes (λ suffix there. twice (has_some (commands_from m name suffix)) (is_there m e (stem m name ++ suffix)))
-  where
-    twice : (a b : Bool) → (a && (a && b)) ≡ (a && b)
-    twice true b = refl
-    twice false b = refl

@@ -1,13 +1,15 @@
 -- Laws of what goals reach, of their answer, and of writes that count as there.
-use Rattle.std.specs.Prelude.{◌≡◌, ◌<◌, ℕ, List, [], ◌↔◌, length, map, Option, Some, Result, Ok, Err}
+use Rattle.std.specs.Prelude.{◌≡◌, ◌<◌, ℕ, false, List, [], ◌∷◌, ◌++◌, ◌↔◌, length, map, Option, Some, Result, Ok, Err}
 use Rattle.mk_graph.specs.Membership.{Has, IsDistinct}
-use Rattle.mk_graph.specs.Graph.{Graph, node}
+use Rattle.mk_graph.specs.Graph.{Graph, IsSound, node}
+use Rattle.mk_read.specs.Names.{has_name}
 use Rattle.mk_read.specs.Reading.{Makefile}
 use Rattle.mk_infer.specs.declared.fault.InferFault.{InferFault}
 use Rattle.mk_infer.specs.declared.fault.InferFault.TheVariants.{Memory}
 use Rattle.mk_infer.specs.Commands.{Commands, commands}
 use Rattle.mk_infer.specs.Inference.{choice}
-use Rattle.mk_infer.specs.Selection.{Selects, needs}
+use Rattle.mk_infer.specs.Ends.{left_to_do}
+use Rattle.mk_infer.specs.Selection.{Selects, graph_of, needs}
 use Rattle.mk_infer.specs.There.{Exists}
 use Rattle.mk_infer.specs.Walk.{Meets}
 
@@ -143,3 +145,22 @@ PartsStaySelected = (m : Makefile) (e : Exists) (writes goals some : List (List 
     → Selects m (with_more e []) goals (Ok g) → NodesKeepTheirChoices m e writes g
     → AreAmong some goals
     → (h : Graph) × IsPartOf h g × StaysSelected m e writes some h
+
+-- With any names met before it, there is a walk of any names.
+abbrev pub WalkGoesOn : Type 0
+WalkGoesOn = (m : Makefile) (e : Exists) (met names : List (List ℕ))
+    → (all : List (List ℕ)) × Meets (needs m e) met names all
+
+-- A new name leaves a walk less to do.
+abbrev pub NewNamesLeaveLess : Type 0
+NewNamesLeaveLess =
+    (m : Makefile) (e : Exists) (met names : List (List ℕ)) (name : List ℕ) →
+    has_name met name ≡ false
+    → left_to_do m e (met ++ name ∷ []) (needs m e name ++ names) <
+    left_to_do m e met (name ∷ names)
+
+-- The graph of the names that a walk from the goals meets is what the maker of a graph owes.
+abbrev pub HandedGraphIsSound : Type 0
+HandedGraphIsSound =
+    (m : Makefile) (e : Exists) (goals all : List (List ℕ)) → Meets (needs m e) [] goals all →
+    IsSound (graph_of m e goals all)

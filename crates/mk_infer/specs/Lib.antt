@@ -10,4 +10,6 @@ pub mod Selection
 pub mod Commands
 pub mod Goals
 pub mod Table
+pub mod Ends
 pub mod Laws
+pub mod NameLaws

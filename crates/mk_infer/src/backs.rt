@@ -4,7 +4,8 @@ ghost use Rattle.std.specs.Prelude.{◌≡◌, ◌∷◌, ◌++◌, [], List, �
 ghost use Rattle.std.specs.Option.{option_map_or};
 ghost use Rattle.std.specs.Str.{bytes_eq};
 ghost use Rattle.indexmap.specs.IndexMap.{get_by};
-ghost use Rattle.mk_infer.specs.Table.{HasBacks, IsCut, texts_at};
+ghost use Rattle.std.specs.String.{string_bytes};
+ghost use Rattle.mk_infer.specs.Table.{AddsBacks, HasBacks, IsCut, texts_at};
 
 use indexmap::IndexMap;
 use mk_lines::NameSet;
@@ -43,6 +44,24 @@ fn add_back<'m>(
 {
     let behind = backs.entry(front)?.or_insert(Vec::new(alloc));
     behind.push(back)?;
+    Ok(())
+}
+
+/// What stands behind the fronts of these names, with what stood behind them before. A name that
+/// isn't cut has nothing behind it, and is passed over.
+pub fn add_backs<'m>(
+    alloc: Global,
+    backs: &mut Backs<'m>,
+    names: &'m [String],
+) -> Result<(), AllocError>
+    ensures { OnOk result (AddsBacks backs.old (map string_bytes names.now) backs.new) }
+{
+    for name in names {
+        let (front, back) = cut(name);
+        if !back.is_empty() {
+            add_back(alloc, backs, front, back)?;
+        }
+    }
     Ok(())
 }
 

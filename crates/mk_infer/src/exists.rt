@@ -41,14 +41,14 @@ impl<'a> Model for Exists<'a> {
 
 impl<'a> Exists<'a> {
     /// Whether a name is given: a source, under a fixed prefix, or a text of the makefile.
-    pub(crate) fn is_given(&self, name: &str) -> bool
+    pub fn is_given(&self, name: &str) -> bool
         ensures { result ≡ is_given self.now name.now }
     {
         self.sources.contains(name) || self.fixed.is_under(name) || self.texts.contains(name)
     }
 
     /// The name itself, where it is a source, a text of the makefile, or one of the names more.
-    pub(crate) fn listed(&self, name: &str) -> Option<&str>
+    pub fn listed(&self, name: &str) -> Option<&str>
         ensures { MatchOption result (is_listed self.now name.now ≡
             false) (λ found. (found.now ≡ name.now) × (is_listed self.now name.now ≡ true)) }
     {

@@ -1,29 +1,15 @@
-//! Inference rules, the graph of what goals reach, and the commands of its nodes.
+//! What rule lines say of names, which are looked up in tables; and the definitions of choices, of
+//! what goals reach, and of commands, over which the crates above are proved.
 #![tactic(auto)]
 
 mod backs;
-mod choices;
 mod exists;
-mod expanding;
 mod fault;
-mod goals;
-mod groups;
-mod inference;
-pub mod laws;
-mod needs;
-mod recipes;
 mod rule_table;
-mod selection;
 mod source_suffixes;
 mod suffix_set;
-mod walk;
 
-pub use choices::Choices;
+pub use backs::{Backs, add_backs, backs_of};
 pub use exists::Exists;
-pub use expanding::Commands;
 pub use fault::InferFault;
-pub use goals::{Goals, goal_names};
-pub use inference::choice;
-pub use recipes::commands;
 pub use rule_table::RuleTable;
-pub use selection::select;

@@ -1,8 +1,8 @@
 //! A makefile whose names are looked up.
 
-ghost use Rattle.std.specs.Prelude.{◌≡◌, ◌∷◌, ◌++◌, [], List, ℕ, length, map, filter, find, not, ◌||◌, slice_get, true, false, None, Some, MatchOption, OnOk, IfOk, if◌then◌else◌};
+ghost use Rattle.std.specs.Prelude.{◌≡◌, ◌∷◌, ◌++◌, [], List, ℕ, length, map, filter, is_some, find, not, ◌||◌, slice_get, true, false, None, Some, MatchOption, OnOk, IfOk, if◌then◌else◌};
 ghost use Rattle.std.specs.Option.{option_copied, option_map, option_map_or};
-ghost use Rattle.std.specs.List.{list_all, list_any};
+ghost use Rattle.std.specs.List.{list_all};
 ghost use Rattle.std.specs.Str.{bytes_eq};
 ghost use Rattle.std.specs.String.{string_bytes};
 ghost use Rattle.indexmap.specs.IndexMap.{get_by};
@@ -12,9 +12,9 @@ ghost use Rattle.mk_read.specs.Needs.{commands_in, commands_of, is_wait};
 ghost use Rattle.mk_read.specs.Special.{is_inference_name, is_suffix};
 ghost use Rattle.mk_infer.specs.Inference.{but_last, ending, ends_in};
 ghost use Rattle.mk_infer.specs.Targets.{is_target, own_commands, prerequisites_of, rules_for, words_for};
-ghost use Rattle.mk_infer.specs.Table.{AreSources, HasLines, HoldsNames, counts_for, lines_at, lines_of, places_at, targets_in, words_in};
+ghost use Rattle.mk_infer.specs.Table.{AreSources, HasLines, HoldsNames, HoldsTargets, counts_for, has_target, lines_at, lines_of, places_at, targets_in, words_in};
 
-use crate::source_suffixes::{Sources, sources_among};
+use crate::source_suffixes::{Sources, is_dotted, sources_among};
 use crate::suffix_set::{SuffixSet, suffixes_among};
 use indexmap::IndexMap;
 use mk_lines::{NameSet, NameTable};
@@ -23,7 +23,8 @@ use mk_read::{Command, Makefile, Rule};
 use std::alloc::{AllocError, Global};
 use std::marker::Model;
 
-/// For each target the places of the rule lines that name it, in their order.
+/// For each target of rule lines, and for no other name, the places of those that name it, in
+/// their order.
 type Lines<'m> = IndexMap<&'m str, Vec<usize>>;
 
 /// One more rule line of a target.
@@ -33,13 +34,16 @@ fn add_place<'m>(
     target: &'m str,
     place: usize,
 ) -> Result<(), AllocError>
-    ensures { OnOk result ((name : List ℕ) →
+    ensures places { OnOk result ((name : List ℕ) →
         option_map_or (λ places. places.items) (get_by (λ k. bytes_eq name k.now) lines.new) []
         ≡ (if bytes_eq name target.entry.now
         then option_map_or (λ places. places.items)
         (get_by (λ k. bytes_eq name k.now) lines.old) [] ++ place ∷ []
         else option_map_or (λ places. places.items)
         (get_by (λ k. bytes_eq name k.now) lines.old) [])) }
+    ensures targets { OnOk result ((name : List ℕ) →
+        is_some (get_by (λ k. bytes_eq name k.now) lines.new) ≡
+        (is_some (get_by (λ k. bytes_eq name k.now) lines.old) || bytes_eq name target.entry.now)) }
 {
     let places = lines.entry(target)?.or_insert(Vec::new(alloc));
     places.push(place)?;
@@ -53,10 +57,16 @@ fn add_targets<'m>(
     targets: &'m [String],
     place: usize,
 ) -> Result<(), AllocError>
-    ensures { OnOk result ((name : List ℕ) →
+    ensures places { OnOk result ((name : List ℕ) →
         places_at lines.new name ≡ (if has_name (map string_bytes targets.now) name
         then places_at lines.old name ++ place ∷ [] else places_at lines.old name)) }
+    ensures targets { OnOk result ((name : List ℕ) →
+        has_target lines.new name ≡
+        (has_target lines.old name || has_name (map string_bytes targets.now) name)) }
 {
+    if let [target] = targets {
+        return add_place(alloc, lines, target, place);
+    }
     let mut seen = NameSet::new(alloc);
     for target in targets {
         if !seen.insert(target)? {
@@ -69,24 +79,14 @@ fn add_targets<'m>(
 
 /// The places of all rule lines.
 fn lines_among<'m>(alloc: Global, rules: &'m [Rule]) -> Result<Lines<'m>, AllocError>
-    ensures { IfOk result (λ lines. HasLines rules.now lines) }
+    ensures places { IfOk result (λ lines. HasLines rules.now lines) }
+    ensures targets { IfOk result (λ lines. HoldsTargets (targets_in rules.now) lines) }
 {
-    let mut lines = IndexMap::new(alloc);
+    let mut lines = IndexMap::with_capacity(alloc, rules.len())?;
     for (place, rule) in rules.iter().enumerate() {
         add_targets(alloc, &mut lines, &rule.targets, place)?;
     }
     Ok(lines)
-}
-
-/// Adds names, each unless it is there already.
-pub fn insert_all<'a>(set: &mut NameSet<'a>, names: &'a [String]) -> Result<(), AllocError>
-    ensures { OnOk result ((name : List ℕ) → has_name set.new name ≡
-        (has_name set.old name || has_name (map string_bytes names.entry.now) name)) }
-{
-    for name in names {
-        set.insert(name)?;
-    }
-    Ok(())
 }
 
 /// Names, each once.
@@ -94,7 +94,9 @@ fn names_among<'m>(alloc: Global, names: &'m [String]) -> Result<NameSet<'m>, Al
     ensures { IfOk result (λ set. HoldsNames set (map string_bytes names.now)) }
 {
     let mut set = NameSet::new(alloc);
-    insert_all(&mut set, names)?;
+    for name in names {
+        set.insert(name)?;
+    }
     Ok(set)
 }
 
@@ -171,18 +173,37 @@ fn commanded_at<'m>(rules: &'m [Rule], places: &[usize], own: bool) -> Option<&'
     None
 }
 
-/// The words but `.WAIT`.
-fn without_waits<'m>(alloc: Global, words: &[&'m str]) -> Result<Vec<&'m str>, AllocError>
-    ensures { IfOk result (λ found. map (λ word. word.now) found.items ≡
-        filter (λ word. not (is_wait word)) (map (λ word. word.now) words.now)) }
+/// The words but `.WAIT`, behind other names.
+fn push_needs<'m>(names: &mut Vec<&'m str>, words: &'m [String]) -> Result<(), AllocError>
+    ensures { OnOk result (map (λ name. name.now) names.new.items ≡
+        map (λ name. name.now) names.old.items ++
+        filter (λ word. not (is_wait word)) (map string_bytes words.now)) }
 {
-    let mut found = Vec::new(alloc);
     for word in words {
-        if *word != ".WAIT" {
-            found.push(*word)?;
+        if word.as_str() != ".WAIT" {
+            names.push(word.as_str())?;
         }
     }
-    Ok(found)
+    Ok(())
+}
+
+/// The words but `.WAIT` of the rule lines at these places, behind other names.
+fn push_needs_at<'m>(
+    names: &mut Vec<&'m str>,
+    rules: &'m [Rule],
+    places: &[usize],
+) -> Result<(), AllocError>
+    ensures { OnOk result (map (λ name. name.now) names.new.items ≡
+        map (λ name. name.now) names.old.items ++
+        filter (λ word. not (is_wait word)) (words_in (lines_at rules.now places.now))) }
+{
+    for place in places {
+        let Some(rule) = rule_at(rules, *place) else {
+            continue;
+        };
+        push_needs(names, &rule.words)?;
+    }
+    Ok(())
 }
 
 /// The commands of a rule line, where it has any.
@@ -208,17 +229,6 @@ fn commands_at<'m>(rules: &'m [Rule], places: &[usize]) -> Option<&'m [Command]>
     commands_in(own, any)
 }
 
-/// The targets of rule lines, each once.
-fn targets_among<'m>(alloc: Global, rules: &'m [Rule]) -> Result<NameSet<'m>, AllocError>
-    ensures { IfOk result (λ set. HoldsNames set (targets_in rules.now)) }
-{
-    let mut set = NameSet::new(alloc);
-    for rule in rules {
-        insert_all(&mut set, &rule.targets)?;
-    }
-    Ok(set)
-}
-
 /// A makefile whose names are looked up. A contract sees the makefile.
 #[derive(Drop)]
 pub struct RuleTable<'m> {
@@ -226,7 +236,6 @@ pub struct RuleTable<'m> {
     suffixes: SuffixSet<'m>,
     order: NameTable,
     phony: NameSet<'m>,
-    targets: NameSet<'m>,
     lines: Lines<'m>,
     sources: Sources<'m>,
 }
@@ -240,7 +249,7 @@ impl<'m> Model for RuleTable<'m> {
     ghost view = { λ t. t.makefile.now };
 
     ghost invariant = { λ t.
-        IsTableOf t.makefile.now t.suffixes t.order t.phony t.targets t.lines t.sources };
+        IsTableOf t.makefile.now t.suffixes t.order t.phony t.lines t.sources };
 }
 
 impl<'m> RuleTable<'m> {
@@ -253,7 +262,6 @@ impl<'m> RuleTable<'m> {
             suffixes: suffixes_among(alloc, makefile.suffixes())?,
             order: listed(alloc, makefile.suffixes())?,
             phony: names_among(alloc, makefile.phony())?,
-            targets: targets_among(alloc, makefile.rules())?,
             lines: lines_among(alloc, makefile.rules())?,
             sources: sources_among(alloc, makefile)?,
         })
@@ -267,17 +275,18 @@ impl<'m> RuleTable<'m> {
     }
 
     /// The rule lines, in their order.
-    pub(crate) fn rules<'t>(&'t self) -> &'t [Rule]
+    pub fn rules<'t>(&'t self) -> &'t [Rule]
     where
         'm: 't,
-        ensures { result.now ≡ self.now.rules }
+        ensures exact { result.now ≡ self.now.rules }
+        ensures suffixes { list_all is_suffix self.now.suffixes ≡ true }
     {
         self.makefile.rules()
     }
 
     /// The suffixes with a rule with commands for names with this ending, in their order, where
     /// there are any.
-    pub(crate) fn sources_for(&self, end: &str) -> Option<&[&'m str]>
+    pub fn sources_for(&self, end: &str) -> Option<&[&'m str]>
         ensures { (name : List ℕ) → end.now ≡ ending self.now name →
             AreSources self.now name (option_map_or (λ sources.
             map (λ source. source.now) sources.now) result []) }
@@ -289,23 +298,14 @@ impl<'m> RuleTable<'m> {
     }
 
     /// Where a suffix first stands in the list of suffixes.
-    pub(crate) fn suffix_place(&self, suffix: &str) -> Option<usize>
+    pub fn suffix_place(&self, suffix: &str) -> Option<usize>
         ensures { result ≡ place_from 0 self.now.suffixes suffix.now }
     {
         self.order.place(suffix)
     }
 
-    /// The targets of all rule lines, each once.
-    pub(crate) fn targets(&self) -> &[&'m str]
-        ensures all { HoldsNames (map (λ target. target.now) result.now)
-            (targets_in self.now.rules) }
-        ensures suffixes { list_all is_suffix self.now.suffixes ≡ true }
-    {
-        self.targets.as_slice()
-    }
-
     /// The macros after all reading.
-    pub(crate) fn macros<'t>(&'t self) -> &'t MacroTable
+    pub fn macros<'t>(&'t self) -> &'t MacroTable
     where
         'm: 't,
         ensures { result.now ≡ self.now.macros }
@@ -314,22 +314,23 @@ impl<'m> RuleTable<'m> {
     }
 
     /// Whether each prerequisite is a group of its own.
-    pub(crate) fn not_parallel(&self) -> bool
+    pub fn not_parallel(&self) -> bool
         ensures { result ≡ self.now.not_parallel }
     {
         self.makefile.not_parallel()
     }
 
-    /// Whether a name is an inference name.
-    pub(crate) fn is_inference_name(&self, name: &str) -> bool
+    /// Whether a name is an inference name. One that doesn't begin with a dot isn't looked up.
+    pub fn is_inference_name(&self, name: &str) -> bool
         ensures { result ≡ is_inference_name self.now.suffixes name.now }
     {
-        self.suffixes.is_joined(name.as_bytes())
+        let bytes = name.as_bytes();
+        is_dotted(bytes) && self.suffixes.is_joined(bytes)
     }
 
     /// A name, cut before its known suffix, where it has one and a rest before it. A known suffix
     /// holds one dot, so it can only begin at the last one of the name.
-    pub(crate) fn cut_before_suffix<'a>(&self, name: &'a str) -> Option<(&'a str, &'a str)>
+    pub fn cut_before_suffix<'a>(&self, name: &'a str) -> Option<(&'a str, &'a str)>
         ensures { MatchOption result (find (ends_in name.now) self.now.suffixes ≡
             None) (λ parts. (parts.0.now ≡ but_last (length parts.1.now) name.now) ×
             (find (ends_in name.now) self.now.suffixes ≡ Some parts.1.now)) }
@@ -345,15 +346,15 @@ impl<'m> RuleTable<'m> {
         Some((&name[..at], suffix))
     }
 
-    /// Whether a name is phony.
-    pub(crate) fn is_phony(&self, name: &str) -> bool
+    /// Whether a name is phony. Where none is, it isn't looked up.
+    pub fn is_phony(&self, name: &str) -> bool
         ensures { result ≡ has_name self.now.phony name.now }
     {
-        self.phony.contains(name)
+        !self.phony.as_slice().is_empty() && self.phony.contains(name)
     }
 
     /// The name itself, where it is the target of a target rule.
-    pub(crate) fn target<'t>(&'t self, name: &str) -> Option<&'t str>
+    pub fn target<'t>(&'t self, name: &str) -> Option<&'t str>
     where
         'm: 't,
         ensures { MatchOption result (is_target self.now name.now ≡
@@ -362,8 +363,8 @@ impl<'m> RuleTable<'m> {
         if self.is_inference_name(name) {
             return None;
         }
-        match self.targets.get(name) {
-            Some(target) => Some(target),
+        match self.lines.get_key_value(name) {
+            Some((target, _places)) => Some(*target),
             None => None,
         }
     }
@@ -390,11 +391,7 @@ impl<'m> RuleTable<'m> {
     }
 
     /// The words of a name's rule lines, `.WAIT` among them.
-    pub(crate) fn words_for<'t>(
-        &'t self,
-        alloc: Global,
-        name: &str,
-    ) -> Result<Vec<&'t str>, AllocError>
+    pub fn words_for<'t>(&'t self, alloc: Global, name: &str) -> Result<Vec<&'t str>, AllocError>
     where
         'm: 't,
         ensures { IfOk result (λ words. map (λ word. word.now) words.items ≡
@@ -403,8 +400,22 @@ impl<'m> RuleTable<'m> {
         words_at(alloc, self.rules(), self.lines_for(name))
     }
 
+    /// The prerequisites of a name, in their order, behind other names.
+    pub fn push_prerequisites<'t>(
+        &'t self,
+        names: &mut Vec<&'t str>,
+        name: &str,
+    ) -> Result<(), AllocError>
+    where
+        'm: 't,
+        ensures { OnOk result (map (λ name. name.now) names.new.items ≡
+            map (λ name. name.now) names.old.items ++ prerequisites_of self.now name.now) }
+    {
+        push_needs_at(names, self.rules(), self.lines_for(name))
+    }
+
     /// The prerequisites of a name, in their order.
-    pub(crate) fn prerequisites_of<'t>(
+    pub fn prerequisites_of<'t>(
         &'t self,
         alloc: Global,
         name: &str,
@@ -414,12 +425,13 @@ impl<'m> RuleTable<'m> {
         ensures { IfOk result (λ words. map (λ word. word.now) words.items ≡
             prerequisites_of self.now name.now) }
     {
-        let words = self.words_for(alloc, name)?;
-        without_waits(alloc, &words)
+        let mut names = Vec::new(alloc);
+        self.push_prerequisites(&mut names, name)?;
+        Ok(names)
     }
 
     /// The commands of a name's own rule lines.
-    pub(crate) fn own_commands<'t>(&'t self, name: &str) -> Option<&'t [Command]>
+    pub fn own_commands<'t>(&'t self, name: &str) -> Option<&'t [Command]>
     where
         'm: 't,
         ensures { option_map (λ commands. commands.now) result ≡ own_commands self.now name.now }
@@ -428,7 +440,7 @@ impl<'m> RuleTable<'m> {
     }
 
     /// The commands of a rule line for a name, be it an inference name or not.
-    pub(crate) fn rule_commands<'t>(&'t self, name: &str) -> Option<&'t [Command]>
+    pub fn rule_commands<'t>(&'t self, name: &str) -> Option<&'t [Command]>
     where
         'm: 't,
         ensures { option_map (λ commands. commands.now) result ≡

@@ -18,7 +18,7 @@ use std::alloc::{AllocError, Global};
 pub type Sources<'m> = IndexMap<&'m str, Vec<&'m str>>;
 
 /// Whether a name begins with a dot, as each inference name does.
-fn is_dotted(name: &[u8]) -> bool
+pub fn is_dotted(name: &[u8]) -> bool
     ensures { result ≡ is_dotted name.now }
 {
     match name {

@@ -20,3 +20,7 @@ json_missing bytes none =
       | inl t ↦ (let e : read bytes ≡ None = none (IsUtf8-from_is_utf8 bytes t) in rw (t, e) refl)
       | inr f ↦ rw f refl
     ]
+
+-- the value of a text
+pub read_of_text : (bytes : List ℕ) → IsUtf8 bytes → json_of bytes ≡ read bytes
+read_of_text bytes text = let utf8 : is_utf8 bytes ≡ true = is_utf8-from_IsUtf8 bytes text in rw utf8 refl

@@ -2,3 +2,7 @@ pub mod Members
 pub mod Taken
 pub mod EachSome
 pub mod Json
+pub mod Converted
+pub mod Turns
+pub mod OtherKinds
+pub mod Put

@@ -2,4 +2,5 @@ pub mod Kinds
 pub mod Taken
 pub mod Steps
 pub mod Reading
+pub mod Tokens
 pub mod Laws

@@ -1,7 +1,6 @@
 -- The kinds of plain lines.
 use Rattle.std.specs.Prelude.{◌≡◌, ◌⊎◌, ℕ, suc, ◌==◌, Bool, true, false, List, length, take, drop, codes, slice_index, ◌||◌, Option, None, Some, Result, Ok, Err, if◌then◌else◌}
 use Rattle.std.specs.List.{before_first, after_first}
-use Rattle.std.specs.Option.{option_map}
 use Rattle.std.specs.Str.{bytes_eq}
 use Rattle.mk_lines.specs.Bytes.{is_blank, trimmed}
 use Rattle.mk_lines.specs.References.{first_outside}
@@ -12,11 +11,6 @@ use Rattle.mk_macros.specs.Definitions.{without_blanks}
 use Rattle.mk_macros.specs.Substitution.{begins_with, ends_with, without_end}
 use Rattle.mk_read.specs.declared.fault.KindFault.{KindFault}
 use Rattle.mk_read.specs.declared.fault.KindFault.TheVariants.{ShellAssign, ColonAssign, DoubleColon, TargetMacro, NotALine, Memory}
-use Rattle.mk_read.specs.declared.kinds.Kind as code
-use Rattle.mk_read.specs.declared.kinds.Kind.TheVariants as kinds
-use Rattle.mk_read.specs.declared.kinds.IncludeLine as include
-use Rattle.mk_read.specs.declared.kinds.AssignmentLine as assignment
-use Rattle.mk_read.specs.declared.kinds.RuleLine as rule
 
 -- an include line: whether a file that isn't there is passed over, and the text with the names of
 -- the files
@@ -119,27 +113,6 @@ of_trimmed line = if length line == 0 then Ok Comment else by_word line (include
 -- The kind of a plain line without its comment.
 unfoldable pub kind_of : List ℕ → Result Kind KindFault
 kind_of text = of_trimmed (trimmed text)
-
--- the parts of a line of the code
-abbrev pub include_view : include.IncludeLine → IncludeLine
-include_view line = record { optional = line.optional; names = line.names.now }
-
-abbrev pub rule_view : rule.RuleLine → RuleLine
-rule_view line =
-    record {
-      targets = line.targets.now;
-      words = line.words.now;
-      command = option_map (λ command. command.now) line.command;
-    }
-
-abbrev pub assignment_view : assignment.AssignmentLine → AssignmentLine
-assignment_view line = record { name = line.name.now; op = line.op; value = line.value.now }
-
-abbrev pub kind_view : code.Kind → Kind
-kind_view kinds.Comment = Comment
-kind_view (kinds.Include line) = Include (include_view line)
-kind_view (kinds.Assignment line) = Assignment (assignment_view line)
-kind_view (kinds.Rule line) = Rule (rule_view line)
 
 -- What a call returned, seen by view, is what is defined, unless memory ran out, of which nothing
 -- is said.

@@ -3,10 +3,8 @@ pub mod Steps
 pub mod Names
 pub mod Special
 pub mod State
-pub mod Views
 pub mod Rules
 pub mod Files
-pub mod MemFiles
 pub mod Reading
 pub mod Following
 pub mod Needs

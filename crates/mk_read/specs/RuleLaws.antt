@@ -2,6 +2,7 @@
 use Rattle.std.specs.Prelude.{◌≡◌, ℕ, Bool, true, false, not, ◌&&◌, List, ◌∷◌, ◌++◌, Option, Some, Ok, filter}
 use Rattle.std.specs.List.{list_all, list_any}
 use Rattle.std.specs.Str.{bytes_eq}
+use Rattle.mk_lines.specs.Paths.{is_plain_path}
 use Rattle.mk_macros.specs.Definitions.{with_operand}
 use Rattle.mk_macros.specs.Laws.{operand_name}
 use Rattle.mk_macros.specs.Table.{Macro, macro_named}
@@ -112,3 +113,10 @@ SuffixesAreSuffixes =
     (reader : Reader) → (file : Option (List ℕ)) → (defaults : Bool) → (operands : List (List ℕ)) →
     (m : Makefile) → makefile reader file defaults operands ≡ Ok m
     → list_all is_suffix m.suffixes ≡ true
+
+-- The names of a makefile's texts are plain paths.
+abbrev pub TextsArePlain : Type 0
+TextsArePlain =
+    (reader : Reader) → (file : Option (List ℕ)) → (defaults : Bool) → (operands : List (List ℕ)) →
+    (m : Makefile) → makefile reader file defaults operands ≡ Ok m
+    → list_all is_plain_path m.texts ≡ true

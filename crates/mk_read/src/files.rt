@@ -3,8 +3,9 @@
 ghost use Rattle.std.specs.Prelude.{◌≡◌, ℕ, ◌<◌, ◌^◌, ◌-◌, Option, OnOk, IfOk, IfSome, IsErrOf};
 ghost use Rattle.std.specs.Option.{option_map};
 ghost use Rattle.mk_read.specs.Files.{Told, text_at};
+ghost use Rattle.mk_read.specs.declared.files.FilesError.TheVariants.{Memory};
 
-use std::alloc::Global;
+use std::alloc::{AllocError, Global};
 use thiserror::Error;
 
 /// Why a file was not read.
@@ -16,6 +17,14 @@ pub enum FilesError {
     /// A growth was refused.
     #[error("want of memory")]
     Memory,
+}
+
+impl From<AllocError> for FilesError {
+    ghost from_gives = { λ _ e. e ≡ Memory };
+
+    fn from(_error: AllocError) -> FilesError {
+        FilesError::Memory
+    }
 }
 
 /// A reader of files: a fixed map from names to texts, and a count of failed reads. A reader may

@@ -64,13 +64,13 @@ impl Model for Rule {
 /// What a makefile says. A contract sees lists.
 #[derive(Drop)]
 pub struct Makefile {
-    pub(crate) rules: Vec<Rule>,
-    pub(crate) suffixes: SuffixList,
-    pub(crate) phony: Vec<String>,
-    pub(crate) not_parallel: bool,
-    pub(crate) macros: MacroTable,
-    pub(crate) texts: Vec<String>,
-    pub(crate) passed_over: Vec<String>,
+    rules: Vec<Rule>,
+    suffixes: SuffixList,
+    phony: Vec<String>,
+    not_parallel: bool,
+    macros: MacroTable,
+    texts: Vec<String>,
+    passed_over: Vec<String>,
 }
 
 impl Model for Makefile {
@@ -93,6 +93,38 @@ impl Model for Makefile {
 }
 
 impl Makefile {
+    /// A makefile that says this.
+    pub fn new(
+        rules: Vec<Rule>,
+        suffixes: SuffixList,
+        phony: Vec<String>,
+        not_parallel: bool,
+        macros: MacroTable,
+        texts: Vec<String>,
+        passed_over: Vec<String>,
+    ) -> Makefile
+        ensures { result ≡
+            record {
+              rules = rules.items;
+              suffixes = suffixes;
+              phony = map string_bytes phony.items;
+              not_parallel = not_parallel;
+              macros = macros;
+              texts = map string_bytes texts.items;
+              passed_over = map string_bytes passed_over.items;
+            } }
+    {
+        Makefile {
+            rules,
+            suffixes,
+            phony,
+            not_parallel,
+            macros,
+            texts,
+            passed_over,
+        }
+    }
+
     /// The rule lines, in order, those of special targets aside. One of the default text is among
     /// them where a target of it is an inference name.
     pub fn rules(&self) -> &[Rule]

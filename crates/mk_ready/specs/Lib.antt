@@ -1,5 +1,6 @@
 pub mod Rest
 pub mod Left
+pub mod Blocks
 pub mod Layout
 pub mod Progress
 pub mod Stages

@@ -24,7 +24,7 @@ rest_at s n = slice_index_or s.left.items n no_rest
 
 -- the stage of a node
 abbrev pub stage : State → ℕ → ℕ
-stage s n = slice_index s.stages.items n
+stage s n = slice_index s.stages n
 
 -- the node at a place of the serial order
 abbrev pub node_at : Graph → ℕ → ℕ
@@ -37,18 +37,18 @@ progress g s = record { graph = g; goals = s.goals; done = s.done }
 pub record IsSettled (g : Graph) (s : State) (n : ℕ) : Type 0 where
   pub stopped : IsStopped s.done (rest_at s n)
   pub marked : (rest_at s n).group ≡ [] → ¬ (Has s.done n) → (node g n).recipe ≡ false →
-      (i : ℕ) → i < length (serial_order g) → node_at g i ≡ n → slice_index s.marks.items i ≡ 1
+      (i : ℕ) → i < length (serial_order g) → node_at g i ≡ n → slice_index s.marks i ≡ 1
 
 pub record Stands (g : Graph) (s : State) : Type 0 where
-  pub stages : length s.stages.items ≡ length g.nodes
+  pub stages : length s.stages ≡ length g.nodes
   pub lefts : length s.left.items ≡ length g.nodes
-  pub marks : length s.marks.items ≡ length (serial_order g)
+  pub marks : length s.marks ≡ length (serial_order g)
   pub goals : (n : ℕ) → Has s.goals n → ¬ (stage s n ≡ 0)
   pub wanted : (n : ℕ) → ¬ (stage s n ≡ 0) → Wanted g s.goals s.done n
   pub left : (n : ℕ) → n < length g.nodes →
-      IsLeft s.stages.items s.done (node g n).groups (rest_at s n)
+      IsLeft s.stages s.done (node g n).groups (rest_at s n)
   pub settled : (n : ℕ) → ¬ (stage s n ≡ 0) → ¬ (stage s n ≡ 1) → IsSettled g s n
-  pub marked : (i : ℕ) → slice_index s.marks.items i ≡ 1 → IsIdle (progress g s) (node_at g i)
+  pub marked : (i : ℕ) → slice_index s.marks i ≡ 1 → IsIdle (progress g s) (node_at g i)
 
 -- nothing is left to be looked at
 abbrev pub IsAtRest : State → Type 0

@@ -8,7 +8,7 @@ ghost use Rattle.mk_graph.specs.Turns.{MayTurn, Wanted};
 ghost use Rattle.mk_ready.specs.Progress.{AreNotIdle, GoesOn, IsBlank, IsFirstIdle, Starts};
 
 use crate::layout::Layout;
-use crate::state::{State, first_of};
+use crate::state::State;
 use mk_graph::Graph;
 use std::alloc::{AllocError, Global};
 use std::marker::Model;
@@ -18,9 +18,9 @@ use std::marker::Model;
 /// the nodes that are done.
 ///
 /// For each node that is wanted it is kept how far its prerequisites are done, up to the first that
-/// isn't. All nodes that are done in one make take together a time linear in nodes and
-/// prerequisites, beside two searches for a byte among as many bytes as there are nodes for each
-/// node that is wanted or done.
+/// isn't. All nodes that are done in one make take together a number of steps linear in nodes and
+/// prerequisites. A step may search for a byte among 64, and among as many as a 64th of the nodes;
+/// a graph has at most 4,096 of these.
 #[derive(Drop)]
 pub struct Readiness<'a> {
     layout: Layout<'a>,
@@ -74,10 +74,7 @@ impl<'a> Readiness<'a> {
     pub fn is_wanted(&self, number: usize) -> bool
         ensures { (result ≡ true) ↔ Wanted self.now.graph self.now.goals self.now.done number }
     {
-        match self.state.stages.get(number) {
-            Some(stage) => *stage != 0,
-            None => false,
-        }
+        self.state.stages.at(number) != 0
     }
 
     /// Whether a node's turn may come.
@@ -97,7 +94,7 @@ impl<'a> Readiness<'a> {
         ensures graph { IsGraph self.now.graph }
     {
         let order = self.layout.order();
-        match first_of(1, &self.state.marks) {
+        match self.state.marks.first_one() {
             Some(place) => Some(order[place]),
             None => None,
         }

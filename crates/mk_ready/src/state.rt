@@ -1,6 +1,6 @@
 //! What is kept of a make.
 
-ghost use Rattle.std.specs.Prelude.{◌≡◌, ◌<◌, ◌≤◌, ◌⊎◌, ◌↔◌, ℕ, List, length, map, replicate, slice_index, IfOk, MatchOption};
+ghost use Rattle.std.specs.Prelude.{◌≡◌, ◌<◌, ◌⊎◌, ◌↔◌, ℕ, List, length, map, IfOk};
 ghost use Rattle.mk_graph.specs.Membership.{Has};
 ghost use Rattle.mk_graph.specs.Graph.{node};
 ghost use Rattle.mk_graph.specs.Without.{joined};
@@ -8,16 +8,16 @@ ghost use Rattle.mk_ready.specs.Left.{IsLeft, IsStopped};
 ghost use Rattle.mk_ready.specs.Stages.{Wakes, Wants, WantsOpened, work};
 ghost use Rattle.mk_ready.specs.State.{IsAtRest, Stands, fresh, stage};
 
+use crate::bytes::Bytes;
 use crate::layout::Layout;
 use crate::left::Left;
-use memchr::memchr;
 use mk_graph::{Graph, NodeSet, growth_laws};
 use std::alloc::{AllocError, Global};
 
 /// The stage of a node that isn't wanted.
 const NEW: u8 = 0;
 
-/// The stage of a node that is wanted and is to be looked at.
+/// The stage of a node that is wanted and is to be looked at. It is the byte that is found soon.
 const WANTED: u8 = 1;
 
 /// The stage of a node that was looked at: it waits for a prerequisite, or all of them are done.
@@ -29,66 +29,49 @@ const SETTLED: u8 = 2;
 pub(crate) struct State<'a> {
     pub goals: NodeSet,
     pub done: NodeSet,
-    pub stages: Vec<u8>,
+    pub stages: Bytes,
     pub left: Vec<Left<'a>>,
-    pub marks: Vec<u8>,
-}
-
-/// The first place of a byte.
-pub(crate) fn first_of(byte: u8, bytes: &[u8]) -> Option<usize>
-    ensures { MatchOption result
-        ((i : ℕ) → i < length bytes.now → ¬ (slice_index bytes.now i ≡ byte))
-        (λ place. (place < length bytes.now) × (slice_index bytes.now place ≡ byte) ×
-        ((i : ℕ) → i < place → ¬ (slice_index bytes.now i ≡ byte))) }
-{
-    memchr(byte, bytes)
+    pub marks: Bytes,
 }
 
 /// The members of a group are wanted.
-fn want_all(stages: &mut Vec<u8>, group: &[usize])
-    requires { (n : ℕ) → Has group.now n → n < length stages.old.items }
-    ensures { Wants stages.old.items stages.new.items group.now }
+fn want_all(stages: &mut Bytes, group: &[usize])
+    requires { (n : ℕ) → Has group.now n → n < length stages.old }
+    ensures { Wants stages.old stages.new group.now }
 {
     for number in group {
-        if stages[*number] != NEW {
+        if stages.at(*number) != NEW {
             continue;
         }
-        stages[*number] = WANTED;
+        stages.write_one(*number);
     }
 }
 
 /// Those of these nodes that are wanted are to be looked at.
-fn wake(stages: &mut Vec<u8>, numbers: &[usize])
-    requires { (n : ℕ) → Has numbers.now n → n < length stages.old.items }
-    ensures { Wakes stages.old.items stages.new.items numbers.now }
+fn wake(stages: &mut Bytes, numbers: &[usize])
+    requires { (n : ℕ) → Has numbers.now n → n < length stages.old }
+    ensures { Wakes stages.old stages.new numbers.now }
 {
     for number in numbers {
-        if stages[*number] == NEW {
+        if stages.at(*number) == NEW {
             continue;
         }
-        stages[*number] = WANTED;
+        stages.write_one(*number);
     }
 }
 
 /// Goes on to the first prerequisite that isn't done, and opens groups on the way.
-fn advance(done: &NodeSet, stages: &mut Vec<u8>, left: &mut Left)
-    requires { (n : ℕ) → Has (joined left.old.behind) n → n < length stages.old.items }
-    ensures wants { WantsOpened stages.old.items stages.new.items done.now left.old }
+fn advance(done: &NodeSet, stages: &mut Bytes, left: &mut Left)
+    requires { (n : ℕ) → Has (joined left.old.behind) n → n < length stages.old }
+    ensures wants { WantsOpened stages.old stages.new done.now left.old }
     ensures left { (groups : List (List ℕ)) →
-        IsLeft stages.old.items done.now groups left.old →
-        IsLeft stages.new.items done.now groups left.new }
+        IsLeft stages.old done.now groups left.old →
+        IsLeft stages.new done.now groups left.new }
     ensures stopped { IsStopped done.now left.new }
 {
     while let Some(group) = left.next(done) {
         want_all(stages, group);
     }
-}
-
-/// So many times 0.
-fn zeros(alloc: Global, many: usize) -> Result<Vec<u8>, AllocError>
-    ensures { IfOk result (λ bytes. bytes.items ≡ replicate many 0) }
-{
-    vec![in alloc; 0; many]
 }
 
 /// What is left of each node's groups where no group is open yet.
@@ -125,9 +108,9 @@ impl<'a> State<'a> {
         Ok(State {
             goals: NodeSet::new(),
             done: NodeSet::new(),
-            stages: zeros(alloc, graph.nodes().len())?,
+            stages: Bytes::zeros(alloc, graph.nodes().len())?,
             left: lefts_of(alloc, graph)?,
-            marks: zeros(alloc, layout.order().len())?,
+            marks: Bytes::zeros(alloc, layout.order().len())?,
         })
     }
 
@@ -172,16 +155,16 @@ impl<'a> State<'a> {
         ensures goals { self.new.goals ≡ self.old.goals }
         ensures done { self.new.done ≡ self.old.done }
         ensures less { stage self.old number ≡ 1 →
-            work self.new.stages.items < work self.old.stages.items }
+            work self.new.stages < work self.old.stages }
     {
-        if self.stages[number] != WANTED {
+        if self.stages.at(number) != WANTED {
             return;
         }
         let graph = layout.graph();
-        self.stages[number] = SETTLED;
+        self.stages.write(number, SETTLED);
         advance(&self.done, &mut self.stages, &mut self.left[number]);
         if self.left[number].is_over() && !has_recipe(graph, number) && !self.done.has(number) {
-            self.marks[layout.place(number)] = 1;
+            self.marks.write_one(layout.place(number));
         }
     }
 
@@ -206,7 +189,7 @@ impl<'a> State<'a> {
         ensures goals { self.new.goals ≡ self.old.goals }
         ensures done { self.new.done ≡ self.old.done }
     {
-        while let Some(number) = first_of(WANTED, &self.stages) {
+        while let Some(number) = self.stages.first_one() {
             self.look(layout, number);
         }
     }
@@ -223,7 +206,7 @@ impl<'a> State<'a> {
         growth_laws::turns_stay();
         let place = layout.place(number);
         self.done.insert(number);
-        self.marks[place] = 0;
+        self.marks.write(place, 0);
         wake(&mut self.stages, layout.users(number));
     }
 

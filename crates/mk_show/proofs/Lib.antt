@@ -1,3 +1,4 @@
+pub mod Numbers
 pub mod Steps
 pub mod FirstDisks
 pub mod Counts

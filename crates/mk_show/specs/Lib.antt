@@ -1,3 +1,4 @@
+pub mod Numbers
 pub mod Histories
 pub mod Makes
 pub mod Shown

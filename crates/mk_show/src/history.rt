@@ -13,6 +13,7 @@ ghost use Rattle.mk_world.specs.Running.{contents_of};
 ghost use Rattle.mk_world.specs.State.{disk_of, number_of, setting};
 ghost use Rattle.mk_world.specs.Steps.{IsFirstOf, step_of};
 ghost use Rattle.mk_show.specs.Histories.{GoesOn, MayGoOn, looks_and_puts, puts_in};
+ghost use Rattle.mk_show.specs.Numbers.{HasSmallNumbers, HaveSmallNumbers};
 
 use mk_foot::{Record, Setting};
 use mk_graph::{Graph, Node};
@@ -35,13 +36,15 @@ pub struct History<'a> {
 impl<'a> Model for History<'a> {
     ghost use Rattle.std.specs.Prelude.{◌≡◌};
     ghost use Rattle.mk_show.specs.Histories as value;
+    ghost use Rattle.mk_show.specs.Numbers.{HaveSmallNumbers};
 
     ghost Value = { value.History };
 
     ghost view = { λ h. record { world = h.world; steps = h.steps.items } };
 
-    ghost invariant = { λ h. h.world.scene ≡
-        record { graph = h.graph.now; recorded = h.setting.now } };
+    ghost invariant = { λ h.
+        (h.world.scene ≡ record { graph = h.graph.now; recorded = h.setting.now }) ×
+        HaveSmallNumbers h.steps.items };
 }
 
 impl<'a> History<'a> {
@@ -65,7 +68,8 @@ impl<'a> History<'a> {
 
     /// The steps.
     pub fn into_steps(self) -> Vec<Step>
-        ensures { result.items ≡ self.entry.steps }
+        ensures steps { result.items ≡ self.entry.steps }
+        ensures numbers { HaveSmallNumbers result.items }
     {
         self.steps
     }
@@ -77,9 +81,10 @@ impl<'a> History<'a> {
         self.world.clock()
     }
 
-    /// Takes a step that is allowed.
+    /// Takes a step that is allowed, with small numbers.
     fn take(&mut self, step: Step) -> Result<(), AllocError>
-        requires { MayGoOn self.old (step_of self.old.world.scene.graph step ∷ []) }
+        requires numbers { HasSmallNumbers step }
+        requires legal { MayGoOn self.old (step_of self.old.world.scene.graph step ∷ []) }
         ensures { OnOk result (GoesOn self.old self.new
             (step_of self.old.world.scene.graph step ∷ [])) }
     {

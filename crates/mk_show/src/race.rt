@@ -1,11 +1,12 @@
 //! Evidence for a race.
 
-ghost use Rattle.std.specs.Prelude.{◌≡◌, ◌<◌, length, map, true, IfOk, MatchOption};
+ghost use Rattle.std.specs.Prelude.{◌≡◌, ◌<◌, length, map, true, IfOk, IfSome, MatchOption};
 ghost use Rattle.mk_graph.specs.Graph.{node};
 ghost use Rattle.mk_graph.specs.Turns.{Before};
 ghost use Rattle.mk_graph.specs.World.{Disk, IsFirst};
 ghost use Rattle.mk_world.specs.Steps.{step_of};
 ghost use Rattle.mk_cert.specs.Subject.{footprints};
+ghost use Rattle.mk_show.specs.Numbers.{HaveSmallNumbers};
 ghost use Rattle.mk_show.specs.Shown.{EndsInRace, HasStamps};
 
 use crate::bound::has_stamps;
@@ -29,10 +30,12 @@ pub fn race(
     requires node { t < length subject.now.graph.nodes }
     requires recipe { (node subject.now.graph t).recipe ≡ true }
     requires not_before { ¬ (Before subject.now.graph o t) }
-    ensures { IfOk result (λ found. MatchOption found (¬ (HasStamps subject.now))
+    ensures shown { IfOk result (λ found. MatchOption found (¬ (HasStamps subject.now))
         (λ steps. (d : Disk) → IsFirst subject.now.graph (footprints subject.now.setting) d →
         EndsInRace subject.now.graph (footprints subject.now.setting) d o t
         (map (step_of subject.now.graph) steps.items))) }
+    ensures numbers { IfOk result (λ found. IfSome found
+        (λ steps. HaveSmallNumbers steps.items)) }
 {
     first_is_a_start();
     serial_reaches_each_once();

@@ -1,7 +1,8 @@
 //! Evidence for what is found.
 
-ghost use Rattle.std.specs.Prelude.{◌≡◌, ℕ, IfOk, MatchOption};
+ghost use Rattle.std.specs.Prelude.{◌≡◌, ℕ, IfOk, IfSome, MatchOption};
 ghost use Rattle.mk_graph.specs.Setting.{IsNumberOf};
+ghost use Rattle.mk_show.specs.Numbers.{HaveSmallNumbers};
 ghost use Rattle.mk_show.specs.Shown.{IsNotShown, IsTold, Shows};
 
 use crate::race::race;
@@ -41,8 +42,10 @@ pub fn evidence(
     finding: &Finding,
 ) -> Result<Option<Vec<Step>>, AllocError>
     requires { IsTold subject.now finding.now }
-    ensures { IfOk result (λ found. MatchOption found (IsNotShown subject.now finding.now)
+    ensures shown { IfOk result (λ found. MatchOption found (IsNotShown subject.now finding.now)
         (λ steps. Shows subject.now finding.now steps.items)) }
+    ensures numbers { IfOk result (λ found. IfSome found
+        (λ steps. HaveSmallNumbers steps.items)) }
 {
     listed_exactly();
     names_have_one_number();

@@ -1,6 +1,6 @@
 //! Evidence for a stale read.
 
-ghost use Rattle.std.specs.Prelude.{◌≡◌, ◌<◌, ◌≤◌, ◌+◌, ◌*◌, ◌↔◌, [], ℕ, length, IfOk, MatchOption, OnOk};
+ghost use Rattle.std.specs.Prelude.{◌≡◌, ◌<◌, ◌≤◌, ◌+◌, ◌*◌, ◌↔◌, [], ℕ, length, IfOk, IfSome, MatchOption, OnOk};
 ghost use Rattle.mk_graph.specs.Membership.{Has};
 ghost use Rattle.mk_graph.specs.Serial.{serial_order};
 ghost use Rattle.mk_graph.specs.Stale.{Chain};
@@ -12,6 +12,7 @@ ghost use Rattle.mk_cert.specs.Conditions.{IsStale};
 ghost use Rattle.mk_cert.specs.Listing.{Lists};
 ghost use Rattle.mk_cert.specs.Subject.{footprints};
 ghost use Rattle.mk_show.specs.Makes.{GoesOnEditing, GoesOnMakingGoals, IsIdle, MayEdit, MayMakeGoals};
+ghost use Rattle.mk_show.specs.Numbers.{HaveSmallNumbers};
 ghost use Rattle.mk_show.specs.Shown.{HasStamps, ShowsStaleRead};
 
 use crate::bound::has_stamps;
@@ -132,8 +133,10 @@ pub fn stale(
     requires node { t < length subject.now.graph.nodes }
     requires nothing { Lists subject.now (static_candidates subject.now) [] }
     requires stale { IsStale subject.now t file.now }
-    ensures { IfOk result (λ found. MatchOption found (¬ (HasStamps subject.now))
+    ensures shown { IfOk result (λ found. MatchOption found (¬ (HasStamps subject.now))
         (λ steps. ShowsStaleRead subject.now t file.now steps.items)) }
+    ensures numbers { IfOk result (λ found. IfSome found
+        (λ steps. HaveSmallNumbers steps.items)) }
 {
     let passed = chained(alloc, subject, t)?;
     let mut history = History::new(alloc, subject.graph(), subject.setting())?;

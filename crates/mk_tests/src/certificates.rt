@@ -75,6 +75,44 @@ null => refused 72 top
 {"format":1,"goals":[],"ways":[null]} => refused 72 ways
 {"format":1,"goals":[],"ways":["w"]} => refused 72 ways
 {"format":1,"goals":[],"ways":[[]]} => refused 72 ways
+{"ways":[],"goals":[],"format":1} => goals
+{"ways":[{"end":"always","file":"f","path":[],"recipe":"r"}],"format":1,"goals":["p"]} => goals p; r f always
+{"\u0066ormat":1,"goals":["\u0070\/q"],"ways":[]} => goals p/q
+{"ways":[0],"format":1,"goals":[],"ways":[]} => goals
+{"ways":[],"format":1,"goals":[],"ways":[0]} => refused 72 ways
+{"ways":[{"x":0}],"format":1,"goals":[],"ways":{}} => refused 72 ways
+{"ways":{},"format":1,"goals":[],"ways":[]} => goals
+{"goals":0,"format":1,"goals":["p"],"ways":[]} => goals p
+{"goals":["p"],"format":1,"goals":["."],"ways":[]} => refused 72 goals
+{"ways":[0],"x":[{"y":[1e4,true,null,"z",-0,{}]}],"goals":0,"format":2} => refused 72 format
+{"ways":[0],"x":{"x":[]},"goals":0,"format":1} => refused 72 goals
+{"ways":[0],"x":0,"goals":[],"format":1} => refused 72 unknown
+{"format":1,"goals":[],"ways":[],"x":1e308} => refused 72 unknown
+{"format":1,"goals":[],"ways":[],"x":1e309} => refused 71
+{"format":1,"goals":[],"ways":[],"x":-1e309} => refused 71
+{"format":1,"goals":[],"ways":[],"x":{"y":[0,1e309]}} => refused 71
+{"format":1e309,"goals":[],"ways":[]} => refused 71
+{"format":1,"goals":[1e309],"ways":[]} => refused 71
+{"format":1,"goals":1e309,"ways":[]} => refused 71
+{"format":1,"goals":[],"ways":[1e309]} => refused 71
+{"format":1,"goals":[],"ways":[{"end":1e309}]} => refused 71
+1e309 => refused 71
+[1e309] => refused 71
+{"format":1,"goals":[],"ways":[0],} => refused 71
+{"format":1,"goals":[],"ways":[0,tru]} => refused 71
+{"format":1,"goals":[],"ways":[{"end":1},{"end":"\x"}]} => refused 71
+{"format":1,"goals":[],"ways":[0]}} => refused 71
+{"format":1,"goals":[],"ways":[0]} 0 => refused 71
+{"format":2,"goals":[}} => refused 71
+{"format":2,"x":[}} => refused 71
+{"format":2,"x":{]} => refused 71
+{"format":2,"x":{"y"}} => refused 71
+{"format":2,"x"} => refused 71
+{"format":2,1:0} => refused 71
+{"format":2 "goals":0} => refused 71
+{"format":1,"goals":[],"ways":[{"end":"always"]} => refused 71
+{"format":1,"goals":[],"ways":[{"path":["r"}]} => refused 71
+[} => refused 71
 { => refused 71
 {} x => refused 71
 {}{} => refused 71
@@ -126,6 +164,13 @@ const WAYS: &str =
 [{"end":"written","file":"f","path":["r"],"recipe":"r"},0] => refused 72 ways
 [{"end":"written","file":"f","path":["r"],"recipe":"r"},{}] => refused 72 end
 [{"end":"written","file":"f","path":["r"],"recipe":0},0] => refused 72 recipe
+[{"end":"always","file":0,"file":"f","path":[0],"path":["r","s"],"recipe":0,"recipe":"r"}] => goals; r f always r s
+[{"end":"always","file":"f","path":[],"recipe":"r","file":0}] => refused 72 file
+[{"end":"always","file":"f","path":[],"recipe":"r","path":[0]}] => refused 72 path
+[{"x":{"end":[0]},"end":"always","file":"f","path":[],"recipe":"r"}] => refused 72 unknown
+[{"recipe":0,"path":0,"file":0,"end":0}] => refused 72 end
+[{"recipe":0,"path":0,"file":0,"end":"always"}] => refused 72 file
+[{"recipe":0,"path":0,"file":"f","end":"always"}] => refused 72 path
 [0,{}] => refused 72 ways
 "#;
 
@@ -242,6 +287,80 @@ fn reads_ways(rt: HostRuntime) -> Result<(), Fail> {
         text.push('}')?;
         let got = read(alloc, text.as_bytes())?;
         assert_eq!(rt; got.as_str(), line, "at {row}");
+    }
+    Ok(())
+}
+
+/// What stands before and behind a nested value, how many levels it is in, and the fault.
+const NESTED: [(&str, &str, usize, &str); 8] = [
+    ("", "", 0, "refused 72 top"),
+    (
+        r#"{"x":"#,
+        r#","format":1,"goals":[],"ways":[]}"#,
+        1,
+        "refused 72 unknown",
+    ),
+    (
+        r#"{"format":"#,
+        r#","goals":[],"ways":[]}"#,
+        1,
+        "refused 72 format",
+    ),
+    (
+        r#"{"format":1,"goals":"#,
+        r#","ways":[]}"#,
+        1,
+        "refused 72 goals",
+    ),
+    (
+        r#"{"format":1,"goals":[],"ways":["#,
+        "]}",
+        2,
+        "refused 72 ways",
+    ),
+    (
+        r#"{"format":1,"goals":[],"ways":[{"x":[],"end":"#,
+        "}]}",
+        3,
+        "refused 72 end",
+    ),
+    (
+        r#"{"format":1,"goals":[],"ways":[{"end":"always","file":"f","path":"#,
+        "}]}",
+        3,
+        "refused 72 path",
+    ),
+    (
+        r#"{"format":1,"goals":[],"ways":[{"x":"#,
+        r#","end":"always","file":"f","path":[],"recipe":"r"}]}"#,
+        3,
+        "refused 72 unknown",
+    ),
+];
+
+/// A text with brackets that nest so deep.
+fn nested(alloc: Global, front: &str, levels: usize, rest: &str) -> Result<String, AllocError> {
+    let mut text = String::from_str(alloc, front)?;
+    for _ in 0..levels {
+        text.push('[')?;
+    }
+    for _ in 0..levels {
+        text.push(']')?;
+    }
+    text.push_str(rest)?;
+    Ok(text)
+}
+
+/// Values nest 127 deep, and no deeper.
+#[test]
+fn reads_nested_values(rt: HostRuntime) -> Result<(), Fail> {
+    let alloc = rt.alloc();
+    for row in &NESTED {
+        let (front, rest, around, want) = *row;
+        let text = nested(alloc, front, 127 - around, rest)?;
+        see(&rt, alloc, text.as_bytes(), want)?;
+        let text = nested(alloc, front, 128 - around, rest)?;
+        see(&rt, alloc, text.as_bytes(), "refused 71")?;
     }
     Ok(())
 }

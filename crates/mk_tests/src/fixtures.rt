@@ -1,9 +1,9 @@
 //! What tests of several libraries share: texts, names, rows of tables, makefiles in memory.
 
 ghost use Rattle.std.specs.Prelude.{◌≡◌, IfOk};
-ghost use Rattle.mk_read.specs.MemFiles.{failures_of};
+ghost use Rattle.mk_parse.specs.MemFiles.{failures_of};
 
-use mk_read::MemFiles;
+use mk_parse::MemFiles;
 use std::alloc::{AllocError, Global};
 use std::process::Abort;
 

@@ -1,12 +1,13 @@
 //! Rows on inference, selection, goals and commands, over makefiles in memory.
 
 use crate::fixtures::{field, fields_of, file_of, names};
+use mk_choice::{Choices, Commands, Made, choice, choice_and_commands, commands};
 use mk_graph::Graph;
-use mk_infer::{
-    Choices, Commands, Exists, InferFault, RuleTable, choice, commands, goal_names, select,
-};
+use mk_infer::{Exists, InferFault, RuleTable};
 use mk_lines::{Name, NameTable, Prefixes};
-use mk_read::{Makefile, read_makefile};
+use mk_parse::read_makefile;
+use mk_read::Makefile;
+use mk_select::{goal_names, select};
 use std::alloc::{AllocError, Global};
 use std::process::Abort;
 use std::test::Fail;
@@ -274,6 +275,34 @@ fn see_told(
     Ok(())
 }
 
+/// The inferred prerequisite, `-` where there is none, and the commands.
+fn made_text(alloc: Global, made: &Made<'_>) -> Result<Vec<u8>, AllocError> {
+    let mut out = made.choice.unwrap_or("-").as_bytes().to_vec(alloc)?;
+    out.extend_from_slice(&lines_text(alloc, &made.commands)?)?;
+    Ok(out)
+}
+
+/// What makes a name, or the words of the fault.
+fn told_at_once(alloc: Global, choices: &Choices<'_>, name: &str) -> Result<Vec<u8>, Fail> {
+    match choice_and_commands(alloc, choices, name) {
+        Ok(made) => Ok(made_text(alloc, &made)?),
+        Err(fault) => Ok(fault_words(alloc, &fault)?),
+    }
+}
+
+/// Sees what makes a name.
+fn see_made(
+    rt: &impl Abort,
+    alloc: Global,
+    choices: &Choices<'_>,
+    name: &str,
+    want: &[u8],
+) -> Result<(), Fail> {
+    let found = told_at_once(alloc, choices, name)?;
+    assert_eq!(rt; found.as_slice(), want, "of {name}");
+    Ok(())
+}
+
 /// Sees the commands of three names, and the inferred prerequisite of one.
 fn see_commands(rt: &impl Abort, alloc: Global, choices: &Choices<'_>) -> Result<(), Fail> {
     see_told(rt, alloc, choices, "d/a.o", b"\necho d/a b b b b 2")?;
@@ -281,7 +310,9 @@ fn see_commands(rt: &impl Abort, alloc: Global, choices: &Choices<'_>) -> Result
     see_told(rt, alloc, choices, "b.o", b"\ncc -O1 -c b.c")?;
     assert!(rt; has_choice(alloc, choices, "b.o", "b.c")?);
     assert!(rt; !has_choice(alloc, choices, "b.c", "b.c")?);
-    Ok(())
+    see_made(rt, alloc, choices, "b.o", b"b.c\ncc -O1 -c b.c")?;
+    see_made(rt, alloc, choices, "b.c", b"-")?;
+    see_made(rt, alloc, choices, "v", b"-?\necho ")
 }
 
 /// The same over a makefile whose names are looked up.

@@ -3,10 +3,8 @@
 use crate::fixtures::same;
 use mk_lines::{Name, uncomment};
 use mk_macros::Op;
-use mk_read::{
-    Kind, KindFault, Place, ReadFault, Special, is_special, is_suffix, kind_of, name_of, names_of,
-    special_of,
-};
+use mk_parse::{Kind, is_special, is_suffix, kind_of, name_of, names_of, special_of};
+use mk_read::{KindFault, Place, ReadFault, Special};
 use std::alloc::{AllocError, Global};
 use std::process::Abort;
 use std::str;

@@ -1,10 +1,11 @@
 //! Makefiles that are read from memory.
 
 ghost use Rattle.std.specs.Prelude.{◌≡◌, IfOk};
-ghost use Rattle.mk_read.specs.MemFiles.{failures_of};
+ghost use Rattle.mk_parse.specs.MemFiles.{failures_of};
 
 use crate::fixtures::{add_names, file_of, unfolded};
-use mk_read::{Command, Files, Makefile, MemFiles, read_makefile};
+use mk_parse::{MemFiles, read_makefile};
+use mk_read::{Command, Files, Makefile};
 use std::alloc::{AllocError, Global};
 use std::process::Abort;
 use std::str;

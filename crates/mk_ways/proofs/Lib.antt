@@ -1,5 +1,6 @@
 pub mod Steps
-pub mod Taken
+pub mod Read
+pub mod PartsPut
 pub mod WrittenTexts
 pub mod ValueBack
 pub mod TextBack

@@ -1,5 +1,5 @@
--- Lists that are gone over until the first fault.
-use Rattle.std.proofs.Common.{◌≡◌, List, [], ◌∷◌, ◌++◌, Result, Ok, Err, inl, inr, refl, sym, ap, ◌∙◌, append_assoc, append-nil}
+-- Lists that grow at their end, up to the first fault.
+use Rattle.std.proofs.Common.{◌≡◌, List, [], ◌∷◌, ◌++◌, Result, Ok, Err, inl, inr, refl, ap, ◌∙◌}
 use Rattle.std.specs.Prelude.{◌⊎◌}
 use Rattle.mk_ways.specs.declared.fault.CertificateFault.{CertificateFault}
 use Rattle.mk_ways.specs.declared.fault.CertificateFault.TheVariants.{Memory}
@@ -9,35 +9,31 @@ use Rattle.mk_ways.specs.Steps.{◌>>=◌, each}
 abbrev pub Fails : {Y : Type 0} → CertificateFault → Result Y CertificateFault → Type 0
 Fails fault defined = (fault ≡ Memory) ⊎ (defined ≡ Err fault)
 
--- what was found before, and what is found then
-abbrev pub with_front : {A : Type 0} → List A → Result (List A) CertificateFault → Result (List A) CertificateFault
-with_front front (Ok rest) = Ok (front ++ rest)
-with_front front (Err fault) = Err fault
+first_of_all : {B : Type 0} (r : Result B CertificateFault) → (r >>= λ y. Ok [] >>= λ ys. Ok (y ∷ ys)) ≡ (Ok [] >>= λ (ys : List B). r >>= λ y. Ok (ys ++ y ∷ []))
+first_of_all (Ok y) = refl
+first_of_all (Err fault) = refl
 
-with_front_more : {A : Type 0} (front : List A) (x : A) (r : Result (List A) CertificateFault) → with_front front (r >>= λ ys. Ok (x ∷ ys)) ≡ with_front (front ++ x ∷ []) r
-with_front_more front x (Ok rest) = ap (λ (xs : List _). Ok xs) (simp append_assoc)
-with_front_more front x (Err fault) = refl
+behind_first : {B : Type 0} (r : Result B CertificateFault) (rs : Result (List B) CertificateFault) (q : Result B CertificateFault)
+    → (r >>= λ y. (rs >>= λ ys. q >>= λ z. Ok (ys ++ z ∷ [])) >>= λ ys. Ok (y ∷ ys)) ≡ ((r >>= λ y. rs >>= λ ys. Ok (y ∷ ys)) >>= λ ys. q >>= λ z. Ok (ys ++ z ∷ []))
+behind_first (Ok y) (Ok ys) (Ok z) = refl
+behind_first (Ok y) (Ok ys) (Err fault) = refl
+behind_first (Ok y) (Err fault) q = refl
+behind_first (Err fault) rs q = refl
 
--- nothing before
-pub with_front_nil : {A : Type 0} (r : Result (List A) CertificateFault) → with_front [] r ≡ r
-with_front_nil (Ok rest) = refl
-with_front_nil (Err fault) = refl
-
-each_cons : {A B : Type 0} (f : A → Result B CertificateFault) (x : A) (xs : List A) → each f (x ∷ xs) ≡ (f x >>= λ y. each f xs >>= λ ys. Ok (y ∷ ys))
+-- what each gives, with one more at the end
+pub each_more : {A B : Type 0} (f : A → Result B CertificateFault) (xs : List A) (x : A) → each f (xs ++ x ∷ []) ≡ (each f xs >>= λ ys. f x >>= λ y. Ok (ys ++ y ∷ []))
 unfolding each
-each_cons f x xs = refl
+each_more f [] x = first_of_all (f x)
+each_more {B = B} f (z ∷ xs) x = ap (λ (r : Result (List B) CertificateFault). f z >>= λ y. r >>= λ ys. Ok (y ∷ ys)) (each_more f xs x) ∙ behind_first (f z) (each f xs) (f x)
 
--- the first of the list
-pub each_first : {A B : Type 0} (f : A → Result B CertificateFault) (front : List B) (x : A) (xs : List A) (y : B) (whole : Result (List B) CertificateFault) → f x ≡ Ok y → with_front front (each f (x ∷ xs)) ≡ whole
-    → with_front (front ++ y ∷ []) (each f xs) ≡ whole
-each_first f front x xs y whole e so_far = sym (ap (with_front front) (each_cons f x xs ∙ rw e refl) ∙ with_front_more front y (each f xs)) ∙ so_far
+-- a fault before, a fault of the last, or none
+pub fails_before : {A B : Type 0} (f : A → Result B CertificateFault) (xs : List A) (x : A) (fault : CertificateFault) → Fails fault (each f xs) → Fails fault (each f (xs ++ x ∷ []))
+fails_before f xs x fault (inl memory) = inl memory
+fails_before f xs x fault (inr e) = inr (each_more f xs x ∙ rw e refl)
 
--- it fails
-pub first_fails : {A B : Type 0} (f : A → Result B CertificateFault) (front : List B) (x : A) (xs : List A) (fault : CertificateFault) (whole : Result (List B) CertificateFault) → Fails fault (f x) → with_front front (each f (x ∷ xs)) ≡ whole → Fails fault whole
-first_fails f front x xs fault whole (inl memory) so_far = inl memory
-first_fails f front x xs fault whole (inr e) so_far = let failed : each f (x ∷ xs) ≡ Err fault = each_cons f x xs ∙ rw e refl in inr (sym so_far ∙ ap (with_front front) failed)
+pub fails_last : {A B : Type 0} (f : A → Result B CertificateFault) (xs : List A) (x : A) (ys : List B) (fault : CertificateFault) → each f xs ≡ Ok ys → Fails fault (f x) → Fails fault (each f (xs ++ x ∷ []))
+fails_last f xs x ys fault e (inl memory) = inl memory
+fails_last f xs x ys fault e (inr h) = inr (each_more f xs x ∙ rw (e, h) refl)
 
--- none is left
-pub each_none : {A B : Type 0} (f : A → Result B CertificateFault) (front : List B) (whole : Result (List B) CertificateFault) → with_front front (each f []) ≡ whole → whole ≡ Ok front
-unfolding each
-each_none {B = B} f front whole so_far = sym so_far ∙ ap (λ (ys : List B). Ok ys) (append-nil front)
+pub has_more : {A B : Type 0} (f : A → Result B CertificateFault) (xs : List A) (x : A) (ys : List B) (y : B) → each f xs ≡ Ok ys → f x ≡ Ok y → each f (xs ++ x ∷ []) ≡ Ok (ys ++ y ∷ [])
+has_more f xs x ys y e h = each_more f xs x ∙ rw (e, h) refl

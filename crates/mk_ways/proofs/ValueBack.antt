@@ -6,8 +6,7 @@ use Rattle.std.proofs.lemmas.List.Folds.{list_all-append}
 use Rattle.mk_lines.specs.Paths.{is_plain_path}
 use Rattle.serde_json.specs.Data.{Data, string}
 use Rattle.serde_json.specs.Find.{get}
-use Rattle.serde_json.specs.View.{items_of}
-use Rattle.mk_json.specs.Kinds.{elements, has_only, array_of}
+use Rattle.mk_json.specs.Kinds.{has_only, array_of}
 use Rattle.mk_ways.specs.declared.certificate.Finish.{Finish}
 use Rattle.mk_ways.specs.declared.certificate.Finish.TheVariants.{Written, Source, Always}
 use Rattle.mk_ways.specs.declared.key.Key.{Key}
@@ -18,15 +17,12 @@ use Rattle.mk_ways.specs.Laws.{names_of_way, ValueIsReadBack}
 use Rattle.mk_ways.specs.Reading.{values_at, name_in, name_at, names_at, finish_at, way_in, format_is_one, certificate_in}
 use Rattle.mk_ways.specs.Steps.{each, at_least}
 use Rattle.mk_ways.specs.Words.{finish_word, finish_of}
+use Rattle.mk_ways.proofs.Read.{elements_items}
 use Rattle.mk_ways.specs.Writing.{names_value, way_value, value_of}
 
 -- a test of all of two lists
 pub all_parts : {A : Type 0} (p : A → Bool) (xs ys : List A) → list_all p (xs ++ ys) ≡ true → (list_all p xs ≡ true) × (list_all p ys ≡ true)
 all_parts p xs ys h = and_parts (list_all p xs) (list_all p ys) (sym (list_all-append p xs ys) ∙ h)
-
-elements_items : (ds : List Data) → elements (items_of ds) ≡ ds
-elements_items [] = refl
-elements_items (d ∷ ds) = ap (λ es. d ∷ es) (elements_items ds)
 
 -- a name, and names
 name_back : (key : Key) (name : List ℕ) → is_plain_path name ≡ true → name_in key (string name) ≡ Ok name

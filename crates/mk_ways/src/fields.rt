@@ -1,83 +1,110 @@
-//! Fields of certificates, each with the fault of its key.
+//! Names, lists of them and ends, by the tokens of a certificate, each with the fault of its key.
 
-ghost use Rattle.std.specs.Prelude.{◌≡◌, map};
-ghost use Rattle.serde_json.specs.View.{view};
-ghost use Rattle.mk_json.specs.Taken.{object_view, without};
-ghost use Rattle.mk_ways.specs.declared.key.Key.TheVariants.{End};
-ghost use Rattle.mk_ways.specs.Keys.{spelling};
-ghost use Rattle.mk_ways.specs.Reading.{name_in, name_at, values_at, names_at, finish_at};
+ghost use Rattle.std.specs.Prelude.{◌≡◌, ◌∷◌, ◌++◌, [], List, Result};
+ghost use Rattle.std.specs.Option.{option_map};
+ghost use Rattle.serde_json.specs.Data.{Data};
+ghost use Rattle.serde_json.specs.Find.{as_str};
+ghost use Rattle.mk_json.specs.Tokens.{Reads, ReadsItems};
+ghost use Rattle.mk_ways.specs.declared.fault.CertificateFault.{CertificateFault};
+ghost use Rattle.mk_ways.specs.Parts.{names_from, finish_from};
+ghost use Rattle.mk_ways.specs.Reading.{name_in};
 ghost use Rattle.mk_ways.specs.Steps.{Gives, each};
 ghost use Rattle.mk_ways.specs.Words.{finish_of};
 
 use crate::certificate::Finish;
 use crate::fault::CertificateFault;
 use crate::key::Key;
-use mk_json::{Fields, take, take_elements, take_text, text_of};
+use json::{Invalid, Reader};
+use mk_json::laws::{items_in_turn, values_take_tokens};
+use mk_json::{enter_array, next_text};
 use mk_lines::{Name, Names, is_plain_text_path};
-use serde_json::Value;
 use std::alloc::Global;
 
-/// The name that a value is: a text that is a plain path.
+/// The name that a text is, where there is one and it is a plain path.
 #[tactic(auto, unfolding(crate::specs::Reading::name_in))]
-fn name_in(key: Key, value: Value) -> Result<Name, CertificateFault>
-    ensures { Gives (λ name. name) result (name_in key (view value)) }
+fn name_of(alloc: Global, key: Key, text: Option<&str>) -> Result<Name, CertificateFault>
+    ensures { (value : Data) → option_map (λ found. found.now) text.entry ≡ as_str value →
+        Gives (λ name. name) result (name_in key value) }
 {
-    let Some(text) = text_of(value) else {
+    let Some(text) = text else {
         return Err(CertificateFault::Shape(key));
     };
-    if !is_plain_text_path(text.as_str()) {
+    if !is_plain_text_path(text) {
         return Err(CertificateFault::Shape(key));
     }
-    Ok(Name::from_string(text))
+    Ok(Name::new(alloc, text)?)
 }
 
-/// The names that values are.
-fn names_in(alloc: Global, key: Key, values: Vec<Value>) -> Result<Vec<Name>, CertificateFault>
-    ensures { Gives (λ names. names.items) result (each (name_in key) (map view values.items)) }
+/// Reads a name.
+pub fn read_name(
+    alloc: Global,
+    key: Key,
+    reader: &mut Reader<'_>,
+    depth: usize,
+) -> Result<Result<Name, CertificateFault>, Invalid>
+    ensures { Reads (λ name value. Gives (λ name. name) name (name_in key value))
+        depth reader.old result reader.new }
 {
-    let mut names = Vec::with_capacity(alloc, values.len())?;
-    for value in values {
-        names.push(name_in(key, value)?)?;
+    let text = next_text(reader, depth)?;
+    Ok(name_of(alloc, key, text))
+}
+
+/// A list with one more at its end, or the first fault.
+pub fn with_next<T: Drop>(
+    found: Result<Vec<T>, CertificateFault>,
+    next: Result<T, CertificateFault>,
+) -> Result<Vec<T>, CertificateFault>
+    ensures { (part : Data → Result T CertificateFault) (front : List Data) (value : Data) →
+        Gives (λ all. all.items) found (each part front) → Gives (λ one. one) next (part value) →
+        Gives (λ all. all.items) result (each part (front ++ value ∷ [])) }
+{
+    let mut found = found?;
+    let next = next?;
+    found.push(next)?;
+    Ok(found)
+}
+
+/// Reads the names of a list that was entered.
+fn read_list(
+    alloc: Global,
+    key: Key,
+    reader: &mut Reader<'_>,
+    depth: usize,
+) -> Result<Result<Vec<Name>, CertificateFault>, Invalid>
+    ensures { ReadsItems
+        (λ names values. Gives (λ all. all.items) names (each (name_in key) values))
+        depth reader.old result reader.new }
+{
+    items_in_turn();
+    values_take_tokens();
+    let mut names: Result<Vec<Name>, CertificateFault> = Ok(Vec::new(alloc));
+    'items: while !reader.take_end_array() {
+        let name = read_name(alloc, key, reader, depth)?;
+        names = with_next(names, name);
     }
     Ok(names)
 }
 
-/// Takes the name under a key.
-#[tactic(auto, unfolding(crate::specs::Reading::name_at))]
-pub fn take_name(key: Key, fields: &mut Fields) -> Result<Name, CertificateFault>
-    ensures name { Gives (λ name. name) result (name_at key (object_view fields.old.entries)) }
-    ensures left { object_view fields.new.entries ≡
-        without (spelling key) (object_view fields.old.entries) }
+/// Reads a list of names.
+pub fn read_names(
+    alloc: Global,
+    key: Key,
+    reader: &mut Reader<'_>,
+    depth: usize,
+) -> Result<Result<Names, CertificateFault>, Invalid>
+    ensures { Reads (λ names value. Gives (λ names. names) names (names_from key value))
+        depth reader.old result reader.new }
 {
-    let Some(value) = take(fields, key.as_str()) else {
-        return Err(CertificateFault::Shape(key));
-    };
-    name_in(key, value)
-}
-
-/// Takes the values of the list under a key.
-#[tactic(auto, unfolding(crate::specs::Reading::values_at))]
-pub fn take_values(key: Key, fields: &mut Fields) -> Result<Vec<Value>, CertificateFault>
-    ensures values { Gives (λ values. map view values.items) result (values_at key
-        (object_view fields.old.entries)) }
-    ensures left { object_view fields.new.entries ≡
-        without (spelling key) (object_view fields.old.entries) }
-{
-    match take_elements(fields, key.as_str()) {
-        Some(values) => Ok(values),
-        None => Err(CertificateFault::Shape(key)),
+    if !enter_array(reader, depth)? {
+        return Ok(Err(CertificateFault::Shape(key)));
     }
-}
-
-/// Takes the names under a key.
-#[tactic(auto, unfolding(crate::specs::Reading::names_at))]
-pub fn take_names(alloc: Global, key: Key, fields: &mut Fields) -> Result<Names, CertificateFault>
-    ensures names { Gives (λ names. names) result (names_at key (object_view fields.old.entries)) }
-    ensures left { object_view fields.new.entries ≡
-        without (spelling key) (object_view fields.old.entries) }
-{
-    let values = take_values(key, fields)?;
-    Ok(Names::new(names_in(alloc, key, values)?))
+    match read_list(alloc, key, reader, depth - 1)? {
+        Ok(mut names) => {
+            names.shrink_to_fit();
+            Ok(Ok(Names::new(names)))
+        }
+        Err(fault) => Ok(Err(fault)),
+    }
 }
 
 /// The end that goes by a word.
@@ -92,19 +119,28 @@ fn finish_of(word: &str) -> Option<Finish>
     }
 }
 
-/// Takes the end of a way.
-#[tactic(auto, unfolding(crate::specs::Reading::finish_at))]
-pub fn take_finish(fields: &mut Fields) -> Result<Finish, CertificateFault>
-    ensures finish { Gives (λ finish. finish) result (finish_at
-        (object_view fields.old.entries)) }
-    ensures left { object_view fields.new.entries ≡
-        without (spelling End) (object_view fields.old.entries) }
+/// The end that a text is, where there is one and it is such a word.
+fn finish_in(text: Option<&str>) -> Result<Finish, CertificateFault>
+    ensures { (value : Data) → option_map (λ found. found.now) text.entry ≡ as_str value →
+        Gives (λ finish. finish) result (finish_from value) }
 {
-    let Some(word) = take_text(fields, Key::End.as_str()) else {
+    let Some(word) = text else {
         return Err(CertificateFault::Shape(Key::End));
     };
-    match finish_of(word.as_str()) {
+    match finish_of(word) {
         Some(finish) => Ok(finish),
         None => Err(CertificateFault::Shape(Key::End)),
     }
+}
+
+/// Reads the end of a way.
+pub fn read_finish(
+    reader: &mut Reader<'_>,
+    depth: usize,
+) -> Result<Result<Finish, CertificateFault>, Invalid>
+    ensures { Reads (λ finish value. Gives (λ finish. finish) finish (finish_from value))
+        depth reader.old result reader.new }
+{
+    let text = next_text(reader, depth)?;
+    Ok(finish_in(text))
 }

@@ -7,6 +7,7 @@ mod fields;
 mod key;
 pub mod laws;
 mod reading;
+mod ways;
 mod writing;
 
 pub use certificate::{Certificate, Finish, Way};

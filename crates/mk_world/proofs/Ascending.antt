@@ -53,6 +53,15 @@ inserted (x ∷ xs) k f = at (by_bytes k x) refl (inserted xs k f)
         (λ h. inl h, λ h. elim h [ inl r ↦ r | inr is ↦ inl (sym same ∙ is) ])
     at Greater e ih = (λ h. elim h [ inl is ↦ inl (inl is) | inr r ↦ elim (ih.0 r) [ inl there ↦ inl (inr there) | inr is ↦ inr is ] ], λ h. elim h [ inl l ↦ elim l [ inl is ↦ inl is | inr there ↦ inr (ih.1 (inl there)) ] | inr is ↦ inr (ih.1 (inr is)) ])
 
+-- what stands in a list with one more
+pub push_has : (xs : List (List ℕ)) (x f : List ℕ) → Has xs f ⊎ (x ≡ f) → Has (xs ++ x ∷ []) f
+push_has [] x f h = elim h [ inl none ↦ absurd none | inr e ↦ inl e ]
+push_has (y ∷ xs) x f h = elim h [ inl l ↦ elim l [ inl e ↦ inl e | inr r ↦ inr (push_has xs x f (inl r)) ] | inr e ↦ inr (push_has xs x f (inr e)) ]
+
+pub has_push : (xs : List (List ℕ)) (x f : List ℕ) → Has (xs ++ x ∷ []) f → Has xs f ⊎ (x ≡ f)
+has_push [] x f h = elim h [ inl e ↦ inr e | inr none ↦ absurd none ]
+has_push (y ∷ xs) x f h = elim h [ inl e ↦ inl (inl e) | inr r ↦ elim (has_push xs x f r) [ inl there ↦ inl (inr there) | inr e ↦ inr e ] ]
+
 -- one more name was put in
 pub one_in : (old new all : List ℕ → Type 0) (names : List (String Global)) (i : ℕ) (d : String Global) (name : List ℕ) → i < length names → name ≡ string_bytes (get_or names i d)
     → ((f : List ℕ) → new f ↔ (old f ⊎ (name ≡ f))) → ((f : List ℕ) → old f ↔ (all f ⊎ Has (map string_bytes (take i names)) f)) → (f : List ℕ) → new f ↔ (all f ⊎ Has (map string_bytes (take (i + 1) names)) f)
@@ -62,11 +71,3 @@ one_in old new all names i d name lt is step so_far f =
       λ h. elim ((step f).0 h) [ inl o ↦ elim ((so_far f).0 o) [ inl a ↦ inl a | inr t ↦ inr (push_has _ name f (inl t)) ] | inr e ↦ inr (push_has _ name f (inr e)) ],
       λ h. elim h [ inl a ↦ (step f).1 (inl ((so_far f).1 (inl a))) | inr t ↦ elim (has_push _ name f t) [ inl before ↦ (step f).1 (inl ((so_far f).1 (inr before))) | inr e ↦ (step f).1 (inr e) ] ],
     )
-  where
-    push_has : (xs : List (List ℕ)) (x f : List ℕ) → Has xs f ⊎ (x ≡ f) → Has (xs ++ x ∷ []) f
-    push_has [] x f h = elim h [ inl none ↦ absurd none | inr e ↦ inl e ]
-    push_has (y ∷ xs) x f h = elim h [ inl l ↦ elim l [ inl e ↦ inl e | inr r ↦ inr (push_has xs x f (inl r)) ] | inr e ↦ inr (push_has xs x f (inr e)) ]
-
-    has_push : (xs : List (List ℕ)) (x f : List ℕ) → Has (xs ++ x ∷ []) f → Has xs f ⊎ (x ≡ f)
-    has_push [] x f h = elim h [ inl e ↦ inr e | inr none ↦ absurd none ]
-    has_push (y ∷ xs) x f h = elim h [ inl e ↦ inl (inl e) | inr r ↦ elim (has_push xs x f r) [ inl there ↦ inl (inr there) | inr e ↦ inr e ] ]

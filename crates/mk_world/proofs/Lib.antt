@@ -6,6 +6,7 @@ pub mod Found
 pub mod Loops
 pub mod Changes
 pub mod Ascending
+pub mod Seen
 pub mod FirstDisk
 pub mod Listings
 pub mod StepTests

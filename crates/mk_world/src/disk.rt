@@ -7,7 +7,7 @@ ghost use Rattle.mk_world.specs.First.{first_disk};
 ghost use Rattle.mk_world.specs.Listing.{listing};
 ghost use Rattle.mk_graph.specs.World.{content, written, last_stamp, outcome};
 ghost use Rattle.mk_graph.specs.Schedule.{noted};
-ghost use Rattle.mk_world.specs.State.{disk_of, finished};
+ghost use Rattle.mk_world.specs.State.{aged, disk_of, finished};
 
 use crate::file::{File, Listed};
 use crate::first::first_files;
@@ -79,6 +79,13 @@ impl Disk {
         ensures { result ≡ self.now.clock }
     {
         self.clock
+    }
+
+    /// Time runs on to this stamp.
+    pub fn age(&mut self, stamp: u64)
+        ensures { self.new ≡ aged self.old stamp }
+    {
+        self.clock = self.clock.max(stamp);
     }
 
     /// What a recipe is known to write where it saw this, if that is known.

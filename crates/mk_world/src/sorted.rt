@@ -5,25 +5,29 @@ ghost use Rattle.std.specs.String.{string_bytes};
 ghost use Rattle.mk_graph.specs.Membership.{Has};
 ghost use Rattle.mk_world.specs.First.{AreSorted};
 
+use mk_lines::NameSet;
 use std::alloc::{AllocError, Global};
 use std::collections::BTreeSet;
 use std::marker::Model;
 
-/// Names in the order of their bytes, each once. A contract sees a list of names.
+/// Names in the order of their bytes, each once. A contract sees a list of names. Most names come
+/// many times, so those which came are looked up first.
 #[derive(Drop)]
 pub struct SortedNames<'a> {
     names: BTreeSet<&'a str>,
+    seen: NameSet<'a>,
 }
 
 impl<'a> Model for SortedNames<'a> {
     ghost use Rattle.std.specs.Prelude.{List, ℕ, map};
-    ghost use Rattle.mk_world.specs.First.{AreSorted};
+    ghost use Rattle.mk_world.specs.First.{AreSorted, HoldsSeen};
 
     ghost Value = { List (List ℕ) };
 
     ghost view = { λ s. map (λ name. name.now) s.names.keys };
 
-    ghost invariant = { λ s. AreSorted (map (λ name. name.now) s.names.keys) };
+    ghost invariant = { λ s. AreSorted (map (λ name. name.now) s.names.keys) ×
+        HoldsSeen (map (λ name. name.now) s.names.keys) s.seen };
 }
 
 impl<'a> SortedNames<'a> {
@@ -33,6 +37,7 @@ impl<'a> SortedNames<'a> {
     {
         SortedNames {
             names: BTreeSet::new(alloc),
+            seen: NameSet::new(alloc),
         }
     }
 
@@ -41,7 +46,11 @@ impl<'a> SortedNames<'a> {
         ensures { OnOk result ((f : List ℕ) → Has self.new f ↔
             (Has self.old f ⊎ (name.entry.now ≡ f))) }
     {
+        if self.seen.contains(name) {
+            return Ok(());
+        }
         self.names.insert(name)?;
+        self.seen.insert(name)?;
         Ok(())
     }
 

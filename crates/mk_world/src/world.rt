@@ -2,7 +2,7 @@
 
 ghost use Rattle.std.specs.Prelude.{◌≡◌, map, true, IfOk};
 ghost use Rattle.mk_graph.specs.Schedule as model;
-ghost use Rattle.mk_world.specs.State.{disk_of, number_of, setting};
+ghost use Rattle.mk_world.specs.State.{aged, disk_of, number_of, setting};
 ghost use Rattle.mk_world.specs.First.{AreSorted};
 ghost use Rattle.mk_world.specs.Listing.{listing};
 ghost use Rattle.mk_world.specs.Steps.{Answers, IsFirstOf, MayTake, TakesAllowed, step_of};
@@ -141,6 +141,18 @@ impl<'a> World<'a> {
         ensures { result ≡ self.now.disk.clock }
     {
         self.disk.clock()
+    }
+
+    /// Time runs on to this stamp, if it wasn't there yet: what is written next has a later one. No
+    /// file changes.
+    pub fn age(&mut self, stamp: u64)
+        ensures { self.new ≡ record {
+          scene = self.old.scene;
+          disk = aged self.old.disk stamp;
+          make = self.old.make;
+        } }
+    {
+        self.disk.age(stamp);
     }
 
     /// What a recipe is finished with where a plan leaves it open: what is known of a run that sees

@@ -1,26 +1,8 @@
 //! The makefile checker: reads the words of its command line, and answers them.
 #![tactic(auto)]
 
-mod answering;
-mod asked;
-mod command;
-mod disk;
-#[cfg(test)]
-mod edge_tests;
-mod emit;
-mod ending;
-mod ran;
-mod run;
-mod slurp;
-mod source;
-#[cfg(test)]
-mod tests;
-#[cfg(test)]
-mod verdict_tests;
-
-use disk::Disk;
-use ending::conclude;
-use ran::ran;
+use mk_host::{Disk, conclude};
+use mk_run::ran;
 use std::env::Env;
 use std::process::ExitCode;
 use std::{env, io};

@@ -1,7 +1,7 @@
 use Rattle.std.proofs.Common.{◌≡◌, ◌∙◌, ◌<◌, ◌⊎◌, ℕ, List, refl, inl, ap, sym, subst, map, length, get_or}
 use Rattle.std.proofs.lemmas.Result.{err_from_is_err_and, IfOk-weaker, IfErr-weaker}
 use Rattle.mk_graph.specs.Serial.{serial_order}
-use Rattle.mk_infer.specs.Table.{Looked}
+use Rattle.mk_choice.specs.Choosing.{Looked}
 use Rattle.mk_infer.specs.declared.fault.InferFault.TheVariants.{Memory}
 use Rattle.mk_cert.specs.Subject.{subject_of}
 use Rattle.mk_cert.specs.Entry.{AreEntries, AreEntriesOf, IsFirstFault, IsFaultOf, choice_after}

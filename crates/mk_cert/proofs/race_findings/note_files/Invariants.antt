@@ -1,4 +1,4 @@
-use Rattle.std.proofs.Common.{map, drop}
+use Rattle.std.proofs.Common.{◌≡◌, map, drop}
 use Rattle.std.specs.List.{flat_map}
 use Rattle.std.specs.String.{string_bytes}
 use Rattle.mk_graph.specs.Serial.{serial_order}
@@ -9,5 +9,9 @@ use Rattle.mk_cert.proofs.race_findings.note_files.Given as goal
 
 -- the files that are left
 abbrev pub invariant-loop-file : goal.invariant-loop-file
-invariant-loop-file l = Leads l.subject (flat_map (λ f. map (λ o. race l.entry.number o f) (serial_order l.subject.graph)) (drop l.file-index (map string_bytes l.files)))
-    (flat_map (λ f. map (λ o. race l.entry.number o f) (serial_order l.subject.graph)) (reads_of l.subject l.entry.number)) l.found.items l.initial.found.items
+invariant-loop-file l = record {
+  leads : Leads l.subject (flat_map (λ f. map (λ o. race l.entry.number o f) (serial_order l.subject.graph)) (drop l.file-index (map string_bytes l.files)))
+      (flat_map (λ f. map (λ o. race l.entry.number o f) (serial_order l.subject.graph)) (reads_of l.subject l.entry.number)) l.found.items l.initial.found.items;
+  graph : l.earlier.graph ≡ l.fn.earlier.graph;
+  number : l.earlier.number ≡ l.entry.number;
+}

@@ -1,5 +1,5 @@
 use Rattle.std.proofs.Common.{◌≡◌}
-use Rattle.mk_read.specs.MemFiles.{failures_of}
+use Rattle.mk_parse.specs.MemFiles.{failures_of}
 use Rattle.mk_core_tests.proofs.graph_texts.chain.Given as goal
 
 -- no read has failed

@@ -18,10 +18,10 @@ loop-group-preserved c =
     let w = c.want_all.ensures in
     let before = c.loop-group.invariant in
     record {
-      wants = wants_more c.args.stages.now.items c.loop-group.stages.items c.want_all.new.stages.items c.args.done.now c.args.left.now c.loop-group.left c.next.new.self c.in-Some.group.now before.left o w before.wants;
-      left = λ groups l. opens_left c.loop-group.stages.items c.want_all.new.stages.items c.args.done.now groups c.loop-group.left c.next.new.self c.in-Some.group.now o w (before.left groups l);
+      wants = wants_more c.args.stages.now c.loop-group.stages c.want_all.new.stages c.args.done.now c.args.left.now c.loop-group.left c.next.new.self c.in-Some.group.now before.left o w before.wants;
+      left = λ groups l. opens_left c.loop-group.stages c.want_all.new.stages c.args.done.now groups c.loop-group.left c.next.new.self c.in-Some.group.now o w (before.left groups l);
       low = λ n h. before.low n (subst (λ (gs : List (List ℕ)). Has (joined gs) n) (sym o.behind) (has_right c.in-Some.group.now (joined c.next.new.self.behind) n h));
     }
 
 pub returns-clause-left : goal.returns-clause-left
-returns-clause-left c = λ groups l. halts_left c.loop-group.stages.items c.args.done.now groups c.loop-group.left c.next.new.self c.in_default.ensures (c.loop-group.invariant.left groups l)
+returns-clause-left c = λ groups l. halts_left c.loop-group.stages c.args.done.now groups c.loop-group.left c.next.new.self c.in_default.ensures (c.loop-group.invariant.left groups l)

@@ -8,9 +8,9 @@ use Rattle.mk_ready.proofs.state.advance.Given as goal
 -- what was opened is wanted
 abbrev pub invariant-loop-group : goal.invariant-loop-group
 invariant-loop-group l = record {
-  wants : WantsOpened l.fn.stages.items l.stages.items l.done l.fn.left;
-  left : (groups : List (List ℕ)) → IsLeft l.fn.stages.items l.done groups l.fn.left → IsLeft l.stages.items l.done groups l.left;
-  low : (n : ℕ) → Has (joined l.left.behind) n → n < length l.fn.stages.items;
+  wants : WantsOpened l.fn.stages l.stages l.done l.fn.left;
+  left : (groups : List (List ℕ)) → IsLeft l.fn.stages l.done groups l.fn.left → IsLeft l.stages l.done groups l.left;
+  low : (n : ℕ) → Has (joined l.left.behind) n → n < length l.fn.stages;
 }
 
 abbrev pub decreases-loop-group : goal.decreases-loop-group

@@ -4,4 +4,4 @@ use Rattle.mk_ready.proofs.state.wake.Given as goal
 
 -- the nodes so far are to be looked at
 abbrev pub invariant-loop-number : goal.invariant-loop-number
-invariant-loop-number l = Wakes l.fn.stages.items l.stages.items (take l.number-index l.numbers)
+invariant-loop-number l = Wakes l.fn.stages l.stages (take l.number-index l.numbers)

@@ -4,4 +4,4 @@ use Rattle.mk_ready.proofs.state.want_all.Given as goal
 
 -- the members so far are wanted
 abbrev pub invariant-loop-number : goal.invariant-loop-number
-invariant-loop-number l = Wants l.fn.stages.items l.stages.items (take l.number-index l.group)
+invariant-loop-number l = Wants l.fn.stages l.stages (take l.number-index l.group)

@@ -16,16 +16,16 @@ use Rattle.mk_show.proofs.Races.{turns_are_nodes}
 use Rattle.mk_show.proofs.RaceHistories.{some_of, none_of, may_start, may_make, may_begin, ends_in_race}
 use Rattle.mk_show.proofs.race.race.Goals as goal
 
-pub returns-then-not-has_stamps : goal.returns-then-not-has_stamps
-returns-then-not-has_stamps c = λ enough.
+pub returns-then-not-has_stamps-clause-shown : goal.returns-then-not-has_stamps-clause-shown
+returns-then-not-has_stamps-clause-shown c = λ enough.
     let x = c.args.subject.now in
     let h = c.in_ok-history.history in
     let first = subst (λ (k : Graph). IsFirstOf k x.setting h.world) c.graph-graph.ensures.value (subst (λ (s : recorded.Setting). IsFirstOf c.graph-graph.result.now s h.world) c.setting.ensures c.in_ok-history.ensures.first) in
     let room = subst (λ (n : ℕ). n + (2 * writings x.graph (footprints x.setting) (serial_order x.graph) + 1) ≤ last_stamp) (sym c.clock.ensures) (enough (disk_of h.world.disk) first.first) in
     false≢true (c.if-not-has_stamps.ensures.1 room)
 
-pub returns-in_default : goal.returns-in_default
-returns-in_default c = λ enough. c.requires.not_before (subst (λ (k : Graph). Before k c.args.o c.args.t) c.graph-graph.ensures.value (none_of _ _ c.in_default.is c.in_ok-turns.ensures))
+pub returns-in_default-clause-shown : goal.returns-in_default-clause-shown
+returns-in_default-clause-shown c = λ enough. c.requires.not_before (subst (λ (k : Graph). Before k c.args.o c.args.t) c.graph-graph.ensures.value (none_of _ _ c.in_default.is c.in_ok-turns.ensures))
 
 pub start-requires : goal.start-requires
 start-requires c =
@@ -81,8 +81,8 @@ begin-requires-clause-legal c =
     let past = subst (λ (l : List ℕ). LeadsPast x.graph c.args.o c.args.t (reverse l)) (sym c.deref.ensures.value) found in
     may_begin x.graph x.setting h first c.in_ok-history.ensures.steps c.args.o c.args.t turns c.graph-graph.ensures.graph c.turn_lists_run.ensures c.serial_reaches_each_once.ensures c.first_is_a_start.ensures past c.requires.recipe room c.start.new.self c.in_ok-start.ensures c.new-2.result c.new-2.ensures c.make_but.new.history c.in_ok-make_but.ensures
 
-pub returns : goal.returns
-returns c =
+pub returns-clause-shown : goal.returns-clause-shown
+returns-clause-shown c =
     let x = c.args.subject.now in
     let h = c.in_ok-history.history in
     let first = subst (λ (k : Graph). IsFirstOf k x.setting h.world) c.graph-graph.ensures.value (subst (λ (s : recorded.Setting). IsFirstOf c.graph-graph.result.now s h.world) c.setting.ensures c.in_ok-history.ensures.first) in
@@ -91,4 +91,4 @@ returns c =
     let found = subst (λ (k : Graph). LeadsPast k c.args.o c.args.t (reverse c.in-Some.turns.items)) c.graph-graph.ensures.value (some_of _ _ c.in-Some.is c.in_ok-turns.ensures) in
     let past = subst (λ (l : List ℕ). LeadsPast x.graph c.args.o c.args.t (reverse l)) (sym c.deref.ensures.value) found in
     let shown = ends_in_race x.graph x.setting h first c.in_ok-history.ensures.steps c.args.o c.args.t turns c.graph-graph.ensures.graph c.turn_lists_run.ensures c.serial_reaches_each_once.ensures c.first_is_a_start.ensures past c.requires.recipe room c.start.new.self c.in_ok-start.ensures c.new-2.result c.new-2.ensures c.make_but.new.history c.in_ok-make_but.ensures c.begin.new.self c.in_ok-begin.ensures in
-    subst (λ (l : List Step). (d : Disk) → IsFirst x.graph (footprints x.setting) d → EndsInRace x.graph (footprints x.setting) d c.args.o c.args.t (map (step_of x.graph) l)) (sym c.into_steps.ensures) shown
+    subst (λ (l : List Step). (d : Disk) → IsFirst x.graph (footprints x.setting) d → EndsInRace x.graph (footprints x.setting) d c.args.o c.args.t (map (step_of x.graph) l)) (sym c.into_steps.ensures.steps) shown

@@ -10,15 +10,15 @@ use Rattle.mk_show.specs.Shown.{HasStamps, IsTold, ShowsStaleRead}
 use Rattle.mk_show.proofs.Told.{race_answers, race_numbers, reader_has_recipe, stale_answers, stale_number, told_race, told_stale}
 use Rattle.mk_show.proofs.showing.evidence.Goals as goal
 
-pub returns-in_default-number_of : goal.returns-in_default-number_of
-returns-in_default-number_of c =
+pub returns-in_default-number_of-clause-shown : goal.returns-in_default-number_of-clause-shown
+returns-in_default-number_of-clause-shown c =
     let x = c.args.subject.now in
     let race = told_race c.listed_exactly.ensures x c.in-Race.recipe c.in-Race.writer c.in-Race.file (subst (λ (f : Finding). IsTold x f) c.in-Race.is c.requires) in
     let numbers = race_numbers x c.in-Race.recipe c.in-Race.writer c.in-Race.file race in
     absurd (c.in_default-number_of.ensures race.o (subst (λ (g : Graph). IsNumberOf g c.in-Race.writer race.o) (sym c.graph-graph.ensures.value) numbers.0))
 
-pub returns-in_default-number_of-2 : goal.returns-in_default-number_of-2
-returns-in_default-number_of-2 c =
+pub returns-in_default-number_of-2-clause-shown : goal.returns-in_default-number_of-2-clause-shown
+returns-in_default-number_of-2-clause-shown c =
     let x = c.args.subject.now in
     let race = told_race c.listed_exactly.ensures x c.in-Race.recipe c.in-Race.writer c.in-Race.file (subst (λ (f : Finding). IsTold x f) c.in-Race.is c.requires) in
     let numbers = race_numbers x c.in-Race.recipe c.in-Race.writer c.in-Race.file race in
@@ -44,8 +44,8 @@ race-requires-clause-not_before c =
     let same_o = c.names_have_one_number.ensures x.graph c.graph-graph.ensures.graph.sound c.in-Race.writer race.o c.in-Some.o numbers.0 o in
     subst (λ (n : ℕ). ¬ (Before x.graph c.in-Some.o n)) same_t (subst (λ (n : ℕ). ¬ (Before x.graph n race.t)) same_o race.races.3)
 
-pub returns-in_default-number_of-3 : goal.returns-in_default-number_of-3
-returns-in_default-number_of-3 c =
+pub returns-in_default-number_of-3-clause-shown : goal.returns-in_default-number_of-3-clause-shown
+returns-in_default-number_of-3-clause-shown c =
     let x = c.args.subject.now in
     let told = told_stale c.listed_exactly.ensures x c.in-Stale.recipe c.in-Stale.file (subst (λ (f : Finding). IsTold x f) c.in-Stale.is c.requires) in
     let number = stale_number x c.in-Stale.recipe c.in-Stale.file told.0 in
@@ -65,16 +65,16 @@ stale-requires-clause-stale c =
     let same = c.names_have_one_number.ensures x.graph c.graph-graph.ensures.graph.sound c.in-Stale.recipe told.0.t c.in-Some-number_of-2.t number t in
     subst (λ (f : List ℕ). IsStale x c.in-Some-number_of-2.t f) (sym c.as_str.ensures) (subst (λ (n : ℕ). IsStale x n c.in-Stale.file) same told.0.stale)
 
-pub returns-in-Some-number_of : goal.returns-in-Some-number_of
-returns-in-Some-number_of c =
+pub returns-in-Some-number_of-clause-shown : goal.returns-in-Some-number_of-clause-shown
+returns-in-Some-number_of-clause-shown c =
     let x = c.args.subject.now in
     let t = subst (λ (g : Graph). IsNumberOf g c.in-Race.recipe c.in-Some-number_of.t) c.graph-graph.ensures.value c.in-Some-number_of.ensures in
     let o = subst (λ (g : Graph). IsNumberOf g c.in-Race.writer c.in-Some.o) c.graph-graph.ensures.value c.in-Some.ensures in
-    race_answers x c.args.finding.now c.in-Race.recipe c.in-Race.writer c.in-Race.file c.in-Some.o c.in-Some-number_of.t c.in-Race.is o t c.race.result c.race.ensures
+    race_answers x c.args.finding.now c.in-Race.recipe c.in-Race.writer c.in-Race.file c.in-Some.o c.in-Some-number_of.t c.in-Race.is o t c.race.result c.race.ensures.shown
 
-pub returns-in-Some-number_of-2 : goal.returns-in-Some-number_of-2
-returns-in-Some-number_of-2 c =
+pub returns-in-Some-number_of-2-clause-shown : goal.returns-in-Some-number_of-2-clause-shown
+returns-in-Some-number_of-2-clause-shown c =
     let x = c.args.subject.now in
     let t = subst (λ (g : Graph). IsNumberOf g c.in-Stale.recipe c.in-Some-number_of-2.t) c.graph-graph.ensures.value c.in-Some-number_of-2.ensures in
     stale_answers x c.args.finding.now c.in-Stale.recipe c.in-Stale.file c.in-Some-number_of-2.t c.in-Stale.is t c.stale.result
-    (subst (λ (f : List ℕ). IfOk c.stale.result (λ shown. MatchOption shown (¬ (HasStamps x)) (λ steps. ShowsStaleRead x c.in-Some-number_of-2.t f steps.items))) c.as_str.ensures c.stale.ensures)
+    (subst (λ (f : List ℕ). IfOk c.stale.result (λ shown. MatchOption shown (¬ (HasStamps x)) (λ steps. ShowsStaleRead x c.in-Some-number_of-2.t f steps.items))) c.as_str.ensures c.stale.ensures.shown)

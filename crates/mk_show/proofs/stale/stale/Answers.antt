@@ -12,14 +12,14 @@ use Rattle.mk_world.specs.declared.step.Step.{Step}
 use Rattle.mk_show.specs.Shown.{ShowsStaleRead}
 use Rattle.mk_show.proofs.stale.stale.Goals as goal
 
-pub returns-then-not-has_stamps : goal.returns-then-not-has_stamps
-returns-then-not-has_stamps c = λ enough.
+pub returns-then-not-has_stamps-clause-shown : goal.returns-then-not-has_stamps-clause-shown
+returns-then-not-has_stamps-clause-shown c = λ enough.
     let x = c.args.subject.now in
     let h = c.in_ok-history.history in
     let first = subst (λ (k : Graph). IsFirstOf k x.setting h.world) c.graph.ensures.value (subst (λ (s : recorded.Setting). IsFirstOf c.graph.result.now s h.world) c.setting.ensures c.in_ok-history.ensures.first) in
     let room = subst (λ (n : ℕ). n + (2 * writings x.graph (footprints x.setting) (serial_order x.graph) + 1) ≤ last_stamp) (sym c.clock.ensures) (enough (disk_of h.world.disk) first.first) in
     false≢true (c.if-not-has_stamps.ensures.1 room)
 
-pub returns : goal.returns
-returns c =
-    subst (λ (steps : List Step). ShowsStaleRead c.args.subject.now c.args.t c.args.file.now steps) (sym c.into_steps.ensures) c.in_ok-make_edit_make.ensures
+pub returns-clause-shown : goal.returns-clause-shown
+returns-clause-shown c =
+    subst (λ (steps : List Step). ShowsStaleRead c.args.subject.now c.args.t c.args.file.now steps) (sym c.into_steps.ensures.steps) c.in_ok-make_edit_make.ensures

@@ -15,5 +15,5 @@ returns-clause-stands c =
     (λ n. ap (λ (l : List ℕ). get_or l n 0) stages ∙ zero_at _ n)
     (c.in_ok-lefts_of.ensures ∙ ap (λ (k : Graph). map fresh k.nodes) c.graph-graph.ensures.value)
     (ap (λ (l : List ℕ). length l) marks ∙ (zeros_many _ ∙ ap (λ (l : List ℕ). length l) c.order.ensures.value))
-    (λ i e. let z : get_or c.in_ok-zeros-2.field-0.items i 0 ≡ 0 = ap (λ (l : List ℕ). get_or l i 0) marks ∙ zero_at _ i in omega arith)
+    (λ i e. let z : get_or c.in_ok-zeros-2.field-0 i 0 ≡ 0 = ap (λ (l : List ℕ). get_or l i 0) marks ∙ zero_at _ i in omega arith)
     c.new.ensures

@@ -9,5 +9,5 @@ name_of-requires c =
     let n = get_or c.goals-goals.result.now c.loop-goal.goal-index 0 in
     let has = at_place c.goals-goals.result.now c.loop-goal.goal-index 0 c.loop-goal-test.true in
     let low = c.goals-goals.ensures.graph.sound.goals n (subst (λ (l : List ℕ). Has l n) c.goals-goals.ensures.value has) in
-    let at = ap (λ (k : Scene). length k.graph.nodes) (sym c.self.invariant) in
+    let at = ap (λ (k : Scene). length k.graph.nodes) (sym c.self.invariant.0) in
     rw (← c.self.view_is) (subst (λ (m : ℕ). n < m) at low)

@@ -1,0 +1,17 @@
+-- What is before one node of a graph after another.
+use Rattle.std.specs.Prelude.{◌≡◌, ℕ, List, Option, MatchOption}
+use Rattle.mk_graph.specs.Membership.{Has}
+use Rattle.mk_graph.specs.Graph.{Graph, prerequisites}
+
+-- a graph and a node of it
+pub record Place : Type 0 where
+  pub graph : Graph
+  pub number : ℕ
+
+-- each of these is a prerequisite of the node
+abbrev pub AreDirect : Graph → (number : ℕ) → List ℕ → Type 0
+AreDirect g number ns = (n : ℕ) → Has ns n → Has (prerequisites g number) n
+
+-- where there are rows, they are of this graph
+abbrev pub AreRowsOf : Graph → Option Graph → Type 0
+AreRowsOf g rows = MatchOption rows (Unit {0}) (λ h. h ≡ g)

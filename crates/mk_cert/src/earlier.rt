@@ -1,0 +1,78 @@
+//! What is before one recipe after another.
+
+ghost use Rattle.std.specs.Prelude.{◌≡◌, true, ◌↔◌, IfOk};
+ghost use Rattle.mk_graph.specs.Turns.{Before};
+
+use mk_graph::{BitRows, Graph, NodeSet, Order};
+use std::alloc::{AllocError, Global};
+use std::marker::Model;
+
+/// What is before a node of a graph, for one node after another. A contract sees the graph and the
+/// node.
+///
+/// Each direct prerequisite of a recipe is before it, and most recipes read what these write, or
+/// nothing. So the order of the graph, in rows of bits, is worked out when first another node is
+/// asked for.
+#[derive(Drop)]
+pub(crate) struct Earlier<'a> {
+    graph: &'a Graph,
+    number: usize,
+    direct: NodeSet,
+    rows: Option<BitRows<'a>>,
+}
+
+impl<'a> Model for Earlier<'a> {
+    ghost use Rattle.mk_cert.specs.Earlier as value;
+    ghost use Rattle.mk_cert.specs.Earlier.{AreDirect, AreRowsOf};
+
+    ghost Value = { value.Place };
+
+    ghost view = { λ e. record { graph = e.graph.now; number = e.number } };
+
+    ghost invariant = { λ e. AreDirect e.graph.now e.number e.direct × AreRowsOf e.graph.now e.rows };
+}
+
+impl<'a> Earlier<'a> {
+    /// At the first node of a graph.
+    pub fn new(graph: &'a Graph) -> Earlier<'a>
+        ensures { result.graph ≡ graph.now }
+    {
+        Earlier {
+            graph,
+            number: 0,
+            direct: NodeSet::new(),
+            rows: None,
+        }
+    }
+
+    /// Goes on to a node. The time is linear in its prerequisites.
+    pub fn turn_to(&mut self, number: usize)
+        ensures graph { self.new.graph ≡ self.old.graph }
+        ensures number { self.new.number ≡ number }
+    {
+        let graph = self.graph;
+        graph.nodes();
+        let mut direct = NodeSet::new();
+        direct.insert_all(graph.prerequisites(number));
+        self.number = number;
+        self.direct = direct;
+    }
+
+    /// Whether another node is before this one. It fails for want of memory alone.
+    pub fn has(&mut self, alloc: Global, other: usize) -> Result<bool, AllocError>
+        ensures same { self.new ≡ self.old }
+        ensures before { IfOk result (λ is. (is ≡ true) ↔
+            Before self.old.graph other self.old.number) }
+    {
+        if self.direct.has(other) {
+            return Ok(true);
+        }
+        let rows = match self.rows.take() {
+            Some(rows) => rows,
+            None => BitRows::new(alloc, self.graph)?,
+        };
+        let is = rows.before(other, self.number);
+        self.rows = Some(rows);
+        Ok(is)
+    }
+}

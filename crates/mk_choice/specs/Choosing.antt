@@ -1,0 +1,73 @@
+-- What inference rules are chosen by, and what they give a name.
+use Rattle.std.specs.Prelude.{◌≡◌, ℕ, ◌+◌, ◌<◌, ◌≤◌, Bool, true, false, ◌&&◌, List, ◌++◌, Option, None, Some, Vec, length}
+use Rattle.std.specs.Borrow.{Bor}
+use Rattle.std.specs.declared.alloc.Global.{Global}
+use Rattle.indexmap.specs.IndexMap.{IndexMap}
+use Rattle.mk_graph.specs.Membership.{Has}
+use Rattle.mk_lines.specs.Names.{place_from}
+use Rattle.mk_read.specs.Names.{has_name}
+use Rattle.mk_read.specs.Reading.{Makefile}
+use Rattle.mk_read.specs.Rules.{has_some}
+use Rattle.mk_read.specs.Needs.{commands_of}
+use Rattle.mk_read.specs.State.{Command}
+use Rattle.mk_infer.specs.Inference.{choice, chosen_commands, ending}
+use Rattle.mk_infer.specs.There.{Exists, is_there}
+use Rattle.mk_infer.specs.Table.{texts_at}
+
+-- the table has the suffixes of each name that is there
+abbrev pub HasThere : {S : Type 0} → Makefile → Exists →
+    IndexMap (Bor (List ℕ)) (Vec (Bor (List ℕ)) Global) S → Type 0
+HasThere m e table = (stem suffix : List ℕ) → 0 < length stem → Has m.suffixes suffix
+    → is_there m e (stem ++ suffix) ≡ true → has_name (texts_at table stem) suffix ≡ true
+
+-- what an inference rule gives a name: its prerequisite and its commands
+pub record Chosen : Type 0 where
+  pub name : List ℕ
+  pub commands : Option (List Command)
+
+-- the rule of this suffix for a name of these parts
+abbrev pub chosen_by : Makefile → List ℕ → List ℕ → List ℕ → Chosen
+chosen_by m stem ending suffix =
+    record { name = stem ++ suffix; commands = commands_of m.rules (suffix ++ ending) }
+
+-- it has commands, and its prerequisite is there
+abbrev pub fits_by : Makefile → Exists → List ℕ → List ℕ → List ℕ → Bool
+fits_by m e stem ending suffix =
+    has_some (commands_of m.rules (suffix ++ ending)) && is_there m e (stem ++ suffix)
+
+-- a makefile, and what is there
+pub record Looked : Type 0 where
+  pub makefile : Makefile
+  pub exists : Exists
+
+-- what the rule of a suffix gives, and where that suffix stands in the list of suffixes
+pub record Placed : Type 0 where
+  pub place : ℕ
+  pub chosen : Chosen
+
+-- The rule of this suffix gives it.
+pub record IsPlaced (p : List ℕ → Bool) (gives : List ℕ → Chosen) (suffixes : List (List ℕ))
+    (placed : Placed) : Type 0 where
+  pub suffix : List ℕ
+  pub passes : p suffix ≡ true
+  pub stands : place_from 0 suffixes suffix ≡ Some placed.place
+  pub given : placed.chosen ≡ gives suffix
+
+-- of those that were tried none passes, or this one does and stands first among the suffixes
+abbrev pub IsLeast : (List ℕ → Bool) → (List ℕ → Chosen) → (suffixes tried : List (List ℕ)) →
+    Option Placed → Type 0
+IsLeast p gives suffixes tried None =
+    (s : List ℕ) → Has tried s → Has suffixes s → p s ≡ false
+IsLeast p gives suffixes tried (Some placed) =
+    IsPlaced p gives suffixes placed ×
+    ((s : List ℕ) → Has tried s → p s ≡ true → (n : ℕ) → place_from 0 suffixes s ≡ Some n →
+    placed.place ≤ n)
+
+-- what makes a name: its inferred prerequisite, where there is one, and its commands, where there
+-- are any
+pub record Making : Type 0 where
+  pub choice : Option (List ℕ)
+  pub commands : Option (List Command)
+
+abbrev pub making_of : Makefile → Exists → List ℕ → Making
+making_of m e name = record { choice = choice m e name; commands = chosen_commands m e name }

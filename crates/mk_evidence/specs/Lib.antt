@@ -1,0 +1,2 @@
+pub mod EvidenceAnswer
+pub mod NotRead

@@ -1,0 +1,183 @@
+//! A plan that shows what is found.
+
+ghost use Rattle.std.specs.Prelude.{◌≡◌, ◌<◌, ◌-◌, ◌^◌, ℕ, true, option_map, IfErr, IfOk, IfSome, MatchOption};
+ghost use Rattle.mk_cert.specs.declared.finding.Finding.{Finding as FindingValue};
+ghost use Rattle.mk_find.specs.Findings.{AreFindings};
+ghost use Rattle.mk_evidence.specs.NotRead.{evidence_not_read};
+ghost use Rattle.mk_core.specs.Answer.{Answers, Counts};
+ghost use Rattle.mk_core.specs.CheckAnswer.{AnswersCheck};
+ghost use Rattle.mk_core.specs.Right.{IsRightFor};
+ghost use Rattle.mk_plans.specs.PlanText.{plan_text};
+ghost use Rattle.mk_show.specs.Shown.{IsNotShown, IsTold};
+ghost use Rattle.mk_evidence.specs.EvidenceAnswer.{AnswersEvidence, GivesPlanOrVerdict, HasVerdict, HasYes, IsEvidence, IsEvidenceText, IsNumbered, IsPlanFor, findings_in, plan_in};
+ghost use Rattle.mk_core.specs.Steps.{is_want_of_memory, seen};
+ghost use Rattle.mk_core.specs.declared.fault.Fault.TheVariants.{Memory};
+
+use mk_cert::{Finding, Subject};
+use mk_core::laws::yes_is_right;
+use mk_core::{Fault, Judge, Request, Verdict, answer_judged, verdict_of};
+use mk_plans::plan_text;
+use mk_read::Files;
+use mk_show::evidence;
+use mk_world::Step;
+use std::alloc::{AllocError, Global};
+
+/// The one of these with this number, counted from 1.
+fn numbered(found: &[Finding], number: u64) -> Option<&Finding>
+    ensures { MatchOption result
+        ((finding : FindingValue) → ¬ (IsNumbered found.now number finding))
+        (λ finding. IsNumbered found.now number finding.now) }
+{
+    if number == 0 || number > found.len() as u64 {
+        return None;
+    }
+    Some(&found[(number - 1) as usize])
+}
+
+/// The plan of steps.
+fn text_of(alloc: Global, subject: &Subject<'_>, steps: &[Step]) -> Result<Vec<u8>, AllocError>
+    ensures { IfOk result (λ text. text.items ≡ plan_text subject.now.graph steps.now) }
+{
+    let text = plan_text(alloc, subject.graph(), steps)?;
+    Ok(text.into_bytes())
+}
+
+/// The plan that shows a finding of the build, if there is one.
+fn plan_for(
+    alloc: Global,
+    subject: &Subject<'_>,
+    finding: &Finding,
+) -> Result<Option<Vec<u8>>, AllocError>
+    requires { IsTold subject.now finding.now }
+    ensures { IfOk result (λ plan. MatchOption plan (IsNotShown subject.now finding.now)
+        (λ text. IsPlanFor subject.now finding.now text.items)) }
+{
+    let Some(steps) = evidence(alloc, subject, finding)? else {
+        return Ok(None);
+    };
+    let text = text_of(alloc, subject, &steps)?;
+    Ok(Some(text))
+}
+
+/// What is answered where a plan is asked for that shows a finding.
+#[derive(Debug, Drop)]
+pub enum Evidence {
+    /// The plan.
+    Plan(Vec<u8>),
+    /// There is none. This is the verdict.
+    NoPlan(Verdict),
+}
+
+/// The plan that shows the one of these findings with this number, if there is one.
+fn plan_of(
+    alloc: Global,
+    subject: &Subject<'_>,
+    found: &[Finding],
+    number: u64,
+) -> Result<Option<Vec<u8>>, AllocError>
+    requires { AreFindings subject.now found.now }
+    ensures { IfOk result (λ plan. IsEvidenceText subject.now number
+        (option_map (λ text. text.items) plan)) }
+{
+    match numbered(found, number) {
+        Some(finding) => plan_for(alloc, subject, finding),
+        None => Ok(None),
+    }
+}
+
+/// What stands against a build.
+fn findings_in(verdict: &Verdict) -> &[Finding]
+    ensures { result.now ≡ findings_in verdict.now }
+{
+    match verdict {
+        Verdict::Yes { .. } => &[],
+        Verdict::No(found) => found.as_slice(),
+    }
+}
+
+/// The plan that shows what is found under this number, or the verdict.
+fn evidence_of(alloc: Global, subject: &Subject<'_>, number: u64) -> Result<Evidence, AllocError>
+    ensures { IfOk result (λ evidence. IsEvidence subject.now number evidence) }
+{
+    let verdict = verdict_of(alloc, subject)?;
+    match plan_of(alloc, subject, findings_in(&verdict), number)? {
+        Some(plan) => Ok(Evidence::Plan(plan)),
+        None => Ok(Evidence::NoPlan(verdict)),
+    }
+}
+
+/// A plan that shows what is found under a number, or the verdict.
+#[derive(Drop)]
+struct ShowFinding {
+    number: u64,
+}
+
+impl Judge for ShowFinding {
+    type Answer = Evidence;
+
+    ghost judges = { λ c _ x answer. GivesPlanOrVerdict x c.number answer };
+
+    fn judge<F: Files>(
+        &self,
+        alloc: Global,
+        _files: &mut F,
+        subject: &Subject<'_>,
+    ) -> Result<Evidence, Fault> {
+        let evidence = evidence_of(alloc, subject, self.number)?;
+        Ok(evidence)
+    }
+
+    ghost not_read = { λ c _ x fault. evidence_not_read x c.number fault };
+}
+
+/// The plan that `evidence_text` gives, or the verdict that `check` gives where there is none, by
+/// one reading of the files.
+///
+/// The faults are those of `check`, in their order.
+pub fn evidence_or_verdict<F: Files>(
+    alloc: Global,
+    files: &mut F,
+    request: &Request,
+    number: u64,
+) -> Result<Evidence, Fault>
+    requires { F.failed files.old < 2 ^ 64 - 1 }
+    ensures map { F.told files.new ≡ F.told files.old }
+    ensures plan { IfSome (F.told files.old)
+        (λ told. Answers told request.now (AnswersEvidence number) (seen plan_in result)) }
+    ensures verdict { IfSome (F.told files.old)
+        (λ told. HasVerdict (Answers told request.now AnswersCheck) result) }
+    ensures right { IfSome (F.told files.old)
+        (λ told. HasYes result → IsRightFor told request.now) }
+    ensures memory { IfErr result (λ fault. is_want_of_memory fault ≡ true → fault ≡ Memory) }
+    ensures counted { Counts (F.failed files.old) (F.failed files.new) result }
+{
+    yes_is_right();
+    answer_judged(alloc, files, request, ShowFinding { number })
+}
+
+/// A plan that shows what `check` finds, the one under this number, counted from 1 in the order in
+/// which it is printed: of a race a plan that begins the recipe while the writer isn't done, of a
+/// stale read one behind whose end the file is newer than all files of the recipe. Of another
+/// finding, where none has this number, and where there are too few stamps, there is none.
+///
+/// The faults are those of `check`, in their order.
+pub fn evidence_text<F: Files>(
+    alloc: Global,
+    files: &mut F,
+    request: &Request,
+    number: u64,
+) -> Result<Option<Vec<u8>>, Fault>
+    requires { F.failed files.old < 2 ^ 64 - 1 }
+    ensures map { F.told files.new ≡ F.told files.old }
+    ensures answer { IfSome (F.told files.old)
+        (λ told.
+        Answers told request.now (AnswersEvidence number)
+        (seen (option_map (λ text. text.items)) result)) }
+    ensures memory { IfErr result (λ fault. is_want_of_memory fault ≡ true → fault ≡ Memory) }
+    ensures counted { Counts (F.failed files.old) (F.failed files.new) result }
+{
+    match evidence_or_verdict(alloc, files, request, number)? {
+        Evidence::Plan(plan) => Ok(Some(plan)),
+        Evidence::NoPlan(_) => Ok(None),
+    }
+}

@@ -1,0 +1,2 @@
+mod EndingLemmas
+mod ReaderLemmas

@@ -1,0 +1,4 @@
+pub mod Outcome
+pub mod Disk
+pub mod Reading
+pub mod Ending

@@ -1,0 +1,17 @@
+//! What the program has of its host: the files of the disk, the two streams that it writes, and its
+//! exit status.
+#![tactic(auto)]
+
+mod disk;
+mod ending;
+mod outcome;
+mod reading;
+mod source;
+mod writing;
+
+pub use disk::Disk;
+pub use ending::{Ending, FAULT, NO_MEMORY, Stop, conclude, end};
+pub use outcome::Outcome;
+pub use reading::{MAX_FILE, slurp};
+pub use source::Source;
+pub use writing::{WriteFailed, emit};

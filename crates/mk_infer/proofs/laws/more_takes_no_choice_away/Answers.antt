@@ -1,5 +1,0 @@
-use Rattle.mk_infer.proofs.Writes.{more_takes_no_choice_away}
-use Rattle.mk_infer.proofs.laws.more_takes_no_choice_away.Goals as goal
-
-pub returns : goal.returns
-returns c = more_takes_no_choice_away

@@ -1,5 +1,0 @@
-use Rattle.mk_infer.proofs.Writes.{writes_change_nothing}
-use Rattle.mk_infer.proofs.laws.writes_change_nothing.Goals as goal
-
-pub returns : goal.returns
-returns c = writes_change_nothing

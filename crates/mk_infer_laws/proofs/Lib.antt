@@ -1,0 +1,12 @@
+pub mod Added
+pub mod Stacks
+pub mod Walks
+pub mod Walking
+pub mod RuleNeeds
+pub mod Inferable
+pub mod Soundness
+pub mod OneSelection
+pub mod Ending
+pub mod Writes
+pub mod Staying
+pub mod PlainNodes

@@ -1,0 +1,7 @@
+mod OneAnswer
+mod OneVerdict
+mod OneSimulation
+mod RefusedAlike
+mod PlainWorld
+mod FirstDisk
+mod EvidenceRuns

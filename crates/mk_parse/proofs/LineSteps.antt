@@ -1,0 +1,148 @@
+-- What a line does, step by step.
+use Rattle.std.proofs.Common.{◌≡◌, ℕ, zero, suc, ◌-◌, Bool, true, false, cond, List, length, Option, None, Some, Result, Ok, Err, inl, inr, refl, sym, ap, subst, ◌∙◌, arith}
+use Rattle.std.specs.Prelude.{◌⊎◌, IfErr, IfSome, nat_le}
+use Rattle.std.proofs.Math.Dec.{eqb-suc-zero}
+use Rattle.mk_read.specs.Names.{is_empty, names_in}
+use Rattle.mk_lines.specs.Comments.{uncomment}
+use Rattle.mk_lines.specs.Lines.{Line, logical_lines}
+use Rattle.mk_read.specs.declared.fault.Place.{Place}
+use Rattle.mk_read.specs.declared.fault.ReadFault.{ReadFault}
+use Rattle.mk_read.specs.declared.fault.ReadFault.TheVariants.{Memory, ReadFailed, IncludeEmpty}
+use Rattle.mk_read.specs.Files.{Told, text_at}
+use Rattle.mk_read.specs.Following.{reader_of, Follows, IsOfText, below}
+use Rattle.mk_read.specs.Kinds.{AssignmentLine, IncludeLine, RuleLine, Kind, Assignment, Rule, kind_of}
+use Rattle.mk_read.specs.Reading.{Reader, Text, reads, files, include, one_file, plain_line, reading, with_line, with_lines, with_text}
+use Rattle.mk_read.specs.Rules.{assignment, rule}
+use Rattle.mk_read.specs.State.{State, parted}
+use Rattle.mk_read.specs.Steps.{◌>>=◌, Gives, Fails, in_file, of_kind}
+use Rattle.mk_parse.specs.Views.{IsTooMany, behind_commands, found_after, include_names, not_found, read_below, text_more}
+use Rattle.mk_parse.proofs.Histories.{ends, no_reads, some_with, some_at, steps, stops, text_fault}
+use Rattle.mk_parse.proofs.OneFile.{is_found, is_missing, read_fails, too_many}
+use Rattle.mk_parse.proofs.SameReads.{assignment_keeps, command_keeps, rule_keeps, same_reads}
+use Rattle.mk_parse.proofs.Stepping.{then_ok, then_fails}
+
+-- want of memory
+pub memory_follows : (told : Told) (whole : Reader → Result State ReadFault) (old : State) → Follows told whole old (Err Memory)
+memory_follows told whole old = inl refl
+
+-- what is read after a text
+module _ (levels : ℕ) (text : Text) (bytes : List ℕ) (old : State) where
+  abbrev whole_text : Reader → Result State ReadFault
+  whole_text reader = with_text reader (below levels reader) text bytes old
+
+  pub lines_fail : (o : Option Told) (fault : ReadFault) → Fails fault (in_file text.file (logical_lines bytes)) → IsOfText fault → IfSome o (λ told. Follows told (λ reader. with_text reader (below levels reader) text bytes old) old (Err fault))
+  lines_fail o fault fails own = some_with _ o (λ told e. text_fault told whole_text old fault (then_fails (in_file text.file (logical_lines bytes)) (λ lines. with_lines (reader_of told None) (below levels (reader_of told None)) text lines old) fault fails) own)
+
+  pub lines_read : (o : Option Told) (lines : List Line) (r : Result State ReadFault) → in_file text.file (logical_lines bytes) ≡ Ok lines → IfSome o (λ told. Follows told (λ reader. with_lines reader (below levels reader) text lines old) old r)
+      → IfSome o (λ told. Follows told (λ reader. with_text reader (below levels reader) text bytes old) old r)
+  lines_read o lines r is went = some_with _ o (λ told e. ends told whole_text (λ reader. with_lines reader (below levels reader) text lines old) old old r
+      (omega arith, λ failing later. ap (λ (s : Result (List Line) ReadFault). s >>= λ ls. with_lines (reader_of told failing) (below levels (reader_of told failing)) text ls old) is) (some_at (λ t. Follows t (λ reader. with_lines reader (below levels reader) text lines old) old r) o told e went))
+
+-- what is read after a line
+module _ (levels : ℕ) (text : Text) (old : State) (line : Line) where
+  abbrev place_of : Place
+  place_of = record { file = text.file; line = line.first }
+
+  at_command : (reader : Reader) → line.command ≡ true → with_line reader (below levels reader) text old line ≡ behind_commands place_of line.text old
+  unfolding with_line
+  at_command reader c = rw c refl
+
+  at_plain : (reader : Reader) → line.command ≡ false → with_line reader (below levels reader) text old line ≡ (of_kind place_of (kind_of (uncomment line.text)) >>= plain_line reader (below levels reader) text.default place_of old)
+  unfolding with_line
+  at_plain reader c = rw c refl
+
+  pub command_read : (o : Option Told) (r : Result State ReadFault) → line.command ≡ true → Gives (λ (s : State). s) r (behind_commands (record { file = text.file; line = line.first }) line.text old) → IfErr r IsOfText
+      → IfSome o (λ told. Follows told (λ reader. with_line reader (below levels reader) text old line) old r)
+  command_read o r c gives own = some_with _ o (λ told e. ends told (λ reader. with_line reader (below levels reader) text old line) (λ reader. behind_commands place_of line.text old) old old r
+      (omega arith, λ failing later. at_command (reader_of told failing) c) (no_reads told (behind_commands place_of line.text old) old r gives own (λ new h. same_reads old new (behind_commands place_of line.text old) (command_keeps place_of line.text old) h)))
+
+  pub kind_fails : (o : Option Told) (fault : ReadFault) → line.command ≡ false → Fails fault (of_kind (record { file = text.file; line = line.first }) (kind_of (uncomment line.text))) → IsOfText fault → IfSome o (λ told. Follows told (λ reader. with_line reader (below levels reader) text old line) old (Err fault))
+  kind_fails o fault c fails own = some_with _ o (λ told e. text_fault told (λ reader. with_line reader (below levels reader) text old line) old fault
+      (subst (λ (d : Result State ReadFault). Fails fault d) (sym (at_plain (reader_of told None) c)) (then_fails (of_kind place_of (kind_of (uncomment line.text))) (plain_line (reader_of told None) (below levels (reader_of told None)) text.default place_of old) fault fails)) own)
+
+  pub kind_read : (o : Option Told) (kind : Kind) (r : Result State ReadFault) → line.command ≡ false → of_kind (record { file = text.file; line = line.first }) (kind_of (uncomment line.text)) ≡ Ok kind
+      → IfSome o (λ told. Follows told (λ reader. plain_line reader (below levels reader) text.default (record { file = text.file; line = line.first }) old kind) old r) → IfSome o (λ told. Follows told (λ reader. with_line reader (below levels reader) text old line) old r)
+  kind_read o kind r c is went = some_with _ o (λ told e. ends told (λ reader. with_line reader (below levels reader) text old line) (λ reader. plain_line reader (below levels reader) text.default place_of old kind) old old r
+      (omega arith, λ failing later. at_plain (reader_of told failing) c ∙ then_ok (of_kind place_of (kind_of (uncomment line.text))) (plain_line (reader_of told failing) (below levels (reader_of told failing)) text.default place_of old) kind is)
+      (some_at (λ t. Follows t (λ reader. plain_line reader (below levels reader) text.default place_of old kind) old r) o told e went))
+
+-- assignments and rule lines
+module _ (levels : ℕ) (default : Bool) (place : Place) (old : State) where
+  pub assignment_read : (o : Option Told) (line : AssignmentLine) (r : Result State ReadFault) → Gives (λ (s : State). s) r (assignment place old line) → IfErr r IsOfText → IfSome o (λ told. Follows told (λ reader. plain_line reader (below levels reader) default place old (Assignment line)) old r)
+  assignment_read o line r gives own = some_with _ o (λ told e. no_reads told (assignment place old line) old r gives own (λ new h. same_reads old new (assignment place old line) (assignment_keeps place old line) h))
+
+  pub rule_read : (o : Option Told) (line : RuleLine) (r : Result State ReadFault) → Gives (λ (s : State). s) r (rule default place old line) → IfErr r IsOfText → IfSome o (λ told. Follows told (λ reader. plain_line reader (below levels reader) default place old (Rule line)) old r)
+  rule_read o line r gives own = some_with _ o (λ told e. no_reads told (rule default place old line) old r gives own (λ new h. same_reads old new (rule default place old line) (rule_keeps default place old line) h))
+
+-- include lines
+module _ (place : Place) (old : State) (line : IncludeLine) where
+  named_at : (less : ℕ) (reader : Reader) (r : Result (List (List ℕ)) ReadFault) → (r >>= λ names. cond (is_empty names) (Err (IncludeEmpty place)) (files reader (read_below less reader) place line.optional names (parted old)))
+      ≡ ((r >>= λ names. cond (is_empty names) (Err (IncludeEmpty place)) (Ok names)) >>= λ names. files reader (read_below less reader) place line.optional names (parted old))
+  named_at less reader (Err fault) = refl
+  named_at less reader (Ok names) = at (is_empty names)
+    where
+      at : (b : Bool) → cond b (Err (IncludeEmpty place)) (files reader (read_below less reader) place line.optional names (parted old)) ≡ (cond b (Err (IncludeEmpty place)) (Ok names) >>= λ ns. files reader (read_below less reader) place line.optional ns (parted old))
+      at true = refl
+      at false = refl
+
+  at_include : (levels : ℕ) (reader : Reader) → include reader (below levels reader) place old line ≡ (include_names levels place old.table line.names >>= λ names. files reader (read_below (levels - 1) reader) place line.optional names (parted old))
+  at_include zero reader = refl
+  at_include (suc less) reader =
+      let one : suc less - 1 ≡ less = omega arith in
+      rw (eqb-suc-zero less, one) (named_at less reader (names_in place old.table line.names))
+
+  pub include_fails : (levels : ℕ) (o : Option Told) (fault : ReadFault) → Fails fault (include_names levels place old.table line.names) → IsOfText fault → IfSome o (λ told. Follows told (λ reader. include reader (below levels reader) place old line) old (Err fault))
+  include_fails levels o fault fails own = some_with _ o (λ told e. text_fault told (λ reader. include reader (below levels reader) place old line) old fault
+      (subst (λ (d : Result State ReadFault). Fails fault d) (sym (at_include levels (reader_of told None))) (then_fails (include_names levels place old.table line.names) (λ names. files (reader_of told None) (read_below (levels - 1) (reader_of told None)) place line.optional names (parted old)) fault fails)) own)
+
+  pub include_read : (levels : ℕ) (o : Option Told) (names : List (List ℕ)) (r : Result State ReadFault) → include_names levels place old.table line.names ≡ Ok names
+      → IfSome o (λ told. Follows told (λ reader. files reader (read_below (levels - 1) reader) place line.optional names (parted old)) (parted old) r) → IfSome o (λ told. Follows told (λ reader. include reader (below levels reader) place old line) old r)
+  include_read levels o names r is went = some_with _ o (λ told e. ends told (λ reader. include reader (below levels reader) place old line) (λ reader. files reader (read_below (levels - 1) reader) place line.optional names (parted old)) old (parted old) r
+      (omega arith, λ failing later. at_include levels (reader_of told failing) ∙ then_ok (include_names levels place old.table line.names) (λ ns. files (reader_of told failing) (read_below (levels - 1) (reader_of told failing)) place line.optional ns (parted old)) names is)
+      (some_at (λ t. Follows t (λ reader. files reader (read_below (levels - 1) reader) place line.optional names (parted old)) (parted old) r) o told e went))
+
+-- a file that an include line names
+module _ (levels : ℕ) (place : Place) (optional : Bool) (old : State) (name : List ℕ) where
+  abbrev whole_file : Reader → Result State ReadFault
+  whole_file reader = one_file reader (read_below levels reader) place optional old name
+
+  pub file_full : (o : Option Told) (fault : ReadFault) → nat_le 1024 (length old.texts) ≡ true → IsTooMany place fault → IsOfText fault → IfSome o (λ told. Follows told (λ reader. one_file reader (read_below levels reader) place optional old name) old (Err fault))
+  file_full o fault full (inl memory) own = some_with _ o (λ told e. text_fault told whole_file old fault (inl memory) own)
+  file_full o fault full (inr is) own = some_with _ o (λ told e. text_fault told whole_file old fault (inr (too_many told (λ reader. read_below levels reader) place optional old name (reader_of told None) full ∙ ap (λ (f : ReadFault). Err f) (sym is))) own)
+
+  pub file_unread : (o : Option Told) (fault : ReadFault) → nat_le 1024 (length old.texts) ≡ false → (fault ≡ Memory) ⊎ (fault ≡ ReadFailed (Some place) name) → IfSome o (λ told. Follows told (λ reader. one_file reader (read_below levels reader) place optional old name) old (Err fault))
+  file_unread o fault room (inl is) = some_with _ o (λ told e. subst (λ (f : ReadFault). Follows told whole_file old (Err f)) (sym is) (memory_follows told whole_file old))
+  file_unread o fault room (inr is) = some_with _ o (λ told e. subst (λ (f : ReadFault). Follows told whole_file old (Err f)) (sym is) (suc (reads old), omega arith, read_fails told (λ reader. read_below levels reader) place optional old name room))
+
+  pub file_found : (o o' : Option Told) (text : List ℕ) (r : Result State ReadFault) → nat_le 1024 (length old.texts) ≡ false → o' ≡ o → IfSome o (λ told. Some text ≡ text_at told name)
+      → IfSome o' (λ told. Follows told (λ reader. found_after (read_below levels reader) name text (text_more old name)) (text_more old name) r) → IfSome o (λ told. Follows told (λ reader. one_file reader (read_below levels reader) place optional old name) old r)
+  file_found o o' text r room same is went = some_with _ o (λ told e. is_found told (λ reader. read_below levels reader) place optional old name room text (sym (some_at (λ t. Some text ≡ text_at t name) o told e is)) r
+      (some_at (λ t. Follows t (λ reader. found_after (read_below levels reader) name text (text_more old name)) (text_more old name) r) o' told (same ∙ e) went))
+
+  pub file_missing : (o : Option Told) (r : Result State ReadFault) → nat_le 1024 (length old.texts) ≡ false → IfSome o (λ told. None ≡ text_at told name) → Gives (λ (s : State). s) r (not_found place optional old name) → IfErr r IsOfText
+      → IfSome o (λ told. Follows told (λ reader. one_file reader (read_below levels reader) place optional old name) old r)
+  file_missing o r room is gives own = some_with _ o (λ told e. is_missing told (λ reader. read_below levels reader) place optional old name room (sym (some_at (λ t. None ≡ text_at t name) o told e is)) r gives own)
+
+-- the text of such a file
+module _ (levels : ℕ) (name text : List ℕ) (old : State) where
+  abbrev its_text : Text
+  its_text = record { file = name; default = false }
+
+  pub reading_is : (n : ℕ) (reader : Reader) → reading n reader name text old ≡ with_text reader (below n reader) its_text text old
+  unfolding reading
+  reading_is zero reader = refl
+  reading_is (suc n) reader = refl
+
+  pub found_fails : (o : Option Told) (fault : ReadFault) → IfSome o (λ told. Follows told (λ reader. with_text reader (below levels reader) (record { file = name; default = false }) text old) old (Err fault))
+      → IfSome o (λ told. Follows told (λ reader. found_after (read_below levels reader) name text old) old (Err fault))
+  found_fails o fault went = some_with _ o (λ told e. stops told (λ reader. found_after (read_below levels reader) name text old) (λ reader. with_text reader (below levels reader) its_text text old) (λ reader after. Ok (parted after)) old old fault
+      (omega arith, λ failing later. ap (λ (r : Result State ReadFault). r >>= λ after. Ok (parted after)) (reading_is levels (reader_of told failing)))
+      (some_at (λ t. Follows t (λ reader. with_text reader (below levels reader) its_text text old) old (Err fault)) o told e went))
+
+  pub found_read : (o : Option Told) (mid : State) → IfSome o (λ told. Follows told (λ reader. with_text reader (below levels reader) (record { file = name; default = false }) text old) old (Ok mid))
+      → IfSome o (λ told. Follows told (λ reader. found_after (read_below levels reader) name text old) old (Ok (parted mid)))
+  found_read o mid went = some_with _ o (λ told e. ends told (λ reader. found_after (read_below levels reader) name text old) (λ reader. Ok (parted mid)) old mid (Ok (parted mid))
+      (steps told (λ reader. found_after (read_below levels reader) name text old) (λ reader. with_text reader (below levels reader) its_text text old) (λ reader after. Ok (parted after)) old old mid
+      (omega arith, λ failing later. ap (λ (r : Result State ReadFault). r >>= λ after. Ok (parted after)) (reading_is levels (reader_of told failing)))
+      (some_at (λ t. Follows t (λ reader. with_text reader (below levels reader) its_text text old) old (Ok mid)) o told e went))
+      (omega arith, λ failing later. refl))

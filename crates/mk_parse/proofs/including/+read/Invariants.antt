@@ -1,0 +1,42 @@
+use Rattle.std.proofs.Common.{◌≡◌, ◌+◌, ◌*◌, drop, map, string_bytes}
+use Rattle.std.specs.Prelude.{IfSome}
+use Rattle.mk_lines.specs.Lines.{line_view}
+use Rattle.mk_read.specs.Following.{below}
+use Rattle.mk_read.specs.Reading.{files, with_lines}
+use Rattle.mk_parse.specs.Views.{place_at, read_below, text_of}
+use Rattle.mk_parse.proofs.Histories.{SoFar}
+use Rattle.mk_parse.proofs.including.+read.Given as goal
+
+-- the levels left, and within a level the calls in their order
+abbrev pub decreases-read_text : goal.decreases-read_text
+decreases-read_text g l = 8 * l.source.now.levels + 7
+
+abbrev pub decreases-read_lines : goal.decreases-read_lines
+decreases-read_lines g l = 8 * l.source.now.levels + 6
+
+abbrev pub decreases-read_line : goal.decreases-read_line
+decreases-read_line g l = 8 * l.source.now.levels + 5
+
+abbrev pub decreases-read_kind : goal.decreases-read_kind
+decreases-read_kind g l = 8 * l.source.now.levels + 4
+
+abbrev pub decreases-read_include : goal.decreases-read_include
+decreases-read_include g l = 8 * l.source.now.levels + 3
+
+abbrev pub decreases-read_files : goal.decreases-read_files
+decreases-read_files g l = 8 * l.levels + 10
+
+abbrev pub decreases-read_file : goal.decreases-read_file
+decreases-read_file g l = 8 * l.levels + 9
+
+abbrev pub decreases-read_found : goal.decreases-read_found
+decreases-read_found g l = 8 * l.levels + 8
+
+-- the files are told as before, no read failed, and what the items that are left do
+abbrev pub invariant-read_lines-loop-line : goal.invariant-read_lines-loop-line
+invariant-read_lines-loop-line g l = (g.F.Files.told l.files ≡ g.F.Files.told l.fn.files) × (g.F.Files.failed l.files ≡ g.F.Files.failed l.fn.files)
+    × IfSome (g.F.Files.told l.fn.files) (λ told. SoFar told (λ reader. with_lines reader (below l.source.levels reader) (text_of l.source) (map line_view l.lines) l.fn.state) (λ reader. with_lines reader (below l.source.levels reader) (text_of l.source) (map line_view (drop l.line-index l.lines)) l.state) l.fn.state l.state)
+
+abbrev pub invariant-read_files-loop-name : goal.invariant-read_files-loop-name
+invariant-read_files-loop-name g l = (g.F.Files.told l.files ≡ g.F.Files.told l.fn.files) × (g.F.Files.failed l.files ≡ g.F.Files.failed l.fn.files)
+    × IfSome (g.F.Files.told l.fn.files) (λ told. SoFar told (λ reader. files reader (read_below l.levels reader) (place_at l.spot) l.optional (map string_bytes l.names) l.fn.state) (λ reader. files reader (read_below l.levels reader) (place_at l.spot) l.optional (map string_bytes (drop l.name-index l.names)) l.state) l.fn.state l.state)

@@ -1,0 +1,3 @@
+pub mod KindViews
+pub mod MemFiles
+pub mod Views

@@ -1,0 +1,401 @@
+//! The reading of a makefile.
+
+ghost use Rattle.std.specs.Prelude.{◌≡◌, ◌⊎◌, ◌∷◌, [], true, ◌+◌, ◌<◌, ◌^◌, ◌-◌, ◌||◌, Some, None, codes, filter, map, IfOk, IfErr, IfSome};
+ghost use Rattle.std.specs.List.{list_any};
+ghost use Rattle.std.specs.Option.{option_copied, option_map};
+ghost use Rattle.std.specs.Str.{bytes_eq};
+ghost use Rattle.std.specs.String.{string_bytes};
+ghost use Rattle.mk_macros.specs.Definitions.{with_operand};
+ghost use Rattle.mk_read.specs.declared.fault.ReadFault.TheVariants.{Memory, ReadFailed};
+ghost use Rattle.mk_read.specs.Files.{text_at};
+ghost use Rattle.mk_read.specs.Following.{Answers, Counts, Follows, IsOfText, answered};
+ghost use Rattle.mk_read.specs.Reading.{after_default, counts, from_named, makefile, makefile_of, named, reading, with_operands};
+ghost use Rattle.mk_read.specs.Special.{is_inference_name};
+ghost use Rattle.mk_read.specs.Names.{has_name};
+ghost use Rattle.mk_read.specs.State.{nothing_read};
+ghost use Rattle.mk_read.specs.Steps.{Gives, at_place, is_want_of_memory, seen};
+ghost use Rattle.mk_parse.specs.Views.{IsUnread, begun, is_joined, second_text, state_read, without_makefile};
+
+use crate::including::{Source, read_text};
+use crate::state::{Owner, RuleLines, State, with_last};
+use mk_lines::{Name, is_plain_path};
+use mk_macros::{MacroFault, MacroTable};
+use mk_read::{Files, FilesError, Makefile, Place, ReadFault, Rule, SuffixList};
+use mk_read_laws::default_laws::default_text_says_this;
+use std::alloc::{AllocError, Global};
+
+/// The default text, which is read first where it is asked for.
+const DEFAULT_TEXT: &[u8] = b".SUFFIXES: .o .c .sh
+MAKE = make
+CC = c17
+CFLAGS = -O1
+LDFLAGS =
+.c:
+\t$(CC) $(CFLAGS) $(LDFLAGS) -o $@ $<
+.sh:
+\tcp $< $@
+\tchmod a+x $@
+.c.o:
+\t$(CC) $(CFLAGS) -c $<
+";
+
+/// How many levels of include lines may stand below the makefile.
+const MAX_LEVELS: usize = 16;
+
+/// Whether the name of a makefile is a plain path other than `-`; else fault 27.
+fn test_name(alloc: Global, name: Option<&Name>) -> Result<(), ReadFault>
+    ensures exact { Gives (λ _.
+        option_copied name.entry) result (named (option_copied name.entry)) }
+    ensures own { IfErr result IsOfText }
+{
+    let Some(name) = name else {
+        return Ok(());
+    };
+    let text = name.as_str();
+    if !is_plain_path(text.as_bytes()) || text == "-" {
+        return Err(ReadFault::BadMakefileName(Name::new(alloc, text)?));
+    }
+    Ok(())
+}
+
+/// Reads the default text, where it is asked for, before all else.
+#[tactic(auto, unfolding(mk_read::specs::Reading::after_default))]
+fn read_default<F: Files>(
+    alloc: Global,
+    files: &mut F,
+    defaults: bool,
+    state: &mut State,
+) -> Result<(), ReadFault>
+    requires { F.failed files.old < 2 ^ 64 - 1 }
+    ensures map { F.told files.new ≡ F.told files.old }
+    ensures follows { IfSome (F.told files.old) (λ told. state.old ≡ nothing_read →
+        Follows told (λ reader.
+        after_default reader defaults) nothing_read (seen (λ done. state.new) result)) }
+    ensures counted { Counts (F.failed files.old) (F.failed files.new) result }
+{
+    if !defaults {
+        return Ok(());
+    }
+    let file = Name::new(alloc, "(default)")?;
+    let source = Source {
+        alloc,
+        file: &file,
+        default: true,
+        levels: 0,
+    };
+    read_text(files, &source, DEFAULT_TEXT, state)
+}
+
+/// Fixes a macro by an operand, of this number.
+fn fix_operand(
+    alloc: Global,
+    number: usize,
+    macros: &mut MacroTable,
+    operand: &[u8],
+) -> Result<(), ReadFault>
+    ensures exact { Gives (λ done.
+        macros.new) result (at_place (record { file = codes "operand"; line = number })
+        (with_operand macros.old operand.now)) }
+    ensures own { IfErr result IsOfText }
+{
+    let place = Place {
+        file: Name::new(alloc, "operand")?,
+        line: number,
+    };
+    match macros.fix(operand) {
+        Ok(()) => Ok(()),
+        Err(MacroFault::Memory) => Err(ReadFault::Memory),
+        Err(fault) => Err(ReadFault::Macro(place, fault)),
+    }
+}
+
+/// Fixes macros by the operands, one after another.
+fn fix_operands(
+    alloc: Global,
+    macros: &mut MacroTable,
+    operands: &[Vec<u8>],
+) -> Result<(), ReadFault>
+    ensures exact { Gives (λ done.
+        macros.new) result (with_operands 1 (map (λ operand.
+        operand.items) operands.now) macros.old) }
+    ensures own { IfErr result IsOfText }
+{
+    for (i, operand) in operands.iter().enumerate() {
+        fix_operand(alloc, i + 1, macros, operand)?;
+    }
+    Ok(())
+}
+
+/// The text of a makefile, where it is there. Fault 35 where the reader fails.
+fn makefile_at<F: Files>(
+    alloc: Global,
+    files: &mut F,
+    name: &str,
+) -> Result<Option<Vec<u8>>, ReadFault>
+    requires { F.failed files.old < 2 ^ 64 - 1 }
+    ensures map { F.told files.new ≡ F.told files.old }
+    ensures text { IfOk result (λ found. IfSome (F.told files.old)
+        (λ told. option_map (λ text. text.items) found ≡ text_at told name.now)) }
+    ensures fault { IfErr result (λ fault. (fault ≡ Memory) ⊎ (fault ≡ ReadFailed None name.now)) }
+    ensures counted { Counts (F.failed files.old) (F.failed files.new) result }
+{
+    let file = Name::new(alloc, name)?;
+    match files.read(alloc, name) {
+        Ok(found) => Ok(found),
+        Err(FilesError::ReadFailed) => Err(ReadFault::ReadFailed(None, file)),
+        Err(FilesError::Memory) => Err(ReadFault::Memory),
+    }
+}
+
+/// A list of one name.
+fn alone(alloc: Global, name: &str) -> Result<Vec<String>, AllocError>
+    ensures { IfOk result (λ names. map string_bytes names.items ≡ name.now ∷ []) }
+{
+    let mut names = Vec::new(alloc);
+    names.push(String::from_str(alloc, name)?)?;
+    Ok(names)
+}
+
+/// Reads the makefile's own text.
+fn read_own_text<F: Files>(
+    alloc: Global,
+    files: &mut F,
+    name: &str,
+    text: &[u8],
+    state: &mut State,
+) -> Result<(), ReadFault>
+    requires { F.failed files.old < 2 ^ 64 - 1 }
+    ensures map { F.told files.new ≡ F.told files.old }
+    ensures follows { IfSome (F.told files.old)
+        (λ told.
+        Follows told (λ reader. reading 16 reader name.now text.now (begun state.old name.now))
+        (begun state.old name.now) (seen (λ done. state.new) result)) }
+    ensures counted { Counts (F.failed files.old) (F.failed files.new) result }
+{
+    let file = Name::new(alloc, name)?;
+    let texts = alone(alloc, name)?;
+    state.own(Owner::Nobody)?;
+    state.texts = texts;
+    let source = Source {
+        alloc,
+        file: &file,
+        default: false,
+        levels: MAX_LEVELS,
+    };
+    read_text(files, &source, text, state)
+}
+
+/// Reads the makefile of this name. Fault 37 where it isn't there.
+fn read_named<F: Files>(
+    alloc: Global,
+    files: &mut F,
+    name: &Name,
+    state: &mut State,
+) -> Result<(), ReadFault>
+    requires { F.failed files.old < 2 ^ 64 - 1 }
+    ensures map { F.told files.new ≡ F.told files.old }
+    ensures follows { IfSome (F.told files.old) (λ told. IsUnread state.old →
+        Follows told (λ reader.
+        from_named reader state.old (Some name.now)) state.old (seen (λ done. state.new) result)) }
+    ensures counted { Counts (F.failed files.old) (F.failed files.new) result }
+{
+    let text = name.as_str();
+    let copy = Name::new(alloc, text)?;
+    match makefile_at(alloc, files, text)? {
+        Some(bytes) => read_own_text(alloc, files, text, &bytes, state),
+        None => Err(ReadFault::NoMakefile(Some(copy))),
+    }
+}
+
+/// Reads the second usual makefile, where the first isn't there. Fault 37 where it isn't there
+/// either.
+fn read_second<F: Files>(alloc: Global, files: &mut F, state: &mut State) -> Result<(), ReadFault>
+    requires { F.failed files.old < 2 ^ 64 - 1 }
+    ensures map { F.told files.new ≡ F.told files.old }
+    ensures follows { IfSome (F.told files.old) (λ told. state.old.texts ≡ [] →
+        Follows told (λ reader. second_text reader state.old) (without_makefile state.old)
+        (seen (λ done. state.new) result)) }
+    ensures counted { Counts (F.failed files.old) (F.failed files.new) result }
+{
+    match makefile_at(alloc, files, "Makefile")? {
+        Some(text) => {
+            state.missing = alone(alloc, "makefile")?;
+            read_own_text(alloc, files, "Makefile", &text, state)
+        }
+        None => Err(ReadFault::NoMakefile(None)),
+    }
+}
+
+/// Reads a usual makefile.
+fn read_usual<F: Files>(alloc: Global, files: &mut F, state: &mut State) -> Result<(), ReadFault>
+    requires { F.failed files.old < 2 ^ 64 - 1 }
+    ensures map { F.told files.new ≡ F.told files.old }
+    ensures follows { IfSome (F.told files.old) (λ told. IsUnread state.old →
+        Follows told (λ reader.
+        from_named reader state.old None) state.old (seen (λ done. state.new) result)) }
+    ensures counted { Counts (F.failed files.old) (F.failed files.new) result }
+{
+    match makefile_at(alloc, files, "makefile")? {
+        Some(text) => read_own_text(alloc, files, "makefile", &text, state),
+        None => read_second(alloc, files, state),
+    }
+}
+
+/// Whether bytes are one of the suffixes.
+fn has_suffix(suffixes: &[String], bytes: &[u8]) -> bool
+    ensures { result ≡ has_name (map string_bytes suffixes.now) bytes.now }
+{
+    for suffix in suffixes {
+        if bytes == suffix.as_bytes() {
+            return true;
+        }
+    }
+    false
+}
+
+/// Whether a name is this suffix, or this suffix with one of the suffixes behind it.
+fn is_joined(suffixes: &[String], name: &[u8], suffix: &[u8]) -> bool
+    ensures { result ≡ is_joined (map string_bytes suffixes.now) name.now suffix.now }
+{
+    if !name.starts_with(suffix) {
+        return false;
+    }
+    let rest = &name[suffix.len()..];
+    rest.is_empty() || has_suffix(suffixes, rest)
+}
+
+/// Whether a name is a suffix, or two in a row.
+fn is_inference_name(suffixes: &[String], name: &str) -> bool
+    ensures { result ≡ is_inference_name (map string_bytes suffixes.now) name.now }
+{
+    for suffix in suffixes {
+        if is_joined(suffixes, name.as_bytes(), suffix.as_bytes()) {
+            return true;
+        }
+    }
+    false
+}
+
+/// Whether one of the targets is an inference name.
+fn has_inference_name(suffixes: &[String], targets: &[String]) -> bool
+    ensures { result ≡
+        list_any (is_inference_name (map string_bytes suffixes.now))
+        (map string_bytes targets.now) }
+{
+    for target in targets {
+        if is_inference_name(suffixes, target) {
+            return true;
+        }
+    }
+    false
+}
+
+/// Whether a rule line counts, by the suffixes after all reading.
+fn counts(suffixes: &SuffixList, rule: &Rule) -> bool
+    ensures { result ≡ counts suffixes.now rule.now }
+{
+    !rule.default || has_inference_name(suffixes.as_slice(), &rule.targets)
+}
+
+/// The rule lines that count.
+fn counted(alloc: Global, suffixes: &SuffixList, rules: Vec<Rule>) -> Result<Vec<Rule>, AllocError>
+    ensures { IfOk result (λ kept. kept.items ≡ filter (counts suffixes.now) rules.items) }
+{
+    let mut kept = Vec::new(alloc);
+    for rule in rules {
+        if counts(suffixes, &rule) {
+            kept.push(rule)?;
+        }
+    }
+    Ok(kept)
+}
+
+/// What the makefile says, once all is read.
+fn makefile_of(alloc: Global, state: State) -> Result<Makefile, AllocError>
+    ensures { IfOk result (λ makefile. makefile ≡ makefile_of state) }
+{
+    let State {
+        macros,
+        suffixes,
+        phony,
+        not_parallel,
+        lines,
+        texts,
+        missing,
+    } = state;
+    let RuleLines { earlier, owner, .. } = lines;
+    let rules = counted(alloc, &suffixes, with_last(earlier, owner)?)?;
+    Ok(Makefile::new(rules, suffixes, phony, not_parallel, macros, texts, missing))
+}
+
+/// Reads all: the default text, where it is asked for, the operands, and the makefile.
+fn read_all<F: Files>(
+    alloc: Global,
+    files: &mut F,
+    name: Option<&Name>,
+    defaults: bool,
+    operands: &[Vec<u8>],
+    state: &mut State,
+) -> Result<(), ReadFault>
+    requires { F.failed files.old < 2 ^ 64 - 1 }
+    ensures map { F.told files.new ≡ F.told files.old }
+    ensures follows { IfSome (F.told files.old) (λ told. state.old ≡ nothing_read →
+        Follows told (λ reader.
+        state_read reader (option_copied name.entry) defaults (map (λ operand.
+        operand.items) operands.now)) nothing_read (seen (λ done. state.new) result)) }
+    ensures counted { Counts (F.failed files.old) (F.failed files.new) result }
+{
+    default_text_says_this();
+    test_name(alloc, name)?;
+    read_default(alloc, files, defaults, state)?;
+    fix_operands(alloc, &mut state.macros, operands)?;
+    match name {
+        Some(name) => read_named(alloc, files, name, state),
+        None => read_usual(alloc, files, state),
+    }
+}
+
+/// What a fault is answered as: want of memory in one way.
+fn answered(fault: ReadFault) -> ReadFault
+    ensures { result ≡ answered fault }
+{
+    if fault.is_want_of_memory() {
+        return ReadFault::Memory;
+    }
+    fault
+}
+
+/// What the makefile of a name says, or without a name `makefile`, else `Makefile`: behind the
+/// default text, where it is asked for, and the macro operands (the standard's `make`, "Makefile
+/// Syntax", "Target Rules", "Macros").
+///
+/// The first fault is the answer: 27 the makefile's name; those of the operands, in order; 35 and
+/// 37 the makefile; then its text. A text's faults of lines (1 to 3) come before its lines, which
+/// are done in order, an include line with all lines of its files. In a line 21 to 26 and 33 come
+/// first, by number, then those of the targets or of the macro's name, then those of the rest, each
+/// expanded (11 to 17) and then looked at word by word (27, 28), then 29, 30, 31 and 34, then the
+/// reads (36, 35, 32). `ReadFailed` comes only where the reader has counted a failure in this call,
+/// and want of memory as `Memory` alone.
+pub fn read_makefile<F: Files>(
+    alloc: Global,
+    files: &mut F,
+    name: Option<&Name>,
+    defaults: bool,
+    operands: &[Vec<u8>],
+) -> Result<Makefile, ReadFault>
+    requires { F.failed files.old < 2 ^ 64 - 1 }
+    ensures map { F.told files.new ≡ F.told files.old }
+    ensures answer { IfSome (F.told files.old)
+        (λ told.
+        Answers told (λ reader.
+        makefile reader (option_copied name.entry) defaults (map (λ operand.
+        operand.items) operands.now)) (seen (λ m. m) result)) }
+    ensures memory { IfErr result (λ fault. is_want_of_memory fault ≡ true → fault ≡ Memory) }
+    ensures counted { Counts (F.failed files.old) (F.failed files.new) result }
+{
+    let mut state = State::new(alloc);
+    match read_all(alloc, files, name, defaults, operands, &mut state) {
+        Ok(()) => Ok(makefile_of(alloc, state)?),
+        Err(fault) => Err(answered(fault)),
+    }
+}

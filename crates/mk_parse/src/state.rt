@@ -1,0 +1,181 @@
+//! What was read so far.
+
+ghost use Rattle.std.specs.Prelude.{◌≡◌, [], ◌∷◌, ◌++◌, length, map, nat_le, IfOk, OnOk};
+ghost use Rattle.std.specs.String.{string_bytes};
+ghost use Rattle.mk_read.specs.State.{nothing_read, last_rule, owned, Nobody};
+ghost use Rattle.mk_parse.specs.Views.{IsBare, owner_view};
+
+use mk_lines::Name;
+use mk_macros::MacroTable;
+use mk_read::{NameSet, Rule, SuffixList};
+use std::alloc::{AllocError, Global};
+use std::marker::Model;
+use std::mem;
+
+/// How many texts are read at most, the default text aside.
+const MAX_TEXTS: usize = 1024;
+
+/// What a command line belongs to.
+#[derive(Drop)]
+pub(crate) enum Owner {
+    /// Nothing.
+    Nobody,
+    /// The last rule line.
+    Last(Rule),
+    /// A special target, which has no commands.
+    SpecialTarget,
+    /// A rule line that was passed over, since its targets expand to nothing.
+    PassedOver,
+}
+
+/// The rule lines so far. A contract sees those before the one that command lines belong to, and
+/// what they belong to.
+#[derive(Drop)]
+pub(crate) struct RuleLines {
+    pub(crate) earlier: Vec<Rule>,
+    pub(crate) owner: Owner,
+    /// The targets for which the makefile's rule lines have commands.
+    pub(crate) commanded: NameSet,
+}
+
+impl Model for RuleLines {
+    ghost use Rattle.mk_read.specs.State as value;
+    ghost use Rattle.mk_read.specs.State.{rules_of};
+    ghost use Rattle.mk_parse.specs.Views.{KnowsCommands, owner_view};
+
+    ghost Value = { value.Read };
+
+    ghost view = { λ r. record { earlier = r.earlier.items; owner = owner_view r.owner } };
+
+    ghost invariant = { λ r.
+        KnowsCommands r.commanded (rules_of (record {
+          earlier = r.earlier.items;
+          owner = owner_view r.owner;
+        })) };
+}
+
+/// What was read so far. A contract sees lists.
+#[derive(Drop)]
+pub(crate) struct State {
+    pub(crate) macros: MacroTable,
+    pub(crate) suffixes: SuffixList,
+    pub(crate) phony: Vec<String>,
+    pub(crate) not_parallel: bool,
+    pub(crate) lines: RuleLines,
+    pub(crate) texts: Vec<String>,
+    pub(crate) missing: Vec<String>,
+}
+
+impl Model for State {
+    ghost use Rattle.std.specs.Prelude.{map};
+    ghost use Rattle.std.specs.String.{string_bytes};
+    ghost use Rattle.mk_read.specs.State as value;
+
+    ghost Value = { value.State };
+
+    ghost view = { λ s.
+        record {
+          table = s.macros;
+          suffixes = s.suffixes;
+          phony = map string_bytes s.phony.items;
+          not_parallel = s.not_parallel;
+          read = s.lines;
+          texts = map string_bytes s.texts.items;
+          missing = map string_bytes s.missing.items;
+        } };
+}
+
+/// The rule lines with the last one behind them.
+pub(crate) fn with_last(earlier: Vec<Rule>, owner: Owner) -> Result<Vec<Rule>, AllocError>
+    ensures { IfOk result (λ all. all.items ≡ earlier.items ++ last_rule (owner_view owner)) }
+{
+    let mut all = earlier;
+    if let Owner::Last(rule) = owner {
+        all.push(rule)?;
+    }
+    Ok(all)
+}
+
+impl RuleLines {
+    /// No rule lines.
+    pub(crate) fn new(alloc: Global) -> RuleLines
+        ensures { result ≡ record { earlier = []; owner = Nobody } }
+    {
+        RuleLines {
+            earlier: Vec::new(alloc),
+            owner: Owner::Nobody,
+            commanded: NameSet::new(alloc),
+        }
+    }
+
+    /// The same rule lines with another owner of command lines, which has none so far.
+    pub(crate) fn owned(self, owner: Owner) -> Result<RuleLines, AllocError>
+        requires { IsBare (owner_view owner) }
+        ensures { IfOk result (λ lines. lines ≡ owned (owner_view owner) self) }
+    {
+        let RuleLines {
+            earlier,
+            owner: last,
+            commanded,
+        } = self;
+        Ok(RuleLines {
+            earlier: with_last(earlier, last)?,
+            owner,
+            commanded,
+        })
+    }
+}
+
+impl State {
+    /// Nothing read.
+    pub(crate) fn new(alloc: Global) -> State
+        ensures { result ≡ nothing_read }
+    {
+        State {
+            macros: MacroTable::new(alloc),
+            suffixes: SuffixList::new(alloc),
+            phony: Vec::new(alloc),
+            not_parallel: false,
+            lines: RuleLines::new(alloc),
+            texts: Vec::new(alloc),
+            missing: Vec::new(alloc),
+        }
+    }
+
+    /// Gives command lines another owner, which has none so far.
+    pub(crate) fn own(&mut self, owner: Owner) -> Result<(), AllocError>
+        requires { IsBare (owner_view owner) }
+        ensures { OnOk result (self.new ≡
+            record self.old { read = owned (owner_view owner) self.old.read }) }
+    {
+        let alloc = *self.texts.allocator();
+        let lines = mem::replace(&mut self.lines, RuleLines::new(alloc));
+        self.lines = lines.owned(owner)?;
+        Ok(())
+    }
+
+    /// Whether no text more may be read.
+    pub(crate) fn is_full(&self) -> bool
+        ensures { result ≡ nat_le 1024 (length self.now.texts) }
+    {
+        self.texts.len() >= MAX_TEXTS
+    }
+
+    /// Notes a text more that is read.
+    pub(crate) fn note_text(&mut self, alloc: Global, file: &str) -> Result<(), AllocError>
+        ensures { OnOk result (self.new ≡
+            record self.old { texts = self.old.texts ++ file.now ∷ [] }) }
+    {
+        self.texts.push(String::from_str(alloc, file)?)?;
+        Ok(())
+    }
+
+    /// Notes a file more that isn't there and was passed over.
+    pub(crate) fn note_missing(&mut self, file: Name) -> Result<(), AllocError>
+        ensures { OnOk result (self.new ≡
+            record self.old { missing = self.old.missing ++ file ∷ [] }) }
+    {
+        self.missing.push(file.into_string())?;
+        Ok(())
+    }
+}

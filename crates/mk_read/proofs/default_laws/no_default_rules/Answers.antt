@@ -1,5 +1,0 @@
-use Rattle.mk_read.proofs.DefaultRules.{no_default_rules}
-use Rattle.mk_read.proofs.default_laws.no_default_rules.Goals as goal
-
-pub returns : goal.returns
-returns c = no_default_rules

@@ -1,5 +1,0 @@
-use Rattle.mk_read.proofs.Makefiles.{makefiles_may_have_the_lines_in_place}
-use Rattle.mk_read.proofs.include_laws.makefiles_may_have_the_lines_in_place.Goals as goal
-
-pub returns : goal.returns
-returns c = makefiles_may_have_the_lines_in_place

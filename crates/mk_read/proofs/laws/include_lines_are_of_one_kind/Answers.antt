@@ -1,5 +1,0 @@
-use Rattle.mk_read.proofs.OneKind.{include_lines}
-use Rattle.mk_read.proofs.laws.include_lines_are_of_one_kind.Goals as goal
-
-pub returns : goal.returns
-returns c = include_lines

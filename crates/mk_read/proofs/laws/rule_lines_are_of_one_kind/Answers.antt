@@ -1,5 +1,0 @@
-use Rattle.mk_read.proofs.OneKind.{rule_lines}
-use Rattle.mk_read.proofs.laws.rule_lines_are_of_one_kind.Goals as goal
-
-pub returns : goal.returns
-returns c = rule_lines

@@ -1,5 +1,0 @@
-use Rattle.mk_read.proofs.SameLines.{comments_and_numbers_change_only_places}
-use Rattle.mk_read.proofs.place_laws.comments_and_numbers_change_only_places.Goals as goal
-
-pub returns : goal.returns
-returns c = comments_and_numbers_change_only_places

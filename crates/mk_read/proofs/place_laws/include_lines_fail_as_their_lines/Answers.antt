@@ -1,5 +1,0 @@
-use Rattle.mk_read.proofs.InPlace.{include_lines_fail_as_their_lines}
-use Rattle.mk_read.proofs.place_laws.include_lines_fail_as_their_lines.Goals as goal
-
-pub returns : goal.returns
-returns c = include_lines_fail_as_their_lines

@@ -1,5 +1,0 @@
-use Rattle.mk_read.proofs.Nested.{include_lines_stand_for_their_lines}
-use Rattle.mk_read.proofs.place_laws.include_lines_stand_for_their_lines.Goals as goal
-
-pub returns : goal.returns
-returns c = include_lines_stand_for_their_lines

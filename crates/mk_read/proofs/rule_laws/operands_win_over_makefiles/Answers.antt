@@ -1,5 +1,0 @@
-use Rattle.mk_read.proofs.FixedMacros.{operands_win_over_makefiles}
-use Rattle.mk_read.proofs.rule_laws.operands_win_over_makefiles.Goals as goal
-
-pub returns : goal.returns
-returns c = operands_win_over_makefiles c.operands_win.ensures

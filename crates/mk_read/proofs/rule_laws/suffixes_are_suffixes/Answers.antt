@@ -1,5 +1,0 @@
-use Rattle.mk_read.proofs.ListedSuffixes.{suffixes_are_suffixes}
-use Rattle.mk_read.proofs.rule_laws.suffixes_are_suffixes.Goals as goal
-
-pub returns : goal.returns
-returns c = suffixes_are_suffixes

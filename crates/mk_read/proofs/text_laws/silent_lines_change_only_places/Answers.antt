@@ -1,5 +1,0 @@
-use Rattle.mk_read.proofs.SilentLines.{silent_lines_change_only_places}
-use Rattle.mk_read.proofs.text_laws.silent_lines_change_only_places.Goals as goal
-
-pub returns : goal.returns
-returns c = silent_lines_change_only_places c.lines_of_two_texts.ensures

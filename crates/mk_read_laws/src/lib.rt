@@ -1,0 +1,9 @@
+//! Laws of the reading of makefiles, about the definitions alone.
+#![tactic(auto)]
+
+pub mod default_laws;
+pub mod include_laws;
+pub mod laws;
+pub mod place_laws;
+pub mod rule_laws;
+pub mod text_laws;

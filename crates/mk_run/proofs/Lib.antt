@@ -1,0 +1,3 @@
+mod RunLemmas
+mod PlainWords
+mod NumberLemmas

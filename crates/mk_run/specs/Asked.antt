@@ -1,0 +1,84 @@
+-- What the words of a command line ask.
+use Rattle.std.specs.Prelude.{ℕ, ◌^◌, Bool, true, false, not, ◌&&◌, nat_lt, List, None, Some, [], Option, option_and_then, codes, length, unwrap_or, if◌then◌else◌}
+use Rattle.std.specs.Char.{is_ascii_digit}
+use Rattle.std.specs.List.{list_all}
+use Rattle.std.specs.Str.{bytes_eq}
+use Rattle.std.specs.Str.Parse.{digits_value, without_leading_plus}
+use Rattle.clap.specs.Words.{Kinds, Row, Text, all_of, count_of, fault_of, first_of, subcommand_of}
+use Rattle.mk_core.specs.declared.request.Request.{Request}
+use Rattle.mk_core.specs.Words.{goals_of, operands_of}
+use Rattle.mk_run.specs.declared.asked.Asked.{Asked}
+use Rattle.mk_run.specs.declared.asked.Asked.TheVariants.{Graph, Check, Verify, Simulate}
+use Rattle.mk_run.specs.CommandLine.{command_line}
+
+-- the kinds of fault that the command line finds in the words: none where it takes them
+abbrev pub faults_of : List Text → Kinds
+faults_of words = fault_of command_line words
+
+-- a request for this makefile, with macro operands and goals, the default text, no footprints and no
+-- commands
+abbrev pub asking : Option (List ℕ) → List Text → Request
+asking makefile words =
+    record {
+      makefile = makefile;
+      defaults = true;
+      operands = operands_of words;
+      goals = goals_of words;
+      book = None;
+      commands = false;
+    }
+
+-- the option stands there, once or more
+abbrev pub is_set : Text → List Row → Bool
+is_set id rows = nat_lt 0 (count_of id rows)
+
+-- the request that the values of options and of `WORD..` make
+abbrev pub requested : List Row → Request
+requested rows =
+    record (asking (first_of (codes "makefile") rows)
+    (unwrap_or (all_of (codes "words") rows) [])) {
+      defaults = not (is_set (codes "no-defaults") rows);
+      book = first_of (codes "book") rows;
+      commands = is_set (codes "commands") rows;
+    }
+
+-- the value of an option without which the command line takes no words
+abbrev pub needed : Text → List Row → List ℕ
+needed id rows = unwrap_or (first_of id rows) []
+
+-- digits write a number below 2 to the 64th
+abbrev pub is_number : List ℕ → Bool
+is_number digits =
+    list_all is_ascii_digit digits &&
+    (nat_lt 0 (length digits) && nat_lt (digits_value 10 digits) (2 ^ 64))
+
+-- the number that a text writes, where a plus may stand first
+abbrev pub number_in : Text → Option ℕ
+number_in text =
+    let digits = without_leading_plus text in
+    if is_number digits then Some (digits_value 10 digits) else None
+
+-- the number that an option gives, if it is there
+abbrev pub number_at : Text → List Row → Option ℕ
+number_at id rows = option_and_then number_in (first_of id rows)
+
+-- what a subcommand of this name asks with these values
+abbrev pub asked_by : Text → List Row → Asked
+asked_by name rows =
+    if bytes_eq name (codes "check")
+    then Check (requested rows) (is_set (codes "only-certificate") rows)
+    (number_at (codes "evidence") rows) else
+    (if bytes_eq name (codes "verify")
+    then Verify (requested rows) (needed (codes "certificate") rows) else
+    (if bytes_eq name (codes "simulate")
+    then Simulate (requested rows) (needed (codes "plan") rows)
+    else Graph (requested rows)))
+
+-- what the subcommand asks that the words name; the command line takes no words without one
+abbrev pub asked_with : Option (Text × List Row) → Asked
+asked_with None = Graph (requested [])
+asked_with (Some met) = asked_by met.0 met.1
+
+-- what the words ask
+abbrev pub asked_of : List Text → Asked
+asked_of words = asked_with (subcommand_of command_line words)

@@ -1,0 +1,9 @@
+//! Tests of mk_host and mk_run, by their public calls.
+#![tactic(auto)]
+
+#[cfg(test)]
+mod edges;
+#[cfg(test)]
+mod graphs;
+#[cfg(test)]
+mod verdicts;

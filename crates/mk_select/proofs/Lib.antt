@@ -1,0 +1,10 @@
+pub mod NameLists
+pub mod WithFront
+pub mod Once
+pub mod GoalLists
+pub mod GoalsDiffer
+pub mod OwnTargets
+pub mod GroupLists
+pub mod Walking
+pub mod Keeping
+pub mod Selecting

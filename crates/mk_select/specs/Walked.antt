@@ -1,0 +1,63 @@
+-- What a walk keeps, and what becomes of it.
+use Rattle.std.specs.Prelude.{◌≡◌, ℕ, ◌+◌, Bool, true, false, ◌||◌, not, List, [], ◌∷◌, map, take, if◌then◌else◌}
+use Rattle.mk_graph.specs.Graph.{max_nodes}
+use Rattle.mk_graph.specs.declared.node.Node.{Node}
+use Rattle.mk_read.specs.Names.{has_name}
+use Rattle.mk_read.specs.Reading.{Makefile}
+use Rattle.mk_read.specs.Rules.{has_some}
+use Rattle.mk_read.specs.Needs.{groups}
+use Rattle.mk_infer.specs.Selection.{needs, numbered, with_choice}
+use Rattle.mk_infer.specs.Targets.{have_text, is_target, words_for}
+use Rattle.mk_infer.specs.There.{Exists, is_given}
+use Rattle.mk_infer.specs.Walk.{Meets}
+use Rattle.mk_choice.specs.Choosing.{Making, making_of}
+
+-- a group has numbers
+abbrev pub has_numbers : List ℕ → Bool
+has_numbers [] = false
+has_numbers (n ∷ ns) = true
+
+-- the number before the others of the first group, or in a group of its own
+abbrev pub with_number : Bool → ℕ → List (List ℕ) → List (List ℕ)
+with_number apart number [] = (number ∷ []) ∷ []
+with_number apart number (group ∷ groups) =
+    if apart then (number ∷ []) ∷ (group ∷ groups) else (number ∷ group) ∷ groups
+
+-- a name that was met, and what makes it
+pub record Met : Type 0 where
+  pub name : List ℕ
+  pub making : Making
+
+abbrev pub met_of : Makefile → Exists → List ℕ → Met
+met_of m e name = record { name = name; making = making_of m e name }
+
+-- what a walk keeps: the names that it met, and what makes those that a graph may have
+pub record Walked : Type 0 where
+  pub names : List (List ℕ)
+  pub met : List Met
+
+-- The walk goes on until it has met one name more than a graph may have.
+pub record IsWalked (m : Makefile) (e : Exists) (goals : List (List ℕ))
+    (walked : Walked) : Type 0 where
+  pub all : List (List ℕ)
+  pub walk : Meets (needs m e) [] goals all
+  pub front : walked.names ≡ take (max_nodes + 1) all
+  pub made : walked.met ≡ map (met_of m e) (take max_nodes all)
+
+-- nothing makes a name that was met
+abbrev pub lacks : Makefile → Exists → Met → Bool
+lacks m e met =
+    not (e.any_leaf ||
+    (is_target m met.name ||
+    (has_some met.making.choice || (has_name m.phony met.name || is_given e met.name))))
+
+-- the node of a name that was met
+abbrev pub node_with : Makefile → List (List ℕ) → Met → Node
+node_with m all met = record {
+  name = met.name;
+  groups =
+      numbered all (with_choice m.not_parallel met.making.choice
+      (groups m.not_parallel (words_for m met.name)));
+  recipe = have_text met.making.commands;
+  phony = has_name m.phony met.name;
+}

@@ -1,0 +1,133 @@
+//! Groups of numbers.
+
+ghost use Rattle.std.specs.Prelude.{◌≡◌, ◌∷◌, ◌++◌, [], false, map, filter, OnOk, IfOk};
+ghost use Rattle.std.specs.Option.{option_map};
+ghost use Rattle.mk_read.specs.Needs.{groups};
+ghost use Rattle.mk_lines.specs.Names.{number_of};
+ghost use Rattle.mk_infer.specs.Selection.{numbered, with_choice};
+ghost use Rattle.mk_select.specs.Walked.{has_numbers, with_number};
+ghost use Rattle.mk_infer.specs.Targets.{words_for};
+
+use mk_graph::Groups;
+use mk_infer::RuleTable;
+use mk_lines::NameSet;
+use std::alloc::{AllocError, Global};
+use std::mem;
+
+/// The numbers of names: the places at which they were first met.
+pub fn numbers(alloc: Global, met: &NameSet<'_>, names: &[&str]) -> Result<Vec<usize>, AllocError>
+    ensures { IfOk result (λ found. found.items ≡
+        map (number_of met.now) (map (λ name. name.now) names.now)) }
+{
+    let mut numbers = Vec::new(alloc);
+    for name in names {
+        numbers.push(met.number_of(name))?;
+    }
+    Ok(numbers)
+}
+
+/// A group more, unless it is empty.
+fn push_group(groups: &mut Vec<Vec<usize>>, group: Vec<usize>) -> Result<(), AllocError>
+    ensures { OnOk result (map (λ group. group.items) groups.new.items ≡
+        map (λ group. group.items) groups.old.items ++ filter has_numbers (group.items ∷ [])) }
+{
+    if !group.is_empty() {
+        groups.push(group)?;
+    }
+    Ok(())
+}
+
+/// The numbers of the names between `.WAIT` and `.WAIT`, where there are any.
+fn cut_groups(
+    alloc: Global,
+    met: &NameSet<'_>,
+    words: &[&str],
+) -> Result<Vec<Vec<usize>>, AllocError>
+    ensures { IfOk result (λ found. map (λ group. group.items) found.items ≡
+        numbered met.now (groups false (map (λ word. word.now) words.now))) }
+{
+    let mut groups = Vec::new(alloc);
+    let mut group = Vec::new(alloc);
+    for word in words {
+        if *word == ".WAIT" {
+            let closed = mem::replace(&mut group, Vec::new(alloc));
+            push_group(&mut groups, closed)?;
+        } else {
+            group.push(met.number_of(word))?;
+        }
+    }
+    push_group(&mut groups, group)?;
+    Ok(groups)
+}
+
+/// The numbers of names, each in a group of its own.
+fn single_groups(
+    alloc: Global,
+    met: &NameSet<'_>,
+    names: &[&str],
+) -> Result<Vec<Vec<usize>>, AllocError>
+    ensures { IfOk result (λ found. map (λ group. group.items) found.items ≡
+        map (λ name. number_of met.now name ∷ []) (map (λ name. name.now) names.now)) }
+{
+    let mut groups = Vec::new(alloc);
+    for name in names {
+        groups.push(vec![in alloc; met.number_of(name)]?)?;
+    }
+    Ok(groups)
+}
+
+/// The groups with a number before the others of the first one, or in a group of its own.
+fn with_number(
+    alloc: Global,
+    groups: Vec<Vec<usize>>,
+    apart: bool,
+    number: usize,
+) -> Result<Vec<Vec<usize>>, AllocError>
+    ensures { IfOk result (λ found. map (λ group. group.items) found.items ≡
+        with_number apart number (map (λ group. group.items) groups.items)) }
+{
+    let mut groups = groups;
+    match groups.first_mut() {
+        Some(group) if !apart => group.insert(0, number)?,
+        _ => groups.insert(0, vec![in alloc; number]?)?,
+    }
+    Ok(groups)
+}
+
+/// The prerequisites of a name's rule lines, in groups.
+fn rule_groups(
+    alloc: Global,
+    table: &RuleTable<'_>,
+    met: &NameSet<'_>,
+    name: &str,
+) -> Result<Vec<Vec<usize>>, AllocError>
+    ensures { IfOk result (λ found. map (λ group. group.items) found.items ≡
+        numbered met.now (groups table.now.not_parallel (words_for table.now name.now))) }
+{
+    if table.not_parallel() {
+        let names = table.prerequisites_of(alloc, name)?;
+        return single_groups(alloc, met, &names);
+    }
+    let words = table.words_for(alloc, name)?;
+    cut_groups(alloc, met, &words)
+}
+
+/// The prerequisites of a name, in groups, an inferred one before the others.
+pub fn groups_with(
+    alloc: Global,
+    table: &RuleTable<'_>,
+    met: &NameSet<'_>,
+    choice: Option<&str>,
+    name: &str,
+) -> Result<Groups, AllocError>
+    ensures { IfOk result (λ found. found ≡
+        numbered met.now (with_choice table.now.not_parallel (option_map (λ name.
+        name.now) choice.entry) (groups table.now.not_parallel (words_for table.now name.now)))) }
+{
+    let groups = rule_groups(alloc, table, met, name)?;
+    let Some(inferred) = choice else {
+        return Ok(Groups::new(groups));
+    };
+    let number = met.number_of(inferred);
+    Ok(Groups::new(with_number(alloc, groups, table.not_parallel(), number)?))
+}

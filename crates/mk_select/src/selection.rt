@@ -1,0 +1,116 @@
+//! The graph of the names that goals reach.
+
+ghost use Rattle.std.specs.Prelude.{◌≡◌, find, map, IfOk};
+ghost use Rattle.std.specs.Option.{option_map};
+ghost use Rattle.mk_infer.specs.Selection.{Selects};
+ghost use Rattle.mk_select.specs.Walked.{lacks, node_with};
+ghost use Rattle.mk_infer.specs.Targets.{have_text};
+
+use crate::goals::Goals;
+use crate::groups::{groups_with, numbers};
+use crate::walk::{Met, walk_from};
+use mk_choice::Choices;
+use mk_graph::{Graph, GraphFault, MAX_NODES, Node};
+use mk_infer::InferFault;
+use mk_infer_laws::laws::handed_graph_is_sound;
+use mk_lines::{Name, NameSet};
+use mk_read::Command;
+use std::alloc::{AllocError, Global};
+
+/// Whether there are commands, of which one at least has some text.
+fn have_text(commands: Option<&[Command]>) -> bool
+    ensures { result ≡ have_text (option_map (λ commands. commands.now) commands.entry) }
+{
+    match commands {
+        Some(commands) => !commands.is_empty(),
+        None => false,
+    }
+}
+
+/// The node of a name that was met.
+fn node_of(
+    alloc: Global,
+    choices: &Choices<'_>,
+    names: &NameSet<'_>,
+    met: &Met<'_>,
+) -> Result<Node, AllocError>
+    ensures { IfOk result (λ node. node ≡ node_with choices.now.makefile names.now met.now) }
+{
+    let table = choices.table();
+    Ok(Node {
+        name: Name::new(alloc, met.name)?,
+        groups: groups_with(alloc, table, names, met.maker.choice, met.name)?,
+        recipe: have_text(met.maker.commands),
+        phony: table.is_phony(met.name),
+    })
+}
+
+/// The nodes of names that were met.
+fn nodes_of(
+    alloc: Global,
+    choices: &Choices<'_>,
+    names: &NameSet<'_>,
+    met: &[Met<'_>],
+) -> Result<Vec<Node>, AllocError>
+    ensures { IfOk result (λ nodes. nodes.items ≡
+        map (node_with choices.now.makefile names.now) met.now) }
+{
+    let mut nodes = Vec::new(alloc);
+    for one in met {
+        nodes.push(node_of(alloc, choices, names, one)?)?;
+    }
+    Ok(nodes)
+}
+
+/// Whether nothing makes a name: it is no target, has no inference rule, isn't phony and isn't
+/// given.
+fn is_lacking(choices: &Choices<'_>, met: &Met<'_>) -> bool
+    ensures { result ≡ lacks choices.now.makefile choices.now.exists met.now }
+{
+    let (table, exists) = (choices.table(), choices.exists());
+    !(exists.any_leaf
+        || table.target(met.name).is_some()
+        || met.maker.choice.is_some()
+        || table.is_phony(met.name)
+        || exists.is_given(met.name))
+}
+
+/// The first of the names that nothing makes.
+fn first_lacking<'m>(choices: &Choices<'_>, met: &[Met<'m>]) -> Option<&'m str>
+    ensures { option_map (λ name. name.now) result ≡ option_map (λ found. found.name)
+        (find (lacks choices.now.makefile choices.now.exists) met.now) }
+{
+    for one in met {
+        if is_lacking(choices, one) {
+            return Some(one.name);
+        }
+    }
+    None
+}
+
+/// The graph of what the goals reach, with the inference rules that are chosen.
+///
+/// Faults as a walk depth first, left to right, from the goals meets them: 41 for a name that is no
+/// target, has no inference rule, isn't phony and isn't given, 43 at the 4,097th name, before 41.
+/// Then 42 where prerequisites form a cycle (IEEE Std 1003.1-2024, XCU make, "Target Rules" and
+/// "Inference Rules"). What a name needs is looked up once.
+pub fn select<'m>(
+    alloc: Global,
+    choices: &'m Choices<'m>,
+    goals: &'m Goals,
+) -> Result<Graph, InferFault>
+    ensures { Selects choices.now.makefile choices.now.exists goals.now result }
+{
+    handed_graph_is_sound();
+    let goals = goals.texts(alloc)?;
+    let walked = walk_from(alloc, choices, &goals)?;
+    if let Some(name) = first_lacking(choices, &walked.met) {
+        return Err(InferFault::NoRule(Name::new(alloc, name)?));
+    }
+    if walked.names.as_slice().len() > MAX_NODES {
+        return Err(InferFault::Graph(GraphFault::TooManyNodes));
+    }
+    let nodes = nodes_of(alloc, choices, &walked.names, &walked.met)?;
+    let goals = numbers(alloc, &walked.names, &goals)?;
+    Ok(Graph::build(alloc, nodes, goals)?)
+}

@@ -1,5 +1,0 @@
-mod EndingLemmas
-mod ReaderLemmas
-mod RunLemmas
-mod PlainWords
-mod NumberLemmas

@@ -1,5 +1,0 @@
-pub mod CommandLine
-pub mod Asked
-pub mod Run
-pub mod Ending
-pub mod Reading
