@@ -4,16 +4,17 @@ ghost use Rattle.std.specs.Prelude.{◌≡◌, ◌↔◌, ℕ, [], true, slice_i
 ghost use Rattle.mk_lines.specs.Names.{has_name};
 ghost use Rattle.mk_graph.specs.Membership.{Has};
 ghost use Rattle.mk_graph.specs.Setting.{Needs};
-ghost use Rattle.mk_graph.specs.Ways.{CanChange};
 ghost use Rattle.mk_cert.specs.Subject.{footprints, name_of};
 ghost use Rattle.mk_cert.specs.Conditions.{IsRecipe};
 ghost use Rattle.mk_cert.specs.Paths.{EndsAt};
 ghost use Rattle.mk_cert.specs.Verdict.{IsGood, NeedsWay};
 ghost use Rattle.mk_cert.specs.Links.{AreEnds, AreLinks};
+ghost use Rattle.mk_cert.specs.Target.{target_of};
 ghost use Rattle.mk_cert.specs.Walking.{GoesOver, Leads};
 
 use crate::links::{Ends, Links};
 use crate::subject::Subject;
+use crate::target::{Target, can_change, target_of};
 use crate::writer_findings::has_number;
 use mk_graph::NodeSet;
 use mk_graph::growth_laws::names_have_one_number;
@@ -87,21 +88,16 @@ fn last_over(
     Some(last)
 }
 
-/// Whether a file can change.
-pub fn can_change(subject: &Subject<'_>, file: &str) -> bool
-    ensures { (result ≡ true) ↔ CanChange (footprints subject.now.setting) file.now }
-{
-    subject.setting().is_editable(file) || !subject.setting().is_given(file)
-}
-
 /// Whether a file is a direct prerequisite of a node.
-fn needs(subject: &Subject<'_>, ends: &Ends<'_>, number: usize, file: &str) -> bool
-    requires { AreEnds subject.now ends.now.names ends.now.needed.items ends.now.always.items }
-    ensures { (result ≡ true) ↔ Needs subject.now.graph number file.now }
+fn needs(subject: &Subject<'_>, ends: &Ends<'_>, number: usize, file: &Target<'_>) -> bool
+    requires ends { AreEnds subject.now ends.now.names ends.now.needed.items
+        ends.now.always.items }
+    requires file { file.now ≡ target_of subject.now ends.now.names file.now.file }
+    ensures { (result ≡ true) ↔ Needs subject.now.graph number file.now.file }
 {
     names_have_one_number();
     let _graph = subject.graph();
-    has_at(&ends.needed, number, ends.names.number_of(file))
+    has_at(&ends.needed, number, file.number)
 }
 
 /// Whether a path to a file may end so at a recipe. A file has one writer where nothing was found,
@@ -109,21 +105,21 @@ fn needs(subject: &Subject<'_>, ends: &Ends<'_>, number: usize, file: &str) -> b
 pub fn ends_at(
     subject: &Subject<'_>,
     ends: &Ends<'_>,
-    file: &str,
+    file: &Target<'_>,
     finish: Finish,
     number: usize,
 ) -> bool
-    requires { AreEnds subject.now ends.now.names ends.now.needed.items ends.now.always.items }
-    ensures { (result ≡ true) ↔ EndsAt subject.now.graph (footprints subject.now.setting) file.now
-        finish number }
+    requires ends { AreEnds subject.now ends.now.names ends.now.needed.items
+        ends.now.always.items }
+    requires file { file.now ≡ target_of subject.now ends.now.names file.now.file }
+    ensures { (result ≡ true) ↔ EndsAt subject.now.graph (footprints subject.now.setting)
+        file.now.file finish number }
 {
     serial_reaches_each_once();
     let _graph = subject.graph();
     match finish {
-        Finish::Written => has_number(subject.writers(file), number),
-        Finish::Source => {
-            subject.setting().is_editable(file) && needs(subject, ends, number, file)
-        }
+        Finish::Written => has_number(file.writers, number),
+        Finish::Source => file.editable && needs(subject, ends, number, file),
         Finish::Always => ends.always.get(number) == Some(&true),
     }
 }
@@ -151,7 +147,8 @@ fn leads(subject: &Subject<'_>, links: &Links<'_>, start: usize, others: &[Name]
     if others.is_empty() && way.finish == Finish::Written {
         return false;
     }
-    ends_at(subject, &links.ends, way.file.as_str(), way.finish, last)
+    let file = target_of(subject, &links.ends, way.file.as_str());
+    ends_at(subject, &links.ends, &file, way.finish, last)
 }
 
 /// The number of the recipe of an entry, where the entry is good.

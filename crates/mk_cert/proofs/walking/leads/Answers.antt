@@ -8,6 +8,7 @@ use Rattle.mk_ways.specs.declared.certificate.Finish.{Finish}
 use Rattle.mk_ways.specs.declared.certificate.Finish.TheVariants.{Written}
 use Rattle.mk_cert.specs.Subject.{footprints}
 use Rattle.mk_cert.specs.Paths.{EndsAt}
+use Rattle.mk_cert.specs.Target.{Target}
 use Rattle.mk_cert.proofs.Walks.{one_end}
 use Rattle.mk_cert.proofs.walking.leads.Goals as goal
 use Rattle.mk_cert.proofs.walking.leads.Goals.{else-is_empty-via-then-is_empty+else-eq, else-is_empty-via-else-is_empty}
@@ -20,7 +21,7 @@ returns c =
     let g = x.graph in
     let s = footprints x.setting in
     let finish : c.way.inside.finish ≡ w.finish = ap (λ (v : Way). v.finish) c.way.view_is in
-    let file : c.as_str.result.now ≡ w.file = c.as_str.ensures ∙ ap (λ (v : Way). v.file) c.way.view_is in
+    let file : c.target_of-file.result.file ≡ w.file = ap (λ (v : Target). v.file) c.target_of-file.ensures ∙ (c.as_str.ensures ∙ ap (λ (v : Way). v.file) c.way.view_is) in
     let others : w.finish ≡ Written → ¬ (names ≡ []) =
     elim c.else-is_empty.branch [
       | else-is_empty-via-then-is_empty+else-eq k ↦ λ written none.
