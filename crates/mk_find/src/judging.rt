@@ -15,6 +15,7 @@ ghost use Rattle.mk_find.specs.Certifying.{AddsEntries, AreEntriesFor, IsEntryFo
 use crate::certifying::entry_along;
 use crate::stale::note_stale;
 use crate::standing::{Standing, standing_of};
+use mk_cert::laws::{listed_exactly, paths_are_ways};
 use mk_cert::{Ends, Entry, Finding, Subject, carried_lists, ends_of};
 use mk_foot::laws::once_keeps_first;
 use mk_graph::Groups;
@@ -49,6 +50,8 @@ fn judge_read(
         (λ way. Needs subject.now (record { recipe = entry.now.number; file = file.now }) ×
         IsEntryFor subject.now (record { recipe = entry.now.number; file = file.now }) way)) }
 {
+    listed_exactly();
+    paths_are_ways();
     match standing_of(alloc, subject, ends, search, file)? {
         Standing::Fixed => Ok(None),
         Standing::Led(path) if found.is_empty() => {

@@ -63,13 +63,13 @@ loop-file-preserved-then-not-branch c =
     let files = c.reads-files.result.now in
     let i = c.loop-file.file-index in
     let f = c.as_str.result.now in
-    let f2 = c.as_str-2.result.now in
-    let same : f2 ≡ f = c.as_str-2.ensures.value ∙ sym c.as_str.ensures.value in
+    let f2 = c.as_str-in-loop-file.result.now in
+    let same : f2 ≡ f = c.as_str-in-loop-file.ensures.value ∙ sym c.as_str.ensures.value in
     let before = map string_bytes (take i files) in
     let lt : i < length files = omega arith in
     let low : i < length (map string_bytes files) = omega (arith, length-map files string_bytes) in
     let is : get_or (map string_bytes files) i [] ≡ f = get_or-map string_bytes files i c.file-item.result [] lt ∙ (ap string_bytes (sym c.file-item.is) ∙ sym c.as_str.ensures.value) in
-    let after : map string_bytes (take (i + 1) files) ≡ before ++ f2 ∷ [] = ap (map string_bytes) (take_more files i c.file-item.result lt) ∙ (map_push string_bytes (take i files) (get_or files i c.file-item.result) ∙ ap (λ (g : List ℕ). before ++ g ∷ []) (ap string_bytes (sym c.file-item.is) ∙ sym c.as_str-2.ensures.value)) in
+    let after : map string_bytes (take (i + 1) files) ≡ before ++ f2 ∷ [] = ap (map string_bytes) (take_more files i c.file-item.result lt) ∙ (map_push string_bytes (take i files) (get_or files i c.file-item.result) ∙ ap (λ (g : List ℕ). before ++ g ∷ []) (ap string_bytes (sym c.file-item.is) ∙ sym c.as_str-in-loop-file.ensures.value)) in
     let inv = c.loop-file.invariant in
     let added = c.in_ok-way.ensures.found in
     let has : has_name c.loop-file.seen f2 ≡ true = was_true (has_name c.loop-file.seen f2) (sym c.in_ok-insert.ensures.new ∙ c.if-not-branch.true) in (
@@ -86,25 +86,25 @@ loop-file-preserved c =
     let files = c.reads-files.result.now in
     let i = c.loop-file.file-index in
     let f = c.as_str.result.now in
-    let f2 = c.as_str-2.result.now in
-    let same : f2 ≡ f = c.as_str-2.ensures.value ∙ sym c.as_str.ensures.value in
+    let f2 = c.as_str-in-loop-file.result.now in
+    let same : f2 ≡ f = c.as_str-in-loop-file.ensures.value ∙ sym c.as_str.ensures.value in
     let before = map string_bytes (take i files) in
     let lt : i < length files = omega arith in
     let low : i < length (map string_bytes files) = omega (arith, length-map files string_bytes) in
     let is : get_or (map string_bytes files) i [] ≡ f = get_or-map string_bytes files i c.file-item.result [] lt ∙ (ap string_bytes (sym c.file-item.is) ∙ sym c.as_str.ensures.value) in
-    let after : map string_bytes (take (i + 1) files) ≡ before ++ f2 ∷ [] = ap (map string_bytes) (take_more files i c.file-item.result lt) ∙ (map_push string_bytes (take i files) (get_or files i c.file-item.result) ∙ ap (λ (g : List ℕ). before ++ g ∷ []) (ap string_bytes (sym c.file-item.is) ∙ sym c.as_str-2.ensures.value)) in
+    let after : map string_bytes (take (i + 1) files) ≡ before ++ f2 ∷ [] = ap (map string_bytes) (take_more files i c.file-item.result lt) ∙ (map_push string_bytes (take i files) (get_or files i c.file-item.result) ∙ ap (λ (g : List ℕ). before ++ g ∷ []) (ap string_bytes (sym c.file-item.is) ∙ sym c.as_str-in-loop-file.ensures.value)) in
     let inv = c.loop-file.invariant in
     let added = c.in_ok-way.ensures.found in
     let lacks : has_name c.loop-file.seen f2 ≡ false = was_false (has_name c.loop-file.seen f2) (sym c.in_ok-insert.ensures.new ∙ c.if-not-branch.false) in
     let old = c.loop-file.ways.items in
-    let step : c.judge_read.new.found.items ≡ [] → AddsEntries x (record { recipe = t; file = f } ∷ []) old c.match-branch.ways.items = λ none.
-        let found = c.in_ok-way.ensures.way none in
-        elim c.match-branch.branch [ in-Some+in_ok-push w ↦ rw w.ways-is (let m = subst (λ (o : Option Way). MatchOption o (¬ (Needs x (record { recipe = t; file = f }))) (λ way. Needs x (record { recipe = t; file = f }) × IsEntryFor x (record { recipe = t; file = f }) way)) w.in-Some.is found in adds_entry x (record { recipe = t; file = f }) w.in-Some.way old w.push.new.self.items m.0 m.1 w.in_ok-push.ensures.items) | in_default w ↦ rw w.ways-is (adds_no_entry x (record { recipe = t; file = f }) old (subst (λ (o : Option Way). MatchOption o (¬ (Needs x (record { recipe = t; file = f }))) (λ way. Needs x (record { recipe = t; file = f }) × IsEntryFor x (record { recipe = t; file = f }) way)) w.in_default.is found)) ] in
+    let step : c.judge_read.new.found.items ≡ [] → AddsEntries x (record { recipe = t; file = f } ∷ []) old c.match-way-3.ways.items = λ none.
+    let found = c.in_ok-way.ensures.way none in
+    elim c.match-way-3.branch [ in-Some+in_ok-push w ↦ rw w.ways-is (let m = subst (λ (o : Option Way). MatchOption o (¬ (Needs x (record { recipe = t; file = f }))) (λ way. Needs x (record { recipe = t; file = f }) × IsEntryFor x (record { recipe = t; file = f }) way)) w.in-Some.is found in adds_entry x (record { recipe = t; file = f }) w.in-Some.way old w.push.new.self.items m.0 m.1 w.in_ok-push.ensures.items) | in_default w ↦ rw w.ways-is (adds_no_entry x (record { recipe = t; file = f }) old (subst (λ (o : Option Way). MatchOption o (¬ (Needs x (record { recipe = t; file = f }))) (λ way. Needs x (record { recipe = t; file = f }) × IsEntryFor x (record { recipe = t; file = f }) way)) w.in_default.is found)) ] in
     let reads : reads_of_files t (once before) ++ record { recipe = t; file = f } ∷ [] ≡ reads_of_files t (once (map string_bytes (take (i + 1) files))) = sym (map_push (λ g. record { recipe = t; file = g }) (once before) f) ∙ ap (reads_of_files t) (ap (λ (g : List ℕ). once before ++ g ∷ []) (sym same) ∙ (sym (once_new c.once_keeps_first.ensures before f2 c.loop-file.seen inv.2 lacks) ∙ ap once (sym after))) in (
       c.in_ok-way.ensures.same ∙ inv.0,
       leads_map x (λ g. stale t g) (map string_bytes files) i [] _ c.loop-file.found.items c.judge_read.new.found.items c.args.found.now.items low inv.1 (subst (λ (g : List ℕ). Adds x (stale t g ∷ []) c.loop-file.found.items c.judge_read.new.found.items) (sym is) added),
       once_step c.once_keeps_first.ensures before f2 c.loop-file.seen c.insert.new.self inv.2 c.in_ok-insert.ensures.ok ∙ ap once (sym after),
-      λ none. subst (λ (l : List Read). AddsEntries x l c.args.ways.now.items c.match-branch.ways.items) reads (adds_more_entries x (reads_of_files t (once before)) (record { recipe = t; file = f } ∷ []) c.args.ways.now.items old c.match-branch.ways.items (inv.3 (nothing_before x (stale t f ∷ []) c.loop-file.found.items c.judge_read.new.found.items added none)) (step none)),
+      λ none. subst (λ (l : List Read). AddsEntries x l c.args.ways.now.items c.match-way-3.ways.items) reads (adds_more_entries x (reads_of_files t (once before)) (record { recipe = t; file = f } ∷ []) c.args.ways.now.items old c.match-way-3.ways.items (inv.3 (nothing_before x (stale t f ∷ []) c.loop-file.found.items c.judge_read.new.found.items added none)) (step none)),
     )
 
 pub returns-clause-found : goal.returns-clause-found

@@ -1,7 +1,6 @@
 -- The recipe is a node that doesn't write what it reads.
-use Rattle.std.proofs.Common.{◌≡◌, ℕ, refl, sym, subst}
+use Rattle.std.proofs.Common.{◌≡◌, refl, sym, subst}
 use Rattle.mk_cert.specs.Target.{Target, target_of}
-use Rattle.mk_find.proofs.Noting.{reader_low, reader_writes_not, no_path_stale}
 use Rattle.mk_find.proofs.standing.standing_of.Goals as goal
 
 pub first_path-requires-clause-file : goal.first_path-requires-clause-file
