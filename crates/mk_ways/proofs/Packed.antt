@@ -1,0 +1,92 @@
+-- Names that stand one behind another in one text.
+use Rattle.std.proofs.Common.{◌≡◌, ℕ, zero, suc, ◌+◌, ◌-◌, ◌<◌, ◌≤◌, true, List, [], ◌∷◌, ◌++◌, length, get_or, take, drop, arith, refl, sym, ap, subst, ◌∙◌, append_assoc, append-nil, length-append, take-append-drop}
+use Rattle.std.specs.List.{concat, list_all, slice_range}
+use Rattle.std.specs.Str.{IsUtf8, is_utf8, IsCharBoundary}
+use Rattle.std.proofs.Math.Seq.{drop-append_seam, take-append_seam}
+use Rattle.std.proofs.lemmas.Bool.{and_parts, and_from}
+use Rattle.std.proofs.lemmas.List.{drop_more}
+use Rattle.std.proofs.lemmas.List.Folds.{list_all-append}
+use Rattle.std.proofs.lemmas.Str.{IsUtf8-append, IsUtf8-nil, IsUtf8-from_is_utf8, is_utf8-from_IsUtf8, IsCharBoundary-at_seam}
+use Rattle.mk_ways.specs.Packing.{cut_from, ends_from, IsCut}
+
+pub concat-append : (xs ys : List (List ℕ)) → concat (xs ++ ys) ≡ concat xs ++ concat ys
+concat-append [] ys = refl
+concat-append (x ∷ xs) ys = ap (λ (l : List ℕ). x ++ l) (concat-append xs ys) ∙ sym (append_assoc x (concat xs) (concat ys))
+
+-- the piece of a text that stands between two others
+pub piece_at : (s : ℕ) (before piece after text : List ℕ) → length before ≡ s → text ≡ before ++ (piece ++ after) → slice_range text s (s + length piece) ≡ piece
+piece_at s before piece after text at is =
+    let rest : drop s text ≡ piece ++ after = ap (drop s) is ∙ (ap (λ n. drop n (before ++ (piece ++ after))) (sym at) ∙ drop-append_seam before (piece ++ after)) in
+    let long : (s + length piece) - s ≡ length piece = omega arith in
+    ap (λ n. take n (drop s text)) long ∙ (ap (take (length piece)) rest ∙ take-append_seam piece after)
+
+-- names are cut out of the text in which they stand
+pub cut_back : (names : List (List ℕ)) (s : ℕ) (before after text : List ℕ) → length before ≡ s → text ≡ before ++ (concat names ++ after) → cut_from s (ends_from s names) text ≡ names
+cut_back [] s before after text at is = refl
+cut_back (name ∷ names) s before after text at is =
+    let first : text ≡ before ++ (name ++ (concat names ++ after)) = is ∙ ap (λ (l : List ℕ). before ++ l) (append_assoc name (concat names) after) in
+    let here : slice_range text s (s + length name) ≡ name = piece_at s before name (concat names ++ after) text at first in
+    let more : cut_from (s + length name) (ends_from (s + length name) names) text ≡ names = cut_back names (s + length name) (before ++ name) after text (length-append before name ∙ ap (λ n. n + length name) at) (first ∙ sym (append_assoc before name (concat names ++ after))) in
+    ap (λ (l : List ℕ). l ∷ cut_from (s + length name) (ends_from (s + length name) names) text) here ∙ ap (λ (l : List (List ℕ)). name ∷ l) more
+
+-- what holds of a text, if these names are all of it
+pub cut_names : (names : List (List ℕ)) (ends text : List ℕ) → ends_from 0 names ≡ ends → concat names ≡ text → cut_from 0 ends text ≡ names
+cut_names names ends text places whole =
+    ap (λ (l : List ℕ). cut_from 0 l text) (sym places) ∙ cut_back names 0 [] [] text refl (sym whole ∙ sym (append-nil (concat names)))
+
+pub is_cut : (names : List (List ℕ)) (ends text : List ℕ) → ends_from 0 names ≡ ends → concat names ≡ text → list_all is_utf8 names ≡ true → IsCut ends text
+is_cut names ends text places whole texts =
+    let same = sym (cut_names names ends text places whole) in
+    record {
+      whole = subst (λ (l : List (List ℕ)). concat l ≡ text) same whole;
+      places = subst (λ (l : List (List ℕ)). ends_from 0 l ≡ ends) same places;
+      texts = subst (λ (l : List (List ℕ)). list_all is_utf8 l ≡ true) same texts;
+    }
+
+-- how many there are
+pub length-ends : (names : List (List ℕ)) (s : ℕ) → length (ends_from s names) ≡ length names
+length-ends [] s = refl
+length-ends (name ∷ names) s = ap suc (length-ends names (s + length name))
+
+-- one more at the end
+ends_more : (names : List (List ℕ)) (name : List ℕ) (s : ℕ) → ends_from s (names ++ name ∷ []) ≡ ends_from s names ++ (s + length (concat names ++ name)) ∷ []
+ends_more [] name s = refl
+ends_more (first ∷ names) name s =
+    let long : (s + length first) + length (concat names ++ name) ≡ s + length ((first ++ concat names) ++ name) = omega (arith, length-append (first ++ concat names) name, length-append first (concat names), length-append (concat names) name) in
+    ap (λ (l : List ℕ). (s + length first) ∷ l) (ends_more names name (s + length first) ∙ ap (λ n. ends_from (s + length first) names ++ n ∷ []) long)
+
+-- where the name at a place begins
+begins_from : (names : List (List ℕ)) (s i : ℕ) → i ≤ length names → get_or (s ∷ ends_from s names) i 0 ≡ s + length (concat (take i names))
+begins_from names s zero low = sym (omega arith)
+begins_from [] s (suc i) low = absurd (omega arith)
+begins_from (name ∷ names) s (suc i) low =
+    begins_from names (s + length name) i (omega arith) ∙ omega (arith, length-append name (concat (take i names)))
+
+all_utf8 : (names : List (List ℕ)) → list_all is_utf8 names ≡ true → IsUtf8 (concat names)
+all_utf8 [] texts = IsUtf8-nil
+all_utf8 (name ∷ names) texts =
+    let both = and_parts (is_utf8 name) (list_all is_utf8 names) texts in
+    IsUtf8-append name (concat names) (IsUtf8-from_is_utf8 name both.0) (all_utf8 names both.1)
+
+-- a name is pushed
+module _ (ends text : List ℕ) (is : IsCut ends text) where
+  pushed_names : List ℕ → List (List ℕ)
+  pushed_names name = cut_from 0 ends text ++ name ∷ []
+
+  pushed_whole : (name : List ℕ) → concat (pushed_names name) ≡ text ++ name
+  unfolding pushed_names
+  pushed_whole name = concat-append (cut_from 0 ends text) (name ∷ []) ∙ (ap (λ (l : List ℕ). concat (cut_from 0 ends text) ++ l) (append-nil name) ∙ ap (λ (l : List ℕ). l ++ name) is.whole)
+
+  pushed_places : (name : List ℕ) → ends_from 0 (pushed_names name) ≡ ends ++ length (text ++ name) ∷ []
+  unfolding pushed_names
+  pushed_places name =
+      ends_more (cut_from 0 ends text) name 0 ∙ (ap (λ (l : List ℕ). l ++ (0 + length (concat (cut_from 0 ends text) ++ name)) ∷ []) is.places ∙ ap (λ n. ends ++ n ∷ []) (omega (arith, ap (λ (l : List ℕ). length (l ++ name)) is.whole)))
+
+  pub pushed_cut : (name : List ℕ) → IsUtf8 name → IsCut (ends ++ length (text ++ name) ∷ []) (text ++ name)
+  unfolding pushed_names
+  pushed_cut name utf8 =
+      is_cut (pushed_names name) _ _ (pushed_places name) (pushed_whole name) (list_all-append is_utf8 (cut_from 0 ends text) (name ∷ []) ∙ and_from _ _ is.texts (and_from _ _ (is_utf8-from_IsUtf8 name utf8) refl))
+
+  pub pushed : (name : List ℕ) → cut_from 0 (ends ++ length (text ++ name) ∷ []) (text ++ name) ≡ cut_from 0 ends text ++ name ∷ []
+  unfolding pushed_names
+  pushed name = cut_names (pushed_names name) _ _ (pushed_places name) (pushed_whole name)
