@@ -1,10 +1,10 @@
 -- Names that stand one behind another in one text.
-use Rattle.std.proofs.Common.{◌≡◌, ℕ, zero, suc, ◌+◌, ◌-◌, ◌<◌, ◌≤◌, true, List, [], ◌∷◌, ◌++◌, length, get_or, take, drop, arith, refl, sym, ap, subst, ◌∙◌, append_assoc, append-nil, length-append, take-append-drop}
+use Rattle.std.proofs.Common.{◌≡◌, ℕ, zero, suc, ◌+◌, ◌-◌, ◌<◌, ◌≤◌, true, List, [], ◌∷◌, ◌++◌, length, get_or, take, drop, arith, refl, sym, ap, subst, ◌∙◌, add-one, append_assoc, append-nil, length-append, take-append-drop}
 use Rattle.std.specs.List.{concat, list_all, slice_range}
 use Rattle.std.specs.Str.{IsUtf8, is_utf8, IsCharBoundary}
 use Rattle.std.proofs.Math.Seq.{drop-append_seam, take-append_seam}
 use Rattle.std.proofs.lemmas.Bool.{and_parts, and_from}
-use Rattle.std.proofs.lemmas.List.{drop_more}
+use Rattle.std.proofs.lemmas.List.{drop_more, take_more}
 use Rattle.std.proofs.lemmas.List.Folds.{list_all-append}
 use Rattle.std.proofs.lemmas.Str.{IsUtf8-append, IsUtf8-nil, IsUtf8-from_is_utf8, is_utf8-from_IsUtf8, IsCharBoundary-at_seam}
 use Rattle.mk_ways.specs.Packing.{cut_from, ends_from, IsCut}
@@ -90,3 +90,73 @@ module _ (ends text : List ℕ) (is : IsCut ends text) where
   pub pushed : (name : List ℕ) → cut_from 0 (ends ++ length (text ++ name) ∷ []) (text ++ name) ≡ cut_from 0 ends text ++ name ∷ []
   unfolding pushed_names
   pushed name = cut_names (pushed_names name) _ _ (pushed_places name) (pushed_whole name)
+
+pub counted : (ends text : List ℕ) → IsCut ends text → length ends ≡ length (cut_from 0 ends text)
+counted ends text is = ap length (sym is.places) ∙ length-ends (cut_from 0 ends text) 0
+
+-- the name at a place
+module _ (ends text : List ℕ) (is : IsCut ends text) (i : ℕ) (low : i < length (cut_from 0 ends text)) where
+  names : List (List ℕ)
+  names = cut_from 0 ends text
+
+  name : List ℕ
+  name = get_or (cut_from 0 ends text) i []
+
+  before : List ℕ
+  before = concat (take i (cut_from 0 ends text))
+
+  after : List ℕ
+  after = concat (drop (i + 1) (cut_from 0 ends text))
+
+  split : cut_from 0 ends text ≡ take i (cut_from 0 ends text) ++ get_or (cut_from 0 ends text) i [] ∷ drop (i + 1) (cut_from 0 ends text)
+  split =
+      let v = cut_from 0 ends text in
+      sym (take-append-drop i v) ∙ ap (λ (l : List (List ℕ)). take i v ++ l) (drop_more v i [] low)
+
+  parts : text ≡ before ++ (name ++ after)
+  unfolding before name after
+  parts =
+      let v = cut_from 0 ends text in
+      sym is.whole ∙ (ap concat split ∙ concat-append (take i v) (get_or v i [] ∷ drop (i + 1) v))
+
+  rest_utf8 : IsUtf8 (name ++ after)
+  unfolding name after
+  rest_utf8 =
+      let v = cut_from 0 ends text in
+      let all = sym (list_all-append is_utf8 (take i v) (get_or v i [] ∷ drop (i + 1) v)) ∙ (sym (ap (list_all is_utf8) split) ∙ is.texts) in
+      all_utf8 (get_or v i [] ∷ drop (i + 1) v) (and_parts _ _ all).1
+
+  after_utf8 : IsUtf8 after
+  unfolding after
+  after_utf8 =
+      let v = cut_from 0 ends text in
+      let all = sym (list_all-append is_utf8 (take i v) (get_or v i [] ∷ drop (i + 1) v)) ∙ (sym (ap (list_all is_utf8) split) ∙ is.texts) in
+      all_utf8 (drop (i + 1) v) (and_parts _ _ (and_parts _ _ all).1).1
+
+  pub place_low : i < length ends
+  place_low = omega (arith, low, counted ends text is)
+
+  begins : get_or (0 ∷ ends) i 0 ≡ length before
+  unfolding before
+  begins = ap (λ (l : List ℕ). get_or (0 ∷ l) i 0) (sym is.places) ∙ (begins_from (cut_from 0 ends text) 0 i (omega (arith, low)) ∙ omega arith)
+
+  ends_at : get_or ends i 0 ≡ length before + length name
+  unfolding before name
+  ends_at =
+      let v = cut_from 0 ends text in
+      let next : get_or (0 ∷ ends) (suc i) 0 ≡ 0 + length (concat (take (suc i) v)) = ap (λ (l : List ℕ). get_or (0 ∷ l) (suc i) 0) (sym is.places) ∙ begins_from v 0 (suc i) (omega (arith, low)) in
+      let taken : concat (take (i + 1) v) ≡ concat (take i v) ++ get_or v i [] = ap concat (take_more v i [] low) ∙ (concat-append (take i v) (get_or v i [] ∷ []) ∙ ap (λ (l : List ℕ). concat (take i v) ++ l) (append-nil (get_or v i []))) in
+      omega (arith, next, ap length taken, length-append (concat (take i v)) (get_or v i []), ap (λ n. length (concat (take n v))) (add-one i))
+
+  pub in_order : get_or (0 ∷ ends) i 0 ≤ get_or ends i 0
+  in_order = omega (arith, begins, ends_at)
+
+  pub start_boundary : IsCharBoundary text (get_or (0 ∷ ends) i 0)
+  start_boundary = rw begins (IsCharBoundary-at_seam text before (name ++ after) parts rest_utf8)
+
+  pub end_boundary : IsCharBoundary text (get_or ends i 0)
+  end_boundary = rw (ends_at, ← length-append before name) (IsCharBoundary-at_seam text (before ++ name) after (parts ∙ sym (append_assoc before name after)) after_utf8)
+
+  pub cut : slice_range text (get_or (0 ∷ ends) i 0) (get_or ends i 0) ≡ get_or (cut_from 0 ends text) i []
+  unfolding name
+  cut = rw (begins, ends_at) (piece_at (length before) before name after text refl parts)
