@@ -50,10 +50,7 @@ fn next_name<'a>(
 }
 
 /// A name with a copy of the text, where there is one.
-fn copy_of(
-    alloc: Global,
-    name: Result<&str, CertificateFault>,
-) -> Result<Name, CertificateFault>
+fn copy_of(alloc: Global, name: Result<&str, CertificateFault>) -> Result<Name, CertificateFault>
     ensures { (defined : Result (List ℕ) CertificateFault) →
         Gives (λ name. name.now) name.entry defined → Gives (λ name. name) result defined }
 {

@@ -1,7 +1,6 @@
-use Rattle.std.proofs.Common.{◌≡◌, Bool, true, not, ◌∷◌, ◌++◌, [], ℕ, List, length, string_bytes, arith, refl, sym, ap, subst, ◌∙◌}
+use Rattle.std.proofs.Common.{◌≡◌, true, not, ◌∷◌, ◌++◌, [], length, string_bytes, arith, ap, ◌∙◌}
 use Rattle.std.specs.Prelude.{is_ok}
 use Rattle.std.proofs.lemmas.Str.{IsCharBoundary-at_seam}
-use Rattle.mk_ways.specs.Packing.{IsCut, cut_from}
 use Rattle.mk_ways.proofs.Packed.{pushed, pushed_cut}
 use Rattle.mk_ways.proofs.packed_names.PackedNames.push.Goals as goal
 
