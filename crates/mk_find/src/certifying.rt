@@ -17,9 +17,9 @@ use crate::judging::judge_all;
 use mk_cert::laws::{carried_exactly, list_is_one, nothing_found_is_sound, paths_are_ways};
 use mk_cert::{Ends, Entry, Subject, can_change};
 use mk_foot::laws::once_keeps_first;
-use mk_lines::{Name, NameSet, Names};
+use mk_lines::{Name, NameSet};
 use mk_search::Search;
-use mk_ways::{Certificate, Way};
+use mk_ways::{Certificate, PackedNames, Way};
 use std::alloc::{AllocError, Global};
 
 /// The names of nodes.
@@ -27,15 +27,16 @@ pub(crate) fn names_of(
     alloc: Global,
     subject: &Subject<'_>,
     nodes: &[usize],
-) -> Result<Names, AllocError>
+) -> Result<PackedNames, AllocError>
     requires { (n : ℕ) → Has nodes.now n → n < length subject.now.graph.nodes }
     ensures { IfOk result (λ names. names ≡ map (name_of subject.now) nodes.now) }
 {
-    let mut names = Vec::with_capacity(alloc, nodes.len())?;
+    let mut names = PackedNames::new(alloc);
     for node in nodes {
-        names.push(subject.copy_of_name(*node)?)?;
+        names.push(subject.name(*node))?;
     }
-    Ok(Names::new(names))
+    names.shrink_to_fit();
+    Ok(names)
 }
 
 /// The entry for a read which isn't stale, where it needs a way.
