@@ -7,7 +7,7 @@ use Rattle.std.proofs.lemmas.Bool.{and_parts, and_from}
 use Rattle.std.proofs.lemmas.List.{drop_more, take_more}
 use Rattle.std.proofs.lemmas.List.Folds.{list_all-append}
 use Rattle.std.proofs.lemmas.Str.{IsUtf8-append, IsUtf8-nil, IsUtf8-from_is_utf8, is_utf8-from_IsUtf8, IsCharBoundary-at_seam}
-use Rattle.mk_ways.specs.Packing.{cut_from, ends_from, IsCut}
+use Rattle.mk_ways.specs.Packing.{cut_from, ends_from, IsPacked}
 
 pub concat-append : (xs ys : List (List ℕ)) → concat (xs ++ ys) ≡ concat xs ++ concat ys
 concat-append [] ys = refl
@@ -34,8 +34,8 @@ pub cut_names : (names : List (List ℕ)) (ends text : List ℕ) → ends_from 0
 cut_names names ends text places whole =
     ap (λ (l : List ℕ). cut_from 0 l text) (sym places) ∙ cut_back names 0 [] [] text refl (sym whole ∙ sym (append-nil (concat names)))
 
-pub is_cut : (names : List (List ℕ)) (ends text : List ℕ) → ends_from 0 names ≡ ends → concat names ≡ text → list_all is_utf8 names ≡ true → IsCut ends text
-is_cut names ends text places whole texts =
+pub is_packed : (names : List (List ℕ)) (ends text : List ℕ) → ends_from 0 names ≡ ends → concat names ≡ text → list_all is_utf8 names ≡ true → IsPacked ends text
+is_packed names ends text places whole texts =
     let same = sym (cut_names names ends text places whole) in
     record {
       whole = subst (λ (l : List (List ℕ)). concat l ≡ text) same whole;
@@ -69,33 +69,35 @@ all_utf8 (name ∷ names) texts =
     IsUtf8-append name (concat names) (IsUtf8-from_is_utf8 name both.0) (all_utf8 names both.1)
 
 -- a name is pushed
-module _ (ends text : List ℕ) (is : IsCut ends text) where
-  pushed_names : List ℕ → List (List ℕ)
-  pushed_names name = cut_from 0 ends text ++ name ∷ []
+module _ (ends text : List ℕ) (is : IsPacked ends text) (name : List ℕ) (place : ℕ) (new_ends new_text : List ℕ) (grown : new_text ≡ text ++ name) (at_end : place ≡ length new_text) (more : new_ends ≡ ends ++ place ∷ []) where
+  pushed_names : List (List ℕ)
+  pushed_names = cut_from 0 ends text ++ name ∷ []
 
-  pushed_whole : (name : List ℕ) → concat (pushed_names name) ≡ text ++ name
+  pushed_whole : concat pushed_names ≡ new_text
   unfolding pushed_names
-  pushed_whole name = concat-append (cut_from 0 ends text) (name ∷ []) ∙ (ap (λ (l : List ℕ). concat (cut_from 0 ends text) ++ l) (append-nil name) ∙ ap (λ (l : List ℕ). l ++ name) is.whole)
+  pushed_whole = concat-append (cut_from 0 ends text) (name ∷ []) ∙ (ap (λ (l : List ℕ). concat (cut_from 0 ends text) ++ l) (append-nil name) ∙ (ap (λ (l : List ℕ). l ++ name) is.whole ∙ sym grown))
 
-  pushed_places : (name : List ℕ) → ends_from 0 (pushed_names name) ≡ ends ++ length (text ++ name) ∷ []
+  pushed_places : ends_from 0 pushed_names ≡ new_ends
   unfolding pushed_names
-  pushed_places name =
-      ends_more (cut_from 0 ends text) name 0 ∙ (ap (λ (l : List ℕ). l ++ (0 + length (concat (cut_from 0 ends text) ++ name)) ∷ []) is.places ∙ ap (λ n. ends ++ n ∷ []) (omega (arith, ap (λ (l : List ℕ). length (l ++ name)) is.whole)))
+  pushed_places =
+      let v = cut_from 0 ends text in
+      let here : 0 + length (concat v ++ name) ≡ place = omega (arith, ap (λ (l : List ℕ). length (l ++ name)) is.whole, ap length grown, at_end) in
+      ends_more v name 0 ∙ (ap (λ n. ends_from 0 v ++ n ∷ []) here ∙ (ap (λ (l : List ℕ). l ++ place ∷ []) is.places ∙ sym more))
 
-  pub pushed_cut : (name : List ℕ) → IsUtf8 name → IsCut (ends ++ length (text ++ name) ∷ []) (text ++ name)
+  pub still_packed : IsUtf8 name → IsPacked new_ends new_text
   unfolding pushed_names
-  pushed_cut name utf8 =
-      is_cut (pushed_names name) _ _ (pushed_places name) (pushed_whole name) (list_all-append is_utf8 (cut_from 0 ends text) (name ∷ []) ∙ and_from _ _ is.texts (and_from _ _ (is_utf8-from_IsUtf8 name utf8) refl))
+  still_packed utf8 =
+      is_packed pushed_names new_ends new_text pushed_places pushed_whole (list_all-append is_utf8 (cut_from 0 ends text) (name ∷ []) ∙ and_from _ _ is.texts (and_from _ _ (is_utf8-from_IsUtf8 name utf8) refl))
 
-  pub pushed : (name : List ℕ) → cut_from 0 (ends ++ length (text ++ name) ∷ []) (text ++ name) ≡ cut_from 0 ends text ++ name ∷ []
+  pub pushed : cut_from 0 new_ends new_text ≡ cut_from 0 ends text ++ name ∷ []
   unfolding pushed_names
-  pushed name = cut_names (pushed_names name) _ _ (pushed_places name) (pushed_whole name)
+  pushed = cut_names pushed_names new_ends new_text pushed_places pushed_whole
 
-pub counted : (ends text : List ℕ) → IsCut ends text → length ends ≡ length (cut_from 0 ends text)
+pub counted : (ends text : List ℕ) → IsPacked ends text → length ends ≡ length (cut_from 0 ends text)
 counted ends text is = ap length (sym is.places) ∙ length-ends (cut_from 0 ends text) 0
 
 -- the name at a place
-module _ (ends text : List ℕ) (is : IsCut ends text) (i : ℕ) (low : i < length (cut_from 0 ends text)) where
+module _ (ends text : List ℕ) (is : IsPacked ends text) (i : ℕ) (low : i < length (cut_from 0 ends text)) where
   names : List (List ℕ)
   names = cut_from 0 ends text
 

@@ -15,7 +15,7 @@ ends_from start (name ∷ names) =
     (start + length name) ∷ ends_from (start + length name) names
 
 -- The names are the whole text, end at these places, and are texts.
-pub record IsCut (ends text : List ℕ) : Type 0 where
+pub record IsPacked (ends text : List ℕ) : Type 0 where
   pub whole : concat (cut_from 0 ends text) ≡ text
   pub places : ends_from 0 (cut_from 0 ends text) ≡ ends
   pub texts : list_all is_utf8 (cut_from 0 ends text) ≡ true

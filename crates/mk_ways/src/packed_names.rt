@@ -19,13 +19,13 @@ pub struct PackedNames {
 impl Model for PackedNames {
     ghost use Rattle.std.specs.Prelude.{List, ℕ};
     ghost use Rattle.std.specs.String.{string_bytes};
-    ghost use Rattle.mk_ways.specs.Packing.{cut_from, IsCut};
+    ghost use Rattle.mk_ways.specs.Packing.{cut_from, IsPacked};
 
     ghost Value = { List (List ℕ) };
 
     ghost view = { λ p. cut_from 0 p.ends.items (string_bytes p.text) };
 
-    ghost invariant = { λ p. IsCut p.ends.items (string_bytes p.text) };
+    ghost invariant = { λ p. IsPacked p.ends.items (string_bytes p.text) };
 }
 
 /// Where the name at a place begins: where the one before ends.
@@ -57,9 +57,9 @@ impl PackedNames {
     {
         let start = self.text.len();
         self.text.push_str(name)?;
-        if self.ends.push(self.text.len()).is_err() {
+        if let Err(error) = self.ends.push(self.text.len()) {
             self.text.truncate(start);
-            return Err(AllocError);
+            return Err(error.into());
         }
         Ok(())
     }
