@@ -165,7 +165,7 @@ pub fn good_start(subject: &Subject<'_>, links: &Links<'_>, way: &Way) -> Option
 {
     names_have_one_number();
     let _graph = subject.graph();
-    if way.path.len() == 0 {
+    if way.path.is_empty() {
         return None;
     }
     let first = way.path.at(0);
