@@ -8,13 +8,13 @@ use Rattle.mk_cert.specs.Verdict.{NeedsWay}
 use Rattle.mk_cert.proofs.Walks.{split_first, good_begins, good_from, good_entry}
 use Rattle.mk_cert.proofs.walking.good_start.Goals as goal
 
-pub returns-in_default-recipe_named : goal.returns-in_default-recipe_named
-returns-in_default-recipe_named c = λ good.
+pub returns-in_default : goal.returns-in_default
+returns-in_default c = λ good.
     let x = c.args.subject.now in
     let w = c.args.way.now in
     let path = split_first c.way.inside.path w.path c.at-first.result.now (ap (λ (v : Way). v.path) c.way.view_is) (sym c.is_empty.ensures ∙ c.if-is_empty.false) c.at-first.ensures in
     let (same, start) = good_begins x w c.at-first.result.now (drop 1 w.path) path good in
-    c.in_default-recipe_named.ensures start.0 start.1 start.2
+    c.in_default.ensures start.0 start.1 start.2
 
 pub returns-then-not-needs_way : goal.returns-then-not-needs_way
 returns-then-not-needs_way c = λ good.
