@@ -1,6 +1,6 @@
 //! Whether an entry of a certificate is good.
 
-ghost use Rattle.std.specs.Prelude.{◌≡◌, ◌↔◌, ℕ, [], true, slice_index_or, MatchOption};
+ghost use Rattle.std.specs.Prelude.{◌≡◌, ◌↔◌, ℕ, [], true, drop, slice_index_or, MatchOption};
 ghost use Rattle.mk_lines.specs.Names.{has_name};
 ghost use Rattle.mk_graph.specs.Membership.{Has};
 ghost use Rattle.mk_graph.specs.Setting.{Needs};
@@ -19,8 +19,8 @@ use crate::writer_findings::has_number;
 use mk_graph::NodeSet;
 use mk_graph::growth_laws::names_have_one_number;
 use mk_graph::laws::serial_reaches_each_once;
-use mk_lines::{Name, NameSet};
-use mk_ways::{Finish, Way};
+use mk_lines::NameSet;
+use mk_ways::{Finish, PackedNames, Way};
 
 /// Whether a number stands in the set at a place.
 fn has_at(sets: &[NodeSet], place: usize, number: usize) -> bool
@@ -60,24 +60,25 @@ fn recipe_named(subject: &Subject<'_>, ends: &Ends<'_>, name: &str) -> Option<us
     Some(number)
 }
 
-/// The last recipe of a path from this one on, over recipes with these names.
+/// The last recipe of a path, which begins at this one and goes over recipes with these names but
+/// the first.
 fn last_over(
     subject: &Subject<'_>,
     links: &Links<'_>,
     start: usize,
-    names: &[Name],
+    path: &PackedNames,
 ) -> Option<usize>
     requires { AreLinks subject.now links.now.ends.names links.now.reads.items
         links.now.carried.items links.now.ends.needed.items links.now.ends.always.items }
     ensures { MatchOption result
-        ((last : ℕ) → ¬ (GoesOver subject.now start names.now last))
-        (λ last. GoesOver subject.now start names.now last) }
+        ((last : ℕ) → ¬ (GoesOver subject.now start (drop 1 path.now) last))
+        (λ last. GoesOver subject.now start (drop 1 path.now) last) }
 {
     names_have_one_number();
     let _graph = subject.graph();
     let mut last = start;
-    for name in names {
-        let Some(next) = recipe_named(subject, &links.ends, name.as_str()) else {
+    for place in 1..path.len() {
+        let Some(next) = recipe_named(subject, &links.ends, path.at(place)) else {
             return None;
         };
         if !has_at(&links.carried, last, next) {
@@ -134,17 +135,17 @@ fn needs_way(subject: &Subject<'_>, links: &Links<'_>, number: usize, file: &str
 }
 
 /// Whether the path of an entry goes on from its first recipe to its file.
-fn leads(subject: &Subject<'_>, links: &Links<'_>, start: usize, others: &[Name], way: &Way) -> bool
+fn leads(subject: &Subject<'_>, links: &Links<'_>, start: usize, way: &Way) -> bool
     requires { AreLinks subject.now links.now.ends.names links.now.reads.items
         links.now.carried.items links.now.ends.needed.items links.now.ends.always.items }
-    ensures { (result ≡ true) ↔ Leads subject.now start others.now way.now }
+    ensures { (result ≡ true) ↔ Leads subject.now start (drop 1 way.now.path) way.now }
 {
     names_have_one_number();
     let _graph = subject.graph();
-    let Some(last) = last_over(subject, links, start, others) else {
+    let Some(last) = last_over(subject, links, start, &way.path) else {
         return false;
     };
-    if others.is_empty() && way.finish == Finish::Written {
+    if way.path.len() < 2 && way.finish == Finish::Written {
         return false;
     }
     let file = target_of(subject, &links.ends, way.file.as_str());
@@ -161,19 +162,20 @@ pub fn good_start(subject: &Subject<'_>, links: &Links<'_>, way: &Way) -> Option
 {
     names_have_one_number();
     let _graph = subject.graph();
-    let Some((first, others)) = way.path.as_slice().split_first() else {
-        return None;
-    };
-    if first.as_str() != way.recipe.as_str() {
+    if way.path.is_empty() {
         return None;
     }
-    let Some(start) = recipe_named(subject, &links.ends, first.as_str()) else {
+    let first = way.path.at(0);
+    if first != way.recipe.as_str() {
+        return None;
+    }
+    let Some(start) = recipe_named(subject, &links.ends, first) else {
         return None;
     };
     if !needs_way(subject, links, start, way.file.as_str()) {
         return None;
     }
-    if !leads(subject, links, start, others, way) {
+    if !leads(subject, links, start, way) {
         return None;
     }
     Some(start)

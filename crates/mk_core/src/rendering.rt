@@ -5,8 +5,7 @@ ghost use Rattle.mk_core.specs.VerdictText.{finding_line, findings_text, names_t
 
 use crate::verdict::Verdict;
 use mk_cert::Finding;
-use mk_lines::Name;
-use mk_ways::Way;
+use mk_ways::{PackedNames, Way};
 use std::alloc::{AllocError, Global};
 
 /// The line of a yes: how many recipes were judged, and how many files they read.
@@ -18,12 +17,12 @@ pub(crate) fn yes_line(alloc: Global, recipes: usize, reads: u128) -> Result<Vec
 }
 
 /// Adds each name behind a space.
-fn push_names(out: &mut Vec<u8>, names: &[Name]) -> Result<(), AllocError>
+fn push_names(out: &mut Vec<u8>, names: &PackedNames) -> Result<(), AllocError>
     ensures { OnOk result (out.new.items ≡ out.old.items ++ names_text names.now) }
 {
-    for name in names {
+    for place in 0..names.len() {
         out.push(b' ')?;
-        out.extend_from_slice(name.as_str().as_bytes())?;
+        out.extend_from_slice(names.at(place).as_bytes())?;
     }
     Ok(())
 }
@@ -38,7 +37,7 @@ fn push_way(out: &mut Vec<u8>, way: &Way) -> Result<(), AllocError>
     out.extend_from_slice(way.file.as_str().as_bytes())?;
     out.push(b' ')?;
     out.extend_from_slice(way.finish.as_str().as_bytes())?;
-    push_names(out, way.path.as_slice())?;
+    push_names(out, &way.path)?;
     out.push(b'\n')?;
     Ok(())
 }

@@ -13,8 +13,8 @@ use crate::first_path::FirstPath;
 use crate::judging::judge_all;
 use mk_cert::laws::{carried_exactly, list_is_one};
 use mk_cert::{Entry, Subject};
-use mk_lines::{Name, Names};
-use mk_ways::{Certificate, Way};
+use mk_lines::Name;
+use mk_ways::{Certificate, PackedNames, Way};
 use std::alloc::{AllocError, Global};
 
 /// The names of nodes.
@@ -22,15 +22,16 @@ pub(crate) fn names_of(
     alloc: Global,
     subject: &Subject<'_>,
     nodes: &[usize],
-) -> Result<Names, AllocError>
+) -> Result<PackedNames, AllocError>
     requires { (n : ℕ) → Has nodes.now n → n < length subject.now.graph.nodes }
     ensures { IfOk result (λ names. names ≡ map (name_of subject.now) nodes.now) }
 {
-    let mut names = Vec::with_capacity(alloc, nodes.len())?;
+    let mut names = PackedNames::new(alloc);
     for node in nodes {
-        names.push(subject.copy_of_name(*node)?)?;
+        names.push(subject.name(*node))?;
     }
-    Ok(Names::new(names))
+    names.shrink_to_fit();
+    Ok(names)
 }
 
 /// The entry for a read, to whose file this path leads first.
