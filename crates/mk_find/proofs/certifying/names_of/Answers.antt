@@ -2,5 +2,5 @@
 use Rattle.mk_find.proofs.Accepted.{has_at}
 use Rattle.mk_find.proofs.certifying.names_of.Goals as goal
 
-pub copy_of_name-requires : goal.copy_of_name-requires
-copy_of_name-requires c = c.requires _ (has_at c.args.nodes.now c.loop-node.node-index 0 c.loop-node-test.true)
+pub name-requires : goal.name-requires
+name-requires c = c.requires _ (has_at c.args.nodes.now c.loop-node.node-index 0 c.loop-node-test.true)
