@@ -1,0 +1,21 @@
+-- Steps that are all allowed, taken in turn.
+use Rattle.std.proofs.Common.{◌≡◌, List, [], ◌∷◌, Result, Ok, Err, ap, ◌∙◌, inl, inr, ◌⊎◌}
+use Rattle.mk_graph.specs.Graph.{Graph}
+use Rattle.mk_graph.specs.Setting.{Setting}
+use Rattle.mk_graph.specs.World.{World}
+use Rattle.mk_graph.specs.Schedule.{Step, IsLegal, after, after_all}
+use Rattle.mk_world.specs.declared.fault.StepFault.{StepFault}
+use Rattle.mk_world.specs.declared.fault.StepFault.TheVariants.{Memory}
+use Rattle.mk_world.specs.Running.{TakesInTurn}
+use Rattle.mk_world.proofs.Fronts.{not_refused}
+
+-- they are all taken, unless memory runs out
+pub all_taken : (g : Graph) (s : Setting) (old new : World) (steps : List Step) (r : Result (Unit {0}) StepFault) → IsLegal g s old steps → TakesInTurn g s old new steps r → (r ≡ Err Memory) ⊎ ((r ≡ Ok tt) × (new ≡ after_all g s old steps))
+all_taken g s old new [] r legal h = inr (h.1, h.0)
+all_taken g s old new (one ∷ steps) r legal h = elim h [
+  | inl t ↦ all_taken g s (after g s old one) new steps r legal.1 t.1
+  | inr refused ↦ elim refused.first [
+    | inl memory ↦ inl (refused.is ∙ ap (λ f. Err f) memory)
+    | inr fails ↦ absurd (not_refused g s old one refused.fault legal.0 fails)
+  ]
+]
