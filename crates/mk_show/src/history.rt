@@ -99,7 +99,7 @@ impl<'a> History<'a> {
             (step_of self.old.world.scene.graph step ∷ [])) }
     {
         self.world.take_allowed(&step)?;
-        self.steps.push(step)?;
+        self.note(step)?;
         Ok(())
     }
 

@@ -165,6 +165,32 @@ pub fn finish_seeing(
     end_seeing(alloc, scene, disk, making, sight)
 }
 
+/// A running recipe looks at each file that it reads, puts these contents into those that it writes,
+/// and ends.
+pub fn finish_with(
+    alloc: Global,
+    scene: &Scene,
+    places: &Places,
+    disk: &mut Disk,
+    making: &mut Making,
+    number: usize,
+    contents: &[u64],
+) -> Result<(), StepFault>
+    requires fits { Fits scene.now making.old }
+    requires node { number < length scene.now.graph.nodes }
+    requires places { ArePlaces scene.now disk.old.names places.now }
+    requires named { (f : FileName) → Has (writes scene.now.graph (setting scene.now) number) f →
+        has_name disk.old.names f ≡ true }
+    ensures fits { Fits scene.now making.new }
+    ensures names { disk.new.names ≡ disk.old.names }
+    ensures takes { TakesInTurn scene.now.graph (setting scene.now)
+        (busy scene.now making.old disk.old) (busy scene.now making.new disk.new)
+        (rest_of_run scene.now.graph (setting scene.now) number contents.now) result }
+{
+    let sight = sight_of(alloc, places, disk, number)?;
+    finish_seeing(alloc, scene, disk, making, sight, contents)
+}
+
 /// A running recipe looks at each file that it reads, puts what it is finished with into those that
 /// it writes, and ends.
 pub fn finish(

@@ -11,7 +11,7 @@ ghost use Rattle.mk_world.specs.Running.{AnswersInTurn, PassesIdle, TakesAllAllo
 ghost use Rattle.mk_lines.specs.Names.{has_name};
 
 use crate::disk::Disk;
-use crate::fault::StepFault;
+use crate::fault::{StepFault, is_memory};
 use crate::file::Listed;
 use crate::first::names_of;
 use crate::laws::allowed_where_all_holds;
@@ -133,8 +133,13 @@ impl<'a> World<'a> {
             (setting self.old.scene) (number_of self.old.scene.graph node.now) contents.now) result }
     {
         match self.run_with(node, contents) {
-            Err(StepFault::Memory) => Err(AllocError),
-            _ => Ok(()),
+            Ok(()) => Ok(()),
+            Err(fault) => {
+                if is_memory(&fault) {
+                    return Err(AllocError);
+                }
+                Ok(())
+            }
         }
     }
 
@@ -374,13 +379,13 @@ impl<'a> World<'a> {
             return Err(StepFault::NoMake);
         };
         let number = self.scene.number(node);
-        let sight = finishing::sight_of(self.alloc, &self.places, &self.disk, number)?;
-        finishing::finish_seeing(
+        finishing::finish_with(
             self.alloc,
             &self.scene,
+            &self.places,
             &mut self.disk,
             making,
-            sight,
+            number,
             contents,
         )?;
         self.readiness.note_done(number);
