@@ -1,6 +1,6 @@
 -- Walks along names, and good entries.
-use Rattle.std.proofs.Common.{◌≡◌, ℕ, ◌<◌, List, [], ◌∷◌, map, length, refl, sym, ap, subst, ◌∙◌, ⊎_elim}
-use Rattle.std.specs.Prelude.{All, ◌↔◌}
+use Rattle.std.proofs.Common.{◌≡◌, ℕ, ◌<◌, false, List, [], ◌∷◌, map, length, get_or, drop, refl, sym, ap, subst, ◌∙◌, ⊎_elim}
+use Rattle.std.specs.Prelude.{All, ◌↔◌, ◌==◌}
 use Rattle.std.proofs.lemmas.Bool.{true≢false, cases_lt}
 use Rattle.std.proofs.lemmas.List.{get_or_past}
 use Rattle.std.proofs.lemmas.List.Elements.{All-nil, All-cons, All-head, All-tail}
@@ -22,6 +22,11 @@ first_same a b xs ys e = cc
 
 pub rest_same : (a b : List ℕ) (xs ys : List (List ℕ)) → a ∷ xs ≡ b ∷ ys → xs ≡ ys
 rest_same a b xs ys e = cc
+
+-- the first name of a path, and the others
+pub split_first : (names path : List (List ℕ)) (first : List ℕ) → names ≡ path → (length names == 0) ≡ false → first ≡ get_or names 0 [] → path ≡ first ∷ drop 1 path
+split_first [] path first same some is = absurd (true≢false some)
+split_first (name ∷ names) path first same some is = subst (λ (l : List (List ℕ)). l ≡ first ∷ drop 1 l) same (ap (λ n. n ∷ names) (sym is))
 
 -- what has a recipe is a node
 pub recipe_is_node : (x : Subject) (n : ℕ) → IsRecipe x n → n < length x.graph.nodes

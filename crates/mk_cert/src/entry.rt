@@ -5,9 +5,9 @@ ghost use Rattle.std.specs.Option.{option_copied};
 ghost use Rattle.std.specs.String.{string_bytes};
 ghost use Rattle.mk_cert.specs.Entry.{reads_in, writes_in, entry_reads, entry_writes};
 
+use mk_choice::Commands;
 use mk_foot::Record;
 use mk_graph::Node;
-use mk_choice::Commands;
 use mk_lines::Name;
 use std::alloc::AllocError;
 use std::marker::Model;

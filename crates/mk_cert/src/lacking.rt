@@ -13,7 +13,8 @@ ghost use Rattle.mk_cert.specs.declared.fault.CertFault.TheVariants.{Memory, NoW
 use crate::entry::Entry;
 use crate::fault::CertFault;
 use crate::subject::Subject;
-use crate::walking::{can_change, stands_at};
+use crate::target::can_change;
+use crate::walking::stands_at;
 use mk_graph::laws::serial_reaches_each_once;
 use mk_lines::{Name, NameSet};
 use std::alloc::{AllocError, Global};

@@ -128,6 +128,14 @@ impl<'a> Subject<'a> {
         }
     }
 
+    /// The name of a node.
+    pub fn name(&self, number: usize) -> &str
+        requires { number < length self.now.graph.nodes }
+        ensures { result.now ≡ name_of self.now number }
+    {
+        self.graph().nodes()[number].name.as_str()
+    }
+
     /// A copy of the name of a node. The error is want of memory alone.
     pub fn copy_of_name(&self, number: usize) -> Result<Name, AllocError>
         requires { number < length self.now.graph.nodes }

@@ -20,12 +20,11 @@ use crate::laws::verified_is_right;
 use crate::links::links_of;
 use crate::race_findings::races;
 use crate::subject::Subject;
-use mk_lines::Name;
-use mk_ways::{Certificate, Way};
+use mk_ways::{Certificate, PackedNames, Way};
 use std::alloc::Global;
 
 /// Whether these names are those of the goals, in their order.
-fn has_goals(subject: &Subject<'_>, names: &[Name]) -> bool
+fn has_goals(subject: &Subject<'_>, names: &PackedNames) -> bool
     ensures { (result ≡ true) ↔ (names.now ≡ map (name_of subject.now) subject.now.graph.goals) }
 {
     let graph = subject.graph();
@@ -35,7 +34,7 @@ fn has_goals(subject: &Subject<'_>, names: &[Name]) -> bool
         return false;
     }
     for (place, goal) in goals.iter().enumerate() {
-        if names[place].as_str() != nodes[*goal].name.as_str() {
+        if names.at(place) != nodes[*goal].name.as_str() {
             return false;
         }
     }
@@ -101,7 +100,7 @@ pub fn verify(
 {
     verified_is_right();
     let _graph = subject.graph();
-    if !has_goals(subject, certificate.goals.as_slice()) {
+    if !has_goals(subject, &certificate.goals) {
         return Err(CertFault::OtherGoals);
     }
     check_found(alloc, subject)?;

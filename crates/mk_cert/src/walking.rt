@@ -1,25 +1,26 @@
 //! Whether an entry of a certificate is good.
 
-ghost use Rattle.std.specs.Prelude.{◌≡◌, ◌↔◌, ℕ, [], true, slice_index_or, MatchOption};
+ghost use Rattle.std.specs.Prelude.{◌≡◌, ◌↔◌, ℕ, [], true, drop, slice_index_or, MatchOption};
 ghost use Rattle.mk_lines.specs.Names.{has_name};
 ghost use Rattle.mk_graph.specs.Membership.{Has};
 ghost use Rattle.mk_graph.specs.Setting.{Needs};
-ghost use Rattle.mk_graph.specs.Ways.{CanChange};
 ghost use Rattle.mk_cert.specs.Subject.{footprints, name_of};
 ghost use Rattle.mk_cert.specs.Conditions.{IsRecipe};
 ghost use Rattle.mk_cert.specs.Paths.{EndsAt};
 ghost use Rattle.mk_cert.specs.Verdict.{IsGood, NeedsWay};
 ghost use Rattle.mk_cert.specs.Links.{AreEnds, AreLinks};
+ghost use Rattle.mk_cert.specs.Target.{target_of};
 ghost use Rattle.mk_cert.specs.Walking.{GoesOver, Leads};
 
 use crate::links::{Ends, Links};
 use crate::subject::Subject;
+use crate::target::{Target, can_change, target_of};
 use crate::writer_findings::has_number;
 use mk_graph::NodeSet;
 use mk_graph::growth_laws::names_have_one_number;
 use mk_graph::laws::serial_reaches_each_once;
-use mk_lines::{Name, NameSet};
-use mk_ways::{Finish, Way};
+use mk_lines::NameSet;
+use mk_ways::{Finish, PackedNames, Way};
 
 /// Whether a number stands in the set at a place.
 fn has_at(sets: &[NodeSet], place: usize, number: usize) -> bool
@@ -59,24 +60,25 @@ fn recipe_named(subject: &Subject<'_>, ends: &Ends<'_>, name: &str) -> Option<us
     Some(number)
 }
 
-/// The last recipe of a path from this one on, over recipes with these names.
+/// The last recipe of a path, which begins at this one and goes over recipes with these names but
+/// the first.
 fn last_over(
     subject: &Subject<'_>,
     links: &Links<'_>,
     start: usize,
-    names: &[Name],
+    path: &PackedNames,
 ) -> Option<usize>
     requires { AreLinks subject.now links.now.ends.names links.now.reads.items
         links.now.carried.items links.now.ends.needed.items links.now.ends.always.items }
     ensures { MatchOption result
-        ((last : ℕ) → ¬ (GoesOver subject.now start names.now last))
-        (λ last. GoesOver subject.now start names.now last) }
+        ((last : ℕ) → ¬ (GoesOver subject.now start (drop 1 path.now) last))
+        (λ last. GoesOver subject.now start (drop 1 path.now) last) }
 {
     names_have_one_number();
     let _graph = subject.graph();
     let mut last = start;
-    for name in names {
-        let Some(next) = recipe_named(subject, &links.ends, name.as_str()) else {
+    for place in 1..path.len() {
+        let Some(next) = recipe_named(subject, &links.ends, path.at(place)) else {
             return None;
         };
         if !has_at(&links.carried, last, next) {
@@ -87,21 +89,16 @@ fn last_over(
     Some(last)
 }
 
-/// Whether a file can change.
-pub fn can_change(subject: &Subject<'_>, file: &str) -> bool
-    ensures { (result ≡ true) ↔ CanChange (footprints subject.now.setting) file.now }
-{
-    subject.setting().is_editable(file) || !subject.setting().is_given(file)
-}
-
 /// Whether a file is a direct prerequisite of a node.
-fn needs(subject: &Subject<'_>, ends: &Ends<'_>, number: usize, file: &str) -> bool
-    requires { AreEnds subject.now ends.now.names ends.now.needed.items ends.now.always.items }
-    ensures { (result ≡ true) ↔ Needs subject.now.graph number file.now }
+fn needs(subject: &Subject<'_>, ends: &Ends<'_>, number: usize, file: &Target<'_>) -> bool
+    requires ends { AreEnds subject.now ends.now.names ends.now.needed.items
+        ends.now.always.items }
+    requires file { file.now ≡ target_of subject.now ends.now.names file.now.file }
+    ensures { (result ≡ true) ↔ Needs subject.now.graph number file.now.file }
 {
     names_have_one_number();
     let _graph = subject.graph();
-    has_at(&ends.needed, number, ends.names.number_of(file))
+    has_at(&ends.needed, number, file.number)
 }
 
 /// Whether a path to a file may end so at a recipe. A file has one writer where nothing was found,
@@ -109,21 +106,21 @@ fn needs(subject: &Subject<'_>, ends: &Ends<'_>, number: usize, file: &str) -> b
 pub fn ends_at(
     subject: &Subject<'_>,
     ends: &Ends<'_>,
-    file: &str,
+    file: &Target<'_>,
     finish: Finish,
     number: usize,
 ) -> bool
-    requires { AreEnds subject.now ends.now.names ends.now.needed.items ends.now.always.items }
-    ensures { (result ≡ true) ↔ EndsAt subject.now.graph (footprints subject.now.setting) file.now
-        finish number }
+    requires ends { AreEnds subject.now ends.now.names ends.now.needed.items
+        ends.now.always.items }
+    requires file { file.now ≡ target_of subject.now ends.now.names file.now.file }
+    ensures { (result ≡ true) ↔ EndsAt subject.now.graph (footprints subject.now.setting)
+        file.now.file finish number }
 {
     serial_reaches_each_once();
     let _graph = subject.graph();
     match finish {
-        Finish::Written => has_number(subject.writers(file), number),
-        Finish::Source => {
-            subject.setting().is_editable(file) && needs(subject, ends, number, file)
-        }
+        Finish::Written => has_number(file.writers, number),
+        Finish::Source => file.editable && needs(subject, ends, number, file),
         Finish::Always => ends.always.get(number) == Some(&true),
     }
 }
@@ -138,20 +135,21 @@ fn needs_way(subject: &Subject<'_>, links: &Links<'_>, number: usize, file: &str
 }
 
 /// Whether the path of an entry goes on from its first recipe to its file.
-fn leads(subject: &Subject<'_>, links: &Links<'_>, start: usize, others: &[Name], way: &Way) -> bool
+fn leads(subject: &Subject<'_>, links: &Links<'_>, start: usize, way: &Way) -> bool
     requires { AreLinks subject.now links.now.ends.names links.now.reads.items
         links.now.carried.items links.now.ends.needed.items links.now.ends.always.items }
-    ensures { (result ≡ true) ↔ Leads subject.now start others.now way.now }
+    ensures { (result ≡ true) ↔ Leads subject.now start (drop 1 way.now.path) way.now }
 {
     names_have_one_number();
     let _graph = subject.graph();
-    let Some(last) = last_over(subject, links, start, others) else {
+    let Some(last) = last_over(subject, links, start, &way.path) else {
         return false;
     };
-    if others.is_empty() && way.finish == Finish::Written {
+    if way.path.len() < 2 && way.finish == Finish::Written {
         return false;
     }
-    ends_at(subject, &links.ends, way.file.as_str(), way.finish, last)
+    let file = target_of(subject, &links.ends, way.file.as_str());
+    ends_at(subject, &links.ends, &file, way.finish, last)
 }
 
 /// The number of the recipe of an entry, where the entry is good.
@@ -164,19 +162,20 @@ pub fn good_start(subject: &Subject<'_>, links: &Links<'_>, way: &Way) -> Option
 {
     names_have_one_number();
     let _graph = subject.graph();
-    let Some((first, others)) = way.path.as_slice().split_first() else {
-        return None;
-    };
-    if first.as_str() != way.recipe.as_str() {
+    if way.path.is_empty() {
         return None;
     }
-    let Some(start) = recipe_named(subject, &links.ends, first.as_str()) else {
+    let first = way.path.at(0);
+    if first != way.recipe.as_str() {
+        return None;
+    }
+    let Some(start) = recipe_named(subject, &links.ends, first) else {
         return None;
     };
     if !needs_way(subject, links, start, way.file.as_str()) {
         return None;
     }
-    if !leads(subject, links, start, others, way) {
+    if !leads(subject, links, start, way) {
         return None;
     }
     Some(start)

@@ -5,8 +5,7 @@ ghost use Rattle.mk_core.specs.VerdictText.{finding_line, findings_text, names_t
 
 use crate::verdict::Verdict;
 use mk_cert::Finding;
-use mk_lines::Name;
-use mk_ways::Way;
+use mk_ways::{PackedNames, Way};
 use std::alloc::{AllocError, Global};
 
 /// The line of a yes: how many recipes were judged, and how many files they read.
@@ -18,34 +17,37 @@ pub(crate) fn yes_line(alloc: Global, recipes: usize, reads: u128) -> Result<Vec
 }
 
 /// Adds each name behind a space.
-fn push_names(out: &mut Vec<u8>, names: &[Name]) -> Result<(), AllocError>
+fn push_names(out: &mut Vec<u8>, names: &PackedNames) -> Result<(), AllocError>
     ensures { OnOk result (out.new.items ≡ out.old.items ++ names_text names.now) }
 {
-    for name in names {
+    for place in 0..names.len() {
         out.push(b' ')?;
-        out.extend_from_slice(name.as_str().as_bytes())?;
+        out.extend_from_slice(names.at(place).as_bytes())?;
     }
     Ok(())
 }
 
 /// Adds the line of a way.
-fn push_way(alloc: Global, out: &mut Vec<u8>, way: &Way) -> Result<(), AllocError>
+fn push_way(out: &mut Vec<u8>, way: &Way) -> Result<(), AllocError>
     ensures { OnOk result (out.new.items ≡ out.old.items ++ way_line way.now) }
 {
-    let (recipe, file, finish) = (&way.recipe, &way.file, way.finish);
-    let head = format!(in alloc; "way {recipe} {file} {finish}")?;
-    out.extend_from_slice(head.as_bytes())?;
-    push_names(out, way.path.as_slice())?;
+    out.extend_from_slice(b"way ")?;
+    out.extend_from_slice(way.recipe.as_str().as_bytes())?;
+    out.push(b' ')?;
+    out.extend_from_slice(way.file.as_str().as_bytes())?;
+    out.push(b' ')?;
+    out.extend_from_slice(way.finish.as_str().as_bytes())?;
+    push_names(out, &way.path)?;
     out.push(b'\n')?;
     Ok(())
 }
 
 /// Adds a line for each way.
-fn push_ways(alloc: Global, out: &mut Vec<u8>, ways: &[Way]) -> Result<(), AllocError>
+fn push_ways(out: &mut Vec<u8>, ways: &[Way]) -> Result<(), AllocError>
     ensures { OnOk result (out.new.items ≡ out.old.items ++ ways_text ways.now) }
 {
     for way in ways {
-        push_way(alloc, out, way)?;
+        push_way(out, way)?;
     }
     Ok(())
 }
@@ -81,7 +83,7 @@ pub fn render(alloc: Global, verdict: &Verdict) -> Result<Vec<u8>, AllocError>
             reads,
         } => {
             let mut out = yes_line(alloc, *recipes, *reads)?;
-            push_ways(alloc, &mut out, certificate.ways.as_slice())?;
+            push_ways(&mut out, certificate.ways.as_slice())?;
             Ok(out)
         }
         Verdict::No(found) => findings_text(alloc, found.as_slice()),

@@ -1,4 +1,5 @@
 pub mod FirstPaths
+pub mod Standing
 pub mod Findings
 pub mod Certifying
 pub mod Laws

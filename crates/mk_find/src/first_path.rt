@@ -8,10 +8,11 @@ ghost use Rattle.mk_cert.specs.Carried.{carried};
 ghost use Rattle.mk_cert.specs.Links.{AreEnds};
 ghost use Rattle.mk_cert.specs.Paths.{EndsAt};
 ghost use Rattle.mk_cert.specs.Subject.{footprints, writes_of};
+ghost use Rattle.mk_cert.specs.Target.{target_of};
 ghost use Rattle.mk_find.specs.FirstPaths.{EndsFirst, GoesFirst, HasNoPath};
 
 use mk_cert::laws::carried_exactly;
-use mk_cert::{Ends, Subject, ends_at};
+use mk_cert::{Ends, Subject, Target, ends_at};
 use mk_search::Search;
 use mk_search::laws::{first_by_places, none_by_places, one_way_at_a_place, places_are_below};
 use mk_ways::Finish;
@@ -27,13 +28,19 @@ pub(crate) struct FirstPath {
 }
 
 /// How a path to a file may end at a recipe, the first such finish.
-fn finish_at(subject: &Subject<'_>, ends: &Ends<'_>, file: &str, number: usize) -> Option<Finish>
-    requires { AreEnds subject.now ends.now.names ends.now.needed.items
+fn finish_at(
+    subject: &Subject<'_>,
+    ends: &Ends<'_>,
+    file: &Target<'_>,
+    number: usize,
+) -> Option<Finish>
+    requires ends { AreEnds subject.now ends.now.names ends.now.needed.items
         ends.now.always.items }
+    requires file { file.now ≡ target_of subject.now ends.now.names file.now.file }
     ensures { MatchOption result
         ((finish : FinishValue) → ¬ (EndsAt subject.now.graph (footprints subject.now.setting)
-        file.now finish number))
-        (λ finish. EndsFirst subject.now file.now finish number) }
+        file.now.file finish number))
+        (λ finish. EndsFirst subject.now file.now.file finish number) }
 {
     if ends_at(subject, ends, file, Finish::Written, number) {
         return Some(Finish::Written);
@@ -54,17 +61,19 @@ pub(crate) fn first_path(
     subject: &Subject<'_>,
     ends: &Ends<'_>,
     search: &mut Search<'_>,
-    file: &str,
+    file: &Target<'_>,
 ) -> Result<Option<FirstPath>, AllocError>
     requires ends { AreEnds subject.now ends.now.names ends.now.needed.items
         ends.now.always.items }
+    requires file { file.now ≡ target_of subject.now ends.now.names file.now.file }
     requires rows { (t : ℕ) → successors search.old.rows t ≡ carried subject.now t }
     requires start { search.old.start < length subject.now.graph.nodes }
-    requires out { ¬ (Has (writes_of subject.now search.old.start) file.now) }
+    requires out { ¬ (Has (writes_of subject.now search.old.start) file.now.file) }
     ensures same { search.new ≡ search.old }
     ensures found { IfOk result (λ found. MatchOption found
-        (HasNoPath subject.now file.now search.old.start)
-        (λ path. GoesFirst subject.now file.now search.old.start path.nodes.items path.finish)) }
+        (HasNoPath subject.now file.now.file search.old.start)
+        (λ path.
+        GoesFirst subject.now file.now.file search.old.start path.nodes.items path.finish)) }
 {
     carried_exactly();
     first_by_places();

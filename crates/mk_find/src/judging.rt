@@ -1,6 +1,7 @@
 //! The reads of all recipes, each judged once.
 
-ghost use Rattle.std.specs.Prelude.{◌≡◌, [], ℕ, map, IfOk, OnOk};
+ghost use Rattle.std.specs.Prelude.{◌≡◌, ◌∷◌, [], ℕ, map, IfOk, MatchOption, OnOk};
+ghost use Rattle.mk_graph.specs.Membership.{Has};
 ghost use Rattle.mk_search.specs.Ways.{successors};
 ghost use Rattle.mk_cert.specs.Candidates.{stale, stale_candidates, static_candidates};
 ghost use Rattle.mk_cert.specs.Carried.{carried};
@@ -9,18 +10,101 @@ ghost use Rattle.mk_cert.specs.Links.{AreEnds};
 ghost use Rattle.mk_cert.specs.Listed.{Adds};
 ghost use Rattle.mk_cert.specs.Listing.{Lists};
 ghost use Rattle.mk_cert.specs.Subject.{reads_of};
-ghost use Rattle.mk_find.specs.Certifying.{AddsEntries, AreEntriesFor, reads_by, reads_once};
+ghost use Rattle.mk_find.specs.Certifying.{AddsEntries, AreEntriesFor, IsEntryFor, Needs, reads_by, reads_once};
 
-use crate::certifying::add_entries;
-use crate::stale::note_reads;
-use mk_cert::laws::listed_exactly;
+use crate::certifying::entry_along;
+use crate::stale::note_stale;
+use crate::standing::{Standing, standing_of};
+use mk_cert::laws::{listed_exactly, paths_are_ways};
 use mk_cert::{Ends, Entry, Finding, Subject, carried_lists, ends_of};
+use mk_foot::laws::once_keeps_first;
 use mk_graph::Groups;
+use mk_lines::NameSet;
 use mk_search::Search;
 use mk_ways::Way;
 use std::alloc::{AllocError, Global};
 
+/// Adds that a read is stale, if it is. What it gives is the entry for the read, if one is needed
+/// and nothing is found even then.
+fn judge_read(
+    alloc: Global,
+    subject: &Subject<'_>,
+    ends: &Ends<'_>,
+    search: &mut Search<'_>,
+    entry: &Entry<'_>,
+    file: &str,
+    found: &mut Vec<Finding>,
+) -> Result<Option<Way>, AllocError>
+    requires entry { IsEntry subject.now entry.now }
+    requires ends { AreEnds subject.now ends.now.names ends.now.needed.items
+        ends.now.always.items }
+    requires rows { (t : ℕ) → successors search.old.rows t ≡ carried subject.now t }
+    requires start { search.old.start ≡ entry.now.number }
+    requires nothing { Lists subject.now (static_candidates subject.now) [] }
+    requires read { Has (reads_of subject.now entry.now.number) file.now }
+    ensures same { search.new ≡ search.old }
+    ensures found { OnOk result (Adds subject.now (stale entry.now.number file.now ∷ [])
+        found.old.items found.new.items) }
+    ensures way { IfOk result (λ way. found.new.items ≡ [] → MatchOption way
+        (¬ (Needs subject.now (record { recipe = entry.now.number; file = file.now })))
+        (λ way. Needs subject.now (record { recipe = entry.now.number; file = file.now }) ×
+        IsEntryFor subject.now (record { recipe = entry.now.number; file = file.now }) way)) }
+{
+    listed_exactly();
+    paths_are_ways();
+    match standing_of(alloc, subject, ends, search, file)? {
+        Standing::Fixed => Ok(None),
+        Standing::Led(path) if found.is_empty() => {
+            Ok(Some(entry_along(alloc, subject, entry, file, &path)?))
+        }
+        Standing::Led(_) => Ok(None),
+        Standing::Stale => {
+            note_stale(alloc, entry, file, found)?;
+            Ok(None)
+        }
+    }
+}
+
 /// Adds which reads of a recipe are stale, and while nothing is found the entries for its reads.
+fn judge_reads(
+    alloc: Global,
+    subject: &Subject<'_>,
+    ends: &Ends<'_>,
+    search: &mut Search<'_>,
+    entry: &Entry<'_>,
+    found: &mut Vec<Finding>,
+    ways: &mut Vec<Way>,
+) -> Result<(), AllocError>
+    requires entry { IsEntry subject.now entry.now }
+    requires ends { AreEnds subject.now ends.now.names ends.now.needed.items
+        ends.now.always.items }
+    requires rows { (t : ℕ) → successors search.old.rows t ≡ carried subject.now t }
+    requires start { search.old.start ≡ entry.now.number }
+    requires nothing { Lists subject.now (static_candidates subject.now) [] }
+    ensures same { search.new ≡ search.old }
+    ensures found { OnOk result (Adds subject.now
+        (map (λ f. stale entry.now.number f) (reads_of subject.now entry.now.number))
+        found.old.items found.new.items) }
+    ensures ways { OnOk result (found.new.items ≡ [] → AddsEntries subject.now
+        (reads_by subject.now entry.now.number) ways.old.items ways.new.items) }
+{
+    once_keeps_first();
+    let mut seen = NameSet::new(alloc);
+    let files = entry.reads();
+    for file in files {
+        let way = judge_read(alloc, subject, ends, search, entry, file.as_str(), found)?;
+        if !seen.insert(file.as_str())? {
+            continue;
+        }
+        if let Some(way) = way {
+            ways.push(way)?;
+        }
+    }
+    Ok(())
+}
+
+/// Adds which reads of a recipe are stale, and while nothing is found the entries for its reads.
+/// The recipe is searched from once.
 fn judge_recipe(
     alloc: Global,
     subject: &Subject<'_>,
@@ -41,13 +125,8 @@ fn judge_recipe(
     ensures ways { OnOk result (found.new.items ≡ [] → AddsEntries subject.now
         (reads_by subject.now entry.now.number) ways.old.items ways.new.items) }
 {
-    listed_exactly();
     let mut search = Search::new(alloc, rows, entry.number)?;
-    note_reads(alloc, subject, ends, &mut search, entry, found)?;
-    if found.is_empty() {
-        add_entries(alloc, subject, ends, &mut search, entry, ways)?;
-    }
-    Ok(())
+    judge_reads(alloc, subject, ends, &mut search, entry, found, ways)
 }
 
 /// Adds which reads are stale, where nothing is found without a search. What it gives are the

@@ -7,6 +7,7 @@ mod found;
 mod judging;
 pub mod laws;
 mod stale;
+mod standing;
 
 pub use certifying::certify;
 pub use found::{findings, judge};

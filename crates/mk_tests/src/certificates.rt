@@ -1,7 +1,9 @@
 //! Tests of mk_ways: certificates as they are written and read.
 
-use mk_lines::{Name, Names};
-use mk_ways::{Certificate, CertificateFault, Finish, Way, certificate_text, read_certificate};
+use mk_lines::Name;
+use mk_ways::{
+    Certificate, CertificateFault, Finish, PackedNames, Way, certificate_text, read_certificate,
+};
 use std::alloc::{AllocError, Global};
 use std::process::Abort;
 use std::test::Fail;
@@ -175,10 +177,10 @@ const WAYS: &str =
 "#;
 
 /// Adds names, each behind a space.
-fn push_names(shown: &mut String, names: &[Name]) -> Result<(), AllocError> {
-    for name in names {
+fn push_names(shown: &mut String, names: &PackedNames) -> Result<(), AllocError> {
+    for place in 0..names.len() {
         shown.push(' ')?;
-        shown.push_str(name.as_str())?;
+        shown.push_str(names.at(place))?;
     }
     Ok(())
 }
@@ -186,11 +188,11 @@ fn push_names(shown: &mut String, names: &[Name]) -> Result<(), AllocError> {
 /// A certificate as lines.
 fn shown(alloc: Global, certificate: &Certificate) -> Result<String, Fail> {
     let mut shown = String::from_str(alloc, "goals")?;
-    push_names(&mut shown, certificate.goals.as_slice())?;
+    push_names(&mut shown, &certificate.goals)?;
     for way in &certificate.ways {
         let front = format!(in alloc; "; {} {} {}", way.recipe, way.file, way.finish)?;
         shown.push_str(front.as_str())?;
-        push_names(&mut shown, way.path.as_slice())?;
+        push_names(&mut shown, &way.path)?;
     }
     Ok(shown)
 }
@@ -213,12 +215,12 @@ fn see(rt: &impl Abort, alloc: Global, bytes: &[u8], want: &str) -> Result<(), F
 }
 
 /// The words of a text, each as a name.
-fn names(alloc: Global, words: &str) -> Result<Names, AllocError> {
-    let mut names = Vec::new(alloc);
+fn names(alloc: Global, words: &str) -> Result<PackedNames, AllocError> {
+    let mut names = PackedNames::new(alloc);
     for word in words.split_whitespace() {
-        names.push(Name::new(alloc, word)?)?;
+        names.push(word)?;
     }
-    Ok(Names::new(names))
+    Ok(names)
 }
 
 /// A way by its names.

@@ -20,6 +20,8 @@ mod macro_rows;
 #[cfg(test)]
 mod macros;
 #[cfg(test)]
+mod packed_names;
+#[cfg(test)]
 mod read_lines;
 #[cfg(test)]
 mod read_makefiles;

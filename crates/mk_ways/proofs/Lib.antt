@@ -6,3 +6,4 @@ pub mod ValueBack
 pub mod TextBack
 pub mod NoJson
 pub mod PlainNames
+pub mod Packed

@@ -4,7 +4,7 @@ use Rattle.std.specs.Prelude.{⊤, option_and_then}
 use Rattle.std.proofs.lemmas.Slice.Eq.{bytes_eq-Decides}
 use Rattle.mk_lines.specs.Names.{has_name}
 use Rattle.mk_lines.specs.declared.name.Name.{Name}
-use Rattle.mk_lines.specs.declared.name.Names.{Names}
+use Rattle.mk_ways.specs.declared.packed_names.PackedNames.{PackedNames}
 use Rattle.serde_json.specs.Data.{Data, object, Members, put}
 use Rattle.serde_json.specs.Find.{get, as_str, as_number, as_integer}
 use Rattle.mk_json.specs.Kinds.{elements_of, has_only}
@@ -119,7 +119,7 @@ module _ (law : LastValueCounts) where
     alone = was.alone ∙ sym (known_there way_keys (codes "file") value ms refl);
   })
 
-  pub path_put : (p : WayParts) (path : Result Names CertificateFault) (key : List ℕ) (value : Data) (ms : Members) → key ≡ codes "path" → Gives (λ n. n) path (names_from keys.Path value) → IsOfWay p (object ms)
+  pub path_put : (p : WayParts) (path : Result PackedNames CertificateFault) (key : List ℕ) (value : Data) (ms : Members) → key ≡ codes "path" → Gives (λ n. n) path (names_from keys.Path value) → IsOfWay p (object ms)
       → IsOfWay (record { finish = p.finish; file = p.file; path = path; recipe = p.recipe; alone = p.alone }) (object (put key value ms))
   path_put p path key value ms is given was = rw is (record {
     finish = moved (λ f. f) p.finish _ _ was.finish (finish_there (codes "path") value ms refl);
@@ -163,7 +163,7 @@ module _ (law : LastValueCounts) where
     alone = was.alone ∙ sym (known_there all_keys (codes "format") value ms refl);
   })
 
-  pub goals_put : (p : Parts) (goals : Result Names CertificateFault) (key : List ℕ) (value : Data) (ms : Members) → key ≡ codes "goals" → Gives (λ n. n) goals (names_from keys.Goals value) → IsOf p (object ms)
+  pub goals_put : (p : Parts) (goals : Result PackedNames CertificateFault) (key : List ℕ) (value : Data) (ms : Members) → key ≡ codes "goals" → Gives (λ n. n) goals (names_from keys.Goals value) → IsOf p (object ms)
       → IsOf (record { format = p.format; goals = goals; ways = p.ways; alone = p.alone }) (object (put key value ms))
   goals_put p goals key value ms is given was = rw is (record {
     format = moved (λ d. d) p.format _ _ was.format (format_there (codes "goals") value ms refl);

@@ -1,4 +1,5 @@
 pub mod Certificate
+pub mod Packing
 pub mod Keys
 pub mod Words
 pub mod Steps

@@ -3,7 +3,8 @@
 ghost use Rattle.std.specs.Prelude.{◌≡◌};
 ghost use Rattle.mk_ways.specs.Words.{finish_word};
 
-use mk_lines::{Name, Names};
+use crate::packed_names::PackedNames;
+use mk_lines::Name;
 use std::fmt;
 use std::marker::Model;
 
@@ -50,7 +51,7 @@ pub struct Way {
     /// The file.
     pub file: Name,
     /// Recipes from this one on, each of which carries the next.
-    pub path: Names,
+    pub path: PackedNames,
     /// How it ends at the last of them.
     pub finish: Finish,
 }
@@ -74,7 +75,7 @@ impl Model for Way {
 #[derive(Debug, Drop)]
 pub struct Certificate {
     /// The goals, each once.
-    pub goals: Names,
+    pub goals: PackedNames,
     /// The ways.
     pub ways: Vec<Way>,
 }

@@ -1,6 +1,6 @@
 //! Names, lists of them and ends, by the tokens of a certificate, each with the fault of its key.
 
-ghost use Rattle.std.specs.Prelude.{◌≡◌, ◌∷◌, ◌++◌, [], List, Result};
+ghost use Rattle.std.specs.Prelude.{◌≡◌, ◌∷◌, ◌++◌, [], ℕ, List, Result};
 ghost use Rattle.std.specs.Option.{option_map};
 ghost use Rattle.serde_json.specs.Data.{Data};
 ghost use Rattle.serde_json.specs.Find.{as_str};
@@ -14,17 +14,18 @@ ghost use Rattle.mk_ways.specs.Words.{finish_of};
 use crate::certificate::Finish;
 use crate::fault::CertificateFault;
 use crate::key::Key;
+use crate::packed_names::PackedNames;
 use json::{Invalid, Reader};
 use mk_json::laws::{items_in_turn, values_take_tokens};
 use mk_json::{enter_array, next_text};
-use mk_lines::{Name, Names, is_plain_text_path};
+use mk_lines::{Name, is_plain_text_path};
 use std::alloc::Global;
 
-/// The name that a text is, where there is one and it is a plain path.
+/// The text, where there is one and it is a plain path.
 #[tactic(auto, unfolding(crate::specs::Reading::name_in))]
-fn name_of(alloc: Global, key: Key, text: Option<&str>) -> Result<Name, CertificateFault>
+fn name_of(key: Key, text: Option<&str>) -> Result<&str, CertificateFault>
     ensures { (value : Data) → option_map (λ found. found.now) text.entry ≡ as_str value →
-        Gives (λ name. name) result (name_in key value) }
+        Gives (λ name. name.now) result (name_in key value) }
 {
     let Some(text) = text else {
         return Err(CertificateFault::Shape(key));
@@ -32,7 +33,29 @@ fn name_of(alloc: Global, key: Key, text: Option<&str>) -> Result<Name, Certific
     if !is_plain_text_path(text) {
         return Err(CertificateFault::Shape(key));
     }
-    Ok(Name::new(alloc, text)?)
+    Ok(text)
+}
+
+/// Reads a name, and lends it.
+fn next_name<'a>(
+    key: Key,
+    reader: &mut Reader<'a>,
+    depth: usize,
+) -> Result<Result<&'a str, CertificateFault>, Invalid>
+    ensures { Reads (λ name value. Gives (λ name. name.now) name (name_in key value))
+        depth reader.old result reader.new }
+{
+    let text = next_text(reader, depth)?;
+    Ok(name_of(key, text))
+}
+
+/// A name with a copy of the text, where there is one.
+fn copy_of(alloc: Global, name: Result<&str, CertificateFault>) -> Result<Name, CertificateFault>
+    ensures { (defined : Result (List ℕ) CertificateFault) →
+        Gives (λ name. name.now) name.entry defined → Gives (λ name. name) result defined }
+{
+    let name = name?;
+    Ok(Name::new(alloc, name)?)
 }
 
 /// Reads a name.
@@ -45,8 +68,8 @@ pub fn read_name(
     ensures { Reads (λ name value. Gives (λ name. name) name (name_in key value))
         depth reader.old result reader.new }
 {
-    let text = next_text(reader, depth)?;
-    Ok(name_of(alloc, key, text))
+    let name = next_name(key, reader, depth)?;
+    Ok(copy_of(alloc, name))
 }
 
 /// A list with one more at its end, or the first fault.
@@ -64,23 +87,38 @@ pub fn with_next<T: Drop>(
     Ok(found)
 }
 
+/// Names with one more at their end, or the first fault.
+fn with_name(
+    found: Result<PackedNames, CertificateFault>,
+    next: Result<&str, CertificateFault>,
+) -> Result<PackedNames, CertificateFault>
+    ensures { (part : Data → Result (List ℕ) CertificateFault) (front : List Data)
+        (value : Data) → Gives (λ all. all) found (each part front) →
+        Gives (λ one. one.now) next.entry (part value) →
+        Gives (λ all. all) result (each part (front ++ value ∷ [])) }
+{
+    let mut found = found?;
+    let next = next?;
+    found.push(next)?;
+    Ok(found)
+}
+
 /// Reads the names of a list that was entered.
 fn read_list(
     alloc: Global,
     key: Key,
     reader: &mut Reader<'_>,
     depth: usize,
-) -> Result<Result<Vec<Name>, CertificateFault>, Invalid>
-    ensures { ReadsItems
-        (λ names values. Gives (λ all. all.items) names (each (name_in key) values))
+) -> Result<Result<PackedNames, CertificateFault>, Invalid>
+    ensures { ReadsItems (λ names values. Gives (λ all. all) names (each (name_in key) values))
         depth reader.old result reader.new }
 {
     items_in_turn();
     values_take_tokens();
-    let mut names: Result<Vec<Name>, CertificateFault> = Ok(Vec::new(alloc));
+    let mut names: Result<PackedNames, CertificateFault> = Ok(PackedNames::new(alloc));
     'items: while !reader.take_end_array() {
-        let name = read_name(alloc, key, reader, depth)?;
-        names = with_next(names, name);
+        let name = next_name(key, reader, depth)?;
+        names = with_name(names, name);
     }
     Ok(names)
 }
@@ -91,7 +129,7 @@ pub fn read_names(
     key: Key,
     reader: &mut Reader<'_>,
     depth: usize,
-) -> Result<Result<Names, CertificateFault>, Invalid>
+) -> Result<Result<PackedNames, CertificateFault>, Invalid>
     ensures { Reads (λ names value. Gives (λ names. names) names (names_from key value))
         depth reader.old result reader.new }
 {
@@ -101,7 +139,7 @@ pub fn read_names(
     match read_list(alloc, key, reader, depth - 1)? {
         Ok(mut names) => {
             names.shrink_to_fit();
-            Ok(Ok(Names::new(names)))
+            Ok(Ok(names))
         }
         Err(fault) => Ok(Err(fault)),
     }

@@ -12,11 +12,11 @@ use crate::certificate::Certificate;
 use crate::fault::CertificateFault;
 use crate::fields::read_names;
 use crate::key::Key;
+use crate::packed_names::PackedNames;
 use crate::ways::{Entries, read_ways};
 use json::{Invalid, Reader, Scratch};
 use mk_json::laws::{last_value_counts, members_in_turn, values_take_tokens, whole_text};
 use mk_json::{MAX_DEPTH, enter_object, next_integer, skip_value, text_in};
-use mk_lines::Names;
 use std::alloc::Global;
 
 /// What the members of a certificate give so far: of each key its last value, or its fault, and
@@ -24,7 +24,7 @@ use std::alloc::Global;
 #[derive(Drop)]
 struct Parts {
     format: Result<(), CertificateFault>,
-    goals: Result<Names, CertificateFault>,
+    goals: Result<PackedNames, CertificateFault>,
     ways: Entries,
     alone: bool,
 }

@@ -14,10 +14,11 @@ use crate::certificate::{Finish, Way};
 use crate::fault::CertificateFault;
 use crate::fields::{read_finish, read_name, read_names, with_next};
 use crate::key::Key;
+use crate::packed_names::PackedNames;
 use json::{Invalid, Reader};
 use mk_json::laws::{items_in_turn, last_value_counts, members_in_turn, values_take_tokens};
 use mk_json::{enter_array, enter_object, skip_value};
-use mk_lines::{Name, Names};
+use mk_lines::Name;
 use std::alloc::Global;
 
 /// What the members of a way give so far: of each key its last value, or its fault, and whether
@@ -26,7 +27,7 @@ use std::alloc::Global;
 struct WayParts {
     finish: Result<Finish, CertificateFault>,
     file: Result<Name, CertificateFault>,
-    path: Result<Names, CertificateFault>,
+    path: Result<PackedNames, CertificateFault>,
     recipe: Result<Name, CertificateFault>,
     alone: bool,
 }

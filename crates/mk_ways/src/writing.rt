@@ -7,17 +7,17 @@ ghost use Rattle.serde_json.specs.Written.{compact_text, comma_if, has_float, it
 ghost use Rattle.mk_ways.specs.Writing.{names_value, way_value, value_of};
 
 use crate::certificate::{Certificate, Way};
-use mk_lines::Name;
+use crate::packed_names::PackedNames;
 use serde_json::{Value, json};
 use std::alloc::{AllocError, Global};
 
 /// The JSON value of names.
-fn names_value(alloc: Global, names: &[Name]) -> Result<Value, AllocError>
+fn names_value(alloc: Global, names: &PackedNames) -> Result<Value, AllocError>
     ensures { IfOk result (λ value. view value ≡ names_value names.now) }
 {
     let mut texts = Vec::with_capacity(alloc, names.len())?;
-    for name in names {
-        texts.push(Value::try_from_str(alloc, name.as_str())?)?;
+    for place in 0..names.len() {
+        texts.push(Value::try_from_str(alloc, names.at(place))?)?;
     }
     Ok(Value::Array(texts))
 }
@@ -26,7 +26,7 @@ fn names_value(alloc: Global, names: &[Name]) -> Result<Value, AllocError>
 fn way_value(alloc: Global, way: &Way) -> Result<Value, AllocError>
     ensures { IfOk result (λ value. view value ≡ way_value way.now) }
 {
-    let path = names_value(alloc, way.path.as_slice())?;
+    let path = names_value(alloc, &way.path)?;
     let end = way.finish.as_str();
     json!(in alloc; {
         "end": end,
@@ -47,7 +47,7 @@ fn push_value(alloc: Global, text: &mut String, value: &Value) -> Result<(), All
 }
 
 /// Adds the text of names.
-fn push_names(alloc: Global, text: &mut String, names: &[Name]) -> Result<(), AllocError>
+fn push_names(alloc: Global, text: &mut String, names: &PackedNames) -> Result<(), AllocError>
     ensures { OnOk result (string_bytes text.new ≡
         string_bytes text.old ++ compact_text (names_value names.now)) }
 {
@@ -96,7 +96,7 @@ pub fn certificate_text(alloc: Global, certificate: &Certificate) -> Result<Stri
     ensures { IfOk result (λ text. string_bytes text ≡ compact_text (value_of certificate.now)) }
 {
     let mut text = String::from_str(alloc, "{\"format\":1,\"goals\":")?;
-    push_names(alloc, &mut text, certificate.goals.as_slice())?;
+    push_names(alloc, &mut text, &certificate.goals)?;
     text.push_str(",\"ways\":[")?;
     push_ways(alloc, &mut text, &certificate.ways)?;
     text.push_str("}")?;

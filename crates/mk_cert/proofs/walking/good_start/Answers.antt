@@ -1,54 +1,54 @@
-use Rattle.std.proofs.Common.{◌≡◌, ◌∷◌, ◌∙◌, ℕ, List, true, ap, sym, subst}
+use Rattle.std.proofs.Common.{◌≡◌, ◌∷◌, ◌∙◌, ℕ, List, true, drop, ap, sym, subst}
 use Rattle.std.specs.Prelude.{bytes_eq}
 use Rattle.std.proofs.lemmas.Bool.{true≢false, not-false}
 use Rattle.std.proofs.lemmas.Slice.Eq.{bytes_eq-Decides}
 use Rattle.mk_ways.specs.Certificate.{Way}
 use Rattle.mk_cert.specs.Subject.{name_of}
 use Rattle.mk_cert.specs.Verdict.{NeedsWay}
-use Rattle.mk_cert.proofs.Walks.{good_begins, good_from, good_entry}
+use Rattle.mk_cert.proofs.Walks.{split_first, good_begins, good_from, good_entry}
 use Rattle.mk_cert.proofs.walking.good_start.Goals as goal
 
-pub returns-in_default-recipe_named : goal.returns-in_default-recipe_named
-returns-in_default-recipe_named c = λ good.
+pub returns-in_default : goal.returns-in_default
+returns-in_default c = λ good.
     let x = c.args.subject.now in
     let w = c.args.way.now in
-    let path : w.path ≡ c.in-Some.first.now ∷ c.in-Some.others.now = sym (ap (λ (v : Way). v.path) c.way.view_is) ∙ (sym c.as_slice.ensures ∙ c.in-Some.ensures.cases.0) in
-    let (same, start) = good_begins x w c.in-Some.first.now c.in-Some.others.now path good in
-    c.in_default-recipe_named.ensures start.0 start.1 (start.2 ∙ sym c.as_str-3.ensures)
+    let path = split_first c.way.inside.path w.path c.at-first.result.now (ap (λ (v : Way). v.path) c.way.view_is) (sym c.is_empty.ensures ∙ c.if-is_empty.false) c.at-first.ensures in
+    let (same, start) = good_begins x w c.at-first.result.now (drop 1 w.path) path good in
+    c.in_default.ensures start.0 start.1 start.2
 
 pub returns-then-not-needs_way : goal.returns-then-not-needs_way
 returns-then-not-needs_way c = λ good.
     let x = c.args.subject.now in
     let w = c.args.way.now in
-    let path : w.path ≡ c.in-Some.first.now ∷ c.in-Some.others.now = sym (ap (λ (v : Way). v.path) c.way.view_is) ∙ (sym c.as_slice.ensures ∙ c.in-Some.ensures.cases.0) in
-    let file : c.as_str-4.result.now ≡ w.file = c.as_str-4.ensures ∙ ap (λ (v : Way). v.file) c.way.view_is in
-    let start = c.in-Some-recipe_named.start in
-    let from = good_from x c.graph-graph.ensures.graph c.names_have_one_number.ensures w start c.in-Some.first.now c.in-Some.others.now path c.in-Some-recipe_named.ensures.0 (c.in-Some-recipe_named.ensures.1 ∙ c.as_str-3.ensures) good in
+    let path = split_first c.way.inside.path w.path c.at-first.result.now (ap (λ (v : Way). v.path) c.way.view_is) (sym c.is_empty.ensures ∙ c.if-is_empty.false) c.at-first.ensures in
+    let file : c.as_str-2.result.now ≡ w.file = c.as_str-2.ensures ∙ ap (λ (v : Way). v.file) c.way.view_is in
+    let start = c.in-Some.start in
+    let from = good_from x c.graph-graph.ensures.graph c.names_have_one_number.ensures w start c.at-first.result.now (drop 1 w.path) path c.in-Some.ensures.0 (c.in-Some.ensures.1) good in
     true≢false (sym (c.needs_way.ensures.1 (subst (λ (f : List ℕ). NeedsWay x start f) (sym file) from.needed)) ∙ c.if-not-needs_way.true)
 
 pub returns-then-not-leads : goal.returns-then-not-leads
 returns-then-not-leads c = λ good.
     let x = c.args.subject.now in
     let w = c.args.way.now in
-    let path : w.path ≡ c.in-Some.first.now ∷ c.in-Some.others.now = sym (ap (λ (v : Way). v.path) c.way.view_is) ∙ (sym c.as_slice.ensures ∙ c.in-Some.ensures.cases.0) in
-    let start = c.in-Some-recipe_named.start in
-    let from = good_from x c.graph-graph.ensures.graph c.names_have_one_number.ensures w start c.in-Some.first.now c.in-Some.others.now path c.in-Some-recipe_named.ensures.0 (c.in-Some-recipe_named.ensures.1 ∙ c.as_str-3.ensures) good in
+    let path = split_first c.way.inside.path w.path c.at-first.result.now (ap (λ (v : Way). v.path) c.way.view_is) (sym c.is_empty.ensures ∙ c.if-is_empty.false) c.at-first.ensures in
+    let start = c.in-Some.start in
+    let from = good_from x c.graph-graph.ensures.graph c.names_have_one_number.ensures w start c.at-first.result.now (drop 1 w.path) path c.in-Some.ensures.0 (c.in-Some.ensures.1) good in
     true≢false (sym (c.leads.ensures.1 (record { last = from.last; over = from.over; ends = from.ends; others = from.others })) ∙ c.if-not-leads.true)
 
 pub returns : goal.returns
 returns c =
     let x = c.args.subject.now in
     let w = c.args.way.now in
-    let path : w.path ≡ c.in-Some.first.now ∷ c.in-Some.others.now = sym (ap (λ (v : Way). v.path) c.way.view_is) ∙ (sym c.as_slice.ensures ∙ c.in-Some.ensures.cases.0) in
-    let file : c.as_str-4.result.now ≡ w.file = c.as_str-4.ensures ∙ ap (λ (v : Way). v.file) c.way.view_is in
-    let recipe : c.as_str-2.result.now ≡ w.recipe = c.as_str-2.ensures ∙ ap (λ (v : Way). v.recipe) c.way.view_is in
-    let start = c.in-Some-recipe_named.start in
-    let named : name_of x start ≡ c.in-Some.first.now = c.in-Some-recipe_named.ensures.1 ∙ c.as_str-3.ensures in
-    let equal : bytes_eq c.as_str.result.now c.as_str-2.result.now ≡ true = not-false (bytes_eq c.as_str.result.now c.as_str-2.result.now) (sym c.ne.ensures ∙ c.if-ne.false) in
-    let begins : c.in-Some.first.now ≡ w.recipe = sym c.as_str.ensures ∙ ((bytes_eq-Decides c.as_str.result.now c.as_str-2.result.now).0 equal ∙ recipe) in
+    let path = split_first c.way.inside.path w.path c.at-first.result.now (ap (λ (v : Way). v.path) c.way.view_is) (sym c.is_empty.ensures ∙ c.if-is_empty.false) c.at-first.ensures in
+    let file : c.as_str-2.result.now ≡ w.file = c.as_str-2.ensures ∙ ap (λ (v : Way). v.file) c.way.view_is in
+    let recipe : c.as_str.result.now ≡ w.recipe = c.as_str.ensures ∙ ap (λ (v : Way). v.recipe) c.way.view_is in
+    let start = c.in-Some.start in
+    let named : name_of x start ≡ c.at-first.result.now = c.in-Some.ensures.1 in
+    let equal : bytes_eq c.at-first.result.now c.as_str.result.now ≡ true = not-false (bytes_eq c.at-first.result.now c.as_str.result.now) (sym c.ne.ensures ∙ c.if-ne.false) in
+    let begins : c.at-first.result.now ≡ w.recipe = (bytes_eq-Decides c.at-first.result.now c.as_str.result.now).0 equal ∙ recipe in
     let it = c.leads.ensures.0 c.if-not-leads.false in
     let needed : NeedsWay x start w.file = subst (λ (f : List ℕ). NeedsWay x start f) file (c.needs_way.ensures.0 c.if-not-needs_way.false) in (
-      good_entry x w start c.in-Some.others.now it.last (path ∙ ap (λ (n : List ℕ). n ∷ c.in-Some.others.now) (sym named)) (sym (named ∙ begins)) c.in-Some-recipe_named.ensures.0 needed it.over it.ends it.others,
-      c.in-Some-recipe_named.ensures.0,
+      good_entry x w start (drop 1 w.path) it.last (path ∙ ap (λ (n : List ℕ). n ∷ (drop 1 w.path)) (sym named)) (sym (named ∙ begins)) c.in-Some.ensures.0 needed it.over it.ends it.others,
+      c.in-Some.ensures.0,
       named ∙ begins,
     )

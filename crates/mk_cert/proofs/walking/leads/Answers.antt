@@ -1,5 +1,4 @@
-use Rattle.std.proofs.Common.{◌≡◌, ◌∙◌, [], ℕ, List, true, length, ap, sym, subst}
-use Rattle.std.specs.Prelude.{◌==◌}
+use Rattle.std.proofs.Common.{◌≡◌, ◌∙◌, [], ℕ, List, true, length, drop, length-drop, arith, ap, sym, subst}
 use Rattle.std.proofs.lemmas.Bool.{true≢false}
 use denote.Enum.Bare.{sameb}
 use Rattle.mk_ways.specs.contracts.certificate.Finish.{the_type}
@@ -8,33 +7,37 @@ use Rattle.mk_ways.specs.declared.certificate.Finish.{Finish}
 use Rattle.mk_ways.specs.declared.certificate.Finish.TheVariants.{Written}
 use Rattle.mk_cert.specs.Subject.{footprints}
 use Rattle.mk_cert.specs.Paths.{EndsAt}
+use Rattle.mk_cert.specs.Target.{Target}
+use Rattle.mk_cert.specs.Walking.{GoesOver}
 use Rattle.mk_cert.proofs.Walks.{one_end}
 use Rattle.mk_cert.proofs.walking.leads.Goals as goal
-use Rattle.mk_cert.proofs.walking.leads.Goals.{else-is_empty-via-then-is_empty+else-eq, else-is_empty-via-else-is_empty}
+use Rattle.mk_cert.proofs.walking.leads.Goals.{else-len-lt2-via-then-len-lt2+else-eq, else-len-lt2-via-else-len-lt2}
 
 pub returns : goal.returns
 returns c =
     let x = c.args.subject.now in
     let w = c.args.way.now in
-    let names = c.args.others.now in
+    let names = drop 1 w.path in
+    let path : c.way.inside.path ≡ w.path = ap (λ (v : Way). v.path) c.way.view_is in
+    let over : GoesOver x c.args.start names c.in-Some.last = subst (λ (ns : List (List ℕ)). GoesOver x c.args.start (drop 1 ns) c.in-Some.last) path c.in-Some.ensures in
     let g = x.graph in
     let s = footprints x.setting in
     let finish : c.way.inside.finish ≡ w.finish = ap (λ (v : Way). v.finish) c.way.view_is in
-    let file : c.as_str.result.now ≡ w.file = c.as_str.ensures ∙ ap (λ (v : Way). v.file) c.way.view_is in
+    let file : c.target_of-file.result.file ≡ w.file = ap (λ (v : Target). v.file) c.target_of-file.ensures ∙ (c.as_str.ensures ∙ ap (λ (v : Way). v.file) c.way.view_is) in
     let others : w.finish ≡ Written → ¬ (names ≡ []) =
-    elim c.else-is_empty.branch [
-      | else-is_empty-via-then-is_empty+else-eq k ↦ λ written none.
+    elim c.else-len-lt2.branch [
+      | else-len-lt2-via-then-len-lt2+else-eq k ↦ λ written none.
           let same : sameb the_type c.way.inside.finish Written ≡ true = ap (λ (f : Finish). sameb the_type f Written) (finish ∙ written) in
           true≢false (sym same ∙ (sym k.eq.ensures ∙ k.if-eq.false))
-      | else-is_empty-via-else-is_empty k ↦ λ written none. true≢false (sym (c.is_empty.ensures ∙ ap (λ (ns : List (List ℕ)). length ns == 0) none) ∙ k.if-is_empty.false)
+      | else-len-lt2-via-else-len-lt2 k ↦ λ written none. absurd (omega (arith, k.if-len-lt2.false, c.len.ensures, ap length path, ap length none, length-drop 1 w.path))
     ] in (
       λ t. record {
         last = c.in-Some.last;
-        over = c.in-Some.ensures;
+        over = over;
         ends = subst (λ (h : Finish). EndsAt g s w.file h c.in-Some.last) finish (subst (λ (f : List ℕ). EndsAt g s f c.way.inside.finish c.in-Some.last) file (c.ends_at.ensures.0 t));
         others = others;
       },
       λ it.
-          let same : it.last ≡ c.in-Some.last = one_end x c.graph-graph.ensures.graph c.names_have_one_number.ensures c.args.start names it.last c.in-Some.last it.over c.in-Some.ensures in
+          let same : it.last ≡ c.in-Some.last = one_end x c.graph-graph.ensures.graph c.names_have_one_number.ensures c.args.start names it.last c.in-Some.last it.over over in
           c.ends_at.ensures.1 (subst (λ (f : List ℕ). EndsAt g s f c.way.inside.finish c.in-Some.last) (sym file) (subst (λ (h : Finish). EndsAt g s w.file h c.in-Some.last) (sym finish) (subst (λ (n : ℕ). EndsAt g s w.file w.finish n) same it.ends))),
     )

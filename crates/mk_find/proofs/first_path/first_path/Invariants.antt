@@ -4,7 +4,7 @@ use Rattle.mk_find.proofs.first_path.first_path.Given as goal
 
 abbrev pub invariant-loop-number : goal.invariant-loop-number
 invariant-loop-number l =
-    (l.search ≡ l.fn.search) × EndsNoneBefore l.subject l.file l.fn.search.start l.place
+    (l.search ≡ l.fn.search) × EndsNoneBefore l.subject l.file.file l.fn.search.start l.place
 
 abbrev pub decreases-loop-number : goal.decreases-loop-number
 decreases-loop-number l = length l.subject.graph.nodes - l.place

@@ -8,7 +8,7 @@ use Rattle.mk_ways.proofs.fields.read_list.Goals as goal
 
 pub items-init : goal.items-init
 unfolding each
-items-init c = ([], c.items_in_turn.ensures.begins c.args.depth c.args.reader.now, rw c.new.ensures.items refl)
+items-init c = ([], c.items_in_turn.ensures.begins c.args.depth c.args.reader.now, rw c.new.ensures refl)
 
 pub returns-in_err-name : goal.returns-in_err-name
 returns-in_err-name c =
@@ -22,8 +22,8 @@ items-preserved c =
     let l = c.items in
     let going : (after_end_array l.reader ≡ None) × (c.take_end_array.new.self ≡ l.reader) = grind arith in
     let found = c.in_ok-name.ensures in
-    let passed : next_value c.args.depth l.reader ≡ Some (found.0, c.read_name.new.reader) = rw (← going.1) found.1 in (
+    let passed : next_value c.args.depth l.reader ≡ Some (found.0, c.next_name.new.reader) = rw (← going.1) found.1 in (
       l.invariant.0 ++ found.0 ∷ [],
-      c.items_in_turn.ensures.goes_on c.args.depth c.args.reader.now l.invariant.0 l.reader c.read_name.new.reader found.0 l.invariant.1 going.0 passed,
-      c.with_next-names.ensures (name_in c.args.key) l.invariant.0 found.0 l.invariant.2 found.2,
+      c.items_in_turn.ensures.goes_on c.args.depth c.args.reader.now l.invariant.0 l.reader c.next_name.new.reader found.0 l.invariant.1 going.0 passed,
+      c.with_name-names.ensures (name_in c.args.key) l.invariant.0 found.0 l.invariant.2 found.2,
     )

@@ -7,7 +7,7 @@ use Rattle.mk_ways.proofs.fields.read_list.Given as goal
 
 -- the names of the values so far
 abbrev pub invariant-items : goal.invariant-items
-invariant-items l = (values : List Data) × ItemsRead l.depth l.initial.reader values l.reader × Gives (λ all. all.items) l.names (each (name_in l.key) values)
+invariant-items l = (values : List Data) × ItemsRead l.depth l.initial.reader values l.reader × Gives (λ all. all) l.names (each (name_in l.key) values)
 
 abbrev pub decreases-items : goal.decreases-items
 decreases-items l = length l.reader

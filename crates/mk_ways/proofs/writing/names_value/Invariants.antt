@@ -4,5 +4,5 @@ use Rattle.serde_json.specs.View.{view}
 use Rattle.mk_ways.proofs.writing.names_value.Given as goal
 
 -- the texts so far
-abbrev pub invariant-loop-name : goal.invariant-loop-name
-invariant-loop-name l = map view l.texts.items ≡ map string (take l.name-index l.names)
+abbrev pub invariant-loop-place : goal.invariant-loop-place
+invariant-loop-place l = map view l.texts.items ≡ map string (take l.place l.names)

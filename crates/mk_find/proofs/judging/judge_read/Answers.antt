@@ -1,0 +1,52 @@
+-- A read to whose file a path leads isn't stale, and where one is found to be stale something is found.
+use Rattle.std.proofs.Common.{◌∷◌, [], ℕ, inl, refl, subst}
+use Rattle.mk_cert.specs.Candidates.{stale}
+use Rattle.mk_cert.specs.Conditions.{IsStale}
+use Rattle.mk_find.specs.declared.standing.Standing.{Standing}
+use Rattle.mk_find.specs.declared.standing.Standing.TheVariants.{Fixed, Led}
+use Rattle.mk_find.specs.Standing.{IsStanding}
+use Rattle.mk_find.proofs.Adding.{adds_none}
+use Rattle.mk_find.proofs.AddingEntries.{nothing_kept}
+use Rattle.mk_find.proofs.Noting.{path_not_stale}
+use Rattle.mk_find.proofs.judging.judge_read.Goals as goal
+
+pub returns-in-Fixed-clause-found : goal.returns-in-Fixed-clause-found
+returns-in-Fixed-clause-found c =
+    let x = c.args.subject.now in
+    let f = c.args.file.now in
+    let t = c.args.entry.now.number in
+    let at = subst (λ (n : ℕ). IsStanding x n f c.in_ok-standing_of.field-0) c.requires.start c.in_ok-standing_of.ensures.standing in
+    let so : IsStanding x t f Fixed = subst (λ (s : Standing). IsStanding x t f s) c.in-Fixed.is at in
+    adds_none x (stale t f) c.args.found.now.items (λ is. so is.1)
+
+pub returns-in_ok-entry_along-in-Led-clause-found :
+    goal.returns-in_ok-entry_along-in-Led-clause-found
+returns-in_ok-entry_along-in-Led-clause-found c =
+    let x = c.args.subject.now in
+    let f = c.args.file.now in
+    let t = c.args.entry.now.number in
+    let p = c.in-Led.path in
+    let at = subst (λ (n : ℕ). IsStanding x n f c.in_ok-standing_of.field-0) c.requires.start c.in_ok-standing_of.ensures.standing in
+    let so : IsStanding x t f (Led p) = subst (λ (s : Standing). IsStanding x t f s) c.in-Led.is at in
+    adds_none x (stale t f) c.args.found.now.items (path_not_stale c.paths_are_ways.ensures x f t p.nodes.items p.finish so.1)
+
+pub returns-in-Led-2-clause-found : goal.returns-in-Led-2-clause-found
+returns-in-Led-2-clause-found c =
+    let x = c.args.subject.now in
+    let f = c.args.file.now in
+    let t = c.args.entry.now.number in
+    let p = c.in-Led-2.field-0 in
+    let at = subst (λ (n : ℕ). IsStanding x n f c.in_ok-standing_of.field-0) c.requires.start c.in_ok-standing_of.ensures.standing in
+    let so : IsStanding x t f (Led p) = subst (λ (s : Standing). IsStanding x t f s) c.in-Led-2.is at in
+    adds_none x (stale t f) c.args.found.now.items (path_not_stale c.paths_are_ways.ensures x f t p.nodes.items p.finish so.1)
+
+pub returns-in_ok-note_stale-in-Stale-clause-way :
+    goal.returns-in_ok-note_stale-in-Stale-clause-way
+returns-in_ok-note_stale-in-Stale-clause-way c = λ empty needed.
+    let x = c.args.subject.now in
+    let f = c.args.file.now in
+    let t = c.args.entry.now.number in
+    let at = subst (λ (n : ℕ). IsStanding x n f c.in_ok-standing_of.field-0) c.requires.start c.in_ok-standing_of.ensures.standing in
+    let so : IsStale x t f = subst (λ (s : Standing). IsStanding x t f s) c.in-Stale.is at in
+    let added = c.in_ok-note_stale-in-Stale.ensures x c.requires.entry so in
+    (c.listed_exactly.ensures x (stale t f ∷ []) [] (nothing_kept x (stale t f ∷ []) c.args.found.now.items c.note_stale.new.found.items added empty) (stale t f)).1 (inl refl, so)

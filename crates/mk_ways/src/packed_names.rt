@@ -1,0 +1,97 @@
+//! Names in one text.
+
+ghost use Rattle.std.specs.Prelude.{◌≡◌, ◌==◌, ◌<◌, ◌∷◌, ◌++◌, [], length, slice_index_or, OnOk, OnErr};
+
+use std::alloc::{AllocError, Global};
+use std::marker::Model;
+
+/// Names in their order, which stand one behind another in one text. A contract sees a list of
+/// lists of bytes.
+///
+/// A name takes its bytes and the place where it ends. A list of texts of their own would take ten
+/// times that where names are short.
+#[derive(Debug, Drop)]
+pub struct PackedNames {
+    text: String,
+    ends: Vec<usize>,
+}
+
+impl Model for PackedNames {
+    ghost use Rattle.std.specs.Prelude.{List, ℕ};
+    ghost use Rattle.std.specs.String.{string_bytes};
+    ghost use Rattle.mk_ways.specs.Packing.{cut_from, IsPacked};
+
+    ghost Value = { List (List ℕ) };
+
+    ghost view = { λ p. cut_from 0 p.ends.items (string_bytes p.text) };
+
+    ghost invariant = { λ p. IsPacked p.ends.items (string_bytes p.text) };
+}
+
+/// Where the name at a place begins: where the one before ends.
+fn start_of(ends: &[usize], place: usize) -> usize
+    requires { place < length ends.now }
+    ensures { result ≡ slice_index_or (0 ∷ ends.now) place 0 }
+{
+    match place {
+        0 => 0,
+        _ => ends[place - 1],
+    }
+}
+
+impl PackedNames {
+    /// No names.
+    pub fn new(alloc: Global) -> PackedNames
+        ensures { result ≡ [] }
+    {
+        PackedNames {
+            text: String::new(alloc),
+            ends: Vec::new(alloc),
+        }
+    }
+
+    /// Adds a name at the end. The error is want of memory alone.
+    pub fn push(&mut self, name: &str) -> Result<(), AllocError>
+        ensures ok { OnOk result (self.new ≡ self.old ++ name.now ∷ []) }
+        ensures err { OnErr result (self.new ≡ self.old) }
+    {
+        let start = self.text.len();
+        self.text.push_str(name)?;
+        if let Err(error) = self.ends.push(self.text.len()) {
+            self.text.truncate(start);
+            return Err(error.into());
+        }
+        Ok(())
+    }
+
+    /// Gives back the room that no name takes.
+    pub fn shrink_to_fit(&mut self)
+        ensures { self.new ≡ self.old }
+    {
+        self.text.shrink_to_fit();
+        self.ends.shrink_to_fit();
+    }
+
+    /// How many names there are.
+    pub fn len(&self) -> usize
+        ensures { result ≡ length self.now }
+    {
+        self.ends.len()
+    }
+
+    /// Whether there are none.
+    pub fn is_empty(&self) -> bool
+        ensures { result ≡ (length self.now == 0) }
+    {
+        self.len() == 0
+    }
+
+    /// The name at a place.
+    pub fn at(&self, place: usize) -> &str
+        requires { place < length self.now }
+        ensures { result.now ≡ slice_index_or self.now place [] }
+    {
+        let start = start_of(&self.ends, place);
+        &self.text[start..self.ends[place]]
+    }
+}
