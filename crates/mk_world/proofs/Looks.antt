@@ -8,9 +8,9 @@ use Rattle.std.proofs.lemmas.Slice.Eq.{bytes_eq-Decides}
 use Rattle.mk_lines.specs.Names.{has_name}
 use Rattle.mk_graph.specs.Membership.{Has}
 use Rattle.mk_graph.specs.Graph.{Graph}
-use Rattle.mk_graph.specs.Setting.{FileName, Setting, reads, writes}
+use Rattle.mk_graph.specs.Setting.{FileName, Setting, reads}
 use Rattle.mk_graph.specs.World.{Disk, Making, World, Idle, Busy, content, changed, written}
-use Rattle.mk_graph.specs.Schedule.{Step, Look, End, changed_at, looked, has_put, HasSeenAll, seen_by}
+use Rattle.mk_graph.specs.Schedule.{Look, End, changed_at, looked, has_put}
 use Rattle.mk_graph.specs.SerialMake.{puts}
 use Rattle.mk_world.specs.declared.fault.StepFault.{StepFault}
 use Rattle.mk_world.specs.declared.fault.StepFault.TheVariants.{NotRunning}

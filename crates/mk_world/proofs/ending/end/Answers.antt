@@ -1,4 +1,4 @@
-use Rattle.std.proofs.Common.{refl, ap, ◌∙◌}
+use Rattle.std.proofs.Common.{ap, ◌∙◌}
 use Rattle.mk_world.proofs.Changes.{seen_is, some_of}
 use Rattle.mk_world.proofs.ending.end.Goals as goal
 
