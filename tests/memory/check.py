@@ -25,6 +25,7 @@ PLACES = {
     ("mk_parse/src/reading.rt", "return ReadFault::Memory;"): "behind the test that the fault is want of memory",
     ("mk_ways/src/reading.rt", "return Err(CertificateFault::Memory);"): "the call has no other error",
     ("mk_world/src/running.rt", "return Err(AllocError);"): "behind the test that the fault is want of memory",
+    ("mk_world/src/world.rt", "return Err(AllocError);"): "behind the test that the fault is want of memory",
     ("mk_run/src/starting.rt", "Err(_) => Err(Stop::Memory),"): "the call has no other error",
     ("mk_run/src/running.rt", "return Err(AllocError);"): "behind the test that the fault is want of memory",
 }

@@ -5,6 +5,7 @@ pub mod Counts
 pub mod Stamps
 pub mod Names
 pub mod Histories
+pub mod Notes
 pub mod Taken
 pub mod Races
 pub mod RaceHistories

@@ -11,11 +11,10 @@ use Rattle.mk_graph.specs.World.{Disk}
 use Rattle.mk_graph.specs.Schedule.{Step, Begin, Look, Put, End}
 use Rattle.mk_graph.specs.SerialMake.{puts, whole_run}
 use Rattle.mk_world.specs.Running.{contents_of}
-use Rattle.mk_world.specs.State.{Scene, DiskState, MakeState, setting, disk_of, world_in, world_of}
-use Rattle.mk_show.specs.Histories.{History, MayGoOn, GoesOn, looks_and_puts, puts_in}
-use Rattle.mk_show.proofs.Steps.{legal_front}
+use Rattle.mk_world.specs.State.{Scene, State, DiskState, MakeState, setting, disk_of, world_in, world_of}
+use Rattle.mk_show.specs.Histories.{History, MayGoOn, Notes, looks_and_puts, puts_in}
 use Rattle.mk_show.proofs.Stamps.{contents_are}
-use Rattle.mk_show.proofs.Histories.{goes_nowhere, goes_further, may_further}
+use Rattle.mk_show.proofs.Notes.{notes_nothing, notes_further}
 
 -- the next put of those that are left
 pub next_put : (t : ℕ) (names more : List FileName) (f : FileName) (cs : List ℕ) → names ≡ f ∷ more → 1 ≤ length cs → puts t names cs ≡ Put t f (get_or cs 0 0) ∷ puts t more (take (length cs - 1) (drop 1 cs))
@@ -52,67 +51,43 @@ module _ (h : History) (t : ℕ) (cs : List ℕ) (recipe : (node h.world.scene.g
       let w : writes g (setting h.world.scene) t ≡ ws = cond-true (node g t).recipe (recorded.writes s (name g t)) [] recipe ∙ writing in
       λ i. map (λ f. Look t f) (r i) ++ puts t (w i) cs
 
-  -- nothing is looked at or put without a record
-  pub nothing_goes : None ≡ recorded.record_for h.world.scene.recorded.records (name h.world.scene.graph t) → GoesOn h h (looks_and_puts h t cs)
-  nothing_goes none =
+  -- nothing is noted without a record
+  pub nothing_noted : None ≡ recorded.record_for h.world.scene.recorded.records (name h.world.scene.graph t) → Notes h h (looks_and_puts h t cs)
+  nothing_noted none =
       let s = h.world.scene.recorded in
       let f = name h.world.scene.graph t in
-      subst (λ (l : List Step). GoesOn h h l) (sym (by_record [] [] (read_nowhere s f (sym none)) (written_nowhere s f (sym none)))) (goes_nowhere h)
+      subst (λ (l : List Step). Notes h h l) (sym (by_record [] [] (read_nowhere s f (sym none)) (written_nowhere s f (sym none)))) (notes_nothing h)
 
-  module _ (r : Record) (some : Some r ≡ recorded.record_for h.world.scene.recorded.records (name h.world.scene.graph t)) (files : List FileName) (read : files ≡ r.reads) where
-    as_recorded : (texts : List FileName) → texts ≡ r.writes → looks_and_puts h t cs ≡ map (λ f. Look t f) files ++ puts t texts cs
-    as_recorded texts written =
-        let s = h.world.scene.recorded in
-        let f = name h.world.scene.graph t in
-        by_record files texts (read_there s f r (sym some) ∙ sym read) (written_there s f r (sym some) ∙ sym written)
+  -- the looks and puts of a record are all that a recipe does between begin and end
+  pub both_noted : (r : Record) → Some r ≡ recorded.record_for h.world.scene.recorded.records (name h.world.scene.graph t) → (files texts : List FileName) → files ≡ r.reads → texts ≡ r.writes
+      → (looked end : History) → Notes h looked (map (λ f. Look t f) files) → Notes looked end (puts t texts cs) → Notes h end (looks_and_puts h t cs)
+  both_noted r some files texts read written looked end on more =
+      let s = h.world.scene.recorded in
+      let f = name h.world.scene.graph t in
+      subst (λ (l : List Step). Notes h end l) (sym (by_record files texts (read_there s f r (sym some) ∙ sym read) (written_there s f r (sym some) ∙ sym written))) (notes_further h looked end (map (λ f. Look t f) files) (puts t texts cs) on more)
 
-    -- the looks are legal,
-    pub looks_legal : MayGoOn h (looks_and_puts h t cs) → MayGoOn h (map (λ f. Look t f) files)
-    looks_legal legal = legal_front h.world.scene.graph (setting h.world.scene) (world_of h.world) (map (λ f. Look t f) files) (puts t r.writes cs) (subst (λ (l : List Step). MayGoOn h l) (as_recorded r.writes refl) legal)
-
-    -- the puts behind them are,
-    pub puts_legal : (looked : History) (texts : List FileName) → texts ≡ r.writes → MayGoOn h (looks_and_puts h t cs) → GoesOn h looked (map (λ f. Look t f) files) → MayGoOn looked (puts t texts cs)
-    puts_legal looked texts written legal on = may_further h looked (map (λ f. Look t f) files) (puts t texts cs) on (subst (λ (l : List Step). MayGoOn h l) (as_recorded texts written) legal)
-
-    -- and both are all that is left to do before the end.
-    pub both_go : (looked end : History) (texts : List FileName) → texts ≡ r.writes → GoesOn h looked (map (λ f. Look t f) files) → GoesOn looked end (puts t texts cs) → GoesOn h end (looks_and_puts h t cs)
-    both_go looked end texts written on more = subst (λ (l : List Step). GoesOn h end l) (sym (as_recorded texts written)) (goes_further h looked end (map (λ f. Look t f) files) (puts t texts cs) on more)
+-- begin, looks and puts, and end are a whole run
+pub run_noted : (h begun put ended : History) (t : ℕ) (cs : List ℕ) → Notes h begun (Begin t ∷ []) → Notes begun put (looks_and_puts begun t cs) → Notes put ended (End t ∷ []) → Notes h ended (whole_run h.world.scene.graph (setting h.world.scene) t cs)
+run_noted h begun put ended t cs first more last =
+    let g = h.world.scene.graph in
+    let s = setting h.world.scene in
+    let same : looks_and_puts begun t cs ≡ looks_and_puts h t cs = ap (λ (w : State). map (λ f. Look t f) (reads w.scene.graph (setting w.scene) t) ++ puts t (writes w.scene.graph (setting w.scene) t) cs) first.world in
+    let rest = subst (λ (l : List Step). Notes begun ended (l ++ End t ∷ [])) same (notes_further begun put ended (looks_and_puts begun t cs) (End t ∷ []) more last) in
+    let is : looks_and_puts h t cs ++ End t ∷ [] ≡ map (λ f. Look t f) (reads g s t) ++ (puts t (writes g s t) cs ++ End t ∷ []) = append_assoc (map (λ f. Look t f) (reads g s t)) (puts t (writes g s t) cs) (End t ∷ []) in
+    subst (λ (l : List Step). Notes h ended (Begin t ∷ l)) is (notes_further h begun ended (Begin t ∷ []) (looks_and_puts h t cs ++ End t ∷ []) first rest)
 
 same_disk : (scene : Scene) (d : DiskState) (m : Option MakeState) → world.disk_of (world_in scene d m) ≡ disk_of d
 same_disk scene d None = refl
 same_disk scene d (Some m) = refl
 
-module _ (h : History) (t : ℕ) (cs : List ℕ) (are : cs ≡ contents_of h.world.scene.graph (setting h.world.scene) (disk_of h.world.disk) t) (legal : MayGoOn h (whole_run h.world.scene.graph (setting h.world.scene) t (puts_in h t))) where
-  puts_are : cs ≡ puts_in h t
-  puts_are =
-      let g = h.world.scene.graph in
-      let s = setting h.world.scene in
-      are ∙ (ap (λ (d : Disk). contents_of g s d t) (sym (same_disk h.world.scene h.world.disk h.world.make)) ∙ contents_are g s (world_of h.world) t legal)
+-- what a recipe is to put in a history is what it puts in a plan
+pub puts_are : (h : History) (t : ℕ) (cs : List ℕ) → cs ≡ contents_of h.world.scene.graph (setting h.world.scene) (disk_of h.world.disk) t → MayGoOn h (whole_run h.world.scene.graph (setting h.world.scene) t (puts_in h t)) → cs ≡ puts_in h t
+puts_are h t cs are legal =
+    let g = h.world.scene.graph in
+    let s = setting h.world.scene in
+    are ∙ (ap (λ (d : Disk). contents_of g s d t) (sym (same_disk h.world.scene h.world.disk h.world.make)) ∙ contents_are g s (world_of h.world) t legal)
 
-  run_is : whole_run h.world.scene.graph (setting h.world.scene) t (puts_in h t) ≡ Begin t ∷ (looks_and_puts h t cs ++ End t ∷ [])
-  run_is =
-      let g = h.world.scene.graph in
-      let s = setting h.world.scene in
-      ap (λ (l : List ℕ). whole_run g s t l) (sym puts_are) ∙ ap (λ (l : List Step). Begin t ∷ l) (sym (append_assoc (map (λ f. Look t f) (reads g s t)) (puts t (writes g s t) cs) (End t ∷ [])))
-
-  module _ (begun : History) (on : GoesOn h begun (Begin t ∷ [])) where
-    same : looks_and_puts begun t cs ≡ looks_and_puts h t cs
-    same = ap (λ (k : Scene). map (λ f. Look t f) (reads k.graph (setting k) t) ++ puts t (writes k.graph (setting k) t) cs) on.scene
-
-    rest_legal : MayGoOn begun (looks_and_puts begun t cs ++ End t ∷ [])
-    rest_legal = subst (λ (l : List Step). MayGoOn begun (l ++ End t ∷ [])) (sym same) (may_further h begun (Begin t ∷ []) (looks_and_puts h t cs ++ End t ∷ []) on (subst (λ (l : List Step). MayGoOn h l) run_is legal))
-
-    -- behind the begin, looks and puts are legal,
-    pub middle_legal : MayGoOn begun (looks_and_puts begun t cs)
-    middle_legal = legal_front begun.world.scene.graph (setting begun.world.scene) (world_of begun.world) (looks_and_puts begun t cs) (End t ∷ []) rest_legal
-
-    module _ (put : History) (more : GoesOn begun put (looks_and_puts begun t cs)) where
-      -- then the end,
-      pub end_legal : MayGoOn put (End t ∷ [])
-      end_legal = may_further begun put (looks_and_puts begun t cs) (End t ∷ []) more rest_legal
-
-      -- and that was the whole run.
-      pub run_goes : (ended : History) → GoesOn put ended (End t ∷ []) → GoesOn h ended (whole_run h.world.scene.graph (setting h.world.scene) t (puts_in h t))
-      run_goes ended last =
-          let rest = subst (λ (l : List Step). GoesOn begun ended (l ++ End t ∷ [])) same (goes_further begun put ended (looks_and_puts begun t cs) (End t ∷ []) more last) in
-          subst (λ (l : List Step). GoesOn h ended l) (sym run_is) (goes_further h begun ended (Begin t ∷ []) (looks_and_puts h t cs ++ End t ∷ []) on rest)
+-- so the whole run with it is the one of the plan, by the name of its node too
+pub run_is : (h : History) (t : ℕ) (cs : List ℕ) → cs ≡ contents_of h.world.scene.graph (setting h.world.scene) (disk_of h.world.disk) t → MayGoOn h (whole_run h.world.scene.graph (setting h.world.scene) t (puts_in h t))
+    → (n : ℕ) → n ≡ t → whole_run h.world.scene.graph (setting h.world.scene) n cs ≡ whole_run h.world.scene.graph (setting h.world.scene) t (puts_in h t)
+run_is h t cs are legal n same = λ i. whole_run h.world.scene.graph (setting h.world.scene) (same i) (puts_are h t cs are legal i)

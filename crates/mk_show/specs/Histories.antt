@@ -28,6 +28,13 @@ pub record GoesOn (old new : History) (steps : List model.Step) : Type 0 where
   pub leaves : world_of new.world ≡ model.after_all old.world.scene.graph (setting old.world.scene)
       (world_of old.world) steps
 
+-- Steps are noted in a history, and its world stays.
+pub record Notes (old new : History) (steps : List model.Step) : Type 0 where
+  pub world : new.world ≡ old.world
+  pub more : List Step
+  pub added : new.steps ≡ old.steps ++ more
+  pub are : map (step_of old.world.scene.graph) more ≡ steps
+
 -- what a recipe is to put in the world of a history
 abbrev pub puts_in : History → ℕ → List ℕ
 puts_in h t =

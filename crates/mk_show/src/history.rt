@@ -12,7 +12,7 @@ ghost use Rattle.mk_graph.specs.World.{last_stamp};
 ghost use Rattle.mk_world.specs.Running.{contents_of};
 ghost use Rattle.mk_world.specs.State.{disk_of, number_of, setting};
 ghost use Rattle.mk_world.specs.Steps.{IsFirstOf, step_of};
-ghost use Rattle.mk_show.specs.Histories.{GoesOn, MayGoOn, looks_and_puts, puts_in};
+ghost use Rattle.mk_show.specs.Histories.{GoesOn, MayGoOn, Notes, looks_and_puts, puts_in};
 ghost use Rattle.mk_show.specs.Numbers.{HasSmallNumbers, HaveSmallNumbers};
 
 use mk_foot::{Record, Setting};
@@ -81,6 +81,16 @@ impl<'a> History<'a> {
         self.world.clock()
     }
 
+    /// Notes a step with small numbers.
+    fn note(&mut self, step: Step) -> Result<(), AllocError>
+        requires { HasSmallNumbers step }
+        ensures { OnOk result (Notes self.old self.new
+            (step_of self.old.world.scene.graph step ∷ [])) }
+    {
+        self.steps.push(step)?;
+        Ok(())
+    }
+
     /// Takes a step that is allowed, with small numbers.
     fn take(&mut self, step: Step) -> Result<(), AllocError>
         requires numbers { HasSmallNumbers step }
@@ -89,7 +99,7 @@ impl<'a> History<'a> {
             (step_of self.old.world.scene.graph step ∷ [])) }
     {
         self.world.take_allowed(&step)?;
-        self.steps.push(step)?;
+        self.note(step)?;
         Ok(())
     }
 
@@ -184,40 +194,46 @@ impl<'a> History<'a> {
         self.take(Step::Begin { node })
     }
 
-    /// A running recipe looks at a file.
-    fn look(&mut self, number: usize, file: &str) -> Result<(), AllocError>
-        requires node { number < length self.old.world.scene.graph.nodes }
-        requires legal { MayGoOn self.old (model.Look number file.now ∷ []) }
-        ensures { OnOk result (GoesOn self.old self.new (model.Look number file.now ∷ [])) }
+    /// Notes the begin of a recipe.
+    fn note_begin(&mut self, number: usize) -> Result<(), AllocError>
+        requires { number < length self.old.world.scene.graph.nodes }
+        ensures { OnOk result (Notes self.old self.new (model.Begin number ∷ [])) }
     {
         let node = self.name_of(number)?;
-        let file = self.copy(file)?;
-        self.take(Step::Look { node, file })
+        self.note(Step::Begin { node })
     }
 
-    /// A running recipe puts a content into a file.
-    fn put(&mut self, number: usize, file: &str, content: u64) -> Result<(), AllocError>
-        requires node { number < length self.old.world.scene.graph.nodes }
-        requires legal { MayGoOn self.old (model.Put number file.now content ∷ []) }
-        ensures { OnOk result (GoesOn self.old self.new (model.Put number file.now content ∷ [])) }
+    /// Notes the look of a recipe at a file.
+    fn note_look(&mut self, number: usize, file: &str) -> Result<(), AllocError>
+        requires { number < length self.old.world.scene.graph.nodes }
+        ensures { OnOk result (Notes self.old self.new (model.Look number file.now ∷ [])) }
     {
         let node = self.name_of(number)?;
         let file = self.copy(file)?;
-        self.take(Step::Put {
+        self.note(Step::Look { node, file })
+    }
+
+    /// Notes what a recipe puts into a file.
+    fn note_put(&mut self, number: usize, file: &str, content: u64) -> Result<(), AllocError>
+        requires { number < length self.old.world.scene.graph.nodes }
+        ensures { OnOk result (Notes self.old self.new (model.Put number file.now content ∷ [])) }
+    {
+        let node = self.name_of(number)?;
+        let file = self.copy(file)?;
+        self.note(Step::Put {
             node,
             file,
             content,
         })
     }
 
-    /// A recipe ends.
-    fn end(&mut self, number: usize) -> Result<(), AllocError>
-        requires node { number < length self.old.world.scene.graph.nodes }
-        requires legal { MayGoOn self.old (model.End number ∷ []) }
-        ensures { OnOk result (GoesOn self.old self.new (model.End number ∷ [])) }
+    /// Notes the end of a recipe.
+    fn note_end(&mut self, number: usize) -> Result<(), AllocError>
+        requires { number < length self.old.world.scene.graph.nodes }
+        ensures { OnOk result (Notes self.old self.new (model.End number ∷ [])) }
     {
         let node = self.name_of(number)?;
-        self.take(Step::End { node })
+        self.note(Step::End { node })
     }
 
     /// What is recorded of a node's recipe.
@@ -242,31 +258,27 @@ impl<'a> History<'a> {
         Ok(contents)
     }
 
-    /// A running recipe looks at each of these files.
-    fn look_at(&mut self, number: usize, files: &[String]) -> Result<(), AllocError>
-        requires node { number < length self.old.world.scene.graph.nodes }
-        requires legal { MayGoOn self.old
-            (map (λ f. model.Look number f) (map string_bytes files.now)) }
-        ensures { OnOk result (GoesOn self.old self.new
+    /// Notes the looks of a recipe at these files.
+    fn note_looks(&mut self, number: usize, files: &[String]) -> Result<(), AllocError>
+        requires { number < length self.old.world.scene.graph.nodes }
+        ensures { OnOk result (Notes self.old self.new
             (map (λ f. model.Look number f) (map string_bytes files.now))) }
     {
         for file in files {
-            self.look(number, file.as_str())?;
+            self.note_look(number, file.as_str())?;
         }
         Ok(())
     }
 
-    /// A running recipe puts these contents into these files.
-    fn put_into(
+    /// Notes that a recipe puts these contents into these files.
+    fn note_puts(
         &mut self,
         number: usize,
         files: &[String],
         contents: &[u64],
     ) -> Result<(), AllocError>
-        requires node { number < length self.old.world.scene.graph.nodes }
-        requires legal { MayGoOn self.old
-            (puts number (map string_bytes files.now) contents.now) }
-        ensures { OnOk result (GoesOn self.old self.new
+        requires { number < length self.old.world.scene.graph.nodes }
+        ensures { OnOk result (Notes self.old self.new
             (puts number (map string_bytes files.now) contents.now)) }
     {
         let mut rest = contents;
@@ -275,25 +287,37 @@ impl<'a> History<'a> {
                 return Ok(());
             };
             rest = after;
-            self.put(number, file.as_str(), *content)?;
+            self.note_put(number, file.as_str(), *content)?;
         }
         Ok(())
     }
 
-    /// A running recipe looks at all that it reads, and puts these contents into all that it
+    /// Notes that a recipe looks at all that it reads, and puts these contents into all that it
     /// writes.
-    fn look_and_put(&mut self, number: usize, contents: &[u64]) -> Result<(), AllocError>
+    fn note_files(&mut self, number: usize, contents: &[u64]) -> Result<(), AllocError>
         requires node { number < length self.old.world.scene.graph.nodes }
         requires recipe { (node self.old.world.scene.graph number).recipe ≡ true }
-        requires legal { MayGoOn self.old (looks_and_puts self.old number contents.now) }
-        ensures { OnOk result (GoesOn self.old self.new
+        ensures { OnOk result (Notes self.old self.new
             (looks_and_puts self.old number contents.now)) }
     {
         let Some(record) = self.record_of(number) else {
             return Ok(());
         };
-        self.look_at(number, &record.reads)?;
-        self.put_into(number, &record.writes, contents)?;
+        self.note_looks(number, &record.reads)?;
+        self.note_puts(number, &record.writes, contents)?;
+        Ok(())
+    }
+
+    /// Notes a whole run of a recipe that puts these contents.
+    fn note_run(&mut self, number: usize, contents: &[u64]) -> Result<(), AllocError>
+        requires node { number < length self.old.world.scene.graph.nodes }
+        requires recipe { (node self.old.world.scene.graph number).recipe ≡ true }
+        ensures { OnOk result (Notes self.old self.new (whole_run self.old.world.scene.graph
+            (setting self.old.world.scene) number contents.now)) }
+    {
+        self.note_begin(number)?;
+        self.note_files(number, contents)?;
+        self.note_end(number)?;
         Ok(())
     }
 
@@ -308,9 +332,9 @@ impl<'a> History<'a> {
             (setting self.old.world.scene) number (puts_in self.old number))) }
     {
         let contents = self.contents_for(number)?;
-        self.begin(number)?;
-        self.look_and_put(number, &contents)?;
-        self.end(number)?;
+        let node = self.node(number);
+        self.world.run_allowed(node.name.as_str(), &contents)?;
+        self.note_run(number, &contents)?;
         Ok(())
     }
 }

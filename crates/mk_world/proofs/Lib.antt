@@ -20,3 +20,6 @@ pub mod Fronts
 pub mod OneRun
 pub mod OneFirst
 pub mod Keeping
+pub mod Held
+pub mod Looks
+pub mod Whole

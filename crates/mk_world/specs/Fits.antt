@@ -6,7 +6,8 @@ use Rattle.mk_graph.specs.Setting.{Setting, reads, writes}
 use Rattle.mk_graph.specs.World.{Disk, HasStamp}
 use Rattle.mk_graph.specs.declared.node.Node.{Node}
 use Rattle.mk_world.specs.declared.footprints.Footprint.{Footprint}
-use Rattle.mk_world.specs.State.{Scene, MakeState, setting, run_at}
+use Rattle.mk_graph.specs.Schedule.{HasSeenAll, seen_by}
+use Rattle.mk_world.specs.State.{Scene, MakeState, making_of, setting, run_at}
 
 abbrev pub no_footprint : Footprint
 no_footprint = record { reads = []; writes = [] }
@@ -30,6 +31,11 @@ pub record Fits (scene : Scene) (m : MakeState) : Type 0 where
       length (run_at m.runs t).looks ≡ length (reads scene.graph (setting scene) t)
   pub puts : (t : ℕ) → Has m.running t →
       length (run_at m.runs t).puts ≡ length (writes scene.graph (setting scene) t)
+
+-- a recipe has seen this, in the order of its reads
+pub record HasSeen (scene : Scene) (m : MakeState) (t : ℕ) (seen : List (Option ℕ)) : Type 0 where
+  pub all : HasSeenAll scene.graph (setting scene) (making_of scene m) t
+  pub is : seen_by scene.graph (setting scene) (making_of scene m) t ≡ seen
 
 -- the make that is in progress, if one is, fits
 abbrev pub FitsIn : Scene → Option MakeState → Type 0

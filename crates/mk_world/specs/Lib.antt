@@ -4,6 +4,7 @@ pub mod Known
 pub mod First
 pub mod Listing
 pub mod Fits
+pub mod Places
 pub mod Kept
 pub mod Faults
 pub mod Steps

@@ -154,6 +154,22 @@ pub record AnswersInTurn (old new : State) (steps : List model.Step)
   pub takes : TakesInTurn old.scene.graph (setting old.scene) (world_of old) (world_of new) steps
       result
 
+-- steps that are allowed lead from one world to the other
+pub record Leads (g : Graph) (s : Setting) (old new : World) : Type 0 where
+  pub steps : List model.Step
+  pub legal : model.IsLegal g s old steps
+  pub leaves : new ≡ model.after_all g s old steps
+
+-- What taking steps does that are all allowed: the graph, the setting and the names of the world
+-- stay, and the world is what the steps leave; or memory runs out, behind some of them.
+pub record TakesAllAllowed (old new : State) (steps : List model.Step)
+    (result : Result (Unit {0}) AllocError) : Type 0 where
+  pub scene : new.scene ≡ old.scene
+  pub names : new.disk.names ≡ old.disk.names
+  pub leaves : OnOk result (world_of new ≡
+      model.after_all old.scene.graph (setting old.scene) (world_of old) steps)
+  pub leads : Leads old.scene.graph (setting old.scene) (world_of old) (world_of new)
+
 -- the steps that a line stands for in a world, those of `finish` and `run` among them
 abbrev pub steps_of : State → Order → List model.Step
 steps_of w order = own_steps w.scene.graph (setting w.scene) (state.disk_of w.disk) order
@@ -173,12 +189,6 @@ pub record Follows (stage : Stage) (old new : World) (order : Order)
   pub passes : PassesBefore stage.graph order old behind
   pub takes : TakesInTurn stage.graph stage.setting behind new
       (own_steps stage.graph stage.setting (disk_of behind) order) result
-
--- steps that are allowed lead from one world to the other
-pub record Leads (g : Graph) (s : Setting) (old new : World) : Type 0 where
-  pub steps : List model.Step
-  pub legal : model.IsLegal g s old steps
-  pub leaves : new ≡ model.after_all g s old steps
 
 -- a name in the line isn't known, so nothing is done
 pub record Misnames (stage : Stage) (old new : World) (order : Order) (fault : StepFault) : Type 0

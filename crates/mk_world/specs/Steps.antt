@@ -1,5 +1,5 @@
 -- Steps by names, and what becomes of a world where one is asked for.
-use Rattle.std.specs.Prelude.{◌≡◌, map, None, Result, Ok, Err, OnOk, OnErr, ◌⊎◌}
+use Rattle.std.specs.Prelude.{◌≡◌, List, map, None, Result, Ok, Err, OnOk, OnErr, ◌⊎◌}
 use Rattle.std.specs.declared.alloc.AllocError.{AllocError}
 use Rattle.mk_foot.specs.Setting as recorded
 use Rattle.mk_graph.specs.Graph.{Graph}
@@ -52,6 +52,10 @@ pub record Answers (old new : State) (step : model.Step) (result : Result Unit S
 -- the step is allowed in the world of this state
 abbrev pub MayTake : State → model.Step → Type 0
 MayTake w step = model.Allowed w.scene.graph (setting w.scene) (world_of w) step
+
+-- the steps are all allowed, each in the world that those before it leave
+abbrev pub MayTakeAll : State → List model.Step → Type 0
+MayTakeAll w steps = model.IsLegal w.scene.graph (setting w.scene) (world_of w) steps
 
 -- What taking an allowed step does: the graph, the setting and the names of the world stay, and the
 -- world is what the step leaves; or memory runs out, and nothing changes.

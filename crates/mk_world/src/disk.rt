@@ -1,12 +1,14 @@
 //! What is there, how old it is, and what recipes are known to give.
 
-ghost use Rattle.std.specs.Prelude.{◌≡◌, ◌<◌, ◌↔◌, length, true, map, option_map, IfOk, IfSome, OnOk, OnErr};
+ghost use Rattle.std.specs.Prelude.{◌≡◌, ◌<◌, ◌↔◌, List, length, true, map, option_map, IfOk, IfSome, OnOk, OnErr};
 ghost use Rattle.std.specs.String.{string_bytes};
 ghost use Rattle.mk_lines.specs.Names.{has_name};
 ghost use Rattle.mk_world.specs.First.{first_disk};
 ghost use Rattle.mk_world.specs.Listing.{listing};
 ghost use Rattle.mk_graph.specs.World.{content, written, last_stamp, outcome};
 ghost use Rattle.mk_graph.specs.Schedule.{noted};
+ghost use Rattle.mk_graph.specs.Setting.{FileName};
+ghost use Rattle.mk_world.specs.Places.{content_at, place_among};
 ghost use Rattle.mk_world.specs.State.{aged, disk_of, finished};
 
 use crate::file::{File, Listed};
@@ -43,6 +45,16 @@ impl Model for Disk {
         } };
 
     ghost invariant = { λ d. length d.files.items ≡ length d.names };
+}
+
+/// What the file at a place holds, if it is there.
+fn content_at(files: &[Option<File>], place: usize) -> Option<u64>
+    ensures { result ≡ content_at files.now place }
+{
+    match files.get(place) {
+        Some(Some(file)) => Some(file.content),
+        _ => None,
+    }
 }
 
 impl Disk {
@@ -104,6 +116,33 @@ impl Disk {
             Some(found) => Some(found.content),
             None => None,
         }
+    }
+
+    /// The place of a name among those of the world, or how many these are where it is none.
+    pub fn place(&self, file: &str) -> usize
+        ensures { result ≡ place_among self.now.names file.now }
+    {
+        match self.names.place(file) {
+            Some(place) => place,
+            None => self.names.as_slice().len(),
+        }
+    }
+
+    /// What the files at these places hold, of each that is there.
+    pub fn contents_at(
+        &self,
+        alloc: Global,
+        places: &[usize],
+    ) -> Result<Vec<Option<u64>>, AllocError>
+        ensures { IfOk result (λ seen. (files : List FileName) →
+            places.now ≡ map (place_among self.now.names) files →
+            seen.items ≡ map (content (disk_of self.now)) files) }
+    {
+        let mut seen = Vec::with_capacity(alloc, places.len())?;
+        for place in places {
+            seen.push(content_at(&self.files, *place))?;
+        }
+        Ok(seen)
     }
 
     /// The stamp of a file's last writing, if it is there.

@@ -6,7 +6,7 @@ ghost use Rattle.mk_graph.specs.Setting.{FileName};
 ghost use Rattle.mk_graph.specs.Schedule as model;
 ghost use Rattle.mk_world.specs.Tables.{look};
 ghost use Rattle.mk_world.specs.State.{busy};
-ghost use Rattle.mk_world.specs.Fits.{Fits};
+ghost use Rattle.mk_world.specs.Fits.{Fits, HasSeen};
 ghost use Rattle.mk_world.specs.Steps.{Judges};
 
 use crate::disk::Disk;
@@ -39,6 +39,36 @@ fn all_of<T: Copy + Drop>(
     Ok(Some(all))
 }
 
+/// A running recipe that has seen this ends.
+pub fn end_seeing(
+    alloc: Global,
+    scene: &Scene,
+    disk: &mut Disk,
+    making: &mut Making,
+    sight: Sight,
+) -> Result<(), StepFault>
+    requires fits { Fits scene.now making.old }
+    requires runs { Has making.old.running sight.recipe }
+    requires seen { HasSeen scene.now making.old sight.recipe sight.seen.items }
+    ensures fits { Fits scene.now making.new }
+    ensures names { disk.new.names ≡ disk.old.names }
+    ensures err { OnErr result (making.new ≡ making.old) }
+    ensures disk_err { OnErr result (disk.new ≡ disk.old) }
+    ensures judged { Judges scene.now (busy scene.now making.old disk.old)
+        (busy scene.now making.new disk.new) (model.End sight.recipe) result }
+{
+    let footprint = scene.footprint(sight.recipe);
+    let run = making.run(sight.recipe);
+    let Some(written) = all_of(alloc, &footprint.writes, run.puts())? else {
+        return Err(StepFault::NotAllDone);
+    };
+    if !disk.agrees(&sight, &written) {
+        return Err(StepFault::OtherOutcome);
+    }
+    disk.end(sight, written, making)?;
+    Ok(())
+}
+
 /// A running recipe ends.
 pub fn end(
     alloc: Global,
@@ -63,16 +93,9 @@ pub fn end(
     let Some(seen) = all_of(alloc, &footprint.reads, run.looks())? else {
         return Err(StepFault::NotAllDone);
     };
-    let Some(written) = all_of(alloc, &footprint.writes, run.puts())? else {
-        return Err(StepFault::NotAllDone);
-    };
     let sight = Sight {
         recipe: number,
         seen,
     };
-    if !disk.agrees(&sight, &written) {
-        return Err(StepFault::OtherOutcome);
-    }
-    disk.end(sight, written, making)?;
-    Ok(())
+    end_seeing(alloc, scene, disk, making, sight)
 }

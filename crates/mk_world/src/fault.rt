@@ -1,6 +1,6 @@
 //! Why a step isn't taken.
 
-ghost use Rattle.std.specs.Prelude.{◌≡◌};
+ghost use Rattle.std.specs.Prelude.{◌≡◌, ◌↔◌, true};
 ghost use Rattle.mk_world.specs.declared.fault.StepFault.TheVariants.{Memory};
 
 use std::alloc::{AllocError, AllocFailed};
@@ -53,6 +53,13 @@ pub enum StepFault {
     /// A growth was refused, which may come in place of any answer.
     #[error("memory ran out")]
     Memory,
+}
+
+/// Whether a fault is want of memory.
+pub fn is_memory(fault: &StepFault) -> bool
+    ensures { (result ≡ true) ↔ (fault.now ≡ StepFault.Memory) }
+{
+    matches!(fault, StepFault::Memory)
 }
 
 impl From<AllocError> for StepFault {

@@ -1,36 +1,44 @@
 //! The finishing of a running recipe.
 
-ghost use Rattle.std.specs.Prelude.{◌≡◌, ◌<◌, ℕ, [], ◌∷◌, ◌++◌, length, map, true, IfOk, OnErr};
+ghost use Rattle.std.specs.Prelude.{◌≡◌, ◌<◌, ℕ, [], ◌∷◌, ◌++◌, length, map, true, unwrap_or, IfOk};
 ghost use Rattle.mk_lines.specs.Names.{has_name};
 ghost use Rattle.mk_graph.specs.Membership.{Has};
 ghost use Rattle.mk_graph.specs.Setting.{FileName, reads, writes};
-ghost use Rattle.mk_graph.specs.World.{content};
-ghost use Rattle.mk_graph.specs.Schedule as model;
+ghost use Rattle.mk_graph.specs.World.{content, outcome};
 ghost use Rattle.mk_graph.specs.SerialMake.{puts, rest_of_run};
-ghost use Rattle.mk_world.specs.State.{busy, disk_of, setting};
+ghost use Rattle.mk_world.specs.State.{Scene, busy, disk_of, setting};
 ghost use Rattle.mk_world.specs.Fits.{Fits};
+ghost use Rattle.mk_world.specs.Places.{ArePlaces};
 ghost use Rattle.mk_world.specs.Running.{TakesInTurn, contents_of, new_stamps};
 ghost use Rattle.std.specs.String.{string_bytes};
 
 use crate::disk::Disk;
-use crate::ending::end;
+use crate::ending::end_seeing;
 use crate::fault::StepFault;
 use crate::making::Making;
 use crate::outcomes::Sight;
-use crate::recipes::{look, put};
+use crate::places::Places;
+use crate::recipes::put;
 use crate::scene::Scene;
 use std::alloc::{AllocError, Global};
 
-/// What files hold, of each that is there.
-fn seen_in(alloc: Global, disk: &Disk, files: &[String]) -> Result<Vec<Option<u64>>, AllocError>
-    ensures { IfOk result (λ seen. seen.items ≡
-        map (content (disk_of disk.now)) (map string_bytes files.now)) }
+/// What a recipe sees that looks at all that it reads.
+pub fn sight_of(
+    alloc: Global,
+    places: &Places,
+    disk: &Disk,
+    number: usize,
+) -> Result<Sight, AllocError>
+    ensures recipe { IfOk result (λ sight. sight.recipe ≡ number) }
+    ensures sees { IfOk result (λ sight. (scene : Scene) →
+        ArePlaces scene disk.now.names places.now →
+        sight.seen.items ≡ map (content (disk_of disk.now))
+        (reads scene.graph (setting scene) number)) }
 {
-    let mut seen = Vec::with_capacity(alloc, files.len())?;
-    for file in files {
-        seen.push(disk.content(file.as_str()))?;
-    }
-    Ok(seen)
+    Ok(Sight {
+        recipe: number,
+        seen: disk.contents_at(alloc, places.of(number))?,
+    })
 }
 
 /// The stamps that files take where all are written in turn.
@@ -47,46 +55,52 @@ fn stamps_for(alloc: Global, disk: &Disk, files: &[String]) -> Result<Vec<u64>, 
     Ok(stamps)
 }
 
+/// What a recipe that sees this is finished with: what is known of a run that saw the same, else new
+/// stamps.
+fn contents_seeing(
+    alloc: Global,
+    scene: &Scene,
+    disk: &Disk,
+    sight: &Sight,
+) -> Result<Vec<u64>, AllocError>
+    requires { sight.now.recipe < length scene.now.graph.nodes }
+    ensures { IfOk result (λ contents. contents.items ≡
+        unwrap_or (outcome disk.now.known sight.now.recipe sight.now.seen.items)
+        (new_stamps disk.now.clock (writes scene.now.graph (setting scene.now)
+        sight.now.recipe))) }
+{
+    match disk.known(sight) {
+        Some(known) => Vec::from_slice(alloc, known),
+        None => stamps_for(alloc, disk, scene.footprint(sight.recipe).writes.as_slice()),
+    }
+}
+
 /// What a recipe is finished with: what is known of a run that sees what is there, else new stamps.
 pub fn contents_of(
     alloc: Global,
     scene: &Scene,
+    places: &Places,
     disk: &Disk,
     number: usize,
 ) -> Result<Vec<u64>, AllocError>
-    requires { number < length scene.now.graph.nodes }
+    requires node { number < length scene.now.graph.nodes }
+    requires places { ArePlaces scene.now disk.now.names places.now }
     ensures { IfOk result (λ contents. contents.items ≡
         contents_of scene.now.graph (setting scene.now) (disk_of disk.now) number) }
 {
-    let footprint = scene.footprint(number);
-    let sight = Sight {
-        recipe: number,
-        seen: seen_in(alloc, disk, footprint.reads.as_slice())?,
-    };
-    match disk.known(&sight) {
-        Some(known) => Vec::from_slice(alloc, known),
-        None => stamps_for(alloc, disk, footprint.writes.as_slice()),
-    }
+    let sight = sight_of(alloc, places, disk, number)?;
+    contents_seeing(alloc, scene, disk, &sight)
 }
 
-/// A running recipe looks at each file that it reads.
-fn look_at_all(
-    scene: &Scene,
-    disk: &Disk,
-    making: &mut Making,
-    number: usize,
-) -> Result<(), StepFault>
-    requires fits { Fits scene.now making.old }
-    requires node { number < length scene.now.graph.nodes }
-    ensures fits { Fits scene.now making.new }
-    ensures takes { TakesInTurn scene.now.graph (setting scene.now)
-        (busy scene.now making.old disk.now) (busy scene.now making.new disk.now)
-        (map (λ f. model.Look number f) (reads scene.now.graph (setting scene.now) number)) result }
+/// A look at each file, of which this is seen.
+fn looks_of(alloc: Global, seen: &[Option<u64>]) -> Result<Vec<Option<Option<u64>>>, AllocError>
+    ensures { IfOk result (λ looks. looks.items ≡ map (λ content. Some content) seen.now) }
 {
-    for file in scene.footprint(number).reads.as_slice() {
-        look(scene, disk, making, number, file.as_str())?;
+    let mut looks = Vec::with_capacity(alloc, seen.len())?;
+    for content in seen {
+        looks.push(Some(*content))?;
     }
-    Ok(())
+    Ok(looks)
 }
 
 /// A running recipe puts these contents into the files that it writes.
@@ -118,17 +132,78 @@ fn put_all(
     Ok(())
 }
 
-/// A running recipe looks at each file that it reads, puts the contents into those that it writes,
+/// A running recipe that sees this looks at each file that it reads, puts these contents into those
+/// that it writes, and ends.
+pub fn finish_seeing(
+    alloc: Global,
+    scene: &Scene,
+    disk: &mut Disk,
+    making: &mut Making,
+    sight: Sight,
+    contents: &[u64],
+) -> Result<(), StepFault>
+    requires fits { Fits scene.now making.old }
+    requires node { sight.recipe < length scene.now.graph.nodes }
+    requires sees { sight.seen.items ≡ map (content (disk_of disk.old))
+        (reads scene.now.graph (setting scene.now) sight.recipe) }
+    requires named { (f : FileName) →
+        Has (writes scene.now.graph (setting scene.now) sight.recipe) f →
+        has_name disk.old.names f ≡ true }
+    ensures fits { Fits scene.now making.new }
+    ensures names { disk.new.names ≡ disk.old.names }
+    ensures takes { TakesInTurn scene.now.graph (setting scene.now)
+        (busy scene.now making.old disk.old) (busy scene.now making.new disk.new)
+        (rest_of_run scene.now.graph (setting scene.now) sight.recipe contents.now) result }
+{
+    let number = sight.recipe;
+    if !making.is_running(number) {
+        return Err(StepFault::NotRunning);
+    }
+    let looks = looks_of(alloc, &sight.seen)?;
+    making.look_at_all(number, looks);
+    put_all(scene, disk, making, number, contents)?;
+    end_seeing(alloc, scene, disk, making, sight)
+}
+
+/// A running recipe looks at each file that it reads, puts these contents into those that it writes,
 /// and ends.
+pub fn finish_with(
+    alloc: Global,
+    scene: &Scene,
+    places: &Places,
+    disk: &mut Disk,
+    making: &mut Making,
+    number: usize,
+    contents: &[u64],
+) -> Result<(), StepFault>
+    requires fits { Fits scene.now making.old }
+    requires node { number < length scene.now.graph.nodes }
+    requires places { ArePlaces scene.now disk.old.names places.now }
+    requires named { (f : FileName) → Has (writes scene.now.graph (setting scene.now) number) f →
+        has_name disk.old.names f ≡ true }
+    ensures fits { Fits scene.now making.new }
+    ensures names { disk.new.names ≡ disk.old.names }
+    ensures takes { TakesInTurn scene.now.graph (setting scene.now)
+        (busy scene.now making.old disk.old) (busy scene.now making.new disk.new)
+        (rest_of_run scene.now.graph (setting scene.now) number contents.now) result }
+{
+    let sight = sight_of(alloc, places, disk, number)?;
+    finish_seeing(alloc, scene, disk, making, sight, contents)
+}
+
+/// A running recipe looks at each file that it reads, puts what it is finished with into those that
+/// it writes, and ends.
 pub fn finish(
     alloc: Global,
     scene: &Scene,
+    places: &Places,
     disk: &mut Disk,
     making: &mut Making,
     number: usize,
 ) -> Result<(), StepFault>
     requires fits { Fits scene.now making.old }
     requires node { number < length scene.now.graph.nodes }
+    requires places { ArePlaces scene.now disk.old.names places.now }
     requires named { (f : FileName) → Has (writes scene.now.graph (setting scene.now) number) f →
         has_name disk.old.names f ≡ true }
     ensures fits { Fits scene.now making.new }
@@ -138,8 +213,7 @@ pub fn finish(
         (rest_of_run scene.now.graph (setting scene.now) number
         (contents_of scene.now.graph (setting scene.now) (disk_of disk.old) number)) result }
 {
-    let contents = contents_of(alloc, scene, disk, number)?;
-    look_at_all(scene, disk, making, number)?;
-    put_all(scene, disk, making, number, &contents)?;
-    end(alloc, scene, disk, making, number)
+    let sight = sight_of(alloc, places, disk, number)?;
+    let contents = contents_seeing(alloc, scene, disk, &sight)?;
+    finish_seeing(alloc, scene, disk, making, sight, &contents)
 }

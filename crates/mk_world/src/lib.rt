@@ -16,6 +16,7 @@ mod names;
 mod ordering;
 mod outcomes;
 mod passing;
+mod places;
 mod plan;
 mod progress;
 mod reading;

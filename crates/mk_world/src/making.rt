@@ -6,7 +6,7 @@ ghost use Rattle.mk_lines.specs.Names.{has_name};
 ghost use Rattle.mk_graph.specs.Membership.{Has};
 ghost use Rattle.mk_graph.specs.Turns.{MayTurn, HasAll};
 ghost use Rattle.mk_world.specs.Kept.{IsKept};
-ghost use Rattle.mk_world.specs.State.{Scene, begun, finished, run_at, no_run, start_of, HasLooked, HasPut};
+ghost use Rattle.mk_world.specs.State.{Scene, begun, finished, run_at, no_run, start_of, with_run, HasLooked, HasPut};
 
 use crate::progress::Run;
 use mk_graph::{NodeSet, growth_laws};
@@ -170,6 +170,17 @@ impl Making {
             (HasLooked self.old self.new number reads.now file.now content) }
     {
         self.runs[number].look(reads, file, content)
+    }
+
+    /// Notes looks at all files that the recipe reads, in their order.
+    pub fn look_at_all(&mut self, number: usize, looks: Vec<Option<Option<u64>>>)
+        requires { number < length self.old.runs }
+        ensures { self.new ≡ with_run self.old number (record {
+          looks = looks.items;
+          puts = (run_at self.old.runs number).puts;
+        }) }
+    {
+        self.runs[number].look_at_all(looks);
     }
 
     /// Notes what was put into a file, if the recipe writes it. Answers whether it does.

@@ -76,6 +76,13 @@ impl Run {
         set(reads, &mut self.looks, file, content)
     }
 
+    /// Notes looks at all files that the recipe reads, in their order.
+    pub fn look_at_all(&mut self, looks: Vec<Option<Option<u64>>>)
+        ensures { self.new ≡ record { looks = looks.items; puts = self.old.puts } }
+    {
+        self.looks = looks;
+    }
+
     /// Notes what was put into a file, if the recipe writes it. Answers whether it does.
     pub fn put(&mut self, writes: &NameTable, file: &str, content: u64) -> bool
         requires { length self.old.puts ≡ length writes.now }

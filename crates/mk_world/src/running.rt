@@ -1,6 +1,6 @@
 //! Runs of plans.
 
-ghost use Rattle.std.specs.Prelude.{◌≡◌, ◌++◌, ◌↔◌, true, map, option_map, IfOk, OnOk, OnErr};
+ghost use Rattle.std.specs.Prelude.{◌≡◌, ◌++◌, true, map, option_map, IfOk, OnOk, OnErr};
 ghost use Rattle.std.specs.List.{list_all};
 ghost use Rattle.std.specs.String.{string_bytes};
 ghost use Rattle.mk_graph.specs.World.{disk_of};
@@ -10,7 +10,7 @@ ghost use Rattle.mk_world.specs.Steps.{Answers};
 ghost use Rattle.mk_world.specs.State as state;
 ghost use Rattle.mk_world.specs.Running.{is_known, is_node, goals_among, steps_of, run_steps, content_or_stamp, AnswersInTurn, AnswersLine, Prepares, file_text, files_text, printed, RunsTo, Leads, stage_of};
 
-use crate::fault::StepFault;
+use crate::fault::{StepFault, is_memory};
 use crate::file::Listed;
 use crate::plan::{Order, Plan};
 use crate::world::World;
@@ -166,13 +166,6 @@ fn print(alloc: Global, world: &World, order: &Order, text: &mut String) -> Resu
         Order::End => print_files(alloc, world, text),
         _ => Ok(()),
     }
-}
-
-/// Whether a fault is want of memory.
-fn is_memory(fault: &StepFault) -> bool
-    ensures { (result ≡ true) ↔ (fault.now ≡ StepFault.Memory) }
-{
-    matches!(fault, StepFault::Memory)
 }
 
 /// Runs a plan in a world, line after line, up to the first that is refused.

@@ -2,20 +2,22 @@
 
 ghost use Rattle.std.specs.Prelude.{◌≡◌, map, true, IfOk};
 ghost use Rattle.mk_graph.specs.Schedule as model;
+ghost use Rattle.mk_graph.specs.SerialMake.{rest_of_run, whole_run};
 ghost use Rattle.mk_world.specs.State.{aged, disk_of, number_of, setting};
 ghost use Rattle.mk_world.specs.First.{AreSorted};
 ghost use Rattle.mk_world.specs.Listing.{listing};
-ghost use Rattle.mk_world.specs.Steps.{Answers, IsFirstOf, MayTake, TakesAllowed, step_of};
-ghost use Rattle.mk_world.specs.Running.{AnswersInTurn, PassesIdle, contents_of, finish_steps, is_node, new_stamp};
+ghost use Rattle.mk_world.specs.Steps.{Answers, IsFirstOf, MayTake, MayTakeAll, TakesAllowed, step_of};
+ghost use Rattle.mk_world.specs.Running.{AnswersInTurn, PassesIdle, TakesAllAllowed, contents_of, finish_steps, is_node, new_stamp};
 ghost use Rattle.mk_lines.specs.Names.{has_name};
 
 use crate::disk::Disk;
-use crate::fault::StepFault;
+use crate::fault::{StepFault, is_memory};
 use crate::file::Listed;
 use crate::first::names_of;
 use crate::laws::allowed_where_all_holds;
 use crate::making::Making;
 use crate::names::goals_of;
+use crate::places::Places;
 use crate::scene::Scene;
 use crate::step::Step;
 use crate::{ending, finishing, passing, recipes};
@@ -33,6 +35,7 @@ use std::marker::Model;
 pub struct World<'a> {
     alloc: Global,
     scene: Scene<'a>,
+    places: Places,
     disk: Disk,
     make: Option<Making>,
     readiness: Readiness<'a>,
@@ -43,6 +46,7 @@ impl<'a> Model for World<'a> {
     ghost use Rattle.mk_world.specs.First.{AreNamesOf};
     ghost use Rattle.mk_world.specs.Fits.{FitsIn};
     ghost use Rattle.mk_world.specs.Kept.{IsKeptIn};
+    ghost use Rattle.mk_world.specs.Places.{ArePlaces};
 
     ghost Value = { state.State };
 
@@ -50,7 +54,7 @@ impl<'a> Model for World<'a> {
 
     ghost invariant = { λ w.
         FitsIn w.scene w.make × AreNamesOf w.scene w.disk.names ×
-        IsKeptIn w.scene w.make w.readiness };
+        IsKeptIn w.scene w.make w.readiness × ArePlaces w.scene w.disk.names w.places };
 }
 
 impl<'a> World<'a> {
@@ -68,9 +72,12 @@ impl<'a> World<'a> {
         let readiness = Readiness::new(alloc, graph)?;
         let names = names_of(alloc, graph, setting)?;
         let disk = Disk::first(alloc, setting, names)?;
+        let scene = Scene::new(alloc, graph, setting)?;
+        let places = Places::new(alloc, &scene, &disk)?;
         Ok(World {
             alloc,
-            scene: Scene::new(alloc, graph, setting)?,
+            scene,
+            places,
             disk,
             make: None,
             readiness,
@@ -112,6 +119,27 @@ impl<'a> World<'a> {
         match self.ask(step) {
             Err(StepFault::Memory) => Err(AllocError),
             _ => Ok(()),
+        }
+    }
+
+    /// Runs a recipe whole where each step of the run is allowed, and leaves that to the caller: it
+    /// begins, looks at all that it reads, puts these contents into what it writes, and ends. The
+    /// error is want of memory alone, behind some of the steps.
+    pub fn run_allowed(&mut self, node: &str, contents: &[u64]) -> Result<(), AllocError>
+        requires node { is_node self.old.scene.graph node.now ≡ true }
+        requires allowed { MayTakeAll self.old (whole_run self.old.scene.graph
+            (setting self.old.scene) (number_of self.old.scene.graph node.now) contents.now) }
+        ensures { TakesAllAllowed self.old self.new (whole_run self.old.scene.graph
+            (setting self.old.scene) (number_of self.old.scene.graph node.now) contents.now) result }
+    {
+        match self.run_with(node, contents) {
+            Ok(()) => Ok(()),
+            Err(fault) => {
+                if is_memory(&fault) {
+                    return Err(AllocError);
+                }
+                Ok(())
+            }
         }
     }
 
@@ -164,7 +192,7 @@ impl<'a> World<'a> {
             (number_of self.now.scene.graph node.now)) }
     {
         let number = self.scene.number(node);
-        finishing::contents_of(self.alloc, &self.scene, &self.disk, number)
+        finishing::contents_of(self.alloc, &self.scene, &self.places, &self.disk, number)
     }
 
     /// A source is edited.
@@ -328,9 +356,51 @@ impl<'a> World<'a> {
             return Err(StepFault::NoMake);
         };
         let number = self.scene.number(node);
-        finishing::finish(self.alloc, &self.scene, &mut self.disk, making, number)?;
+        finishing::finish(
+            self.alloc,
+            &self.scene,
+            &self.places,
+            &mut self.disk,
+            making,
+            number,
+        )?;
         self.readiness.note_done(number);
         Ok(())
+    }
+
+    /// A running recipe looks at all that it reads, puts these contents into what it writes, and
+    /// ends.
+    fn finish_with(&mut self, node: &str, contents: &[u64]) -> Result<(), StepFault>
+        requires { is_node self.old.scene.graph node.now ≡ true }
+        ensures { AnswersInTurn self.old self.new (rest_of_run self.old.scene.graph
+            (setting self.old.scene) (number_of self.old.scene.graph node.now) contents.now) result }
+    {
+        let Some(making) = &mut self.make else {
+            return Err(StepFault::NoMake);
+        };
+        let number = self.scene.number(node);
+        finishing::finish_with(
+            self.alloc,
+            &self.scene,
+            &self.places,
+            &mut self.disk,
+            making,
+            number,
+            contents,
+        )?;
+        self.readiness.note_done(number);
+        Ok(())
+    }
+
+    /// A recipe begins, looks at all that it reads, puts these contents into what it writes, and
+    /// ends.
+    fn run_with(&mut self, node: &str, contents: &[u64]) -> Result<(), StepFault>
+        requires { is_node self.old.scene.graph node.now ≡ true }
+        ensures { AnswersInTurn self.old self.new (whole_run self.old.scene.graph
+            (setting self.old.scene) (number_of self.old.scene.graph node.now) contents.now) result }
+    {
+        self.begin(node)?;
+        self.finish_with(node, contents)
     }
 
     /// All ready nodes without recipe are passed, if a make is in progress.

@@ -27,6 +27,7 @@ invariant_of-self-2 c =
       subst (Fits scene) (sym c.in_ok-new.ensures) (rw (c.nodes-many.ensures.value, c.graph-graph.ensures) (started_fits scene c.args.jobs c.in-Some.numbers.items is found.1.within)),
       c.self.invariant.1,
       kept_started scene _ c.self.inside.readiness c.start.new.self c.args.jobs c.in-Some.numbers.items _ same starts c.in_ok-new.ensures,
+      c.self.invariant.3,
     )
 
 pub returns : goal.returns

@@ -1,7 +1,0 @@
-use Rattle.std.proofs.Common.{sym, subst, ◌∙◌}
-use Rattle.mk_show.specs.Numbers.{HaveSmallNumbers}
-use Rattle.mk_show.proofs.Numbers.{one_more}
-use Rattle.mk_show.proofs.history.History.take.Goals as goal
-
-pub invariant_of-self-2 : goal.invariant_of-self-2
-invariant_of-self-2 c = (c.take_allowed.ensures.scene ∙ c.self.invariant.0, subst HaveSmallNumbers (sym c.in_ok-push.ensures.items) (one_more _ _ c.self.invariant.1 c.requires.numbers))
