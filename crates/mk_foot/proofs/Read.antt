@@ -4,10 +4,10 @@ use Rattle.std.specs.Prelude.{IsErr}
 use Rattle.json.specs.Token.{Token}
 use Rattle.json.specs.Json.{parse_map}
 use Rattle.json.specs.declared.reader.Invalid.{Invalid}
-use Rattle.serde_json.specs.Data.{Data, array, object, Members}
+use Rattle.serde_json.specs.Data.{Data, array, Members}
 use Rattle.serde_json.specs.View.{items_of}
 use Rattle.mk_json.specs.Kinds.{elements_of, array_of}
-use Rattle.mk_json.specs.Tokens.{next_value, next_items, next_members, ReadsItems, ReadsMembers, EntersArray, EntersObject}
+use Rattle.mk_json.specs.Tokens.{next_value, next_items, next_members, ReadsItems, ReadsMembers, EntersArray}
 use Rattle.mk_foot.specs.declared.fault.FootFault.{FootFault}
 use Rattle.mk_foot.specs.declared.fault.FootFault.TheVariants.{Shape}
 use Rattle.mk_foot.specs.declared.key.Key.{Key}
@@ -36,9 +36,3 @@ pub array_read : (depth : ℕ) (old mid new : List Token) (entered : Bool) (ds :
     → next_value depth old ≡ Some (array_of ds, new)
 array_read depth old mid new true ds e enters found = enters.1 ∙ ap (parse_map array) found
 array_read depth old mid new false ds e enters found = absurd (true≢false (sym e))
-
--- an object that was entered, and its members
-pub object_read : (depth : ℕ) (old mid new : List Token) (entered : Bool) (ms : Members) → entered ≡ true → EntersObject depth old (Ok entered) mid → next_members (depth - 1) mid ≡ Some (ms, new)
-    → next_value depth old ≡ Some (object ms, new)
-object_read depth old mid new true ms e enters found = enters.1 ∙ ap (parse_map object) found
-object_read depth old mid new false ms e enters found = absurd (true≢false (sym e))
