@@ -23,6 +23,7 @@ PLACES = {
     ("mk_infer/src/fault.rt", "InferFault::Memory"): "the pattern of the test for want of memory",
     ("mk_read/src/fault.rt", "ReadFault::Memory"): "the pattern of the test for want of memory",
     ("mk_parse/src/reading.rt", "return ReadFault::Memory;"): "behind the test that the fault is want of memory",
+    ("mk_foot/src/reading.rt", "return Err(FootFault::Memory);"): "the call has no other error",
     ("mk_ways/src/reading.rt", "return Err(CertificateFault::Memory);"): "the call has no other error",
     ("mk_world/src/running.rt", "return Err(AllocError);"): "behind the test that the fault is want of memory",
     ("mk_world/src/world.rt", "return Err(AllocError);"): "behind the test that the fault is want of memory",

@@ -1,6 +1,9 @@
 pub mod ListTests
 pub mod Steps
 pub mod Members
+pub mod Read
+pub mod Grown
+pub mod PartsPut
 pub mod Sets
 pub mod Targets
 pub mod Same
@@ -11,6 +14,5 @@ pub mod GivenLaws
 pub mod OnceLaws
 pub mod NoJson
 pub mod Formats
-pub mod Taken
 pub mod Apart
 pub mod PlainNames

@@ -1,5 +1,5 @@
 -- Lists that are gone over until the first fault.
-use Rattle.std.proofs.Common.{◌≡◌, ◌+◌, ◌<◌, ◌≤◌, List, [], ◌∷◌, ◌++◌, map, length, get_or, drop, Result, Ok, Err, inl, inr, refl, sym, ap, ◌∙◌, append_assoc, append-nil, ℕ}
+use Rattle.std.proofs.Common.{◌≡◌, ◌+◌, ◌<◌, ◌≤◌, List, [], ◌∷◌, ◌++◌, length, get_or, drop, Result, Ok, Err, inl, inr, refl, sym, ap, ◌∙◌, append_assoc, append-nil, ℕ}
 use Rattle.std.specs.Prelude.{⊤, ◌⊎◌}
 use Rattle.std.proofs.lemmas.List.{drop_more, drop_all}
 use Rattle.mk_foot.specs.declared.fault.FootFault.{FootFault}
@@ -41,31 +41,6 @@ first_fails f front x xs fault whole (inr e) so_far = let failed : each f (x ∷
 pub each_none : {A B : Type 0} (f : A → Result B FootFault) (front : List B) (whole : Result (List B) FootFault) → with_front front (each f []) ≡ whole → whole ≡ Ok front
 unfolding each
 each_none {B = B} f front whole so_far = sym so_far ∙ ap (λ (ys : List B). Ok ys) (append-nil front)
-
--- one more of the list
-pub each_more : {X A B : Type 0} (f : A → Result B FootFault) (seen : X → A) (front : List B) (xs : List X) (i : ℕ) (x : X) (y : B) (whole : Result (List B) FootFault) → x ≡ get_or xs i x → f (seen x) ≡ Ok y
-    → with_front front (each f (map seen (drop i xs))) ≡ whole → i < length xs → with_front (front ++ y ∷ []) (each f (map seen (drop (i + 1) xs))) ≡ whole
-each_more {X = X} f seen front xs i x y whole is e so_far lt =
-    let rest = map seen (drop (i + 1) xs) in
-    let here : f (seen (get_or xs i x)) ≡ Ok y = ap (λ (z : X). f (seen z)) (sym is) ∙ e in
-    let next : each f (map seen (drop i xs)) ≡ (f (seen (get_or xs i x)) >>= λ z. each f rest >>= λ zs. Ok (z ∷ zs)) = ap (λ (ys : List X). each f (map seen ys)) (drop_more xs i x lt) ∙ each_cons f (seen (get_or xs i x)) rest in
-    sym (ap (with_front front) (next ∙ rw here refl) ∙ with_front_more front y (each f rest)) ∙ so_far
-
--- the first that fails
-pub each_fails : {X A B : Type 0} (f : A → Result B FootFault) (seen : X → A) (front : List B) (xs : List X) (i : ℕ) (x : X) (fault : FootFault) (whole : Result (List B) FootFault) → x ≡ get_or xs i x → Fails fault (f (seen x))
-    → with_front front (each f (map seen (drop i xs))) ≡ whole → i < length xs → Fails fault whole
-each_fails f seen front xs i x fault whole is (inl memory) so_far lt = inl memory
-each_fails {X = X} f seen front xs i x fault whole is (inr e) so_far lt =
-    let here : f (seen (get_or xs i x)) ≡ Err fault = ap (λ (z : X). f (seen z)) (sym is) ∙ e in
-    let next : each f (map seen (drop i xs)) ≡ Err fault = ap (λ (ys : List X). each f (map seen ys)) (drop_more xs i x lt) ∙ (each_cons f (seen (get_or xs i x)) (map seen (drop (i + 1) xs)) ∙ rw here refl) in
-    inr (sym so_far ∙ ap (with_front front) next)
-
--- no more of the list
-pub each_ends : {X A B : Type 0} (f : A → Result B FootFault) (seen : X → A) (front : List B) (xs : List X) (i : ℕ) (whole : Result (List B) FootFault) → with_front front (each f (map seen (drop i xs))) ≡ whole → length xs ≤ i → whole ≡ Ok front
-unfolding each
-each_ends {X = X} {B = B} f seen front xs i whole so_far le =
-    let last : each f (map seen (drop i xs)) ≡ Ok [] = ap (λ (ys : List X). each f (map seen ys)) (drop_all i xs le) in
-    sym so_far ∙ (ap (with_front front) last ∙ ap (λ (ys : List B). Ok ys) (append-nil front))
 
 test_each_cons : {A : Type 0} (test : A → Result ⊤ FootFault) (x : A) (xs : List A) → test_each test (x ∷ xs) ≡ (test x >>= λ _. test_each test xs)
 unfolding test_each

@@ -7,5 +7,6 @@ pub mod Kinds
 pub mod Footprints
 pub mod Checks
 pub mod Reading
+pub mod PartsRead
 pub mod Setting
 pub mod Laws

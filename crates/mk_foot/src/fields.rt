@@ -1,51 +1,112 @@
-//! Fields of files of footprints, each with the fault of its key.
+//! Texts, lists of them and the format, by the tokens of a file of footprints, each with the fault
+//! of its key.
 
-ghost use Rattle.std.specs.Prelude.{◌≡◌, map, IfOk};
+ghost use Rattle.std.specs.Prelude.{◌≡◌, ◌∷◌, ◌++◌, [], List, Result, map, option_and_then};
+ghost use Rattle.std.specs.Option.{option_map};
 ghost use Rattle.std.specs.String.{string_bytes};
-ghost use Rattle.serde_json.specs.View.{view, members_view};
-ghost use Rattle.mk_json.specs.Kinds.{pairs};
-ghost use Rattle.mk_json.specs.Taken.{object_view, without};
-ghost use Rattle.mk_foot.specs.declared.fault.FootFault.TheVariants.{Shape};
-ghost use Rattle.mk_foot.specs.declared.key.Key.TheVariants.{Unknown};
-ghost use Rattle.mk_foot.specs.Keys.{spelling};
-ghost use Rattle.mk_foot.specs.Steps.{Gives, unless_holds};
-ghost use Rattle.mk_foot.specs.Kinds.{texts_of, text_at, texts_at, elements_at, members_at, is_object, format_in};
+ghost use Rattle.serde_json.specs.Data.{Data};
+ghost use Rattle.serde_json.specs.Find.{as_str, as_number, as_integer};
+ghost use Rattle.mk_json.specs.Tokens.{Reads, ReadsItems};
+ghost use Rattle.mk_foot.specs.declared.fault.FootFault.{FootFault};
+ghost use Rattle.mk_foot.specs.Kinds.{texts_of};
+ghost use Rattle.mk_foot.specs.PartsRead.{text_of, format_from};
+ghost use Rattle.mk_foot.specs.Steps.{Gives, each};
 
 use crate::fault::FootFault;
 use crate::format::Format;
 use crate::key::Key;
-use mk_json::Fields;
-use serde_json::Value;
-use serde_json::value::Map;
+use json::{Invalid, Reader};
+use mk_json::laws::{items_in_turn, values_take_tokens};
+use mk_json::{enter_array, next_integer, next_text};
 use std::alloc::Global;
 
-/// The list of texts that a value is.
-pub fn texts_of(alloc: Global, key: Key, value: Value) -> Result<Vec<String>, FootFault>
-    ensures { Gives (λ texts. map string_bytes texts.items) result (texts_of key (view value)) }
+/// A list of texts, or its fault.
+pub type Texts = Result<Vec<String>, FootFault>;
+
+/// A copy of the text that was read, where there is one.
+fn copy_of(alloc: Global, key: Key, text: Option<&str>) -> Result<String, FootFault>
+    ensures { (value : Data) → option_map (λ found. found.now) text.entry ≡ as_str value →
+        Gives string_bytes result (text_of key value) }
 {
-    match mk_json::texts_of(alloc, value)? {
-        Some(texts) => Ok(texts),
+    match text {
+        Some(text) => Ok(String::from_str(alloc, text)?),
         None => Err(FootFault::Shape(key)),
     }
 }
 
-/// The fields of the object that a value is.
-pub fn fields_of(key: Key, value: Value) -> Result<Fields, FootFault>
-    ensures kind { Gives (λ _. tt) result (is_object key (view value)) }
-    ensures whole { IfOk result (λ fields. object_view fields.entries ≡ view value) }
+/// Reads a text.
+pub fn read_text(
+    alloc: Global,
+    key: Key,
+    reader: &mut Reader<'_>,
+    depth: usize,
+) -> Result<Result<String, FootFault>, Invalid>
+    ensures { Reads (λ text value. Gives string_bytes text (text_of key value))
+        depth reader.old result reader.new }
 {
-    match mk_json::fields_of(value) {
-        Some(fields) => Ok(fields),
-        None => Err(FootFault::Shape(key)),
-    }
+    let text = next_text(reader, depth)?;
+    Ok(copy_of(alloc, key, text))
 }
 
-/// The format that an object names.
-#[tactic(auto, unfolding(crate::specs::Kinds::format_in))]
-pub fn format_in(fields: &Fields) -> Result<Format, FootFault>
-    ensures { Gives (λ format. format) result (format_in (object_view fields.now.entries)) }
+/// Texts with one more at their end, or the fault of what is no text.
+fn with_text(texts: Texts, text: Result<String, FootFault>) -> Texts
+    ensures { (key : Key) (front : List Data) (value : Data) →
+        Gives (λ all. map string_bytes all.items) texts (each (text_of key) front) →
+        Gives string_bytes text (text_of key value) →
+        Gives (λ all. map string_bytes all.items) result
+        (each (text_of key) (front ++ value ∷ [])) }
 {
-    match mk_json::integer_at(fields, Key::Format.as_str()) {
+    let mut texts = texts?;
+    let text = text?;
+    texts.push(text)?;
+    Ok(texts)
+}
+
+/// Reads the texts of a list that was entered.
+fn read_list(
+    alloc: Global,
+    key: Key,
+    reader: &mut Reader<'_>,
+    depth: usize,
+) -> Result<Texts, Invalid>
+    ensures { ReadsItems
+        (λ texts values. Gives (λ all. map string_bytes all.items) texts (each (text_of key) values))
+        depth reader.old result reader.new }
+{
+    items_in_turn();
+    values_take_tokens();
+    let mut texts: Texts = Ok(Vec::new(alloc));
+    'items: while !reader.take_end_array() {
+        let text = read_text(alloc, key, reader, depth)?;
+        texts = with_text(texts, text);
+    }
+    Ok(texts)
+}
+
+/// Reads a list of texts.
+pub fn read_texts(
+    alloc: Global,
+    key: Key,
+    reader: &mut Reader<'_>,
+    depth: usize,
+) -> Result<Texts, Invalid>
+    ensures { Reads
+        (λ texts value. Gives (λ all. map string_bytes all.items) texts (texts_of key value))
+        depth reader.old result reader.new }
+{
+    if !enter_array(reader, depth)? {
+        return Ok(Err(FootFault::Shape(key)));
+    }
+    let texts = read_list(alloc, key, reader, depth - 1)?;
+    Ok(texts)
+}
+
+/// The format that goes by a number.
+fn format_of(number: Option<i128>) -> Result<Format, FootFault>
+    ensures { (value : Data) → number ≡ option_and_then as_integer (as_number value) →
+        Gives (λ format. format) result (format_from value) }
+{
+    match number {
         Some(1) => Ok(Format::One),
         Some(2) => Ok(Format::Two),
         Some(_) => Err(FootFault::OtherFormat),
@@ -53,71 +114,29 @@ pub fn format_in(fields: &Fields) -> Result<Format, FootFault>
     }
 }
 
-/// The fault of a key that doesn't belong there, unless an object has none.
-pub fn unless_other(alone: bool) -> Result<(), FootFault>
-    ensures { Gives (λ done. done) result (unless_holds (Shape Unknown) alone) }
+/// Reads the format.
+pub fn read_format(
+    reader: &mut Reader<'_>,
+    depth: usize,
+) -> Result<Result<Format, FootFault>, Invalid>
+    ensures { Reads (λ format value. Gives (λ format. format) format (format_from value))
+        depth reader.old result reader.new }
 {
-    if alone {
-        Ok(())
-    } else {
-        Err(FootFault::Shape(Key::Unknown))
-    }
+    let number = next_integer(reader, depth)?;
+    Ok(format_of(number))
 }
 
-/// Takes the text under a key out of an object.
-#[tactic(auto, unfolding(crate::specs::Kinds::text_at))]
-pub fn take_text(key: Key, fields: &mut Fields) -> Result<String, FootFault>
-    ensures text { Gives string_bytes result (text_at key (object_view fields.old.entries)) }
-    ensures left { object_view fields.new.entries ≡
-        without (spelling key) (object_view fields.old.entries) }
+/// A list with one more at its end, or the first fault.
+pub fn with_next<T: Drop>(
+    found: Result<Vec<T>, FootFault>,
+    next: Result<T, FootFault>,
+) -> Result<Vec<T>, FootFault>
+    ensures { (part : Data → Result T FootFault) (front : List Data) (value : Data) →
+        Gives (λ all. all.items) found (each part front) → Gives (λ one. one) next (part value) →
+        Gives (λ all. all.items) result (each part (front ++ value ∷ [])) }
 {
-    match mk_json::take_text(fields, key.as_str()) {
-        Some(text) => Ok(text),
-        None => Err(FootFault::Shape(key)),
-    }
-}
-
-/// Takes the list of texts under a key out of an object.
-#[tactic(auto, unfolding(crate::specs::Kinds::texts_at))]
-pub fn take_texts(alloc: Global, key: Key, fields: &mut Fields) -> Result<Vec<String>, FootFault>
-    ensures texts { Gives (λ texts.
-        map string_bytes texts.items) result (texts_at key (object_view fields.old.entries)) }
-    ensures left { object_view fields.new.entries ≡
-        without (spelling key) (object_view fields.old.entries) }
-{
-    match mk_json::take_texts(alloc, fields, key.as_str())? {
-        Some(texts) => Ok(texts),
-        None => Err(FootFault::Shape(key)),
-    }
-}
-
-/// Takes the values of the array under a key out of an object.
-#[tactic(auto, unfolding(crate::specs::Kinds::elements_at))]
-pub fn take_elements(key: Key, fields: &mut Fields) -> Result<Vec<Value>, FootFault>
-    ensures values { Gives (λ values.
-        map view values.items) result (elements_at key (object_view fields.old.entries)) }
-    ensures left { object_view fields.new.entries ≡
-        without (spelling key) (object_view fields.old.entries) }
-{
-    match mk_json::take_elements(fields, key.as_str()) {
-        Some(values) => Ok(values),
-        None => Err(FootFault::Shape(key)),
-    }
-}
-
-/// Takes the members of the object under a key out of an object.
-#[tactic(auto, unfolding(crate::specs::Kinds::members_at))]
-pub fn take_members(key: Key, fields: &mut Fields) -> Result<Map<String, Value>, FootFault>
-    ensures members { Gives (λ members. pairs (members_view members.entries)) result (members_at
-        key (object_view fields.old.entries)) }
-    ensures left { object_view fields.new.entries ≡
-        without (spelling key) (object_view fields.old.entries) }
-{
-    let Some(value) = mk_json::take(fields, key.as_str()) else {
-        return Err(FootFault::Shape(key));
-    };
-    match mk_json::members_of(value) {
-        Some(members) => Ok(members),
-        None => Err(FootFault::Shape(key)),
-    }
+    let mut found = found?;
+    let next = next?;
+    found.push(next)?;
+    Ok(found)
 }

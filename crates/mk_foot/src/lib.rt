@@ -6,11 +6,14 @@ mod checks;
 mod fault;
 mod fields;
 mod format;
+mod groups;
 mod key;
 pub mod laws;
+mod lists;
 mod names;
 mod parts;
 mod reading;
+mod records;
 mod setting;
 mod shapes;
 

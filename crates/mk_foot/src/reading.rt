@@ -3,20 +3,21 @@
 ghost use Rattle.std.specs.Prelude.{◌≡◌, ◌++◌, map, IfOk, OnOk, fold};
 ghost use Rattle.std.specs.List.{flat_map};
 ghost use Rattle.std.specs.String.{string_bytes};
-ghost use Rattle.serde_json.specs.View.{view};
 ghost use Rattle.mk_foot.specs.Names.{with_name, once as all_once};
+ghost use Rattle.mk_foot.specs.PartsRead.{footprints_from, book_of_file};
 ghost use Rattle.mk_foot.specs.Steps.{Gives};
-ghost use Rattle.mk_foot.specs.Reading.{listed, record_of, book_in, book_from};
+ghost use Rattle.mk_foot.specs.Reading.{listed, record_of, book_from};
 
 use crate::book::{Book, Record};
 use crate::checks::{group_for, test_all};
 use crate::fault::FootFault;
 use crate::names::{copied, once};
 use crate::parts::{Entry, Footprints, Group, SharedList};
-use crate::shapes::footprints_in;
-use mk_json::json_of;
+use crate::shapes::read_footprints;
+use json::{Reader, Scratch};
+use mk_json::laws::whole_text;
+use mk_json::{MAX_DEPTH, text_in};
 use mk_lines::{Name, NameSet, NameTable};
-use serde_json::Value;
 use std::alloc::{AllocError, Global};
 
 /// The names of the shared lists.
@@ -130,12 +131,10 @@ fn records_of(
     Ok(records)
 }
 
-/// The book of a JSON value.
-#[tactic(auto, unfolding(crate::specs::Reading::book_in))]
-fn book_in(alloc: Global, value: Value, goals: &[Name]) -> Result<Book, FootFault>
-    ensures { Gives (λ book. book) result (book_in goals.now (view value)) }
+/// The book of a file of footprints by its parts.
+fn book_of(alloc: Global, file: Footprints, goals: &[Name]) -> Result<Book, FootFault>
+    ensures { Gives (λ book. book) result (book_of_file goals.now file) }
 {
-    let file = footprints_in(alloc, value)?;
     let names = list_names(alloc, &file.lists)?;
     test_all(alloc, &file, &names)?;
     let Footprints {
@@ -152,6 +151,28 @@ fn book_in(alloc: Global, value: Value, goals: &[Name]) -> Result<Book, FootFaul
     })
 }
 
+/// The parts of a file of footprints.
+#[tactic(auto, unfolding(crate::specs::PartsRead::footprints_from))]
+fn read_file(alloc: Global, bytes: &[u8]) -> Result<Footprints, FootFault>
+    ensures { Gives (λ file. file) result (footprints_from bytes.now) }
+{
+    whole_text();
+    let Some(text) = text_in(bytes) else {
+        return Err(FootFault::NotJson);
+    };
+    let mut scratch = Scratch::new(alloc);
+    let Ok(mut reader) = Reader::new(text, &mut scratch) else {
+        return Err(FootFault::Memory);
+    };
+    let Ok(file) = read_footprints(alloc, &mut reader, MAX_DEPTH) else {
+        return Err(FootFault::NotJson);
+    };
+    if reader.next().is_some() {
+        return Err(FootFault::NotJson);
+    }
+    file
+}
+
 /// The book of a file of footprints, for the goals of a build, or the first fault.
 ///
 /// A file of format 1 is a JSON object with exactly `format` (1), `fixed`, `sources` and `records`.
@@ -165,12 +186,12 @@ fn book_in(alloc: Global, value: Value, goals: &[Name]) -> Result<Book, FootFaul
 /// group by group the same; 55 names, in the order fixed, sources, shared lists by the bytes of
 /// their names, then group by group goals, and record by record target, reads and writes; 54; 56;
 /// 58; 57. A key that comes twice has its last value.
+///
+/// It is read a token at a time, so memory stays near that of the book and its bytes.
 #[tactic(auto, unfolding(crate::specs::Reading::book_from))]
 pub fn read_book(alloc: Global, bytes: &[u8], goals: &[Name]) -> Result<Book, FootFault>
     ensures { Gives (λ book. book) result (book_from goals.now bytes.now) }
 {
-    let Some(value) = json_of(alloc, bytes)? else {
-        return Err(FootFault::NotJson);
-    };
-    book_in(alloc, value, goals)
+    let file = read_file(alloc, bytes)?;
+    book_of(alloc, file, goals)
 }

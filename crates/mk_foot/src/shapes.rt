@@ -1,153 +1,147 @@
-//! A file of footprints by its parts.
+//! A file of footprints, by its tokens: of the whole only its parts are kept.
 
-ghost use Rattle.std.specs.Prelude.{◌≡◌, map};
-ghost use Rattle.std.specs.String.{string_bytes};
-ghost use Rattle.serde_json.specs.View.{view, members_view};
-ghost use Rattle.mk_foot.specs.Steps.{Gives, each};
-ghost use Rattle.mk_json.specs.Kinds.{pairs};
-ghost use Rattle.mk_json.specs.Taken.{object_view, without};
+ghost use Rattle.std.specs.Prelude.{◌≡◌, true, is_some, map};
+ghost use Rattle.serde_json.specs.Data.{Data, object, Members, no_members, put};
+ghost use Rattle.serde_json.specs.Find.{as_object};
+ghost use Rattle.mk_json.specs.Kinds.{has_only};
+ghost use Rattle.mk_json.specs.Tokens.{Reads, ReadsMembers};
+ghost use Rattle.mk_foot.specs.declared.format.Format.TheVariants.{One};
+ghost use Rattle.mk_foot.specs.declared.key.Key.TheVariants as keys;
+ghost use Rattle.mk_foot.specs.Footprints.{entry_in, group_in, lists_in, first_format, second_format, footprints_in};
 ghost use Rattle.mk_foot.specs.Keys.{spelling};
-ghost use Rattle.mk_foot.specs.declared.key.Key.TheVariants.{Lists};
-ghost use Rattle.mk_foot.specs.Footprints.{entry_keys, shared_in, entry_in, group_in, list_in, lists_in, first_format, second_format, footprints_in};
+ghost use Rattle.mk_foot.specs.Kinds.{texts_at, elements_at};
+ghost use Rattle.mk_foot.specs.PartsRead.{GivesTexts, AreEach, IsOf, first_keys, second_keys};
+ghost use Rattle.mk_foot.specs.Steps.{Gives};
 
 use crate::fault::FootFault;
-use crate::fields::{
-    fields_of, format_in, take_elements, take_members, take_text, take_texts, texts_of,
-    unless_other,
-};
+use crate::fields::{Texts, read_format, read_texts};
 use crate::format::Format;
+use crate::groups::{Groups, read_groups};
 use crate::key::Key;
-use crate::parts::{Entry, Footprints, Group, SharedList};
-use mk_json::laws::other_fields_stay;
-use mk_json::{Fields, has_only};
-use serde_json::Value;
-use serde_json::value::Map;
+use crate::lists::{SharedLists, read_lists};
+use crate::parts::{Footprints, Group};
+use crate::records::{Entries, read_entries};
+use json::{Invalid, Reader};
+use mk_json::laws::{last_value_counts, members_in_turn, values_take_tokens};
+use mk_json::{enter_object, skip_value};
 use std::alloc::Global;
 
-/// The keys of a record.
-fn entry_keys(format: Format) -> &'static [&'static str]
-    ensures { map (λ key. key.now) result.now ≡ map spelling (entry_keys format) }
+/// What the members of a file give so far: of each key its last value, or its fault, and of each
+/// format whether there are no keys but its own. The format may come last.
+#[derive(Drop)]
+struct Parts {
+    format: Result<Format, FootFault>,
+    fixed: Texts,
+    sources: Texts,
+    records: Entries,
+    lists: SharedLists,
+    groups: Groups,
+    is_first: bool,
+    is_second: bool,
+}
+
+/// What no members give.
+fn no_parts() -> Parts
+    ensures { IsOf result (object no_members) }
 {
-    match format {
-        Format::One => &["target", "commands", "reads", "writes"],
-        Format::Two => &["target", "commands", "reads", "writes", "shared"],
+    Parts {
+        format: Err(FootFault::Shape(Key::Format)),
+        fixed: Err(FootFault::Shape(Key::Fixed)),
+        sources: Err(FootFault::Shape(Key::Sources)),
+        records: Err(FootFault::Shape(Key::Records)),
+        lists: Err(FootFault::Shape(Key::Lists)),
+        groups: Err(FootFault::Shape(Key::Groups)),
+        is_first: true,
+        is_second: true,
     }
 }
 
-/// Takes the shared lists that a record names.
-#[tactic(auto, unfolding(crate::specs::Footprints::shared_in))]
-fn shared_in(alloc: Global, format: Format, fields: &mut Fields) -> Result<Vec<String>, FootFault>
-    ensures { Gives (λ texts.
-        map string_bytes texts.items) result (shared_in format (object_view fields.old.entries)) }
+/// Reads the value of a key of a file.
+fn read_part(
+    alloc: Global,
+    key: &str,
+    parts: &mut Parts,
+    reader: &mut Reader<'_>,
+    depth: usize,
+) -> Result<(), Invalid>
+    ensures { Reads (λ _ value. (members : Members) → IsOf parts.old (object members) →
+        IsOf parts.new (object (put key.now value members)))
+        depth reader.old result reader.new }
 {
-    match format {
-        Format::One => Ok(Vec::new(alloc)),
-        Format::Two => take_texts(alloc, Key::Shared, fields),
+    last_value_counts();
+    match key {
+        "format" => {
+            parts.format = read_format(reader, depth)?;
+            Ok(())
+        }
+        "fixed" => {
+            parts.fixed = read_texts(alloc, Key::Fixed, reader, depth)?;
+            Ok(())
+        }
+        "sources" => {
+            parts.sources = read_texts(alloc, Key::Sources, reader, depth)?;
+            Ok(())
+        }
+        "records" => {
+            parts.records = read_entries(alloc, Format::One, reader, depth)?;
+            parts.is_second = false;
+            Ok(())
+        }
+        "lists" => {
+            parts.lists = read_lists(alloc, reader, depth)?;
+            parts.is_first = false;
+            Ok(())
+        }
+        "groups" => {
+            parts.groups = read_groups(alloc, reader, depth)?;
+            parts.is_first = false;
+            Ok(())
+        }
+        _ => {
+            skip_value(reader, depth)?;
+            parts.is_first = false;
+            parts.is_second = false;
+            Ok(())
+        }
     }
 }
 
-/// A record: its keys in order, then any other key.
-#[tactic(auto, unfolding(crate::specs::Footprints::entry_in))]
-fn entry_in(alloc: Global, format: Format, value: Value) -> Result<Entry, FootFault>
-    ensures { Gives (λ entry. entry) result (entry_in format (view value)) }
+/// Reads the members of a file that was entered.
+fn read_parts(alloc: Global, reader: &mut Reader<'_>, depth: usize) -> Result<Parts, Invalid>
+    ensures { ReadsMembers (λ parts members. IsOf parts (object members))
+        depth reader.old result reader.new }
 {
-    other_fields_stay();
-    let mut fields = fields_of(Key::Records, value)?;
-    let alone = has_only(&fields, entry_keys(format));
-    let target = take_text(Key::Target, &mut fields)?;
-    let commands = take_texts(alloc, Key::Commands, &mut fields)?;
-    let reads = take_texts(alloc, Key::Reads, &mut fields)?;
-    let writes = take_texts(alloc, Key::Writes, &mut fields)?;
-    let shared = shared_in(alloc, format, &mut fields)?;
-    unless_other(alone)?;
-    Ok(Entry {
-        target,
-        commands,
-        reads,
-        writes,
-        shared,
-    })
-}
-
-/// Records, one after another.
-fn entries_in(alloc: Global, format: Format, values: Vec<Value>) -> Result<Vec<Entry>, FootFault>
-    ensures { Gives (λ entries. entries.items) result (each (entry_in format)
-        (map view values.items)) }
-{
-    let mut entries = Vec::with_capacity(alloc, values.len())?;
-    for value in values {
-        entries.push(entry_in(alloc, format, value)?)?;
+    members_in_turn();
+    values_take_tokens();
+    let mut parts = no_parts();
+    'members: while let Some(key) = reader.next_key()? {
+        read_part(alloc, key, &mut parts, reader, depth)?;
     }
-    Ok(entries)
+    Ok(parts)
 }
 
-/// A group: its keys, then any other key, then its records.
-#[tactic(auto, unfolding(crate::specs::Footprints::group_in))]
-fn group_in(alloc: Global, value: Value) -> Result<Group, FootFault>
-    ensures { Gives (λ group. group) result (group_in (view value)) }
-{
-    other_fields_stay();
-    let mut fields = fields_of(Key::Groups, value)?;
-    let alone = has_only(&fields, &["goals", "records"]);
-    let goals = take_texts(alloc, Key::Goals, &mut fields)?;
-    let values = take_elements(Key::Records, &mut fields)?;
-    unless_other(alone)?;
-    let records = entries_in(alloc, Format::Two, values)?;
-    Ok(Group {
-        goals: Some(goals),
-        records,
-    })
-}
-
-/// Groups, one after another.
-fn groups_in(alloc: Global, values: Vec<Value>) -> Result<Vec<Group>, FootFault>
-    ensures { Gives (λ groups. groups.items) result (each group_in (map view values.items)) }
-{
-    let mut groups = Vec::with_capacity(alloc, values.len())?;
-    for value in values {
-        groups.push(group_in(alloc, value)?)?;
-    }
-    Ok(groups)
-}
-
-/// The shared lists that are the members of an object.
-fn members_in(alloc: Global, members: Map<String, Value>) -> Result<Vec<SharedList>, FootFault>
-    ensures { Gives (λ lists.
-        lists.items) result (each list_in (pairs (members_view members.entries))) }
-{
-    let mut lists = Vec::new(alloc);
-    for (name, value) in members {
-        let names = texts_of(alloc, Key::Lists, value)?;
-        lists.push(SharedList { name, names })?;
-    }
-    Ok(lists)
-}
-
-/// Takes the shared lists, in the order of their names.
-#[tactic(auto, unfolding(crate::specs::Footprints::lists_in))]
-fn lists_in(alloc: Global, fields: &mut Fields) -> Result<Vec<SharedList>, FootFault>
-    ensures lists { Gives (λ lists.
-        lists.items) result (lists_in (object_view fields.old.entries)) }
-    ensures left { object_view fields.new.entries ≡
-        without (spelling Lists) (object_view fields.old.entries) }
-{
-    let members = take_members(Key::Lists, fields)?;
-    members_in(alloc, members)
-}
-
-/// A file of format 1.
+/// The file of format 1 that its parts give.
 #[tactic(auto, unfolding(crate::specs::Footprints::first_format))]
-fn first_format(alloc: Global, fields: Fields) -> Result<Footprints, FootFault>
-    ensures { Gives (λ file. file) result (first_format (object_view fields.entries)) }
+fn first_format(
+    alloc: Global,
+    fixed: Texts,
+    sources: Texts,
+    records: Entries,
+    alone: bool,
+) -> Result<Footprints, FootFault>
+    ensures { (whole : Data) → GivesTexts fixed (texts_at keys.Fixed whole) →
+        GivesTexts sources (texts_at keys.Sources whole) →
+        AreEach (entry_in One) records (elements_at keys.Records whole) →
+        alone ≡ has_only (map spelling first_keys) whole →
+        Gives (λ file. file) result (first_format whole) }
 {
-    other_fields_stay();
-    let mut fields = fields;
-    let alone = has_only(&fields, &["format", "fixed", "sources", "records"]);
-    let fixed = take_texts(alloc, Key::Fixed, &mut fields)?;
-    let sources = take_texts(alloc, Key::Sources, &mut fields)?;
-    let values = take_elements(Key::Records, &mut fields)?;
-    unless_other(alone)?;
-    let records = entries_in(alloc, Format::One, values)?;
+    let fixed = fixed?;
+    let sources = sources?;
+    let entries = records?;
+    if !alone {
+        return Err(FootFault::Shape(Key::Unknown));
+    }
+    let records = entries?;
     let group = Group {
         goals: None,
         records,
@@ -160,21 +154,30 @@ fn first_format(alloc: Global, fields: Fields) -> Result<Footprints, FootFault>
     })
 }
 
-/// A file of format 2.
+/// The file of format 2 that its parts give.
 #[tactic(auto, unfolding(crate::specs::Footprints::second_format))]
-fn second_format(alloc: Global, fields: Fields) -> Result<Footprints, FootFault>
-    ensures { Gives (λ file. file) result (second_format (object_view fields.entries)) }
+fn second_format(
+    fixed: Texts,
+    sources: Texts,
+    lists: SharedLists,
+    groups: Groups,
+    alone: bool,
+) -> Result<Footprints, FootFault>
+    ensures { (whole : Data) → GivesTexts fixed (texts_at keys.Fixed whole) →
+        GivesTexts sources (texts_at keys.Sources whole) →
+        Gives (λ all. all.items) lists (lists_in whole) →
+        AreEach group_in groups (elements_at keys.Groups whole) →
+        alone ≡ has_only (map spelling second_keys) whole →
+        Gives (λ file. file) result (second_format whole) }
 {
-    other_fields_stay();
-    let mut fields = fields;
-    let known = ["format", "fixed", "sources", "lists", "groups"];
-    let alone = has_only(&fields, &known);
-    let fixed = take_texts(alloc, Key::Fixed, &mut fields)?;
-    let sources = take_texts(alloc, Key::Sources, &mut fields)?;
-    let lists = lists_in(alloc, &mut fields)?;
-    let values = take_elements(Key::Groups, &mut fields)?;
-    unless_other(alone)?;
-    let groups = groups_in(alloc, values)?;
+    let fixed = fixed?;
+    let sources = sources?;
+    let lists = lists?;
+    let groups = groups?;
+    if !alone {
+        return Err(FootFault::Shape(Key::Unknown));
+    }
+    let groups = groups?;
     Ok(Footprints {
         fixed,
         sources,
@@ -183,14 +186,40 @@ fn second_format(alloc: Global, fields: Fields) -> Result<Footprints, FootFault>
     })
 }
 
-/// A file of either format.
+/// The file that its parts give.
 #[tactic(auto, unfolding(crate::specs::Footprints::footprints_in))]
-pub fn footprints_in(alloc: Global, value: Value) -> Result<Footprints, FootFault>
-    ensures { Gives (λ file. file) result (footprints_in (view value)) }
+fn footprints_of(alloc: Global, parts: Parts) -> Result<Footprints, FootFault>
+    ensures { (whole : Data) → is_some (as_object whole) ≡ true → IsOf parts whole →
+        Gives (λ file. file) result (footprints_in whole) }
 {
-    let fields = fields_of(Key::Top, value)?;
-    match format_in(&fields)? {
-        Format::One => first_format(alloc, fields),
-        Format::Two => second_format(alloc, fields),
+    let Parts {
+        format,
+        fixed,
+        sources,
+        records,
+        lists,
+        groups,
+        is_first,
+        is_second,
+    } = parts;
+    match format? {
+        Format::One => first_format(alloc, fixed, sources, records, is_first),
+        Format::Two => second_format(fixed, sources, lists, groups, is_second),
     }
+}
+
+/// Reads a file of either format.
+pub fn read_footprints(
+    alloc: Global,
+    reader: &mut Reader<'_>,
+    depth: usize,
+) -> Result<Result<Footprints, FootFault>, Invalid>
+    ensures { Reads (λ file value. Gives (λ file. file) file (footprints_in value))
+        depth reader.old result reader.new }
+{
+    if !enter_object(reader, depth)? {
+        return Ok(Err(FootFault::Shape(Key::Top)));
+    }
+    let parts = read_parts(alloc, reader, depth - 1)?;
+    Ok(footprints_of(alloc, parts))
 }

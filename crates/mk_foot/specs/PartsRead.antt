@@ -1,0 +1,109 @@
+-- Files of footprints, groups, records and shared lists by the parts that were read of them.
+use Rattle.std.specs.Prelude.{◌≡◌, ℕ, ⊤, List, [], ◌∷◌, map, String, Vec, option_and_then, Result, Ok, Err}
+use Rattle.std.specs.String.{string_bytes}
+use Rattle.std.specs.declared.alloc.Global.{Global}
+use Rattle.mk_lines.specs.Results.{Fails}
+use Rattle.serde_json.specs.Data.{Data, Members, no_members, member}
+use Rattle.serde_json.specs.Find.{as_str, as_number, as_integer}
+use Rattle.mk_json.specs.Kinds as json
+use Rattle.mk_json.specs.Reading.{json_of}
+use Rattle.mk_foot.specs.declared.fault.FootFault.{FootFault}
+use Rattle.mk_foot.specs.declared.fault.FootFault.TheVariants.{Memory, NotJson, Shape}
+use Rattle.mk_foot.specs.declared.format.Format.{Format}
+use Rattle.mk_foot.specs.declared.format.Format.TheVariants.{One, Two}
+use Rattle.mk_foot.specs.declared.groups.GroupParts.{GroupParts}
+use Rattle.mk_foot.specs.declared.key.Key.{Key}
+use Rattle.mk_foot.specs.declared.key.Key.TheVariants as keys
+use Rattle.mk_foot.specs.declared.records.EntryParts.{EntryParts}
+use Rattle.mk_foot.specs.declared.shapes.Parts.{Parts}
+use Rattle.mk_foot.specs.Book.{Book}
+use Rattle.mk_foot.specs.Checks.{test_all, group_for}
+use Rattle.mk_foot.specs.Footprints.{entry_keys, shared_in, entry_in, group_in, list_in, lists_in, footprints_in}
+use Rattle.mk_foot.specs.Keys.{spelling}
+use Rattle.mk_foot.specs.Kinds.{texts_of, text_at, texts_at, elements_at, format_of, format_in}
+use Rattle.mk_foot.specs.Parts.{SharedList, Footprints}
+use Rattle.mk_foot.specs.Reading.{book_of}
+use Rattle.mk_foot.specs.Steps.{◌>>=◌, Gives, each, or_fault}
+
+-- what a value gives under a key: a text, the format, shared lists
+abbrev pub text_of : Key → Data → Result (List ℕ) FootFault
+text_of key value = or_fault (Shape key) (as_str value)
+
+abbrev pub format_from : Data → Result Format FootFault
+format_from value = do
+  number ← or_fault (Shape keys.Format) (option_and_then as_integer (as_number value))
+  format_of number
+
+abbrev pub lists_from : Data → Result (List SharedList) FootFault
+lists_from value = do
+  members ← or_fault (Shape keys.Lists) (json.pairs_of value)
+  each list_in members
+
+-- What was read is a list of these texts.
+abbrev pub GivesTexts :
+    Result (Vec (String Global) Global) FootFault → Result (List (List ℕ)) FootFault → Type 0
+GivesTexts texts defined = Gives (λ all. map string_bytes all.items) texts defined
+
+-- Where a list stands, its parts are read, or the first fault of them; else it is a fault.
+abbrev pub AreEach :
+    {A : Type 0} → (Data → Result A FootFault) →
+    Result (Result (Vec A Global) FootFault) FootFault → Result (List Data) FootFault → Type 0
+AreEach part (Ok all) defined =
+    (values : List Data) × (defined ≡ Ok values) ×
+    Gives (λ all. all.items) all (each part values)
+AreEach part (Err fault) defined = Fails Memory fault defined
+
+-- the parts are those of a record that is this object
+pub record IsOfEntry (format : Format) (parts : EntryParts) (whole : Data) : Type 0 where
+  pub target : Gives string_bytes parts.target (text_at keys.Target whole)
+  pub commands : GivesTexts parts.commands (texts_at keys.Commands whole)
+  pub reads : GivesTexts parts.reads (texts_at keys.Reads whole)
+  pub writes : GivesTexts parts.writes (texts_at keys.Writes whole)
+  pub shared : GivesTexts parts.shared (shared_in format whole)
+  pub alone : parts.alone ≡ json.has_only (map spelling (entry_keys format)) whole
+
+-- the parts are those of a group that is this object
+pub record IsOfGroup (parts : GroupParts) (whole : Data) : Type 0 where
+  pub goals : GivesTexts parts.goals (texts_at keys.Goals whole)
+  pub records : AreEach (entry_in Two) parts.records (elements_at keys.Records whole)
+  pub alone : parts.alone ≡ json.has_only (map spelling (keys.Goals ∷ keys.Records ∷ [])) whole
+
+-- the lists are those of the members of an object, name by name
+abbrev pub AreLists :
+    List (String Global × Result (Vec (String Global) Global) FootFault) → Members → Type 0
+AreLists [] no_members = ⊤
+AreLists [] (member _ _ _) = ⊥
+AreLists (_ ∷ _) no_members = ⊥
+AreLists (list ∷ lists) (member name value rest) =
+    (string_bytes list.0 ≡ name) × GivesTexts list.1 (texts_of keys.Lists value) ×
+    AreLists lists rest
+
+-- the keys of a file of format 1, and of format 2
+abbrev pub first_keys : List Key
+first_keys = keys.Format ∷ keys.Fixed ∷ keys.Sources ∷ keys.Records ∷ []
+
+abbrev pub second_keys : List Key
+second_keys = keys.Format ∷ keys.Fixed ∷ keys.Sources ∷ keys.Lists ∷ keys.Groups ∷ []
+
+-- the parts are those of a file that is this object
+pub record IsOf (parts : Parts) (whole : Data) : Type 0 where
+  pub format : Gives (λ format. format) parts.format (format_in whole)
+  pub fixed : GivesTexts parts.fixed (texts_at keys.Fixed whole)
+  pub sources : GivesTexts parts.sources (texts_at keys.Sources whole)
+  pub records : AreEach (entry_in One) parts.records (elements_at keys.Records whole)
+  pub lists : Gives (λ all. all.items) parts.lists (lists_in whole)
+  pub groups : AreEach group_in parts.groups (elements_at keys.Groups whole)
+  pub is_first : parts.is_first ≡ json.has_only (map spelling first_keys) whole
+  pub is_second : parts.is_second ≡ json.has_only (map spelling second_keys) whole
+
+-- the parts of a file's bytes, and the book of them
+unfoldable pub footprints_from : List ℕ → Result Footprints FootFault
+footprints_from bytes = do
+  value ← or_fault NotJson (json_of bytes)
+  footprints_in value
+
+abbrev pub book_of_file : List (List ℕ) → Footprints → Result Book FootFault
+book_of_file goals file = do
+  _ ← test_all file
+  group ← group_for goals file.groups
+  Ok (book_of file group)

@@ -1,0 +1,240 @@
+//! Records, by the tokens of a file of footprints: of each only its parts are kept.
+
+ghost use Rattle.std.specs.Prelude.{◌≡◌, true, is_some};
+ghost use Rattle.serde_json.specs.Data.{Data, object, Members, no_members, put};
+ghost use Rattle.serde_json.specs.Find.{as_object};
+ghost use Rattle.mk_json.specs.Kinds.{elements_of};
+ghost use Rattle.mk_json.specs.Steps.{or_fault};
+ghost use Rattle.mk_json.specs.Tokens.{Reads, ReadsItems, ReadsMembers};
+ghost use Rattle.mk_foot.specs.declared.fault.FootFault.TheVariants.{Shape};
+ghost use Rattle.mk_foot.specs.declared.format.Format.{Format};
+ghost use Rattle.mk_foot.specs.declared.key.Key.TheVariants as keys;
+ghost use Rattle.mk_foot.specs.Footprints.{entry_in, shared_in};
+ghost use Rattle.mk_foot.specs.Keys.{spelling};
+ghost use Rattle.mk_foot.specs.PartsRead.{GivesTexts, IsOfEntry, AreEach};
+ghost use Rattle.mk_foot.specs.Steps.{Gives, each};
+
+use crate::fault::FootFault;
+use crate::fields::{Texts, read_text, read_texts, with_next};
+use crate::format::Format;
+use crate::key::Key;
+use crate::parts::Entry;
+use json::{Invalid, Reader};
+use mk_json::laws::{items_in_turn, last_value_counts, members_in_turn, values_take_tokens};
+use mk_json::{enter_array, enter_object, skip_value};
+use std::alloc::Global;
+
+/// What the members of a record give so far: of each key its last value, or its fault, and whether
+/// there are no other keys.
+#[derive(Drop)]
+struct EntryParts {
+    target: Result<String, FootFault>,
+    commands: Texts,
+    reads: Texts,
+    writes: Texts,
+    shared: Texts,
+    alone: bool,
+}
+
+/// What no members give of shared lists. A record of format 1 names none.
+#[tactic(auto, unfolding(crate::specs::Footprints::shared_in, crate::specs::Kinds::texts_at))]
+fn no_shared(alloc: Global, format: Format) -> Texts
+    ensures { GivesTexts result (shared_in format (object no_members)) }
+{
+    match format {
+        Format::One => Ok(Vec::new(alloc)),
+        Format::Two => Err(FootFault::Shape(Key::Shared)),
+    }
+}
+
+/// What no members give.
+fn no_entry_parts(alloc: Global, format: Format) -> EntryParts
+    ensures { IsOfEntry format result (object no_members) }
+{
+    let shared = no_shared(alloc, format);
+    EntryParts {
+        target: Err(FootFault::Shape(Key::Target)),
+        commands: Err(FootFault::Shape(Key::Commands)),
+        reads: Err(FootFault::Shape(Key::Reads)),
+        writes: Err(FootFault::Shape(Key::Writes)),
+        shared,
+        alone: true,
+    }
+}
+
+/// Reads the shared lists that a record names. In format 1 it has no such key.
+fn read_shared(
+    alloc: Global,
+    format: Format,
+    parts: &mut EntryParts,
+    reader: &mut Reader<'_>,
+    depth: usize,
+) -> Result<(), Invalid>
+    ensures { Reads (λ _ value. (members : Members) →
+        IsOfEntry format parts.old (object members) →
+        IsOfEntry format parts.new (object (put (spelling keys.Shared) value members)))
+        depth reader.old result reader.new }
+{
+    last_value_counts();
+    match format {
+        Format::One => {
+            skip_value(reader, depth)?;
+            parts.alone = false;
+            Ok(())
+        }
+        Format::Two => {
+            parts.shared = read_texts(alloc, Key::Shared, reader, depth)?;
+            Ok(())
+        }
+    }
+}
+
+/// Reads the value of a key of a record.
+fn read_entry_part(
+    alloc: Global,
+    format: Format,
+    key: &str,
+    parts: &mut EntryParts,
+    reader: &mut Reader<'_>,
+    depth: usize,
+) -> Result<(), Invalid>
+    ensures { Reads (λ _ value. (members : Members) →
+        IsOfEntry format parts.old (object members) →
+        IsOfEntry format parts.new (object (put key.now value members)))
+        depth reader.old result reader.new }
+{
+    last_value_counts();
+    match key {
+        "target" => {
+            parts.target = read_text(alloc, Key::Target, reader, depth)?;
+            Ok(())
+        }
+        "commands" => {
+            parts.commands = read_texts(alloc, Key::Commands, reader, depth)?;
+            Ok(())
+        }
+        "reads" => {
+            parts.reads = read_texts(alloc, Key::Reads, reader, depth)?;
+            Ok(())
+        }
+        "writes" => {
+            parts.writes = read_texts(alloc, Key::Writes, reader, depth)?;
+            Ok(())
+        }
+        "shared" => read_shared(alloc, format, parts, reader, depth),
+        _ => {
+            skip_value(reader, depth)?;
+            parts.alone = false;
+            Ok(())
+        }
+    }
+}
+
+/// Reads the members of a record that was entered.
+fn read_entry_parts(
+    alloc: Global,
+    format: Format,
+    reader: &mut Reader<'_>,
+    depth: usize,
+) -> Result<EntryParts, Invalid>
+    ensures { ReadsMembers (λ parts members. IsOfEntry format parts (object members))
+        depth reader.old result reader.new }
+{
+    members_in_turn();
+    values_take_tokens();
+    let mut parts = no_entry_parts(alloc, format);
+    'members: while let Some(key) = reader.next_key()? {
+        read_entry_part(alloc, format, key, &mut parts, reader, depth)?;
+    }
+    Ok(parts)
+}
+
+/// The record that its parts give: its keys in order, then any other key.
+#[tactic(auto, unfolding(crate::specs::Footprints::entry_in))]
+fn entry_of(parts: EntryParts) -> Result<Entry, FootFault>
+    ensures { (format : Format) (whole : Data) → is_some (as_object whole) ≡ true →
+        IsOfEntry format parts whole → Gives (λ entry. entry) result (entry_in format whole) }
+{
+    let EntryParts {
+        target,
+        commands,
+        reads,
+        writes,
+        shared,
+        alone,
+    } = parts;
+    let target = target?;
+    let commands = commands?;
+    let reads = reads?;
+    let writes = writes?;
+    let shared = shared?;
+    if !alone {
+        return Err(FootFault::Shape(Key::Unknown));
+    }
+    Ok(Entry {
+        target,
+        commands,
+        reads,
+        writes,
+        shared,
+    })
+}
+
+/// Reads a record.
+fn read_entry(
+    alloc: Global,
+    format: Format,
+    reader: &mut Reader<'_>,
+    depth: usize,
+) -> Result<Result<Entry, FootFault>, Invalid>
+    ensures { Reads (λ entry value. Gives (λ entry. entry) entry (entry_in format value))
+        depth reader.old result reader.new }
+{
+    if !enter_object(reader, depth)? {
+        return Ok(Err(FootFault::Shape(Key::Records)));
+    }
+    let parts = read_entry_parts(alloc, format, reader, depth - 1)?;
+    Ok(entry_of(parts))
+}
+
+/// Reads the records of a list that was entered.
+fn read_list(
+    alloc: Global,
+    format: Format,
+    reader: &mut Reader<'_>,
+    depth: usize,
+) -> Result<Result<Vec<Entry>, FootFault>, Invalid>
+    ensures { ReadsItems
+        (λ entries values. Gives (λ all. all.items) entries (each (entry_in format) values))
+        depth reader.old result reader.new }
+{
+    items_in_turn();
+    values_take_tokens();
+    let mut entries: Result<Vec<Entry>, FootFault> = Ok(Vec::new(alloc));
+    'items: while !reader.take_end_array() {
+        let entry = read_entry(alloc, format, reader, depth)?;
+        entries = with_next(entries, entry);
+    }
+    Ok(entries)
+}
+
+/// What a list of records gives, or the fault of what is no list.
+pub type Entries = Result<Result<Vec<Entry>, FootFault>, FootFault>;
+
+/// Reads a list of records.
+pub fn read_entries(
+    alloc: Global,
+    format: Format,
+    reader: &mut Reader<'_>,
+    depth: usize,
+) -> Result<Entries, Invalid>
+    ensures { Reads (λ entries value. AreEach (entry_in format) entries
+        (or_fault (Shape keys.Records) (elements_of value)))
+        depth reader.old result reader.new }
+{
+    if !enter_array(reader, depth)? {
+        return Ok(Err(FootFault::Shape(Key::Records)));
+    }
+    let entries = read_list(alloc, format, reader, depth - 1)?;
+    Ok(Ok(entries))
+}
