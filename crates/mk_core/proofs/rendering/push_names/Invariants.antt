@@ -3,5 +3,5 @@ use Rattle.mk_core.specs.VerdictText.{names_text}
 use Rattle.mk_core.proofs.rendering.push_names.Given as goal
 
 -- the names so far
-abbrev pub invariant-loop-name : goal.invariant-loop-name
-invariant-loop-name l = l.out.items ≡ l.initial.out.items ++ names_text (take l.name-index l.names)
+abbrev pub invariant-loop-place : goal.invariant-loop-place
+invariant-loop-place l = l.out.items ≡ l.initial.out.items ++ names_text (take l.place l.names)
