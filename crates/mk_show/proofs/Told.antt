@@ -1,11 +1,11 @@
 -- What is known of a race or a stale read that is told.
-use Rattle.std.proofs.Common.{◌≡◌, ℕ, ◌<◌, List, [], ◌∷◌, ◌++◌, length, map, true, Option, Some, None, Result, Ok, Err, Vec, inl, inr, refl, sym, subst}
+use Rattle.std.proofs.Common.{◌≡◌, ℕ, ◌<◌, List, [], ◌∷◌, ◌++◌, length, map, true, Option, Some, None, Result, Ok, Err, Vec, ◌⊎◌, inl, inr, refl, sym, ◌∙◌, ap, subst}
 use Rattle.std.specs.List.{flat_map}
 use Rattle.std.specs.Prelude.{IfOk, MatchOption}
 use Rattle.std.specs.declared.alloc.AllocError.{AllocError}
 use Rattle.std.specs.declared.alloc.Global.{Global}
 use Rattle.mk_graph.specs.Membership.{Has}
-use Rattle.mk_graph.specs.Graph.{node}
+use Rattle.mk_graph.specs.Graph.{IsGraph, node}
 use Rattle.mk_graph.specs.Serial.{serial_order}
 use Rattle.mk_graph.specs.Setting.{IsNumberOf}
 use Rattle.mk_graph.specs.World.{Disk, IsFirst}
@@ -19,6 +19,7 @@ use Rattle.mk_cert.specs.Listing.{Lists}
 use Rattle.mk_cert.specs.Subject.{Subject, footprints, name_of, reads_of, writes_of}
 use Rattle.mk_cert.specs.declared.finding.Finding.{Finding}
 use Rattle.mk_cert.specs.declared.finding.Finding.TheVariants as found
+use Rattle.mk_find.specs.Findings.{AreFindings}
 use Rattle.mk_show.specs.Shown.{EndsInRace, HasStamps, IsNotShown, IsTold, Shows, ShowsStaleRead}
 use Rattle.mk_show.proofs.Chains.{has_recipe, recipe_is_node}
 
