@@ -1,7 +1,7 @@
 //! Texts, lists of them and the format, by the tokens of a file of footprints, each with the fault
 //! of its key.
 
-ghost use Rattle.std.specs.Prelude.{◌≡◌, ◌∷◌, ◌++◌, [], List, Result, map, option_and_then};
+ghost use Rattle.std.specs.Prelude.{◌≡◌, ◌∷◌, ◌++◌, [], List, Result, option_and_then};
 ghost use Rattle.std.specs.Option.{option_map};
 ghost use Rattle.std.specs.String.{string_bytes};
 ghost use Rattle.serde_json.specs.Data.{Data};
@@ -9,7 +9,7 @@ ghost use Rattle.serde_json.specs.Find.{as_str, as_number, as_integer};
 ghost use Rattle.mk_json.specs.Tokens.{Reads, ReadsItems};
 ghost use Rattle.mk_foot.specs.declared.fault.FootFault.{FootFault};
 ghost use Rattle.mk_foot.specs.Kinds.{texts_of};
-ghost use Rattle.mk_foot.specs.PartsRead.{text_of, format_from};
+ghost use Rattle.mk_foot.specs.PartsRead.{text_of, format_from, GivesTexts};
 ghost use Rattle.mk_foot.specs.Steps.{Gives, each};
 
 use crate::fault::FootFault;
@@ -51,9 +51,9 @@ pub fn read_text(
 /// Texts with one more at their end, or the fault of what is no text.
 fn with_text(texts: Texts, text: Result<String, FootFault>) -> Texts
     ensures { (key : Key) (front : List Data) (value : Data) →
-        Gives (λ all. map string_bytes all.items) texts (each (text_of key) front) →
+        GivesTexts texts (each (text_of key) front) →
         Gives string_bytes text (text_of key value) →
-        Gives (λ all. map string_bytes all.items) result
+        GivesTexts result
         (each (text_of key) (front ++ value ∷ [])) }
 {
     let mut texts = texts?;
@@ -70,7 +70,7 @@ fn read_list(
     depth: usize,
 ) -> Result<Texts, Invalid>
     ensures { ReadsItems
-        (λ texts values. Gives (λ all. map string_bytes all.items) texts (each (text_of key) values))
+        (λ texts values. GivesTexts texts (each (text_of key) values))
         depth reader.old result reader.new }
 {
     items_in_turn();
@@ -91,7 +91,7 @@ pub fn read_texts(
     depth: usize,
 ) -> Result<Texts, Invalid>
     ensures { Reads
-        (λ texts value. Gives (λ all. map string_bytes all.items) texts (texts_of key value))
+        (λ texts value. GivesTexts texts (texts_of key value))
         depth reader.old result reader.new }
 {
     if !enter_array(reader, depth)? {

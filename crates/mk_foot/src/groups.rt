@@ -1,6 +1,6 @@
 //! Groups of records, by the tokens of a file of footprints: of each only its parts are kept.
 
-ghost use Rattle.std.specs.Prelude.{◌≡◌, true, is_some, map};
+ghost use Rattle.std.specs.Prelude.{◌≡◌, true, is_some};
 ghost use Rattle.serde_json.specs.Data.{Data, object, Members, no_members, put};
 ghost use Rattle.serde_json.specs.Find.{as_object};
 ghost use Rattle.mk_json.specs.Kinds.{elements_of};

@@ -1,14 +1,13 @@
 //! Shared lists, by the tokens of a file of footprints, in the order of their names.
 
-ghost use Rattle.std.specs.Prelude.{◌≡◌, IfOk, map};
-ghost use Rattle.std.specs.String.{string_bytes};
+ghost use Rattle.std.specs.Prelude.{IfOk};
 ghost use Rattle.serde_json.specs.Data.{Data, Members, put};
 ghost use Rattle.mk_json.specs.Kinds.{pairs};
 ghost use Rattle.mk_json.specs.Tokens.{Reads, ReadsMembers};
 ghost use Rattle.mk_foot.specs.declared.key.Key.TheVariants as keys;
 ghost use Rattle.mk_foot.specs.Footprints.{list_in};
 ghost use Rattle.mk_foot.specs.Kinds.{texts_of};
-ghost use Rattle.mk_foot.specs.PartsRead.{AreLists, lists_from};
+ghost use Rattle.mk_foot.specs.PartsRead.{AreLists, GivesTexts, lists_from};
 ghost use Rattle.mk_foot.specs.Steps.{Gives, each};
 
 use crate::fault::FootFault;
@@ -37,7 +36,7 @@ fn with_list(
 ) -> Result<Lists, AllocError>
     ensures { (members : Members) (value : Data) →
         IfOk lists (λ lists. AreLists lists.entries members) →
-        Gives (λ all. map string_bytes all.items) names (texts_of keys.Lists value) →
+        GivesTexts names (texts_of keys.Lists value) →
         IfOk result (λ lists. AreLists lists.entries (put name.now value members)) }
 {
     let mut lists = lists?;

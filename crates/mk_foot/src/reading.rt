@@ -12,7 +12,7 @@ use crate::book::{Book, Record};
 use crate::checks::{group_for, test_all};
 use crate::fault::FootFault;
 use crate::names::{copied, once};
-use crate::parts::{Entry, Footprints, Group, SharedList};
+use crate::parts::{Entry, Footprints, SharedList};
 use crate::shapes::read_footprints;
 use json::{Reader, Scratch};
 use mk_json::laws::whole_text;
