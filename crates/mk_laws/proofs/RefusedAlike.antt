@@ -1,5 +1,5 @@
 -- A plan is refused as a verdict is.
-use Rattle.std.proofs.Common.{◌≡◌, Result, Ok, Err, sym, ap, ◌∙◌}
+use Rattle.std.proofs.Common.{◌≡◌, None, Result, Ok, Err, sym, ap, ◌∙◌}
 use Rattle.std.specs.Prelude.{⊤}
 use Rattle.mk_cert.specs.Subject.{Subject}
 use Rattle.mk_graph.specs.Laws.{SerialReachesEachOnce}

@@ -1,4 +1,4 @@
-use Rattle.mk_evidence.proofs.FindingPlans.{refused_alike}
+use Rattle.mk_laws.proofs.RefusedAlike.{refused_alike}
 use Rattle.mk_laws.proofs.answer_laws.evidence_refuses_as_check.Goals as goal
 
 pub returns : goal.returns
