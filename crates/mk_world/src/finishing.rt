@@ -55,8 +55,8 @@ fn stamps_for(alloc: Global, disk: &Disk, files: &[String]) -> Result<Vec<u64>, 
     Ok(stamps)
 }
 
-/// What a recipe that sees this is finished with: what is known of a run that saw the same, else new
-/// stamps.
+/// What a recipe that sees this is finished with: what is known of a run that saw the same, else
+/// new stamps.
 fn contents_seeing(
     alloc: Global,
     scene: &Scene,
@@ -165,8 +165,8 @@ pub fn finish_seeing(
     end_seeing(alloc, scene, disk, making, sight)
 }
 
-/// A running recipe looks at each file that it reads, puts these contents into those that it writes,
-/// and ends.
+/// A running recipe looks at each file that it reads, puts these contents into those that it
+/// writes, and ends.
 pub fn finish_with(
     alloc: Global,
     scene: &Scene,

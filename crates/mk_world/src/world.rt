@@ -130,7 +130,8 @@ impl<'a> World<'a> {
         requires allowed { MayTakeAll self.old (whole_run self.old.scene.graph
             (setting self.old.scene) (number_of self.old.scene.graph node.now) contents.now) }
         ensures { TakesAllAllowed self.old self.new (whole_run self.old.scene.graph
-            (setting self.old.scene) (number_of self.old.scene.graph node.now) contents.now) result }
+            (setting self.old.scene) (number_of self.old.scene.graph node.now) contents.now)
+            result }
     {
         match self.run_with(node, contents) {
             Ok(()) => Ok(()),
@@ -373,7 +374,8 @@ impl<'a> World<'a> {
     fn finish_with(&mut self, node: &str, contents: &[u64]) -> Result<(), StepFault>
         requires { is_node self.old.scene.graph node.now ≡ true }
         ensures { AnswersInTurn self.old self.new (rest_of_run self.old.scene.graph
-            (setting self.old.scene) (number_of self.old.scene.graph node.now) contents.now) result }
+            (setting self.old.scene) (number_of self.old.scene.graph node.now) contents.now)
+            result }
     {
         let Some(making) = &mut self.make else {
             return Err(StepFault::NoMake);
@@ -397,7 +399,8 @@ impl<'a> World<'a> {
     fn run_with(&mut self, node: &str, contents: &[u64]) -> Result<(), StepFault>
         requires { is_node self.old.scene.graph node.now ≡ true }
         ensures { AnswersInTurn self.old self.new (whole_run self.old.scene.graph
-            (setting self.old.scene) (number_of self.old.scene.graph node.now) contents.now) result }
+            (setting self.old.scene) (number_of self.old.scene.graph node.now) contents.now)
+            result }
     {
         self.begin(node)?;
         self.finish_with(node, contents)
