@@ -23,3 +23,4 @@ pub mod Keeping
 pub mod Held
 pub mod Looks
 pub mod Whole
+pub mod FewNames

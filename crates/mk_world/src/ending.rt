@@ -11,17 +11,16 @@ ghost use Rattle.mk_world.specs.Steps.{Judges};
 
 use crate::disk::Disk;
 use crate::fault::StepFault;
+use crate::lent::{LentNames, get};
 use crate::making::Making;
 use crate::outcomes::Sight;
 use crate::scene::Scene;
-use crate::table::get;
-use mk_lines::NameTable;
 use std::alloc::{AllocError, Global};
 
 /// What is known of each name, if something is known of all.
 fn all_of<T: Copy + Drop>(
     alloc: Global,
-    names: &NameTable,
+    names: &LentNames<'_>,
     values: &[Option<T>],
 ) -> Result<Option<Vec<T>>, AllocError>
     requires { length values.now ≡ length names.now }

@@ -1,4 +1,4 @@
-//! What recipes read and write, as tables.
+//! What recipes read and write.
 
 ghost use Rattle.std.specs.Prelude.{◌≡◌, map, IfOk};
 ghost use Rattle.std.specs.String.{string_bytes};
@@ -6,16 +6,16 @@ ghost use Rattle.mk_graph.specs.declared.node.Node as declared;
 ghost use Rattle.mk_world.specs.Fits.{no_footprint};
 ghost use Rattle.mk_world.specs.First.{reads_of, writes_of};
 
+use crate::lent::LentNames;
 use mk_foot::Setting;
 use mk_graph::Node;
-use mk_lines::NameTable;
 use std::alloc::{AllocError, Global};
 
 /// What the recipe of a node reads and writes.
 #[derive(Drop)]
-pub struct Footprint {
-    pub reads: NameTable,
-    pub writes: NameTable,
+pub struct Footprint<'a> {
+    pub reads: LentNames<'a>,
+    pub writes: LentNames<'a>,
 }
 
 /// The names of nodes.
@@ -30,32 +30,25 @@ pub fn names_of_nodes(alloc: Global, nodes: &[Node]) -> Result<Vec<String>, Allo
     Ok(names)
 }
 
-/// A table of names.
-fn table_of(alloc: Global, names: &[String]) -> Result<NameTable, AllocError>
-    ensures { IfOk result (λ table. table ≡ map string_bytes names.now) }
-{
-    let mut copies = Vec::with_capacity(alloc, names.len())?;
-    for name in names {
-        copies.push(name.clone()?)?;
-    }
-    NameTable::new(alloc, copies)
-}
-
 /// A footprint without files.
-fn empty(alloc: Global) -> Result<Footprint, AllocError>
+fn empty<'a>(alloc: Global) -> Result<Footprint<'a>, AllocError>
     ensures { IfOk result (λ footprint. footprint ≡ no_footprint) }
 {
     Ok(Footprint {
-        reads: table_of(alloc, &[])?,
-        writes: table_of(alloc, &[])?,
+        reads: LentNames::new(alloc, &[])?,
+        writes: LentNames::new(alloc, &[])?,
     })
 }
 
 /// The footprint of a node.
-fn footprint_of(alloc: Global, setting: &Setting, node: &Node) -> Result<Footprint, AllocError>
+fn footprint_of<'a>(
+    alloc: Global,
+    setting: &'a Setting,
+    node: &Node,
+) -> Result<Footprint<'a>, AllocError>
     ensures { IfOk result (λ footprint. footprint ≡ record {
-      reads = reads_of setting.now node.now;
-      writes = writes_of setting.now node.now;
+      reads = reads_of setting.entry.now node.now;
+      writes = writes_of setting.entry.now node.now;
     }) }
 {
     if !node.recipe {
@@ -63,22 +56,22 @@ fn footprint_of(alloc: Global, setting: &Setting, node: &Node) -> Result<Footpri
     }
     match setting.record_of(node.name.as_str()) {
         Some(record) => Ok(Footprint {
-            reads: table_of(alloc, &record.reads)?,
-            writes: table_of(alloc, &record.writes)?,
+            reads: LentNames::new(alloc, &record.reads)?,
+            writes: LentNames::new(alloc, &record.writes)?,
         }),
         None => empty(alloc),
     }
 }
 
 /// The footprints of nodes.
-pub fn footprints_of(
+pub fn footprints_of<'a>(
     alloc: Global,
-    setting: &Setting,
+    setting: &'a Setting,
     nodes: &[Node],
-) -> Result<Vec<Footprint>, AllocError>
+) -> Result<Vec<Footprint<'a>>, AllocError>
     ensures { IfOk result (λ all. all.items ≡ map (λ (n : declared.Node). record {
-      reads = reads_of setting.now n;
-      writes = writes_of setting.now n;
+      reads = reads_of setting.entry.now n;
+      writes = writes_of setting.entry.now n;
     }) nodes.now) }
 {
     let mut all = Vec::with_capacity(alloc, nodes.len())?;

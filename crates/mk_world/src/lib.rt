@@ -11,6 +11,7 @@ mod footprints;
 mod judging;
 mod keyword;
 pub mod laws;
+mod lent;
 mod making;
 mod names;
 mod ordering;

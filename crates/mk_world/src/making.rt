@@ -8,9 +8,9 @@ ghost use Rattle.mk_graph.specs.Turns.{MayTurn, HasAll};
 ghost use Rattle.mk_world.specs.Kept.{IsKept};
 ghost use Rattle.mk_world.specs.State.{Scene, begun, finished, run_at, no_run, start_of, with_run, HasLooked, HasPut};
 
+use crate::lent::LentNames;
 use crate::progress::Run;
 use mk_graph::{NodeSet, growth_laws};
-use mk_lines::NameTable;
 use mk_ready::Readiness;
 use std::alloc::{AllocError, Global};
 use std::marker::Model;
@@ -158,7 +158,7 @@ impl Making {
     pub fn look(
         &mut self,
         number: usize,
-        reads: &NameTable,
+        reads: &LentNames<'_>,
         file: &str,
         content: Option<u64>,
     ) -> bool
@@ -184,7 +184,7 @@ impl Making {
     }
 
     /// Notes what was put into a file, if the recipe writes it. Answers whether it does.
-    pub fn put(&mut self, number: usize, writes: &NameTable, file: &str, content: u64) -> bool
+    pub fn put(&mut self, number: usize, writes: &LentNames<'_>, file: &str, content: u64) -> bool
         requires node { number < length self.old.runs }
         requires len { length (run_at self.old.runs number).puts ≡ length writes.now }
         ensures there { result ≡ has_name writes.now file.now }

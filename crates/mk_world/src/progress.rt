@@ -7,8 +7,7 @@ ghost use Rattle.mk_world.specs.Tables.{look};
 ghost use Rattle.std.specs.Bool.{OnTrue, OnFalse};
 ghost use Rattle.mk_world.specs.State.{no_run};
 
-use crate::table::set;
-use mk_lines::NameTable;
+use crate::lent::{LentNames, set};
 use std::alloc::{AllocError, Global};
 use std::marker::Model;
 
@@ -64,7 +63,7 @@ impl Run {
     }
 
     /// Notes a look at a file, if the recipe reads it. Answers whether it does.
-    pub fn look(&mut self, reads: &NameTable, file: &str, content: Option<u64>) -> bool
+    pub fn look(&mut self, reads: &LentNames<'_>, file: &str, content: Option<u64>) -> bool
         requires { length self.old.looks ≡ length reads.now }
         ensures there { result ≡ has_name reads.now file.now }
         ensures len { length self.new.looks ≡ length self.old.looks }
@@ -84,7 +83,7 @@ impl Run {
     }
 
     /// Notes what was put into a file, if the recipe writes it. Answers whether it does.
-    pub fn put(&mut self, writes: &NameTable, file: &str, content: u64) -> bool
+    pub fn put(&mut self, writes: &LentNames<'_>, file: &str, content: u64) -> bool
         requires { length self.old.puts ≡ length writes.now }
         ensures there { result ≡ has_name writes.now file.now }
         ensures len { length self.new.puts ≡ length self.old.puts }

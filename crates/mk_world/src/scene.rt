@@ -20,7 +20,7 @@ pub struct Scene<'a> {
     graph: &'a Graph,
     recorded: &'a Setting,
     numbers: NameTable,
-    footprints: Vec<Footprint>,
+    footprints: Vec<Footprint<'a>>,
 }
 
 impl<'a> Model for Scene<'a> {
@@ -90,7 +90,7 @@ impl<'a> Scene<'a> {
     }
 
     /// The files that the recipe of a node reads and writes.
-    pub fn footprint(&self, number: usize) -> &Footprint
+    pub fn footprint(&self, number: usize) -> &Footprint<'a>
         requires { number < length self.now.graph.nodes }
         ensures value { result.now ≡ footprint self.now.graph (setting self.now) number }
         ensures few { length self.now.graph.nodes ≤ 4096 }

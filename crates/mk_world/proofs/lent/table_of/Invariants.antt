@@ -1,5 +1,5 @@
 use Rattle.std.proofs.Common.{◌≡◌, map, take, string_bytes}
-use Rattle.mk_world.proofs.footprints.table_of.Given as goal
+use Rattle.mk_world.proofs.lent.table_of.Given as goal
 
 -- the names so far
 abbrev pub invariant-loop-name : goal.invariant-loop-name
