@@ -8,9 +8,8 @@ use Rattle.clap.specs.declared.error.ErrorKind.TheVariants.{OutOfMemory}
 use Rattle.clap.proofs.OnLiterals.{clap_on_literals}
 use Rattle.mk_core.specs.Answer.{Answers, Counts}
 use Rattle.mk_core.specs.CheckAnswer.{AnswersCheck}
-use Rattle.mk_evidence.specs.EvidenceAnswer.{AnswersEvidence, HasVerdict, HasYes, plan_in}
+use Rattle.mk_evidence.specs.EvidenceAnswer.{AnswersEvidence, HasVerdict, plan_in}
 use Rattle.mk_core.specs.Files.{Told}
-use Rattle.mk_core.specs.Right.{IsRightFor}
 use Rattle.mk_core.specs.Steps.{seen}
 use Rattle.mk_core.specs.declared.fault.Fault.{Fault}
 use Rattle.mk_core.specs.declared.fault.Fault.TheVariants.{Memory}
@@ -65,12 +64,6 @@ module _ (told : Told) (request : Request) (only_certificate : Bool) (number : �
   evidence_shows (Plan plan) a v = (Ok (Some plan.items), a, refl)
   evidence_shows (NoPlan verdict) a v = (Ok None, a, (Ok verdict, v, refl))
 
--- status 0 shows a yes
-pub done_is_yes : (only_certificate : Bool) (evidence : Evidence) → (shown_evidence only_certificate evidence).status ≡ 0 → HasYes (Ok evidence)
-done_is_yes only_certificate (Plan plan) e = let bad : 1 ≡ 0 = e in absurd (omega arith)
-done_is_yes only_certificate (NoPlan (Yes certificate recipes reads)) e = tt
-done_is_yes only_certificate (NoPlan (No found)) e = let bad : 1 ≡ 0 = e in absurd (omega arith)
-
 -- the same over files that may be told
 pub evidence_answers : (told : Option Told) (request : Request) (only_certificate : Bool) (number : ℕ) (evidence : Evidence) (shown : Shown)
     → IfSome told (λ files. Answers files request (AnswersEvidence number) (Ok (plan_in evidence))) → IfSome told (λ files. HasVerdict (Answers files request AnswersCheck) (Ok evidence))
@@ -78,18 +71,6 @@ pub evidence_answers : (told : Option Told) (request : Request) (only_certificat
 evidence_answers None request only_certificate number evidence shown a v e = tt
 evidence_answers (Some files) request only_certificate number evidence shown a v e =
     subst (λ (s : Shown). AnswersAsked files (Check request only_certificate (Some number)) (Ok s)) (sym e) (evidence_shows files request only_certificate number evidence a v)
-
--- a fault is answered as it is
-pub fault_answers : (told : Option Told) (request : Request) (only_certificate : Bool) (number : ℕ) (fault : Fault)
-    → IfSome told (λ files. Answers files request (AnswersEvidence number) (Err fault)) → IfSome told (λ files. AnswersAsked files (Check request only_certificate (Some number)) (Err fault))
-fault_answers None request only_certificate number fault a = tt
-fault_answers (Some files) request only_certificate number fault a = (Err fault, a, refl)
-
--- what a yes says, status 0 says
-pub status_promises : (told : Option Told) (request : Request) (only_certificate : Bool) (evidence : Evidence) (shown : Shown)
-    → IfSome told (λ files. HasYes (Ok evidence) → IsRightFor files request) → shown ≡ shown_evidence only_certificate evidence → IfSome told (λ files. shown.status ≡ 0 → IsRightFor files request)
-status_promises None request only_certificate evidence shown right e = tt
-status_promises (Some files) request only_certificate evidence shown right e = λ done. right (done_is_yes only_certificate evidence (sym (ap (λ (s : Shown). s.status) e) ∙ done))
 
 -- what status 0 of an answer promises, it promises where it is written
 pub promised : (told : Option Told) (asked : Asked) (answer : Result Shown Fault) (w : Written)
