@@ -95,14 +95,6 @@ pub written_decides : (x : Subject) (f : List ℕ) (ns : List ℕ) (b : Bool) �
 written_decides x f ns b is reaches same e =
     ((λ t. some_writer x f ns same ((empty_test ns).0 (ap (λ c. not c) (sym e) ∙ t))), (λ h. ap (λ c. not c) e ∙ (empty_test ns).1 (writer_found x f ns is reaches same h)))
 
--- a file that is read is one of the recipe's own just where it is written
-pub own_there : (x : Subject) (e : Entry) (f : List ℕ) (set : List (List ℕ)) → IsEntry x e → HoldsNames set (entry_writes e) → has_name set f ≡ true → Has (writes_of x e.number) f
-own_there x e f set is held t = subst (λ (fs : List (List ℕ)). Has fs f) (same_writes x e is) ((has_decides (entry_writes e) f).0 (sym (held f) ∙ t))
-
-pub not_own : (x : Subject) (e : Entry) (f : List ℕ) (set : List (List ℕ)) → IsEntry x e → HoldsNames set (entry_writes e) → has_name set f ≡ false → ¬ (ReadsItsOwn x e.number f)
-not_own x e f set is held out (read, wrote) =
-    true≢false (sym (held f ∙ (has_decides (entry_writes e) f).1 (subst (λ (fs : List (List ℕ)). Has fs f) (sym (same_writes x e is)) wrote)) ∙ out)
-
 -- who writes a file is a node
 pub writer_is_node : (x : Subject) (o : ℕ) (f : List ℕ) → Has (writes_of x o) f → o < length x.graph.nodes
 writer_is_node x o f wrote =
@@ -121,6 +113,14 @@ pub number_out : (ns : List ℕ) (n : ℕ) → has ns n ≡ false → ¬ (Has ns
 number_out [] n f h = h
 number_out (m ∷ ns) n f (inl here) = true≢false (sym (eq-eqb m n here) ∙ (neither (m == n) (has ns n) f).0)
 number_out (m ∷ ns) n f (inr there) = number_out ns n (neither (m == n) (has ns n) f).1 there
+
+-- a file that is read is one of the recipe's own just where the recipe is one of its writers
+pub own_there : (x : Subject) (t : ℕ) (f : List ℕ) (ns : List ℕ) (n : ℕ) → ns ≡ writers_of x f → n ≡ t → has ns n ≡ true → Has (writes_of x t) f
+own_there x t f ns n same number stands = subst (λ (k : ℕ). Has (writes_of x k) f) number (writers_write x f ns same n (number_in ns n stands))
+
+pub not_own : (x : Subject) (t : ℕ) (f : List ℕ) (ns : List ℕ) (n : ℕ) → IsGraph x.graph → SerialReachesEachOnce → ns ≡ writers_of x f → n ≡ t → has ns n ≡ false → ¬ (ReadsItsOwn x t f)
+not_own x t f ns n is reaches same number out (read, wrote) =
+    number_out ns n out (subst (λ (k : ℕ). Has ns k) (sym number) (subst (λ (l : List ℕ). Has l t) (sym same) (kept (λ o. has_name (writes_of x o) f) (serial_order x.graph) t (writer_in_order x is reaches t f wrote) ((has_decides (writes_of x t) f).1 wrote))))
 
 -- a number at its place stands among the numbers
 pub number_at : (ns : List ℕ) (i d : ℕ) → i < length ns → Has ns (get_or ns i d)

@@ -20,4 +20,5 @@ pub mod Found
 pub mod OneAnswer
 pub mod SelectedGoals
 pub mod Accepted
+pub mod KnownFiles
 pub mod Counted

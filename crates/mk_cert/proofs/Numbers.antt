@@ -10,13 +10,10 @@ use Rattle.mk_graph.specs.declared.node.Node.{Node}
 use Rattle.mk_graph.specs.Graph.{IsGraph, no_node}
 use Rattle.mk_graph.specs.GrowthLaws.{NamesHaveOneNumber}
 use Rattle.mk_graph.specs.Membership.{Has, IsDistinct}
+use Rattle.mk_cert.specs.Known.{all_names}
 use Rattle.mk_cert.specs.Subject.{Subject, name_of}
 use Rattle.mk_cert.proofs.Decided.{has_decides}
 use Rattle.mk_cert.proofs.Rows.{not_before}
-
--- the names of the nodes
-abbrev pub all_names : Subject → List (List ℕ)
-all_names x = map (λ (n : Node). n.name) x.graph.nodes
 
 -- at a number that is a node's stands the name
 pub number_names : (x : Subject) (f : List ℕ) → number_of (all_names x) f < length x.graph.nodes → name_of x (number_of (all_names x) f) ≡ f

@@ -1,5 +1,5 @@
 -- Past the last node there is nothing.
-use Rattle.std.proofs.Common.{◌≡◌, ℕ, ◌≤◌, List, [], length, cond, subst}
+use Rattle.std.proofs.Common.{◌≡◌, ℕ, ◌≤◌, List, [], length, cond, ap, subst}
 use Rattle.std.specs.List.{flat_map}
 use Rattle.std.proofs.lemmas.List.{get_or_past}
 use Rattle.mk_graph.specs.declared.node.Node.{Node}
@@ -13,6 +13,9 @@ past_node g t past = get_or_past g.nodes t no_node past
 
 pub past_reads : (g : Graph) (s : Setting) (t : ℕ) → length g.nodes ≤ t → (f : FileName) → ¬ (Has (reads g s t) f)
 past_reads g s t past f h = subst (λ (n : Node). Has (cond n.recipe (s.reads n.name) []) f) (past_node g t past) h
+
+pub nothing_read : (g : Graph) (s : Setting) (t : ℕ) → length g.nodes ≤ t → reads g s t ≡ []
+nothing_read g s t past = ap (λ (n : Node). cond n.recipe (s.reads n.name) []) (past_node g t past)
 
 pub past_prerequisites : (g : Graph) (t : ℕ) → length g.nodes ≤ t → (p : ℕ) → ¬ (Has (prerequisites g t) p)
 past_prerequisites g t past p h = subst (λ (n : Node). Has (flat_map (λ (group : List ℕ). group) n.groups) p) (past_node g t past) h

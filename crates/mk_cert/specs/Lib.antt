@@ -16,6 +16,7 @@ pub mod Paths
 pub mod Verdict
 pub mod Links
 pub mod Walking
+pub mod Known
 pub mod Target
 pub mod Counts
 pub mod Checks

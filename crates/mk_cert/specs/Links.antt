@@ -1,7 +1,6 @@
 -- What is looked up of ways.
-use Rattle.std.specs.Prelude.{◌≡◌, ◌<◌, ℕ, Bool, true, false, ◌↔◌, List, [], length, map, slice_index_or}
+use Rattle.std.specs.Prelude.{◌≡◌, ◌<◌, ℕ, Bool, true, false, ◌↔◌, List, [], length, slice_index_or}
 use Rattle.mk_lines.specs.Names.{has_name}
-use Rattle.mk_graph.specs.declared.node.Node.{Node}
 use Rattle.mk_graph.specs.Membership.{Has}
 use Rattle.mk_graph.specs.Graph.{prerequisites}
 use Rattle.mk_graph.specs.Setting.{IsAlwaysMade}
@@ -10,18 +9,16 @@ use Rattle.mk_ways.specs.Certificate.{Way}
 use Rattle.mk_cert.specs.Subject.{Subject, footprints, name_of, reads_of}
 use Rattle.mk_cert.specs.Verdict.{HasEntry}
 
--- at each number stands what is so of the node with it: its name, its direct prerequisites, and
--- whether it is always made
-pub record AreEnds (x : Subject) (names : List (List ℕ)) (needed : List (List ℕ))
-    (always : List Bool) : Type 0 where
-  pub names_held : names ≡ map (λ (n : Node). n.name) x.graph.nodes
+-- at each number stands what is so of the node with it: its direct prerequisites, and whether it is
+-- always made
+pub record AreEnds (x : Subject) (needed : List (List ℕ)) (always : List Bool) : Type 0 where
   pub needed_held : (t p : ℕ) → Has (slice_index_or needed t []) p ↔ Has (prerequisites x.graph t) p
   pub always_held : (t : ℕ) → (slice_index_or always t false ≡ true) ↔ IsAlwaysMade x.graph t
 
 -- so do these, and the files that its recipe reads, and the recipes that it carries
-pub record AreLinks (x : Subject) (names : List (List ℕ)) (reads : List (List (List ℕ)))
+pub record AreLinks (x : Subject) (reads : List (List (List ℕ)))
     (carried needed : List (List ℕ)) (always : List Bool) : Type 0 where
-  pub ends : AreEnds x names needed always
+  pub ends : AreEnds x needed always
   pub reads_held : (t : ℕ) (f : List ℕ) →
       (has_name (slice_index_or reads t []) f ≡ true) ↔ Has (reads_of x t) f
   pub carried_held : (t o : ℕ) →

@@ -1,13 +1,14 @@
 -- The tables of a subject.
-use Rattle.std.specs.Prelude.{◌≡◌, ℕ, ◌<◌, List, length, Ok, Vec}
+use Rattle.std.specs.Prelude.{◌≡◌, ℕ, ◌<◌, List, [], length, slice_index_or, Ok, Vec}
 use Rattle.std.specs.Borrow.{Bor}
 use Rattle.std.specs.declared.alloc.Global.{Global}
 use Rattle.indexmap.specs.IndexMap.{IndexMap}
 use Rattle.mk_lines.specs.Names.{has_name}
 use Rattle.mk_graph.specs.Graph.{IsGraph}
 use Rattle.mk_infer.specs.Commands.{Commands}
-use Rattle.mk_cert.specs.Subject.{Subject, commands_of}
+use Rattle.mk_cert.specs.Subject.{Subject, commands_of, reads_of}
 use Rattle.mk_cert.specs.Entry.{Entry, AreEntries, writers_of}
+use Rattle.mk_cert.specs.Known.{Known, StandAt, all_names, known_of}
 use Rattle.mk_cert.specs.Writers.{numbers_at}
 
 -- a set holds the names of a list
@@ -16,9 +17,11 @@ HoldsNames set names = (name : List ℕ) → has_name set name ≡ has_name name
 
 -- what is looked up is the subject's
 pub record AreTables {S : Type 0} (x : Subject) (entries : List Entry)
-    (writers : IndexMap (Bor (List ℕ)) (Vec ℕ Global) S) (phony : List (List ℕ)) : Type 0 where
+    (writers : IndexMap (Bor (List ℕ)) (Vec ℕ Global) S) (names : List (List ℕ))
+    (known : List Known) (places : List (List ℕ)) : Type 0 where
   pub is_graph : IsGraph x.graph
   pub told : (n : ℕ) → n < length x.graph.nodes → (found : Commands) × (commands_of x n ≡ Ok found)
   pub entries_held : AreEntries x entries
   pub writers_held : (file : List ℕ) → numbers_at writers file ≡ writers_of x file
-  pub phony_held : HoldsNames phony x.makefile.phony
+  pub names_held : names ≡ all_names x
+  pub reads_held : (t : ℕ) → StandAt (known_of x) known (slice_index_or places t []) (reads_of x t)

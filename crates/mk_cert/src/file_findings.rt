@@ -4,16 +4,18 @@ ghost use Rattle.std.specs.Prelude.{◌≡◌, ◌↔◌, ◌∷◌, [], true, m
 ghost use Rattle.mk_graph.specs.Membership.{Has};
 ghost use Rattle.mk_cert.specs.Subject.{reads_of, writes_of};
 ghost use Rattle.mk_cert.specs.Candidates.{given_written, own_read, unknown_read};
-ghost use Rattle.mk_cert.specs.Entry.{IsEntry, entry_writes};
+ghost use Rattle.mk_cert.specs.Entry.{IsEntry};
 ghost use Rattle.mk_cert.specs.Listed.{Adds};
-ghost use Rattle.mk_cert.specs.Tables.{HoldsNames};
 ghost use Rattle.mk_cert.specs.FileTests.{is_taken, IsUnknown};
+ghost use Rattle.mk_cert.specs.Target.{target_of};
 
 use crate::entry::Entry;
 use crate::finding::Finding;
 use crate::subject::Subject;
-use crate::tables::names_among;
-use mk_lines::{Name, NameSet};
+use crate::target::Target;
+use crate::writer_findings::has_number;
+use mk_graph::laws::serial_reaches_each_once;
+use mk_lines::Name;
 use std::alloc::{AllocError, Global};
 
 /// Whether a file is given, phony, or passed over by the reading of the makefile.
@@ -67,10 +69,13 @@ pub fn note_given_written(
 }
 
 /// Whether a file is neither given nor written.
-fn is_unknown(subject: &Subject<'_>, file: &str) -> bool
-    ensures { (result ≡ true) ↔ IsUnknown subject.now file.now }
+fn is_unknown(subject: &Subject<'_>, file: &Target<'_>) -> bool
+    requires { file.now ≡ target_of subject.now file.now.file }
+    ensures { (result ≡ true) ↔ IsUnknown subject.now file.now.file }
 {
-    !subject.setting().is_given(file) && !subject.is_written(file)
+    serial_reaches_each_once();
+    let _graph = subject.graph();
+    !file.given && file.writers.is_empty()
 }
 
 /// Adds that a recipe reads a file that is neither given nor written, if it is so.
@@ -78,28 +83,29 @@ fn note_unknown(
     alloc: Global,
     subject: &Subject<'_>,
     entry: &Entry<'_>,
-    file: &str,
+    file: &Target<'_>,
     found: &mut Vec<Finding>,
 ) -> Result<(), AllocError>
     requires entry { IsEntry subject.now entry.now }
-    requires read { Has (reads_of subject.now entry.now.number) file.now }
-    ensures { OnOk result (Adds subject.now (unknown_read entry.now.number file.now ∷ [])
+    requires file { file.now ≡ target_of subject.now file.now.file }
+    requires read { Has (reads_of subject.now entry.now.number) file.now.file }
+    ensures { OnOk result (Adds subject.now (unknown_read entry.now.number file.now.file ∷ [])
         found.old.items found.new.items) }
 {
     if !is_unknown(subject, file) {
         return Ok(());
     }
     let recipe = entry.copy_of_name()?;
-    let file = Name::new(alloc, file)?;
+    let file = Name::new(alloc, file.file)?;
     found.push(Finding::UnknownRead { recipe, file })?;
     Ok(())
 }
 
 /// Adds which of the files that a recipe reads are neither given nor written.
-pub fn note_unknown_reads(
+pub fn note_unknown_reads<'s>(
     alloc: Global,
-    subject: &Subject<'_>,
-    entry: &Entry<'_>,
+    subject: &'s Subject<'_>,
+    entry: &'s Entry<'_>,
     found: &mut Vec<Finding>,
 ) -> Result<(), AllocError>
     requires { IsEntry subject.now entry.now }
@@ -107,63 +113,45 @@ pub fn note_unknown_reads(
         (map (λ f. unknown_read entry.now.number f) (reads_of subject.now entry.now.number))
         found.old.items found.new.items) }
 {
-    let files = entry.reads();
-    for file in files {
-        note_unknown(alloc, subject, entry, file.as_str(), found)?;
+    let count = entry.reads().len();
+    for place in 0..count {
+        let file = subject.read(entry, place);
+        note_unknown(alloc, subject, entry, &file, found)?;
     }
     Ok(())
 }
 
-/// Adds that a recipe reads a file that is one of those that it writes, if it is.
+/// Adds that a recipe reads a file that is one of those that it writes, if it is. Each two writers
+/// of a file are told before, so going through these takes no longer than that.
 fn note_own(
     alloc: Global,
     subject: &Subject<'_>,
     entry: &Entry<'_>,
-    own: &NameSet<'_>,
-    file: &str,
+    file: &Target<'_>,
     found: &mut Vec<Finding>,
 ) -> Result<(), AllocError>
     requires entry { IsEntry subject.now entry.now }
-    requires own { HoldsNames own.now (entry_writes entry.now) }
-    requires read { Has (reads_of subject.now entry.now.number) file.now }
-    ensures { OnOk result (Adds subject.now (own_read entry.now.number file.now ∷ [])
+    requires file { file.now ≡ target_of subject.now file.now.file }
+    requires read { Has (reads_of subject.now entry.now.number) file.now.file }
+    ensures { OnOk result (Adds subject.now (own_read entry.now.number file.now.file ∷ [])
         found.old.items found.new.items) }
 {
-    if !own.contains(file) {
+    serial_reaches_each_once();
+    let _graph = subject.graph();
+    if !has_number(file.writers, entry.number) {
         return Ok(());
     }
     let recipe = entry.copy_of_name()?;
-    let file = Name::new(alloc, file)?;
+    let file = Name::new(alloc, file.file)?;
     found.push(Finding::OwnRead { recipe, file })?;
     Ok(())
 }
 
-/// Adds which of the files that a recipe reads are among these, which it writes.
-fn note_own_among(
-    alloc: Global,
-    subject: &Subject<'_>,
-    entry: &Entry<'_>,
-    own: &NameSet<'_>,
-    found: &mut Vec<Finding>,
-) -> Result<(), AllocError>
-    requires entry { IsEntry subject.now entry.now }
-    requires own { HoldsNames own.now (entry_writes entry.now) }
-    ensures { OnOk result (Adds subject.now
-        (map (λ f. own_read entry.now.number f) (reads_of subject.now entry.now.number))
-        found.old.items found.new.items) }
-{
-    let files = entry.reads();
-    for file in files {
-        note_own(alloc, subject, entry, own, file.as_str(), found)?;
-    }
-    Ok(())
-}
-
 /// Adds which of the files that a recipe reads it writes too.
-pub fn note_own_reads(
+pub fn note_own_reads<'s>(
     alloc: Global,
-    subject: &Subject<'_>,
-    entry: &Entry<'_>,
+    subject: &'s Subject<'_>,
+    entry: &'s Entry<'_>,
     found: &mut Vec<Finding>,
 ) -> Result<(), AllocError>
     requires { IsEntry subject.now entry.now }
@@ -171,6 +159,10 @@ pub fn note_own_reads(
         (map (λ f. own_read entry.now.number f) (reads_of subject.now entry.now.number))
         found.old.items found.new.items) }
 {
-    let own = names_among(alloc, entry.writes())?;
-    note_own_among(alloc, subject, entry, &own, found)
+    let count = entry.reads().len();
+    for place in 0..count {
+        let file = subject.read(entry, place);
+        note_own(alloc, subject, entry, &file, found)?;
+    }
+    Ok(())
 }

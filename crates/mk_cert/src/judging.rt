@@ -47,7 +47,7 @@ fn note_good<'a>(
     way: &'a Way,
     seen: &mut Vec<NameSet<'a>>,
 ) -> Result<bool, AllocError>
-    requires links { AreLinks subject.now links.now.ends.names links.now.reads.items
+    requires links { AreLinks subject.now links.now.reads.items
         links.now.carried.items links.now.ends.needed.items links.now.ends.always.items }
     requires sets { HasSets subject.now seen.old.items }
     ensures judged { IfOk result (λ good.
@@ -78,7 +78,7 @@ pub fn check_entries<'a>(
     ways: &'a [Way],
     seen: &mut Vec<NameSet<'a>>,
 ) -> Result<(), CertFault>
-    requires links { AreLinks subject.now links.now.ends.names links.now.reads.items
+    requires links { AreLinks subject.now links.now.reads.items
         links.now.carried.items links.now.ends.needed.items links.now.ends.always.items }
     requires sets { HasSets subject.now seen.old.items }
     requires empty { AreSeen subject.now [] seen.old.items }

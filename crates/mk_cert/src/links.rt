@@ -22,9 +22,7 @@ use std::alloc::{AllocError, Global};
 
 /// What is looked up where ways end: at the number of each node what is so of it.
 #[derive(Drop)]
-pub struct Ends<'a> {
-    /// Its name.
-    pub names: NameSet<'a>,
+pub struct Ends {
     /// Its direct prerequisites.
     pub needed: Vec<NodeSet>,
     /// Whether it is made in each make.
@@ -35,7 +33,7 @@ pub struct Ends<'a> {
 #[derive(Drop)]
 pub struct Links<'a> {
     /// What is looked up where they end.
-    pub ends: Ends<'a>,
+    pub ends: Ends,
     /// The files that its recipe reads.
     pub reads: Vec<NameSet<'a>>,
     /// The recipes that it carries.
@@ -55,7 +53,7 @@ pub fn node_names<'a>(alloc: Global, graph: &'a Graph) -> Result<NameSet<'a>, Al
 }
 
 /// The files that the recipe of a node reads.
-fn reads_of<'a>(graph: &Graph, setting: &'a Setting, number: usize) -> &'a [String]
+pub fn reads_of<'a>(graph: &Graph, setting: &'a Setting, number: usize) -> &'a [String]
     requires { number < length graph.now.nodes }
     ensures { map string_bytes result.now ≡
         build.reads graph.now (footprints setting.now) number }
@@ -146,7 +144,7 @@ fn some_phony(graph: &Graph, numbers: &[usize]) -> bool
 
 /// For each node of a graph, at its number, whether it is made in each make: it is phony, or has a
 /// phony direct prerequisite. It fails for want of memory alone.
-pub fn always_made(alloc: Global, graph: &Graph) -> Result<Vec<bool>, AllocError>
+fn always_made(alloc: Global, graph: &Graph) -> Result<Vec<bool>, AllocError>
     ensures { IfOk result (λ always. (t : ℕ) →
         (slice_index_or always.items t false ≡ true) ↔ IsAlwaysMade graph.now t) }
 {
@@ -159,12 +157,11 @@ pub fn always_made(alloc: Global, graph: &Graph) -> Result<Vec<bool>, AllocError
 }
 
 /// All that is looked up where ways end. It takes time linear in the graph.
-pub fn ends_of<'a>(alloc: Global, subject: &'a Subject<'_>) -> Result<Ends<'a>, AllocError>
-    ensures { IfOk result (λ e. AreEnds subject.now e.names e.needed.items e.always.items) }
+pub fn ends_of(alloc: Global, subject: &Subject<'_>) -> Result<Ends, AllocError>
+    ensures { IfOk result (λ e. AreEnds subject.now e.needed.items e.always.items) }
 {
     let graph = subject.graph();
     Ok(Ends {
-        names: node_names(alloc, graph)?,
         needed: needed_sets(alloc, graph)?,
         always: always_made(alloc, graph)?,
     })
@@ -173,7 +170,7 @@ pub fn ends_of<'a>(alloc: Global, subject: &'a Subject<'_>) -> Result<Ends<'a>, 
 /// All that is looked up along ways. It takes time linear in what is recorded, where each file has
 /// one writer.
 pub fn links_of<'a>(alloc: Global, subject: &'a Subject<'_>) -> Result<Links<'a>, AllocError>
-    ensures { IfOk result (λ l. AreLinks subject.now l.ends.names l.reads.items l.carried.items
+    ensures { IfOk result (λ l. AreLinks subject.now l.reads.items l.carried.items
         l.ends.needed.items l.ends.always.items) }
 {
     let graph = subject.graph();

@@ -8,11 +8,13 @@ ghost use Rattle.mk_cert.specs.Subject.{reads_of, writes_of};
 ghost use Rattle.mk_cert.specs.Candidates.{race, race_candidates};
 ghost use Rattle.mk_cert.specs.Entry.{IsEntry};
 ghost use Rattle.mk_cert.specs.Listed.{Adds};
+ghost use Rattle.mk_cert.specs.Target.{target_of};
 
 use crate::earlier::Earlier;
 use crate::entry::Entry;
 use crate::finding::Finding;
 use crate::subject::Subject;
+use crate::target::Target;
 use mk_lines::Name;
 use std::alloc::{AllocError, Global};
 
@@ -85,28 +87,28 @@ fn note_file(
     subject: &Subject<'_>,
     earlier: &mut Earlier<'_>,
     entry: &Entry<'_>,
-    file: &str,
+    file: &Target<'_>,
     found: &mut Vec<Finding>,
 ) -> Result<(), AllocError>
     requires entry { IsEntry subject.now entry.now }
+    requires file { file.now ≡ target_of subject.now file.now.file }
     requires graph { earlier.old.graph ≡ subject.now.graph }
     requires number { earlier.old.number ≡ entry.now.number }
-    requires read { Has (reads_of subject.now entry.now.number) file.now }
+    requires read { Has (reads_of subject.now entry.now.number) file.now.file }
     ensures same { earlier.new ≡ earlier.old }
     ensures found { OnOk result (Adds subject.now
-        (map (λ o. race entry.now.number o file.now) (serial_order subject.now.graph))
+        (map (λ o. race entry.now.number o file.now.file) (serial_order subject.now.graph))
         found.old.items found.new.items) }
 {
-    let writers = subject.writers(file);
-    note_races_with(alloc, subject, earlier, entry, writers, file, found)
+    note_races_with(alloc, subject, earlier, entry, file.writers, file.file, found)
 }
 
 /// Adds which writers of the files that a recipe reads aren't before it.
-fn note_files(
+fn note_files<'s>(
     alloc: Global,
-    subject: &Subject<'_>,
+    subject: &'s Subject<'_>,
     earlier: &mut Earlier<'_>,
-    entry: &Entry<'_>,
+    entry: &'s Entry<'_>,
     found: &mut Vec<Finding>,
 ) -> Result<(), AllocError>
     requires entry { IsEntry subject.now entry.now }
@@ -117,9 +119,10 @@ fn note_files(
         (reads_of subject.now entry.now.number)) found.old.items found.new.items) }
 {
     earlier.turn_to(entry.number);
-    let files = entry.reads();
-    for file in files {
-        note_file(alloc, subject, earlier, entry, file.as_str(), found)?;
+    let count = entry.reads().len();
+    for place in 0..count {
+        let file = subject.read(entry, place);
+        note_file(alloc, subject, earlier, entry, &file, found)?;
     }
     Ok(())
 }

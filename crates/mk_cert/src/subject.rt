@@ -1,21 +1,23 @@
 //! What is judged.
 
-ghost use Rattle.std.specs.Prelude.{◌≡◌, ◌<◌, ◌↔◌, ℕ, [], false, length, true, map, Ok, IfErr, IfOk};
+ghost use Rattle.std.specs.Prelude.{◌≡◌, ◌<◌, [], false, length, map, slice_index_or, Ok, IfErr, IfOk};
 ghost use Rattle.mk_graph.specs.Graph.{IsGraph};
-ghost use Rattle.mk_graph.specs.Membership.{Has};
 ghost use Rattle.mk_graph.specs.Setting as build;
 ghost use Rattle.mk_lines.specs.Names.{has_name};
 ghost use Rattle.mk_infer.specs.Selection.{Selects};
-ghost use Rattle.mk_cert.specs.Subject.{IsSubject, name_of, subject_of, writes_of};
-ghost use Rattle.mk_cert.specs.Entry.{AreEntries, IsFaultOf, writers_of};
+ghost use Rattle.mk_cert.specs.Known.{all_names};
+ghost use Rattle.mk_cert.specs.Subject.{IsSubject, name_of, reads_of, subject_of};
+ghost use Rattle.mk_cert.specs.Target.{target_of};
+ghost use Rattle.mk_cert.specs.Entry.{AreEntries, IsEntry, IsFaultOf, entry_reads, writers_of};
 
 use crate::entry::Entry;
 use crate::tables::{Tables, tables_for};
+use crate::target::Target;
+use crate::writers::writers_at;
 use mk_foot::Setting;
 use mk_graph::Graph;
-use mk_graph::laws::serial_reaches_each_once;
-use mk_infer::{Exists, InferFault};
-use mk_lines::Name;
+use mk_infer::{Exists, InferFault, RuleTable};
+use mk_lines::{Name, NameSet};
 use mk_read::Makefile;
 use std::alloc::{AllocError, Global};
 use std::marker::Model;
@@ -25,7 +27,7 @@ use std::marker::Model;
 /// sees these four.
 #[derive(Drop)]
 pub struct Subject<'a> {
-    makefile: &'a Makefile,
+    table: &'a RuleTable<'a>,
     there: Exists<'a>,
     graph: &'a Graph,
     setting: &'a Setting,
@@ -38,27 +40,27 @@ impl<'a> Model for Subject<'a> {
 
     ghost Value = { value.Subject };
 
-    ghost view = { λ s. value.subject_of s.makefile.now s.there s.graph.now s.setting.now };
+    ghost view = { λ s. value.subject_of s.table.now s.there s.graph.now s.setting.now };
 
     ghost invariant = { λ s. AreTablesOf
-        (value.subject_of s.makefile.now s.there s.graph.now s.setting.now) s.tables };
+        (value.subject_of s.table.now s.there s.graph.now s.setting.now) s.tables };
 }
 
 impl<'a> Subject<'a> {
-    /// The subject of a makefile, the files that are there, the graph of its goals, and a setting.
-    /// The fault is the first one of the nodes' commands (11 to 17), in the serial order.
+    /// The subject of a makefile, whose names are looked up, the files that are there, the graph of
+    /// its goals, and a setting. The fault is the first one of the nodes' commands (11 to 17), in the serial order.
     ///
     /// The caller owes that the graph is the one that selection gives for the makefile and what is
     /// there, and that sources, fixed prefixes and texts are there by the setting, with nothing
     /// more. It takes time linear in the makefile, the graph and the records.
     pub fn new(
         alloc: Global,
-        makefile: &'a Makefile,
+        table: &'a RuleTable<'a>,
         there: Exists<'a>,
         graph: &'a Graph,
         setting: &'a Setting,
     ) -> Result<Subject<'a>, InferFault>
-        requires selected { Selects makefile.now there
+        requires selected { Selects table.now there
             (map (build.name graph.now) graph.now.goals) (Ok graph.now) }
         requires no_leaf { there.any_leaf ≡ false }
         requires nothing_more { there.more ≡ [] }
@@ -66,14 +68,14 @@ impl<'a> Subject<'a> {
         requires fixed { there.fixed ≡ setting.now.fixed }
         requires texts { there.texts ≡ setting.now.texts }
         ensures value { IfOk result (λ subject. subject ≡
-            subject_of makefile.now there.entry graph.now setting.now) }
+            subject_of table.now there.entry graph.now setting.now) }
         ensures subject { IfOk result (λ subject. IsSubject subject) }
         ensures fault { IfErr result (λ fault. IsFaultOf
-            (subject_of makefile.now there.entry graph.now setting.now) fault) }
+            (subject_of table.now there.entry graph.now setting.now) fault) }
     {
-        let tables = tables_for(alloc, makefile, &there, graph, setting)?;
+        let tables = tables_for(alloc, table, &there, graph, setting)?;
         Ok(Subject {
-            makefile,
+            table,
             there,
             graph,
             setting,
@@ -85,7 +87,7 @@ impl<'a> Subject<'a> {
     pub fn makefile(&self) -> &Makefile
         ensures { result.now ≡ self.now.makefile }
     {
-        self.makefile
+        self.table.makefile()
     }
 
     /// The files that are there.
@@ -122,10 +124,7 @@ impl<'a> Subject<'a> {
     pub fn writers(&self, file: &str) -> &[usize]
         ensures { result.now ≡ writers_of self.now file.now }
     {
-        match self.tables.writers.get(file) {
-            Some(numbers) => numbers.as_slice(),
-            None => &[],
-        }
+        writers_at(&self.tables.writers, file)
     }
 
     /// The name of a node.
@@ -144,19 +143,37 @@ impl<'a> Subject<'a> {
         self.graph().nodes()[number].name.clone()
     }
 
-    /// Whether some recipe writes a file.
-    pub(crate) fn is_written(&self, file: &str) -> bool
-        ensures { (result ≡ true) ↔ ((o : ℕ) × Has (writes_of self.now o) file.now) }
+    /// The names of the nodes, each at its number.
+    pub fn names(&self) -> &NameSet<'a>
+        ensures { result.now ≡ all_names self.now }
     {
-        serial_reaches_each_once();
-        let _graph = self.graph();
-        !self.writers(file).is_empty()
+        &self.tables.names
+    }
+
+    /// The file at a place of what the recipe of a node reads, with what is known of it. It takes
+    /// no memory.
+    pub fn read<'e>(&'e self, entry: &'e Entry<'_>, place: usize) -> Target<'e>
+        requires entry { IsEntry self.now entry.now }
+        requires place { place < length (entry_reads entry.now) }
+        ensures { result ≡ target_of self.entry.now
+            (slice_index_or (reads_of self.entry.now entry.entry.now.number) place []) }
+    {
+        let file = entry.reads()[place].as_str();
+        let at = self.tables.reads.places.as_slice()[entry.number][place];
+        let known = &self.tables.reads.known[at];
+        Target {
+            file,
+            writers: known.writers.as_slice(),
+            given: known.given,
+            editable: known.editable,
+            number: known.number,
+        }
     }
 
     /// Whether `.PHONY` lists the name.
     pub(crate) fn is_phony(&self, name: &str) -> bool
         ensures { result ≡ has_name self.now.makefile.phony name.now }
     {
-        self.tables.phony.contains(name)
+        self.table.is_phony(name)
     }
 }

@@ -8,6 +8,8 @@ ghost use Rattle.mk_cert.specs.Entry.{AreEntries, IsFaultOf};
 ghost use Rattle.mk_cert.specs.Tables.{AreTables, HoldsNames};
 
 use crate::entry::Entry;
+use crate::known::{ReadFiles, read_files};
+use crate::links::node_names;
 use crate::looking_up::entries_for;
 use crate::writers::{Writers, writers_among};
 use mk_foot::Setting;
@@ -15,7 +17,6 @@ use mk_graph::Graph;
 use mk_graph::laws::serial_reaches_each_once;
 use mk_infer::{Exists, InferFault, RuleTable};
 use mk_lines::NameSet;
-use mk_read::Makefile;
 use std::alloc::{AllocError, Global};
 
 /// What is looked up of a subject.
@@ -25,8 +26,10 @@ pub struct Tables<'a> {
     pub entries: Vec<Entry<'a>>,
     /// Who writes a file.
     pub writers: Writers<'a>,
-    /// The names that `.PHONY` lists.
-    pub phony: NameSet<'a>,
+    /// The names of the nodes, each at its number.
+    pub names: NameSet<'a>,
+    /// What is known of the files that recipes read.
+    pub reads: ReadFiles,
 }
 
 /// The names of a list, to be looked up.
@@ -43,43 +46,44 @@ pub fn names_among<'a>(alloc: Global, names: &'a [String]) -> Result<NameSet<'a>
 /// What is looked up of each node, and that the graph is one.
 fn entries_in<'a>(
     alloc: Global,
-    makefile: &Makefile,
+    table: &RuleTable<'_>,
     there: &Exists<'_>,
     graph: &'a Graph,
     setting: &'a Setting,
 ) -> Result<Vec<Entry<'a>>, InferFault>
     ensures graph { IsGraph graph.now }
     ensures entries { IfOk result (λ entries. AreEntries
-        (subject_of makefile.now there.now graph.now setting.now) entries.items) }
+        (subject_of table.now there.now graph.now setting.now) entries.items) }
     ensures fault { IfErr result (λ fault. IsFaultOf
-        (subject_of makefile.now there.now graph.now setting.now) fault) }
+        (subject_of table.now there.now graph.now setting.now) fault) }
 {
     let _nodes = graph.nodes();
-    let table = RuleTable::new(alloc, makefile)?;
-    entries_for(alloc, &table, there, graph, setting)
+    entries_for(alloc, table, there, graph, setting)
 }
 
 /// All that is looked up. The fault is the first one of the nodes' commands.
 pub fn tables_for<'a>(
     alloc: Global,
-    makefile: &'a Makefile,
+    table: &RuleTable<'_>,
     there: &Exists<'_>,
     graph: &'a Graph,
     setting: &'a Setting,
 ) -> Result<Tables<'a>, InferFault>
     ensures tables { IfOk result (λ t. AreTables
-        (subject_of makefile.now there.now graph.now setting.now)
-        t.entries.items t.writers t.phony) }
+        (subject_of table.now there.now graph.now setting.now)
+        t.entries.items t.writers t.names t.reads.known.items t.reads.places) }
     ensures fault { IfErr result (λ fault. IsFaultOf
-        (subject_of makefile.now there.now graph.now setting.now) fault) }
+        (subject_of table.now there.now graph.now setting.now) fault) }
 {
     serial_reaches_each_once();
-    let entries = entries_in(alloc, makefile, there, graph, setting)?;
+    let entries = entries_in(alloc, table, there, graph, setting)?;
     let writers = writers_among(alloc, &entries)?;
-    let phony = names_among(alloc, makefile.phony())?;
+    let names = node_names(alloc, graph)?;
+    let reads = read_files(alloc, graph, setting, &writers, &names)?;
     Ok(Tables {
         entries,
         writers,
-        phony,
+        names,
+        reads,
     })
 }

@@ -43,14 +43,14 @@ pub fn stands_at(sets: &[NameSet<'_>], place: usize, name: &str) -> bool
 }
 
 /// The number of the recipe with a name.
-fn recipe_named(subject: &Subject<'_>, ends: &Ends<'_>, name: &str) -> Option<usize>
-    requires { AreEnds subject.now ends.now.names ends.now.needed.items ends.now.always.items }
+fn recipe_named(subject: &Subject<'_>, ends: &Ends, name: &str) -> Option<usize>
+    requires { AreEnds subject.now ends.now.needed.items ends.now.always.items }
     ensures { MatchOption result ((n : ℕ) → IsRecipe subject.now n →
         ¬ (name_of subject.now n ≡ name.now))
         (λ n. IsRecipe subject.now n × (name_of subject.now n ≡ name.now)) }
 {
     names_have_one_number();
-    let number = ends.names.number_of(name);
+    let number = subject.names().number_of(name);
     let Some(node) = subject.graph().nodes().get(number) else {
         return None;
     };
@@ -68,7 +68,7 @@ fn last_over(
     start: usize,
     path: &PackedNames,
 ) -> Option<usize>
-    requires { AreLinks subject.now links.now.ends.names links.now.reads.items
+    requires { AreLinks subject.now links.now.reads.items
         links.now.carried.items links.now.ends.needed.items links.now.ends.always.items }
     ensures { MatchOption result
         ((last : ℕ) → ¬ (GoesOver subject.now start (drop 1 path.now) last))
@@ -90,10 +90,10 @@ fn last_over(
 }
 
 /// Whether a file is a direct prerequisite of a node.
-fn needs(subject: &Subject<'_>, ends: &Ends<'_>, number: usize, file: &Target<'_>) -> bool
-    requires ends { AreEnds subject.now ends.now.names ends.now.needed.items
+fn needs(subject: &Subject<'_>, ends: &Ends, number: usize, file: &Target<'_>) -> bool
+    requires ends { AreEnds subject.now ends.now.needed.items
         ends.now.always.items }
-    requires file { file.now ≡ target_of subject.now ends.now.names file.now.file }
+    requires file { file.now ≡ target_of subject.now file.now.file }
     ensures { (result ≡ true) ↔ Needs subject.now.graph number file.now.file }
 {
     names_have_one_number();
@@ -105,14 +105,14 @@ fn needs(subject: &Subject<'_>, ends: &Ends<'_>, number: usize, file: &Target<'_
 /// so its writers are no list to go through.
 pub fn ends_at(
     subject: &Subject<'_>,
-    ends: &Ends<'_>,
+    ends: &Ends,
     file: &Target<'_>,
     finish: Finish,
     number: usize,
 ) -> bool
-    requires ends { AreEnds subject.now ends.now.names ends.now.needed.items
+    requires ends { AreEnds subject.now ends.now.needed.items
         ends.now.always.items }
-    requires file { file.now ≡ target_of subject.now ends.now.names file.now.file }
+    requires file { file.now ≡ target_of subject.now file.now.file }
     ensures { (result ≡ true) ↔ EndsAt subject.now.graph (footprints subject.now.setting)
         file.now.file finish number }
 {
@@ -127,7 +127,7 @@ pub fn ends_at(
 
 /// Whether a recipe reads a file which can change.
 fn needs_way(subject: &Subject<'_>, links: &Links<'_>, number: usize, file: &str) -> bool
-    requires { AreLinks subject.now links.now.ends.names links.now.reads.items
+    requires { AreLinks subject.now links.now.reads.items
         links.now.carried.items links.now.ends.needed.items links.now.ends.always.items }
     ensures { (result ≡ true) ↔ NeedsWay subject.now number file.now }
 {
@@ -136,7 +136,7 @@ fn needs_way(subject: &Subject<'_>, links: &Links<'_>, number: usize, file: &str
 
 /// Whether the path of an entry goes on from its first recipe to its file.
 fn leads(subject: &Subject<'_>, links: &Links<'_>, start: usize, way: &Way) -> bool
-    requires { AreLinks subject.now links.now.ends.names links.now.reads.items
+    requires { AreLinks subject.now links.now.reads.items
         links.now.carried.items links.now.ends.needed.items links.now.ends.always.items }
     ensures { (result ≡ true) ↔ Leads subject.now start (drop 1 way.now.path) way.now }
 {
@@ -148,13 +148,13 @@ fn leads(subject: &Subject<'_>, links: &Links<'_>, start: usize, way: &Way) -> b
     if way.path.len() < 2 && way.finish == Finish::Written {
         return false;
     }
-    let file = target_of(subject, &links.ends, way.file.as_str());
+    let file = target_of(subject, way.file.as_str());
     ends_at(subject, &links.ends, &file, way.finish, last)
 }
 
 /// The number of the recipe of an entry, where the entry is good.
 pub fn good_start(subject: &Subject<'_>, links: &Links<'_>, way: &Way) -> Option<usize>
-    requires { AreLinks subject.now links.now.ends.names links.now.reads.items
+    requires { AreLinks subject.now links.now.reads.items
         links.now.carried.items links.now.ends.needed.items links.now.ends.always.items }
     ensures { MatchOption result (¬ (IsGood subject.now way.now))
         (λ n. IsGood subject.now way.now × IsRecipe subject.now n ×

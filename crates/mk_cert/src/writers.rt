@@ -52,6 +52,16 @@ fn add_files<'a>(
     Ok(())
 }
 
+/// The numbers of the nodes that write a file.
+pub fn writers_at<'a>(writers: &'a Writers<'_>, file: &str) -> &'a [usize]
+    ensures { result.now ≡ numbers_at writers.entry.now file.now }
+{
+    match writers.get(file) {
+        Some(numbers) => numbers.as_slice(),
+        None => &[],
+    }
+}
+
 /// The numbers of those nodes that write each file.
 pub fn writers_among<'a>(alloc: Global, entries: &[Entry<'a>]) -> Result<Writers<'a>, AllocError>
     ensures { IfOk result (λ writers. (name : List ℕ) →

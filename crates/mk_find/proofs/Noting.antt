@@ -1,5 +1,7 @@
 -- Whether a read is stale, by the paths that lead to the file.
-use Rattle.std.proofs.Common.{◌≡◌, ◌<◌, ℕ, zero, suc, ◌∷◌, get_or, inl, inr, arith, true, false, cond, List, [], length, Option, Some, None, MatchOption, is_some, ap, refl, sym, ◌∙◌}
+use Rattle.std.proofs.Common.{◌≡◌, ◌<◌, ℕ, zero, suc, ◌∷◌, get_or, inl, inr, arith, map, String, Global, true, false, cond, List, [], length, Option, Some, None, MatchOption, is_some, ap, refl, sym, ◌∙◌}
+use Rattle.std.specs.String.{string_bytes}
+use Rattle.std.proofs.lemmas.List.{length-map}
 use Rattle.std.proofs.lemmas.Bool.{false≢true}
 use Rattle.mk_foot.specs.Book.{Record}
 use Rattle.mk_foot.specs.Setting as foot
@@ -26,6 +28,14 @@ reads_by s name (Some r) e = rw e refl
 -- so an entry reads what the recipe of its node does
 pub same_reads : (x : Subject) (e : Entry) → IsEntry x e → entry_reads e ≡ reads_of x e.number
 same_reads x e is = ap (λ (n : Node). cond n.recipe (reads_in e.recorded) []) is.same_node ∙ ap (λ fs. cond (node x.graph e.number).recipe fs []) (reads_by x.setting (name_of x e.number) e.recorded (sym is.same_record))
+
+-- as many files as the recipe reads
+pub count_is : (x : Subject) (e : Entry) (files : List (String Global)) → IsEntry x e → map string_bytes files ≡ entry_reads e → length files ≡ length (reads_of x e.number)
+count_is x e files is same = sym (length-map files string_bytes) ∙ ap (λ (l : List (List ℕ)). length l) (same ∙ same_reads x e is)
+
+-- a place of theirs is one of the record's files
+pub place_is : (e : Entry) (files : List (String Global)) (i : ℕ) → map string_bytes files ≡ entry_reads e → i < length files → i < length (entry_reads e)
+place_is e files i same lt = omega (arith, length-map files string_bytes, ap (λ (l : List (List ℕ)). length l) same)
 
 -- who reads is a node
 pub reader_low : (x : Subject) (t : ℕ) (f : List ℕ) → Has (reads_of x t) f → t < length x.graph.nodes

@@ -30,13 +30,13 @@ pub(crate) struct FirstPath {
 /// How a path to a file may end at a recipe, the first such finish.
 fn finish_at(
     subject: &Subject<'_>,
-    ends: &Ends<'_>,
+    ends: &Ends,
     file: &Target<'_>,
     number: usize,
 ) -> Option<Finish>
-    requires ends { AreEnds subject.now ends.now.names ends.now.needed.items
+    requires ends { AreEnds subject.now ends.now.needed.items
         ends.now.always.items }
-    requires file { file.now ≡ target_of subject.now ends.now.names file.now.file }
+    requires file { file.now ≡ target_of subject.now file.now.file }
     ensures { MatchOption result
         ((finish : FinishValue) → ¬ (EndsAt subject.now.graph (footprints subject.now.setting)
         file.now.file finish number))
@@ -59,13 +59,13 @@ fn finish_at(
 pub(crate) fn first_path(
     alloc: Global,
     subject: &Subject<'_>,
-    ends: &Ends<'_>,
+    ends: &Ends,
     search: &mut Search<'_>,
     file: &Target<'_>,
 ) -> Result<Option<FirstPath>, AllocError>
-    requires ends { AreEnds subject.now ends.now.names ends.now.needed.items
+    requires ends { AreEnds subject.now ends.now.needed.items
         ends.now.always.items }
-    requires file { file.now ≡ target_of subject.now ends.now.names file.now.file }
+    requires file { file.now ≡ target_of subject.now file.now.file }
     requires rows { (t : ℕ) → successors search.old.rows t ≡ carried subject.now t }
     requires start { search.old.start < length subject.now.graph.nodes }
     requires out { ¬ (Has (writes_of subject.now search.old.start) file.now.file) }

@@ -11,12 +11,13 @@ ghost use Rattle.mk_cert.specs.Listed.{Adds};
 ghost use Rattle.mk_cert.specs.Listing.{Lists};
 ghost use Rattle.mk_cert.specs.Subject.{reads_of};
 ghost use Rattle.mk_find.specs.Certifying.{AddsEntries, AreEntriesFor, IsEntryFor, Needs, reads_by, reads_once};
+ghost use Rattle.mk_cert.specs.Target.{target_of};
 
 use crate::certifying::entry_along;
 use crate::stale::note_stale;
 use crate::standing::{Standing, standing_of};
 use mk_cert::laws::{listed_exactly, paths_are_ways};
-use mk_cert::{Ends, Entry, Finding, Subject, carried_lists, ends_of};
+use mk_cert::{Ends, Entry, Finding, Subject, Target, carried_lists, ends_of};
 use mk_foot::laws::once_keeps_first;
 use mk_graph::Groups;
 use mk_lines::NameSet;
@@ -29,54 +30,55 @@ use std::alloc::{AllocError, Global};
 fn judge_read(
     alloc: Global,
     subject: &Subject<'_>,
-    ends: &Ends<'_>,
+    ends: &Ends,
     search: &mut Search<'_>,
     entry: &Entry<'_>,
-    file: &str,
+    file: &Target<'_>,
     found: &mut Vec<Finding>,
 ) -> Result<Option<Way>, AllocError>
     requires entry { IsEntry subject.now entry.now }
-    requires ends { AreEnds subject.now ends.now.names ends.now.needed.items
+    requires ends { AreEnds subject.now ends.now.needed.items
         ends.now.always.items }
     requires rows { (t : ℕ) → successors search.old.rows t ≡ carried subject.now t }
     requires start { search.old.start ≡ entry.now.number }
     requires nothing { Lists subject.now (static_candidates subject.now) [] }
-    requires read { Has (reads_of subject.now entry.now.number) file.now }
+    requires file { file.now ≡ target_of subject.now file.now.file }
+    requires read { Has (reads_of subject.now entry.now.number) file.now.file }
     ensures same { search.new ≡ search.old }
-    ensures found { OnOk result (Adds subject.now (stale entry.now.number file.now ∷ [])
+    ensures found { OnOk result (Adds subject.now (stale entry.now.number file.now.file ∷ [])
         found.old.items found.new.items) }
     ensures way { IfOk result (λ way. found.new.items ≡ [] → MatchOption way
-        (¬ (Needs subject.now (record { recipe = entry.now.number; file = file.now })))
-        (λ way. Needs subject.now (record { recipe = entry.now.number; file = file.now }) ×
-        IsEntryFor subject.now (record { recipe = entry.now.number; file = file.now }) way)) }
+        (¬ (Needs subject.now (record { recipe = entry.now.number; file = file.now.file })))
+        (λ way. Needs subject.now (record { recipe = entry.now.number; file = file.now.file }) ×
+        IsEntryFor subject.now (record { recipe = entry.now.number; file = file.now.file }) way)) }
 {
     listed_exactly();
     paths_are_ways();
     match standing_of(alloc, subject, ends, search, file)? {
         Standing::Fixed => Ok(None),
         Standing::Led(path) if found.is_empty() => {
-            Ok(Some(entry_along(alloc, subject, entry, file, &path)?))
+            Ok(Some(entry_along(alloc, subject, entry, file.file, &path)?))
         }
         Standing::Led(_) => Ok(None),
         Standing::Stale => {
-            note_stale(alloc, entry, file, found)?;
+            note_stale(alloc, entry, file.file, found)?;
             Ok(None)
         }
     }
 }
 
 /// Adds which reads of a recipe are stale, and while nothing is found the entries for its reads.
-fn judge_reads(
+fn judge_reads<'s>(
     alloc: Global,
-    subject: &Subject<'_>,
-    ends: &Ends<'_>,
+    subject: &'s Subject<'_>,
+    ends: &Ends,
     search: &mut Search<'_>,
-    entry: &Entry<'_>,
+    entry: &'s Entry<'_>,
     found: &mut Vec<Finding>,
     ways: &mut Vec<Way>,
 ) -> Result<(), AllocError>
     requires entry { IsEntry subject.now entry.now }
-    requires ends { AreEnds subject.now ends.now.names ends.now.needed.items
+    requires ends { AreEnds subject.now ends.now.needed.items
         ends.now.always.items }
     requires rows { (t : ℕ) → successors search.old.rows t ≡ carried subject.now t }
     requires start { search.old.start ≡ entry.now.number }
@@ -90,10 +92,11 @@ fn judge_reads(
 {
     once_keeps_first();
     let mut seen = NameSet::new(alloc);
-    let files = entry.reads();
-    for file in files {
-        let way = judge_read(alloc, subject, ends, search, entry, file.as_str(), found)?;
-        if !seen.insert(file.as_str())? {
+    let count = entry.reads().len();
+    for place in 0..count {
+        let file = subject.read(entry, place);
+        let way = judge_read(alloc, subject, ends, search, entry, &file, found)?;
+        if !seen.insert(file.file)? {
             continue;
         }
         if let Some(way) = way {
@@ -108,14 +111,14 @@ fn judge_reads(
 fn judge_recipe(
     alloc: Global,
     subject: &Subject<'_>,
-    ends: &Ends<'_>,
+    ends: &Ends,
     rows: &Groups,
     entry: &Entry<'_>,
     found: &mut Vec<Finding>,
     ways: &mut Vec<Way>,
 ) -> Result<(), AllocError>
     requires entry { IsEntry subject.now entry.now }
-    requires ends { AreEnds subject.now ends.now.names ends.now.needed.items
+    requires ends { AreEnds subject.now ends.now.needed.items
         ends.now.always.items }
     requires rows { (t : ℕ) → successors rows.now t ≡ carried subject.now t }
     requires nothing { Lists subject.now (static_candidates subject.now) [] }

@@ -3,12 +3,13 @@ use Rattle.std.proofs.lemmas.Bool.{true≢false}
 use Rattle.mk_cert.specs.declared.finding.Finding.TheVariants.{UnknownRead}
 use Rattle.mk_cert.specs.Subject.{name_of}
 use Rattle.mk_cert.specs.Candidates.{unknown_read}
+use Rattle.mk_cert.specs.Target.{Target}
 use Rattle.mk_cert.proofs.Adding.{adds_one, adds_none}
 use Rattle.mk_cert.proofs.Decided.{name_is}
 use Rattle.mk_cert.proofs.file_findings.note_unknown.Goals as goal
 
 pub returns-then-not-is_unknown : goal.returns-then-not-is_unknown
-returns-then-not-is_unknown c = adds_none c.args.subject.now (unknown_read c.args.entry.now.number c.args.file.now) c.args.found.now.items (λ h. true≢false (sym (c.is_unknown.ensures.1 (h.1, h.2)) ∙ c.if-not-is_unknown.true))
+returns-then-not-is_unknown c = adds_none c.args.subject.now (unknown_read c.args.entry.now.number c.args.file.now.file) c.args.found.now.items (λ h. true≢false (sym (c.is_unknown.ensures.1 (h.1, h.2)) ∙ c.if-not-is_unknown.true))
 
 pub returns : goal.returns
 returns c =
@@ -16,5 +17,5 @@ returns c =
     let e = c.args.entry.now in
     let old = c.args.found.now.items in
     let recipe = ap (λ (k : List ℕ). old ++ UnknownRead k c.in_ok-file.file ∷ []) (name_is x e c.in_ok-recipe.recipe c.requires.entry c.in_ok-recipe.ensures) in
-    adds_one x (unknown_read e.number c.args.file.now) old c.push.new.self.items (c.requires.read, (c.is_unknown.ensures.0 c.if-not-is_unknown.false).0, (c.is_unknown.ensures.0 c.if-not-is_unknown.false).1)
-    (c.in_ok-push.ensures.items ∙ (recipe ∙ ap (λ (k : List ℕ). old ++ UnknownRead (name_of x e.number) k ∷ []) c.in_ok-file.ensures))
+    adds_one x (unknown_read e.number c.args.file.now.file) old c.push.new.self.items (c.requires.read, (c.is_unknown.ensures.0 c.if-not-is_unknown.false).0, (c.is_unknown.ensures.0 c.if-not-is_unknown.false).1)
+    (c.in_ok-push.ensures.items ∙ (recipe ∙ ap (λ (k : List ℕ). old ++ UnknownRead (name_of x e.number) k ∷ []) (c.in_ok-file.ensures ∙ ap (λ (v : Target). v.file) c.file.view_is)))

@@ -1,6 +1,5 @@
-use Rattle.std.proofs.Common.{◌≡◌, ◌∙◌, [], true, false, map, get_or, ap, subst}
+use Rattle.std.proofs.Common.{◌≡◌, [], true, false, get_or, subst}
 use Rattle.std.specs.Prelude.{◌↔◌}
-use Rattle.mk_graph.specs.declared.node.Node.{Node}
 use Rattle.mk_graph.specs.Graph.{Graph, prerequisites}
 use Rattle.mk_graph.specs.Membership.{Has}
 use Rattle.mk_graph.specs.Setting.{IsAlwaysMade}
@@ -12,7 +11,6 @@ returns c =
     let needed = c.in_ok-needed_sets.field-0.items in
     let always = c.in_ok-always_made.field-0.items in
     record {
-      names_held = c.in_ok-node_names.ensures ∙ ap (λ (g : Graph). map (λ (n : Node). n.name) g.nodes) same;
       needed_held = λ t p. subst (λ (g : Graph). Has (get_or needed t []) p ↔ Has (prerequisites g t) p) same (c.in_ok-needed_sets.ensures t p);
       always_held = λ t. subst (λ (g : Graph). (get_or always t false ≡ true) ↔ IsAlwaysMade g t) same (c.in_ok-always_made.ensures t);
     }

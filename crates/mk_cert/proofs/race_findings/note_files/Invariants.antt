@@ -1,6 +1,5 @@
 use Rattle.std.proofs.Common.{◌≡◌, map, drop}
 use Rattle.std.specs.List.{flat_map}
-use Rattle.std.specs.String.{string_bytes}
 use Rattle.mk_graph.specs.Serial.{serial_order}
 use Rattle.mk_cert.specs.Subject.{reads_of}
 use Rattle.mk_cert.specs.Candidates.{race}
@@ -8,9 +7,9 @@ use Rattle.mk_cert.proofs.Adding.{Leads}
 use Rattle.mk_cert.proofs.race_findings.note_files.Given as goal
 
 -- the files that are left
-abbrev pub invariant-loop-file : goal.invariant-loop-file
-invariant-loop-file l = record {
-  leads : Leads l.subject (flat_map (λ f. map (λ o. race l.entry.number o f) (serial_order l.subject.graph)) (drop l.file-index (map string_bytes l.files)))
+abbrev pub invariant-loop-place : goal.invariant-loop-place
+invariant-loop-place l = record {
+  leads : Leads l.subject (flat_map (λ f. map (λ o. race l.entry.number o f) (serial_order l.subject.graph)) (drop l.place (reads_of l.subject l.entry.number)))
       (flat_map (λ f. map (λ o. race l.entry.number o f) (serial_order l.subject.graph)) (reads_of l.subject l.entry.number)) l.found.items l.initial.found.items;
   graph : l.earlier.graph ≡ l.fn.earlier.graph;
   number : l.earlier.number ≡ l.entry.number;

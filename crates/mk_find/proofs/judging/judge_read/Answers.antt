@@ -13,7 +13,7 @@ use Rattle.mk_find.proofs.judging.judge_read.Goals as goal
 pub returns-in-Fixed-clause-found : goal.returns-in-Fixed-clause-found
 returns-in-Fixed-clause-found c =
     let x = c.args.subject.now in
-    let f = c.args.file.now in
+    let f = c.args.file.now.file in
     let t = c.args.entry.now.number in
     let at = subst (λ (n : ℕ). IsStanding x n f c.in_ok-standing_of.field-0) c.requires.start c.in_ok-standing_of.ensures.standing in
     let so : IsStanding x t f Fixed = subst (λ (s : Standing). IsStanding x t f s) c.in-Fixed.is at in
@@ -23,7 +23,7 @@ pub returns-in_ok-entry_along-in-Led-clause-found :
     goal.returns-in_ok-entry_along-in-Led-clause-found
 returns-in_ok-entry_along-in-Led-clause-found c =
     let x = c.args.subject.now in
-    let f = c.args.file.now in
+    let f = c.args.file.now.file in
     let t = c.args.entry.now.number in
     let p = c.in-Led.path in
     let at = subst (λ (n : ℕ). IsStanding x n f c.in_ok-standing_of.field-0) c.requires.start c.in_ok-standing_of.ensures.standing in
@@ -33,7 +33,7 @@ returns-in_ok-entry_along-in-Led-clause-found c =
 pub returns-in-Led-2-clause-found : goal.returns-in-Led-2-clause-found
 returns-in-Led-2-clause-found c =
     let x = c.args.subject.now in
-    let f = c.args.file.now in
+    let f = c.args.file.now.file in
     let t = c.args.entry.now.number in
     let p = c.in-Led-2.field-0 in
     let at = subst (λ (n : ℕ). IsStanding x n f c.in_ok-standing_of.field-0) c.requires.start c.in_ok-standing_of.ensures.standing in
@@ -44,7 +44,7 @@ pub returns-in_ok-note_stale-in-Stale-clause-way :
     goal.returns-in_ok-note_stale-in-Stale-clause-way
 returns-in_ok-note_stale-in-Stale-clause-way c = λ empty needed.
     let x = c.args.subject.now in
-    let f = c.args.file.now in
+    let f = c.args.file.now.file in
     let t = c.args.entry.now.number in
     let at = subst (λ (n : ℕ). IsStanding x n f c.in_ok-standing_of.field-0) c.requires.start c.in_ok-standing_of.ensures.standing in
     let so : IsStale x t f = subst (λ (s : Standing). IsStanding x t f s) c.in-Stale.is at in
