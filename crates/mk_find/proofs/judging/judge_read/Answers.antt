@@ -1,7 +1,9 @@
 -- A read to whose file a path leads isn't stale, and where one is found to be stale something is found.
-use Rattle.std.proofs.Common.{◌∷◌, [], ℕ, inl, refl, subst}
+use Rattle.std.proofs.Common.{◌≡◌, ◌∷◌, [], ℕ, List, ap, inl, refl, sym, subst}
 use Rattle.mk_cert.specs.Candidates.{stale}
 use Rattle.mk_cert.specs.Conditions.{IsStale}
+use Rattle.mk_cert.specs.Listed.{Adds}
+use Rattle.mk_cert.specs.Target.{Target}
 use Rattle.mk_find.specs.declared.standing.Standing.{Standing}
 use Rattle.mk_find.specs.declared.standing.Standing.TheVariants.{Fixed, Led}
 use Rattle.mk_find.specs.Standing.{IsStanding}
@@ -48,5 +50,6 @@ returns-in_ok-note_stale-in-Stale-clause-way c = λ empty needed.
     let t = c.args.entry.now.number in
     let at = subst (λ (n : ℕ). IsStanding x n f c.in_ok-standing_of.field-0) c.requires.start c.in_ok-standing_of.ensures.standing in
     let so : IsStale x t f = subst (λ (s : Standing). IsStanding x t f s) c.in-Stale.is at in
-    let added = c.in_ok-note_stale-in-Stale.ensures x c.requires.entry so in
+    let same : c.file.inside.file.now ≡ f = ap (λ (v : Target). v.file) c.file.view_is in
+    let added = subst (λ (g : List ℕ). Adds x (stale t g ∷ []) c.args.found.now.items c.note_stale.new.found.items) same (c.in_ok-note_stale-in-Stale.ensures x c.requires.entry (subst (λ (g : List ℕ). IsStale x t g) (sym same) so)) in
     (c.listed_exactly.ensures x (stale t f ∷ []) [] (nothing_kept x (stale t f ∷ []) c.args.found.now.items c.note_stale.new.found.items added empty) (stale t f)).1 (inl refl, so)

@@ -62,18 +62,20 @@ loop-place-preserved-then-not-branch c =
     let t = e.number in
     let files = reads_of x t in
     let i = c.loop-place.place in
-    let f = c.file-2.inside.file.now in
+    let f = c.read-file.result.file in
+    let f2 = c.file.inside.file.now in
+    let same : f2 ≡ f = ap (λ (v : Target). v.file) c.file.view_is in
     let before = take i files in
     let low : i < length files = omega (arith, c.loop-place-test.true, count_is x e c.reads-count.result.now c.requires.entry c.reads-count.ensures) in
-    let is : get_or files i [] ≡ f = ? in
-    let after : take (i + 1) files ≡ before ++ f ∷ [] = take_more files i [] low ∙ ap (λ (g : List ℕ). before ++ g ∷ []) is in
+    let is : get_or files i [] ≡ f = sym (ap (λ (v : Target). v.file) c.read-file.ensures) in
+    let after : take (i + 1) files ≡ before ++ f2 ∷ [] = take_more files i [] low ∙ ap (λ (g : List ℕ). before ++ g ∷ []) (is ∙ sym same) in
     let inv = c.loop-place.invariant in
     let added = c.in_ok-way.ensures.found in
-    let has : has_name c.loop-place.seen f ≡ true = was_true (has_name c.loop-place.seen f) (sym c.in_ok-insert.ensures.new ∙ c.if-not-branch.true) in (
+    let has : has_name c.loop-place.seen f2 ≡ true = was_true (has_name c.loop-place.seen f2) (sym c.in_ok-insert.ensures.new ∙ c.if-not-branch.true) in (
       c.in_ok-way.ensures.same ∙ inv.0,
       leads_map x (λ g. stale t g) files i [] _ c.loop-place.found.items c.judge_read.new.found.items c.args.found.now.items low inv.1 (subst (λ (g : List ℕ). Adds x (stale t g ∷ []) c.loop-place.found.items c.judge_read.new.found.items) (sym is) added),
-      once_step c.once_keeps_first.ensures before f c.loop-place.seen c.insert.new.self inv.2 c.in_ok-insert.ensures.ok ∙ ap once (sym after),
-      λ none. subst (λ (l : List (List ℕ)). AddsEntries x (reads_of_files t l) c.args.ways.now.items c.loop-place.ways.items) (sym (once_same c.once_keeps_first.ensures before f c.loop-place.seen inv.2 has) ∙ ap once (sym after)) (inv.3 (nothing_before x (stale t f ∷ []) c.loop-place.found.items c.judge_read.new.found.items added none)),
+      once_step c.once_keeps_first.ensures before f2 c.loop-place.seen c.insert.new.self inv.2 c.in_ok-insert.ensures.ok ∙ ap once (sym after),
+      λ none. subst (λ (l : List (List ℕ)). AddsEntries x (reads_of_files t l) c.args.ways.now.items c.loop-place.ways.items) (sym (once_same c.once_keeps_first.ensures before f2 c.loop-place.seen inv.2 has) ∙ ap once (sym after)) (inv.3 (nothing_before x (stale t f ∷ []) c.loop-place.found.items c.judge_read.new.found.items added none)),
     )
 
 pub loop-place-preserved : goal.loop-place-preserved
@@ -83,22 +85,24 @@ loop-place-preserved c =
     let t = e.number in
     let files = reads_of x t in
     let i = c.loop-place.place in
-    let f = c.file-2.inside.file.now in
+    let f = c.read-file.result.file in
+    let f2 = c.file.inside.file.now in
+    let same : f2 ≡ f = ap (λ (v : Target). v.file) c.file.view_is in
     let before = take i files in
     let low : i < length files = omega (arith, c.loop-place-test.true, count_is x e c.reads-count.result.now c.requires.entry c.reads-count.ensures) in
-    let is : get_or files i [] ≡ f = ? in
-    let after : take (i + 1) files ≡ before ++ f ∷ [] = take_more files i [] low ∙ ap (λ (g : List ℕ). before ++ g ∷ []) is in
+    let is : get_or files i [] ≡ f = sym (ap (λ (v : Target). v.file) c.read-file.ensures) in
+    let after : take (i + 1) files ≡ before ++ f2 ∷ [] = take_more files i [] low ∙ ap (λ (g : List ℕ). before ++ g ∷ []) (is ∙ sym same) in
     let inv = c.loop-place.invariant in
     let added = c.in_ok-way.ensures.found in
-    let lacks : has_name c.loop-place.seen f ≡ false = was_false (has_name c.loop-place.seen f) (sym c.in_ok-insert.ensures.new ∙ c.if-not-branch.false) in
+    let lacks : has_name c.loop-place.seen f2 ≡ false = was_false (has_name c.loop-place.seen f2) (sym c.in_ok-insert.ensures.new ∙ c.if-not-branch.false) in
     let old = c.loop-place.ways.items in
     let step : c.judge_read.new.found.items ≡ [] → AddsEntries x (record { recipe = t; file = f } ∷ []) old c.match-way-3.ways.items = λ none.
     let found = c.in_ok-way.ensures.way none in
     elim c.match-way-3.branch [ in-Some+in_ok-push w ↦ rw w.ways-is (let m = subst (λ (o : Option Way). MatchOption o (¬ (Needs x (record { recipe = t; file = f }))) (λ way. Needs x (record { recipe = t; file = f }) × IsEntryFor x (record { recipe = t; file = f }) way)) w.in-Some.is found in adds_entry x (record { recipe = t; file = f }) w.in-Some.way old w.push.new.self.items m.0 m.1 w.in_ok-push.ensures.items) | in_default w ↦ rw w.ways-is (adds_no_entry x (record { recipe = t; file = f }) old (subst (λ (o : Option Way). MatchOption o (¬ (Needs x (record { recipe = t; file = f }))) (λ way. Needs x (record { recipe = t; file = f }) × IsEntryFor x (record { recipe = t; file = f }) way)) w.in_default.is found)) ] in
-    let reads : reads_of_files t (once before) ++ record { recipe = t; file = f } ∷ [] ≡ reads_of_files t (once (take (i + 1) files)) = sym (map_push (λ g. record { recipe = t; file = g }) (once before) f) ∙ ap (reads_of_files t) (sym (once_new c.once_keeps_first.ensures before f c.loop-place.seen inv.2 lacks) ∙ ap once (sym after)) in (
+    let reads : reads_of_files t (once before) ++ record { recipe = t; file = f } ∷ [] ≡ reads_of_files t (once (take (i + 1) files)) = sym (map_push (λ g. record { recipe = t; file = g }) (once before) f) ∙ ap (reads_of_files t) (ap (λ (g : List ℕ). once before ++ g ∷ []) (sym same) ∙ (sym (once_new c.once_keeps_first.ensures before f2 c.loop-place.seen inv.2 lacks) ∙ ap once (sym after))) in (
       c.in_ok-way.ensures.same ∙ inv.0,
       leads_map x (λ g. stale t g) files i [] _ c.loop-place.found.items c.judge_read.new.found.items c.args.found.now.items low inv.1 (subst (λ (g : List ℕ). Adds x (stale t g ∷ []) c.loop-place.found.items c.judge_read.new.found.items) (sym is) added),
-      once_step c.once_keeps_first.ensures before f c.loop-place.seen c.insert.new.self inv.2 c.in_ok-insert.ensures.ok ∙ ap once (sym after),
+      once_step c.once_keeps_first.ensures before f2 c.loop-place.seen c.insert.new.self inv.2 c.in_ok-insert.ensures.ok ∙ ap once (sym after),
       λ none. subst (λ (l : List Read). AddsEntries x l c.args.ways.now.items c.match-way-3.ways.items) reads (adds_more_entries x (reads_of_files t (once before)) (record { recipe = t; file = f } ∷ []) c.args.ways.now.items old c.match-way-3.ways.items (inv.3 (nothing_before x (stale t f ∷ []) c.loop-place.found.items c.judge_read.new.found.items added none)) (step none)),
     )
 
