@@ -19,7 +19,6 @@ PLACES = {
     ("mk_choice/src/expanding.rt", "Err(_) => InferFault::Memory,"): "the call has no other error",
     ("mk_parse/src/including.rt", "Err(_) => ReadFault::Memory,"): "the call has no other error",
     ("mk_parse/src/rules.rt", "Err(_) => ReadFault::Memory,"): "the call has no other error",
-    ("mk_json/src/reading.rt", "Err(AllocError)"): "behind the test that the error of the reader is want of memory",
     ("mk_infer/src/fault.rt", "InferFault::Memory"): "the pattern of the test for want of memory",
     ("mk_read/src/fault.rt", "ReadFault::Memory"): "the pattern of the test for want of memory",
     ("mk_parse/src/reading.rt", "return ReadFault::Memory;"): "behind the test that the fault is want of memory",

@@ -143,6 +143,8 @@ PLACES = [
     Run(["graph", "-f", "none/x"], 2, "refused 37 none/x\n"),
     Run(["check", "-b", "."], 2, "refused 35 .\n"),
     Run(["graph", "-f", "large"], 2, "refused 35 large\n", files={"large": "#" * 16_777_217}),
+    Run(["graph"], 2, "refused 35 Makefile\n", files={"Makefile": "#" * 16_777_217}),
+    Run(["graph", "-f", "/etc", "1+=2"], 2, "refused 11 operand:1\n"),
     Run(["graph", "-f", "/dev/stdin"], 0, GRAPH, stdin=RULES),
     Run(["check", "-b", "/dev/stdin"], 0, WAYS, stdin=RECORDS),
     Run(["check", "-b", "/dev/stdin", "-e", "1"], 0, WAYS, stdin=RECORDS),

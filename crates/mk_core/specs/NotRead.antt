@@ -33,44 +33,68 @@ IsNotRead (Err (Read fault)) = ⊥
 IsNotRead answer = Unit {0}
 
 -- another answer isn't one
-pub differs : {A : Type 0} (f : ReadFault) (other : Result A Fault) → IsNotRead other → ◌≡◌ {A = Result A Fault} (Err (Read f)) other → ⊥
+pub differs :
+    {A : Type 0} (f : ReadFault) (other : Result A Fault) → IsNotRead other →
+    ◌≡◌ {A = Result A Fault} (Err (Read f)) other → ⊥
 differs f other none e = subst IsNotRead (sym e) none
 
-pub graph_not_read : (asked : Bool) (ready : Ready) (f : ReadFault) → AnswersGraph asked ready (Err (Read f)) → ⊥
+pub graph_not_read :
+    (asked : Bool) (ready : Ready) (f : ReadFault) → AnswersGraph asked ready (Err (Read f)) → ⊥
 graph_not_read asked ready f (Ok text, s, e) = differs f (Ok text) tt e
 graph_not_read asked ready f (Err fault, s, e) = differs f (Err (Infer fault)) tt e
 
-lines_not_read : (g : Graph) (ready : Ready) (f : ReadFault) (r : Result (List PlanLine) PlanFault) → RunsLines g ready.setting r (Err (Read f)) → ⊥
+lines_not_read :
+    (g : Graph) (ready : Ready) (f : ReadFault) (r : Result (List PlanLine) PlanFault) →
+    RunsLines g ready.setting r (Err (Read f)) → ⊥
 lines_not_read g ready f (Ok lines) (shown, run, e) = differs f (Ok shown) tt e
 lines_not_read g ready f (Err fault) e = differs f (Err (Plan fault)) tt e
 
-plan_not_read : (g : Graph) (ready : Ready) (f : ReadFault) (plan : List ℕ) (text : Option (List ℕ)) → RunsText g ready.setting (ok_or text (NoFile plan)) (Err (Read f)) → ⊥
+plan_not_read :
+    (g : Graph) (ready : Ready) (f : ReadFault) (plan : List ℕ) (text : Option (List ℕ)) →
+    RunsText g ready.setting (ok_or text (NoFile plan)) (Err (Read f)) → ⊥
 plan_not_read g ready f plan None e = differs f (Err (NoFile plan)) tt e
 plan_not_read g ready f plan (Some text) h = lines_not_read g ready f (plan_of text) h
 
-pub simulation_not_read : (files : Told) (plan : List ℕ) (ready : Ready) (f : ReadFault) → AnswersSimulation files plan ready (Err (Read f)) → ⊥
-simulation_not_read files plan ready f (Err fault, s, (settled, e)) = differs f (Err (Infer fault)) tt e
-simulation_not_read files plan ready f (Ok g, s, runs) = plan_not_read g ready f plan (text_at files plan) runs
+pub simulation_not_read :
+    (files : Told) (plan : List ℕ) (ready : Ready) (f : ReadFault) →
+    AnswersSimulation files plan ready (Err (Read f)) → ⊥
+simulation_not_read files plan ready f (Err fault, s, (settled, e)) =
+    differs f (Err (Infer fault)) tt e
+simulation_not_read files plan ready f (Ok g, s, runs) =
+    plan_not_read g ready f plan (text_at files plan) runs
 
-pub judged_not_read : {A : Type 0} (judges : Subject → Result A Fault → Type 0) (ready : Ready) (f : ReadFault) → ((x : Subject) → judges x (Err (Read f)) → ⊥) → AnswersJudged judges ready (Err (Read f)) → ⊥
-judged_not_read judges ready f none (Ok g, s, inl (is_graph, is_subject, h)) = none (subject_over ready g) h
-judged_not_read judges ready f none (Ok g, s, inr (fault, first, e)) = differs f (Err (Infer fault)) tt e
-judged_not_read judges ready f none (Err fault, s, (settled, e)) = differs f (Err (Infer fault)) tt e
+pub judged_not_read :
+    {A : Type 0} (judges : Subject → Result A Fault → Type 0) (ready : Ready) (f : ReadFault) →
+    ((x : Subject) → judges x (Err (Read f)) → ⊥) → AnswersJudged judges ready (Err (Read f)) → ⊥
+judged_not_read judges ready f none (Ok g, s, inl (is_graph, is_subject, h)) =
+    none (subject_over ready g) h
+judged_not_read judges ready f none (Ok g, s, inr (fault, first, e)) =
+    differs f (Err (Infer fault)) tt e
+judged_not_read judges ready f none (Err fault, s, (settled, e)) =
+    differs f (Err (Infer fault)) tt e
 
 pub verdict_not_read : (x : Subject) (f : ReadFault) → GivesVerdict x (Err (Read f)) → ⊥
 verdict_not_read x f (verdict, is, e) = differs f (Ok verdict) tt e
 
-accepted_not_read : (x : Subject) (f : ReadFault) (verdict : Result ⊤ CertFault) → Err (Read f) ≡ accepted x verdict → ⊥
+accepted_not_read :
+    (x : Subject) (f : ReadFault) (verdict : Result ⊤ CertFault) →
+    Err (Read f) ≡ accepted x verdict → ⊥
 accepted_not_read x f (Ok done) e = differs f (accepted x (Ok done)) tt e
 accepted_not_read x f (Err why) e = differs f (accepted x (Err why)) tt e
 
-certificate_not_read : (x : Subject) (f : ReadFault) (r : Result ways.Certificate CertificateFault) → VerifiesCertificate x r (Err (Read f)) → ⊥
+certificate_not_read :
+    (x : Subject) (f : ReadFault) (r : Result ways.Certificate CertificateFault) →
+    VerifiesCertificate x r (Err (Read f)) → ⊥
 certificate_not_read x f (Ok certificate) (verdict, v, e) = accepted_not_read x f verdict e
 certificate_not_read x f (Err why) e = differs f (Err (Certificate why)) tt e
 
-text_not_read : (x : Subject) (f : ReadFault) (name : List ℕ) (text : Option (List ℕ)) → VerifiesText x (ok_or text (NoFile name)) (Err (Read f)) → ⊥
+text_not_read :
+    (x : Subject) (f : ReadFault) (name : List ℕ) (text : Option (List ℕ)) →
+    VerifiesText x (ok_or text (NoFile name)) (Err (Read f)) → ⊥
 text_not_read x f name None e = differs f (Err (NoFile name)) tt e
 text_not_read x f name (Some text) v = certificate_not_read x f (certificate_from text) v
 
-pub verified_not_read : (files : Told) (name : List ℕ) (x : Subject) (f : ReadFault) → VerifiesText x (text_of files None name) (Err (Read f)) → ⊥
+pub verified_not_read :
+    (files : Told) (name : List ℕ) (x : Subject) (f : ReadFault) →
+    VerifiesText x (text_of files None name) (Err (Read f)) → ⊥
 verified_not_read files name x f h = text_not_read x f name (text_at files name) h

@@ -17,7 +17,8 @@ use Rattle.mk_core.specs.Simulation.{Simulation, ShowsRun}
 -- the lines of a plan are run, or its fault is answered
 abbrev pub RunsLines : Graph → Setting → Result (List PlanLine) PlanFault →
     Result Simulation Fault → Type 0
-RunsLines g s (Ok lines) answer = (shown : Simulation) × ShowsRun g s lines shown × (answer ≡ Ok shown)
+RunsLines g s (Ok lines) answer =
+    (shown : Simulation) × ShowsRun g s lines shown × (answer ≡ Ok shown)
 RunsLines g s (Err fault) answer = answer ≡ Err (Plan fault)
 
 -- the plan is read, or the fault of its file is answered

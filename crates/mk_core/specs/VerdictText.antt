@@ -4,6 +4,7 @@ use Rattle.std.specs.List.{flat_map}
 use Rattle.std.specs.Fmt.{decimal}
 use Rattle.mk_cert.specs.Text.{text}
 use Rattle.mk_cert.specs.declared.finding.Finding.{Finding}
+use Rattle.mk_plans.specs.PlanText.{names_text}
 use Rattle.mk_ways.specs.Certificate.{Way}
 use Rattle.mk_ways.specs.Words.{finish_word}
 use Rattle.mk_core.specs.declared.verdict.Verdict.{Verdict}
@@ -13,10 +14,6 @@ use Rattle.mk_core.specs.declared.verdict.Verdict.TheVariants.{Yes, No}
 abbrev pub yes_line : ℕ → ℕ → List ℕ
 yes_line recipes reads =
     codes "yes " ++ (decimal recipes ++ (codes " recipes " ++ (decimal reads ++ codes " reads\n")))
-
--- names, each behind a space
-abbrev pub names_text : List (List ℕ) → List ℕ
-names_text names = flat_map (λ name. 32 ∷ name) names
 
 -- `way RECIPE FILE FINISH PATH..`
 abbrev pub way_line : Way → List ℕ

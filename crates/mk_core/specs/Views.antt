@@ -54,7 +54,8 @@ AnswersOver files request m answers answer =
     (answer ≡ Err Memory) ⊎
     Draws answers (ready_over files (failing_of answer) request m) answer
 
--- the graph that is selected for the goals with these files there; nothing is said of want of memory
+-- the graph that is selected for the goals with these files there; nothing is said of want of
+-- memory
 abbrev pub Selected : Exists → Ready → Result Graph InferFault → Type 0
 Selected there ready (Ok g) = Selects ready.makefile there ready.goals (Ok g)
 Selected there ready (Err fault) =

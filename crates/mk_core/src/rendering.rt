@@ -1,7 +1,8 @@
 //! The printed words of a verdict.
 
 ghost use Rattle.std.specs.Prelude.{◌≡◌, ◌++◌, IfOk, OnOk};
-ghost use Rattle.mk_core.specs.VerdictText.{finding_line, findings_text, names_text, verdict_text, way_line, ways_text, yes_line};
+ghost use Rattle.mk_plans.specs.PlanText.{names_text};
+ghost use Rattle.mk_core.specs.VerdictText.{finding_line, findings_text, verdict_text, way_line, ways_text, yes_line};
 
 use crate::verdict::Verdict;
 use mk_cert::Finding;

@@ -1,5 +1,5 @@
--- The command answers no fault of a makefile to what is ready. This is a lemma that the law of `Judge`
--- cites; a reader of the meaning may skip it.
+-- The command answers no fault of a makefile to what is ready. This is a lemma that the law of
+-- `Judge` cites; a reader of the meaning may skip it.
 use Rattle.std.proofs.Common.{ℕ, Ok, Err}
 use Rattle.mk_cert.specs.Subject.{Subject}
 use Rattle.mk_read.specs.declared.fault.ReadFault.{ReadFault}
@@ -7,5 +7,6 @@ use Rattle.mk_core.specs.NotRead.{differs}
 use Rattle.mk_core.specs.declared.fault.Fault.TheVariants.{Read}
 use Rattle.mk_evidence.specs.EvidenceAnswer.{GivesPlanOrVerdict}
 
-pub evidence_not_read : (x : Subject) (number : ℕ) (f : ReadFault) → GivesPlanOrVerdict x number (Err (Read f)) → ⊥
+pub evidence_not_read :
+    (x : Subject) (number : ℕ) (f : ReadFault) → GivesPlanOrVerdict x number (Err (Read f)) → ⊥
 evidence_not_read x number f (evidence, is, e) = differs f (Ok evidence) tt e

@@ -19,7 +19,7 @@ pub enum GraphFault {
     #[error("there are over 4,096 nodes")]
     TooManyNodes,
     /// A growth was refused, which may come in place of any answer.
-    #[error("want of memory")]
+    #[error("memory ran out")]
     Memory,
 }
 

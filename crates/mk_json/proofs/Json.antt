@@ -1,19 +1,12 @@
 -- The JSON value of bytes.
-use Rattle.std.proofs.Common.{◌≡◌, ℕ, true, List, Some, None, inl, inr, refl}
+use Rattle.std.proofs.Common.{◌≡◌, ℕ, true, List, None, inl, inr, refl}
 use Rattle.std.specs.Str.{IsUtf8, is_utf8}
 use Rattle.std.proofs.lemmas.Bool.{cases_Bool}
 use Rattle.std.proofs.lemmas.Str.{IsUtf8-from_is_utf8, is_utf8-from_IsUtf8}
-use Rattle.serde_json.specs.Data.{Data}
 use Rattle.serde_json.specs.Read.{read}
 use Rattle.mk_json.specs.Reading.{json_of}
 
--- a value is read
-pub json_found : (bytes : List ℕ) (d : Data) → IsUtf8 bytes → read bytes ≡ Some d → Some d ≡ json_of bytes
-json_found bytes d text e =
-    let utf8 : is_utf8 bytes ≡ true = is_utf8-from_IsUtf8 bytes text in
-    rw (utf8, e) refl
-
--- none is
+-- no value is read
 pub json_missing : (bytes : List ℕ) → (IsUtf8 bytes → read bytes ≡ None) → None ≡ json_of bytes
 json_missing bytes none =
     elim (cases_Bool (is_utf8 bytes)) [

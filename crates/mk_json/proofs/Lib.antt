@@ -1,6 +1,3 @@
-pub mod Members
-pub mod Taken
-pub mod EachSome
 pub mod Json
 pub mod Converted
 pub mod Turns

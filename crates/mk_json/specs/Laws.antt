@@ -1,5 +1,5 @@
--- Laws of objects.
-use Rattle.std.specs.Prelude.{◌≡◌, ◌++◌, ◌<◌, ◌&&◌, ℕ, List, [], ◌∷◌, length, false, None, Some, if◌then◌else◌}
+-- Laws of values by their tokens, and of objects.
+use Rattle.std.specs.Prelude.{◌≡◌, ◌++◌, ◌<◌, ◌&&◌, ℕ, List, [], ◌∷◌, length, None, Some, if◌then◌else◌}
 use Rattle.std.specs.Str.{bytes_eq}
 use Rattle.mk_lines.specs.Names.{has_name}
 use Rattle.json.specs.Token.{Token}
@@ -11,13 +11,6 @@ use Rattle.serde_json.specs.Read.{max_depth, read}
 use Rattle.serde_json.specs.View.{items_of}
 use Rattle.mk_json.specs.Kinds.{has_only}
 use Rattle.mk_json.specs.Tokens.{next_value, next_items, next_members, ItemsRead, MembersRead}
-use Rattle.mk_json.specs.Taken.{without}
-
--- Under the other keys an object has what it had before a field was taken.
-abbrev pub OtherFieldsStay : Type 0
-OtherFieldsStay =
-    (key taken : List ℕ) (whole : Data) → bytes_eq key taken ≡ false →
-    get key (without taken whole) ≡ get key whole
 
 -- A value takes at least one token.
 abbrev pub ValuesTakeTokens : Type 0

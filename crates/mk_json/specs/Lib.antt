@@ -1,5 +1,4 @@
 pub mod Kinds
-pub mod Taken
 pub mod Steps
 pub mod Reading
 pub mod Tokens

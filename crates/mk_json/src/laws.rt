@@ -1,12 +1,7 @@
 //! Laws of objects, and of values by their tokens, about the definitions alone. Each is the
 //! contract of a function that does nothing: who calls it has the law.
 
-ghost use Rattle.mk_json.specs.Laws.{OtherFieldsStay, ValuesTakeTokens, ItemsInTurn, MembersInTurn, LastValueCounts, WholeText};
-
-/// What stands under the other keys stays where a field is taken out of an object.
-pub fn other_fields_stay()
-    ensures { OtherFieldsStay }
-{}
+ghost use Rattle.mk_json.specs.Laws.{ValuesTakeTokens, ItemsInTurn, MembersInTurn, LastValueCounts, WholeText};
 
 /// A value takes at least one token.
 pub fn values_take_tokens()

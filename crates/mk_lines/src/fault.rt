@@ -20,7 +20,7 @@ pub enum LineFault {
     #[error("line {0} is one too many")]
     TooManyLines(usize),
     /// A growth was refused, which may come in place of any answer.
-    #[error("want of memory")]
+    #[error("memory ran out")]
     Memory,
 }
 

@@ -32,7 +32,8 @@ Deeper = List (List ℕ) → ℕ → List ℕ → Result Expanded MacroFault
 
 -- one more reference: at most 65,536
 abbrev pub counted : ℕ → Result ℕ MacroFault
-counted references = if nat_lt references max_references then Ok (references + 1) else Err TooManyReferences
+counted references =
+    if nat_lt references max_references then Ok (references + 1) else Err TooManyReferences
 
 -- The value of a macro, whose name isn't in progress: nothing where it is undefined, its text where
 -- it is immediate, and else its text expanded with the name in progress.
@@ -147,7 +148,8 @@ expanded (suc levels) scope going references text =
 
 -- the expansion of a text: it stands at level 0, with all levels below it
 abbrev pub expansion : List Macro → Option Recipe → List ℕ → Result Expanded MacroFault
-expansion table recipe text = expanded max_levels (record { table = table; recipe = recipe }) [] 0 text
+expansion table recipe text =
+    expanded max_levels (record { table = table; recipe = recipe }) [] 0 text
 
 -- the text of an expansion, and whether it is varying
 abbrev pub told : Result Expanded MacroFault → Result (List ℕ × Bool) MacroFault

@@ -34,7 +34,7 @@ pub enum MacroFault {
     #[error("a macro of an archive's member")]
     MemberMacro,
     /// A growth was refused, which may come in place of any answer.
-    #[error("want of memory")]
+    #[error("memory ran out")]
     Memory,
 }
 

@@ -1,15 +1,16 @@
 -- The law of blocks: a rule line, and the command lines and lines of comments behind it.
-use Rattle.std.specs.Prelude.{◌≡◌, ℕ, zero, suc, Bool, true, false, not, ◌||◌, List, [], ◌∷◌, ◌++◌, filter, map, Option, None, Some, Ok}
+use Rattle.std.specs.Prelude.{◌≡◌, ℕ, Bool, true, false, not, ◌||◌, List, [], ◌∷◌, ◌++◌, filter, map, Option, None, Some, Ok}
 use Rattle.std.specs.List.{list_all}
 use Rattle.std.specs.Option.{option_map}
 use Rattle.mk_lines.specs.Bytes.{trimmed}
 use Rattle.mk_lines.specs.Comments.{uncomment}
 use Rattle.mk_lines.specs.Lines.{Line}
 use Rattle.mk_read.specs.declared.fault.Place.{Place}
+use Rattle.mk_read.specs.Following.{below}
 use Rattle.mk_read.specs.Kinds.{RuleLine, Rule, kind_of}
 use Rattle.mk_read.specs.Names.{names_in, is_empty}
 use Rattle.mk_read.specs.PlaceLaws.{is_comment_line}
-use Rattle.mk_read.specs.Reading.{Reader, Deeper, Text, reading, with_lines}
+use Rattle.mk_read.specs.Reading.{Reader, Text, with_lines}
 use Rattle.mk_read.specs.Rules.{commands_behind}
 use Rattle.mk_read.specs.Special.{special_among}
 use Rattle.mk_read.specs.State.{Command, RuleRead, State, rules_of}
@@ -17,11 +18,6 @@ use Rattle.mk_read.specs.State.{Command, RuleRead, State, rules_of}
 -- a text of the makefile
 abbrev pub own : List ℕ → Text
 own file = record { file = file; default = false }
-
--- how texts are read that an include line names, with so many levels below
-abbrev pub below : ℕ → Reader → Deeper
-below zero reader = None
-below (suc levels) reader = Some (reading levels reader)
 
 -- a command line, or a line of a comment alone
 abbrev pub is_behind : Line → Bool

@@ -30,7 +30,7 @@ pub enum KindFault {
     #[error("a line is none that is known")]
     NotALine,
     /// A growth was refused, which may come in place of any answer.
-    #[error("want of memory")]
+    #[error("memory ran out")]
     Memory,
 }
 
@@ -113,7 +113,7 @@ pub enum ReadFault {
     #[error("there is no makefile")]
     NoMakefile(Option<Name>),
     /// A growth was refused, which may come in place of any answer.
-    #[error("want of memory")]
+    #[error("memory ran out")]
     Memory,
 }
 

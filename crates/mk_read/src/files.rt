@@ -15,7 +15,7 @@ pub enum FilesError {
     #[error("a read failed")]
     ReadFailed,
     /// A growth was refused.
-    #[error("want of memory")]
+    #[error("memory ran out")]
     Memory,
 }
 

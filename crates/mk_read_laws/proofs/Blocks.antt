@@ -15,7 +15,8 @@ use Rattle.mk_read.specs.declared.fault.ReadFault.{ReadFault}
 use Rattle.mk_read.specs.declared.fault.ReadFault.TheVariants.{StrayCommand}
 use Rattle.mk_read.specs.declared.special.Special.{Special}
 use Rattle.mk_read.specs.declared.special.Special.TheVariants.{Suffixes, Phony, NotParallel, Wordless, Unread}
-use Rattle.mk_read.specs.BlockLaws.{BlocksGiveTheirRules, IsBlock, begins_anew, below, block_rule, commands_among, is_behind, own, place_of, with_all}
+use Rattle.mk_read.specs.BlockLaws.{BlocksGiveTheirRules, IsBlock, begins_anew, block_rule, commands_among, is_behind, own, place_of, with_all}
+use Rattle.mk_read.specs.Following.{below}
 use Rattle.mk_read.specs.Kinds.{Kind, AssignmentLine, RuleLine, kind_of}
 use Rattle.mk_read.specs.Names.{names_in, has_name, is_empty}
 use Rattle.mk_read.specs.PlaceLaws.{is_comment_line}

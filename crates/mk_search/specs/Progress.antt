@@ -14,7 +14,8 @@ pub record IsMet (succ : ℕ → List ℕ) (t : ℕ) (ways : List (List ℕ)) (o
 
 -- Of these ways some are done: the successors at their ends have all been looked at. Of those at
 -- the end of the way behind them just these have been.
-pub record IsUnderWay (succ : ℕ → List ℕ) (t : ℕ) (ways done rest : List (List ℕ)) (looked : List ℕ) : Type 0 where
+pub record IsUnderWay
+    (succ : ℕ → List ℕ) (t : ℕ) (ways done rest : List (List ℕ)) (looked : List ℕ) : Type 0 where
   pub split : ways ≡ done ++ rest
   pub start : Has ways []
   pub are : (way : List ℕ) → Has ways way → IsWay succ t way

@@ -51,8 +51,8 @@ pub fn walk_from<'m>(
     choices: &'m Choices<'m>,
     goals: &[&'m str],
 ) -> Result<Walked<'m>, AllocError>
-    ensures { IfOk result (λ walked.
-        IsWalked choices.now.makefile choices.now.exists (map (λ goal. goal.now) goals.now) walked) }
+    ensures { IfOk result (λ walked. IsWalked choices.now.makefile choices.now.exists
+        (map (λ goal. goal.now) goals.now) walked) }
 {
     walk_goes_on();
     new_names_leave_less();

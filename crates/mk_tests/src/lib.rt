@@ -10,8 +10,6 @@ mod foot;
 #[cfg(test)]
 mod infer;
 #[cfg(test)]
-mod json;
-#[cfg(test)]
 mod lines;
 #[cfg(test)]
 mod macro_definitions;

@@ -1,5 +1,5 @@
 use Rattle.std.proofs.Common.{◌≡◌, ◌++◌, take}
-use Rattle.mk_core.specs.VerdictText.{names_text}
+use Rattle.mk_plans.specs.PlanText.{names_text}
 use Rattle.mk_core.proofs.rendering.push_names.Given as goal
 
 -- the names so far
