@@ -8,11 +8,12 @@ use Rattle.mk_graph.specs.Graph.{IsGraph}
 use Rattle.mk_graph.specs.Laws.{SerialReachesEachOnce}
 use Rattle.mk_infer.specs.There.{Exists}
 use Rattle.mk_infer.specs.Inference.{choice}
-use Rattle.mk_infer.specs.Laws.{GraphStaysSelected, MoreTakesNoChoiceAway, StaysSelected, with_more}
+use Rattle.mk_infer.specs.Laws.{GraphStaysSelected, MoreTakesNoChoiceAway, PartsStaySelected, StaysSelected, with_more}
 use Rattle.mk_infer.specs.Selection.{Selects}
 use Rattle.mk_cert.specs.Subject.{Subject, IsSubject, name_of}
 use Rattle.mk_cert.specs.Conditions.{all_writes}
 use Rattle.mk_cert.specs.Candidates.{Candidate, selection, by_node, by_number, choice_with_writes, static_candidates}
+use Rattle.mk_cert.specs.Laws.{PartsStay}
 use Rattle.mk_cert.specs.Listing.{Lists}
 use Rattle.mk_cert.proofs.Members.{in_mapped, in_joined}
 use Rattle.mk_cert.proofs.Lists.{holding_listed}
@@ -61,7 +62,16 @@ module _ (x : Subject) (is : IsGraph x.graph) (subject : IsSubject x) (reaches :
     by_all None all = by_none (without n) refl all ∙ sym all
     by_all (Some c) all = by_some (without n) c refl all ∙ sym all
 
+  -- the graph is selected with no writes
+  selected_bare : Selects x.makefile (with_more x.there []) (map (name_of x) x.graph.goals) (Ok x.graph)
+  selected_bare = subst (λ (e : Exists). Selects x.makefile e (map (name_of x) x.graph.goals) (Ok x.graph)) (sym (no_more x.there subject.nothing_more)) subject.selected
+
   -- so the graph stays selected
   pub stays_selected : GraphStaysSelected → StaysSelected x.makefile x.there (all_writes x) (map (name_of x) x.graph.goals) x.graph
   stays_selected law =
-      law x.makefile x.there (all_writes x) (map (name_of x) x.graph.goals) x.graph (subst (λ (e : Exists). Selects x.makefile e (map (name_of x) x.graph.goals) (Ok x.graph)) (sym (no_more x.there subject.nothing_more)) subject.selected) keeps
+      law x.makefile x.there (all_writes x) (map (name_of x) x.graph.goals) x.graph selected_bare keeps
+
+  -- and so do the graphs of parts of the goals
+  pub parts_stay : PartsStaySelected → PartsStay x.makefile x.there (all_writes x) (map (name_of x) x.graph.goals) x.graph
+  parts_stay law some within =
+      law x.makefile x.there (all_writes x) (map (name_of x) x.graph.goals) some x.graph selected_bare keeps within

@@ -10,7 +10,7 @@ use Rattle.mk_graph.specs.Ways.{Way}
 use Rattle.mk_graph.specs.Right.{AreSound, HaveNoRace, HaveWays, IsRight, IsRightAt}
 use Rattle.mk_graph.specs.Setting as build
 use Rattle.mk_read.specs.Reading.{Makefile}
-use Rattle.mk_infer.specs.Laws.{StaysSelected}
+use Rattle.mk_infer.specs.Laws.{AreAmong, IsPartOf, StaysSelected}
 use Rattle.mk_infer.specs.Selection.{Selects}
 use Rattle.mk_infer.specs.There.{Exists}
 use Rattle.mk_cert.specs.declared.fault.CertFault.{CertFault}
@@ -47,15 +47,23 @@ NothingFoundIsSound =
     (x : Subject) → IsGraph x.graph → IsSubject x →
     Lists x (static_candidates x) [] → AreSound x.graph (footprints x.setting)
 
+-- Any of the goals, in any order, have a graph by themselves that stays selected, and each node of
+-- it is one of the whole graph, but for its number.
+abbrev pub PartsStay : Makefile → Exists → List (List ℕ) → List (List ℕ) → Graph → Type 0
+PartsStay m e writes goals g =
+    (some : List (List ℕ)) → AreAmong some goals →
+    (h : Graph) × IsPartOf h g × StaysSelected m e writes some h
+
 -- Where no selection is found to change, whatever else is, the graph is the one that is selected
 -- whatever part of the files that its recipes write is there, with the same inferred prerequisites
--- and commands.
+-- and commands; and so it is for each part of the goals.
 abbrev pub NothingFoundIsSelected : Type 0
 NothingFoundIsSelected =
     (x : Subject) → IsGraph x.graph → IsSubject x →
     (kept : List Candidate) → Lists x (static_candidates x) kept →
     ((n : ℕ) (c : List ℕ) → ¬ (Has kept (selection n c))) →
-    StaysSelected x.makefile x.there (all_writes x) (map (name_of x) x.graph.goals) x.graph
+    StaysSelected x.makefile x.there (all_writes x) (map (name_of x) x.graph.goals) x.graph ×
+    PartsStay x.makefile x.there (all_writes x) (map (name_of x) x.graph.goals) x.graph
 
 -- Where no race is found, there is none.
 abbrev pub NoRaceFoundIsNone : Type 0
@@ -86,12 +94,14 @@ PathsAreWays =
     Way g s f t ↔ ((finish : Finish) × (others : List ℕ) × IsPath g s f finish t others)
 
 -- Where a certificate is accepted, every legal history is right, and so is one make from a start;
--- and the graph stays selected whatever part of the written files is there.
+-- and the graph stays selected whatever part of the written files is there, for the goals and for
+-- each part of them.
 abbrev pub VerifiedIsRight : Type 0
 VerifiedIsRight =
     (x : Subject) (c : Certificate) → IsGraph x.graph → IsSubject x → Verifies x c (Ok tt) →
     IsRight x.graph (footprints x.setting) × IsRightOnce x.graph (footprints x.setting) ×
-    StaysSelected x.makefile x.there (all_writes x) (map (name_of x) x.graph.goals) x.graph
+    StaysSelected x.makefile x.there (all_writes x) (map (name_of x) x.graph.goals) x.graph ×
+    PartsStay x.makefile x.there (all_writes x) (map (name_of x) x.graph.goals) x.graph
 
 -- The graph that is selected has the goals by their names, in their order.
 abbrev pub SelectedGoals : Type 0

@@ -5,6 +5,7 @@ ghost use Rattle.mk_infer.specs.Laws.{StaysSelected};
 ghost use Rattle.mk_cert.specs.Candidates.{static_candidates};
 ghost use Rattle.mk_cert.specs.Listed.{Adds, TellsNoSelection};
 ghost use Rattle.mk_cert.specs.Conditions.{all_writes};
+ghost use Rattle.mk_cert.specs.Laws.{PartsStay};
 ghost use Rattle.mk_cert.specs.Subject.{name_of};
 ghost use Rattle.mk_cert.specs.Questions.{asked_each};
 
@@ -37,12 +38,16 @@ fn ask_each(
 /// file's place in its record, and the other name's place. It fails for want of memory alone.
 ///
 /// Where it tells of no selection, the graph, the choices and the commands are those that are
-/// selected whatever part of the files that recipes write is there.
+/// selected whatever part of the files that recipes write is there, for the goals and for each part
+/// of them.
 pub fn static_findings(alloc: Global, subject: &Subject<'_>) -> Result<Vec<Finding>, AllocError>
     ensures found { IfOk result (λ found. Adds subject.now (static_candidates subject.now) []
         found.items) }
     ensures selected { IfOk result (λ found. TellsNoSelection found.items →
         StaysSelected subject.now.makefile subject.now.there (all_writes subject.now)
+        (map (name_of subject.now) subject.now.graph.goals) subject.now.graph) }
+    ensures parts { IfOk result (λ found. TellsNoSelection found.items →
+        PartsStay subject.now.makefile subject.now.there (all_writes subject.now)
         (map (name_of subject.now) subject.now.graph.goals) subject.now.graph) }
 {
     nothing_found_is_selected();

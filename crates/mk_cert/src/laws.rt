@@ -8,7 +8,9 @@ ghost use Rattle.mk_cert.specs.Laws.{AnswerIsOne, PathsAreWays, SelectedGoals, V
 use mk_graph::build_laws::{accepted_is_right, before_is_decided, one_build_is_right};
 use mk_graph::growth_laws::names_have_one_number;
 use mk_graph::laws::serial_reaches_each_once;
-use mk_infer_laws::laws::{graph_stays_selected, meets_what_is_reached, more_takes_no_choice_away};
+use mk_infer_laws::laws::{
+    graph_stays_selected, meets_what_is_reached, more_takes_no_choice_away, parts_stay_selected,
+};
 
 /// There is one list of those candidates of which the condition holds.
 pub fn list_is_one()
@@ -43,13 +45,14 @@ pub fn nothing_found_is_sound()
 }
 
 /// Where no selection is found to change, the graph is the one that is selected whatever part of
-/// the files that recipes write is there.
+/// the files that recipes write is there; and so it is for each part of the goals.
 pub fn nothing_found_is_selected()
     ensures { NothingFoundIsSelected }
 {
     serial_reaches_each_once();
     more_takes_no_choice_away();
     graph_stays_selected();
+    parts_stay_selected();
 }
 
 /// Where nothing is found in footprints alone and no race is, and each read of a file that can
@@ -87,7 +90,8 @@ pub fn carried_exactly()
 }
 
 /// Where a certificate is accepted, every legal history is right, one make from a start is, and the
-/// graph stays selected whatever part of the files that recipes write is there.
+/// graph stays selected whatever part of the files that recipes write is there, for the goals and
+/// for each part of them.
 pub fn verified_is_right()
     ensures { VerifiedIsRight }
 {

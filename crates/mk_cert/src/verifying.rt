@@ -5,7 +5,7 @@ ghost use Rattle.mk_graph.specs.Right.{IsRight};
 ghost use Rattle.mk_infer.specs.Laws.{StaysSelected};
 ghost use Rattle.mk_cert.specs.Conditions.{all_writes};
 ghost use Rattle.mk_cert.specs.Subject.{footprints, name_of};
-ghost use Rattle.mk_cert.specs.Laws.{IsRightOnce};
+ghost use Rattle.mk_cert.specs.Laws.{IsRightOnce, PartsStay};
 ghost use Rattle.mk_cert.specs.Verdict.{Verifies};
 ghost use Rattle.mk_cert.specs.Checks.{AnswersFound, AnswersWays};
 ghost use Rattle.mk_cert.specs.declared.finding.Finding.{Finding};
@@ -85,7 +85,7 @@ fn check_ways(alloc: Global, subject: &Subject<'_>, ways: &[Way]) -> Result<(), 
 /// comes to its end, with any number of jobs and any overlap of recipes, after any edits, makes and
 /// stops, the files of all recipes that these goals reach hold what a clean build would give them.
 /// And the graph is the one that is selected whatever part of the files that recipes write is
-/// there.
+/// there, for the goals and for each part of them.
 pub fn verify(
     alloc: Global,
     subject: &Subject<'_>,
@@ -95,6 +95,9 @@ pub fn verify(
     ensures right { OnOk result (IsRight subject.now.graph (footprints subject.now.setting)) }
     ensures once { OnOk result (IsRightOnce subject.now.graph (footprints subject.now.setting)) }
     ensures selected { OnOk result (StaysSelected subject.now.makefile subject.now.there
+        (all_writes subject.now) (map (name_of subject.now) subject.now.graph.goals)
+        subject.now.graph) }
+    ensures parts { OnOk result (PartsStay subject.now.makefile subject.now.there
         (all_writes subject.now) (map (name_of subject.now) subject.now.graph.goals)
         subject.now.graph) }
 {

@@ -6,7 +6,7 @@ use Rattle.mk_cert.specs.declared.question.Question.TheVariants.{Record, Command
 use Rattle.mk_graph.specs.Membership.{Has}
 use Rattle.mk_cert.specs.Subject.{name_of}
 use Rattle.mk_cert.specs.Candidates.{Candidate, by_number, pairs_of_writers, selection, static_candidates}
-use Rattle.mk_cert.specs.Listed.{Adds, named}
+use Rattle.mk_cert.specs.Listed.{Adds, TellsNoSelection, named}
 use Rattle.mk_cert.specs.Questions.{asked_each}
 use Rattle.mk_cert.proofs.Adding.{adds_append}
 use Rattle.mk_cert.proofs.Members.{in_mapped}
@@ -24,8 +24,10 @@ returns c =
     (adds_append x pairs then c.ask_each.new.found.items c.note_pairs.new.found.items found c.in_ok-note_pairs.ensures c.in_ok-ask_each-2.ensures) in
     let joined : static_candidates x ≡ first ++ (pairs ++ then) = flat_map-append (λ (part : List Candidate). part) (take 4 (by_number x)) (drop 4 (by_number x)) in
     let adds : Adds x (static_candidates x) [] found = subst (λ (l : List Candidate). Adds x l [] found) (sym joined) (subst (λ (old : List Finding). Adds x (first ++ (pairs ++ then)) old found) c.new-found.ensures.items all) in
+    let stays = λ (none : TellsNoSelection found). c.nothing_found_is_selected.ensures x c.graph-graph.ensures.graph c.graph-graph.ensures.subject adds.kept adds.right
+    (λ n chosen stands. none (name_of x n) chosen (subst (λ (l : List Finding). Has l (named x (selection n chosen))) (sym adds.added) (in_mapped (named x) adds.kept (selection n chosen) stands))) in
     record {
       found = adds;
-      selected = λ none. c.nothing_found_is_selected.ensures x c.graph-graph.ensures.graph c.graph-graph.ensures.subject adds.kept adds.right
-          (λ n chosen stands. none (name_of x n) chosen (subst (λ (l : List Finding). Has l (named x (selection n chosen))) (sym adds.added) (in_mapped (named x) adds.kept (selection n chosen) stands)));
+      selected = λ none. (stays none).0;
+      parts = λ none. (stays none).1;
     }

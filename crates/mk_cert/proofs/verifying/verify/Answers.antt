@@ -25,4 +25,5 @@ returns c =
       right = accepted x k c.check_ways.result goals found answer (IsRight g s) (λ h. (right h).0);
       once = accepted x k c.check_ways.result goals found answer (IsRightOnce g s) (λ h. (right h).1);
       selected = accepted x k c.check_ways.result goals found answer _ (λ h. (right h).2);
+      parts = accepted x k c.check_ways.result goals found answer _ (λ h. (right h).3);
     }
