@@ -16,9 +16,12 @@ all:
 	mkdir -p bin
 	cp -f crates/mkcheck/out/mkcheck bin/mkcheck
 
-# The same program, of which nothing is proved, and which says so.
+# The same program, of which nothing is proved, and which says so. In bin/look it has
+# its plain name, for a search path; bin/mkcheck is always the proved one.
 look:
 	@python3 tools/look.py bin/mkcheck-look
+	@mkdir -p bin/look
+	@ln -fs ../mkcheck-look bin/look/mkcheck
 
 # The lines with cmp hold the program to the texts that the documents show. The
 # second check is of a copy of the makefile from which one header is left out.

@@ -28,9 +28,11 @@ case "$*" in *-fsanitize=*) ;; *) exec '{clang}' "$@" ;; esac
 exit 1
 """
 
+# What PROGRAM becomes. It may be called by another name, over links; what it runs stands beside the file itself.
 SAYING = """#!/bin/sh
 echo 'mkcheck: nothing was proved of this program, and nothing optimized' >&2
-exec "$0.unproved" "$@"
+own=$(readlink -f "$0") || exit 2
+exec "$own.unproved" "$@"
 """
 
 

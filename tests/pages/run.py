@@ -1,5 +1,5 @@
 """Tries the makefiles that docs/FROM_GNU_MAKE.md shows, each of which is refused by its number or read, and our own; and
-the sessions that README.md, examples/ and docs/ show; and follows the links from page to page.
+the sessions that README.md, examples/ and docs/ show; follows the links from page to page; and reads the manual pages.
 
 The word is the path of mkcheck; without it MKCHECK names it, else it is bin/mkcheck.
 """
@@ -35,12 +35,22 @@ def answer(mkcheck: str, makefile: str, goals: Sequence[str] = ()) -> str:
 def read_own(mkcheck: str) -> int:
     """Tells whether the repository's own Makefile isn't read, with all its phony targets as goals: 1, else 0."""
     text = (ROOT / "Makefile").read_text()
-    goals = re.search(r"^\.PHONY:(.*)$", text, re.MULTILINE)
-    words = goals.group(1).split() if goals else []
+    words = " ".join(re.findall(r"^\.PHONY:(.*)$", text, re.MULTILINE)).split()
     said = answer(mkcheck, text, words)
     if said:
         print(f"pages: {said} and not read: the repository's Makefile")
     return 1 if said or not words else 0
+
+
+def read_manuals() -> int:
+    """Tells whether a linter finds something in the manual pages: 1, else 0. Without a linter the line of `make` says so."""
+    kept = {name: value for name, value in os.environ.items() if name not in ("MAKEFLAGS", "MFLAGS", "MAKELEVEL")}
+    done = subprocess.run(["make", "-s", "manuals"], cwd=ROOT, env=kept, capture_output=True, text=True, check=False)
+    if done.returncode != 0 or not done.stdout:
+        print(f"pages: the manual pages\n{done.stdout}{done.stderr}", end="")
+        return 1
+    print(f"pages: make manuals: {done.stdout}", end="")
+    return 0
 
 
 def try_sessions(mkcheck: str) -> int:
@@ -63,7 +73,7 @@ def main() -> int:
             wrong += 1
             print(f"pages: {said or 'read'} and not {number or 'read'}:\n{makefile}")
     print(f"pages: {len(blocks) + 1 - wrong} makefiles as they are said to be, {wrong} not")
-    wrong += try_sessions(mkcheck) + broken_links()
+    wrong += try_sessions(mkcheck) + broken_links() + read_manuals()
     return 1 if wrong else 0
 
 

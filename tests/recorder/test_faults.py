@@ -20,7 +20,17 @@ class FaultTest(ProjectTest):
         self.assertEqual(
             outcome.errors,
             "mkcheck-record: the recipe of b failed, status 7, at 'echo said; exit 7'\n"
-            "\techo first\n\t@echo said; exit 7\nsaid\n",
+            "\techo first\n\t@echo said; exit 7\nfirst\nsaid\n",
+        )
+
+    def test_all_that_a_failing_recipe_puts_out(self) -> None:
+        self.write({"makefile": "a:\n\techo one\n\t-echo two >&2; false\n\tprintf three; exit 3\n\techo four\n"})
+        outcome = self.record()
+        self.assertEqual((outcome.status, outcome.book), (1, None))
+        self.assertEqual(
+            outcome.errors,
+            "mkcheck-record: the recipe of a failed, status 3, at 'printf three; exit 3'\n"
+            "\techo one\n\t-echo two >&2; false\n\tprintf three; exit 3\n\techo four\none\ntwo\nthree\n",
         )
 
     def test_an_old_file_stays_where_a_recipe_fails(self) -> None:

@@ -192,6 +192,41 @@ class ShellTest(ProjectTest):
         self.assertEqual(outcome.own("b"), ({"a"}, {"b"}))
         self.assertEqual(outcome.warnings(), ["the recipe of b uses a and b, which are one file"])
 
+    def test_a_second_name_that_another_recipe_uses(self) -> None:
+        self.write({"makefile": "all: x y z\nx: a\n\tcp a x\ny: b\n\tcp b y\nz: b\n\tcp b z\n.PHONY: all\n", "a": "",
+                    "s/c": ""})
+        os.link(self.folder / "a", self.folder / "b")
+        os.link(self.folder / "s" / "c", self.folder / "d")
+        told = ["the recipe of y uses b, and that of x a, which are one file"]
+        for words in ((), ("--in-place",), ("--again",)):
+            outcome = self.recorded(*words)
+            self.assertEqual(outcome.own("y"), ({"b"}, {"y"}))
+            self.assertEqual(outcome.warnings(), told, words)
+
+    def test_a_second_name_that_a_recipe_makes_for_others(self) -> None:
+        self.write({"makefile": "x: a b\n\tcat b > x\nb: a\n\tln a b\n", "a": ""})
+        self.assertEqual(self.recorded().warnings(), ["the recipe of b uses a and b, which are one file"])
+
+    def test_names_that_are_one_file_no_more(self) -> None:
+        self.write({"makefile": "x: a b\n\tcat b > x\nb: a\n\tcat a > b.new; mv b.new b\n", "a": ""})
+        os.link(self.folder / "a", self.folder / "b")
+        self.assertEqual(self.recorded("--in-place").warnings(), [])
+
+    def test_a_file_that_is_written_by_its_second_name(self) -> None:
+        self.write({"makefile": "x: a\n\tcp a x; echo new > b\n", "a": "", "b": ""})
+        (self.folder / "b").unlink()
+        os.link(self.folder / "a", self.folder / "b")
+        outcome = self.recorded("--again")
+        self.assertIn("the recipe of x uses a and b, which are one file", outcome.warnings())
+        self.assertEqual((self.folder / "a").read_text(), "")
+
+    def test_a_link_of_the_project_that_another_recipe_uses(self) -> None:
+        self.write({"makefile": "all: x y\nx: s/a\n\tcp s/a x\ny: i/a\n\tcp i/a y\n.PHONY: all\n", "s/a": ""})
+        (self.folder / "i").symlink_to("s")
+        outcome = self.recorded()
+        self.assertEqual((outcome.own("x"), outcome.own("y")), (({"s/a"}, {"x"}), ({"s/a"}, {"y"})))
+        self.assertEqual(outcome.warnings(), ["the recipe of y reaches s/a as i/a too, over a symbolic link"])
+
     def test_a_file_that_is_taken_away(self) -> None:
         self.write({"makefile": "b: a\n\tmv a b\n", "a": ""})
         outcome = self.recorded()

@@ -22,11 +22,15 @@ class Place:
 
 @dataclass
 class Disk:
-    """What is known of the folder between recipes: the files that are there, and links that recipes made."""
+    """What is known of the folder between recipes: the files that are there, and links that recipes made.
+
+    `users` has, for each file of several names, the names that were used, each with the first target whose recipe did.
+    """
 
     root: str
     there: set[str]
     links: set[str] = field(default_factory=set)
+    users: dict[tuple[int, int], dict[str, str]] = field(default_factory=dict)
 
 
 @dataclass

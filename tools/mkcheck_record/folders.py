@@ -4,6 +4,7 @@ from __future__ import annotations
 
 import os
 import shutil
+from collections.abc import Callable
 from dataclasses import dataclass
 
 from .faults import Fault
@@ -99,7 +100,22 @@ def copy(root: str, goal: str, targets: frozenset[str]) -> None:
         paths = {name: os.path.join(folder, name) for name in names}
         return {name for name, path in paths.items() if path == above or is_left_out(path, left_out)}
 
-    shutil.copytree(root, goal, symlinks=True, ignore=unwanted)
+    shutil.copytree(root, goal, symlinks=True, ignore=unwanted, copy_function=copier())
+
+
+def copier() -> Callable[[str, str], str]:
+    """Copies one file after another. Those that are one file by several names are so in the copy too."""
+    copied: dict[tuple[int, int], str] = {}
+
+    def copy_file(path: str, goal: str) -> str:
+        status = os.lstat(path)
+        first = copied.setdefault((status.st_dev, status.st_ino), goal)
+        if first == goal:
+            return shutil.copy2(path, goal)
+        os.link(first, goal)
+        return goal
+
+    return copy_file
 
 
 def is_left_out(path: str, left_out: set[str]) -> bool:

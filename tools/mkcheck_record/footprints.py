@@ -38,6 +38,15 @@ def kind_of(path: str) -> int:
         return 0
 
 
+def file_of(path: str) -> tuple[int, int] | None:
+    """Which file stands at a path itself, where it has other names too."""
+    try:
+        status = os.lstat(path)
+    except OSError:
+        return None
+    return (status.st_dev, status.st_ino) if status.st_nlink > 1 else None
+
+
 def left(paths: Iterable[str]) -> Iterator[str]:
     """The files and links among these that are there."""
     for path in paths:
@@ -64,7 +73,9 @@ def footprint_of(recipe: Recipe, accesses: Accesses, naming: Naming, warn: Warn)
         warn(f"the recipe of {recipe.target} takes away {naming.name(path) or path}, which it didn't make")
     accesses.disk.there.difference_update(accesses.removed)
     accesses.disk.there.update(written)
-    warn_of_aliases(recipe, accesses, naming, [*read, *written], warn)
+    warn_of_links(recipe, accesses, naming, warn)
+    for path in dict.fromkeys(path for path in [*read, *written] if path.startswith(naming.root + "/")):
+        warn_of_twins(recipe, accesses, naming, path, warn)
     return Footprint(recipe, named(read, naming), named(written, naming))
 
 
@@ -100,18 +111,26 @@ def outside(recipe: Recipe, nameless: list[str]) -> str:
     )
 
 
-def warn_of_aliases(recipe: Recipe, accesses: Accesses, naming: Naming, paths: list[str], warn: Warn) -> None:
-    """A file of two names is told with both: over links in the folder, and by names of one inode."""
-    inside = naming.root + "/"
+def warn_of_links(recipe: Recipe, accesses: Accesses, naming: Naming, warn: Warn) -> None:
+    """A file that is reached over a symbolic link in the folder is told with both names."""
     for name, (links, real) in accesses.aliases.items():
-        if any(link.startswith(inside) for link in links) and kind_of(real) == stat.S_IFREG:
+        if any(link.startswith(naming.root + "/") for link in links) and kind_of(real) == stat.S_IFREG:
             first, second = naming.name(name) or name, naming.name(real) or real
             warn(f"the recipe of {recipe.target} reaches {second} as {first} too, over a symbolic link")
-    first_of: dict[tuple[int, int], str] = {}
-    for path in dict.fromkeys(path for path in paths if path.startswith(inside)):
-        status = os.lstat(path)
-        if status.st_nlink > 1:
-            first_path = first_of.setdefault((status.st_dev, status.st_ino), path)
-            if first_path != path:
-                both = f"{naming.name(first_path)} and {naming.name(path)}"
-                warn(f"the recipe of {recipe.target} uses {both}, which are one file")
+
+
+def warn_of_twins(recipe: Recipe, accesses: Accesses, naming: Naming, path: str, warn: Warn) -> None:
+    """A file of several names, hard links, is told with two that are used, be it by two recipes; each name once."""
+    file = file_of(path)
+    if file is None:
+        return
+    users = accesses.disk.users.setdefault(file, {})
+    other = next((other for other in users if other != path and file_of(other) == file), None)
+    if path not in users and other is not None:
+        name, other_name, target = naming.name(path), naming.name(other), users[other]
+        own = f"the recipe of {recipe.target} uses"
+        if target == recipe.target:
+            warn(f"{own} {other_name} and {name}, which are one file")
+        else:
+            warn(f"{own} {name}, and that of {target} {other_name}, which are one file")
+    users.setdefault(path, recipe.target)

@@ -5,6 +5,7 @@ from __future__ import annotations
 import shutil
 import sys
 import time
+from typing import TextIO
 
 SECONDS_APART = 10.0
 CLEAR = "\r\033[K"
@@ -13,10 +14,12 @@ CLEAR = "\r\033[K"
 class Progress:
     """Tells which command of how many is run."""
 
-    def __init__(self, total: int) -> None:
+    def __init__(self, total: int, stream: TextIO | None = None, apart: float = SECONDS_APART) -> None:
         self.total = total
         self.number = 0
-        self.terminal = sys.stderr.isatty()
+        self.stream = stream or sys.stderr
+        self.terminal = self.stream.isatty()
+        self.apart = apart
         self.told = time.monotonic()
 
     def step(self, text: str) -> None:
@@ -25,14 +28,14 @@ class Progress:
         line = f"[{self.number}/{self.total}] {text.splitlines()[0]}"
         if self.terminal:
             width = shutil.get_terminal_size().columns
-            sys.stderr.write(f"{CLEAR}{line[: width - 1]}")
-            sys.stderr.flush()
-        elif time.monotonic() - self.told >= SECONDS_APART:
+            self.stream.write(f"{CLEAR}{line[: width - 1]}")
+            self.stream.flush()
+        elif time.monotonic() - self.told >= self.apart:
             self.told = time.monotonic()
-            print(line, file=sys.stderr, flush=True)
+            print(line, file=self.stream, flush=True)
 
     def clear(self) -> None:
         """Makes room for another line, and is called at the end."""
         if self.terminal:
-            sys.stderr.write(CLEAR)
-            sys.stderr.flush()
+            self.stream.write(CLEAR)
+            self.stream.flush()

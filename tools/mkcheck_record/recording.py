@@ -63,20 +63,22 @@ def record(shop: Workshop, recipes: list[Recipe], fixed: tuple[str, ...], warn: 
 def run(recipe: Recipe, shop: Workshop, disk: Disk, progress: Progress) -> Accesses:
     """Runs a recipe, command by command, as make would."""
     accesses = Accesses(disk)
+    output = ""
     for command in recipe.commands:
         progress.step(command.text)
         done = tracing.run(command.words, shop.place, shop.operands, shop.scratch)
+        output += done.output
         Follower(accesses, shop.place).follow(done.calls)
         if done.status != 0 and not command.ignored:
-            raise RecipeFault(failure(recipe, command, done))
+            raise RecipeFault(failure(recipe, command, done.status, output))
     return accesses
 
 
-def failure(recipe: Recipe, failed: Command, done: tracing.Done) -> str:
-    """What is said of a recipe that fails: its commands, the output of the last one, and its status."""
+def failure(recipe: Recipe, failed: Command, status: int, output: str) -> str:
+    """What is said of a recipe that fails: its commands, what all that were run put out, and the status of the last one."""
     shown = ["\t" + line for line in recipe.lines]
-    head = f"the recipe of {recipe.target} failed, status {done.status}, at {shlex.quote(failed.text)}"
-    return "\n".join([head, *shown, done.output.rstrip("\n")]).rstrip("\n")
+    head = f"the recipe of {recipe.target} failed, status {status}, at {shlex.quote(failed.text)}"
+    return "\n".join([head, *shown, output.rstrip("\n")]).rstrip("\n")
 
 
 def digest(place: str, name: str) -> str:
