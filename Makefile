@@ -5,6 +5,7 @@
 
 PREFIX = /usr/local
 CRATE =
+FUZZ =
 
 .PHONY: all look demo check program edits growths recorder realcheck manuals pages fuzz bench
 .PHONY: install clean
@@ -71,10 +72,11 @@ realcheck: all
 pages: all
 	@python3 tests/pages/run.py bin/mkcheck
 
-# Asks mkcheck and a second program, which was written from the documents alone,
-# the same random questions.
+# Asks mkcheck and a second program, which was written from the documents, the same
+# random questions: new ones each time, of a seed that it prints. FUZZ has options
+# of tests/second/compare.py, such as --seed 7 --jobs 4.
 fuzz: all
-	@python3 tests/second/compare.py bin/mkcheck
+	@python3 tests/second/compare.py bin/mkcheck $(FUZZ)
 
 # Reads the manual pages by a linter, where one is there.
 manuals:

@@ -1,11 +1,15 @@
 """Refuses each growth of mkcheck in turn, over worked examples.
 
+    sweep.py [PROGRAM] [--gate]
+
 The program must answer the whole text, or end with status 3 and say `want of memory`: never
 anything else, and never a text that is cut. It prints a line for each example, and ends with 1 where
-an answer was another one.
+an answer was another one. With `--gate` it takes the examples of the gate alone.
 """
 
+import argparse
 import os
+import shutil
 import subprocess
 import sys
 import tempfile
@@ -217,12 +221,29 @@ EXAMPLES = {
 }
 
 
-def answer(folder: str, shim: str, words: list[str], refused: int) -> tuple[int, str, str, int]:
+# Those of the gate: a graph, includes at their limit, a plan that is refused, a yes, a certificate, a race, plans
+# that show what was found, and a certificate that is judged.
+GATE = [
+    "plain rules",
+    "includes to the last level",
+    "an include too deep",
+    "a substitution",
+    "a plan",
+    "a yes",
+    "a certificate",
+    "a race",
+    "a yes of a file that is written beside another",
+    "a plan of a stale read",
+    "a yes verified",
+]
+
+
+def answer(command: list[str], folder: str, shim: str, refused: int) -> tuple[int, str, str, int]:
     """The status, both outputs, and how many growths were asked for."""
     source, sink = os.pipe()
     environment = {"LD_PRELOAD": shim, "REFUSED": str(refused), "COUNT_TO": str(sink)}
     done = subprocess.run(
-        [PROGRAM, *words],
+        command,
         cwd=folder,
         env=environment,
         pass_fds=[sink],
@@ -236,7 +257,7 @@ def answer(folder: str, shim: str, words: list[str], refused: int) -> tuple[int,
     return done.returncode, done.stdout, done.stderr, int(asked or 0)
 
 
-def sweep(name: str, shim: str) -> bool:
+def sweep(program: str, name: str, shim: str) -> bool:
     """Whether each run over this example answered as it must."""
     files, words, status, printed = EXAMPLES[name]
     with tempfile.TemporaryDirectory() as folder:
@@ -244,10 +265,11 @@ def sweep(name: str, shim: str) -> bool:
             (Path(folder) / file).write_text(text)
         whole = (status, printed, "")
         wanting = (3, "", "want of memory\n")
-        asked = answer(folder, shim, words, 0)[3]
+        command = [program, *words]
+        asked = answer(command, folder, shim, 0)[3]
         wanted = 0
         for refused in range(asked + 1):
-            *got, _ = answer(folder, shim, words, refused)
+            *got, _ = answer(command, folder, shim, refused)
             if tuple(got) == wanting and refused > 0:
                 wanted += 1
             elif tuple(got) != whole:
@@ -257,14 +279,27 @@ def sweep(name: str, shim: str) -> bool:
     return wanted > 0
 
 
-def main() -> None:
+def arguments() -> argparse.Namespace:
+    parser = argparse.ArgumentParser(description=__doc__.split("\n", maxsplit=1)[0])
+    parser.add_argument("program", nargs="?", default=os.environ.get("MKCHECK", str(PROGRAM)))
+    parser.add_argument("--gate", action="store_true")
+    return parser.parse_args()
+
+
+def main() -> int:
+    given = arguments()
+    if shutil.which("cc") is None:
+        print("growths: no C compiler is here, so no growth was refused")
+        return 0
+    program = os.path.abspath(given.program)
     with tempfile.TemporaryDirectory() as folder:
         shim = f"{folder}/refuse.so"
         command = ["cc", "-O1", "-shared", "-fPIC", "-o", shim, str(HERE / "refuse.c")]
         subprocess.run(command, check=True)
-        passed = [sweep(name, shim) for name in EXAMPLES]
-    sys.exit(0 if all(passed) else 1)
+        passed = [sweep(program, name, shim) for name in (GATE if given.gate else EXAMPLES)]
+    print(f"growths: {len(passed)} examples, {passed.count(False)} of them wrong")
+    return 0 if all(passed) else 1
 
 
 if __name__ == "__main__":
-    main()
+    sys.exit(main())

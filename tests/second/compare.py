@@ -1,16 +1,19 @@
 #!/usr/bin/env python3
 """Asks mkcheck and the second program the same random questions, and compares what they say.
 
-    compare.py PROGRAM [--seed S] [--cases N] [--command C] [--seconds T] [--gate] [--counts]
+    compare.py PROGRAM [--seed S] [--cases N] [--command C] [--seconds T] [--jobs J] [--gate] [--counts]
 
-It prints for each command how many cases were tried, and each case that differs, whose files it keeps.
+It prints the seed, which is a new one each time where none is given, for each command how many cases were tried,
+and each case that differs, whose files it keeps.
 """
 
 import argparse
 import collections
+import multiprocessing
 import os
 import random
 import shutil
+import signal
 import subprocess
 import sys
 import tempfile
@@ -56,13 +59,28 @@ def written(folder, files):
                 file.write(data)
 
 
+class Silent(Exception):
+    """The program gives no answer."""
+
+
+def given_up(_signal, _frame):
+    raise Silent
+
+
 def asked(program, words, folder):
-    """Standard output and status of the program; no status where it gives no answer."""
+    """Standard output and status of the program; no status where it gives no answer.
+
+    An alarm takes less time than a timeout of `run`, and most of a case is the start of the program.
+    """
+    signal.signal(signal.SIGALRM, given_up)
+    signal.alarm(SECONDS)
     try:
         done = subprocess.run([program, *words], cwd=folder, stdin=subprocess.DEVNULL, check=False,
-                              stdout=subprocess.PIPE, stderr=subprocess.DEVNULL, timeout=SECONDS)
-    except subprocess.TimeoutExpired:
+                              stdout=subprocess.PIPE, stderr=subprocess.DEVNULL)
+    except Silent:
         return b"no answer", None
+    finally:
+        signal.alarm(0)
     return done.stdout, done.returncode
 
 
@@ -129,17 +147,29 @@ class Comparer:
         case = case_of(rng, "check" if command == "evidence" else command)
         self.compare(command, f"{command} {number} of seed {seed}", case)
 
-    def all_cases(self, commands, given):
-        """The random cases, of the commands in turn, and those at limits, as time allows."""
-        until = time.monotonic() + given.seconds
+    def random_cases(self, commands, given, until):
+        """The random cases of one job of some, of the commands in turn, as time allows."""
         cases = GATE_CASES if given.gate else dict.fromkeys(COMMANDS, given.cases)
-        for number in range(max(cases[command] for command in commands)):
+        for number in range(given.job, max(cases[command] for command in commands), given.jobs):
             for command in commands:
                 if number < cases[command] and time.monotonic() < until:
                     self.random_case(command, given.seed, number)
-        for label, command, case in limits(given.gate):
-            if command in commands and time.monotonic() < until:
+
+    def all_cases(self, commands, given):
+        """The random cases, and those that are always the same."""
+        until = time.monotonic() + given.seconds
+        self.random_cases(commands, given, until)
+        for number, (label, command, case) in enumerate(limits(given.gate)):
+            mine = command in commands and number % given.jobs == given.job
+            if mine and time.monotonic() < until:
                 self.compare(command, label, case)
+
+    def added(self, other):
+        """What another job has tried."""
+        self.tried += other.tried
+        self.differing += other.differing
+        for command, sorts in other.sorts.items():
+            self.sorts[command] += sorts
 
     def told(self, counts):
         """What was tried, and whether nothing differs."""
@@ -155,39 +185,55 @@ class Comparer:
         return not self.differing
 
 
-def takes_evidence(program):
-    """Whether `check` knows `-e N`, the plan that shows a finding."""
-    with tempfile.TemporaryDirectory() as folder:
-        written(folder, {
-            b"makefile": b"a: b\n\tc\n",
-            b"B": b'{"format":1,"fixed":[],"sources":["b"],"records":[]}'})
-        return asked(os.path.abspath(program), ["check", "-e", "1", "-b", "B"], folder)[1] != 2
+def compared(job):
+    """What one job of some tries, in a folder of its own."""
+    given, commands, number = job
+    given.job = number
+    with tempfile.TemporaryDirectory(prefix="fuzz-", dir=memory_folder()) as folder:
+        comparer = Comparer(given.program, folder)
+        comparer.all_cases(commands, given)
+    return comparer
+
+
+def all_compared(given, commands):
+    """What all jobs tried."""
+    jobs = [(given, commands, number) for number in range(given.jobs)]
+    if given.jobs == 1:
+        return compared(jobs[0])
+    with multiprocessing.Pool(given.jobs) as pool:
+        first, *rest = pool.map(compared, jobs, chunksize=1)
+    for comparer in rest:
+        first.added(comparer)
+    return first
+
+
+def new_seed():
+    """A seed that another run hardly has."""
+    return random.SystemRandom().randrange(10**9)
 
 
 def arguments():
     parser = argparse.ArgumentParser(description=__doc__.split("\n", maxsplit=1)[0])
     parser.add_argument("program")
-    parser.add_argument("--seed", default=GATE_SEED)
+    parser.add_argument("--seed")
     parser.add_argument("--cases", type=int, default=1000)
     parser.add_argument("--command", choices=COMMANDS)
     parser.add_argument("--seconds", type=float, default=float("inf"))
+    parser.add_argument("--jobs", type=int, default=1)
     parser.add_argument("--gate", action="store_true")
     parser.add_argument("--counts", action="store_true")
-    return parser.parse_args()
+    given = parser.parse_args()
+    given.jobs = max(given.jobs, 1)
+    if given.seed is None:
+        given.seed = GATE_SEED if given.gate else new_seed()
+    return given
 
 
 def main():
     given = arguments()
     commands = [given.command] if given.command else list(COMMANDS)
-    if "evidence" in commands and not takes_evidence(given.program):
-        print("evidence: skipped, since the program knows no check -e")
-        commands.remove("evidence")
-    if not commands:
-        return 0
-    with tempfile.TemporaryDirectory(prefix="fuzz-", dir=memory_folder()) as folder:
-        comparer = Comparer(given.program, folder)
-        comparer.all_cases(commands, given)
-    return 0 if comparer.told(given.counts) else 1
+    print(f"fuzz: seed {given.seed}", flush=True)
+    return 0 if all_compared(given, commands).told(given.counts) else 1
 
 
 if __name__ == "__main__":
