@@ -1,9 +1,14 @@
-"""Measures `mkcheck check -e 1`, which prints a plan that shows the first finding, beside `mkcheck check`."""
+"""Measures `mkcheck check -e 1`, which prints a plan that shows the first finding, beside `mkcheck check`.
+
+The growth is the time of the former divided by its own on half the targets, and that of the plan its size divided so.
+Nothing shows a recipe without record: there the answer is `no plan`.
+"""
 
 import os
 import sys
 from pathlib import Path
 
+from certificates import unrecorded
 from run import DATA, RUNS, asked, summary
 from verdicts import GROWTH_BOUND, Build, forgotten, recipe, spent, waiting, written
 
@@ -20,7 +25,8 @@ def racing(count: int) -> Build:
     return Build(text, [], records)
 
 
-SHAPES = [(forgotten, 1000, 2000), (waiting, 950, 1900), (racing, 2000, 4000)]
+NO_PLAN = "no plan\n"
+SHAPES = [(forgotten, 1000, 2000), (waiting, 950, 1900), (racing, 2000, 4000), (unrecorded, 2000, 4000)]
 
 
 def measured(program: str, build: Build) -> tuple[float, float, int]:
@@ -29,7 +35,8 @@ def measured(program: str, build: Build) -> tuple[float, float, int]:
     check = [program, "check", "-f", makefile.name, "-b", book.name]
     plan = DATA / "evidence.plan"
     spent([*check, "-e", "1"], {1}, plan)
-    spent([program, "simulate", *check[2:], "-p", plan.name], {0}, Path(os.devnull))
+    if plan.read_text() != NO_PLAN:
+        spent([program, "simulate", *check[2:], "-p", plan.name], {0}, Path(os.devnull))
     runs = [(spent(check, {1}, Path(os.devnull)), spent([*check, "-e", "1"], {1}, Path(os.devnull))) for _ in range(RUNS)]
     plain, shown = (summary(list(taken)).time for taken in zip(*runs))
     return plain, shown, plan.stat().st_size
@@ -40,13 +47,14 @@ def main() -> None:
     DATA.mkdir(exist_ok=True)
     os.chdir(DATA)
     print(f"processor time, least of {RUNS} runs; {program}")
-    print(f"{'build':<18}{'check ms':>10}{'-e 1 ms':>10}{'ratio':>7}{'growth':>8}{'plan MB':>9}")
+    print(f"{'build':<18}{'check ms':>10}{'-e 1 ms':>10}{'ratio':>7}{'growth':>8}{'half KB':>10}{'plan KB':>10}{'growth':>8}")
     for shape, smaller, count in SHAPES:
-        _, half, _ = measured(program, shape(smaller))
+        _, half, fewer = measured(program, shape(smaller))
         plain, shown, size = measured(program, shape(count))
         label = f"{shape.__name__} {count}"
-        print(f"{label:<18}{plain:>10.1f}{shown:>10.1f}{shown / plain:>7.2f}{shown / half:>8.1f}{size / 2**20:>9.1f}", flush=True)
-    print(f"{'at most':<38}{RATIO_BOUND:>7.2f}{GROWTH_BOUND:>8.1f}")
+        times = f"{label:<18}{plain:>10.1f}{shown:>10.1f}{shown / plain:>7.2f}{shown / half:>8.1f}"
+        print(f"{times}{fewer / 1024:>10.1f}{size / 1024:>10.1f}{size / fewer:>8.2f}", flush=True)
+    print(f"{'at most':<38}{RATIO_BOUND:>7.2f}{GROWTH_BOUND:>8.1f}{GROWTH_BOUND:>28.2f}")
 
 
 if __name__ == "__main__":

@@ -1,14 +1,15 @@
-"""Measures `mkcheck simulate` on long plans beside `mkcheck graph` on the same files, and prints a table.
+"""Measures `mkcheck simulate` on long plans beside `mkcheck graph` on the same files, and prints two tables.
 
-The ratio is the time of a plan of one make divided by that of `mkcheck graph -b`. The growth in nodes is that time
-divided by its own on half the nodes, and the growth in lines that of a plan of many makes divided by its own on half
-the lines.
+The first is of plans of one make. The ratio is the time of the plan divided by that of `mkcheck graph -b`, the growth
+that time divided by its own on half the nodes. The second is of plans of many makes with edits between; their growth
+is the time divided by its own on half the lines.
 """
 
 import os
 from collections.abc import Callable, Iterator
-from dataclasses import dataclass
-from itertools import islice
+from dataclasses import dataclass, field
+from itertools import chain as joined
+from itertools import cycle, islice
 from pathlib import Path
 
 from generate import recipe
@@ -25,9 +26,9 @@ JOBS = 4
 
 
 def flat(count: int) -> Build:
-    """Targets without prerequisites."""
+    """Targets without prerequisites, but for the last one, which reads a source."""
     names = [f"f{number}" for number in range(count)]
-    return ruled(names, dict.fromkeys(names, []), [])
+    return ruled(names, {name: ["s"] if name == names[-1] else [] for name in names}, ["s"])
 
 
 def own(count: int) -> Build:
@@ -85,52 +86,91 @@ def order(build: Build) -> list[tuple[str, list[str]]]:
     return finished
 
 
+@dataclass
+class Contents:
+    """What files hold: what a recipe puts into its file depends on what it saw, and each edit is a new content."""
+
+    held: dict[str, int] = field(default_factory=dict)
+    known: dict[tuple[str, ...], int] = field(default_factory=dict)
+    last: int = 1_000_000
+
+    def new(self) -> int:
+        """A content that no file has had."""
+        self.last += 1
+        return self.last
+
+    def edit(self, source: str) -> str:
+        """The line of an edit."""
+        self.held[source] = self.new()
+        return f"edit {source} {self.held[source]}"
+
+    def put(self, target: str, reads: list[str]) -> str:
+        """The line by which a recipe writes its file."""
+        saw = (target, *(str(self.held.get(name)) for name in reads))
+        if saw not in self.known:
+            self.known[saw] = self.new()
+        self.held[target] = self.known[saw]
+        return f"put {target} {target} {self.held[target]}"
+
+
 def one_make(build: Build) -> list[str]:
     """Each recipe is run, one after another."""
     return [f"make {JOBS}", *(f"run {target}" for target, _ in order(build)), "end"]
 
 
-def steps(target: str, reads: list[str]) -> list[str]:
-    """What a recipe does behind its begin."""
-    return [*(f"look {target} {name}" for name in reads), f"put {target} {target}", f"done {target}"]
+def steps(running: dict[str, list[str]], contents: Contents) -> Iterator[str]:
+    """What recipes do behind their begin."""
+    for target, reads in running.items():
+        yield from (f"look {target} {name}" for name in reads)
+        yield contents.put(target, reads)
+        yield f"done {target}"
 
 
-def overlapping(build: Build) -> list[str]:
-    """The same step by step; up to four recipes run at once."""
+def overlapping(build: Build, contents: Contents) -> list[str]:
+    """A make step by step; up to four recipes run at once."""
     lines, running = [f"make {JOBS}"], {}
     for target, reads in order(build):
         if len(running) == JOBS or any(name in running for name in reads):
-            for name, needed in running.items():
-                lines.extend(steps(name, needed))
+            lines.extend(steps(running, contents))
             running = {}
         lines.append(f"begin {target}")
         running[target] = reads
-    for name, needed in running.items():
-        lines.extend(steps(name, needed))
-    return [*lines, "end"]
+    return [*lines, *steps(running, contents), "end"]
 
 
-def many_makes(build: Build, lines: int) -> list[str]:
+def passing(build: Build) -> Iterator[list[str]]:
     """Makes with the edit of a source between; what it doesn't concern is passed."""
-    def all_lines() -> Iterator[str]:
-        yield from one_make(build)
-        ordered, number = order(build), 0
-        while True:
-            source = build.sources[number % len(build.sources)] if build.sources else None
-            number += 1
-            changed = {source} if source else set()
-            if source:
-                yield f"edit {source}"
-            yield f"make {JOBS}"
-            for target, reads in ordered:
-                if changed.isdisjoint(reads):
-                    yield f"pass {target}"
-                else:
-                    changed.add(target)
-                    yield f"run {target}"
-            yield "end"
+    yield one_make(build)
+    ordered = order(build)
+    for source in cycle(build.sources):
+        changed, lines = {source}, [f"edit {source}", f"make {JOBS}"]
+        for target, reads in ordered:
+            if changed.isdisjoint(reads):
+                lines.append(f"pass {target}")
+            else:
+                changed.add(target)
+                lines.append(f"run {target}")
+        yield [*lines, "end"]
 
-    return list(islice(all_lines(), lines))
+
+def running_all(build: Build) -> Iterator[list[str]]:
+    """The same, but each make runs each recipe."""
+    yield one_make(build)
+    for source in cycle(build.sources):
+        yield [f"edit {source}", *one_make(build)]
+
+
+def overlapping_all(build: Build) -> Iterator[list[str]]:
+    """The same step by step; up to four recipes run at once."""
+    contents = Contents()
+    yield overlapping(build, contents)
+    for source in cycle(build.sources):
+        yield [contents.edit(source), *overlapping(build, contents)]
+
+
+def cut(makes: Iterator[list[str]], lines: int) -> list[str]:
+    """The first lines of these makes."""
+    return list(islice(joined.from_iterable(makes), lines))
 
 
 # Each shape, with how many nodes it has.
@@ -166,20 +206,30 @@ def simulated(program: str, files: Files, lines: list[str]) -> float:
     return time(program, [*files.words("simulate"), "-p", planned("plan", lines).name])
 
 
-def row(program: str, shape: Callable[[int], Build], count: int) -> str:
-    """All figures of a shape."""
+def one_row(program: str, shape: Callable[[int], Build], count: int) -> str:
+    """The figures of plans of one make."""
     half, whole = shape(count // 2), shape(count)
     few = Files(*written(half, "half"))
     one_of_half = simulated(program, few, one_make(half))
-    all_of_half = simulated(program, few, overlapping(half))
+    all_of_half = simulated(program, few, overlapping(half, Contents()))
     files = Files(*written(whole, "whole"))
-    graph = time(program, files.words("graph"))
-    one, overlap = simulated(program, files, one_make(whole)), simulated(program, files, overlapping(whole))
-    fewer, many = (simulated(program, files, many_makes(whole, lines)) for lines in (LINES // 2, LINES))
+    graph, one = time(program, files.words("graph")), simulated(program, files, one_make(whole))
+    overlap = simulated(program, files, overlapping(whole, Contents()))
     return (
         f"{f'{shape.__name__} {count}':<14}{graph:>10.1f}{one:>10.1f}{one / graph:>7.1f}{one / one_of_half:>8.1f}"
-        f"{overlap:>12.1f}{overlap / all_of_half:>8.1f}{many:>10.1f}{many / fewer:>8.1f}"
+        f"{overlap:>12.1f}{overlap / all_of_half:>8.1f}"
     )
+
+
+def many_row(program: str, shape: Callable[[int], Build], count: int) -> str:
+    """The figures of plans of many makes."""
+    whole = shape(count)
+    files = Files(*written(whole, "whole"))
+    cells = [f"{f'{shape.__name__} {count}':<14}"]
+    for makes in (passing, running_all, overlapping_all):
+        fewer, many = (simulated(program, files, cut(makes(whole), lines)) for lines in (LINES // 2, LINES))
+        cells.append(f"{many:>12.1f}{many / fewer:>8.1f}")
+    return "".join(cells)
 
 
 def main() -> None:
@@ -187,10 +237,14 @@ def main() -> None:
     DATA.mkdir(exist_ok=True)
     os.chdir(DATA)
     print(f"processor time, least of {RUNS} runs; {program}")
-    print(f"{'build':<14}{'graph ms':>10}{'make ms':>10}{'ratio':>7}{'growth':>8}{'overlap ms':>12}{'growth':>8}{'many ms':>10}{'growth':>8}")
+    print(f"{'one make':<14}{'graph ms':>10}{'run ms':>10}{'ratio':>7}{'growth':>8}{'overlap ms':>12}{'growth':>8}")
     for shape, count in SHAPES:
-        print(row(program, shape, count), flush=True)
-    print(f"{'at most':<34}{RATIO_BOUND:>7.1f}{GROWTH_BOUND:>8.1f}{GROWTH_BOUND:>20.1f}{GROWTH_BOUND:>18.1f}")
+        print(one_row(program, shape, count), flush=True)
+    print(f"{'at most':<34}{RATIO_BOUND:>7.1f}{GROWTH_BOUND:>8.1f}{GROWTH_BOUND:>20.1f}")
+    print(f"{f'{LINES} lines':<14}{'pass ms':>12}{'growth':>8}{'run ms':>12}{'growth':>8}{'overlap ms':>12}{'growth':>8}")
+    for shape, count in SHAPES:
+        print(many_row(program, shape, count), flush=True)
+    print(f"{'at most':<14}" + 3 * f"{GROWTH_BOUND:>20.1f}")
 
 
 if __name__ == "__main__":
