@@ -22,3 +22,4 @@ pub mod SelectedGoals
 pub mod Accepted
 pub mod KnownFiles
 pub mod Counted
+pub mod Stays

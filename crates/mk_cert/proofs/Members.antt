@@ -31,7 +31,7 @@ module _ {A : Type 0} where
 
 module _ {A : Type 0} where
   -- what stands in two lists, one behind the other, stands in one of them
-  in_either : (xs ys : List A) (c : A) → Has (xs ++ ys) c → Has xs c ⊎ Has ys c
+  pub in_either : (xs ys : List A) (c : A) → Has (xs ++ ys) c → Has xs c ⊎ Has ys c
   in_either [] ys c h = inr h
   in_either (x ∷ xs) ys c (inl here) = inl (inl here)
   in_either (x ∷ xs) ys c (inr there) = ⊎_elim (λ k. inl (inr k)) (λ k. inr k) (in_either xs ys c there)

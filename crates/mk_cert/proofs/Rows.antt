@@ -35,7 +35,7 @@ module _ {A : Type 0} where
       ⊎_elim (λ low. held t low) (λ high. subst (λ (a : A). P t a) (sym (get_or_past rows t d high)) (past t high)) (cases_lt t (length rows))
 
   -- what stands among one more of a list
-  in_push : (xs : List A) (y z : A) → Has (xs ++ y ∷ []) z → Has xs z ⊎ (y ≡ z)
+  pub in_push : (xs : List A) (y z : A) → Has (xs ++ y ∷ []) z → Has xs z ⊎ (y ≡ z)
   in_push [] y z (inl here) = inr here
   in_push [] y z (inr there) = absurd there
   in_push (x ∷ xs) y z (inl here) = inl (inl here)

@@ -27,6 +27,10 @@ pub record Entry : Type 0 where
 abbrev pub choice_after : Subject → ℕ → Option (List ℕ)
 choice_after x n = choice x.makefile (with_more x.there (all_writes x)) (name_of x n)
 
+-- it stays what it is where no recipe has written its files
+abbrev pub StaysChosen : Subject → ℕ → Type 0
+StaysChosen x n = choice_after x n ≡ choice x.makefile x.there (name_of x n)
+
 -- it is so of the node with this number
 pub record IsEntry (x : Subject) (e : Entry) : Type 0 where
   pub same_node : e.node ≡ node x.graph e.number

@@ -1,17 +1,20 @@
 //! What a subject looks up of its nodes.
 
-ghost use Rattle.std.specs.Prelude.{◌≡◌, ◌<◌, ◌⊎◌, ◌++◌, All, length, map, Err, Some, IfErr, IfOk, OnOk};
+ghost use Rattle.std.specs.Prelude.{◌≡◌, ◌<◌, ◌⊎◌, ◌++◌, ℕ, All, List, [], true, length, map, slice_index_or, Option, Err, None, Some, IfErr, IfOk, IfSome, MatchOption, OnOk};
+ghost use Rattle.std.specs.Borrow.{Bor};
 ghost use Rattle.std.specs.List.{flat_map};
 ghost use Rattle.std.specs.Option.{option_map};
 ghost use Rattle.std.specs.String.{string_bytes};
 ghost use Rattle.mk_graph.specs.Graph.{IsGraph, node};
+ghost use Rattle.mk_graph.specs.Membership.{Has};
 ghost use Rattle.mk_graph.specs.Serial.{serial_order};
 ghost use Rattle.mk_graph.specs.Setting as build;
 ghost use Rattle.mk_infer.specs.Inference.{choice};
 ghost use Rattle.mk_infer.specs.Laws.{with_more};
+ghost use Rattle.mk_infer.specs.There.{is_there};
 ghost use Rattle.mk_infer.specs.declared.fault.InferFault.TheVariants.{Memory};
 ghost use Rattle.mk_cert.specs.Subject.{footprints, commands_of, subject_of};
-ghost use Rattle.mk_cert.specs.Entry.{IsEntry, AreEntries, AreEntriesOf, IsFaultOf, IsFirstFault, choice_after};
+ghost use Rattle.mk_cert.specs.Entry.{IsEntry, AreEntries, AreEntriesOf, IsFaultOf, IsFirstFault, StaysChosen, choice_after};
 
 use crate::entry::{Entry, writes_in};
 use mk_choice::{Choices, Made, choice, choice_and_commands};
@@ -138,18 +141,35 @@ fn copy_of(name: &Option<Name>) -> Result<Option<Name>, AllocError>
     }
 }
 
-/// What is looked up of a node. The fault is that of its commands.
+/// What is told of a place, where something is.
+fn told_at<'c>(told: Option<&'c [Option<Name>]>, place: usize) -> Option<&'c Option<Name>>
+    requires { IfSome told (λ told. place < length told.now) }
+    ensures { MatchOption result (told.entry ≡ None)
+        (λ here. (all : Bor (List (Option (List ℕ)))) × (told.entry ≡ Some all) ×
+        (here.now ≡ slice_index_or all.now place None)) }
+{
+    match told {
+        Some(told) => Some(&told[place]),
+        None => None,
+    }
+}
+
+/// What is looked up of a node. The fault is that of its commands. Where nothing is told of its
+/// inferred prerequisite once all recipes have written their files, it is the same then.
 fn entry_of<'a>(
     alloc: Global,
     choices: &Choices<'_>,
     graph: &'a Graph,
     setting: &'a Setting,
     number: usize,
-    after: &Option<Name>,
+    after: Option<&Option<Name>>,
 ) -> Result<Entry<'a>, InferFault>
     requires node { number < length graph.now.nodes }
-    requires after { after.now ≡ choice_after
-        (subject_of choices.now.makefile choices.now.exists graph.now setting.now) number }
+    requires after { MatchOption after
+        (StaysChosen (subject_of choices.now.makefile choices.now.exists graph.now setting.now)
+        number)
+        (λ after. after.now ≡ choice_after
+        (subject_of choices.now.makefile choices.now.exists graph.now setting.now) number) }
     ensures entry { IfOk result (λ entry. (entry.number ≡ number) ×
         IsEntry (subject_of choices.now.makefile choices.now.exists graph.now setting.now) entry) }
     ensures fault { IfErr result (λ fault. (fault ≡ Memory) ⊎ (commands_of
@@ -160,7 +180,10 @@ fn entry_of<'a>(
     let name = node.name.as_str();
     let Made { choice, commands } = choice_and_commands(alloc, choices, name)?;
     let chosen = owned(alloc, choice)?;
-    let chosen_after = copy_of(after)?;
+    let chosen_after = match after {
+        Some(after) => copy_of(after)?,
+        None => copy_of(&chosen)?,
+    };
     Ok(Entry {
         number,
         node,
@@ -171,18 +194,22 @@ fn entry_of<'a>(
     })
 }
 
-/// What is looked up of these nodes. The fault is the first one of their commands.
+/// What is looked up of these nodes. The fault is the first one of their commands. Where nothing is
+/// told of their inferred prerequisites once all recipes have written their files, these stay.
 fn entries_of<'a>(
     alloc: Global,
     choices: &Choices<'_>,
     graph: &'a Graph,
     setting: &'a Setting,
     order: &[usize],
-    after: &[Option<Name>],
+    after: Option<&[Option<Name>]>,
 ) -> Result<Vec<Entry<'a>>, InferFault>
     requires nodes { All (λ n. n < length graph.now.nodes) order.now }
-    requires after { after.now ≡ map (choice_after
-        (subject_of choices.now.makefile choices.now.exists graph.now setting.now)) order.now }
+    requires after { MatchOption after
+        ((n : ℕ) → StaysChosen
+        (subject_of choices.now.makefile choices.now.exists graph.now setting.now) n)
+        (λ after. after.now ≡ map (choice_after
+        (subject_of choices.now.makefile choices.now.exists graph.now setting.now)) order.now) }
     ensures entries { IfOk result (λ entries. AreEntriesOf
         (subject_of choices.now.makefile choices.now.exists graph.now setting.now) order.now
         entries.items) }
@@ -192,9 +219,55 @@ fn entries_of<'a>(
 {
     let mut entries = Vec::with_capacity(alloc, order.len())?;
     for (place, number) in order.iter().enumerate() {
-        entries.push(entry_of(alloc, choices, graph, setting, *number, &after[place])?)?;
+        let here = told_at(after, place);
+        entries.push(entry_of(alloc, choices, graph, setting, *number, here)?)?;
     }
     Ok(entries)
+}
+
+/// Whether a file is a target or a source, and so there before a make.
+fn is_there(table: &RuleTable<'_>, there: &Exists<'_>, name: &str) -> bool
+    ensures { result ≡ true → is_there table.now there.now name.now ≡ true }
+{
+    match table.target(name) {
+        Some(_target) => true,
+        None => there.sources.contains(name),
+    }
+}
+
+/// Whether these files are there before a make.
+fn are_there(table: &RuleTable<'_>, there: &Exists<'_>, files: &[String]) -> bool
+    ensures { result ≡ true → (f : List ℕ) → Has (map string_bytes files.now) f →
+        is_there table.now there.now f ≡ true }
+{
+    for file in files {
+        if !is_there(table, there, file.as_str()) {
+            return false;
+        }
+    }
+    true
+}
+
+/// Whether all files that the recipes of these nodes write are there before a make, as nearly all
+/// are: they are targets.
+fn writes_are_there(
+    table: &RuleTable<'_>,
+    there: &Exists<'_>,
+    graph: &Graph,
+    setting: &Setting,
+    order: &[usize],
+) -> bool
+    requires { All (λ n. n < length graph.now.nodes) order.now }
+    ensures { result ≡ true → (f : List ℕ) →
+        Has (flat_map (build.writes graph.now (footprints setting.now)) order.now) f →
+        is_there table.now there.now f ≡ true }
+{
+    for number in order {
+        if !are_there(table, there, writes_of(graph, setting, *number)) {
+            return false;
+        }
+    }
+    true
 }
 
 /// The inferred prerequisites of the nodes of a graph where all recipes have written their files.
@@ -228,7 +301,7 @@ fn order_of(graph: &Graph) -> Result<Vec<usize>, AllocError>
 }
 
 /// What is looked up of each node of a graph, in the serial order. The fault is the first one of
-/// their commands.
+/// their commands. No choice changes where all that recipes write is there before a make.
 pub fn entries_for<'a>(
     alloc: Global,
     table: &RuleTable<'_>,
@@ -236,13 +309,17 @@ pub fn entries_for<'a>(
     graph: &'a Graph,
     setting: &'a Setting,
 ) -> Result<Vec<Entry<'a>>, InferFault>
+    requires { there.now.more ≡ [] }
     ensures entries { IfOk result (λ entries. AreEntries
         (subject_of table.now there.now graph.now setting.now) entries.items) }
     ensures fault { IfErr result (λ fault. IsFaultOf
         (subject_of table.now there.now graph.now setting.now) fault) }
 {
     let order = order_of(graph)?;
-    let after = choices_after(alloc, table, there, graph, setting, &order)?;
     let choices = Choices::new(alloc, table, there)?;
-    entries_of(alloc, &choices, graph, setting, &order, &after)
+    if writes_are_there(table, there, graph, setting, &order) {
+        return entries_of(alloc, &choices, graph, setting, &order, None);
+    }
+    let after = choices_after(alloc, table, there, graph, setting, &order)?;
+    entries_of(alloc, &choices, graph, setting, &order, Some(&after))
 }

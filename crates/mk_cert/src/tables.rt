@@ -1,6 +1,6 @@
 //! What a subject looks up.
 
-ghost use Rattle.std.specs.Prelude.{◌≡◌, map, IfErr, IfOk};
+ghost use Rattle.std.specs.Prelude.{◌≡◌, [], map, IfErr, IfOk};
 ghost use Rattle.std.specs.String.{string_bytes};
 ghost use Rattle.mk_graph.specs.Graph.{IsGraph};
 ghost use Rattle.mk_cert.specs.Subject.{subject_of};
@@ -51,6 +51,7 @@ fn entries_in<'a>(
     graph: &'a Graph,
     setting: &'a Setting,
 ) -> Result<Vec<Entry<'a>>, InferFault>
+    requires { there.now.more ≡ [] }
     ensures graph { IsGraph graph.now }
     ensures entries { IfOk result (λ entries. AreEntries
         (subject_of table.now there.now graph.now setting.now) entries.items) }
@@ -69,6 +70,7 @@ pub fn tables_for<'a>(
     graph: &'a Graph,
     setting: &'a Setting,
 ) -> Result<Tables<'a>, InferFault>
+    requires { there.now.more ≡ [] }
     ensures tables { IfOk result (λ t. AreTables
         (subject_of table.now there.now graph.now setting.now)
         t.entries.items t.writers t.names t.reads.known.items t.reads.places) }

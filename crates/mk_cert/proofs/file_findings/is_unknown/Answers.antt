@@ -1,12 +1,8 @@
 -- It is written just where it has writers.
-use Rattle.std.proofs.Common.{◌≡◌, ◌∙◌, ◌<◌, ℕ, List, Bool, true, false, not, ap, sym, length}
-use Rattle.std.proofs.lemmas.Bool.{true≢false, cases_Bool, not-false, not-true}
-use Rattle.std.specs.Prelude.{◌↔◌, ◌⊎◌, ◌==◌}
-use Rattle.std.proofs.Common.{⊎_elim}
-use Rattle.mk_graph.specs.Membership.{Has}
+use Rattle.std.proofs.Common.{◌≡◌, ◌∙◌, Bool, true, false, not, ap, sym}
+use Rattle.std.specs.Prelude.{◌↔◌}
 use Rattle.mk_foot.specs.Setting.{is_given}
 use Rattle.mk_cert.specs.Entry.{writers_of}
-use Rattle.mk_cert.specs.Subject.{Subject, writes_of}
 use Rattle.mk_cert.specs.Target.{Target}
 use Rattle.mk_cert.proofs.FileDecided.{written_decides}
 use Rattle.mk_cert.proofs.file_findings.is_unknown.Goals as goal

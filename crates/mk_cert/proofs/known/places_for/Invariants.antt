@@ -1,4 +1,4 @@
-use Rattle.std.proofs.Common.{◌≡◌, ℕ, ◌++◌, List, map, take}
+use Rattle.std.proofs.Common.{◌≡◌, ◌++◌, List, map, take}
 use Rattle.std.specs.String.{string_bytes}
 use Rattle.mk_cert.specs.Known.{Known, StandAt, known_by}
 use Rattle.mk_cert.specs.Writers.{numbers_at}

@@ -1,5 +1,5 @@
 -- Each node has the places of what its recipe reads in its turn, and those before keep theirs.
-use Rattle.std.proofs.Common.{◌≡◌, ◌∙◌, ◌+◌, ◌<◌, ◌≤◌, ◌++◌, ◌∷◌, [], ℕ, List, refl, ap, sym, subst, get_or, length, map, length-append, arith}
+use Rattle.std.proofs.Common.{◌≡◌, ◌∙◌, ◌≤◌, ◌++◌, ◌∷◌, [], ℕ, List, refl, ap, sym, subst, get_or, length, map, length-append, arith}
 use Rattle.std.proofs.lemmas.List.{map_push, length-map}
 use Rattle.mk_graph.specs.declared.node.Node.{Node}
 use Rattle.mk_graph.specs.Setting as build

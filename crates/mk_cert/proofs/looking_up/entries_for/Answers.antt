@@ -1,10 +1,13 @@
-use Rattle.std.proofs.Common.{◌≡◌, ◌∙◌, ◌<◌, ◌⊎◌, ℕ, List, refl, inl, ap, sym, subst, map, length, get_or}
-use Rattle.std.proofs.lemmas.Result.{err_from_is_err_and, IfOk-weaker, IfErr-weaker}
+use Rattle.std.proofs.Common.{◌≡◌, ◌∙◌, ◌<◌, ℕ, List, refl, inl, sym, subst, length, get_or}
+use Rattle.std.specs.List.{flat_map}
+use Rattle.std.proofs.lemmas.Result.{err_from_is_err_and}
+use Rattle.mk_graph.specs.Membership.{Has}
 use Rattle.mk_graph.specs.Serial.{serial_order}
 use Rattle.mk_choice.specs.Choosing.{Looked}
-use Rattle.mk_infer.specs.declared.fault.InferFault.TheVariants.{Memory}
-use Rattle.mk_cert.specs.Subject.{subject_of}
-use Rattle.mk_cert.specs.Entry.{AreEntries, AreEntriesOf, IsFirstFault, IsFaultOf, choice_after}
+use Rattle.mk_cert.specs.Conditions.{all_writes}
+use Rattle.mk_cert.specs.Subject.{name_of, subject_of, writes_of}
+use Rattle.mk_cert.specs.Entry.{StaysChosen}
+use Rattle.mk_cert.proofs.Stays.{same_choice, same_there}
 use Rattle.mk_cert.proofs.looking_up.entries_for.Goals as goal
 
 pub returns-in_err-order-clause-fault : goal.returns-in_err-order-clause-fault
@@ -24,20 +27,15 @@ returns-in_err-choices-clause-fault c =
 
 pub entries_of-requires : goal.entries_of-requires
 entries_of-requires c =
-    let nodes = c.args.graph.now.nodes in
-    let x = λ (l : Looked). subject_of l.makefile l.exists c.args.graph.now c.args.setting.now in
-    let same : c.deref.result.now ≡ c.deref-2.result.now = c.deref.ensures.value ∙ sym c.deref-2.ensures.value in
+    let g = c.args.graph.now in
+    let m = c.args.table.now in
+    let e = c.args.there.now in
+    let x = λ (l : Looked). subject_of l.makefile l.exists g c.args.setting.now in
+    let y = subject_of m e g c.args.setting.now in
+    let order : c.deref.result.now ≡ serial_order g = c.deref.ensures.value ∙ c.in_ok-order.ensures.order in
+    let there = λ (f : List ℕ) (h : Has (all_writes y) f). c.writes_are_there.ensures c.if-writes_are_there.true f (subst (λ (ns : List ℕ). Has (flat_map (writes_of y) ns) f) (sym order) h) in
+    let stay : (n : ℕ) → StaysChosen y n = λ n. same_choice m e (all_writes y) (name_of y n) (same_there m e (all_writes y) c.requires there) in
     record {
-      nodes = subst (λ (order : List ℕ). (k d : ℕ) → k < length order → get_or order k d < length nodes) (sym c.deref-2.ensures.value) c.in_ok-order.ensures.nodes;
-      after = c.deref-3.ensures.value ∙ (c.in_ok-after.ensures ∙ (ap (λ (l : Looked). map (choice_after (x l)) c.deref.result.now) (sym c.in_ok-choices.ensures) ∙ ap (map (choice_after (x c.in_ok-choices.choices))) same));
-    }
-
-pub returns : goal.returns
-returns c =
-    let x = λ (l : Looked). subject_of l.makefile l.exists c.args.graph.now c.args.setting.now in
-    let order : c.deref-2.result.now ≡ serial_order c.args.graph.now = c.deref-2.ensures.value ∙ c.in_ok-order.ensures.order in
-    let looked = c.in_ok-choices.ensures in
-    record {
-      entries = IfOk-weaker c.entries_of.result _ _ (λ entries h. subst (λ (l : Looked). AreEntries (x l) entries.items) looked (subst (λ (ns : List ℕ). AreEntriesOf (x c.in_ok-choices.choices) ns entries.items) order h)) c.entries_of.ensures.entries;
-      fault = IfErr-weaker c.entries_of.result _ _ (λ fault h. subst (λ (l : Looked). IsFaultOf (x l) fault) looked (subst (λ (ns : List ℕ). (fault ≡ Memory) ⊎ IsFirstFault (x c.in_ok-choices.choices) ns fault) order h)) c.entries_of.ensures.fault;
+      nodes = subst (λ (ns : List ℕ). (k d : ℕ) → k < length ns → get_or ns k d < length g.nodes) (sym c.deref-then-writes_are_there.ensures.value) c.in_ok-order.ensures.nodes;
+      after = subst (λ (l : Looked). (n : ℕ) → StaysChosen (x l) n) (sym c.in_ok-choices.ensures) stay;
     }
