@@ -100,7 +100,15 @@ fn note_file(
         (map (λ o. race entry.now.number o file.now.file) (serial_order subject.now.graph))
         found.old.items found.new.items) }
 {
-    note_races_with(alloc, subject, earlier, entry, file.writers, file.file, found)
+    note_races_with(
+        alloc,
+        subject,
+        earlier,
+        entry,
+        file.writers,
+        file.file,
+        found,
+    )
 }
 
 /// Adds which writers of the files that a recipe reads aren't before it.

@@ -70,7 +70,13 @@ fn judge_graph<F: Files, J: Judge>(
     ensures counted { Counts (F.failed files.old) (F.failed files.new) result }
 {
     selected_goals();
-    let subject = Subject::new(alloc, ready.table(), ready.recorded(), graph, ready.setting())?;
+    let subject = Subject::new(
+        alloc,
+        ready.table(),
+        ready.recorded(),
+        graph,
+        ready.setting(),
+    )?;
     let _graph = subject.graph();
     judge.judge(alloc, files, &subject)
 }

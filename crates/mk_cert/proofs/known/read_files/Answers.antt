@@ -47,7 +47,7 @@ returns c =
     let inv = c.loop-number.invariant in
     let many : length rows ≡ length lists = length-map lists (λ list. list.items) in
     let all = rows_all (λ (t : ℕ) (places : List ℕ). StandAt by known places (build.reads g s t)) rows [] inv.held
-        (λ t high.
-        let past : length g.nodes ≤ t = omega (arith, many, inv.many, c.loop-number-test.false, ap (λ (l : List Node). length l) c.nodes-count.ensures.value) in
-        subst (λ (fs : List (List ℕ)). StandAt by known [] fs) (sym (nothing_read g s t past)) refl) in
+    (λ t high.
+    let past : length g.nodes ≤ t = omega (arith, many, inv.many, c.loop-number-test.false, ap (λ (l : List Node). length l) c.nodes-count.ensures.value) in
+    subst (λ (fs : List (List ℕ)). StandAt by known [] fs) (sym (nothing_read g s t past)) refl) in
     λ t. subst (λ (l : List (List ℕ)). StandAt by known (get_or l t []) (build.reads g s t)) (sym c.new.ensures) (all t)
