@@ -1,0 +1,195 @@
+//! Builds that are judged. A build is `makefile‖goals‖footprints`, in which `¶` stands for a newline
+//! and `→` for a tab.
+
+ghost use Rattle.std.specs.Prelude.{◌≡◌, [], false, map, Ok, IfOk};
+ghost use Rattle.mk_graph.specs.Setting as build;
+ghost use Rattle.mk_infer.specs.Selection.{Selects};
+ghost use Rattle.mk_parse.specs.MemFiles.{failures_of};
+
+use crate::calls::{Call, answer};
+use mk_cert::Subject;
+use mk_cert::laws::selected_goals;
+use mk_choice::Choices;
+use mk_foot::{Setting, read_book};
+use mk_graph::Graph;
+use mk_infer::{Exists, RuleTable};
+use mk_lines::{Name, NameTable};
+use mk_parse::{MemFiles, read_makefile};
+use mk_read::Makefile;
+use mk_select::{Goals, goal_names, select};
+use std::alloc::{AllocError, Global};
+use std::process::Abort;
+use std::test::Fail;
+
+/// The part of a row with this number.
+pub fn part<'a>(row: &'a str, number: usize) -> &'a str {
+    row.split("‖").nth(number).unwrap_or("")
+}
+
+/// A text of a row with its newlines and tabs.
+pub fn unfolded(alloc: Global, text: &str) -> Result<String, AllocError> {
+    let mut out = String::new(alloc);
+    for c in text.chars() {
+        match c {
+            '¶' => out.push('\n')?,
+            '→' => out.push('\t')?,
+            other => out.push(other)?,
+        }
+    }
+    Ok(out)
+}
+
+/// A `makefile` of this text.
+fn files_of(alloc: Global, text: &str) -> Result<MemFiles, Fail>
+    ensures { IfOk result (λ files. failures_of files ≡ 0) }
+{
+    let mut files = MemFiles::new(alloc);
+    files.add("makefile", unfolded(alloc, text)?.as_bytes())?;
+    Ok(files)
+}
+
+/// The makefile of a text, behind the default text.
+fn makefile_of(alloc: Global, text: &str) -> Result<Makefile, Fail> {
+    let mut files = files_of(alloc, text)?;
+    Ok(read_makefile(alloc, &mut files, None, true, &[])?)
+}
+
+/// The words of a text, each as a name.
+fn names_of(alloc: Global, words: &str) -> Result<Vec<Name>, AllocError> {
+    let mut names = Vec::new(alloc);
+    for word in words.split_whitespace() {
+        names.push(Name::new(alloc, word)?)?;
+    }
+    Ok(names)
+}
+
+/// The goals of these words, without words the first target.
+fn goals_of(alloc: Global, table: &RuleTable<'_>, words: &str) -> Result<Goals, Fail> {
+    let names = names_of(alloc, words)?;
+    Ok(goal_names(alloc, table, &names)?)
+}
+
+/// What footprints say to these goals of a makefile.
+fn setting_of(
+    alloc: Global,
+    makefile: &Makefile,
+    goals: &Goals,
+    footprints: &str,
+) -> Result<Setting, Fail> {
+    let book = read_book(alloc, footprints.as_bytes(), goals.as_slice())?;
+    let setting = Setting::new(alloc, book, makefile.texts(), makefile.passed_over())?;
+    Ok(setting)
+}
+
+/// What is there by a setting, and these names more.
+fn there<'a>(setting: &'a Setting, more: &'a NameTable) -> Exists<'a>
+    ensures any_leaf { result.any_leaf ≡ false }
+    ensures sources { result.sources ≡ setting.now.sources }
+    ensures fixed { result.fixed ≡ setting.now.fixed }
+    ensures texts { result.texts ≡ setting.now.texts }
+    ensures more { result.more ≡ more.now }
+{
+    Exists {
+        any_leaf: false,
+        sources: setting.sources(),
+        fixed: setting.fixed(),
+        texts: setting.texts(),
+        more,
+    }
+}
+
+/// The graph of the goals.
+fn graph_of(
+    alloc: Global,
+    table: &RuleTable<'_>,
+    there: &Exists<'_>,
+    goals: &Goals,
+) -> Result<Graph, Fail>
+    ensures { IfOk result (λ graph.
+        Selects table.now there.now (map (build.name graph) graph.goals) (Ok graph)) }
+{
+    selected_goals();
+    let choices = Choices::new(alloc, table, there)?;
+    let graph = select(alloc, &choices, goals)?;
+    Ok(graph)
+}
+
+/// What is answered to the build of a graph.
+fn over_graph(
+    alloc: Global,
+    table: &RuleTable<'_>,
+    there: Exists<'_>,
+    graph: &Graph,
+    setting: &Setting,
+    call: &Call<'_>,
+) -> Result<String, Fail>
+    requires selected { Selects table.now there
+        (map (build.name graph.now) graph.now.goals) (Ok graph.now) }
+    requires no_leaf { there.any_leaf ≡ false }
+    requires nothing_more { there.more ≡ [] }
+    requires sources { there.sources ≡ setting.now.sources }
+    requires fixed { there.fixed ≡ setting.now.fixed }
+    requires texts { there.texts ≡ setting.now.texts }
+{
+    let subject = Subject::new(alloc, table, there, graph, setting)?;
+    answer(alloc, &subject, call)
+}
+
+/// What is answered to the build of goals by a setting.
+fn over_setting(
+    alloc: Global,
+    table: &RuleTable<'_>,
+    goals: &Goals,
+    setting: &Setting,
+    call: &Call<'_>,
+) -> Result<String, Fail> {
+    let more = NameTable::new(alloc, Vec::new(alloc))?;
+    let graph = graph_of(alloc, table, &there(setting, &more), goals)?;
+    over_graph(alloc, table, there(setting, &more), &graph, setting, call)
+}
+
+/// What is answered to a build of a makefile.
+fn over_table(
+    alloc: Global,
+    table: &RuleTable<'_>,
+    build: &str,
+    call: &Call<'_>,
+) -> Result<String, Fail> {
+    let goals = goals_of(alloc, table, part(build, 1))?;
+    let setting = setting_of(alloc, table.makefile(), &goals, part(build, 2))?;
+    over_setting(alloc, table, &goals, &setting, call)
+}
+
+/// What a call answers to a build.
+pub fn answer_to(alloc: Global, build: &str, call: &Call<'_>) -> Result<String, Fail> {
+    let makefile = makefile_of(alloc, part(build, 0))?;
+    let table = RuleTable::new(alloc, &makefile)?;
+    over_table(alloc, &table, build, call)
+}
+
+/// Expects what a call answers to a build.
+pub fn expect_answer(
+    rt: &impl Abort,
+    alloc: Global,
+    build: &str,
+    call: &Call<'_>,
+    want: &str,
+) -> Result<(), Fail> {
+    let got = answer_to(alloc, build, call)?;
+    let want = unfolded(alloc, want)?;
+    assert_eq!(rt; got.as_str(), want.as_str(), "of {build:?}");
+    Ok(())
+}
+
+/// Each line of the table is a build, `‖`, and what a call answers to it.
+pub fn expect_answers(
+    rt: &impl Abort,
+    alloc: Global,
+    call: &Call<'_>,
+    table: &str,
+) -> Result<(), Fail> {
+    for row in table.lines() {
+        expect_answer(rt, alloc, row, call, part(row, 3))?;
+    }
+    Ok(())
+}
