@@ -5,7 +5,7 @@ use Rattle.std.specs.Option.{ok_or}
 use Rattle.mk_graph.specs.Graph as value
 use Rattle.mk_graph.specs.Graph.{IsGraph}
 use Rattle.mk_cert.specs.Conditions.{all_writes}
-use Rattle.mk_cert.specs.Laws.{SelectedGoals, VerifiedIsRight}
+use Rattle.mk_cert.specs.Laws.{PartsStay, SelectedGoals, VerifiedIsRight}
 use Rattle.mk_cert.specs.Subject.{Subject, IsSubject}
 use Rattle.mk_cert.specs.Verdict.{Verifies}
 use Rattle.mk_cert.specs.declared.fault.CertFault.{CertFault}
@@ -46,6 +46,7 @@ module _ (right : VerifiedIsRight) (selected : SelectedGoals) (files : Told) (re
         is_right = all.0;
         is_right_once = all.1;
         stays_selected = subst (λ (goals : List (List ℕ)). StaysSelected ready.makefile (recorded ready) (all_writes x) goals g) (selected ready.makefile (recorded ready) ready.goals g s) all.2;
+        parts_stay = subst (λ (goals : List (List ℕ)). PartsStay ready.makefile (recorded ready) (all_writes x) goals g) (selected ready.makefile (recorded ready) ready.goals g s) all.3;
       }
 
 -- ---- a verdict

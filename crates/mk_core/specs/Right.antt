@@ -1,7 +1,7 @@
 -- What a yes promises.
 use Rattle.std.specs.Prelude.{◌≡◌, None, Ok}
 use Rattle.mk_cert.specs.Conditions.{all_writes}
-use Rattle.mk_cert.specs.Laws.{IsRightOnce}
+use Rattle.mk_cert.specs.Laws.{IsRightOnce, PartsStay}
 use Rattle.mk_cert.specs.Subject.{footprints}
 use Rattle.mk_graph.specs.Graph.{Graph}
 use Rattle.mk_graph.specs.Right.{IsRight}
@@ -14,7 +14,8 @@ use Rattle.mk_core.specs.Ready.{Ready, ready_for}
 
 -- The files and the request give makefile, goals and footprints, and by these a graph. Over its
 -- footprints every legal history is right, and so is one make from a start. And in each make the
--- selection made anew, with whatever part of the written files is there, gives this graph.
+-- selection made anew, with whatever part of the written files is there, gives this graph; for a
+-- part of the goals it gives one graph too, whose nodes are nodes of this one.
 pub record IsRightFor (files : Told) (request : Request) : Type 0 where
   pub ready : Ready
   pub graph : Graph
@@ -24,3 +25,5 @@ pub record IsRightFor (files : Told) (request : Request) : Type 0 where
   pub is_right_once : IsRightOnce graph (footprints ready.setting)
   pub stays_selected : StaysSelected ready.makefile (recorded ready)
       (all_writes (subject_over ready graph)) ready.goals graph
+  pub parts_stay : PartsStay ready.makefile (recorded ready) (all_writes (subject_over ready graph))
+      ready.goals graph

@@ -7,7 +7,8 @@ use mk_cert::laws::{selected_goals, verified_is_right};
 use mk_find::laws::{certificate_is_accepted, no_findings};
 
 /// Where `check` answers yes, every legal history of the build is right, one make from a start is,
-/// and the selection made anew in a make gives the same graph.
+/// and the selection made anew in a make gives the same graph, for the goals and for each part of
+/// them.
 pub fn yes_is_right()
     ensures { YesIsRight }
 {
