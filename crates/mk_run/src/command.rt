@@ -18,7 +18,7 @@ macro_rules! with_statuses {
     };
 }
 
-const STATUSES: &str = with_statuses!("");
+const BEHIND_ALL: &str = with_statuses!("Example: mkcheck check -b footprints.json prog\n\n");
 
 const BEHIND_GRAPH: &str = with_statuses!("Example: mkcheck graph -c -f Makefile CC=cc prog\n\n");
 
@@ -250,7 +250,7 @@ fn named_program<'a>(alloc: Global) -> Command<'a>
     Command::new(alloc, "mkcheck")
         .version("0.1.0")
         .about("A checker of makefiles")
-        .after_help(STATUSES)
+        .after_help(BEHIND_ALL)
 }
 
 fn program<'a>(alloc: Global) -> Command<'a>
