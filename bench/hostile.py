@@ -7,7 +7,8 @@ from collections.abc import Callable
 from dataclasses import dataclass
 from pathlib import Path
 
-from run import DATA, RUNS, Measure, asked, summary
+from instructions import counter
+from run import DATA, RUNS, executable, options, summary
 from verdicts import GROWTH_BOUND, spent
 
 COPY = "b: a\n\tcp a b\n"
@@ -49,6 +50,12 @@ def deep_json(count: int) -> Case:
     return Case("check", COPY, 2, book="[" * count)
 
 
+def nested_values(count: int) -> Case:
+    """Lists in one another, as deep as they may be, again and again, under a key that isn't known."""
+    value = "[" * 125 + "]" * 125
+    return Case("check", COPY, 2, book=f'{BOOK[:-1]},"deep":[{",".join([value] * count)}]}}')
+
+
 def one_key(count: int) -> Case:
     """The same key again and again."""
     return Case("check", COPY, 0, book=BOOK[:-1] + ',"format":1' * count + "}")
@@ -76,6 +83,24 @@ def suffixes(count: int) -> Case:
     return Case("graph", lined(".SUFFIXES:", [f".s{number}" for number in range(count)]) + "all.s1: b.s2\n", 0)
 
 
+def rules_for(names: int, listed: int) -> Case:
+    """As many suffixes, each with a rule for objects, as prerequisites, which have names of 250 bytes, so many of them different."""
+    rules = "".join(f".s{number}.o:\n\ttouch $@\n" for number in range(listed))
+    words = [f"{'n' * 245}{number % names:04}.o" for number in range(listed)]
+    known = lined(".SUFFIXES:", [f".s{number}" for number in range(listed)]) + ".SUFFIXES: .o\n"
+    return Case("graph", f".SUFFIXES:\n{known}{lined('all:', words)}{rules}", 2 if names > 4095 else 0)
+
+
+def rules_and_names(count: int) -> Case:
+    """All of the prerequisites differ: from the 4,096th on they are too many."""
+    return rules_for(count, count)
+
+
+def rules_and_repeats(count: int) -> Case:
+    """Each of the prerequisites comes twice."""
+    return rules_for(count // 2, count)
+
+
 def phony_words(count: int) -> Case:
     """A long list of phony names."""
     return Case("graph", lined(".PHONY:", [f"p{number}" for number in range(count)]) + "all: p1\n", 0)
@@ -92,6 +117,20 @@ def many_entries(count: int) -> Case:
     return Case("verify", COPY, 2, more=f'{{"format":1,"goals":["b"],"ways":[{",".join([entry] * count)}]}}')
 
 
+def distinct_entries(count: int) -> Case:
+    """A certificate with a way for each pair of a recipe and one of 1,000 sources that it needs and reads."""
+    sources = [f"s{number:03}" for number in range(1000)]
+    recipes = [f"r{number:03}" for number in range(count // 1000)]
+    rules = "".join(f"{name}: $(ALL)\n\t{name}\n" for name in recipes)
+    records = [{"target": name, "commands": [name], "reads": sources, "writes": [name]} for name in recipes]
+    ways = [
+        f'{{"end":"source","file":"{source}","path":["{name}"],"recipe":"{name}"}}' for name in recipes for source in sources
+    ]
+    makefile = f"ALL = {' '.join(sources)}\n" + lined("all:", recipes) + rules
+    book = json.dumps({"format": 1, "fixed": [], "sources": sources, "records": records})
+    return Case("verify", makefile, 0, book=book, more=f'{{"format":1,"goals":["all"],"ways":[{",".join(ways)}]}}')
+
+
 def makes_and_stops(count: int) -> Case:
     """A plan of makes that are stopped at once, over 4,000 targets."""
     names = [f"f{number}" for number in range(4000)]
@@ -106,40 +145,79 @@ def appended(count: int) -> Case:
 
 SHAPES: list[tuple[Callable[[int], Case], int]] = [
     (deep_json, 16_000_000),
+    (nested_values, 66_000),
     (one_key, 1_000_000),
     (many_records, 280_000),
     (long_names, 4_000),
     (references, 60),
     (suffixes, 300_000),
+    (rules_and_names, 8_000),
+    (rules_and_repeats, 8_000),
     (phony_words, 1_000_000),
     (many_targets, 9_000),
     (many_entries, 300_000),
+    (distinct_entries, 266_000),
     (makes_and_stops, 32_768),
     (appended, 65_000),
 ]
 
 
-def measured(program: str, case: Case) -> tuple[float, Measure]:
-    """How much is read, in megabytes, and the least time of some runs."""
+@dataclass(frozen=True)
+class Figures:
+    """How much is read, in megabytes; milliseconds, or millions of instructions; the peak memory in megabytes, where it is measured."""
+
+    size: float
+    taken: float
+    memory: str
+
+
+def written(case: Case) -> float:
+    """Writes the texts, and says how much they are."""
     texts = {"hostile.mk": case.makefile, "hostile.json": case.book, "hostile.more": case.more}
     for name, text in texts.items():
         Path(name).write_text(text)
-    command = [program, *case.words()]
-    taken = [spent(command, {case.status}, Path(os.devnull)) for _ in range(RUNS)]
-    return sum(len(text) for text in texts.values()) / 2**20, summary(taken)
+    return sum(len(text) for text in texts.values()) / 2**20
+
+
+def timed(command: list[str], status: int) -> tuple[float, str]:
+    """The least time of some runs, and their peak memory."""
+    taken = summary([spent(command, {status}, Path(os.devnull)) for _ in range(RUNS)])
+    return taken.time, f"{taken.memory:.0f}"
+
+
+def measured(program: Path, case: Case, measure: Callable[[list[str], int], tuple[float, str]]) -> Figures:
+    """What a run over the texts takes."""
+    size = written(case)
+    taken, memory = measure([str(program), *case.words()], case.status)
+    return Figures(size, taken, memory)
+
+
+def show(program: Path, shape: Callable[[int], Case], count: int, measure: Callable[[list[str], int], tuple[float, str]]) -> None:
+    """Measures a shape at half of its size and at the whole, and prints a row."""
+    half = measured(program, shape(count // 2), measure)
+    whole = measured(program, shape(count), measure)
+    label = f"{shape.__name__.replace('_', ' ')} {count}"
+    print(f"{label:<24}{whole.size:>6.1f}{whole.taken:>10.1f}{whole.taken / half.taken:>8.2f}{whole.memory:>11}", flush=True)
 
 
 def main() -> None:
-    program = asked(__doc__)[0].path
+    parser = options(__doc__)
+    parser.add_argument("--instructions", action="store_true", help="count instructions in place of milliseconds")
+    parser.add_argument("--shape", action="append", help="measure this shape alone, named as in the table, without its size")
+    given = parser.parse_args()
+    program = executable(given.program)
     DATA.mkdir(exist_ok=True)
     os.chdir(DATA)
-    print(f"processor time, least of {RUNS} runs; {program}")
-    print(f"{'texts':<24}{'MB':>6}{'ms':>10}{'growth':>8}{'memory MB':>11}")
+    measure, unit = timed, "ms"
+    if given.instructions:
+        count_of = counter()
+        measure, unit = (lambda command, status: (count_of(command, status) / 10**6, "")), "million"
+    said = "instructions of the program, one run" if given.instructions else f"processor time, least of {RUNS} runs"
+    print(f"{said}; {program}")
+    print(f"{'texts':<24}{'MB':>6}{unit:>10}{'growth':>8}{'' if given.instructions else 'memory MB':>11}".rstrip())
     for shape, count in SHAPES:
-        _, half = measured(program, shape(count // 2))
-        size, whole = measured(program, shape(count))
-        label = f"{shape.__name__.replace('_', ' ')} {count}"
-        print(f"{label:<24}{size:>6.1f}{whole.time:>10.1f}{whole.time / half.time:>8.1f}{whole.memory:>11.0f}", flush=True)
+        if not given.shape or shape.__name__.replace("_", " ") in given.shape:
+            show(program, shape, count, measure)
     print(f"{'at most':<40}{GROWTH_BOUND:>8.1f}")
 
 

@@ -159,14 +159,24 @@ def bounds(tool_count: int) -> str:
     return f"{'at most':<{24 + 11 * tool_count}}{RATIO_BOUND:>8.2f}{GROWTH_BOUND:>8.1f}{MEMORY_BOUND:>11}"
 
 
-def asked(description: str) -> list[Tool]:
-    """The tools to measure, by the words of the command line."""
+def options(description: str) -> argparse.ArgumentParser:
+    """What each of the benchmarks takes."""
     parser = argparse.ArgumentParser(description=description)
     parser.add_argument("--program", type=Path, default=HERE.parent / "bin" / "mkcheck", help="the mkcheck to measure")
-    program = parser.parse_args().program.resolve()
-    if not os.access(program, os.X_OK):
-        sys.exit(f"bench: {program} is not there: run `make all` first")
-    return tools(program)
+    return parser
+
+
+def executable(program: Path) -> Path:
+    """The program with its whole path; the benchmark ends where it isn't there."""
+    found = program.resolve()
+    if not os.access(found, os.X_OK):
+        sys.exit(f"bench: {found} is not there: run `make all` first")
+    return found
+
+
+def asked(description: str) -> list[Tool]:
+    """The tools to measure, by the words of the command line."""
+    return tools(executable(options(description).parse_args().program))
 
 
 def main() -> None:

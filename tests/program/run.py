@@ -8,8 +8,11 @@ import os
 import subprocess
 import sys
 import tempfile
+from itertools import chain
 from dataclasses import dataclass, field
 from pathlib import Path
+
+from faults import faults
 
 HERE = Path(__file__).resolve().parent
 PROGRAM = HERE.parent.parent / "bin" / "mkcheck"
@@ -201,15 +204,17 @@ def differs(program: Path, run: Run) -> bool:
     wanted = (run.status, run.out.encode(), run.err.encode())
     if got == wanted:
         return False
-    print(f"program: {run.words} answers\n  {got}\nand not\n  {wanted}")
+    print(f"program: {run.words} answers\n  {str(got)[:1000]}\nand not\n  {str(wanted)[:1000]}")
     return True
 
 
 def main() -> None:
     program = Path(sys.argv[1] if len(sys.argv) > 1 else PROGRAM).resolve()
-    runs = [*ANSWERS, *WORDS, *PLACES, *SIZES]
-    wrong = [run for run in runs if differs(program, run)]
-    print(f"program: {len(runs)} runs, {len(wrong)} of them wrong")
+    ran_of, wrong = 0, 0
+    for run in chain(ANSWERS, WORDS, PLACES, SIZES, (Run(words, status, out, files=files) for words, status, out, files in faults())):
+        ran_of += 1
+        wrong += differs(program, run)
+    print(f"program: {ran_of} runs, {wrong} of them wrong")
     sys.exit(1 if wrong else 0)
 
 
