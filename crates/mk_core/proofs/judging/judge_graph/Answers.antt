@@ -17,7 +17,7 @@ new-requires-clause-selected g c =
     let goals = map (build.name graph) graph.goals in
     let s = as_goals c.selected_goals.ensures ready graph c.requires.selected in
     let there = subst (λ (e : Exists). Selects ready.makefile e goals (Ok graph)) (sym c.recorded.ensures) s in
-    subst (λ (m : Makefile). Selects m c.recorded.result goals (Ok graph)) (sym (c.makefile-makefile.ensures ∙ c.table.ensures)) there
+    subst (λ (m : Makefile). Selects m c.recorded.result goals (Ok graph)) (sym c.table.ensures) there
 
 pub returns-clause-answer : goal.returns-clause-answer
 returns-clause-answer g c =
@@ -25,7 +25,7 @@ returns-clause-answer g c =
     let graph = c.args.graph.now in
     let judges = g.J.Judge.judges c.args.judge.now in
     let found = c.judge.result in
-    let same = same_subject _ ready.makefile _ _ graph _ ready.setting (c.makefile-makefile.ensures ∙ c.table.ensures) c.recorded.ensures c.setting.ensures in
+    let same = same_subject _ ready.makefile _ _ graph _ ready.setting c.table.ensures c.recorded.ensures c.setting.ensures in
     let is = c.in_ok-subject.ensures.value ∙ same in
     some_with (g.F.Files.told c.args.files.now) c.judge.ensures.answer
     (λ told a. subst (λ (x : Subject). (found ≡ Err Memory) ⊎ AnswersTold (judges told) x found) is (told_well (judges told) c.in_ok-subject.subject c.graph-graph.ensures.graph c.in_ok-subject.ensures.subject found a))
