@@ -86,11 +86,12 @@ fn expect_plans(rt: &impl Abort, alloc: Global, table: &str) -> Result<(), Fail>
 }
 
 /// Races: of a phony reader behind a `.WAIT` that another path goes round; between two goals, whose
-/// order `.NOTPARALLEL` doesn't tell; that a make of one goal shows; and of a writer of several
-/// files.
+/// order `.NOTPARALLEL` doesn't tell; of a phony reader that `.NOTPARALLEL` puts first; of a recipe
+/// behind a `.WAIT` which is a goal itself; and of a writer of several files.
 const RACES: &str =
     r".PHONY: b¶all: x y¶x: a .WAIT b¶y: b¶a:¶→touch a¶b:¶→cat a¶‖‖‖a: > a = touch a; b: a > = cat a‖1‖make 1¶begin b¶‖plan ok¶
 .NOTPARALLEL:¶.PHONY: b¶all: a b¶a:¶→touch a¶b:¶→cat a¶‖a b‖‖a: > a = touch a; b: a > = cat a‖1‖make 1¶begin b¶‖plan ok¶
+.NOTPARALLEL:¶.PHONY: b¶all: b a¶a:¶→touch a¶b:¶→cat a¶‖‖‖a: > a = touch a; b: a > = cat a‖1‖make 1¶begin b¶‖plan ok¶
 all: p .WAIT q¶p: s¶→mk p¶q: s¶→mk q¶‖all q‖s‖p: s > p x = mk p; q: s x > q = mk q‖1‖make 1¶begin q¶‖plan ok¶
 all: g p q¶g: s¶→mk g¶p: s¶→mk p¶q: g¶→mk q¶‖‖s‖g: s > g = mk g; p: s > p x y = mk p; q: g y > q = mk q‖1‖make 1¶begin g¶look g s¶put g g 2¶done g¶begin q¶‖plan ok¶";
 
@@ -99,12 +100,13 @@ fn plans_show_races(rt: HostRuntime) -> Result<(), Fail> {
     expect_plans(&rt, rt.alloc(), RACES)
 }
 
-/// Stale reads: of a source that isn't named, where what reads the recipe's file is run again; of
-/// one, by a recipe that carries another one over a name without a recipe; of a file that isn't
-/// given, with no edit; and of such a file beside a race.
+/// Stale reads: of a source that isn't named, where what reads the recipe's file is run again; of a
+/// header and of a source, by a recipe that carries another one over a name without a recipe; of a
+/// file that isn't given, with no edit; and of such a file beside a race.
 const STALE: &str =
     r"p: a.o¶→cc -o p a.o¶a.o: a.c¶→cc -c a.c¶‖‖a.c h.h‖p: a.o > p = cc -o p a.o; a.o: a.c h.h > a.o = cc -c a.c‖1‖make 1¶begin a.o¶look a.o a.c¶look a.o h.h¶put a.o a.o 3¶done a.o¶begin p¶look p a.o¶put p p 4¶done p¶end¶edit h.h 5¶make 1¶pass a.o¶begin p¶look p a.o¶put p p 4¶done p¶end¶‖a.c 1 1¶a.o 3 3¶h.h 2 2¶p 4 4¶a.c 1 1¶a.o 3 3¶h.h 5 5¶p 4 6¶plan ok¶
 m.o: m.c y.tab.h¶→cc -c m.c¶y.tab.h: y.tab.c¶y.tab.c: gram.y¶→yacc -d gram.y¶‖‖m.c gram.y h.h‖m.o: m.c y.tab.h h.h > m.o = cc -c m.c; y.tab.c: gram.y > y.tab.c y.tab.h = yacc -d gram.y‖1‖make 1¶begin y.tab.c¶look y.tab.c gram.y¶put y.tab.c y.tab.c 4¶put y.tab.c y.tab.h 5¶done y.tab.c¶begin m.o¶look m.o m.c¶look m.o y.tab.h¶look m.o h.h¶put m.o m.o 6¶done m.o¶end¶edit h.h 7¶make 1¶pass y.tab.c¶pass m.o¶end¶‖gram.y 1 1¶h.h 2 2¶m.c 3 3¶m.o 6 6¶y.tab.c 4 4¶y.tab.h 5 5¶gram.y 1 1¶h.h 7 7¶m.c 3 3¶m.o 6 6¶y.tab.c 4 4¶y.tab.h 5 5¶plan ok¶
+m.o: y.tab.h¶→cc -c m.c¶y.tab.h: y.tab.c¶y.tab.c: gram.y¶→yacc -d gram.y¶‖‖m.c gram.y‖m.o: m.c y.tab.h > m.o = cc -c m.c; y.tab.c: gram.y > y.tab.c y.tab.h = yacc -d gram.y‖1‖make 1¶begin y.tab.c¶look y.tab.c gram.y¶put y.tab.c y.tab.c 3¶put y.tab.c y.tab.h 4¶done y.tab.c¶begin m.o¶look m.o m.c¶look m.o y.tab.h¶put m.o m.o 5¶done m.o¶end¶edit m.c 6¶make 1¶pass y.tab.c¶pass m.o¶end¶‖gram.y 1 1¶m.c 2 2¶m.o 5 5¶y.tab.c 3 3¶y.tab.h 4 4¶gram.y 1 1¶m.c 6 6¶m.o 5 5¶y.tab.c 3 3¶y.tab.h 4 4¶plan ok¶
 all: p .WAIT q¶p: s¶→mk p¶q:¶→mk q¶‖‖s‖p: s > p = mk p; q: p > q = mk q‖1‖make 1¶begin p¶look p s¶put p p 2¶done p¶begin q¶look q p¶put q q 3¶done q¶end¶make 1¶begin p¶look p s¶put p p 2¶done p¶pass q¶end¶‖p 2 2¶q 3 3¶s 1 1¶p 2 4¶q 3 3¶s 1 1¶plan ok¶
 all: p q¶p:¶→mk p¶q:¶→mk q¶‖‖‖p: > p = mk p; q: p > q = mk q‖2‖make 1¶begin p¶put p p 1¶done p¶begin q¶look q p¶put q q 2¶done q¶end¶make 1¶begin p¶put p p 1¶done p¶pass q¶end¶‖p 1 1¶q 2 2¶p 1 3¶q 2 2¶plan ok¶";
 

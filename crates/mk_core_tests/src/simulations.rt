@@ -74,12 +74,17 @@ fn ran(alloc: Global, makefile: &str, book: &str, plan: &str, words: &str) -> Re
 }
 
 /// A text in which each slash stands for a newline.
-fn lines_of(alloc: Global, text: &str) -> Result<String, Fail> {
+pub(crate) fn lines_of(alloc: Global, text: &str) -> Result<String, Fail> {
     let mut out = String::new(alloc);
     for c in text.chars() {
         out.push(if c == '/' { '\n' } else { c })?;
     }
     Ok(out)
+}
+
+/// What is printed of a plan over the makefile that copies a source, with a slash for each newline.
+pub(crate) fn copied(alloc: Global, plan: &str) -> Result<String, Fail> {
+    ran(alloc, COPY, COPIES, lines_of(alloc, plan)?.as_str(), "-b B")
 }
 
 /// Each line of the table is a plan and what is printed.
@@ -109,6 +114,27 @@ fn runs_plans(rt: HostRuntime) -> Result<(), Fail> {
 #[test]
 fn makes_some_goals(rt: HostRuntime) -> Result<(), Fail> {
     expect_plans(&rt, rt.alloc(), CHAIN, CHAINED, "-b B c b", CHAIN_ROWS)
+}
+
+/// So many comments, a line each.
+fn comments(alloc: Global, many: usize) -> Result<String, Fail> {
+    let mut text = String::new(alloc);
+    for _ in 0..many {
+        text.push_str("#\n")?;
+    }
+    Ok(text)
+}
+
+/// A plan has 65,536 lines at most, comments among them.
+#[test]
+fn reads_no_more_lines(rt: HostRuntime) -> Result<(), Fail> {
+    let alloc = rt.alloc();
+    for (many, want) in [(65_536, "plan ok\n"), (65_537, "refused 69 line 65537")] {
+        let plan = comments(alloc, many)?;
+        let got = ran(alloc, COPY, COPIES, plan.as_str(), "-b B")?;
+        assert_eq!(rt; got.as_str(), want);
+    }
+    Ok(())
 }
 
 #[test]

@@ -20,6 +20,7 @@ p: a.o¶→cc -o p a.o¶a.o: a.c¶→cc -c a.c¶‖‖a.c‖p: a.o a.c > p = cc 
 .NOTPARALLEL:¶.PHONY: b¶all: a b¶a:¶→touch a¶b:¶→cat a¶‖a b‖‖a: > a = touch a; b: a > = cat a‖no race b a a¶
 b: a¶→do b¶a:¶→do a¶‖‖‖a: > a log = do a; b: a > b log = do b‖no writers a b log¶
 m.o: m.c y.tab.h¶→cc -c m.c¶y.tab.h: y.tab.c¶y.tab.c: gram.y¶→yacc -d gram.y¶‖‖m.c gram.y‖m.o: m.c y.tab.h > m.o = cc -c m.c; y.tab.c: gram.y > y.tab.c y.tab.h = yacc -d gram.y‖yes 2 recipes 3 reads¶way y.tab.c gram.y source y.tab.c¶way m.o m.c source m.o¶way m.o y.tab.h written m.o y.tab.c¶
+m.o: y.tab.h¶→cc -c m.c¶y.tab.h: y.tab.c¶y.tab.c: gram.y¶→yacc -d gram.y¶‖‖m.c gram.y‖m.o: m.c y.tab.h > m.o = cc -c m.c; y.tab.c: gram.y > y.tab.c y.tab.h = yacc -d gram.y‖no stale m.o m.c¶
 all: y.tab.c .WAIT m.o¶m.o: m.c y.tab.h¶→cc -c m.c¶y.tab.h:¶y.tab.c: gram.y¶→yacc -d gram.y¶‖‖m.c gram.y‖m.o: m.c y.tab.h > m.o = cc -c m.c; y.tab.c: gram.y > y.tab.c y.tab.h = yacc -d gram.y‖no loose y.tab.h y.tab.c¶
 lib.a: a.o¶→ar rv $@ $?¶‖‖a.o‖lib.a: a.o > lib.a = ar rv lib.a ‖no varying lib.a¶
 .SUFFIXES:¶.SUFFIXES: .o .c .s¶.c.o:¶→cc -c $<¶.s.o:¶→as -o $@ $<¶all: gen .WAIT x.o¶gen:¶→mk¶‖‖x.s‖gen: > gen x.c = mk; x.o: x.s > x.o = as -o x.o x.s‖no selection x.o x.c¶

@@ -1,8 +1,9 @@
-//! Verdicts and certificates where a growth is refused.
+//! Verdicts, certificates, plans that show a finding and runs of plans where a growth is refused.
 
 use crate::builds::{certificate, part, verdict, verified};
 use crate::evidence::{number_in, plan_for};
 use crate::rows::unfolded;
+use crate::simulations::{copied, lines_of};
 use std::process::Abort;
 use std::test::Fail;
 
@@ -59,5 +60,21 @@ fn shows_or_wants_memory(rt: HostRuntime) -> Result<(), Fail> {
         let want = unfolded(alloc, part(row, 5))?;
         expect_or_memory(&rt, plan.as_str(), want.as_str(), row);
     }
+    Ok(())
+}
+
+/// A plan for the copy of a source: the copy is made, the source edited, and the copy then isn't to
+/// be passed.
+const COPY_PLAN: &str = "make 1/begin b/finish b/end/edit a/make 1/pass b";
+
+const COPY_RUN: &str = "a 1 1/b 2 2/refused 65 line 7/a 3 3/b 2 2/";
+
+/// With a growth refused the run of a plan is want of memory, or the whole one.
+#[test]
+fn simulates_or_wants_memory(rt: HostRuntime) -> Result<(), Fail> {
+    let alloc = rt.alloc();
+    let got = copied(alloc, COPY_PLAN)?;
+    let want = lines_of(alloc, COPY_RUN)?;
+    expect_or_memory(&rt, got.as_str(), want.as_str(), COPY_PLAN);
     Ok(())
 }

@@ -13,9 +13,10 @@ use Rattle.mk_infer.specs.declared.fault.InferFault.{InferFault}
 use Rattle.mk_cert.specs.Subject.{Subject, footprints}
 use Rattle.mk_cert.specs.declared.finding.Finding.{Finding}
 use Rattle.mk_cert.specs.declared.finding.Finding.TheVariants.{Race, Stale}
+use Rattle.mk_find.specs.Findings.{AreFindings}
 use Rattle.mk_lines.specs.Names.{has_name}
 use Rattle.mk_lines.specs.Paths.{is_plain_path}
-use Rattle.mk_plans.specs.PlanLaws.{CanBeWritten, HasReadableNumbers, LegalStepsAreReadable, WrittenHistoryRuns, WrittenTextIsRead, plan_of_steps}
+use Rattle.mk_plans.specs.PlanLaws.{CanBeWritten, EachRunIsAsWritten, HasARun, HasReadableNumbers, LegalStepsAreReadable, WrittenHistoryRuns, WrittenTextIsRead, plan_of_steps}
 use Rattle.mk_plans.specs.PlanText.{plan_text}
 use Rattle.mk_plans.specs.Spelling.{PlainPathsAreWellSpelled}
 use Rattle.mk_read.specs.Files.{Told}
@@ -35,8 +36,8 @@ use Rattle.mk_world.specs.Steps.{IsFirstOf, step_of}
 use Rattle.mk_core.specs.declared.fault.Fault.{Fault}
 use Rattle.mk_core.specs.declared.request.Request.{Request}
 use Rattle.mk_core.specs.Answer.{Draws, failing_of}
-use Rattle.mk_evidence.specs.EvidenceAnswer.{AnswersEvidence}
-use Rattle.mk_laws.specs.EvidenceLaws.{EvidenceRuns, NamesOfWorldArePlain, RunsToItsEnd}
+use Rattle.mk_evidence.specs.EvidenceAnswer.{AnswersEvidence, IsNumbered}
+use Rattle.mk_laws.specs.EvidenceLaws.{EvidenceRuns, EvidenceRunsAsWritten, NamesOfWorldArePlain, RunsToItsEnd}
 use Rattle.mk_core.specs.FileText.{text_of}
 use Rattle.mk_core.specs.Judging.{recorded, subject_over}
 use Rattle.mk_core.specs.Ready.{Ready, exists, ready_for}
@@ -102,27 +103,42 @@ module _ (m : Makefile) (e : Exists) where
 -- ---- the answer to a request for a plan
 
 -- what stands behind a plan that is answered
-record Answered (ready : Ready) (plan : List ℕ) : Type 0 where
+record Answered (ready : Ready) (number : ℕ) (plan : List ℕ) : Type 0 where
   g : Graph
   is_graph : IsGraph g
   selected : Selects ready.makefile (recorded ready) ready.goals (Ok g)
+  found : List Finding
+  are_findings : AreFindings (subject_over ready g) found
   finding : Finding
+  numbered : IsNumbered found number finding
   steps : List Step
   shows : Shows (subject_over ready g) finding steps
   small : HaveSmallNumbers steps
   is : plan ≡ plan_text g steps
 
-of_evidence : (ready : Ready) (number : ℕ) (plan : List ℕ) → AnswersEvidence number ready (Ok (Some plan)) → Answered ready plan
+of_evidence : (ready : Ready) (number : ℕ) (plan : List ℕ) → AnswersEvidence number ready (Ok (Some plan)) → Answered ready number plan
 of_evidence ready number plan (Err fault, s, (w, e)) = absurd cc
 of_evidence ready number plan (Ok g, s, inr (fault, first, e)) = absurd cc
 of_evidence ready number plan (Ok g, s, inl (is_graph, is_subject, (None, told, e))) = absurd cc
 of_evidence ready number plan (Ok g, s, inl (is_graph, is_subject, (Some text, (found, are, finding, numbered, (steps, shows, small, is)), e))) =
     let same : plan ≡ text = cc in
-    record { g = g; is_graph = is_graph; selected = s; finding = finding; steps = steps; shows = shows; small = small; is = same ∙ is }
+    record {
+      g = g;
+      is_graph = is_graph;
+      selected = s;
+      found = found;
+      are_findings = are;
+      finding = finding;
+      numbered = numbered;
+      steps = steps;
+      shows = shows;
+      small = small;
+      is = same ∙ is;
+    }
 
 -- ---- the run
 
-module _ (plain : NamesOfWorldArePlain) (files : Told) (request : Request) (ready : Ready) (is_ready : ready_for files None request ≡ Ok ready) (plan : List ℕ) (a : Answered ready plan) (few : length (lines_of plan) ≤ max_lines) where
+module _ (plain : NamesOfWorldArePlain) (files : Told) (request : Request) (ready : Ready) (is_ready : ready_for files None request ≡ Ok ready) (number : ℕ) (plan : List ℕ) (a : Answered ready number plan) (few : length (lines_of plan) ≤ max_lines) where
   legal_from : (d : Disk) → IsFirst a.g (setting_of ready.setting) d → model.IsLegal a.g (setting_of ready.setting) (Idle d) (map (step_of a.g) a.steps)
   legal_from d first = legal_of (subject_over ready a.g) d a.finding (map (step_of a.g) a.steps) (a.shows d first)
 
@@ -186,6 +202,13 @@ module _ (plain : NamesOfWorldArePlain) (files : Told) (request : Request) (read
           not_refused = h.is_refused ∙ ap is_some ended;
         }
 
+    -- the runs of these lines from a first world
+    as_written : (lines : List PlanLine) → plan_of plan ≡ Ok lines → (first : State) → IsFirstOf a.g ready.setting first → HasARun (stage_of first) (world_of first) lines × EachRunIsAsWritten (stage_of first) (world_of first) a.steps lines
+    as_written lines is_read first is =
+        let went = runs first a.steps (own_first first is) (own_graph first is) (can first is) in
+        let same : went.0 ≡ lines = let e = sym went.1 ∙ (same_text first is ∙ is_read) in cc in
+        subst (λ (ls : List PlanLine). HasARun (stage_of first) (world_of first) ls × EachRunIsAsWritten (stage_of first) (world_of first) a.steps ls) same (went.2, went.3)
+
     of_lines : (r : Result (List PlanLine) PlanFault) (answer : Result Simulation Fault) → plan_of plan ≡ r → (lines : List PlanLine) → plan_of plan ≡ Ok lines → RunsLines a.g ready.setting r answer → (shown : Simulation) × (answer ≡ Ok shown) × RunsToItsEnd shown
     of_lines (Ok lines) answer is other also (shown, h, e) = (shown, e, shown_well lines shown is h)
     of_lines (Err fault) answer is other also e = let k = sym is ∙ also in absurd cc
@@ -209,4 +232,24 @@ evidence_runs plain one_selection spelled readable_steps read runs files later r
     by (Ok ready) is e =
         let a = of_evidence ready number plan e in
         let drawn_later : AnswersSimulation later name ready answer = subst (λ (r : Result Ready Fault). Draws (AnswersSimulation later name) r answer) (same ∙ is) (drawn later request (AnswersSimulation later name) answer settled simulation) in
-        of_graph plain files request ready is plan a few runs one_selection (plan_of_steps a.g a.steps) (is_read plain files request ready is plan a few spelled readable_steps read) later name answer text (not_failing answer settled) drawn_later
+        of_graph plain files request ready is number plan a few runs one_selection (plan_of_steps a.g a.steps) (is_read plain files request ready is number plan a few spelled readable_steps read) later name answer text (not_failing answer settled) drawn_later
+
+pub evidence_runs_as_written : NamesOfWorldArePlain → PlainPathsAreWellSpelled → LegalStepsAreReadable → WrittenTextIsRead → WrittenHistoryRuns → EvidenceRunsAsWritten
+evidence_runs_as_written plain spelled readable_steps read runs files request ready number plan is evidence few =
+    let drawn_by : AnswersEvidence number ready (Ok (Some plan)) = subst (λ (r : Result Ready Fault). Draws (AnswersEvidence number) r (Ok (Some plan))) is evidence in
+    let a = of_evidence ready number plan drawn_by in
+    let lines_read = is_read plain files request ready is number plan a few spelled readable_steps read in
+    record {
+      graph = a.g;
+      selected = a.selected;
+      found = a.found;
+      are_findings = a.are_findings;
+      finding = a.finding;
+      numbered = a.numbered;
+      steps = a.steps;
+      shows = a.shows;
+      written = a.is;
+      lines = plan_of_steps a.g a.steps;
+      is_read = lines_read;
+      runs = as_written plain files request ready is number plan a few runs (plan_of_steps a.g a.steps) lines_read;
+    }

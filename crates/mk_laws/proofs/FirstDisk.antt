@@ -16,6 +16,7 @@ use Rattle.mk_graph.specs.Graph.{Graph, node, no_node}
 use Rattle.mk_graph.specs.Membership.{Has}
 use Rattle.mk_graph.specs.Setting.{FileName, Setting, is_given, name, reads, writes}
 use Rattle.mk_graph.specs.World.{AreAscending, Disk, IsFirst, IsOfWorld, numbered}
+use Rattle.mk_laws.specs.EvidenceLaws.{FirstDiskIsThere}
 
 -- ---- names in the order of their bytes
 
@@ -208,3 +209,6 @@ module _ (g : Graph) (s : Setting) where
     );
     disk = refl;
   }
+
+pub first_disk_is_there : FirstDiskIsThere
+first_disk_is_there g s = (first_disk g s, is_first g s)

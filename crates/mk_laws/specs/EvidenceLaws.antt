@@ -1,23 +1,32 @@
 -- Laws of plans that show what is found.
 use Rattle.std.specs.Prelude.{◌≡◌, ℕ, ◌≤◌, true, false, List, ◌++◌, codes, length, None, Some, Result, Ok}
 use Rattle.mk_graph.specs.Graph.{Graph}
-use Rattle.mk_graph.specs.Setting.{FileName}
-use Rattle.mk_graph.specs.World.{IsOfWorld}
+use Rattle.mk_graph.specs.Setting.{FileName, Setting}
+use Rattle.mk_graph.specs.World.{Disk, IsFirst, IsOfWorld}
 use Rattle.mk_infer.specs.Selection.{Selects}
+use Rattle.mk_cert.specs.declared.finding.Finding.{Finding}
+use Rattle.mk_find.specs.Findings.{AreFindings}
 use Rattle.mk_lines.specs.Paths.{is_plain_path}
+use Rattle.mk_plans.specs.PlanLaws.{EachRunIsAsWritten, HasARun}
+use Rattle.mk_plans.specs.PlanText.{plan_text}
 use Rattle.mk_read.specs.Files.{Told}
-use Rattle.mk_world.specs.Plans.{lines_of, max_lines}
-use Rattle.mk_world.specs.State.{setting_of}
+use Rattle.mk_show.specs.Shown.{Shows}
+use Rattle.mk_world.specs.declared.plan.PlanLine.{PlanLine}
+use Rattle.mk_world.specs.declared.step.Step.{Step}
+use Rattle.mk_world.specs.Plans.{lines_of, max_lines, plan_of}
+use Rattle.mk_world.specs.Running.{stage_of}
+use Rattle.mk_world.specs.State.{State, setting_of, world_of}
+use Rattle.mk_world.specs.Steps.{IsFirstOf}
 use Rattle.mk_core.specs.declared.fault.Fault.{Fault}
 use Rattle.mk_core.specs.declared.request.Request.{Request}
 use Rattle.mk_core.specs.Answer.{Answers}
-use Rattle.mk_evidence.specs.EvidenceAnswer.{AnswersEvidence}
+use Rattle.mk_evidence.specs.EvidenceAnswer.{AnswersEvidence, IsNumbered}
 use Rattle.mk_core.specs.FileText.{text_of}
-use Rattle.mk_core.specs.Judging.{recorded}
-use Rattle.mk_laws.specs.AnswerLaws.{IsSettled}
+use Rattle.mk_core.specs.Judging.{recorded, subject_over}
 use Rattle.mk_core.specs.Ready.{Ready, ready_for}
 use Rattle.mk_core.specs.Simulation.{Simulation}
 use Rattle.mk_core.specs.SimulationAnswer.{AnswersSimulation}
+use Rattle.mk_laws.specs.AnswerLaws.{IsSettled}
 
 -- All names of the world of a graph that is selected for a request are plain paths.
 abbrev pub NamesOfWorldArePlain : Type 0
@@ -46,3 +55,33 @@ EvidenceRuns =
     text_of later None name ≡ Ok plan →
     IsSettled answer → Answers later request (AnswersSimulation later name) answer →
     (shown : Simulation) × (answer ≡ Ok shown) × RunsToItsEnd shown
+
+-- The plan was written of steps that show the finding with this number. It is read; and from the
+-- first world it has a run to its end, and each of its runs takes the steps of which it was written.
+pub record WasWritten (ready : Ready) (number : ℕ) (plan : List ℕ) : Type 0 where
+  pub graph : Graph
+  pub selected : Selects ready.makefile (recorded ready) ready.goals (Ok graph)
+  pub found : List Finding
+  pub are_findings : AreFindings (subject_over ready graph) found
+  pub finding : Finding
+  pub numbered : IsNumbered found number finding
+  pub steps : List Step
+  pub shows : Shows (subject_over ready graph) finding steps
+  pub written : plan ≡ plan_text graph steps
+  pub lines : List PlanLine
+  pub is_read : plan_of plan ≡ Ok lines
+  pub runs : (first : State) → IsFirstOf graph ready.setting first →
+      HasARun (stage_of first) (world_of first) lines ×
+      EachRunIsAsWritten (stage_of first) (world_of first) steps lines
+
+-- So it is with each plan that shows what is found, of at most 65,536 lines.
+abbrev pub EvidenceRunsAsWritten : Type 0
+EvidenceRunsAsWritten =
+    (files : Told) (request : Request) (ready : Ready) (number : ℕ) (plan : List ℕ) →
+    ready_for files None request ≡ Ok ready →
+    Answers files request (AnswersEvidence number) (Ok (Some plan)) →
+    length (lines_of plan) ≤ max_lines → WasWritten ready number plan
+
+-- A graph and what is recorded have a first disk: what is said of each first disk is said of one.
+abbrev pub FirstDiskIsThere : Type 0
+FirstDiskIsThere = (g : Graph) (s : Setting) → (d : Disk) × IsFirst g s d

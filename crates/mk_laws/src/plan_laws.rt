@@ -1,6 +1,6 @@
 //! Laws of plans that show what is found.
 
-ghost use Rattle.mk_laws.specs.EvidenceLaws.{EvidenceRuns, NamesOfWorldArePlain};
+ghost use Rattle.mk_laws.specs.EvidenceLaws.{EvidenceRuns, EvidenceRunsAsWritten, FirstDiskIsThere, NamesOfWorldArePlain};
 
 use mk_foot::laws::names_read_are_plain;
 use mk_infer_laws::laws::selection_is_one;
@@ -35,3 +35,23 @@ pub fn evidence_runs()
     text_is_read();
     written_history_runs();
 }
+
+/// A plan that `evidence_text` gives, of at most 65,536 lines, was written of steps that show the
+/// finding with its number. It is read; from the first world it has a run to its end; and each run
+/// from there takes these steps, but for passes of nodes without recipe, which it takes by itself,
+/// and leaves the files, the clock and the outcomes that they leave.
+pub fn evidence_runs_as_written()
+    ensures { EvidenceRunsAsWritten }
+{
+    legal_steps_are_readable();
+    names_of_world_are_plain();
+    plain_paths_are_well_spelled();
+    text_is_read();
+    written_history_runs();
+}
+
+/// A graph and what is recorded have a first disk. So steps that show a finding from each first disk
+/// show it from one, and nothing but a race or a stale read is ever shown.
+pub fn first_disk_is_there()
+    ensures { FirstDiskIsThere }
+{}

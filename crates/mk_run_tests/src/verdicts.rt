@@ -34,6 +34,13 @@ const RACE_BOOK: &str = r#"{"format":1,"fixed":[],"sources":[],"records":[
 {"target":"a","commands":["touch a"],"reads":[],"writes":["a"]},
 {"target":"b","commands":["cat a"],"reads":["a"],"writes":[]}]}"#;
 
+// Both recipes write the log.
+const WRITERS: &str = "b: a\n\tdo b\na:\n\tdo a\n";
+
+const WRITERS_BOOK: &str = r#"{"format":1,"fixed":[],"sources":[],"records":[
+{"target":"a","commands":["do a"],"reads":[],"writes":["a","log"]},
+{"target":"b","commands":["do b"],"reads":["a"],"writes":["b","log"]}]}"#;
+
 const CERTIFICATE: &str = concat!(
     r#"{"format":1,"goals":["p"],"ways":["#,
     r#"{"end":"source","file":"a.c","path":["a.o"],"recipe":"a.o"},"#,
@@ -135,6 +142,8 @@ fn says_no(rt: HostRuntime) -> Result<(), Fail> {
         expect(&rt, outcome, "no race b a a\n", 1);
         let outcome = checked(alloc, PROGRAM, NO_RECORDS, words)?;
         expect(&rt, outcome, "no record a.o\nno record p\n", 1);
+        let outcome = checked(alloc, WRITERS, WRITERS_BOOK, words)?;
+        expect(&rt, outcome, "no writers a b log\n", 1);
     }
     Ok(())
 }
@@ -154,6 +163,8 @@ fn shows_findings(rt: HostRuntime) -> Result<(), Fail> {
         let outcome = checked(alloc, RACE, RACE_BOOK, words)?;
         expect(&rt, outcome, "make 1\nbegin b\n", 1);
         let outcome = checked(alloc, PROGRAM, NO_RECORDS, words)?;
+        expect(&rt, outcome, "no plan\n", 1);
+        let outcome = checked(alloc, WRITERS, WRITERS_BOOK, words)?;
         expect(&rt, outcome, "no plan\n", 1);
     }
     for number in ["2", "18446744073709551615"] {
