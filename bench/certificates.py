@@ -5,8 +5,9 @@ import sys
 from collections.abc import Callable
 from pathlib import Path
 
-from run import DATA, RUNS, Measure, asked, summary
-from verdicts import GROWTH_BOUND, LARGE, Build, deep, far, flat, ruled, spent, written
+from run import DATA, RUNS, asked
+from spending import Measure, least, spent
+from verdicts import GROWTH_BOUND, LARGE, Build, deep, far, flat, ruled, written
 
 # What is to be reached. The table shows it; no figure makes the run fail.
 MEMORY_BOUND = 8.0
@@ -60,7 +61,7 @@ FOUND: list[tuple[Callable[[int], Build], int, int]] = [(unrecorded, 2000, 4000)
 def measured(command: list[str], status: int, read: list[Path]) -> tuple[float, Measure]:
     """What is read, in megabytes, and the least time of some runs."""
     taken = [spent(command, {status}, Path(os.devnull)) for _ in range(RUNS)]
-    return sum(file.stat().st_size for file in read) / 2**20, summary(taken)
+    return sum(file.stat().st_size for file in read) / 2**20, least(taken)
 
 
 def verified(program: str, build: Build) -> tuple[float, Measure]:

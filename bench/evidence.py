@@ -9,8 +9,9 @@ import sys
 from pathlib import Path
 
 from certificates import unrecorded
-from run import DATA, RUNS, asked, summary
-from verdicts import GROWTH_BOUND, Build, forgotten, recipe, spent, waiting, written
+from run import DATA, RUNS, asked
+from spending import least, spent
+from verdicts import GROWTH_BOUND, Build, forgotten, recipe, waiting, written
 
 # What is to be reached. The table shows it; no figure makes the run fail.
 RATIO_BOUND = 2.0
@@ -38,7 +39,7 @@ def measured(program: str, build: Build) -> tuple[float, float, int]:
     if plan.read_text() != NO_PLAN:
         spent([program, "simulate", *check[2:], "-p", plan.name], {0}, Path(os.devnull))
     runs = [(spent(check, {1}, Path(os.devnull)), spent([*check, "-e", "1"], {1}, Path(os.devnull))) for _ in range(RUNS)]
-    plain, shown = (summary(list(taken)).time for taken in zip(*runs))
+    plain, shown = (least(list(taken)).time for taken in zip(*runs))
     return plain, shown, plan.stat().st_size
 
 

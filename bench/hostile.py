@@ -8,8 +8,9 @@ from dataclasses import dataclass
 from pathlib import Path
 
 from instructions import counter
-from run import DATA, RUNS, executable, options, summary
-from verdicts import GROWTH_BOUND, spent
+from run import DATA, RUNS, executable, options
+from spending import least, spent
+from verdicts import GROWTH_BOUND
 
 COPY = "b: a\n\tcp a b\n"
 RECORD = {"target": "b", "commands": ["cp a b"], "reads": ["a"], "writes": ["b"]}
@@ -181,7 +182,7 @@ def written(case: Case) -> float:
 
 def timed(command: list[str], status: int) -> tuple[float, str]:
     """The least time of some runs, and their peak memory."""
-    taken = summary([spent(command, {status}, Path(os.devnull)) for _ in range(RUNS)])
+    taken = least([spent(command, {status}, Path(os.devnull)) for _ in range(RUNS)])
     return taken.time, f"{taken.memory:.0f}"
 
 

@@ -13,8 +13,9 @@ from itertools import cycle, islice
 from pathlib import Path
 
 from generate import recipe
-from run import DATA, RUNS, asked, summary
-from verdicts import Build, ruled, spent, written
+from run import DATA, RUNS, asked
+from spending import least, spent
+from verdicts import Build, ruled, written
 
 # What is to be reached. The table shows it; no figure makes the run fail.
 RATIO_BOUND = 10.0
@@ -198,7 +199,7 @@ def planned(label: str, lines: list[str]) -> Path:
 
 def time(program: str, words: list[str], runs: int = RUNS) -> float:
     """The least processor time of some runs, in milliseconds."""
-    return summary([spent([program, *words], {0}, Path(os.devnull)) for _ in range(runs)]).time
+    return least([spent([program, *words], {0}, Path(os.devnull)) for _ in range(runs)]).time
 
 
 def simulated(program: str, files: Files, lines: list[str]) -> float:

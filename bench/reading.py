@@ -6,7 +6,8 @@ from dataclasses import dataclass
 from pathlib import Path
 
 from building import built
-from run import DATA, Measure, Tool, installed, run, summary
+from run import DATA, Tool, installed
+from spending import Measure, least, spent
 
 RUNS = 11
 GROWTH_BOUND = 2.5
@@ -69,8 +70,8 @@ def measure(case: Case, program: Path) -> tuple[Measure, Measure]:
     taken: tuple[list, list] = ([], [])
     for _ in range(RUNS):
         for tool, file, usages in ((own, own_file, taken[0]), (peer, peer_file, taken[1])):
-            usages.append(run([tool.path, *tool.arguments, str(file)], Path(os.devnull)))
-    return summary(taken[0]), summary(taken[1])
+            usages.append(spent([tool.path, *tool.arguments, str(file)], {0}, Path(os.devnull)))
+    return least(taken[0]), least(taken[1])
 
 
 def main() -> None:

@@ -9,7 +9,8 @@ from pathlib import Path
 
 from building import built
 from generate import Generated, deep, flat, gather, layered, recipe
-from run import DATA, Tool, asked, run
+from run import DATA, Tool, asked
+from spending import spent
 
 RUNS = 11
 RATIO_BOUND = 1.00
@@ -64,15 +65,14 @@ def measure(program: Path, own: Tool, makefile: Generated) -> Figures:
     """The rows and `mkcheck graph` take turns. The memory is that of whole processes, with the rows and without."""
     file, nothing = DATA / "rows.mk", Path(os.devnull)
     file.write_text(makefile.text)
-    taken, graphs, peaks, rounds = [], [], {"rows": 0, "graph": 0}, 0
+    taken, graphs, peaks, rounds = [], [], {"rows": 0.0, "graph": 0.0}, 0
     for _ in range(RUNS):
         time, rounds = rows_of(program, file, makefile.nodes)
         taken.append(time)
-        usage = run([own.path, *own.arguments, str(file)], nothing)
-        graphs.append(1000 * (usage.ru_utime + usage.ru_stime))
+        graphs.append(spent([own.path, *own.arguments, str(file)], {0}, nothing).time)
     for task in peaks:
-        peaks[task] = run([str(program), task, str(file)], nothing).ru_maxrss
-    return Figures(min(taken), min(graphs), (peaks["rows"] - peaks["graph"]) / 1024, rounds)
+        peaks[task] = spent([str(program), task, str(file)], {0}, nothing).memory
+    return Figures(min(taken), min(graphs), peaks["rows"] - peaks["graph"], rounds)
 
 
 def main() -> None:

@@ -2,12 +2,12 @@
 
 import argparse
 import os
-import resource
 import sys
 from dataclasses import dataclass
 from pathlib import Path
 
 from generate import Generated, deep, flat, layered, write
+from spending import Measure, least, spent
 
 HERE = Path(__file__).resolve().parent
 DATA = HERE / "data"
@@ -54,14 +54,6 @@ class Tool:
         return makefile.nodes + 1 if self.writes_nodes else makefile.recipes
 
 
-@dataclass(frozen=True)
-class Measure:
-    """The least processor time of some runs, in milliseconds, and their peak memory in megabytes."""
-
-    time: float
-    memory: float
-
-
 CASES = [
     Case("flat 1000", flat(1000)),
     Case("flat 4000", flat(4000), "flat 1000"),
@@ -89,24 +81,10 @@ def tools(program: Path) -> list[Tool]:
     return found
 
 
-def run(command: list[str], output: Path) -> resource.struct_rusage:
-    """Runs a command, and ends the benchmark where it fails."""
-    # Nothing is handed down from a make that calls this script: its flags would change what the peers do.
-    environment = {"PATH": os.environ.get("PATH", os.defpath), "LC_ALL": "C"}
-    with output.open("wb") as stream:
-        redirection = (os.POSIX_SPAWN_DUP2, stream.fileno(), 1)
-        pid = os.posix_spawn(command[0], command, environment, file_actions=[redirection])
-    _, status, usage = os.wait4(pid, 0)
-    if status != 0:
-        code = os.waitstatus_to_exitcode(status)
-        sys.exit(f"bench: {' '.join(command)}: status {code}, output in {output}")
-    return usage
-
-
 def try_out(tool: Tool, case: Case) -> None:
     """One run before those that count, to see that the tool does the whole work."""
     output = DATA / "output"
-    run(tool.command(case), output)
+    spent(tool.command(case), {0}, output)
     with output.open("rb") as stream:
         lines = sum(1 for _ in stream)
     wanted = tool.lines(case.makefile)
@@ -118,18 +96,11 @@ def measure(case: Case, measured: list[Tool]) -> dict[str, Measure]:
     """The tools take turns, so that what else the machine does falls on all of them."""
     for tool in measured:
         try_out(tool, case)
-    usages: dict[str, list[resource.struct_rusage]] = {tool.name: [] for tool in measured}
+    runs: dict[str, list[Measure]] = {tool.name: [] for tool in measured}
     for _ in range(RUNS):
         for tool in measured:
-            usages[tool.name].append(run(tool.command(case), Path(os.devnull)))
-    return {name: summary(taken) for name, taken in usages.items()}
-
-
-def summary(usages: list[resource.struct_rusage]) -> Measure:
-    """What else the machine does takes from a run's time nothing and may add to it, so the least counts."""
-    least = min(usage.ru_utime + usage.ru_stime for usage in usages)
-    peak = max(usage.ru_maxrss for usage in usages)
-    return Measure(time=1000 * least, memory=peak / 1024)
+            runs[tool.name].append(spent(tool.command(case), {0}, Path(os.devnull)))
+    return {name: least(taken) for name, taken in runs.items()}
 
 
 def ratio(figures: dict[str, Measure]) -> str:

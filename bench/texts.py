@@ -6,7 +6,8 @@ import sys
 from dataclasses import dataclass
 
 from generate import BOOK, SUFFIXES_BOOK, Generated
-from run import DATA, HERE, RUNS, Case, Measure, Tool, asked, measure, ratio
+from run import DATA, HERE, RUNS, Case, Tool, asked, measure, ratio
+from spending import Measure
 
 # What is to be reached. The table shows it; no figure makes the run fail.
 RATIO_BOUND = 1.00
@@ -35,7 +36,7 @@ class Text:
 
 
 def written(shape: str, count: int) -> Text:
-    """Writes a makefile, by a process of its own: a tool's peak memory counts that of the one that starts it."""
+    """Writes a makefile, by a process of its own, which takes its memory with it."""
     label = f"{shape} {count}"
     command = [sys.executable, HERE / "generate.py", "--into", Case(label, Generated("", 0, 0)).file, shape, str(count)]
     done = subprocess.run(command, capture_output=True, text=True, check=True)

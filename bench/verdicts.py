@@ -6,7 +6,6 @@ that of Python's `json.load` on the footprints, added up.
 
 import json
 import os
-import resource
 import subprocess
 import sys
 from collections.abc import Callable
@@ -14,7 +13,8 @@ from dataclasses import dataclass, field
 from pathlib import Path
 
 from generate import gather, recipe
-from run import DATA, RUNS, Measure, Tool, asked, summary
+from run import DATA, RUNS, Tool, asked
+from spending import Measure, least, spent
 
 # What is to be reached. The table shows it; no figure makes the run fail.
 RATIO_BOUND = 1.00
@@ -156,17 +156,6 @@ class Figures:
         return self.own.time / (self.make + self.json)
 
 
-def spent(command: list[str], statuses: set[int], output: Path) -> resource.struct_rusage:
-    """Runs a command, and ends the benchmark where it ends with another status."""
-    environment = {"PATH": os.environ.get("PATH", os.defpath), "LC_ALL": "C"}
-    with output.open("wb") as stream:
-        pid = os.posix_spawn(command[0], command, environment, file_actions=[(os.POSIX_SPAWN_DUP2, stream.fileno(), 1)])
-    _, status, usage = os.wait4(pid, 0)
-    if os.waitstatus_to_exitcode(status) not in statuses:
-        sys.exit(f"bench: {' '.join(command)}: status {os.waitstatus_to_exitcode(status)}")
-    return usage
-
-
 def json_time(book: Path) -> float:
     """The processor time that Python takes to read the footprints, in milliseconds."""
     code = "import json,sys,time\nf=open(sys.argv[1]);s=time.process_time();json.load(f);print(time.process_time()-s)"
@@ -214,8 +203,8 @@ def measure(build: Build, label: str, status: int, measured: list[Tool]) -> Figu
         for tool in peers:
             others[tool.name].append(spent([tool.path, *tool.arguments, read.name], {0}, Path(os.devnull)))
         loads.append(json_time(book))
-    fastest = min((summary(taken).time for taken in others.values()), default=0.0)
-    return Figures(size, summary(own), fastest, min(loads))
+    fastest = min((least(taken).time for taken in others.values()), default=0.0)
+    return Figures(size, least(own), fastest, min(loads))
 
 
 def main() -> None:
