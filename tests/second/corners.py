@@ -65,6 +65,18 @@ BUILDS = [
     (b"a.o:\na.x:\n.SUFFIXES: .x\n.x.o:\n\tx $<\ng: ; g\nall: a.o g\n", "", "", {"a.o": ("a.x", "a.o"), "g": ("", "g a.c")}),
     (b"all: g a.o\n.SUFFIXES:\n.SUFFIXES: .o .c .x\n.x.o:\n\tx $<\n.c.o:\n\ty $<\ng: ; g\n", "a.x", "", {"a.o": ("a.x", "a.o"), "g": ("", "g a.c")}),
 ]
+# A yes and a no, and words that are asked of them.
+SURE = b'{"format":1,"fixed":[],"sources":["b"],"records":[{"target":"a","commands":["c b"],"reads":["b"],"writes":["a"]}]}'
+ASKED = {b"makefile": b"a: b\n\tc $(X)\nX = b\na.o:\na.c:\n", b"B": SURE, b"N": SURE.replace(b'"b"]', b'"b","h"]'), b"in.mk": b"include d/x.mk\n",
+         b"d/x.mk": b"include y.mk\n", b"y.mk": b"a: root\n", b"d/y.mk": b"a: folder\n"}
+NUMBERS = ["1", "+1", "01", "2", "3", "0", "+0", "", "+", "++1", " 1", "-1", "1.0", "x", "18446744073709551615", "18446744073709551616", "0" * 5000 + "1"]
+WORDS = [["check", "-b", "N", "-e", number] for number in NUMBERS] + [
+    ["check", "-b", "B", "-e", "1"], ["check", "-b", "B", "-e", "1", "-c"], ["check", "-b", "N", "-c", "-e", "1", "-c"], ["check", "-b", "B", "-e", "1", "-e", "1"],
+    ["check", "-b", "B", "-e", "x"], ["graph", "-e", "1"], ["verify", "-b", "B", "-k", "B", "-c"], ["check"], ["verify", "-b", "B"], [], ["help"], ["-r", "graph"],
+    ["graph", "a", "-c"], ["graph", "a", "--", "-c"], ["graph", "--", "-f", "in.mk"], ["graph", "-f", "-x"], ["graph", "-f", "--", "a"], ["graph", "-f", "-"], ["graph", "-"],
+    ["graph", "-b", "-"], ["graph", "-1"], ["graph", "-A=1"], ["graph", "--", "-A=1"], ["graph", "-r", "-c", "-r", "--", "-x", "--"], ["graph", "-f", ""],
+    ["graph", "-b", ""], ["graph", ""], ["graph", "-f", "\udcff"], ["graph", "-b", "\udcff"], ["graph", "\udcff"], ["graph", "X=\udcff"], ["graph", "-f", "in.mk"], ["graph", "-f", "d/x.mk"],
+    ["graph", "-c", "CC=$(CC)", "a.o"], ["graph", "-c", "CFLAGS=$%", "a.o"], ["graph", "CC=$(CC)", "a.o"], ["graph", "-c", "C=d", "A:::=$(CC)$(C)$$x", "B::=$(A)$(X)", "X=[$(A)][$(B)]"]]
 
 
 def built(build):
@@ -94,8 +106,11 @@ def corners():
     for goals in (["x", "y"], ["y", "x"], ["k", "y", "x"], ["a", "x"], ["x", "a"]):
         files = {b"makefile": b"a: b k c\nb: k d\nk: e\n", b"B": empty}
         yield "graph", Case(files, ["graph", "-b", "B", *goals])
+    for words in WORDS:
+        yield words[0] if words and words[0] in ("check", "verify") else "graph", Case(ASKED, words)
     for build in BUILDS:
         files = built(build)
+        yield "evidence", Case(files, ["check", "-b", "B"])
         yield "check", Case(files, ["check", "-b", "B"])
         yield "check", Case(files, ["check", "-b", "B", "-c"])
         other = files[b"B"].replace(b'"commands": ["', b'"commands": ["x", "')

@@ -43,6 +43,8 @@ BOOKS = [
     TWO.replace(b'"groups":[', b'"more":[],"groups":[1,'), TWO.replace(b',"shared":["x","x","y"]', b""), TWO.replace(b'"records":[]', b'"records":{}', 1),
     TWO.replace(b'"goals":["p"],', b'"goals":["p"],"x":1,').replace(b'"target":"p"', b'"target":1'), TWO.replace(b'"format":2', b'"format":1'),
     b'{"format":1,"fixed":[],"sources":["/a"],"records":[' + RECORD + b"]}", b'{"x":' + b"[" * 126 + b"]" * 126 + b"}", b'{"x":' + b"[" * 127 + b"]" * 127 + b"}",
+    *[BOOK.replace(b'"format"', b'"deep":' + b'{"x":' * depth + b"1" + b"}" * depth + b',"format"') for depth in (126, 127)],
+    *[BOOK.replace(b'"format"', b'"deep":' + b'[{"x":' * 63 + more + b"}]" * 63 + b',"format"') for more in (b"1", b"[]")],
     BOOK.replace(b'"format"', b'"deep":' + b"[" * 126 + b"]" * 126 + b',"format"'), BOOK.replace(b'"format"', b'"deep":' + b"[" * 127 + b"]" * 127 + b',"format"'),
 ]
 CERTIFICATES = [
@@ -68,6 +70,7 @@ PLANS = [
     b"make 1\nbegin a.o\nput a.o a.o 18446744073709551616", b"make 1\nbegin b.o\nlook b.o a.c\nput b.o b.o\nput b.o v 3\nedit a.c\n", b"make 1\nrun b.o\nstop\nmake 1\nbegin b.o\nlook b.o a.c\nput b.o v 9\nput b.o b.o\ndone b.o",
     b"make 1\nrun b.o\nstop\nedit a.c\nmake 1\nbegin b.o\nlook b.o a.c\nput b.o v 9\nput b.o b.o\ndone b.o\nstop\nedit a.c 1\nmake 1\nfinish b.o", b"make 1\nbegin b.o\nput b.o v 4\nput b.o v 5\nfinish b.o\nstop\nmake 1\nrun b.o\nstop\nmake 1\nbegin b.o\nfinish b.o",
     b"make 0", b"make 4097", b"make", b"make x", b"stop a", b"end 1", b"put a.o", b"edit", b"edit a.c 1 2", b"\xc2\xa0", b"#\xff", b"run \xff", b"make 1 \xff", b"edit a.c -1", b"edit a.c +1", b"edit a.c 1x", b"Make 1", b"make 1\nrun a.o b.o",
+    b"make " + b"0" * 5000 + b"1\nrun a.o", b"make 1 t\nbegin b.o\nlook b.o a.c\nput b.o b.o 1\nput b.o b.o 2\nput b.o v 3\ndone b.o\nstop\nmake 1\nbegin b.o\nlook b.o a.c\nput b.o b.o 1\nput b.o v 3\ndone b.o",
 ]
 
 

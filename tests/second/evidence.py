@@ -115,7 +115,7 @@ def shows(first, second, words, files):
     graph, book, passed_over = prepared(request, files)
     subject = Subject(graph, book, passed_over)
     found = subject.findings()
-    number = int(request.values["e"])
+    number = request.finding
     if number > len(found) or found[number - 1][0] != b"race":
         return False
     return shows_race(first[0], subject, book, *found[number - 1][1:3])

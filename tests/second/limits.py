@@ -121,6 +121,9 @@ def plans_at_limit():
     yield simulated(b"make 1\nrun a\nend\nedit b 18446744073709551615\nmake 1\nrun a\nend\n")
     yield simulated(b"make 1\nrun a\nend\nedit b\nedit b 1\nmake 1\nbegin a\nlook a b\nput a a 9\ndone a\n")
     yield simulated(b"")
+    for size in (16777216, 16777217):
+        yield simulated(b"#" + b"x" * (size - 1))
+    yield graph(RULE, {b"B": BOOK + b" " * (16777217 - len(BOOK))}, ["-b", "B"])
 
 
 def near_misses():

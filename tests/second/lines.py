@@ -39,6 +39,12 @@ class Line:
         self.text = text
 
 
+def number_of(word, limit):
+    """The number of these digits, or None beyond the limit; leading zeros are free."""
+    digits = word.lstrip(b"0") or b"0"
+    return int(digits) if len(digits) <= len(str(limit)) and int(digits) <= limit else None
+
+
 def words(text):
     """The words of a text: its longest parts without blanks."""
     return [word for word in text.replace(b"\t", b" ").split(b" ") if word]

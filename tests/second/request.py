@@ -1,13 +1,16 @@
 """The command line, told apart, and what a request prepares: the graph and its footprints."""
 
 import os
+import re
 
 from book import Book, read_book
 from graph import Graph, Rules, There, goal_names
-from lines import Refused
+from lines import Refused, number_of
 from reading import read_makefile
 
 FILE_LIMIT = 16777216
+FINDING_LIMIT = 2 ** 64 - 1
+FINDING = re.compile(rb"\+?[0-9]+\Z")
 
 
 class Disk:
@@ -18,6 +21,8 @@ class Disk:
 
     def read(self, name):
         """The bytes of a file, None where it isn't there, or "failed"."""
+        if not name:
+            return None
         try:
             with open(os.path.join(self.folder, name), "rb") as file:
                 data = file.read(FILE_LIMIT + 1)
@@ -49,7 +54,9 @@ class Request:
         self.tell(arguments[1:])
         if any(letter not in self.values for letter in self.NEEDED[self.command]):
             raise Usage
-        if not self.values.get("e", b"1").isdigit() or int(self.values.get("e", b"1")) == 0:
+        number = self.values.get("e", b"1")
+        self.finding = number_of(number.lstrip(b"+"), FINDING_LIMIT) if FINDING.match(number) else None
+        if not self.finding:
             raise Usage
         self.operands = [word for word in self.words if b"=" in word]
         self.goals = [word for word in self.words if b"=" not in word]
@@ -72,7 +79,7 @@ class Request:
                 self.values[word[1:]] = os.fsencode(rest.pop(0))
             else:
                 raise Usage
-        for word in self.words:
+        for word in self.words + list(self.values.values()):
             try:
                 word.decode("utf-8")
             except UnicodeDecodeError:

@@ -26,7 +26,7 @@ def answer(request, files):
         subject.verify(file_of(files, request.values["k"]))
         return subject.counts() + b"\n", 0
     if "e" in request.values and subject.findings():
-        return plan_of_finding(subject, book, int(request.values["e"])), 1
+        return plan_of_finding(subject, book, request.finding), 1
     return verdict(subject, "c" in request.flags)
 
 

@@ -3,7 +3,7 @@
 import re
 
 from judge import turns
-from lines import Refused, words
+from lines import Refused, number_of, words
 
 CLOCK_LIMIT = 2 ** 64 - 1
 PLAN_LIMIT = 65536
@@ -173,10 +173,11 @@ SHAPES = {b"stop": (0, 0), b"end": (0, 0), b"begin": (1, 1), b"look": (2, 2), b"
           b"done": (1, 1), b"finish": (1, 1), b"run": (1, 1), b"pass": (1, 1), b"edit": (1, 2)}
 
 
-def number_of(word):
-    if not NUMBER.match(word) or int(word) > CLOCK_LIMIT:
+def told_number(word):
+    number = number_of(word, CLOCK_LIMIT) if NUMBER.match(word) else None
+    if number is None:
         raise ValueError
-    return int(word)
+    return number
 
 
 def plan_line(told):
@@ -184,14 +185,14 @@ def plan_line(told):
     for word in told:
         word.decode("utf-8")
     if told[0] == b"make":
-        if len(told) < 2 or not 1 <= number_of(told[1]) <= JOB_LIMIT:
+        if len(told) < 2 or not 1 <= told_number(told[1]) <= JOB_LIMIT:
             raise ValueError
-        return [told[0], number_of(told[1])] + told[2:]
+        return [told[0], told_number(told[1])] + told[2:]
     least, most = SHAPES.get(told[0], (1, 0))
     if not least <= len(told) - 1 <= most:
         raise ValueError
     if told[0] in (b"put", b"edit"):
-        content = number_of(told[-1]) if len(told) - 1 == most else None
+        content = told_number(told[-1]) if len(told) - 1 == most else None
         return told[:most] + [content]
     return told
 
