@@ -8,9 +8,10 @@ pub record Place : Type 0 where
   pub graph : Graph
   pub number : ℕ
 
--- each of these is a prerequisite of the node
-abbrev pub AreDirect : Graph → (number : ℕ) → List ℕ → Type 0
-AreDirect g number ns = (n : ℕ) → Has ns n → Has (prerequisites g number) n
+-- where there is a list, each of its numbers is that of a prerequisite of the node
+abbrev pub AreDirect : Graph → (number : ℕ) → Option (List ℕ) → Type 0
+AreDirect g number list =
+    MatchOption list (Unit {0}) (λ ns. (n : ℕ) → Has ns n → Has (prerequisites g number) n)
 
 -- where there are rows, they are of this graph
 abbrev pub AreRowsOf : Graph → Option Graph → Type 0

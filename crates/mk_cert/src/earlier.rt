@@ -1,9 +1,12 @@
 //! What is before one recipe after another.
 
 ghost use Rattle.std.specs.Prelude.{◌≡◌, true, ◌↔◌, IfOk};
+ghost use Rattle.mk_graph.specs.Graph.{prerequisites};
+ghost use Rattle.mk_graph.specs.Membership.{Has};
 ghost use Rattle.mk_graph.specs.Turns.{Before};
 
-use mk_graph::{BitRows, Graph, NodeSet, Order};
+use crate::needed::Needed;
+use mk_graph::{BitRows, Graph, Order};
 use std::alloc::{AllocError, Global};
 use std::marker::Model;
 
@@ -17,7 +20,7 @@ use std::marker::Model;
 pub(crate) struct Earlier<'a> {
     graph: &'a Graph,
     number: usize,
-    direct: NodeSet,
+    direct: Option<Needed<'a>>,
     rows: Option<BitRows<'a>>,
 }
 
@@ -40,22 +43,33 @@ impl<'a> Earlier<'a> {
         Earlier {
             graph,
             number: 0,
-            direct: NodeSet::new(),
+            direct: None,
             rows: None,
         }
     }
 
-    /// Goes on to a node. The time is linear in its prerequisites.
-    pub fn turn_to(&mut self, number: usize)
+    /// Goes on to a node. The time is linear in its prerequisites. It fails for want of memory
+    /// alone, and has gone on even then.
+    pub fn turn_to(&mut self, alloc: Global, number: usize) -> Result<(), AllocError>
         ensures graph { self.new.graph ≡ self.old.graph }
         ensures number { self.new.number ≡ number }
     {
         let graph = self.graph;
         graph.nodes();
-        let mut direct = NodeSet::new();
-        direct.insert_all(graph.prerequisites(number));
         self.number = number;
-        self.direct = direct;
+        self.direct = None;
+        self.direct = Some(Needed::new(alloc, graph.prerequisites(number))?);
+        Ok(())
+    }
+
+    /// Whether another node is known to be a direct prerequisite of this one.
+    fn lists(&self, other: usize) -> bool
+        ensures { result ≡ true → Has (prerequisites self.now.graph self.now.number) other }
+    {
+        match &self.direct {
+            Some(direct) => direct.has(other),
+            None => false,
+        }
     }
 
     /// Whether another node is before this one. It fails for want of memory alone.
@@ -64,7 +78,7 @@ impl<'a> Earlier<'a> {
         ensures before { IfOk result (λ is. (is ≡ true) ↔
             Before self.old.graph other self.old.number) }
     {
-        if self.direct.has(other) {
+        if self.lists(other) {
             return Ok(true);
         }
         let rows = match self.rows.take() {

@@ -16,11 +16,10 @@ all_has done (m ∷ ns) n all (inr there) = all_has done ns n all.1 there
 direct_before : (g : Graph) (o t : ℕ) → Has (prerequisites g t) o → Before g o t
 direct_before g o t listed = λ recipe goals ns part turns may. all_has ns (prerequisites g t) o may.prerequisites listed
 
-pub returns-then-has-clause-before : goal.returns-then-has-clause-before
-returns-then-has-clause-before c =
-    let e = c.self.inside in
-    let listed = c.self.invariant.0 c.args.other (c.has.ensures.0 c.if-has.true) in
-    rw (← c.self.view_is) (λ yes. direct_before e.graph.now c.args.other e.number listed, λ before. refl)
+pub returns-then-lists-clause-before : goal.returns-then-lists-clause-before
+returns-then-lists-clause-before c =
+    let e = c.args.self.now in
+    (λ yes. direct_before e.graph c.args.other e.number (c.lists.ensures c.if-lists.true), λ before. refl)
 
 pub returns-clause-before : goal.returns-clause-before
 returns-clause-before c =
