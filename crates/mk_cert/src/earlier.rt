@@ -1,12 +1,12 @@
 //! What is before one recipe after another.
 
-ghost use Rattle.std.specs.Prelude.{◌≡◌, true, ◌↔◌, IfOk};
+ghost use Rattle.std.specs.Prelude.{◌≡◌, true, ◌↔◌, IfOk, IfSome};
 ghost use Rattle.mk_graph.specs.Graph.{prerequisites};
 ghost use Rattle.mk_graph.specs.Membership.{Has};
 ghost use Rattle.mk_graph.specs.Turns.{Before};
 
 use crate::needed::Needed;
-use mk_graph::{BitRows, Graph, Order};
+use mk_graph::{BitRows, Graph, Order, Without};
 use std::alloc::{AllocError, Global};
 use std::marker::Model;
 
@@ -14,25 +14,27 @@ use std::marker::Model;
 /// node.
 ///
 /// Each direct prerequisite of a recipe is before it, and most recipes read what these write, or
-/// nothing. So the order of the graph, in rows of bits, is worked out when first another node is
-/// asked for.
+/// nothing. Of the first other node that is asked for it is worked out before which ones it is;
+/// and when a second one is, the order of the whole graph, in rows of bits.
 #[derive(Drop)]
 pub(crate) struct Earlier<'a> {
     graph: &'a Graph,
     number: usize,
     direct: Option<Needed<'a>>,
+    first: Option<Without<'a>>,
     rows: Option<BitRows<'a>>,
 }
 
 impl<'a> Model for Earlier<'a> {
     ghost use Rattle.mk_cert.specs.Earlier as value;
-    ghost use Rattle.mk_cert.specs.Earlier.{AreDirect, AreRowsOf};
+    ghost use Rattle.mk_cert.specs.Earlier.{AreDirect, AreRowsOf, IsFirstOf};
 
     ghost Value = { value.Place };
 
     ghost view = { λ e. record { graph = e.graph.now; number = e.number } };
 
-    ghost invariant = { λ e. AreDirect e.graph.now e.number e.direct × AreRowsOf e.graph.now e.rows };
+    ghost invariant = { λ e. AreDirect e.graph.now e.number e.direct ×
+        IsFirstOf e.graph.now e.first × AreRowsOf e.graph.now e.rows };
 }
 
 impl<'a> Earlier<'a> {
@@ -44,6 +46,7 @@ impl<'a> Earlier<'a> {
             graph,
             number: 0,
             direct: None,
+            first: None,
             rows: None,
         }
     }
@@ -72,6 +75,17 @@ impl<'a> Earlier<'a> {
         }
     }
 
+    /// Whether another node is before this one, where it is the first one that was asked for.
+    fn told_by_first(&self, other: usize) -> Option<bool>
+        ensures { IfSome result (λ is. (is ≡ true) ↔
+            Before self.now.graph other self.now.number) }
+    {
+        match &self.first {
+            Some(first) if first.other() == other => Some(first.is_before(self.number)),
+            _ => None,
+        }
+    }
+
     /// Whether another node is before this one. It fails for want of memory alone.
     pub fn has(&mut self, alloc: Global, other: usize) -> Result<bool, AllocError>
         ensures same { self.new ≡ self.old }
@@ -80,6 +94,12 @@ impl<'a> Earlier<'a> {
     {
         if self.lists(other) {
             return Ok(true);
+        }
+        if self.first.is_none() {
+            self.first = Some(Without::new(self.graph, other));
+        }
+        if let Some(is) = self.told_by_first(other) {
+            return Ok(is);
         }
         let rows = match self.rows.take() {
             Some(rows) => rows,
