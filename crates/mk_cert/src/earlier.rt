@@ -86,6 +86,30 @@ impl<'a> Earlier<'a> {
         }
     }
 
+    /// Works out what the first node that is asked for is before.
+    fn ask_first(&mut self, other: usize)
+        ensures { self.new ≡ self.old }
+    {
+        if self.first.is_none() {
+            self.first = Some(Without::new(self.graph, other));
+        }
+    }
+
+    /// Whether another node is before this one, by rows of bits. It fails for want of memory alone.
+    fn told_by_rows(&mut self, alloc: Global, other: usize) -> Result<bool, AllocError>
+        ensures same { self.new ≡ self.old }
+        ensures before { IfOk result (λ is. (is ≡ true) ↔
+            Before self.old.graph other self.old.number) }
+    {
+        let rows = match self.rows.take() {
+            Some(rows) => rows,
+            None => BitRows::new(alloc, self.graph)?,
+        };
+        let is = rows.before(other, self.number);
+        self.rows = Some(rows);
+        Ok(is)
+    }
+
     /// Whether another node is before this one. It fails for want of memory alone.
     pub fn has(&mut self, alloc: Global, other: usize) -> Result<bool, AllocError>
         ensures same { self.new ≡ self.old }
@@ -95,18 +119,10 @@ impl<'a> Earlier<'a> {
         if self.lists(other) {
             return Ok(true);
         }
-        if self.first.is_none() {
-            self.first = Some(Without::new(self.graph, other));
+        self.ask_first(other);
+        match self.told_by_first(other) {
+            Some(is) => Ok(is),
+            None => self.told_by_rows(alloc, other),
         }
-        if let Some(is) = self.told_by_first(other) {
-            return Ok(is);
-        }
-        let rows = match self.rows.take() {
-            Some(rows) => rows,
-            None => BitRows::new(alloc, self.graph)?,
-        };
-        let is = rows.before(other, self.number);
-        self.rows = Some(rows);
-        Ok(is)
     }
 }

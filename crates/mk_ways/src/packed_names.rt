@@ -52,7 +52,11 @@ impl PackedNames {
 
     /// No names, with room for so many, of so many bytes together. The error is want of memory
     /// alone.
-    pub fn with_capacity(alloc: Global, names: usize, bytes: usize) -> Result<PackedNames, AllocError>
+    pub fn with_capacity(
+        alloc: Global,
+        names: usize,
+        bytes: usize,
+    ) -> Result<PackedNames, AllocError>
         ensures { IfOk result (λ names. names ≡ []) }
     {
         Ok(PackedNames {

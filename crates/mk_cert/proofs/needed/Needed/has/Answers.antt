@@ -1,7 +1,6 @@
-use Rattle.std.proofs.Common.{◌≡◌, ◌∙◌, ℕ, List, true, sym, subst, ⊎_elim}
-use Rattle.std.specs.Prelude.{◌↔◌}
+use Rattle.std.proofs.Common.{◌∙◌, sym, ⊎_elim}
 use Rattle.std.proofs.lemmas.Bool.{cases_Bool}
-use Rattle.mk_graph.specs.Membership.{Has, has}
+use Rattle.mk_graph.specs.Membership.{has}
 use Rattle.mk_cert.proofs.FileDecided.{number_in, number_out}
 use Rattle.mk_cert.proofs.needed.Needed.has.Goals as goal
 
