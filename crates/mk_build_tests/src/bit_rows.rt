@@ -1,7 +1,7 @@
 //! Rows of bits by number, beside a plain form and beside the greedy order.
 
 use crate::graph_fixtures::{built, chain, graph_of, is_sound, node, told};
-use mk_graph::{BitRows, Graph, Greedy, Groups, Node, meet, unite};
+use mk_graph::{BitRows, Graph, Greedy, Groups, Node, Without, meet, unite};
 use std::alloc::{AllocError, Global};
 use std::process::Abort;
 use std::test::Fail;
@@ -65,14 +65,18 @@ fn intersections_of_each_length(rt: HostRuntime) -> Result<(), Fail> {
     Ok(())
 }
 
-/// Both orders agree on each two numbers up to one past the last node.
+/// Rows, the greedy order and what is done without a node agree on each two nodes; the first two on
+/// numbers past the last node, too.
 fn compare(rt: &impl Abort, alloc: Global, graph: &Graph) -> Result<(), AllocError> {
     let greedy = Greedy::new(graph);
     let rows = BitRows::new(alloc, graph)?;
     let count = graph.nodes().len();
     for o in 0..count {
+        let without = Without::new(graph, o);
+        assert_eq!(rt; without.other(), o);
         for t in 0..count {
             assert_eq!(rt; told(&rows, o, t), told(&greedy, o, t), "{o} before {t}");
+            assert_eq!(rt; told(&rows, o, t), without.is_before(t), "{o} before {t}");
         }
     }
     assert_eq!(rt;

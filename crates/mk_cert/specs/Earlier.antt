@@ -2,15 +2,21 @@
 use Rattle.std.specs.Prelude.{◌≡◌, ℕ, List, Option, MatchOption}
 use Rattle.mk_graph.specs.Membership.{Has}
 use Rattle.mk_graph.specs.Graph.{Graph, prerequisites}
+use Rattle.mk_graph.specs.Without.{Lacking}
 
 -- a graph and a node of it
 pub record Place : Type 0 where
   pub graph : Graph
   pub number : ℕ
 
--- each of these is a prerequisite of the node
-abbrev pub AreDirect : Graph → (number : ℕ) → List ℕ → Type 0
-AreDirect g number ns = (n : ℕ) → Has ns n → Has (prerequisites g number) n
+-- where there is a list, each of its numbers is that of a prerequisite of the node
+abbrev pub AreDirect : Graph → (number : ℕ) → Option (List ℕ) → Type 0
+AreDirect g number list =
+    MatchOption list (Unit {0}) (λ ns. (n : ℕ) → Has ns n → Has (prerequisites g number) n)
+
+-- where there is something made without a node, it is of this graph
+abbrev pub IsFirstOf : Graph → Option Lacking → Type 0
+IsFirstOf g first = MatchOption first (Unit {0}) (λ h. h.graph ≡ g)
 
 -- where there are rows, they are of this graph
 abbrev pub AreRowsOf : Graph → Option Graph → Type 0

@@ -1,9 +1,12 @@
 //! What is before one recipe after another.
 
-ghost use Rattle.std.specs.Prelude.{◌≡◌, true, ◌↔◌, IfOk};
+ghost use Rattle.std.specs.Prelude.{◌≡◌, true, ◌↔◌, IfOk, IfSome};
+ghost use Rattle.mk_graph.specs.Graph.{prerequisites};
+ghost use Rattle.mk_graph.specs.Membership.{Has};
 ghost use Rattle.mk_graph.specs.Turns.{Before};
 
-use mk_graph::{BitRows, Graph, NodeSet, Order};
+use crate::needed::Needed;
+use mk_graph::{BitRows, Graph, Order, Without};
 use std::alloc::{AllocError, Global};
 use std::marker::Model;
 
@@ -11,25 +14,27 @@ use std::marker::Model;
 /// node.
 ///
 /// Each direct prerequisite of a recipe is before it, and most recipes read what these write, or
-/// nothing. So the order of the graph, in rows of bits, is worked out when first another node is
-/// asked for.
+/// nothing. Of the first other node that is asked for it is worked out before which ones it is;
+/// and when a second one is, the order of the whole graph, in rows of bits.
 #[derive(Drop)]
 pub(crate) struct Earlier<'a> {
     graph: &'a Graph,
     number: usize,
-    direct: NodeSet,
+    direct: Option<Needed<'a>>,
+    first: Option<Without<'a>>,
     rows: Option<BitRows<'a>>,
 }
 
 impl<'a> Model for Earlier<'a> {
     ghost use Rattle.mk_cert.specs.Earlier as value;
-    ghost use Rattle.mk_cert.specs.Earlier.{AreDirect, AreRowsOf};
+    ghost use Rattle.mk_cert.specs.Earlier.{AreDirect, AreRowsOf, IsFirstOf};
 
     ghost Value = { value.Place };
 
     ghost view = { λ e. record { graph = e.graph.now; number = e.number } };
 
-    ghost invariant = { λ e. AreDirect e.graph.now e.number e.direct × AreRowsOf e.graph.now e.rows };
+    ghost invariant = { λ e. AreDirect e.graph.now e.number e.direct ×
+        IsFirstOf e.graph.now e.first × AreRowsOf e.graph.now e.rows };
 }
 
 impl<'a> Earlier<'a> {
@@ -40,22 +45,69 @@ impl<'a> Earlier<'a> {
         Earlier {
             graph,
             number: 0,
-            direct: NodeSet::new(),
+            direct: None,
+            first: None,
             rows: None,
         }
     }
 
-    /// Goes on to a node. The time is linear in its prerequisites.
-    pub fn turn_to(&mut self, number: usize)
+    /// Goes on to a node. The time is linear in its prerequisites. It fails for want of memory
+    /// alone, and has gone on even then.
+    pub fn turn_to(&mut self, alloc: Global, number: usize) -> Result<(), AllocError>
         ensures graph { self.new.graph ≡ self.old.graph }
         ensures number { self.new.number ≡ number }
     {
         let graph = self.graph;
         graph.nodes();
-        let mut direct = NodeSet::new();
-        direct.insert_all(graph.prerequisites(number));
         self.number = number;
-        self.direct = direct;
+        self.direct = None;
+        self.direct = Some(Needed::new(alloc, graph.prerequisites(number))?);
+        Ok(())
+    }
+
+    /// Whether another node is known to be a direct prerequisite of this one.
+    fn lists(&self, other: usize) -> bool
+        ensures { result ≡ true → Has (prerequisites self.now.graph self.now.number) other }
+    {
+        match &self.direct {
+            Some(direct) => direct.has(other),
+            None => false,
+        }
+    }
+
+    /// Whether another node is before this one, where it is the first one that was asked for.
+    fn told_by_first(&self, other: usize) -> Option<bool>
+        ensures { IfSome result (λ is. (is ≡ true) ↔
+            Before self.now.graph other self.now.number) }
+    {
+        match &self.first {
+            Some(first) if first.other() == other => Some(first.is_before(self.number)),
+            _ => None,
+        }
+    }
+
+    /// Works out what the first node that is asked for is before.
+    fn ask_first(&mut self, other: usize)
+        ensures { self.new ≡ self.old }
+    {
+        if self.first.is_none() {
+            self.first = Some(Without::new(self.graph, other));
+        }
+    }
+
+    /// Whether another node is before this one, by rows of bits. It fails for want of memory alone.
+    fn told_by_rows(&mut self, alloc: Global, other: usize) -> Result<bool, AllocError>
+        ensures same { self.new ≡ self.old }
+        ensures before { IfOk result (λ is. (is ≡ true) ↔
+            Before self.old.graph other self.old.number) }
+    {
+        let rows = match self.rows.take() {
+            Some(rows) => rows,
+            None => BitRows::new(alloc, self.graph)?,
+        };
+        let is = rows.before(other, self.number);
+        self.rows = Some(rows);
+        Ok(is)
     }
 
     /// Whether another node is before this one. It fails for want of memory alone.
@@ -64,15 +116,13 @@ impl<'a> Earlier<'a> {
         ensures before { IfOk result (λ is. (is ≡ true) ↔
             Before self.old.graph other self.old.number) }
     {
-        if self.direct.has(other) {
+        if self.lists(other) {
             return Ok(true);
         }
-        let rows = match self.rows.take() {
-            Some(rows) => rows,
-            None => BitRows::new(alloc, self.graph)?,
-        };
-        let is = rows.before(other, self.number);
-        self.rows = Some(rows);
-        Ok(is)
+        self.ask_first(other);
+        match self.told_by_first(other) {
+            Some(is) => Ok(is),
+            None => self.told_by_rows(alloc, other),
+        }
     }
 }

@@ -12,6 +12,7 @@ ghost use Rattle.mk_cert.specs.Subject.{footprints, name_of, reads_of};
 ghost use Rattle.mk_cert.specs.Links.{AreEnds, AreLinks};
 
 use crate::entry::reads_in;
+use crate::needed::Needed;
 use crate::subject::Subject;
 use crate::tables::names_among;
 use mk_foot::Setting;
@@ -22,9 +23,9 @@ use std::alloc::{AllocError, Global};
 
 /// What is looked up where ways end: at the number of each node what is so of it.
 #[derive(Drop)]
-pub struct Ends {
+pub struct Ends<'a> {
     /// Its direct prerequisites.
-    pub needed: Vec<NodeSet>,
+    pub needed: Vec<Needed<'a>>,
     /// Whether it is made in each make.
     pub always: Vec<bool>,
 }
@@ -33,7 +34,7 @@ pub struct Ends {
 #[derive(Drop)]
 pub struct Links<'a> {
     /// What is looked up where they end.
-    pub ends: Ends,
+    pub ends: Ends<'a>,
     /// The files that its recipe reads.
     pub reads: Vec<NameSet<'a>>,
     /// The recipes that it carries.
@@ -113,18 +114,16 @@ fn carried_sets(alloc: Global, subject: &Subject<'_>) -> Result<Vec<NodeSet>, Al
 }
 
 /// The direct prerequisites of each node.
-fn needed_sets(alloc: Global, graph: &Graph) -> Result<Vec<NodeSet>, AllocError>
-    ensures { IfOk result (λ sets. (t p : ℕ) → Has (slice_index_or sets.items t []) p ↔
+fn needed_by<'a>(alloc: Global, graph: &'a Graph) -> Result<Vec<Needed<'a>>, AllocError>
+    ensures { IfOk result (λ lists. (t p : ℕ) → Has (slice_index_or lists.items t []) p ↔
         Has (prerequisites graph.now t) p) }
 {
     let count = graph.nodes().len();
-    let mut sets = Vec::with_capacity(alloc, count)?;
+    let mut lists = Vec::with_capacity(alloc, count)?;
     for number in 0..count {
-        let mut needed = NodeSet::new();
-        needed.insert_all(graph.prerequisites(number));
-        sets.push(needed)?;
+        lists.push(Needed::new(alloc, graph.prerequisites(number))?)?;
     }
-    Ok(sets)
+    Ok(lists)
 }
 
 /// Whether one of these nodes is phony.
@@ -157,12 +156,12 @@ fn always_made(alloc: Global, graph: &Graph) -> Result<Vec<bool>, AllocError>
 }
 
 /// All that is looked up where ways end. It takes time linear in the graph.
-pub fn ends_of(alloc: Global, subject: &Subject<'_>) -> Result<Ends, AllocError>
+pub fn ends_of<'a>(alloc: Global, subject: &'a Subject<'_>) -> Result<Ends<'a>, AllocError>
     ensures { IfOk result (λ e. AreEnds subject.now e.needed.items e.always.items) }
 {
     let graph = subject.graph();
     Ok(Ends {
-        needed: needed_sets(alloc, graph)?,
+        needed: needed_by(alloc, graph)?,
         always: always_made(alloc, graph)?,
     })
 }

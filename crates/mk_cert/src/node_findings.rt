@@ -56,8 +56,8 @@ pub fn note_varying(entry: &Entry<'_>, found: &mut Vec<Finding>) -> Result<(), A
     Ok(())
 }
 
-/// Whether a name stands among these.
-fn has_among(names: &[String], name: &str) -> bool
+/// Whether a name stands among these. It goes through them, so it is for few.
+pub fn has_among(names: &[String], name: &str) -> bool
     ensures { result ≡ has_name (map string_bytes names.now) name.now }
 {
     for other in names {

@@ -126,7 +126,7 @@ fn note_files<'s>(
         (flat_map (λ f. map (λ o. race entry.now.number o f) (serial_order subject.now.graph))
         (reads_of subject.now entry.now.number)) found.old.items found.new.items) }
 {
-    earlier.turn_to(entry.number);
+    earlier.turn_to(alloc, entry.number)?;
     let count = entry.reads().len();
     for place in 0..count {
         let file = subject.read(entry, place);

@@ -13,6 +13,7 @@ ghost use Rattle.mk_cert.specs.Target.{target_of};
 ghost use Rattle.mk_cert.specs.Walking.{GoesOver, Leads};
 
 use crate::links::{Ends, Links};
+use crate::needed::Needed;
 use crate::subject::Subject;
 use crate::target::{Target, can_change, target_of};
 use crate::writer_findings::has_number;
@@ -32,6 +33,16 @@ fn has_at(sets: &[NodeSet], place: usize, number: usize) -> bool
     }
 }
 
+/// Whether a number stands in the list at a place.
+fn is_needed_at(lists: &[Needed<'_>], place: usize, number: usize) -> bool
+    ensures { (result ≡ true) ↔ Has (slice_index_or lists.now place []) number }
+{
+    match lists.get(place) {
+        Some(list) => list.has(number),
+        None => false,
+    }
+}
+
 /// Whether a name stands in the set at a place.
 pub fn stands_at(sets: &[NameSet<'_>], place: usize, name: &str) -> bool
     ensures { result ≡ has_name (slice_index_or sets.now place []) name.now }
@@ -43,7 +54,7 @@ pub fn stands_at(sets: &[NameSet<'_>], place: usize, name: &str) -> bool
 }
 
 /// The number of the recipe with a name.
-fn recipe_named(subject: &Subject<'_>, ends: &Ends, name: &str) -> Option<usize>
+fn recipe_named(subject: &Subject<'_>, ends: &Ends<'_>, name: &str) -> Option<usize>
     requires { AreEnds subject.now ends.now.needed.items ends.now.always.items }
     ensures { MatchOption result ((n : ℕ) → IsRecipe subject.now n →
         ¬ (name_of subject.now n ≡ name.now))
@@ -90,7 +101,7 @@ fn last_over(
 }
 
 /// Whether a file is a direct prerequisite of a node.
-fn needs(subject: &Subject<'_>, ends: &Ends, number: usize, file: &Target<'_>) -> bool
+fn needs(subject: &Subject<'_>, ends: &Ends<'_>, number: usize, file: &Target<'_>) -> bool
     requires ends { AreEnds subject.now ends.now.needed.items
         ends.now.always.items }
     requires file { file.now ≡ target_of subject.now file.now.file }
@@ -98,14 +109,14 @@ fn needs(subject: &Subject<'_>, ends: &Ends, number: usize, file: &Target<'_>) -
 {
     names_have_one_number();
     let _graph = subject.graph();
-    has_at(&ends.needed, number, file.number)
+    is_needed_at(&ends.needed, number, file.number)
 }
 
 /// Whether a path to a file may end so at a recipe. A file has one writer where nothing was found,
 /// so its writers are no list to go through.
 pub fn ends_at(
     subject: &Subject<'_>,
-    ends: &Ends,
+    ends: &Ends<'_>,
     file: &Target<'_>,
     finish: Finish,
     number: usize,

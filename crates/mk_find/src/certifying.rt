@@ -17,6 +17,17 @@ use mk_lines::Name;
 use mk_ways::{Certificate, PackedNames, Way};
 use std::alloc::{AllocError, Global};
 
+/// How many bytes the names of nodes have together: the room that they take.
+fn room_for(subject: &Subject<'_>, nodes: &[usize]) -> usize
+    requires { (n : ℕ) → Has nodes.now n → n < length subject.now.graph.nodes }
+{
+    let mut bytes = 0usize;
+    for node in nodes {
+        bytes = bytes.saturating_add(subject.name(*node).len());
+    }
+    bytes
+}
+
 /// The names of nodes.
 pub(crate) fn names_of(
     alloc: Global,
@@ -26,11 +37,11 @@ pub(crate) fn names_of(
     requires { (n : ℕ) → Has nodes.now n → n < length subject.now.graph.nodes }
     ensures { IfOk result (λ names. names ≡ map (name_of subject.now) nodes.now) }
 {
-    let mut names = PackedNames::new(alloc);
+    let room = room_for(subject, nodes);
+    let mut names = PackedNames::with_capacity(alloc, nodes.len(), room)?;
     for node in nodes {
         names.push(subject.name(*node))?;
     }
-    names.shrink_to_fit();
     Ok(names)
 }
 

@@ -28,7 +28,12 @@ pub(crate) struct FirstPath {
 }
 
 /// How a path to a file may end at a recipe, the first such finish.
-fn finish_at(subject: &Subject<'_>, ends: &Ends, file: &Target<'_>, number: usize) -> Option<Finish>
+fn finish_at(
+    subject: &Subject<'_>,
+    ends: &Ends<'_>,
+    file: &Target<'_>,
+    number: usize,
+) -> Option<Finish>
     requires ends { AreEnds subject.now ends.now.needed.items
         ends.now.always.items }
     requires file { file.now ≡ target_of subject.now file.now.file }
@@ -54,7 +59,7 @@ fn finish_at(subject: &Subject<'_>, ends: &Ends, file: &Target<'_>, number: usiz
 pub(crate) fn first_path(
     alloc: Global,
     subject: &Subject<'_>,
-    ends: &Ends,
+    ends: &Ends<'_>,
     search: &mut Search<'_>,
     file: &Target<'_>,
 ) -> Result<Option<FirstPath>, AllocError>

@@ -14,6 +14,7 @@ ghost use Rattle.mk_find.specs.Certifying.{AddsEntries, AreEntriesFor, IsEntryFo
 ghost use Rattle.mk_cert.specs.Target.{target_of};
 
 use crate::certifying::entry_along;
+use crate::repeats::is_repeated;
 use crate::stale::note_stale;
 use crate::standing::{Standing, standing_of};
 use mk_cert::laws::{listed_exactly, paths_are_ways};
@@ -30,7 +31,7 @@ use std::alloc::{AllocError, Global};
 fn judge_read(
     alloc: Global,
     subject: &Subject<'_>,
-    ends: &Ends,
+    ends: &Ends<'_>,
     search: &mut Search<'_>,
     entry: &Entry<'_>,
     file: &Target<'_>,
@@ -71,7 +72,7 @@ fn judge_read(
 fn judge_reads<'s>(
     alloc: Global,
     subject: &'s Subject<'_>,
-    ends: &Ends,
+    ends: &Ends<'_>,
     search: &mut Search<'_>,
     entry: &'s Entry<'_>,
     found: &mut Vec<Finding>,
@@ -92,11 +93,11 @@ fn judge_reads<'s>(
 {
     once_keeps_first();
     let mut seen = NameSet::new(alloc);
-    let count = entry.reads().len();
-    for place in 0..count {
+    let reads = entry.reads();
+    for place in 0..reads.len() {
         let file = subject.read(entry, place);
         let way = judge_read(alloc, subject, ends, search, entry, &file, found)?;
-        if !seen.insert(file.file)? {
+        if is_repeated(reads, place, &mut seen)? {
             continue;
         }
         if let Some(way) = way {
@@ -107,11 +108,11 @@ fn judge_reads<'s>(
 }
 
 /// Adds which reads of a recipe are stale, and while nothing is found the entries for its reads.
-/// The recipe is searched from once.
+/// The recipe is searched from once, where it reads anything.
 fn judge_recipe(
     alloc: Global,
     subject: &Subject<'_>,
-    ends: &Ends,
+    ends: &Ends<'_>,
     rows: &Groups,
     entry: &Entry<'_>,
     found: &mut Vec<Finding>,
@@ -128,6 +129,9 @@ fn judge_recipe(
     ensures ways { OnOk result (found.new.items ≡ [] → AddsEntries subject.now
         (reads_by subject.now entry.now.number) ways.old.items ways.new.items) }
 {
+    if entry.reads().is_empty() {
+        return Ok(());
+    }
     let mut search = Search::new(alloc, rows, entry.number)?;
     judge_reads(alloc, subject, ends, &mut search, entry, found, ways)
 }

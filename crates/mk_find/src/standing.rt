@@ -32,7 +32,7 @@ pub(crate) enum Standing {
 pub(crate) fn standing_of(
     alloc: Global,
     subject: &Subject<'_>,
-    ends: &Ends,
+    ends: &Ends<'_>,
     search: &mut Search<'_>,
     file: &Target<'_>,
 ) -> Result<Standing, AllocError>

@@ -20,6 +20,7 @@ pub mod run_laws;
 mod turn_list;
 mod walk;
 mod wanted;
+mod without;
 
 pub use bit_rows::BitRows;
 pub use bit_words::{meet, unite};
@@ -32,3 +33,4 @@ pub use node_set::NodeSet;
 pub use order::Order;
 pub use turn_list::turn_list_past;
 pub use wanted::wanted_with;
+pub use without::Without;

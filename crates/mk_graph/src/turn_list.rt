@@ -8,10 +8,11 @@ ghost use Rattle.mk_graph.specs.TurnLists.{LeadsPast};
 ghost use Rattle.mk_graph.specs.Without.{AreOpened, opened, until};
 
 use crate::graph::Graph;
-use crate::greedy::{Greedy, free_of};
+use crate::greedy::Greedy;
 use crate::node_set::NodeSet;
 use crate::order::Order;
 use crate::walk::{End, walk};
+use crate::without::free_of;
 use std::alloc::{AllocError, Global};
 
 /// Nodes that a make of all goals can make one after another, without `o`, so that the recipe of

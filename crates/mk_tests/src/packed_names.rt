@@ -58,7 +58,7 @@ fn some_names_in_order(rt: HostRuntime) -> Result<(), Fail> {
 #[test]
 fn many_names(rt: HostRuntime) -> Result<(), Fail> {
     let alloc = rt.alloc();
-    let mut names = PackedNames::new(alloc);
+    let mut names = PackedNames::with_capacity(alloc, 10, 30)?;
     for number in 0..3000u32 {
         names.push(format!(in alloc; "n{number}")?.as_str())?;
     }

@@ -1,6 +1,6 @@
 //! Names in one text.
 
-ghost use Rattle.std.specs.Prelude.{◌≡◌, ◌==◌, ◌<◌, ◌∷◌, ◌++◌, [], length, slice_index_or, OnOk, OnErr};
+ghost use Rattle.std.specs.Prelude.{◌≡◌, ◌==◌, ◌<◌, ◌∷◌, ◌++◌, [], length, slice_index_or, IfOk, OnOk, OnErr};
 
 use std::alloc::{AllocError, Global};
 use std::marker::Model;
@@ -48,6 +48,21 @@ impl PackedNames {
             text: String::new(alloc),
             ends: Vec::new(alloc),
         }
+    }
+
+    /// No names, with room for so many, of so many bytes together. The error is want of memory
+    /// alone.
+    pub fn with_capacity(
+        alloc: Global,
+        names: usize,
+        bytes: usize,
+    ) -> Result<PackedNames, AllocError>
+        ensures { IfOk result (λ names. names ≡ []) }
+    {
+        Ok(PackedNames {
+            text: String::with_capacity(alloc, bytes)?,
+            ends: Vec::with_capacity(alloc, names)?,
+        })
     }
 
     /// Adds a name at the end. The error is want of memory alone.

@@ -1,5 +1,6 @@
 -- Each file of the record is judged in its turn, and has its entry once.
-use Rattle.std.proofs.Common.{◌≡◌, ◌∙◌, ◌<◌, ◌≤◌, ◌+◌, ◌∷◌, ◌++◌, [], refl, ℕ, List, Bool, true, false, not, Option, MatchOption, ap, sym, subst, length, get_or, map, drop, take, arith}
+use Rattle.std.proofs.Common.{◌≡◌, ◌∙◌, ◌<◌, ◌≤◌, ◌+◌, ◌∷◌, ◌++◌, [], refl, ℕ, List, Bool, true, false, Option, MatchOption, ap, sym, subst, length, get_or, map, drop, take, arith}
+use Rattle.std.specs.String.{string_bytes}
 use Rattle.std.proofs.lemmas.List.{take_more, take_all, map_push}
 use Rattle.mk_lines.specs.Names.{has_name, once}
 use Rattle.mk_graph.specs.Membership.{Has}
@@ -9,31 +10,22 @@ use Rattle.mk_ways.specs.Certificate.{Way}
 use Rattle.mk_cert.specs.Candidates.{stale}
 use Rattle.mk_cert.specs.Carried.{carried}
 use Rattle.mk_cert.specs.Listed.{Adds}
-use Rattle.mk_cert.specs.Subject.{reads_of}
+use Rattle.mk_cert.specs.Subject.{Subject, reads_of}
 use Rattle.mk_cert.specs.Target.{Target, target_of}
 use Rattle.mk_cert.specs.Verdict.{Read}
 use Rattle.mk_find.specs.Certifying.{Needs, IsEntryFor, AddsEntries}
 use Rattle.mk_find.proofs.Adding.{drop_past, leads_map, leads_done}
-use Rattle.mk_find.proofs.AddingEntries.{reads_of_files, adds_no_entries, adds_more_entries, adds_entry, adds_no_entry, once_step, once_same, once_new, nothing_before}
-use Rattle.mk_find.proofs.Noting.{at_place, count_is, place_is}
+use Rattle.mk_find.proofs.AddingEntries.{reads_of_files, adds_no_entries, adds_more_entries, adds_entry, adds_no_entry, once_same, once_new, nothing_before}
+use Rattle.mk_find.proofs.Noting.{at_place, count_is, place_is, same_reads}
 use Rattle.mk_find.proofs.judging.judge_reads.Goals as goal
 use Rattle.mk_find.proofs.judging.judge_reads.Goals.{in-Some+in_ok-push, in_default}
 
--- what not makes false is true, and the other way round
-was_true : (b : Bool) → not b ≡ false → b ≡ true
-was_true true e = refl
-was_true false e = absurd (cc)
-
-was_false : (b : Bool) → not b ≡ true → b ≡ false
-was_false true e = absurd (cc)
-was_false false e = refl
-
 pub loop-place-init : goal.loop-place-init
-loop-place-init c = (refl, λ last h. h, c.new-seen.ensures, λ none. adds_no_entries c.args.subject.now c.args.ways.now.items)
+loop-place-init c = (refl, λ last h. h, λ many. c.new-seen.ensures, λ none. adds_no_entries c.args.subject.now c.args.ways.now.items)
 
 pub read-file-requires-clause-place : goal.read-file-requires-clause-place
 read-file-requires-clause-place c =
-    place_is c.args.entry.now c.reads-count.result.now c.loop-place.place c.reads-count.ensures c.loop-place-test.true
+    place_is c.args.entry.now c.reads-reads.result.now c.loop-place.place c.reads-reads.ensures c.loop-place-test.true
 
 pub judge_read-requires-clause-file : goal.judge_read-requires-clause-file
 judge_read-requires-clause-file c =
@@ -52,30 +44,33 @@ judge_read-requires-clause-read c =
     let x = c.args.subject.now in
     let e = c.args.entry.now in
     let i = c.loop-place.place in
-    let low : i < length (reads_of x e.number) = omega (arith, c.loop-place-test.true, count_is x e c.reads-count.result.now c.requires.entry c.reads-count.ensures) in
+    let low : i < length (reads_of x e.number) = omega (arith, c.loop-place-test.true, count_is x e c.reads-reads.result.now c.requires.entry c.reads-reads.ensures) in
     subst (λ (v : Target). Has (reads_of x e.number) v.file) (sym c.read-file.ensures) (at_place (reads_of x e.number) i [] low)
 
-pub loop-place-preserved-then-not-branch : goal.loop-place-preserved-then-not-branch
-loop-place-preserved-then-not-branch c =
+-- whether a file at its place stands before it, of the recipe's reads
+stands : (x : Subject) (t i : ℕ) (f : List ℕ) (names : List (List ℕ)) (b answer : Bool) → names ≡ reads_of x t → get_or (reads_of x t) i [] ≡ f → answer ≡ has_name (take i names) (get_or names i []) → answer ≡ b → has_name (take i (reads_of x t)) f ≡ b
+stands x t i f names b answer same at is e =
+    subst (λ (g : List ℕ). has_name (take i (reads_of x t)) g ≡ b) at (subst (λ (l : List (List ℕ)). has_name (take i l) (get_or l i []) ≡ b) same (sym is ∙ e))
+
+pub loop-place-preserved-then-branch : goal.loop-place-preserved-then-branch
+loop-place-preserved-then-branch c =
     let x = c.args.subject.now in
     let e = c.args.entry.now in
     let t = e.number in
     let files = reads_of x t in
     let i = c.loop-place.place in
     let f = c.read-file.result.file in
-    let f2 = c.file.inside.file.now in
-    let same : f2 ≡ f = ap (λ (v : Target). v.file) c.file.view_is in
     let before = take i files in
-    let low : i < length files = omega (arith, c.loop-place-test.true, count_is x e c.reads-count.result.now c.requires.entry c.reads-count.ensures) in
+    let low : i < length files = omega (arith, c.loop-place-test.true, count_is x e c.reads-reads.result.now c.requires.entry c.reads-reads.ensures) in
     let is : get_or files i [] ≡ f = sym (ap (λ (v : Target). v.file) c.read-file.ensures) in
-    let after : take (i + 1) files ≡ before ++ f2 ∷ [] = take_more files i [] low ∙ ap (λ (g : List ℕ). before ++ g ∷ []) (is ∙ sym same) in
+    let after : take (i + 1) files ≡ before ++ f ∷ [] = take_more files i [] low ∙ ap (λ (g : List ℕ). before ++ g ∷ []) is in
     let inv = c.loop-place.invariant in
     let added = c.in_ok-way.ensures.found in
-    let has : has_name c.loop-place.seen f2 ≡ true = was_true (has_name c.loop-place.seen f2) (sym c.in_ok-insert.ensures.new ∙ c.if-not-branch.true) in (
+    let has = stands x t i f (map string_bytes c.reads-reads.result.now) true _ (c.reads-reads.ensures ∙ same_reads x e c.requires.entry) is c.in_ok-is_repeated.ensures.repeated c.if-branch.true in (
       c.in_ok-way.ensures.same ∙ inv.0,
       leads_map x (λ g. stale t g) files i [] _ c.loop-place.found.items c.judge_read.new.found.items c.args.found.now.items low inv.1 (subst (λ (g : List ℕ). Adds x (stale t g ∷ []) c.loop-place.found.items c.judge_read.new.found.items) (sym is) added),
-      once_step c.once_keeps_first.ensures before f2 c.loop-place.seen c.insert.new.self inv.2 c.in_ok-insert.ensures.ok ∙ ap once (sym after),
-      λ none. subst (λ (l : List (List ℕ)). AddsEntries x (reads_of_files t l) c.args.ways.now.items c.loop-place.ways.items) (sym (once_same c.once_keeps_first.ensures before f2 c.loop-place.seen inv.2 has) ∙ ap once (sym after)) (inv.3 (nothing_before x (stale t f ∷ []) c.loop-place.found.items c.judge_read.new.found.items added none)),
+      c.in_ok-is_repeated.ensures.seen,
+      λ none. subst (λ (l : List (List ℕ)). AddsEntries x (reads_of_files t l) c.args.ways.now.items c.loop-place.ways.items) (sym (once_same c.once_keeps_first.ensures before f (once before) refl ((c.once_keeps_first.ensures before).same f ∙ has)) ∙ ap once (sym after)) (inv.3 (nothing_before x (stale t f ∷ []) c.loop-place.found.items c.judge_read.new.found.items added none)),
     )
 
 pub loop-place-preserved : goal.loop-place-preserved
@@ -86,23 +81,21 @@ loop-place-preserved c =
     let files = reads_of x t in
     let i = c.loop-place.place in
     let f = c.read-file.result.file in
-    let f2 = c.file.inside.file.now in
-    let same : f2 ≡ f = ap (λ (v : Target). v.file) c.file.view_is in
     let before = take i files in
-    let low : i < length files = omega (arith, c.loop-place-test.true, count_is x e c.reads-count.result.now c.requires.entry c.reads-count.ensures) in
+    let low : i < length files = omega (arith, c.loop-place-test.true, count_is x e c.reads-reads.result.now c.requires.entry c.reads-reads.ensures) in
     let is : get_or files i [] ≡ f = sym (ap (λ (v : Target). v.file) c.read-file.ensures) in
-    let after : take (i + 1) files ≡ before ++ f2 ∷ [] = take_more files i [] low ∙ ap (λ (g : List ℕ). before ++ g ∷ []) (is ∙ sym same) in
+    let after : take (i + 1) files ≡ before ++ f ∷ [] = take_more files i [] low ∙ ap (λ (g : List ℕ). before ++ g ∷ []) is in
     let inv = c.loop-place.invariant in
     let added = c.in_ok-way.ensures.found in
-    let lacks : has_name c.loop-place.seen f2 ≡ false = was_false (has_name c.loop-place.seen f2) (sym c.in_ok-insert.ensures.new ∙ c.if-not-branch.false) in
+    let lacks = stands x t i f (map string_bytes c.reads-reads.result.now) false _ (c.reads-reads.ensures ∙ same_reads x e c.requires.entry) is c.in_ok-is_repeated.ensures.repeated c.if-branch.false in
     let old = c.loop-place.ways.items in
     let step : c.judge_read.new.found.items ≡ [] → AddsEntries x (record { recipe = t; file = f } ∷ []) old c.match-way-3.ways.items = λ none.
     let found = c.in_ok-way.ensures.way none in
     elim c.match-way-3.branch [ in-Some+in_ok-push w ↦ rw w.ways-is (let m = subst (λ (o : Option Way). MatchOption o (¬ (Needs x (record { recipe = t; file = f }))) (λ way. Needs x (record { recipe = t; file = f }) × IsEntryFor x (record { recipe = t; file = f }) way)) w.in-Some.is found in adds_entry x (record { recipe = t; file = f }) w.in-Some.way old w.push.new.self.items m.0 m.1 w.in_ok-push.ensures.items) | in_default w ↦ rw w.ways-is (adds_no_entry x (record { recipe = t; file = f }) old (subst (λ (o : Option Way). MatchOption o (¬ (Needs x (record { recipe = t; file = f }))) (λ way. Needs x (record { recipe = t; file = f }) × IsEntryFor x (record { recipe = t; file = f }) way)) w.in_default.is found)) ] in
-    let reads : reads_of_files t (once before) ++ record { recipe = t; file = f } ∷ [] ≡ reads_of_files t (once (take (i + 1) files)) = sym (map_push (λ g. record { recipe = t; file = g }) (once before) f) ∙ ap (reads_of_files t) (ap (λ (g : List ℕ). once before ++ g ∷ []) (sym same) ∙ (sym (once_new c.once_keeps_first.ensures before f2 c.loop-place.seen inv.2 lacks) ∙ ap once (sym after))) in (
+    let reads : reads_of_files t (once before) ++ record { recipe = t; file = f } ∷ [] ≡ reads_of_files t (once (take (i + 1) files)) = sym (map_push (λ g. record { recipe = t; file = g }) (once before) f) ∙ ap (reads_of_files t) (sym (once_new c.once_keeps_first.ensures before f (once before) refl ((c.once_keeps_first.ensures before).same f ∙ lacks)) ∙ ap once (sym after)) in (
       c.in_ok-way.ensures.same ∙ inv.0,
       leads_map x (λ g. stale t g) files i [] _ c.loop-place.found.items c.judge_read.new.found.items c.args.found.now.items low inv.1 (subst (λ (g : List ℕ). Adds x (stale t g ∷ []) c.loop-place.found.items c.judge_read.new.found.items) (sym is) added),
-      once_step c.once_keeps_first.ensures before f2 c.loop-place.seen c.insert.new.self inv.2 c.in_ok-insert.ensures.ok ∙ ap once (sym after),
+      c.in_ok-is_repeated.ensures.seen,
       λ none. subst (λ (l : List Read). AddsEntries x l c.args.ways.now.items c.match-way-3.ways.items) reads (adds_more_entries x (reads_of_files t (once before)) (record { recipe = t; file = f } ∷ []) c.args.ways.now.items old c.match-way-3.ways.items (inv.3 (nothing_before x (stale t f ∷ []) c.loop-place.found.items c.judge_read.new.found.items added none)) (step none)),
     )
 
@@ -111,7 +104,7 @@ returns-clause-found c =
     let x = c.args.subject.now in
     let e = c.args.entry.now in
     let i = c.loop-place.place in
-    let past : length (reads_of x e.number) ≤ i = omega (arith, c.loop-place-test.false, count_is x e c.reads-count.result.now c.requires.entry c.reads-count.ensures) in
+    let past : length (reads_of x e.number) ≤ i = omega (arith, c.loop-place-test.false, count_is x e c.reads-reads.result.now c.requires.entry c.reads-reads.ensures) in
     leads_done x (map (λ f. stale e.number f) (drop i (reads_of x e.number))) _ c.loop-place.found.items c.args.found.now.items (ap (λ (fs : List (List ℕ)). map (λ f. stale e.number f) fs) (drop_past (reads_of x e.number) i past)) c.loop-place.invariant.1
 
 pub returns-clause-ways : goal.returns-clause-ways
@@ -119,5 +112,5 @@ returns-clause-ways c none =
     let x = c.args.subject.now in
     let e = c.args.entry.now in
     let i = c.loop-place.place in
-    let past : length (reads_of x e.number) ≤ i = omega (arith, c.loop-place-test.false, count_is x e c.reads-count.result.now c.requires.entry c.reads-count.ensures) in
+    let past : length (reads_of x e.number) ≤ i = omega (arith, c.loop-place-test.false, count_is x e c.reads-reads.result.now c.requires.entry c.reads-reads.ensures) in
     subst (λ (l : List (List ℕ)). AddsEntries x (reads_of_files e.number (once l)) c.args.ways.now.items c.loop-place.ways.items) (take_all i (reads_of x e.number) past) (c.loop-place.invariant.3 none)

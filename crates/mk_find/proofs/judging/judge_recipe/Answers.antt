@@ -1,9 +1,19 @@
 -- The search is the one that begins at the recipe.
-use Rattle.std.proofs.Common.{◌≡◌, ◌∙◌, ℕ, ap, sym, subst}
+use Rattle.std.proofs.Common.{◌≡◌, ◌∙◌, ℕ, List, [], ap, sym, subst, length, map}
+use Rattle.std.proofs.lemmas.Bool.{eqb-true}
+use Rattle.std.proofs.lemmas.List.{nil_from_length}
+use Rattle.mk_lines.specs.Names.{once}
 use Rattle.mk_search.specs.Places.{Task}
 use Rattle.mk_search.specs.Ways.{successors}
 use Rattle.mk_cert.specs.Carried.{carried}
 use Rattle.mk_cert.specs.Entry.{Entry}
+use Rattle.mk_cert.specs.Candidates.{stale}
+use Rattle.mk_cert.specs.Listed.{Adds}
+use Rattle.mk_cert.specs.Subject.{reads_of}
+use Rattle.mk_find.specs.Certifying.{AddsEntries}
+use Rattle.mk_find.proofs.Adding.{adds_nothing}
+use Rattle.mk_find.proofs.AddingEntries.{adds_no_entries, reads_of_files}
+use Rattle.mk_find.proofs.Noting.{count_is}
 use Rattle.mk_find.proofs.judging.judge_recipe.Goals as goal
 
 pub judge_reads-requires-clause-rows : goal.judge_reads-requires-clause-rows
@@ -13,3 +23,19 @@ judge_reads-requires-clause-rows c =
 pub judge_reads-requires-clause-start : goal.judge_reads-requires-clause-start
 judge_reads-requires-clause-start c =
     ap (λ (task : Task). task.start) c.in_ok-search.ensures ∙ ap (λ (k : Entry). k.number) c.entry.view_is
+
+pub returns-then-is_empty-clause-found : goal.returns-then-is_empty-clause-found
+returns-then-is_empty-clause-found c =
+    let x = c.args.subject.now in
+    let t = c.args.entry.now.number in
+    let few : length c.reads.result.now ≡ 0 = eqb-true (length c.reads.result.now) 0 (sym c.if-is_empty.ensures) in
+    let none : reads_of x t ≡ [] = nil_from_length (reads_of x t) (sym (count_is x c.args.entry.now c.reads.result.now c.requires.entry c.reads.ensures) ∙ few) in
+    subst (λ (fs : List (List ℕ)). Adds x (map (λ f. stale t f) fs) c.args.found.now.items c.args.found.now.items) (sym none) (adds_nothing x c.args.found.now.items)
+
+pub returns-then-is_empty-clause-ways : goal.returns-then-is_empty-clause-ways
+returns-then-is_empty-clause-ways c = λ nothing.
+    let x = c.args.subject.now in
+    let t = c.args.entry.now.number in
+    let few : length c.reads.result.now ≡ 0 = eqb-true (length c.reads.result.now) 0 (sym c.if-is_empty.ensures) in
+    let none : reads_of x t ≡ [] = nil_from_length (reads_of x t) (sym (count_is x c.args.entry.now c.reads.result.now c.requires.entry c.reads.ensures) ∙ few) in
+    subst (λ (fs : List (List ℕ)). AddsEntries x (reads_of_files t (once fs)) c.args.ways.now.items c.args.ways.now.items) (sym none) (adds_no_entries x c.args.ways.now.items)

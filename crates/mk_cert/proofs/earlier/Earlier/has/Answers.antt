@@ -1,11 +1,8 @@
-use Rattle.std.proofs.Common.{◌≡◌, List, [], ◌∷◌, ℕ, Option, true, inl, inr, refl, sym, subst, ◌∙◌}
-use Rattle.std.specs.Prelude.{◌↔◌}
+use Rattle.std.proofs.Common.{List, [], ◌∷◌, ℕ, inl, inr, refl, subst}
 use Rattle.mk_graph.specs.Membership.{Has}
 use Rattle.mk_graph.specs.Graph.{Graph, prerequisites}
 use Rattle.mk_graph.specs.Turns.{HasAll, Before}
-use Rattle.mk_cert.specs.Earlier.{AreRowsOf}
 use Rattle.mk_cert.proofs.earlier.Earlier.has.Goals as goal
-use Rattle.mk_cert.proofs.earlier.Earlier.has.Goals.{in-Some, in-None+in_ok-rows-in-None}
 
 all_has : (done ns : List ℕ) (n : ℕ) → HasAll done ns → Has ns n → Has done n
 all_has done [] n all h = absurd h
@@ -16,17 +13,7 @@ all_has done (m ∷ ns) n all (inr there) = all_has done ns n all.1 there
 direct_before : (g : Graph) (o t : ℕ) → Has (prerequisites g t) o → Before g o t
 direct_before g o t listed = λ recipe goals ns part turns may. all_has ns (prerequisites g t) o may.prerequisites listed
 
-pub returns-then-has-clause-before : goal.returns-then-has-clause-before
-returns-then-has-clause-before c =
-    let e = c.self.inside in
-    let listed = c.self.invariant.0 c.args.other (c.has.ensures.0 c.if-has.true) in
-    rw (← c.self.view_is) (λ yes. direct_before e.graph.now c.args.other e.number listed, λ before. refl)
-
-pub returns-clause-before : goal.returns-clause-before
-returns-clause-before c =
-    let e = c.self.inside in
-    let of : c.match-take.rows ≡ e.graph.now = elim c.match-take.branch [
-      | in-Some w ↦ w.rows-is ∙ subst (λ (r : Option Graph). AreRowsOf e.graph.now r) (sym c.take.ensures.value ∙ w.in-Some.is) c.self.invariant.1
-      | in-None+in_ok-rows-in-None w ↦ w.rows-is ∙ w.in_ok-rows-in-None.ensures
-    ] in
-    rw (← c.self.view_is) (subst (λ (g : Graph). (c.before-is.result ≡ true) ↔ Before g c.args.other e.number) of c.before-is.ensures)
+pub returns-then-lists-clause-before : goal.returns-then-lists-clause-before
+returns-then-lists-clause-before c =
+    let e = c.args.self.now in
+    (λ yes. direct_before e.graph c.args.other e.number (c.lists.ensures c.if-lists.true), λ before. refl)

@@ -6,8 +6,8 @@ use Rattle.mk_graph.specs.Graph.{node}
 use Rattle.mk_graph.specs.Without.{joined}
 use Rattle.mk_graph.proofs.Loops.{lists}
 use Rattle.mk_graph.proofs.Rounds.{at_place, free_joins, free_stays, all_free, groups_are}
-use Rattle.mk_graph.proofs.greedy.free_of.Goals as goal
-use Rattle.mk_graph.proofs.greedy.free_of.Goals.{then-has_groups, else-has_groups}
+use Rattle.mk_graph.proofs.without.free_of.Goals as goal
+use Rattle.mk_graph.proofs.without.free_of.Goals.{then-has_groups, else-has_groups}
 
 pub offset_bounds-nodes-n : goal.offset_bounds-nodes-n
 offset_bounds-nodes-n c =

@@ -3,11 +3,11 @@ use Rattle.std.specs.Prelude.{◌↔◌}
 use Rattle.mk_graph.specs.Graph.{prerequisites}
 use Rattle.mk_graph.specs.Membership.{Has}
 use Rattle.mk_cert.proofs.Rows.{RowsHold}
-use Rattle.mk_cert.proofs.links.needed_sets.Given as goal
+use Rattle.mk_cert.proofs.links.needed_by.Given as goal
 
--- the sets so far
+-- the lists so far
 abbrev pub invariant-loop-number : goal.invariant-loop-number
 invariant-loop-number l = record {
-  many : length l.sets.items ≡ l.number;
-  held : RowsHold (λ (t : ℕ) (set : List ℕ). (p : ℕ) → Has set p ↔ Has (prerequisites l.graph t) p) l.sets.items [];
+  many : length l.lists.items ≡ l.number;
+  held : RowsHold (λ (t : ℕ) (set : List ℕ). (p : ℕ) → Has set p ↔ Has (prerequisites l.graph t) p) l.lists.items [];
 }

@@ -1,0 +1,66 @@
+//! What a node needs, looked up by number.
+
+ghost use Rattle.std.specs.Prelude.{◌≡◌, ◌<◌, ◌↔◌, ℕ, true, IfOk};
+ghost use Rattle.mk_graph.specs.Membership.{Has};
+
+use crate::writer_findings::has_number;
+use mk_graph::NodeSet;
+use std::alloc::{AllocError, Global};
+use std::marker::Model;
+
+/// Of so many numbers no set is made: to go through them costs no more than to make one.
+const FEW: usize = 16;
+
+/// The direct prerequisites of a node, which are looked up: where there are few, in the list
+/// itself. A contract sees the list.
+#[derive(Drop)]
+pub struct Needed<'a> {
+    list: &'a [usize],
+    set: Option<Box<NodeSet>>,
+}
+
+impl<'a> Model for Needed<'a> {
+    ghost use Rattle.std.specs.Prelude.{List, ℕ};
+    ghost use Rattle.mk_cert.specs.Needed.{AreSetOf};
+
+    ghost Value = { List ℕ };
+
+    ghost view = { λ m. m.list.now };
+
+    ghost invariant = { λ m. AreSetOf m.list.now m.set };
+}
+
+/// The set of these numbers.
+fn set_of(numbers: &[usize]) -> NodeSet
+    requires { (n : ℕ) → Has numbers.now n → n < 4096 }
+    ensures { (n : ℕ) → Has result n ↔ Has numbers.now n }
+{
+    let mut set = NodeSet::new();
+    set.insert_all(numbers);
+    set
+}
+
+impl<'a> Needed<'a> {
+    /// Those of this list. The error is want of memory alone.
+    pub fn new(alloc: Global, list: &'a [usize]) -> Result<Needed<'a>, AllocError>
+        requires { (n : ℕ) → Has list.now n → n < 4096 }
+        ensures { IfOk result (λ needed. needed ≡ list.now) }
+    {
+        let set = if list.len() > FEW {
+            Some(Box::new(alloc, set_of(list))?)
+        } else {
+            None
+        };
+        Ok(Needed { list, set })
+    }
+
+    /// Whether this is one of them.
+    pub fn has(&self, number: usize) -> bool
+        ensures { (result ≡ true) ↔ Has self.now number }
+    {
+        match &self.set {
+            Some(set) => set.has(number),
+            None => has_number(self.list, number),
+        }
+    }
+}
