@@ -13,7 +13,8 @@ from itertools import cycle, islice
 from pathlib import Path
 
 from generate import recipe
-from run import DATA, RUNS, asked
+from instructions import counter
+from run import DATA, RUNS, executable, options
 from spending import least, spent
 from verdicts import Build, ruled, written
 
@@ -197,52 +198,70 @@ def planned(label: str, lines: list[str]) -> Path:
     return plan
 
 
-def time(program: str, words: list[str], runs: int = RUNS) -> float:
+def time(command: list[str]) -> float:
     """The least processor time of some runs, in milliseconds."""
-    return least([spent([program, *words], {0}, Path(os.devnull)) for _ in range(runs)]).time
+    return least([spent(command, {0}, Path(os.devnull)) for _ in range(RUNS)]).time
 
 
-def simulated(program: str, files: Files, lines: list[str]) -> float:
-    """The time of a plan over these files."""
-    return time(program, [*files.words("simulate"), "-p", planned("plan", lines).name])
+@dataclass(frozen=True)
+class Measured:
+    """A program, and what it is measured by."""
+
+    path: str
+    cost: Callable[[list[str]], float]
+
+    def graph(self, files: Files) -> float:
+        """What the graph of these files costs."""
+        return self.cost([self.path, *files.words("graph")])
+
+    def simulated(self, files: Files, lines: list[str]) -> float:
+        """What a plan over these files costs."""
+        return self.cost([self.path, *files.words("simulate"), "-p", planned("plan", lines).name])
 
 
-def one_row(program: str, shape: Callable[[int], Build], count: int) -> str:
+def one_row(program: Measured, shape: Callable[[int], Build], count: int) -> str:
     """The figures of plans of one make."""
     half, whole = shape(count // 2), shape(count)
     few = Files(*written(half, "half"))
-    one_of_half = simulated(program, few, one_make(half))
-    all_of_half = simulated(program, few, overlapping(half, Contents()))
+    one_of_half = program.simulated(few, one_make(half))
+    all_of_half = program.simulated(few, overlapping(half, Contents()))
     files = Files(*written(whole, "whole"))
-    graph, one = time(program, files.words("graph")), simulated(program, files, one_make(whole))
-    overlap = simulated(program, files, overlapping(whole, Contents()))
+    graph, one = program.graph(files), program.simulated(files, one_make(whole))
+    overlap = program.simulated(files, overlapping(whole, Contents()))
     return (
         f"{f'{shape.__name__} {count}':<14}{graph:>10.1f}{one:>10.1f}{one / graph:>7.1f}{one / one_of_half:>8.1f}"
         f"{overlap:>12.1f}{overlap / all_of_half:>8.1f}"
     )
 
 
-def many_row(program: str, shape: Callable[[int], Build], count: int) -> str:
+def many_row(program: Measured, shape: Callable[[int], Build], count: int) -> str:
     """The figures of plans of many makes."""
     whole = shape(count)
     files = Files(*written(whole, "whole"))
     cells = [f"{f'{shape.__name__} {count}':<14}"]
     for makes in (passing, running_all, overlapping_all):
-        fewer, many = (simulated(program, files, cut(makes(whole), lines)) for lines in (LINES // 2, LINES))
+        fewer, many = (program.simulated(files, cut(makes(whole), lines)) for lines in (LINES // 2, LINES))
         cells.append(f"{many:>12.1f}{many / fewer:>8.1f}")
     return "".join(cells)
 
 
 def main() -> None:
-    program = asked(__doc__)[0].path
+    parser = options(__doc__)
+    parser.add_argument("--instructions", action="store_true", help="count millions of instructions in place of milliseconds")
+    given = parser.parse_args()
+    cost, unit, said = time, "ms", f"processor time, least of {RUNS} runs"
+    if given.instructions:
+        count_of = counter()
+        cost, unit, said = (lambda command: count_of(command, 0) / 10**6), "M", "instructions of the program, one run"
+    program = Measured(str(executable(given.program)), cost)
     DATA.mkdir(exist_ok=True)
     os.chdir(DATA)
-    print(f"processor time, least of {RUNS} runs; {program}")
-    print(f"{'one make':<14}{'graph ms':>10}{'run ms':>10}{'ratio':>7}{'growth':>8}{'overlap ms':>12}{'growth':>8}")
+    print(f"{said}; {program.path}")
+    print(f"{'one make':<14}{f'graph {unit}':>10}{f'run {unit}':>10}{'ratio':>7}{'growth':>8}{f'overlap {unit}':>12}{'growth':>8}")
     for shape, count in SHAPES:
         print(one_row(program, shape, count), flush=True)
     print(f"{'at most':<34}{RATIO_BOUND:>7.1f}{GROWTH_BOUND:>8.1f}{GROWTH_BOUND:>20.1f}")
-    print(f"{f'{LINES} lines':<14}{'pass ms':>12}{'growth':>8}{'run ms':>12}{'growth':>8}{'overlap ms':>12}{'growth':>8}")
+    print(f"{f'{LINES} lines':<14}{f'pass {unit}':>12}{'growth':>8}{f'run {unit}':>12}{'growth':>8}{f'overlap {unit}':>12}{'growth':>8}")
     for shape, count in SHAPES:
         print(many_row(program, shape, count), flush=True)
     print(f"{'at most':<14}" + 3 * f"{GROWTH_BOUND:>20.1f}")
