@@ -2,7 +2,6 @@
 use Rattle.std.proofs.Common.{◌≡◌, ℕ, ◌+◌, ◌<◌, Bool, true, false, not, ◌||◌, cond, List, [], ◌∷◌, ◌++◌, length, get_or, map, take, refl, sym, ap, ◌∙◌, append-nil}
 use Rattle.std.specs.Prelude.{filter}
 use Rattle.std.specs.Str.{bytes_eq}
-use Rattle.std.proofs.lemmas.Bool.{not-false, not-true}
 use Rattle.std.proofs.lemmas.List.{take_more, map_push, map-append}
 use Rattle.std.proofs.lemmas.List.Elements.{filter_more}
 use Rattle.std.proofs.lemmas.List.Folds.{list_any-append}
@@ -39,13 +38,17 @@ seen_more view seen new files i d x name e is h lt =
     ap (λ ns. has_name ns name) e ∙ (after_insert seen x name (has_name seen x) refl
     ∙ (ap (λ b. b || bytes_eq name x) h ∙ sym (ap (λ ns. has_name ns name) more ∙ has_name_push (map view (take i files)) x name)))
 
--- a file that was seen changes nothing
-pub noted_same : (seen new : List (List ℕ)) (x name : List ℕ) (numbers old : List ℕ) (number : ℕ) (added : Bool) → added ≡ not (has_name seen x) → added ≡ false → new ≡ cond (has_name seen x) seen (seen ++ x ∷ [])
-    → numbers ≡ cond (has_name seen name) (old ++ number ∷ []) old → numbers ≡ cond (has_name new name) (old ++ number ∷ []) old
-noted_same seen new x name numbers old number added a f e h =
-    let there : has_name seen x ≡ true = not-false (has_name seen x) (sym a ∙ f) in
-    let same : new ≡ seen = e ∙ ap (λ b. cond b seen (seen ++ x ∷ [])) there in
-    h ∙ ap (λ s. cond (has_name s name) (old ++ number ∷ []) old) (sym same)
+-- which files stand among those up to a place
+stands_more : (files : List (List ℕ)) (i : ℕ) (name : List ℕ) → i < length files → has_name (take (i + 1) files) name ≡ (has_name (take i files) name || bytes_eq name (get_or files i []))
+stands_more files i name lt = ap (λ ns. has_name ns name) (take_more files i [] lt) ∙ has_name_push (take i files) (get_or files i []) name
+
+-- a file that stood before changes nothing
+pub noted_same : (files : List (List ℕ)) (i : ℕ) (name : List ℕ) (numbers old : List ℕ) (number : ℕ) → i < length files → has_name (take i files) (get_or files i []) ≡ true
+    → numbers ≡ cond (has_name (take i files) name) (old ++ number ∷ []) old → numbers ≡ cond (has_name (take (i + 1) files) name) (old ++ number ∷ []) old
+noted_same files i name numbers old number lt there h =
+    let x = get_or files i [] in
+    let same : has_name (take i files) name ≡ has_name (take (i + 1) files) name = or_there (take i files) x name there (bytes_eq name x) refl ∙ sym (stands_more files i name lt) in
+    h ∙ ap (λ b. cond b (old ++ number ∷ []) old) same
 
 -- a new one has the number
 at_name : (seen : List (List ℕ)) (x name : List ℕ) (old : List ℕ) (number : ℕ) (before : List ℕ) → has_name seen x ≡ false → before ≡ cond (has_name seen name) (old ++ number ∷ []) old → (b : Bool) → bytes_eq name x ≡ b
@@ -59,12 +62,11 @@ at_name seen x name old number before new h false t = h ∙ sym (or_none (has_na
     or_none true = refl
     or_none false = refl
 
-pub noted_more : (seen new : List (List ℕ)) (x name : List ℕ) (before after old : List ℕ) (number : ℕ) (added : Bool) → added ≡ not (has_name seen x) → added ≡ true → new ≡ cond (has_name seen x) seen (seen ++ x ∷ [])
-    → before ≡ cond (has_name seen name) (old ++ number ∷ []) old → after ≡ cond (bytes_eq name x) (before ++ number ∷ []) before → after ≡ cond (has_name new name) (old ++ number ∷ []) old
-noted_more seen new x name before after old number added a t e h k =
-    let unseen : has_name seen x ≡ false = not-true (has_name seen x) (sym a ∙ t) in
-    let same : new ≡ seen ++ x ∷ [] = e ∙ ap (λ b. cond b seen (seen ++ x ∷ [])) unseen in
-    k ∙ (at_name seen x name old number before unseen h (bytes_eq name x) refl ∙ ap (λ b. cond b (old ++ number ∷ []) old) (sym (ap (λ s. has_name s name) same ∙ has_name_push seen x name)))
+pub noted_more : (files : List (List ℕ)) (i : ℕ) (name : List ℕ) (before after old : List ℕ) (number : ℕ) → i < length files → has_name (take i files) (get_or files i []) ≡ false
+    → before ≡ cond (has_name (take i files) name) (old ++ number ∷ []) old → after ≡ cond (bytes_eq name (get_or files i [])) (before ++ number ∷ []) before → after ≡ cond (has_name (take (i + 1) files) name) (old ++ number ∷ []) old
+noted_more files i name before after old number lt unseen h k =
+    let x = get_or files i [] in
+    k ∙ (at_name (take i files) x name old number before unseen h (bytes_eq name x) refl ∙ ap (λ b. cond b (old ++ number ∷ []) old) (sym (stands_more files i name lt)))
 
 -- one node more
 pub writing_more : (entries : List Entry) (i : ℕ) (d : Entry) (name : List ℕ) (before after : List ℕ) → after ≡ cond (has_name (entry_writes (get_or entries i d)) name) (before ++ (get_or entries i d).number ∷ []) before

@@ -37,7 +37,6 @@ pub use fault::CertFault;
 pub use finding::Finding;
 pub use findings::static_findings;
 pub use links::{Ends, ends_of};
-pub use node_findings::has_among;
 pub use race_findings::races;
 pub use subject::Subject;
 pub use target::Target;

@@ -3,7 +3,6 @@
 ghost use Rattle.std.specs.Prelude.{◌≡◌, ◌↔◌, ◌∷◌, [], true, Some, map, OnOk};
 ghost use Rattle.std.specs.Option.{option_copied};
 ghost use Rattle.std.specs.String.{string_bytes};
-ghost use Rattle.mk_lines.specs.Names.{has_name};
 ghost use Rattle.mk_cert.specs.Subject.{Subject};
 ghost use Rattle.mk_cert.specs.Candidates.{no_record, other_commands, varying_commands, no_target, selection, choice_with_writes};
 ghost use Rattle.mk_cert.specs.Entry.{IsEntry};
@@ -12,7 +11,7 @@ ghost use Rattle.mk_cert.specs.Tests.{lacks_record, has_varying, lacks_target, l
 
 use crate::entry::Entry;
 use crate::finding::Finding;
-use mk_foot::Record;
+use mk_foot::{Record, has_among};
 use mk_lines::Name;
 use std::alloc::AllocError;
 
@@ -54,18 +53,6 @@ pub fn note_varying(entry: &Entry<'_>, found: &mut Vec<Finding>) -> Result<(), A
     let recipe = entry.copy_of_name()?;
     found.push(Finding::VaryingCommands { recipe })?;
     Ok(())
-}
-
-/// Whether a name stands among these. It goes through them, so it is for few.
-pub fn has_among(names: &[String], name: &str) -> bool
-    ensures { result ≡ has_name (map string_bytes names.now) name.now }
-{
-    for other in names {
-        if name == other.as_str() {
-            return true;
-        }
-    }
-    false
 }
 
 /// Whether a recipe has a record, isn't phony, and doesn't write its target.

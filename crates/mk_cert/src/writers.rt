@@ -9,7 +9,7 @@ ghost use Rattle.mk_cert.specs.Writers.{numbers_at};
 
 use crate::entry::Entry;
 use indexmap::IndexMap;
-use mk_lines::NameSet;
+use mk_foot::{is_repeated, seen_of};
 use std::alloc::{AllocError, Global};
 
 /// For each file the numbers of the nodes that write it, in the serial order.
@@ -42,12 +42,12 @@ fn add_files<'a>(
         numbers_at writers.new name ≡ (if has_name (map string_bytes files.now) name
         then numbers_at writers.old name ++ number ∷ [] else numbers_at writers.old name)) }
 {
-    let mut seen = NameSet::new(alloc);
-    for file in files {
-        if !seen.insert(file)? {
+    let mut seen = seen_of(alloc, files.len())?;
+    for place in 0..files.len() {
+        if is_repeated(files, place, &mut seen)? {
             continue;
         }
-        add_writer(alloc, writers, file, number)?;
+        add_writer(alloc, writers, files[place].as_str(), number)?;
     }
     Ok(())
 }

@@ -47,7 +47,8 @@ pub fn parted<'a>(table: &RuleTable<'_>, name: &'a str) -> (&'a str, &'a str)
 fn joined(alloc: Global, front: &str, back: &str) -> Result<String, AllocError>
     ensures { IfOk result (λ text. string_bytes text ≡ front.now ++ back.now) }
 {
-    let mut text = String::from_str(alloc, front)?;
+    let mut text = String::with_capacity(alloc, front.len().saturating_add(back.len()))?;
+    text.push_str(front)?;
     text.push_str(back)?;
     Ok(text)
 }

@@ -1,6 +1,7 @@
 //! The printed words of a verdict.
 
 ghost use Rattle.std.specs.Prelude.{◌≡◌, ◌++◌, IfOk, OnOk};
+ghost use Rattle.std.specs.String.{string_bytes};
 ghost use Rattle.mk_plans.specs.PlanText.{names_text};
 ghost use Rattle.mk_core.specs.VerdictText.{finding_line, findings_text, verdict_text, way_line, ways_text, yes_line};
 
@@ -54,22 +55,22 @@ fn push_ways(out: &mut Vec<u8>, ways: &[Way]) -> Result<(), AllocError>
 }
 
 /// Adds the line of a finding.
-fn push_finding(alloc: Global, out: &mut Vec<u8>, finding: &Finding) -> Result<(), AllocError>
-    ensures { OnOk result (out.new.items ≡ out.old.items ++ finding_line finding.now) }
+fn push_finding(out: &mut String, finding: &Finding) -> Result<(), AllocError>
+    ensures { OnOk result (string_bytes out.new ≡
+        string_bytes out.old ++ finding_line finding.now) }
 {
-    let line = format!(in alloc; "no {finding}\n")?;
-    out.extend_from_slice(line.as_bytes())
+    writeln!(out, "no {finding}")
 }
 
 /// The lines of findings.
 fn findings_text(alloc: Global, found: &[Finding]) -> Result<Vec<u8>, AllocError>
     ensures { IfOk result (λ text. text.items ≡ findings_text found.now) }
 {
-    let mut out = Vec::new(alloc);
+    let mut out = String::new(alloc);
     for finding in found {
-        push_finding(alloc, &mut out, finding)?;
+        push_finding(&mut out, finding)?;
     }
-    Ok(out)
+    Ok(out.into_bytes())
 }
 
 /// What `mkcheck check` prints: `yes`, the number of recipes and of their reads, and a line for

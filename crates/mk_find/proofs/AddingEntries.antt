@@ -1,7 +1,7 @@
 -- Entries of a certificate that grow.
 use Rattle.std.proofs.Common.{◌≡◌, ℕ, ◌+◌, ◌<◌, Bool, true, false, cond, inl, inr, length, length-append, reverse, List, [], ◌∷◌, ◌++◌, map, sym, ap, subst, ◌∙◌, append_assoc, append-nil, arith}
 use Rattle.std.proofs.lemmas.List.{length-map, nil_from_length}
-use Rattle.mk_lines.specs.Names.{has_name, once, with_name}
+use Rattle.mk_lines.specs.Names.{has_name, once}
 use Rattle.mk_foot.specs.Laws.{OnceKeepsFirst}
 use Rattle.mk_graph.specs.Membership.{Has}
 use Rattle.mk_ways.specs.declared.certificate.Finish.{Finish}
@@ -56,11 +56,6 @@ nodes_low x f t nodes finish low goes n h = by (subst (λ (l : List ℕ). Has l 
     by : Has (t ∷ reverse goes.way) n → n < length x.graph.nodes
     by (inl here) = subst (λ (m : ℕ). m < length x.graph.nodes) here low
     by (inr there) = recipe_is_node x.graph n (carried_are_recipes x t (reverse goes.way) goes.first.path.carried n there)
-
--- the names so far, each once, and one more
-pub once_step : OnceKeepsFirst → (files : List (List ℕ)) (f : List ℕ) (seen new : List (List ℕ)) → seen ≡ once files → new ≡ with_name seen f → new ≡ once (files ++ f ∷ [])
-once_step keeps files f seen new is e =
-    e ∙ (ap (λ (l : List (List ℕ)). with_name l f) is ∙ (ap (λ (b : Bool). cond b (once files) (once files ++ f ∷ [])) ((keeps files).same f) ∙ sym ((keeps files).order f)))
 
 -- one that was there
 pub once_same : OnceKeepsFirst → (files : List (List ℕ)) (f : List ℕ) (seen : List (List ℕ)) → seen ≡ once files → has_name seen f ≡ true → once (files ++ f ∷ []) ≡ once files

@@ -14,11 +14,11 @@ ghost use Rattle.mk_find.specs.Certifying.{AddsEntries, AreEntriesFor, IsEntryFo
 ghost use Rattle.mk_cert.specs.Target.{target_of};
 
 use crate::certifying::entry_along;
-use crate::repeats::is_repeated;
 use crate::stale::note_stale;
 use crate::standing::{Standing, standing_of};
 use mk_cert::laws::{listed_exactly, paths_are_ways};
 use mk_cert::{Ends, Entry, Finding, Subject, Target, carried_lists, ends_of};
+use mk_foot::is_repeated;
 use mk_foot::laws::once_keeps_first;
 use mk_graph::Groups;
 use mk_lines::NameSet;

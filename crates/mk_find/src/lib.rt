@@ -6,7 +6,6 @@ mod first_path;
 mod found;
 mod judging;
 pub mod laws;
-mod repeats;
 mod stale;
 mod standing;
 

@@ -14,6 +14,7 @@ mod names;
 mod parts;
 mod reading;
 mod records;
+mod repeats;
 mod setting;
 mod shapes;
 
@@ -21,4 +22,5 @@ pub use book::{Book, Record};
 pub use fault::FootFault;
 pub use key::Key;
 pub use reading::read_book;
+pub use repeats::{has_among, is_repeated, seen_of};
 pub use setting::Setting;

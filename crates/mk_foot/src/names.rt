@@ -4,6 +4,7 @@ ghost use Rattle.std.specs.Prelude.{◌≡◌, true, map, IfOk};
 ghost use Rattle.std.specs.String.{string_bytes};
 ghost use Rattle.mk_foot.specs.Names.{once};
 
+use crate::repeats::{is_repeated, seen_of};
 use mk_lines::NameSet;
 use std::alloc::{AllocError, Global};
 
@@ -35,9 +36,9 @@ fn are_apart(alloc: Global, names: &[String]) -> Result<bool, AllocError>
     ensures { IfOk result (λ apart. apart ≡ true →
         once (map string_bytes names.now) ≡ map string_bytes names.now) }
 {
-    let mut set = NameSet::with_capacity(alloc, names.len())?;
-    for name in names {
-        if !set.insert(name.as_str())? {
+    let mut seen = seen_of(alloc, names.len())?;
+    for place in 0..names.len() {
+        if is_repeated(names, place, &mut seen)? {
             return Ok(false);
         }
     }

@@ -1,61 +1,77 @@
 -- Visits that are looked up in a table.
-use Rattle.std.proofs.Common.{◌≡◌, ℕ, ◌<◌, true, false, eqb, List, [], ◌∷◌, ◌++◌, length, get_or, inl, inr, Option, Some, None, is_some, MatchOption, refl, sym, ◌∙◌, ap, subst, arith, eqb-true, eq-eqb, position}
+use Rattle.std.proofs.Common.{◌≡◌, ℕ, ◌+◌, ◌<◌, ◌≤◌, true, false, eqb, List, [], ◌∷◌, ◌++◌, length, length-append, zero, suc, ◌⊎◌, below_more, inl, inr, Option, Some, None, is_some, MatchOption, cond, refl, sym, ◌∙◌, ap, arith, eqb-true, eq-eqb}
 use Rattle.std.specs.List.{list_any}
-use Rattle.std.specs.Map.{keys_of, lookup}
-use Rattle.std.proofs.lemmas.Bool.{false≢true, or_cases, or_left, or_right}
-use Rattle.std.proofs.lemmas.List.Quantifiers.{position-Some}
-use Rattle.std.proofs.lemmas.Map.Made.{is_some-lookup}
+use Rattle.std.proofs.lemmas.Bool.{false≢true, or_cases, cases_Bool, cases_lt, cond-true, cond-false}
+use Rattle.std.specs.Option.{unwrap_or}
 use Rattle.mk_graph.specs.Membership.{Has}
 use Rattle.mk_search.specs.declared.visits.Visit.{Visit}
-use Rattle.mk_search.specs.Progress.{nodes_of, visit_at, IsVisited}
-use Rattle.mk_search.specs.Visits.{visits_of}
-use Rattle.mk_search.proofs.Lists.{at_mapped, length_mapped, map_joined}
-
--- the nodes are the keys
-pub nodes_are : (es : List (ℕ × ℕ)) → nodes_of (visits_of es) ≡ keys_of es
-nodes_are [] = refl
-nodes_are (e ∷ es) = ap (λ (l : List ℕ). e.0 ∷ l) (nodes_are es)
+use Rattle.mk_search.specs.Progress.{nodes_of, IsVisited}
+use Rattle.mk_search.specs.Visits.{node_at, AreNoted}
+use Rattle.mk_search.proofs.Lists.{at_front}
 
 -- a number that some element equals is one
 pub has_from_any : (ns : List ℕ) (n : ℕ) → list_any (eqb n) ns ≡ true → Has ns n
 has_from_any [] n e = absurd (false≢true e)
 has_from_any (m ∷ ms) n e = elim (or_cases (eqb n m) (list_any (eqb n) ms) e) [ inl here ↦ inl (sym (eqb-true n m here)) | inr there ↦ inr (has_from_any ms n there) ]
 
--- an element equals some element
-any_from_has : (ns : List ℕ) (n : ℕ) → Has ns n → list_any (eqb n) ns ≡ true
-any_from_has [] n h = absurd h
-any_from_has (m ∷ ms) n (inl here) = or_left (eqb n m) (list_any (eqb n) ms) (eq-eqb n m (sym here))
-any_from_has (m ∷ ms) n (inr there) = or_right (eqb n m) (list_any (eqb n) ms) (any_from_has ms n there)
+-- the place of one more visit is noted
+pub noted_more : (visits : List Visit) (old new : ℕ → Option ℕ) (noted node : ℕ) → AreNoted visits old noted → noted < length visits → node ≡ node_at visits noted
+    → ((q : ℕ) → new q ≡ cond (eqb node q) (Some noted) (old q)) → AreNoted visits new (noted + 1)
+noted_more visits old new noted node so_far lt is says =
+    record {
+      within = omega arith;
+      all = below_more _ _ (λ k low. before k low (cases_Bool (eqb node (node_at visits k)))) (ap is_some (at_node noted (eq-eqb node (node_at visits noted) is)));
+      stand = λ n k e. stand n k e (cases_Bool (eqb node n));
+    }
+  where
+    at_node : (k : ℕ) → eqb node (node_at visits k) ≡ true → new (node_at visits k) ≡ Some noted
+    at_node k t = says (node_at visits k) ∙ cond-true (eqb node (node_at visits k)) (Some noted) (old (node_at visits k)) t
+    before : (k : ℕ) → k < noted → (eqb node (node_at visits k) ≡ true) ⊎ (eqb node (node_at visits k) ≡ false) → is_some (new (node_at visits k)) ≡ true
+    before k low (inl t) = ap is_some (at_node k t)
+    before k low (inr f) = ap is_some (says (node_at visits k) ∙ cond-false (eqb node (node_at visits k)) (Some noted) (old (node_at visits k)) f) ∙ so_far.all k low
+    stand : (n k : ℕ) → new n ≡ Some k → (eqb node n ≡ true) ⊎ (eqb node n ≡ false) → (k < length visits) × (node_at visits k ≡ n)
+    stand n k e (inl t) =
+        let here : Some noted ≡ Some k = sym (says n ∙ cond-true (eqb node n) (Some noted) (old n) t) ∙ e in
+        let same : noted ≡ k = ap (λ (o : Option ℕ). unwrap_or o 0) here in
+        (omega arith, ap (node_at visits) (sym same) ∙ (sym is ∙ eqb-true node n t))
+    stand n k e (inr f) = so_far.stand n k (sym (says n ∙ cond-false (eqb node n) (Some noted) (old n) f) ∙ e)
 
--- what the table has stands among the nodes
-pub has_node : (es : List (ℕ × ℕ)) (n : ℕ) → is_some (lookup (eqb n) es) ≡ true → Has (nodes_of (visits_of es)) n
-has_node es n e = subst (λ (l : List ℕ). Has l n) (sym (nodes_are es)) (has_from_any (keys_of es) n (sym (is_some-lookup (eqb n) es) ∙ e))
+-- one more visit behind those that are noted
+pub noted_pushed : (visits : List Visit) (place : ℕ → Option ℕ) (noted : ℕ) (visit : Visit) → AreNoted visits place noted → AreNoted (visits ++ visit ∷ []) place noted
+noted_pushed visits place noted visit so_far =
+    let more : length (visits ++ visit ∷ []) ≡ length visits + 1 = length-append visits (visit ∷ []) in
+    let none : Visit = record { node = 0; from = 0 } in
+    let same : (k : ℕ) → k < length visits → node_at (visits ++ visit ∷ []) k ≡ node_at visits k = λ k lt. ap (λ (v : Visit). v.node) (at_front visits (visit ∷ []) k none lt) in
+    record {
+      within = omega (arith, so_far.within);
+      all = λ k low. ap (λ n. is_some (place n)) (same k (omega (arith, so_far.within))) ∙ so_far.all k low;
+      stand = λ n k e. let here = so_far.stand n k e in (omega (arith, here.0), same k here.0 ∙ here.1);
+    }
 
--- what it lacks doesn't
-pub lacks_node : (es : List (ℕ × ℕ)) (n : ℕ) → is_some (lookup (eqb n) es) ≡ false → ¬ (Has (nodes_of (visits_of es)) n)
-lacks_node es n e h = false≢true (sym e ∙ (is_some-lookup (eqb n) es ∙ any_from_has (keys_of es) n (subst (λ (l : List ℕ). Has l n) (nodes_are es) h)))
+-- a node that no visit has
+pub not_among : (visits : List Visit) (node : ℕ) → ((k : ℕ) → k < length visits → ¬ (node_at visits k ≡ node)) → ¬ (Has (nodes_of visits) node)
+not_among [] node none h = absurd h
+not_among (v ∷ visits) node none (inl here) = none 0 (omega arith) here
+not_among (v ∷ visits) node none (inr there) = not_among visits node (λ k lt. none (suc k) (omega arith)) there
 
--- a place that was found, or none
-pub found_at : (es : List (ℕ × ℕ)) (n : ℕ) (r : Option ℕ) → r ≡ position (eqb n) (keys_of es) → is_some r ≡ is_some (lookup (eqb n) es) → MatchOption r (¬ (Has (nodes_of (visits_of es)) n)) (λ place. (place < length (visits_of es)) × ((visit_at (visits_of es) place).node ≡ n))
-found_at es n None e s = lacks_node es n (sym s)
-found_at es n (Some i) e s =
-    let at = position-Some (eqb n) (keys_of es) i 0 (sym e) in
-    let within : i < length (keys_of es) = at.0 in
-    let long : length (keys_of es) ≡ length (visits_of es) = ap length (sym (nodes_are es)) ∙ length_mapped (λ (visit : Visit). visit.node) (visits_of es) in
-    let less : i < length (visits_of es) = omega arith in
-    let node_is : get_or (nodes_of (visits_of es)) i 0 ≡ (visit_at (visits_of es) i).node = at_mapped (λ (visit : Visit). visit.node) (visits_of es) i (record { node = 0; from = 0 }) 0 less in
-    (less, sym node_is ∙ (ap (λ (l : List ℕ). get_or l i 0) (nodes_are es) ∙ sym (eqb-true n (get_or (keys_of es) i 0) at.1)))
+-- a node that a visit has
+pub among : (visits : List Visit) (node k : ℕ) → k < length visits → node_at visits k ≡ node → Has (nodes_of visits) node
+among [] node k lt e = absurd (omega arith)
+among (v ∷ visits) node zero lt e = inl e
+among (v ∷ visits) node (suc k) lt e = inr (among visits node k (omega arith) e)
 
--- no value is none
-pub none_from_test : {A : Type 0} (o : Option A) → is_some o ≡ false → o ≡ None
-none_from_test None e = refl
-none_from_test (Some x) e = absurd (false≢true (sym e))
+-- a place that was looked for behind those that are noted, where the table has none
+pub found_behind : (visits : List Visit) (place : ℕ → Option ℕ) (noted node : ℕ) (r : Option ℕ) → AreNoted visits place noted → (0 < noted → is_some (place node) ≡ false)
+    → MatchOption r ((k : ℕ) → noted ≤ k → k < length visits → ¬ (node_at visits k ≡ node)) (λ p. (p < length visits) × (node_at visits p ≡ node))
+    → MatchOption r (¬ (Has (nodes_of visits) node)) (λ p. (p < length visits) × (node_at visits p ≡ node))
+found_behind visits place noted node None so_far lacks none =
+    not_among visits node (λ k lt e. elim (cases_lt k noted) [
+      | inl low ↦ false≢true (sym (lacks (omega (arith, low))) ∙ (ap (λ n. is_some (place n)) (sym e) ∙ so_far.all k low))
+      | inr high ↦ none k high lt e
+    ])
+found_behind visits place noted node (Some p) so_far lacks there = there
 
--- a new visit
-pub visited_new : (es fs : List (ℕ × ℕ)) (old : List Visit) (n from : ℕ) → visits_of es ≡ old → is_some (lookup (eqb n) es) ≡ false → fs ≡ es ++ (n, from) ∷ [] → IsVisited old (visits_of fs) n from
-visited_new es fs old n from v lacks e =
-    inr (subst (λ (l : List Visit). ¬ (Has (nodes_of l) n)) v (lacks_node es n lacks), ap visits_of e ∙ (map_joined (λ (e : ℕ × ℕ). record { node = e.0; from = e.1 }) es ((n, from) ∷ []) ∙ ap (λ (l : List Visit). l ++ record { node = n; from = from } ∷ []) v))
-
--- one that there is
-pub visited_again : (es : List (ℕ × ℕ)) (old : List Visit) (n from : ℕ) → visits_of es ≡ old → is_some (lookup (eqb n) es) ≡ true → IsVisited old (visits_of es) n from
-visited_again es old n from v has = inl (subst (λ (l : List Visit). Has (nodes_of l) n) v (has_node es n has), v)
+-- a node that was found is visited already
+pub visited_again : (visits : List Visit) (node from : ℕ) (r : Option ℕ) → is_some r ≡ true → MatchOption r (¬ (Has (nodes_of visits) node)) (λ p. (p < length visits) × (node_at visits p ≡ node)) → IsVisited visits visits node from
+visited_again visits node from None e there = absurd (false≢true e)
+visited_again visits node from (Some p) e there = inl (among visits node p there.0 there.1, refl)

@@ -1,17 +1,20 @@
-use Rattle.std.proofs.Common.{◌<◌, ◌≤◌, length, string_bytes, String, Global, map, ap, ◌∙◌, arith}
-use Rattle.mk_foot.proofs.Apart.{next_apart, all_apart}
-use Rattle.mk_foot.proofs.Once.{once_into}
+use Rattle.std.proofs.Common.{◌≡◌, ◌<◌, ◌+◌, ◌∙◌, false, List, [], ◌∷◌, ◌++◌, ℕ, ap, sym, refl, map, take, length, get_or, arith}
+use Rattle.std.specs.String.{string_bytes}
+use Rattle.std.proofs.lemmas.List.{length-map, take_more}
+use Rattle.mk_foot.specs.Names.{has_name, with_name, once}
+use Rattle.mk_foot.proofs.Once.{once_push}
 use Rattle.mk_foot.proofs.names.are_apart.Goals as goal
 
-pub loop-name-init : goal.loop-name-init
-loop-name-init c = record { same = c.in_ok-set.ensures; kept = rw c.in_ok-set.ensures (once_into (map string_bytes c.args.names.now)) }
-
-pub loop-name-preserved : goal.loop-name-preserved
-loop-name-preserved c =
-    let lt : c.loop-name.name-index < length c.args.names.now = omega arith in
-    next_apart c.loop-name.set c.insert.new.self c.args.names.now c.loop-name.name-index c.name-item.result c.as_str.result.now _ c.loop-name.invariant (c.as_str.ensures.value ∙ ap (λ (s : String Global). string_bytes s) c.name-item.is) c.in_ok-insert.ensures.new c.if-not-branch.false c.in_ok-insert.ensures.ok lt
-
-pub returns : goal.returns
-returns c = λ _.
-    let le : length c.args.names.now ≤ c.loop-name.name-index = omega arith in
-    all_apart c.loop-name.set c.args.names.now c.loop-name.name-index c.loop-name.invariant le
+pub loop-place-preserved : goal.loop-place-preserved
+loop-place-preserved c =
+    let all = map string_bytes c.args.names.now in
+    let i = c.loop-place.place in
+    let x = get_or all i [] in
+    let low : i < length all = omega (arith, length-map c.args.names.now string_bytes) in
+    let after : take (i + 1) all ≡ take i all ++ x ∷ [] = take_more all i [] low in
+    let lacks : has_name (take i all) x ≡ false = sym c.in_ok-is_repeated.ensures.repeated ∙ c.if-branch.false in
+    let more : with_name (take i all) x ≡ take i all ++ x ∷ [] = rw lacks refl in
+    record {
+      apart = ap once after ∙ (once_push (take i all) x ∙ (ap (λ (set : List (List ℕ)). with_name set x) c.loop-place.invariant.apart ∙ (more ∙ sym after)));
+      seen = c.in_ok-is_repeated.ensures.seen;
+    }

@@ -1,20 +1,20 @@
--- The table takes a new node at its end.
-use Rattle.std.proofs.Common.{◌≡◌, false, is_some, nat_eq, sym, ◌∙◌, subst}
-use Rattle.std.specs.Map.{lookup}
+-- A node that isn't there yet goes to the end.
+use Rattle.std.proofs.Common.{List, nat_eq, sym, subst}
+use Rattle.indexmap.specs.IndexMap.{get}
 use Rattle.mk_search.specs.declared.visits.Visit.{Visit}
-use Rattle.mk_search.specs.Progress.{IsVisited}
-use Rattle.std.proofs.Common.{List}
-use Rattle.indexmap.proofs.CallerLemmas.{insert_entry-new}
-use Rattle.mk_search.proofs.Tables.{visited_new, visited_again, none_from_test}
+use Rattle.mk_search.specs.Visits.{AreNoted}
+use Rattle.mk_search.proofs.Tables.{noted_pushed, visited_again}
 use Rattle.mk_search.proofs.visits.Visits.visit.Goals as goal
+use Rattle.mk_search.proofs.visits.Visits.visit.Goals.{then-len-ge-FEW+in_ok-note_all, else-len-ge-FEW}
 
-pub returns-in_ok-insert-clause-ok : goal.returns-in_ok-insert-clause-ok
-returns-in_ok-insert-clause-ok c =
-    let es = c.self.inside.froms.entries in
-    let lacks : is_some (lookup (nat_eq c.args.node) es) ≡ false = sym c.contains_key.ensures ∙ c.if-not-contains_key.true in
-    visited_new es c.insert.new.self.entries c.args.self.now c.args.node c.args.from c.self.view_is lacks (c.in_ok-insert.ensures.entries ∙ insert_entry-new nat_eq c.self.inside.froms c.args.node c.args.from (none_from_test (lookup (nat_eq c.args.node) es) lacks))
+pub returns-then-is_some-clause-ok : goal.returns-then-is_some-clause-ok
+returns-then-is_some-clause-ok c = visited_again c.args.self.now c.args.node c.args.from c.place_of.result (sym c.if-is_some.ensures) c.place_of.ensures
 
-pub returns-else-not-contains_key-clause-ok : goal.returns-else-not-contains_key-clause-ok
-returns-else-not-contains_key-clause-ok c =
-    let es = c.self.inside.froms.entries in
-    subst (λ (l : List Visit). IsVisited c.args.self.now l c.args.node c.args.from) c.self.view_is (visited_again es c.args.self.now c.args.node c.args.from c.self.view_is (sym c.contains_key.ensures ∙ c.if-not-contains_key.false))
+pub invariant_of-self-2 : goal.invariant_of-self-2
+invariant_of-self-2 c =
+    let inside = c.if-len-ge-FEW.self-inside in
+    let noted : AreNoted inside.list.items (get nat_eq inside.places) inside.noted = elim c.if-len-ge-FEW.branch [
+      | then-len-ge-FEW+in_ok-note_all w ↦ rw w.self-inside-is (subst (λ (l : List Visit). AreNoted l (get nat_eq w.note_all.new.places) w.note_all.new.noted) w.as_slice.ensures.value w.note_all.ensures)
+      | else-len-ge-FEW w ↦ rw w.self-inside-is c.self.invariant
+    ] in
+    subst (λ (l : List Visit). AreNoted l (get nat_eq inside.places) inside.noted) (sym c.in_ok-push.ensures.items) (noted_pushed inside.list.items (get nat_eq inside.places) inside.noted _ noted)

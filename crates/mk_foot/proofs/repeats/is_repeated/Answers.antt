@@ -2,8 +2,9 @@ use Rattle.std.proofs.Common.{◌≡◌, ◌∙◌, ◌<◌, ◌+◌, ◌∷◌,
 use Rattle.std.specs.String.{string_bytes}
 use Rattle.std.proofs.lemmas.List.{get_or-map, length-map, take-map, take_more}
 use Rattle.mk_lines.specs.Names.{has_name, once}
-use Rattle.mk_find.proofs.AddingEntries.{once_step}
-use Rattle.mk_find.proofs.repeats.is_repeated.Goals as goal
+use Rattle.mk_lines.specs.Names.{with_name}
+use Rattle.mk_foot.proofs.Once.{once_push}
+use Rattle.mk_foot.proofs.repeats.is_repeated.Goals as goal
 
 -- the name at a place, seen by its bytes
 name_at : (names : List (String Global)) (i : ℕ) (name : String Global) → i < length names → name ≡ get_or names i name → string_bytes name ≡ get_or (map string_bytes names) i []
@@ -24,4 +25,4 @@ returns-clause-seen c = λ many.
     let low : i < length all = omega (arith, c.requires.place, length-map names string_bytes) in
     let here = c.as_str-name.ensures.value ∙ name_at names i c.index-names-place.result c.requires.place c.index-names-place.is in
     let after : take (i + 1) all ≡ take i all ++ c.as_str-name.result.now ∷ [] = take_more all i [] low ∙ ap (λ (name : List ℕ). take i all ++ name ∷ []) (sym here) in
-    once_step c.once_keeps_first.ensures (take i all) c.as_str-name.result.now c.args.seen.now c.insert.new.self (c.requires.seen many) c.in_ok-insert.ensures.ok ∙ ap once (sym after)
+    c.in_ok-insert.ensures.ok ∙ (ap (λ (set : List (List ℕ)). with_name set c.as_str-name.result.now) (c.requires.seen many) ∙ (sym (once_push (take i all) c.as_str-name.result.now) ∙ ap once (sym after)))

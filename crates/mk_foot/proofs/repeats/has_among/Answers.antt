@@ -3,7 +3,7 @@ use Rattle.std.specs.Prelude.{bytes_eq}
 use Rattle.std.specs.String.{string_bytes}
 use Rattle.std.proofs.lemmas.List.{get_or-map, length-map}
 use Rattle.std.proofs.lemmas.List.Folds.{list_any_at}
-use Rattle.mk_cert.proofs.node_findings.has_among.Goals as goal
+use Rattle.mk_foot.proofs.repeats.has_among.Goals as goal
 
 pub returns-then-eq : goal.returns-then-eq
 returns-then-eq c =

@@ -1,7 +1,7 @@
 use Rattle.std.proofs.Common.{◌≡◌, false, map, take}
 use Rattle.std.specs.String.{string_bytes}
 use Rattle.mk_lines.specs.Names.{has_name}
-use Rattle.mk_cert.proofs.node_findings.has_among.Given as goal
+use Rattle.mk_foot.proofs.repeats.has_among.Given as goal
 
 -- none of the names so far is it
 abbrev pub invariant-loop-other : goal.invariant-loop-other
