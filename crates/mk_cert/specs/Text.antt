@@ -21,3 +21,18 @@ text (Loose name writer) = codes "loose " ++ pair name writer
 text (Race recipe writer file) = codes "race " ++ pair recipe (pair writer file)
 text (Stale recipe file) = codes "stale " ++ pair recipe file
 text (Selection name chosen) = codes "selection " ++ pair name chosen
+
+-- the first of the names
+abbrev pub first_name : Finding → List ℕ
+first_name (NoRecord recipe) = recipe
+first_name (OtherCommands recipe) = recipe
+first_name (VaryingCommands recipe) = recipe
+first_name (NoTarget recipe) = recipe
+first_name (TwoWriters first second file) = first
+first_name (GivenWritten recipe file) = recipe
+first_name (OwnRead recipe file) = recipe
+first_name (UnknownRead recipe file) = recipe
+first_name (Loose name writer) = name
+first_name (Race recipe writer file) = recipe
+first_name (Stale recipe file) = recipe
+first_name (Selection name chosen) = name

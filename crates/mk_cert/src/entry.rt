@@ -5,11 +5,13 @@ ghost use Rattle.std.specs.Option.{option_copied};
 ghost use Rattle.std.specs.String.{string_bytes};
 ghost use Rattle.mk_cert.specs.Entry.{reads_in, writes_in, entry_reads, entry_writes};
 
+use crate::finding::Finding;
+use crate::shared_name::SharedName;
 use mk_choice::Commands;
 use mk_foot::Record;
 use mk_graph::Node;
 use mk_lines::Name;
-use std::alloc::AllocError;
+use std::alloc::{AllocError, Global};
 use std::marker::Model;
 
 /// A node with what a subject looks up of it. A contract sees lists.
@@ -72,6 +74,21 @@ impl<'a> Entry<'a> {
         ensures { result.now ≡ self.now.node.name }
     {
         self.node.name.as_str()
+    }
+
+    /// Its name, which the last of these findings lends it, where that is about this node too. The
+    /// error is want of memory alone.
+    pub fn shared_name(&self, alloc: Global, found: &[Finding]) -> Result<SharedName, AllocError>
+        ensures { IfOk result (λ name. name ≡ self.now.node.name) }
+    {
+        if let Some(last) = found.last() {
+            if let Some(name) = last.about() {
+                if name.as_str() == self.name() {
+                    return name.clone();
+                }
+            }
+        }
+        SharedName::new(alloc, self.name())
     }
 
     /// A copy of its name.

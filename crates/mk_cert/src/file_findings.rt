@@ -43,7 +43,7 @@ fn note_taken(
     if !is_taken(subject, file) {
         return Ok(());
     }
-    let recipe = entry.copy_of_name()?;
+    let recipe = entry.shared_name(alloc, found)?;
     let file = Name::new(alloc, file)?;
     found.push(Finding::GivenWritten { recipe, file })?;
     Ok(())
@@ -95,7 +95,7 @@ fn note_unknown(
     if !is_unknown(subject, file) {
         return Ok(());
     }
-    let recipe = entry.copy_of_name()?;
+    let recipe = entry.shared_name(alloc, found)?;
     let file = Name::new(alloc, file.file)?;
     found.push(Finding::UnknownRead { recipe, file })?;
     Ok(())
@@ -141,7 +141,7 @@ fn note_own(
     if !has_number(file.writers, entry.number) {
         return Ok(());
     }
-    let recipe = entry.copy_of_name()?;
+    let recipe = entry.shared_name(alloc, found)?;
     let file = Name::new(alloc, file.file)?;
     found.push(Finding::OwnRead { recipe, file })?;
     Ok(())

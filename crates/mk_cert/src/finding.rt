@@ -1,9 +1,14 @@
 //! What stands against a build.
 
+ghost use Rattle.std.specs.Prelude.{◌≡◌, MatchOption};
+ghost use Rattle.mk_cert.specs.Text.{first_name};
+
+use crate::shared_name::SharedName;
 use mk_lines::Name;
 use std::fmt;
 
-/// What stands against a build, with the names that are printed of it.
+/// What stands against a build, with the names that are printed of it. A recipe that is told of
+/// again and again has its name once, which its findings share.
 #[derive(Debug, Drop)]
 pub enum Finding {
     /// The recipe has no record.
@@ -24,46 +29,63 @@ pub enum Finding {
     },
     /// Two recipes write the file, the first before the second in the serial order.
     TwoWriters {
-        first: Name,
-        second: Name,
+        first: SharedName,
+        second: SharedName,
         file: Name,
     },
     /// It writes a file that is given, phony, or passed over by the reading of the makefile.
     GivenWritten {
-        recipe: Name,
+        recipe: SharedName,
         file: Name,
     },
     /// It reads a file that it writes.
     OwnRead {
-        recipe: Name,
+        recipe: SharedName,
         file: Name,
     },
     /// It reads a file that is neither given nor written by any recipe.
     UnknownRead {
-        recipe: Name,
+        recipe: SharedName,
         file: Name,
     },
     /// The name has no recipe, and the writer of its file is no direct prerequisite of it.
     Loose {
-        name: Name,
+        name: SharedName,
         writer: Name,
     },
     /// It reads a file whose writer isn't always done before it begins.
     Race {
-        recipe: Name,
-        writer: Name,
+        recipe: SharedName,
+        writer: SharedName,
         file: Name,
     },
     /// It reads a file that can change, and nothing makes it run when the file does.
     Stale {
-        recipe: Name,
+        recipe: SharedName,
         file: Name,
     },
     /// Once recipes have written their files, the name has another inferred prerequisite.
     Selection {
-        name: Name,
+        name: SharedName,
         chosen: Name,
     },
+}
+
+impl Finding {
+    /// The name that it is about, where the findings beside it may share it.
+    pub(crate) fn about(&self) -> Option<&SharedName>
+        ensures { MatchOption result (Unit {0}) (λ name. name.now ≡ first_name self.now) }
+    {
+        match self {
+            Finding::TwoWriters { first, .. } => Some(first),
+            Finding::GivenWritten { recipe, .. } => Some(recipe),
+            Finding::OwnRead { recipe, .. } => Some(recipe),
+            Finding::UnknownRead { recipe, .. } => Some(recipe),
+            Finding::Race { recipe, .. } => Some(recipe),
+            Finding::Stale { recipe, .. } => Some(recipe),
+            _ => None,
+        }
+    }
 }
 
 impl fmt::Display for Finding {

@@ -150,7 +150,7 @@ pub fn note_selection(entry: &Entry<'_>, found: &mut Vec<Finding>) -> Result<(),
     if is_choice(&entry.chosen, after) {
         return Ok(());
     }
-    let name = entry.copy_of_name()?;
+    let name = entry.shared_name(*found.allocator(), found)?;
     let chosen = after.clone()?;
     found.push(Finding::Selection { name, chosen })?;
     Ok(())

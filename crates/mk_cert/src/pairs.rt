@@ -12,6 +12,7 @@ ghost use Rattle.mk_cert.specs.Listed.{Adds};
 
 use crate::entry::Entry;
 use crate::finding::Finding;
+use crate::shared_name::SharedName;
 use crate::subject::Subject;
 use mk_graph::laws::serial_reaches_each_once;
 use mk_lines::Name;
@@ -31,8 +32,8 @@ fn note_pair(
     ensures { OnOk result (Adds subject.now (two_writers entry.now.number other file.now ∷ [])
         found.old.items found.new.items) }
 {
-    let first = entry.copy_of_name()?;
-    let second = subject.copy_of_name(other)?;
+    let first = entry.shared_name(alloc, found)?;
+    let second = SharedName::new(alloc, subject.name(other))?;
     let file = Name::new(alloc, file)?;
     found.push(Finding::TwoWriters {
         first,

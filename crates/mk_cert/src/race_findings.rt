@@ -13,6 +13,7 @@ ghost use Rattle.mk_cert.specs.Target.{target_of};
 use crate::earlier::Earlier;
 use crate::entry::Entry;
 use crate::finding::Finding;
+use crate::shared_name::SharedName;
 use crate::subject::Subject;
 use crate::target::Target;
 use mk_lines::Name;
@@ -44,8 +45,8 @@ fn note_race(
     if before {
         return Ok(());
     }
-    let recipe = entry.copy_of_name()?;
-    let writer = subject.copy_of_name(other)?;
+    let recipe = entry.shared_name(alloc, found)?;
+    let writer = SharedName::new(alloc, subject.name(other))?;
     let file = Name::new(alloc, file)?;
     found.push(Finding::Race {
         recipe,

@@ -41,7 +41,7 @@ fn note_loose_writer(
     if has_number(subject.graph().prerequisites(entry.number), writer) {
         return Ok(());
     }
-    let name = entry.copy_of_name()?;
+    let name = entry.shared_name(*found.allocator(), found)?;
     let writer = subject.copy_of_name(writer)?;
     found.push(Finding::Loose { name, writer })?;
     Ok(())

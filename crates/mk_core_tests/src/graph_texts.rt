@@ -3,13 +3,14 @@
 ghost use Rattle.std.specs.Prelude.{◌≡◌, ◌<◌, ◌-◌, ◌^◌, IfOk};
 ghost use Rattle.mk_parse.specs.MemFiles.{failures_of};
 
-use crate::rows::{answer, expect_rows, over, request, unfolded};
+use crate::expecting::expect_rows;
 use mk_core::{Fault, Files, FilesError, MemFiles, Name, Names, fault_text, split_words};
 use mk_graph::GraphFault;
 use mk_infer::InferFault;
 use mk_lines::LineFault;
 use mk_macros::{MacroFault, MacroName};
 use mk_read::{KindFault, Place, ReadFault};
+use mk_rows::rows::{answer, over, request, unfolded};
 use std::alloc::{AllocError, Global};
 use std::process::Abort;
 use std::test::Fail;

@@ -3,8 +3,9 @@
 ghost use Rattle.std.specs.Prelude.{◌≡◌};
 ghost use Rattle.mk_parse.specs.MemFiles.{failures_of};
 
-use crate::rows::{answer, asked_by, expect_rows};
+use crate::expecting::expect_rows;
 use mk_core::MemFiles;
+use mk_rows::rows::{answer, asked_by};
 use std::process::Abort;
 use std::test::Fail;
 

@@ -18,10 +18,9 @@ use crate::stale::note_stale;
 use crate::standing::{Standing, standing_of};
 use mk_cert::laws::{listed_exactly, paths_are_ways};
 use mk_cert::{Ends, Entry, Finding, Subject, Target, carried_lists, ends_of};
-use mk_foot::is_repeated;
 use mk_foot::laws::once_keeps_first;
+use mk_foot::{is_repeated, seen_of};
 use mk_graph::Groups;
-use mk_lines::NameSet;
 use mk_search::Search;
 use mk_ways::Way;
 use std::alloc::{AllocError, Global};
@@ -92,8 +91,8 @@ fn judge_reads<'s>(
         (reads_by subject.now entry.now.number) ways.old.items ways.new.items) }
 {
     once_keeps_first();
-    let mut seen = NameSet::new(alloc);
     let reads = entry.reads();
+    let mut seen = seen_of(alloc, reads.len())?;
     for place in 0..reads.len() {
         let file = subject.read(entry, place);
         let way = judge_read(alloc, subject, ends, search, entry, &file, found)?;

@@ -22,7 +22,7 @@ pub(crate) fn note_stale(
         IsStale x entry.now.number file.now →
         Adds x (stale entry.now.number file.now ∷ []) found.old.items found.new.items) }
 {
-    let recipe = entry.copy_of_name()?;
+    let recipe = entry.shared_name(alloc, found)?;
     let file = Name::new(alloc, file)?;
     found.push(Finding::Stale { recipe, file })?;
     Ok(())

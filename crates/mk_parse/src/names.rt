@@ -136,8 +136,9 @@ pub fn names_of(
 {
     words_are_longest_parts();
     words_come_in_order();
-    let mut names = Vec::new(alloc);
-    for span in &words(alloc, text)? {
+    let spans = words(alloc, text)?;
+    let mut names = Vec::with_capacity(alloc, spans.len())?;
+    for span in &spans {
         let name = name_of(alloc, file, line, &text[span.start..span.end])?;
         names.push(String::from_str(alloc, name)?)?;
     }

@@ -26,9 +26,11 @@ noted_more visits old new noted node so_far lt is says =
   where
     at_node : (k : ℕ) → eqb node (node_at visits k) ≡ true → new (node_at visits k) ≡ Some noted
     at_node k t = says (node_at visits k) ∙ cond-true (eqb node (node_at visits k)) (Some noted) (old (node_at visits k)) t
+
     before : (k : ℕ) → k < noted → (eqb node (node_at visits k) ≡ true) ⊎ (eqb node (node_at visits k) ≡ false) → is_some (new (node_at visits k)) ≡ true
     before k low (inl t) = ap is_some (at_node k t)
     before k low (inr f) = ap is_some (says (node_at visits k) ∙ cond-false (eqb node (node_at visits k)) (Some noted) (old (node_at visits k)) f) ∙ so_far.all k low
+
     stand : (n k : ℕ) → new n ≡ Some k → (eqb node n ≡ true) ⊎ (eqb node n ≡ false) → (k < length visits) × (node_at visits k ≡ n)
     stand n k e (inl t) =
         let here : Some noted ≡ Some k = sym (says n ∙ cond-true (eqb node n) (Some noted) (old n) t) ∙ e in

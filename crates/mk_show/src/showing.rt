@@ -8,15 +8,14 @@ ghost use Rattle.mk_show.specs.Shown.{IsNotShown, IsTold, Shows};
 use crate::race::race;
 use crate::stale::stale;
 use mk_cert::laws::listed_exactly;
-use mk_cert::{Finding, Subject};
+use mk_cert::{Finding, SharedName, Subject};
 use mk_graph::Graph;
 use mk_graph::growth_laws::names_have_one_number;
-use mk_lines::Name;
 use mk_world::Step;
 use std::alloc::{AllocError, Global};
 
 /// The number of the node of this name.
-fn number_of(graph: &Graph, name: &Name) -> Option<usize>
+fn number_of(graph: &Graph, name: &SharedName) -> Option<usize>
     ensures { MatchOption result ((n : ℕ) → ¬ (IsNumberOf graph.now name.now n))
         (λ number. IsNumberOf graph.now name.now number) }
 {

@@ -7,8 +7,8 @@ use Rattle.mk_cert.proofs.Decided.{name_is}
 use Rattle.mk_cert.proofs.FileDecided.{writer_is_node}
 use Rattle.mk_cert.proofs.pairs.note_pair.Goals as goal
 
-pub copy_of_name-requires-2 : goal.copy_of_name-requires-2
-copy_of_name-requires-2 c = writer_is_node c.args.subject.now c.args.other _ c.requires.written.2
+pub name-requires : goal.name-requires
+name-requires c = writer_is_node c.args.subject.now c.args.other _ c.requires.written.2
 
 pub returns : goal.returns
 returns c =
@@ -16,6 +16,6 @@ returns c =
     let e = c.args.entry.now in
     let old = c.args.found.now.items in
     let first = ap (λ (k : List ℕ). old ++ TwoWriters k c.in_ok-second.second c.in_ok-file.file ∷ []) (name_is x e c.in_ok-first.first c.requires.entry c.in_ok-first.ensures) in
-    let second = ap (λ (k : List ℕ). old ++ TwoWriters (name_of x e.number) k c.in_ok-file.file ∷ []) c.in_ok-second.ensures in
+    let second = ap (λ (k : List ℕ). old ++ TwoWriters (name_of x e.number) k c.in_ok-file.file ∷ []) (c.in_ok-second.ensures ∙ c.name.ensures) in
     adds_one x (two_writers e.number c.args.other c.args.file.now) old c.push.new.self.items c.requires.written
     (c.in_ok-push.ensures.items ∙ (first ∙ (second ∙ ap (λ (k : List ℕ). old ++ TwoWriters (name_of x e.number) (name_of x c.args.other) k ∷ []) c.in_ok-file.ensures)))

@@ -25,8 +25,8 @@ returns-then-before-clause-found c =
     adds_none x (race e.number c.args.other c.args.file.now) c.args.found.now.items
     (λ h. h.3 (subst (λ (g : Graph). Before g c.args.other e.number) c.requires.graph (subst (λ (n : ℕ). Before at.graph c.args.other n) c.requires.number (c.in_ok-before.ensures.before.0 c.if-before.true))))
 
-pub copy_of_name-requires-2 : goal.copy_of_name-requires-2
-copy_of_name-requires-2 c = writer_is_node c.args.subject.now c.args.other _ c.requires.written
+pub name-requires : goal.name-requires
+name-requires c = writer_is_node c.args.subject.now c.args.other _ c.requires.written
 
 pub returns-clause-found : goal.returns-clause-found
 returns-clause-found c =
@@ -37,7 +37,7 @@ returns-clause-found c =
     let old = c.args.found.now.items in
     let number : c.entry.inside.number ≡ e.number = ap (λ (k : Entry). k.number) c.entry.view_is in
     let recipe = ap (λ (k : List ℕ). old ++ Race k c.in_ok-writer.writer c.in_ok-file.file ∷ []) (name_is x e c.in_ok-recipe.recipe c.requires.entry c.in_ok-recipe.ensures) in
-    let writer = ap (λ (k : List ℕ). old ++ Race (name_of x e.number) k c.in_ok-file.file ∷ []) c.in_ok-writer.ensures in
+    let writer = ap (λ (k : List ℕ). old ++ Race (name_of x e.number) k c.in_ok-file.file ∷ []) (c.in_ok-writer.ensures ∙ c.name.ensures) in
     adds_one x (race e.number c.args.other f) old c.push.new.self.items
     ((λ same. c.if-other-entry.false (same ∙ sym number)), c.requires.read, c.requires.written, λ before. true≢false (sym (c.in_ok-before.ensures.before.1 (subst (λ (g : Graph). Before g c.args.other at.number) (sym c.requires.graph) (subst (λ (n : ℕ). Before x.graph c.args.other n) (sym c.requires.number) before))) ∙ c.if-before.false))
     (c.in_ok-push.ensures.items ∙ (recipe ∙ (writer ∙ ap (λ (k : List ℕ). old ++ Race (name_of x e.number) (name_of x c.args.other) k ∷ []) c.in_ok-file.ensures)))

@@ -19,8 +19,8 @@ returns-then-has_number c =
     let needs : c.prerequisites.result.now ≡ prerequisites x.graph e.number = c.prerequisites.ensures ∙ (ap (λ (g : Graph). prerequisites g c.entry.inside.number) c.graph.ensures.value ∙ ap (prerequisites x.graph) number) in
     adds_none x (loose e.number c.args.writer) c.args.found.now.items (λ h. h.2 (subst (λ (l : List ℕ). Has l c.args.writer) needs (number_in c.prerequisites.result.now c.args.writer (sym c.if-has_number.ensures))))
 
-pub copy_of_name-requires-2 : goal.copy_of_name-requires-2
-copy_of_name-requires-2 c = writer_is_node c.args.subject.now c.args.writer _ c.requires.written
+pub copy_of_name-requires : goal.copy_of_name-requires
+copy_of_name-requires c = writer_is_node c.args.subject.now c.args.writer _ c.requires.written
 
 pub returns : goal.returns
 returns c =

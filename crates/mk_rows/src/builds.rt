@@ -9,7 +9,6 @@ use crate::rows::{asked_by, bytes_of, unfolded};
 use mk_core::{Fault, MemFiles, Request, Verdict, check, fault_text, render, verify_text};
 use mk_ways::certificate_text;
 use std::alloc::{AllocError, Global};
-use std::process::Abort;
 use std::test::Fail;
 
 /// The part of a row with this number.
@@ -219,55 +218,7 @@ pub fn verified(alloc: Global, build: &str, certificate: &str) -> Result<String,
 }
 
 /// The text of a certificate with a goal more before its goals.
-fn with_other_goals(alloc: Global, text: &str) -> Result<String, Fail> {
+pub fn with_other_goals(alloc: Global, text: &str) -> Result<String, Fail> {
     let (front, goals) = text.split_once("[").unwrap_or((text, ""));
     Ok(format!(in alloc; "{front}[\"other\",{goals}")?)
-}
-
-/// Expects that the certificate of a build of which this yes is printed is accepted, and that it is
-/// refused where it is for other goals.
-fn expect_own_certificate(
-    rt: &impl Abort,
-    alloc: Global,
-    build: &str,
-    yes: &str,
-) -> Result<(), Fail> {
-    let text = certificate_of(alloc, build)?;
-    let accepted = verified(alloc, build, text.as_str())?;
-    let (first, _) = yes.split_once("\n").unwrap_or((yes, ""));
-    assert_eq!(rt; accepted.as_str().trim_end(), first, "of {build:?}");
-    let other = with_other_goals(alloc, text.as_str())?;
-    let refused = verified(alloc, build, other.as_str())?;
-    assert_eq!(rt; refused.as_str(), "refused 73", "of {build:?}");
-    Ok(())
-}
-
-/// Each line of the table is a build, `‖`, and what is printed of its verdict. The certificate of
-/// each yes is accepted, and by no other goals.
-pub fn expect_verdicts(rt: &impl Abort, alloc: Global, table: &str) -> Result<(), Fail> {
-    for row in table.lines() {
-        let got = verdict(alloc, row)?;
-        let want = unfolded(alloc, part(row, 4))?;
-        assert_eq!(rt; got.as_str(), want.as_str(), "of {row:?}");
-        if want.as_str().starts_with("yes ") {
-            expect_own_certificate(rt, alloc, row, want.as_str())?;
-        }
-    }
-    Ok(())
-}
-
-/// Each line of the table is a certificate, ` => `, and what is printed of it for a build.
-pub fn expect_answers(
-    rt: &impl Abort,
-    alloc: Global,
-    build: &str,
-    table: &str,
-) -> Result<(), Fail> {
-    for row in table.lines() {
-        let (told, want) = row.split_once(" => ").unwrap_or((row, ""));
-        let got = verified(alloc, build, certificate(alloc, told)?.as_str())?;
-        let want = unfolded(alloc, want)?;
-        assert_eq!(rt; got.as_str(), want.as_str(), "of {row:?}");
-    }
-    Ok(())
 }

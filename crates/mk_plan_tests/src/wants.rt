@@ -1,9 +1,9 @@
 //! Verdicts, certificates, plans that show a finding and runs of plans where a growth is refused.
 
-use crate::builds::{certificate, part, verdict, verified};
 use crate::evidence::{number_in, plan_for};
-use crate::rows::unfolded;
 use crate::simulations::{copied, lines_of};
+use mk_rows::builds::{certificate, part, verdict, verified};
+use mk_rows::rows::unfolded;
 use std::process::Abort;
 use std::test::Fail;
 

@@ -5,7 +5,6 @@ ghost use Rattle.mk_parse.specs.MemFiles.{failures_of};
 
 use mk_core::{Fault, MemFiles, Name, Request, fault_text, graph_text, split_words};
 use std::alloc::{AllocError, Global};
-use std::process::Abort;
 use std::test::Fail;
 
 /// A request with these macro operands and goals.
@@ -122,21 +121,4 @@ pub fn over_row(alloc: Global, fields: &[&str]) -> Result<String, Fail> {
     let mut files = files_of(alloc, fields)?;
     let words = field(alloc, fields, 1)?;
     answer(alloc, &mut files, &asked_by(alloc, words.as_str())?)
-}
-
-/// Expects what the third field of a row says to be printed.
-pub fn expect_row(rt: &impl Abort, alloc: Global, row: &str) -> Result<(), Fail> {
-    let fields = fields_of(alloc, row)?;
-    let got = over_row(alloc, &fields)?;
-    let printed = field(alloc, &fields, 2)?;
-    assert_eq!(rt; got.as_str(), printed.as_str(), "over {row:?}");
-    Ok(())
-}
-
-/// Each line of the table is a row.
-pub fn expect_rows(rt: &impl Abort, alloc: Global, table: &str) -> Result<(), Fail> {
-    for row in table.lines() {
-        expect_row(rt, alloc, row)?;
-    }
-    Ok(())
 }

@@ -3,10 +3,10 @@
 ghost use Rattle.std.specs.Prelude.{◌≡◌, ◌<◌, ◌-◌, ◌^◌};
 ghost use Rattle.mk_parse.specs.MemFiles.{failures_of};
 
-use crate::builds::{files_of_build, part, request_of};
-use crate::rows::unfolded;
 use mk_core::{Fault, MemFiles, Request, Simulation, fault_text, render, simulate_text};
 use mk_evidence::{Evidence, evidence_or_verdict, evidence_text};
+use mk_rows::builds::{files_of_build, part, request_of};
+use mk_rows::rows::unfolded;
 use std::alloc::{AllocError, Global};
 use std::process::Abort;
 use std::test::Fail;

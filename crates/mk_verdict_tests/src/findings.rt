@@ -3,8 +3,9 @@
 ghost use Rattle.std.specs.Prelude.{◌≡◌, ◌<◌, ◌-◌, ◌^◌};
 ghost use Rattle.mk_parse.specs.MemFiles.{failures_of};
 
-use crate::builds::{expect_verdicts, request_of, verdict_over};
+use crate::expecting::expect_verdicts;
 use mk_core::MemFiles;
+use mk_rows::builds::{request_of, verdict_over};
 use std::process::Abort;
 use std::test::Fail;
 

@@ -3,8 +3,8 @@
 ghost use Rattle.std.specs.Prelude.{◌≡◌, ◌<◌, ◌-◌, ◌^◌};
 ghost use Rattle.mk_parse.specs.MemFiles.{failures_of};
 
-use crate::rows::{asked_by, unfolded};
 use mk_core::{Fault, MemFiles, Request, Simulation, fault_text, simulate_text};
+use mk_rows::rows::{asked_by, unfolded};
 use std::alloc::{AllocError, Global};
 use std::process::Abort;
 use std::test::Fail;

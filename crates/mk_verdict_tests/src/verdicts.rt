@@ -3,8 +3,9 @@
 ghost use Rattle.std.specs.Prelude.{◌≡◌, ◌<◌, ◌-◌, ◌^◌};
 ghost use Rattle.mk_parse.specs.MemFiles.{failures_of};
 
-use crate::builds::{expect_verdicts, files_of_build, request_of, verdict, verdict_over};
+use crate::expecting::expect_verdicts;
 use mk_core::MemFiles;
+use mk_rows::builds::{files_of_build, request_of, verdict, verdict_over};
 use std::process::Abort;
 use std::test::Fail;
 

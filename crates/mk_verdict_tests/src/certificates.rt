@@ -3,9 +3,9 @@
 ghost use Rattle.std.specs.Prelude.{◌≡◌, ◌<◌, ◌-◌, ◌^◌};
 ghost use Rattle.mk_parse.specs.MemFiles.{failures_of};
 
-use crate::builds::{
-    answer_over, certificate, certificate_of, expect_answers, files_of_build, part, request_of,
-    verdict, verified,
+use crate::expecting::expect_answers;
+use mk_rows::builds::{
+    answer_over, certificate, certificate_of, files_of_build, part, request_of, verdict, verified,
 };
 use std::alloc::Global;
 use std::process::Abort;

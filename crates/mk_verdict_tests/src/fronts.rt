@@ -1,10 +1,10 @@
 //! Fronts of footprints and of certificates, which are none.
 
-use crate::builds::{
+use mk_core::{MemFiles, Request};
+use mk_rows::builds::{
     answer_over, certificate_of, files_of_build, footprints, part, request_of, verdict_over,
 };
-use crate::rows::unfolded;
-use mk_core::{MemFiles, Request};
+use mk_rows::rows::unfolded;
 use std::alloc::Global;
 use std::process::Abort;
 use std::test::Fail;

@@ -1,0 +1,23 @@
+//! Tables of which each line is a row.
+
+use mk_rows::rows::{field, fields_of, over_row};
+use std::alloc::Global;
+use std::process::Abort;
+use std::test::Fail;
+
+/// Expects what the third field of a row says to be printed.
+pub fn expect_row(rt: &impl Abort, alloc: Global, row: &str) -> Result<(), Fail> {
+    let fields = fields_of(alloc, row)?;
+    let got = over_row(alloc, &fields)?;
+    let printed = field(alloc, &fields, 2)?;
+    assert_eq!(rt; got.as_str(), printed.as_str(), "over {row:?}");
+    Ok(())
+}
+
+/// Each line of the table is a row.
+pub fn expect_rows(rt: &impl Abort, alloc: Global, table: &str) -> Result<(), Fail> {
+    for row in table.lines() {
+        expect_row(rt, alloc, row)?;
+    }
+    Ok(())
+}
