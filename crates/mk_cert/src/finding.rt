@@ -31,7 +31,7 @@ pub enum Finding {
     TwoWriters {
         first: SharedName,
         second: SharedName,
-        file: Name,
+        file: SharedName,
     },
     /// It writes a file that is given, phony, or passed over by the reading of the makefile.
     GivenWritten {
@@ -57,7 +57,7 @@ pub enum Finding {
     Race {
         recipe: SharedName,
         writer: SharedName,
-        file: Name,
+        file: SharedName,
     },
     /// It reads a file that can change, and nothing makes it run when the file does.
     Stale {

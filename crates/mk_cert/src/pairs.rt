@@ -15,7 +15,6 @@ use crate::finding::Finding;
 use crate::shared_name::SharedName;
 use crate::subject::Subject;
 use mk_graph::laws::serial_reaches_each_once;
-use mk_lines::Name;
 use std::alloc::{AllocError, Global};
 
 /// Adds that two recipes write a file.
@@ -34,7 +33,7 @@ fn note_pair(
 {
     let first = entry.shared_name(alloc, found)?;
     let second = SharedName::new(alloc, subject.name(other))?;
-    let file = Name::new(alloc, file)?;
+    let file = SharedName::new(alloc, file)?;
     found.push(Finding::TwoWriters {
         first,
         second,

@@ -16,7 +16,6 @@ use crate::finding::Finding;
 use crate::shared_name::SharedName;
 use crate::subject::Subject;
 use crate::target::Target;
-use mk_lines::Name;
 use std::alloc::{AllocError, Global};
 
 /// Adds that a recipe reads what another one writes which isn't before it, if it is so.
@@ -47,7 +46,7 @@ fn note_race(
     }
     let recipe = entry.shared_name(alloc, found)?;
     let writer = SharedName::new(alloc, subject.name(other))?;
-    let file = Name::new(alloc, file)?;
+    let file = SharedName::new(alloc, file)?;
     found.push(Finding::Race {
         recipe,
         writer,

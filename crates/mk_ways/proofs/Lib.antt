@@ -7,3 +7,4 @@ pub mod TextBack
 pub mod NoJson
 pub mod PlainNames
 pub mod Packed
+pub mod Said

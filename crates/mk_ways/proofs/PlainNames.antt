@@ -20,17 +20,17 @@ use Rattle.mk_ways.specs.Reading.{values_at, name_in, name_at, names_at, finish_
 use Rattle.mk_ways.specs.Steps.{◌>>=◌, each, at_least, where_holds}
 
 -- where a result is a value, the value has the property
-abbrev Gave : {A : Type 0} → (A → Type 0) → Result A CertificateFault → Type 0
+abbrev pub Gave : {A : Type 0} → (A → Type 0) → Result A CertificateFault → Type 0
 Gave P (Ok x) = P x
 Gave P (Err fault) = Unit {0}
 
 -- two steps
-after : {A B : Type 0} (P : A → Type 0) (Q : B → Type 0) (r : Result A CertificateFault) (f : A → Result B CertificateFault) → Gave P r → ((x : A) → P x → Gave Q (f x)) → Gave Q (r >>= f)
+pub after : {A B : Type 0} (P : A → Type 0) (Q : B → Type 0) (r : Result A CertificateFault) (f : A → Result B CertificateFault) → Gave P r → ((x : A) → P x → Gave Q (f x)) → Gave Q (r >>= f)
 after P Q (Ok x) f h k = k x h
 after P Q (Err fault) f h k = tt
 
 -- of whatever value
-anything : {A : Type 0} (r : Result A CertificateFault) → Gave (λ _. Unit {0}) r
+pub anything : {A : Type 0} (r : Result A CertificateFault) → Gave (λ _. Unit {0}) r
 anything (Ok x) = tt
 anything (Err fault) = tt
 
@@ -41,7 +41,7 @@ abbrev ArePlain : List (List ℕ) → Type 0
 ArePlain names = list_all is_plain_path names ≡ true
 
 -- a test that holds
-held : (key : Key) (b : Bool) → Gave (λ _. b ≡ true) (where_holds key b)
+pub held : (key : Key) (b : Bool) → Gave (λ _. b ≡ true) (where_holds key b)
 held key true = refl
 held key false = tt
 
@@ -103,7 +103,7 @@ ways_names (way ∷ ways) h =
     whole : (a b : Bool) → a ≡ true → b ≡ true → (a && b) ≡ true
     whole a b e k = rw (e, k) refl
 
-certificate_plain : (value : Data) → Gave (λ c. ArePlain (names_of c)) (certificate_in value)
+pub certificate_plain : (value : Data) → Gave (λ c. ArePlain (names_of c)) (certificate_in value)
 unfolding certificate_in
 certificate_plain value =
     let Q : Certificate → Type 0 = λ c. ArePlain (names_of c) in

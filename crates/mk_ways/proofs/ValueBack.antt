@@ -47,7 +47,7 @@ names_found : (key : Key) (whole : Data) (names : List (List ℕ)) → get (spel
 unfolding names_at
 names_found key whole names e plain = rw (values_found key whole (map string names) e) (names_back key names plain)
 
-word_back : (finish : Finish) → finish_of (finish_word finish) ≡ Some finish
+pub word_back : (finish : Finish) → finish_of (finish_word finish) ≡ Some finish
 word_back Written = refl
 word_back Source = refl
 word_back Always = refl

@@ -1,12 +1,15 @@
 -- Laws of certificates.
-use Rattle.std.specs.Prelude.{◌≡◌, ◌↔◌, ℕ, true, List, ◌∷◌, ◌++◌, None, Ok, Err}
+use Rattle.std.specs.Prelude.{◌≡◌, ◌↔◌, ℕ, true, List, [], ◌∷◌, ◌++◌, codes, pos, None, Some, Ok, Err}
 use Rattle.std.specs.List.{list_all, flat_map}
 use Rattle.mk_lines.specs.Paths.{is_plain_path}
 use Rattle.serde_json.specs.Written.{compact_text}
+use Rattle.serde_json.specs.Data.{Data}
+use Rattle.mk_json.specs.Kinds.{elements_at, has_only, integer_at, text_at, texts_at}
 use Rattle.mk_json.specs.Reading.{json_of}
 use Rattle.mk_ways.specs.declared.fault.CertificateFault.TheVariants.{NotJson}
 use Rattle.mk_ways.specs.Certificate.{Way, Certificate}
 use Rattle.mk_ways.specs.Reading.{certificate_in, certificate_from}
+use Rattle.mk_ways.specs.Words.{finish_word}
 use Rattle.mk_ways.specs.Writing.{value_of}
 
 -- all names in a way, and in a certificate
@@ -15,6 +18,37 @@ names_of_way way = way.recipe ∷ way.file ∷ way.path
 
 abbrev pub names_of : Certificate → List (List ℕ)
 names_of certificate = certificate.goals ++ flat_map names_of_way certificate.ways
+
+-- An entry says a way: its parts under their keys, in whatever order these stand, and no other key.
+pub record SaysWay (entry : Data) (way : Way) : Type 0 where
+  pub finish : text_at (codes "end") entry ≡ Some (finish_word way.finish)
+  pub file : text_at (codes "file") entry ≡ Some way.file
+  pub path : texts_at (codes "path") entry ≡ Some way.path
+  pub recipe : text_at (codes "recipe") entry ≡ Some way.recipe
+  pub only :
+      has_only (codes "end" ∷ codes "file" ∷ codes "path" ∷ codes "recipe" ∷ []) entry ≡ true
+
+-- entries say ways, each the one at its place
+abbrev pub SayWays : List Data → List Way → Type 0
+SayWays [] [] = Unit {0}
+SayWays [] (way ∷ ways) = ⊥
+SayWays (entry ∷ entries) [] = ⊥
+SayWays (entry ∷ entries) (way ∷ ways) = SaysWay entry way × SayWays entries ways
+
+-- A value says a certificate.
+pub record Says (value : Data) (certificate : Certificate) : Type 0 where
+  pub format : integer_at (codes "format") value ≡ Some (pos 1)
+  pub goals : texts_at (codes "goals") value ≡ Some certificate.goals
+  pub entries : List Data
+  pub ways : elements_at (codes "ways") value ≡ Some entries
+  pub said : SayWays entries certificate.ways
+  pub only : has_only (codes "format" ∷ codes "goals" ∷ codes "ways" ∷ []) value ≡ true
+
+-- A value is read as a certificate just where it says that one, and all its names are plain paths.
+abbrev pub ReadsWhatIsSaid : Type 0
+ReadsWhatIsSaid =
+    (value : Data) (certificate : Certificate) → (certificate_in value ≡ Ok certificate) ↔
+    (Says value certificate × (list_all is_plain_path (names_of certificate) ≡ true))
 
 -- The value of a certificate is read as that certificate, in whatever order its ways stand.
 abbrev pub ValueIsReadBack : Type 0

@@ -1,7 +1,7 @@
 //! Laws of certificates, about the definitions alone. Each is the contract of a function that does
 //! nothing: who calls it has the law.
 
-ghost use Rattle.mk_ways.specs.Laws.{ValueIsReadBack, TextIsReadBack, NamesReadArePlain, OnlyTextWithoutValueIsNoJson};
+ghost use Rattle.mk_ways.specs.Laws.{ValueIsReadBack, TextIsReadBack, NamesReadArePlain, ReadsWhatIsSaid, OnlyTextWithoutValueIsNoJson};
 
 /// The JSON value of a certificate whose names are plain paths is read as that certificate, in
 /// whatever order its ways stand.
@@ -12,6 +12,12 @@ pub fn value_is_read_back()
 /// What is written for a certificate whose names are plain paths is read as that certificate.
 pub fn text_is_read_back()
     ensures { TextIsReadBack }
+{}
+
+/// A JSON value is read as a certificate just where it says that one, its keys and its ways in
+/// whatever order, and all names are plain paths.
+pub fn reads_what_is_said()
+    ensures { ReadsWhatIsSaid }
 {}
 
 /// All names of a certificate that was read are plain paths, so that it can be written and read

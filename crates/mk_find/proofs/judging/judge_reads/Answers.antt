@@ -21,7 +21,7 @@ use Rattle.mk_find.proofs.judging.judge_reads.Goals as goal
 use Rattle.mk_find.proofs.judging.judge_reads.Goals.{in-Some+in_ok-push, in_default}
 
 pub loop-place-init : goal.loop-place-init
-loop-place-init c = (refl, λ last h. h, λ many. c.new-seen.ensures, λ none. adds_no_entries c.args.subject.now c.args.ways.now.items)
+loop-place-init c = (refl, λ last h. h, λ many. c.in_ok-seen.ensures, λ none. adds_no_entries c.args.subject.now c.args.ways.now.items)
 
 pub read-file-requires-clause-place : goal.read-file-requires-clause-place
 read-file-requires-clause-place c =
