@@ -45,20 +45,6 @@ fn are_apart(alloc: Global, names: &[String]) -> Result<bool, AllocError>
     Ok(true)
 }
 
-/// So much spare room of a list isn't kept.
-const SPARE: usize = 16;
-
-/// The same names, without much spare room.
-fn without_spare(names: Vec<String>) -> Vec<String>
-    ensures { result.items ≡ names.items }
-{
-    let mut kept = names;
-    if kept.capacity() > kept.len().saturating_add(SPARE) {
-        kept.shrink_to_fit();
-    }
-    kept
-}
-
 /// Each name once, where it first stands. Names without repeats are given back as they are.
 pub fn once(alloc: Global, names: Vec<String>) -> Result<Vec<String>, AllocError>
     ensures { IfOk result (λ kept. map string_bytes kept.items ≡
@@ -68,7 +54,7 @@ pub fn once(alloc: Global, names: Vec<String>) -> Result<Vec<String>, AllocError
         return Ok(names);
     }
     if are_apart(alloc, &names)? {
-        return Ok(without_spare(names));
+        return Ok(names);
     }
     let mut set = NameSet::with_capacity(alloc, names.len())?;
     set.insert_all(&names)?;
