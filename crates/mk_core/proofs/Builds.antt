@@ -21,8 +21,8 @@ use Rattle.mk_read.specs.Reading.{Makefile}
 use Rattle.mk_ways.specs.Certificate.{Certificate}
 use Rattle.mk_ways.specs.Reading.{certificate_from}
 use Rattle.mk_ways.specs.declared.fault.CertificateFault.{CertificateFault}
-use Rattle.mk_core.specs.declared.fault.Fault.{Fault}
-use Rattle.mk_core.specs.declared.fault.Fault.TheVariants.{Read, Infer, NoFile, Memory}
+use Rattle.mk_print.specs.declared.fault.Fault.{Fault}
+use Rattle.mk_print.specs.declared.fault.Fault.TheVariants.{Read, Infer, NoFile, Memory}
 use Rattle.mk_core.specs.Answer.{failing_of}
 use Rattle.mk_core.specs.CheckAnswer.{GivesVerdict}
 use Rattle.mk_core.specs.FileText.{text_of}

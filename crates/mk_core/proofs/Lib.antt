@@ -1,5 +1,4 @@
 pub mod NameLists
-pub mod NodeTexts
 pub mod Faults
 pub mod Answering
 pub mod Finding

@@ -17,11 +17,11 @@ use Rattle.mk_read.specs.Files.{Told, text_at}
 use Rattle.mk_ways.specs.Certificate.{Certificate}
 use Rattle.mk_ways.specs.Reading.{certificate_from}
 use Rattle.mk_ways.specs.declared.fault.CertificateFault.{CertificateFault}
-use Rattle.mk_core.specs.declared.fault.Fault.{Fault}
-use Rattle.mk_core.specs.declared.fault.Fault.TheVariants.{NoFile}
+use Rattle.mk_print.specs.declared.fault.Fault.{Fault}
+use Rattle.mk_print.specs.declared.fault.Fault.TheVariants.{NoFile}
 use Rattle.mk_core.specs.declared.request.Request.{Request}
-use Rattle.mk_core.specs.declared.verdict.Verdict.{Verdict}
-use Rattle.mk_core.specs.declared.verdict.Verdict.TheVariants.{Yes, No}
+use Rattle.mk_print.specs.declared.verdict.Verdict.{Verdict}
+use Rattle.mk_print.specs.declared.verdict.Verdict.TheVariants.{Yes, No}
 use Rattle.mk_core.specs.Answer.{Draws}
 use Rattle.mk_core.specs.CheckAnswer.{AnswersCheck, GivesVerdict, IsVerdict, IsYes}
 use Rattle.mk_core.specs.FileText.{text_of}

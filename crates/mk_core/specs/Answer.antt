@@ -4,8 +4,8 @@ use Rattle.mk_read.specs.declared.fault.ReadFault.TheVariants.{ReadFailed}
 use Rattle.mk_read.specs.Files.{Told}
 use Rattle.mk_read.specs.Following as following
 use Rattle.mk_read.specs.Steps.{is_want_of_memory}
-use Rattle.mk_core.specs.declared.fault.Fault.{Fault}
-use Rattle.mk_core.specs.declared.fault.Fault.TheVariants.{Read, FileReadFailed, Memory}
+use Rattle.mk_print.specs.declared.fault.Fault.{Fault}
+use Rattle.mk_print.specs.declared.fault.Fault.TheVariants.{Read, FileReadFailed, Memory}
 use Rattle.mk_core.specs.declared.request.Request.{Request}
 use Rattle.mk_core.specs.Ready.{Ready, makefile_for, ready_for}
 

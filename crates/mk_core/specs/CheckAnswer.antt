@@ -4,9 +4,9 @@ use Rattle.mk_cert.specs.Counts.{count_of_recipes, count_of_reads}
 use Rattle.mk_cert.specs.Subject.{Subject}
 use Rattle.mk_find.specs.Certifying.{IsCertificate}
 use Rattle.mk_find.specs.Findings.{AreFindings}
-use Rattle.mk_core.specs.declared.fault.Fault.{Fault}
-use Rattle.mk_core.specs.declared.verdict.Verdict.{Verdict}
-use Rattle.mk_core.specs.declared.verdict.Verdict.TheVariants.{Yes, No}
+use Rattle.mk_print.specs.declared.fault.Fault.{Fault}
+use Rattle.mk_print.specs.declared.verdict.Verdict.{Verdict}
+use Rattle.mk_print.specs.declared.verdict.Verdict.TheVariants.{Yes, No}
 use Rattle.mk_core.specs.Judging.{AnswersJudged}
 use Rattle.mk_core.specs.Ready.{Ready}
 

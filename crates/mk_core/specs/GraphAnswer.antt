@@ -4,9 +4,9 @@ use Rattle.mk_graph.specs.Graph.{Graph}
 use Rattle.mk_infer.specs.Selection.{Selects}
 use Rattle.mk_infer.specs.Steps.{is_want_of_memory}
 use Rattle.mk_infer.specs.declared.fault.InferFault.{InferFault}
-use Rattle.mk_core.specs.declared.fault.Fault.{Fault}
-use Rattle.mk_core.specs.declared.fault.Fault.TheVariants.{Infer}
-use Rattle.mk_core.specs.GraphText.{graph_text, shown_lines}
+use Rattle.mk_print.specs.declared.fault.Fault.{Fault}
+use Rattle.mk_print.specs.declared.fault.Fault.TheVariants.{Infer}
+use Rattle.mk_print.specs.GraphText.{graph_text, shown_lines}
 use Rattle.mk_core.specs.Ready.{Ready, exists}
 use Rattle.mk_core.specs.Steps.{as_fault}
 

@@ -7,8 +7,8 @@ use Rattle.mk_graph.specs.Serial.{serial_order}
 use Rattle.mk_infer.specs.Selection.{Selects}
 use Rattle.mk_infer.specs.There.{Exists}
 use Rattle.mk_infer.specs.declared.fault.InferFault.{InferFault}
-use Rattle.mk_core.specs.declared.fault.Fault.{Fault}
-use Rattle.mk_core.specs.declared.fault.Fault.TheVariants.{Infer}
+use Rattle.mk_print.specs.declared.fault.Fault.{Fault}
+use Rattle.mk_print.specs.declared.fault.Fault.TheVariants.{Infer}
 use Rattle.mk_core.specs.Ready.{Ready, exists}
 use Rattle.mk_core.specs.Selected.{DrawsGraph}
 

@@ -1,9 +1,9 @@
 -- Laws of the answer: what a yes promises.
 use Rattle.std.specs.Prelude.{List, ℕ, Result, Ok}
 use Rattle.mk_read.specs.Files.{Told}
-use Rattle.mk_core.specs.declared.fault.Fault.{Fault}
+use Rattle.mk_print.specs.declared.fault.Fault.{Fault}
 use Rattle.mk_core.specs.declared.request.Request.{Request}
-use Rattle.mk_core.specs.declared.verdict.Verdict.{Verdict}
+use Rattle.mk_print.specs.declared.verdict.Verdict.{Verdict}
 use Rattle.mk_core.specs.Answer.{Answers}
 use Rattle.mk_core.specs.CheckAnswer.{AnswersCheck, IsYes}
 use Rattle.mk_core.specs.Right.{IsRightFor}

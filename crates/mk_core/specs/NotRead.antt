@@ -15,8 +15,8 @@ use Rattle.mk_ways.specs.declared.fault.CertificateFault.{CertificateFault}
 use Rattle.mk_world.specs.declared.plan.PlanFault.{PlanFault}
 use Rattle.mk_world.specs.declared.plan.PlanLine.{PlanLine}
 use Rattle.mk_world.specs.Plans.{plan_of}
-use Rattle.mk_core.specs.declared.fault.Fault.{Fault}
-use Rattle.mk_core.specs.declared.fault.Fault.TheVariants.{Read, Infer, Plan, Certificate, NoFile}
+use Rattle.mk_print.specs.declared.fault.Fault.{Fault}
+use Rattle.mk_print.specs.declared.fault.Fault.TheVariants.{Read, Infer, Plan, Certificate, NoFile}
 use Rattle.mk_core.specs.CheckAnswer.{GivesVerdict}
 use Rattle.mk_core.specs.FileText.{text_of}
 use Rattle.mk_core.specs.GraphAnswer.{AnswersGraph}

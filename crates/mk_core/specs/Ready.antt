@@ -10,8 +10,8 @@ use Rattle.mk_read.specs.declared.fault.ReadFault.{ReadFault}
 use Rattle.mk_read.specs.Files.{Told}
 use Rattle.mk_read.specs.Following.{reader_of}
 use Rattle.mk_read.specs.Reading.{Makefile, Reader, makefile}
-use Rattle.mk_core.specs.declared.fault.Fault.{Fault}
-use Rattle.mk_core.specs.declared.fault.Fault.TheVariants.{Read, Infer, Foot}
+use Rattle.mk_print.specs.declared.fault.Fault.{Fault}
+use Rattle.mk_print.specs.declared.fault.Fault.TheVariants.{Read, Infer, Foot}
 use Rattle.mk_core.specs.declared.request.Request.{Request}
 use Rattle.mk_core.specs.FileText.{text_of}
 use Rattle.mk_core.specs.Steps.{◌>>=◌, as_fault}

@@ -8,7 +8,7 @@ use Rattle.mk_world.specs.declared.plan.PlanLine.{PlanLine}
 use Rattle.mk_world.specs.Running.{Stage, RunsTo, files_text, stage_of}
 use Rattle.mk_world.specs.State.{State, world_of}
 use Rattle.mk_world.specs.Steps.{IsFirstOf}
-use Rattle.mk_core.specs.FaultText.{step_fault_text}
+use Rattle.mk_print.specs.FaultText.{step_fault_text}
 
 -- a text, and whether a line of the plan was refused
 pub record Simulation : Type 0 where

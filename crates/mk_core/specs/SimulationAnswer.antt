@@ -6,8 +6,8 @@ use Rattle.mk_read.specs.Files.{Told}
 use Rattle.mk_world.specs.declared.plan.PlanFault.{PlanFault}
 use Rattle.mk_world.specs.declared.plan.PlanLine.{PlanLine}
 use Rattle.mk_world.specs.Plans.{plan_of}
-use Rattle.mk_core.specs.declared.fault.Fault.{Fault}
-use Rattle.mk_core.specs.declared.fault.Fault.TheVariants.{Plan}
+use Rattle.mk_print.specs.declared.fault.Fault.{Fault}
+use Rattle.mk_print.specs.declared.fault.Fault.TheVariants.{Plan}
 use Rattle.mk_core.specs.Answer.{failing_of}
 use Rattle.mk_core.specs.FileText.{text_of}
 use Rattle.mk_core.specs.Ready.{Ready}

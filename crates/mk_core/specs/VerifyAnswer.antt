@@ -8,13 +8,13 @@ use Rattle.mk_read.specs.Files.{Told}
 use Rattle.mk_ways.specs.Certificate.{Certificate}
 use Rattle.mk_ways.specs.Reading.{certificate_from}
 use Rattle.mk_ways.specs.declared.fault.CertificateFault.{CertificateFault}
-use Rattle.mk_core.specs.declared.fault.Fault.{Fault}
-use Rattle.mk_core.specs.declared.fault.Fault.TheVariants as fault
+use Rattle.mk_print.specs.declared.fault.Fault.{Fault}
+use Rattle.mk_print.specs.declared.fault.Fault.TheVariants as fault
 use Rattle.mk_core.specs.Answer.{failing_of}
 use Rattle.mk_core.specs.FileText.{text_of}
 use Rattle.mk_core.specs.Judging.{AnswersJudged}
 use Rattle.mk_core.specs.Ready.{Ready}
-use Rattle.mk_core.specs.VerdictText.{yes_line}
+use Rattle.mk_print.specs.VerdictText.{yes_line}
 
 -- how much was judged, where a certificate is accepted; else its fault
 abbrev pub accepted : Subject → Result ⊤ CertFault → Result (List ℕ) Fault

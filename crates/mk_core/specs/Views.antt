@@ -13,8 +13,8 @@ use Rattle.mk_infer.specs.Steps.{is_want_of_memory}
 use Rattle.mk_read.specs.Files.{Told}
 use Rattle.mk_read.specs.Reading.{Makefile}
 use Rattle.mk_ways.specs.Certificate.{Certificate}
-use Rattle.mk_core.specs.declared.fault.Fault.{Fault}
-use Rattle.mk_core.specs.declared.fault.Fault.TheVariants.{Infer, Memory}
+use Rattle.mk_print.specs.declared.fault.Fault.{Fault}
+use Rattle.mk_print.specs.declared.fault.Fault.TheVariants.{Infer, Memory}
 use Rattle.mk_core.specs.declared.request.Request.{Request}
 use Rattle.mk_core.specs.Answer.{Draws, failing_of}
 use Rattle.mk_core.specs.GraphAnswer.{AnswersGraph, PrintsSelected}
@@ -90,8 +90,3 @@ PrintsOver asked ready (Err fault) =
 -- what `graph` answers to what is ready, or want of memory
 abbrev pub DrawsOver : Bool → Ready → Result (List ℕ) Fault → Type 0
 DrawsOver asked ready answer = (answer ≡ Err Memory) ⊎ AnswersGraph asked ready answer
-
--- What is defined stands behind the old text in the new one, unless memory ran out.
-abbrev pub Extends : List ℕ → List ℕ → Result ⊤ InferFault → Result (List ℕ) InferFault → Type 0
-Extends old new (Ok done) defined = (text : List ℕ) × (defined ≡ Ok text) × (new ≡ old ++ text)
-Extends old new (Err fault) defined = inferring.Fails fault defined

@@ -6,13 +6,13 @@ ghost use Rattle.mk_core.specs.Answer.{Answers, Counts};
 ghost use Rattle.mk_core.specs.CheckAnswer.{AnswersCheck, GivesVerdict, IsVerdict, IsYes};
 ghost use Rattle.mk_core.specs.Right.{IsRightFor};
 ghost use Rattle.mk_core.specs.Steps.{is_want_of_memory};
-ghost use Rattle.mk_core.specs.declared.fault.Fault.TheVariants.{Memory};
+ghost use Rattle.mk_print.specs.declared.fault.Fault.TheVariants.{Memory};
 
-use crate::fault::Fault;
+use mk_print::Fault;
 use crate::judging::{Judge, answer_judged};
 use crate::laws::yes_is_right;
 use crate::request::Request;
-use crate::verdict::{Findings, Verdict};
+use mk_print::{Findings, Verdict};
 use mk_cert::{Subject, counts};
 use mk_find::judge;
 use mk_find::laws::no_findings;

@@ -7,10 +7,10 @@ ghost use Rattle.mk_core.specs.Answer.{Answers, Counts};
 ghost use Rattle.mk_core.specs.Ready.{Ready as ReadyValue};
 ghost use Rattle.mk_core.specs.Steps.{is_want_of_memory};
 ghost use Rattle.mk_core.specs.Views.{AnswersOver};
-ghost use Rattle.mk_core.specs.declared.fault.Fault as faults;
-ghost use Rattle.mk_core.specs.declared.fault.Fault.TheVariants.{Memory, Read};
+ghost use Rattle.mk_print.specs.declared.fault.Fault as faults;
+ghost use Rattle.mk_print.specs.declared.fault.Fault.TheVariants.{Memory, Read};
 
-use crate::fault::Fault;
+use mk_print::Fault;
 use crate::ready::{Ready, ready_over};
 use crate::request::Request;
 use mk_parse::read_makefile;

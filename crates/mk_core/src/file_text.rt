@@ -5,9 +5,9 @@ ghost use Rattle.mk_core.specs.Answer.{Counts};
 ghost use Rattle.mk_core.specs.FileText.{text_of};
 ghost use Rattle.mk_core.specs.Steps.{is_want_of_memory, seen};
 ghost use Rattle.mk_core.specs.Views.{Finds};
-ghost use Rattle.mk_core.specs.declared.fault.Fault.TheVariants.{Memory};
+ghost use Rattle.mk_print.specs.declared.fault.Fault.TheVariants.{Memory};
 
-use crate::fault::Fault;
+use mk_print::Fault;
 use mk_lines::Name;
 use mk_read::{Files, FilesError};
 use std::alloc::Global;

@@ -6,11 +6,11 @@ ghost use Rattle.mk_core.specs.Answer.{Answers, Counts};
 ghost use Rattle.mk_core.specs.GraphAnswer.{AnswersGraph};
 ghost use Rattle.mk_core.specs.Steps.{is_want_of_memory, seen};
 ghost use Rattle.mk_core.specs.Views.{DrawsOver, PrintsOver};
-ghost use Rattle.mk_core.specs.declared.fault.Fault.TheVariants.{Memory};
+ghost use Rattle.mk_print.specs.declared.fault.Fault.TheVariants.{Memory};
 
 use crate::command::{Command, answer_request};
-use crate::fault::Fault;
-use crate::printing::text_of;
+use mk_print::Fault;
+use mk_print::text_of;
 use crate::ready::Ready;
 use crate::request::Request;
 use mk_choice::Choices;

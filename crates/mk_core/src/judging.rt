@@ -9,11 +9,11 @@ ghost use Rattle.mk_core.specs.NotRead.{judged_not_read};
 ghost use Rattle.mk_core.specs.Answer.{Answers, Counts};
 ghost use Rattle.mk_core.specs.Judging.{AnswersJudged, AnswersTold, recorded, subject_over};
 ghost use Rattle.mk_core.specs.Steps.{is_want_of_memory};
-ghost use Rattle.mk_core.specs.declared.fault.Fault as faults;
-ghost use Rattle.mk_core.specs.declared.fault.Fault.TheVariants.{Memory, Read};
+ghost use Rattle.mk_print.specs.declared.fault.Fault as faults;
+ghost use Rattle.mk_print.specs.declared.fault.Fault.TheVariants.{Memory, Read};
 
 use crate::command::{Command, answer_request};
-use crate::fault::Fault;
+use mk_print::Fault;
 use crate::ready::Ready;
 use crate::request::Request;
 use crate::selecting::selected;

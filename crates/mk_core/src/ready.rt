@@ -7,9 +7,9 @@ ghost use Rattle.mk_core.specs.Judging.{recorded};
 ghost use Rattle.mk_core.specs.Ready.{book_for, exists, setting_of};
 ghost use Rattle.mk_core.specs.Steps.{is_want_of_memory};
 ghost use Rattle.mk_core.specs.Views.{Finds, ready_over, ready_with};
-ghost use Rattle.mk_core.specs.declared.fault.Fault.TheVariants.{Memory};
+ghost use Rattle.mk_print.specs.declared.fault.Fault.TheVariants.{Memory};
 
-use crate::fault::Fault;
+use mk_print::Fault;
 use crate::file_text::file_text;
 use crate::request::Request;
 use mk_foot::{Book, Setting, read_book};

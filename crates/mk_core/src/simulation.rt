@@ -9,15 +9,15 @@ ghost use Rattle.mk_core.specs.Simulation.{ShowsRun, last_lines};
 ghost use Rattle.mk_core.specs.SimulationAnswer.{AnswersSimulation};
 ghost use Rattle.mk_core.specs.Steps.{is_want_of_memory};
 ghost use Rattle.mk_core.specs.Views.{RunsTextOver, SimulatesOver};
-ghost use Rattle.mk_core.specs.declared.fault.Fault.TheVariants.{Memory};
+ghost use Rattle.mk_print.specs.declared.fault.Fault.TheVariants.{Memory};
 
 use crate::command::{Command, answer_request};
-use crate::fault::Fault;
+use mk_print::Fault;
 use crate::file_text::file_text;
 use crate::ready::Ready;
 use crate::request::Request;
 use crate::selecting::selected;
-use crate::wording::step_fault_text;
+use mk_print::step_fault_text;
 use mk_foot::Setting;
 use mk_graph::Graph;
 use mk_read::Files;

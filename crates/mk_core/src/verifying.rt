@@ -8,13 +8,13 @@ ghost use Rattle.mk_core.specs.Right.{IsRightFor};
 ghost use Rattle.mk_core.specs.Steps.{is_want_of_memory, seen};
 ghost use Rattle.mk_core.specs.VerifyAnswer.{AnswersVerify, VerifiesCertificate, VerifiesText};
 ghost use Rattle.mk_core.specs.Views.{AcceptsOver, VerifiesOver};
-ghost use Rattle.mk_core.specs.declared.fault.Fault.TheVariants.{Memory};
+ghost use Rattle.mk_print.specs.declared.fault.Fault.TheVariants.{Memory};
 
-use crate::fault::Fault;
+use mk_print::Fault;
 use crate::file_text::file_text;
 use crate::judging::{Judge, answer_judged};
 use crate::laws::accepted_is_right;
-use crate::rendering::yes_line;
+use mk_print::yes_line;
 use crate::request::Request;
 use mk_cert::{Subject, counts, verify};
 use mk_lines::Name;

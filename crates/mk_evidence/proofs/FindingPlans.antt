@@ -11,10 +11,10 @@ use Rattle.mk_find.specs.Findings.{AreFindings}
 use Rattle.mk_show.specs.Shown.{IsNotShown}
 use Rattle.mk_read.specs.Files.{Told}
 use Rattle.mk_core.specs.declared.request.Request.{Request}
-use Rattle.mk_core.specs.declared.verdict.Verdict.{Verdict}
+use Rattle.mk_print.specs.declared.verdict.Verdict.{Verdict}
 use Rattle.mk_evidence.specs.declared.showing.Evidence.{Evidence}
 use Rattle.mk_evidence.specs.declared.showing.Evidence.TheVariants.{Plan, NoPlan}
-use Rattle.mk_core.specs.declared.verdict.Verdict.TheVariants.{Yes, No}
+use Rattle.mk_print.specs.declared.verdict.Verdict.TheVariants.{Yes, No}
 use Rattle.mk_core.specs.Answer.{Answers, Draws}
 use Rattle.mk_core.specs.CheckAnswer.{AnswersCheck, IsVerdict}
 use Rattle.mk_evidence.specs.EvidenceAnswer.{AnswersEvidence, GivesEvidence, GivesPlanOrVerdict, HasVerdict, HasYes, IsEvidence, IsEvidenceText, IsNumbered, IsPlanFor, findings_in, plan_in}
@@ -23,7 +23,7 @@ use Rattle.mk_core.specs.Laws.{YesIsRight}
 use Rattle.mk_core.specs.Ready.{Ready, ready_for}
 use Rattle.mk_core.specs.Right.{IsRightFor}
 use Rattle.mk_core.specs.Steps.{seen}
-use Rattle.mk_core.specs.declared.fault.Fault.{Fault}
+use Rattle.mk_print.specs.declared.fault.Fault.{Fault}
 use Rattle.mk_core.specs.Seen.{judged_along, seen_answers}
 
 -- what has a number stands there

@@ -7,11 +7,11 @@ use Rattle.mk_plans.specs.PlanText.{plan_text}
 use Rattle.mk_show.specs.Numbers.{HaveSmallNumbers}
 use Rattle.mk_show.specs.Shown.{IsNotShown, Shows}
 use Rattle.mk_world.specs.declared.step.Step.{Step}
-use Rattle.mk_core.specs.declared.fault.Fault.{Fault}
+use Rattle.mk_print.specs.declared.fault.Fault.{Fault}
 use Rattle.mk_evidence.specs.declared.showing.Evidence.{Evidence}
 use Rattle.mk_evidence.specs.declared.showing.Evidence.TheVariants.{Plan, NoPlan}
-use Rattle.mk_core.specs.declared.verdict.Verdict.{Verdict}
-use Rattle.mk_core.specs.declared.verdict.Verdict.TheVariants.{Yes, No}
+use Rattle.mk_print.specs.declared.verdict.Verdict.{Verdict}
+use Rattle.mk_print.specs.declared.verdict.Verdict.TheVariants.{Yes, No}
 use Rattle.mk_core.specs.CheckAnswer.{IsVerdict}
 use Rattle.mk_core.specs.Judging.{AnswersJudged}
 use Rattle.mk_core.specs.Ready.{Ready}

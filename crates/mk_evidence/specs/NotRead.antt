@@ -4,7 +4,7 @@ use Rattle.std.proofs.Common.{ℕ, Ok, Err}
 use Rattle.mk_cert.specs.Subject.{Subject}
 use Rattle.mk_read.specs.declared.fault.ReadFault.{ReadFault}
 use Rattle.mk_core.specs.NotRead.{differs}
-use Rattle.mk_core.specs.declared.fault.Fault.TheVariants.{Read}
+use Rattle.mk_print.specs.declared.fault.Fault.TheVariants.{Read}
 use Rattle.mk_evidence.specs.EvidenceAnswer.{GivesPlanOrVerdict}
 
 pub evidence_not_read :

@@ -11,7 +11,7 @@ ghost use Rattle.mk_plans.specs.PlanText.{plan_text};
 ghost use Rattle.mk_show.specs.Shown.{IsNotShown, IsTold};
 ghost use Rattle.mk_evidence.specs.EvidenceAnswer.{AnswersEvidence, GivesPlanOrVerdict, HasVerdict, HasYes, IsEvidence, IsEvidenceText, IsNumbered, IsPlanFor, findings_in, plan_in};
 ghost use Rattle.mk_core.specs.Steps.{is_want_of_memory, seen};
-ghost use Rattle.mk_core.specs.declared.fault.Fault.TheVariants.{Memory};
+ghost use Rattle.mk_print.specs.declared.fault.Fault.TheVariants.{Memory};
 
 use mk_cert::{Finding, Subject};
 use mk_core::laws::yes_is_right;

@@ -33,7 +33,7 @@ use Rattle.mk_world.specs.RunLaws.{AreLegal}
 use Rattle.mk_world.specs.Running.{RunsTo, stage_of}
 use Rattle.mk_world.specs.State.{Scene, State, disk_of, setting, setting_of, world_in, world_of}
 use Rattle.mk_world.specs.Steps.{IsFirstOf, step_of}
-use Rattle.mk_core.specs.declared.fault.Fault.{Fault}
+use Rattle.mk_print.specs.declared.fault.Fault.{Fault}
 use Rattle.mk_core.specs.declared.request.Request.{Request}
 use Rattle.mk_core.specs.Answer.{Draws, failing_of}
 use Rattle.mk_evidence.specs.EvidenceAnswer.{AnswersEvidence, IsNumbered}

@@ -10,8 +10,8 @@ use Rattle.mk_read.specs.Files.{Told}
 use Rattle.mk_read.specs.Following as following
 use Rattle.mk_read.specs.Reading.{Makefile, Reader}
 use Rattle.mk_read.specs.Steps as reading
-use Rattle.mk_core.specs.declared.fault.Fault.{Fault}
-use Rattle.mk_core.specs.declared.fault.Fault.TheVariants.{Read, Infer, Foot, Plan, Certificate, Verify, FileReadFailed, NoFile, Memory}
+use Rattle.mk_print.specs.declared.fault.Fault.{Fault}
+use Rattle.mk_print.specs.declared.fault.Fault.TheVariants.{Read, Infer, Foot, Plan, Certificate, Verify, FileReadFailed, NoFile, Memory}
 use Rattle.mk_core.specs.declared.request.Request.{Request}
 use Rattle.mk_core.specs.Answer.{Answers, Draws}
 use Rattle.mk_core.specs.GraphAnswer.{AnswersGraph, Prints, PrintsSelected}

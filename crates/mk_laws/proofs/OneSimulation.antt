@@ -15,8 +15,8 @@ use Rattle.mk_world.specs.State.{world_of}
 use Rattle.mk_world.specs.declared.fault.StepFault.{StepFault}
 use Rattle.mk_world.specs.declared.plan.PlanFault.{PlanFault}
 use Rattle.mk_world.specs.declared.plan.PlanLine.{PlanLine}
-use Rattle.mk_core.specs.declared.fault.Fault.{Fault}
-use Rattle.mk_core.specs.declared.fault.Fault.TheVariants.{NoFile}
+use Rattle.mk_print.specs.declared.fault.Fault.{Fault}
+use Rattle.mk_print.specs.declared.fault.Fault.TheVariants.{NoFile}
 use Rattle.mk_core.specs.Answer.{Draws, failing_of}
 use Rattle.mk_core.specs.FileText.{text_of}
 use Rattle.mk_laws.specs.AnswerLaws.{SimulationIsOne}

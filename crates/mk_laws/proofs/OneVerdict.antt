@@ -20,10 +20,10 @@ use Rattle.mk_read.specs.Files.{Told, text_at}
 use Rattle.mk_ways.specs.Certificate as ways
 use Rattle.mk_ways.specs.Reading.{certificate_from}
 use Rattle.mk_ways.specs.declared.fault.CertificateFault.{CertificateFault}
-use Rattle.mk_core.specs.declared.fault.Fault.{Fault}
-use Rattle.mk_core.specs.declared.fault.Fault.TheVariants.{Read, Infer, Foot, Plan, Certificate, Verify, FileReadFailed, NoFile, Memory}
-use Rattle.mk_core.specs.declared.verdict.Verdict.{Verdict}
-use Rattle.mk_core.specs.declared.verdict.Verdict.TheVariants.{Yes, No}
+use Rattle.mk_print.specs.declared.fault.Fault.{Fault}
+use Rattle.mk_print.specs.declared.fault.Fault.TheVariants.{Read, Infer, Foot, Plan, Certificate, Verify, FileReadFailed, NoFile, Memory}
+use Rattle.mk_print.specs.declared.verdict.Verdict.{Verdict}
+use Rattle.mk_print.specs.declared.verdict.Verdict.TheVariants.{Yes, No}
 use Rattle.mk_core.specs.Answer.{Draws, failing_of}
 use Rattle.mk_core.specs.CheckAnswer.{AnswersCheck, GivesVerdict, IsVerdict}
 use Rattle.mk_core.specs.FileText.{text_of}

@@ -24,8 +24,8 @@ use Rattle.mk_read.specs.Following.{reader_of}
 use Rattle.mk_read.specs.Reading.{Makefile, makefile}
 use Rattle.mk_read.specs.RuleLaws.{RuleLinesAreWellNamed, TextsArePlain}
 use Rattle.mk_world.specs.State.{setting_of}
-use Rattle.mk_core.specs.declared.fault.Fault.{Fault}
-use Rattle.mk_core.specs.declared.fault.Fault.TheVariants.{Read, Infer, Foot}
+use Rattle.mk_print.specs.declared.fault.Fault.{Fault}
+use Rattle.mk_print.specs.declared.fault.Fault.TheVariants.{Read, Infer, Foot}
 use Rattle.mk_laws.specs.EvidenceLaws.{NamesOfWorldArePlain}
 use Rattle.mk_core.specs.FileText.{text_of}
 use Rattle.mk_core.specs.Judging.{recorded}

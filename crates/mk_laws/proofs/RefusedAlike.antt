@@ -4,8 +4,8 @@ use Rattle.std.specs.Prelude.{⊤}
 use Rattle.mk_cert.specs.Subject.{Subject}
 use Rattle.mk_graph.specs.Laws.{SerialReachesEachOnce}
 use Rattle.mk_infer.specs.Laws as inferring
-use Rattle.mk_core.specs.declared.fault.Fault.{Fault}
-use Rattle.mk_core.specs.declared.fault.Fault.TheVariants as fault
+use Rattle.mk_print.specs.declared.fault.Fault.{Fault}
+use Rattle.mk_print.specs.declared.fault.Fault.TheVariants as fault
 use Rattle.mk_core.specs.CheckAnswer.{AnswersCheck, GivesVerdict}
 use Rattle.mk_core.specs.Judging.{AnswersJudged}
 use Rattle.mk_core.specs.Ready.{Ready, ready_for}

@@ -17,7 +17,7 @@ use Rattle.mk_world.specs.Plans.{lines_of, max_lines, plan_of}
 use Rattle.mk_world.specs.Running.{stage_of}
 use Rattle.mk_world.specs.State.{State, setting_of, world_of}
 use Rattle.mk_world.specs.Steps.{IsFirstOf}
-use Rattle.mk_core.specs.declared.fault.Fault.{Fault}
+use Rattle.mk_print.specs.declared.fault.Fault.{Fault}
 use Rattle.mk_core.specs.declared.request.Request.{Request}
 use Rattle.mk_core.specs.Answer.{Answers}
 use Rattle.mk_evidence.specs.EvidenceAnswer.{AnswersEvidence, IsNumbered}

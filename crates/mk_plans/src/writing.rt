@@ -47,54 +47,58 @@ fn goals_text(alloc: Global, graph: &Graph, goals: &[Name]) -> Result<String, Al
     Ok(text)
 }
 
-/// The line by which a make starts.
-fn make_line(
+/// Adds the line by which a make starts.
+fn push_make(
     alloc: Global,
+    out: &mut String,
     graph: &Graph,
     jobs: usize,
     goals: &[Name],
-) -> Result<String, AllocError>
-    ensures { IfOk result (λ line. string_bytes line ≡ make_line graph.now jobs goals.now) }
+) -> Result<(), AllocError>
+    ensures { OnOk result (string_bytes out.new ≡
+        string_bytes out.old ++ make_line graph.now jobs goals.now) }
 {
     let goals = goals_text(alloc, graph, goals)?;
-    format!(in alloc; "make {jobs}{goals}\n")
+    writeln!(out, "make {jobs}{goals}")
 }
 
-/// The line by which a node is passed, and nothing where it is among these.
-fn pass_line(alloc: Global, idle: &NameSet<'_>, node: &Name) -> Result<String, AllocError>
-    ensures { IfOk result (λ line.
-        string_bytes line ≡ pass_line (has_name idle.now node.now) node.now) }
+/// Adds the line by which a node is passed, and nothing where it is among these.
+fn push_pass(out: &mut String, idle: &NameSet<'_>, node: &Name) -> Result<(), AllocError>
+    ensures { OnOk result (string_bytes out.new ≡
+        string_bytes out.old ++ pass_line (has_name idle.now node.now) node.now) }
 {
     if idle.contains(node.as_str()) {
-        return Ok(String::new(alloc));
+        return Ok(());
     }
-    format!(in alloc; "pass {node}\n")
+    writeln!(out, "pass {node}")
 }
 
-/// The line of a step.
-fn step_text(
+/// Adds the line of a step.
+fn push_step(
     alloc: Global,
+    out: &mut String,
     graph: &Graph,
     idle: &NameSet<'_>,
     step: &Step,
-) -> Result<String, AllocError>
+) -> Result<(), AllocError>
     requires { (name : List ℕ) → has_name idle.now name ≡ is_idle graph.now name }
-    ensures { IfOk result (λ line. string_bytes line ≡ step_text graph.now step.now) }
+    ensures { OnOk result (string_bytes out.new ≡
+        string_bytes out.old ++ step_text graph.now step.now) }
 {
     match step {
-        Step::Edit { file, content } => format!(in alloc; "edit {file} {content}\n"),
-        Step::Make { jobs, goals } => make_line(alloc, graph, *jobs, goals.as_slice()),
-        Step::Begin { node } => format!(in alloc; "begin {node}\n"),
-        Step::Look { node, file } => format!(in alloc; "look {node} {file}\n"),
+        Step::Edit { file, content } => writeln!(out, "edit {file} {content}"),
+        Step::Make { jobs, goals } => push_make(alloc, out, graph, *jobs, goals.as_slice()),
+        Step::Begin { node } => writeln!(out, "begin {node}"),
+        Step::Look { node, file } => writeln!(out, "look {node} {file}"),
         Step::Put {
             node,
             file,
             content,
-        } => format!(in alloc; "put {node} {file} {content}\n"),
-        Step::End { node } => format!(in alloc; "done {node}\n"),
-        Step::Pass { node } => pass_line(alloc, idle, node),
-        Step::Stop => format!(in alloc; "stop\n"),
-        Step::EndMake => format!(in alloc; "end\n"),
+        } => writeln!(out, "put {node} {file} {content}"),
+        Step::End { node } => writeln!(out, "done {node}"),
+        Step::Pass { node } => push_pass(out, idle, node),
+        Step::Stop => writeln!(out, "stop"),
+        Step::EndMake => writeln!(out, "end"),
     }
 }
 
@@ -109,7 +113,7 @@ pub fn plan_text(alloc: Global, graph: &Graph, steps: &[Step]) -> Result<String,
     let idle = idle_names(alloc, graph)?;
     let mut text = String::new(alloc);
     for step in steps {
-        text.push_str(&step_text(alloc, graph, &idle, step)?)?;
+        push_step(alloc, &mut text, graph, &idle, step)?;
     }
     Ok(text)
 }

@@ -11,12 +11,12 @@ use Rattle.mk_core.specs.CheckAnswer.{AnswersCheck}
 use Rattle.mk_evidence.specs.EvidenceAnswer.{AnswersEvidence, HasVerdict, plan_in}
 use Rattle.mk_core.specs.Files.{Told}
 use Rattle.mk_core.specs.Steps.{seen}
-use Rattle.mk_core.specs.declared.fault.Fault.{Fault}
-use Rattle.mk_core.specs.declared.fault.Fault.TheVariants.{Memory}
+use Rattle.mk_print.specs.declared.fault.Fault.{Fault}
+use Rattle.mk_print.specs.declared.fault.Fault.TheVariants.{Memory}
 use Rattle.mk_core.specs.declared.request.Request.{Request}
 use Rattle.mk_evidence.specs.declared.showing.Evidence.{Evidence}
 use Rattle.mk_evidence.specs.declared.showing.Evidence.TheVariants.{Plan, NoPlan}
-use Rattle.mk_core.specs.declared.verdict.Verdict.TheVariants.{Yes, No}
+use Rattle.mk_print.specs.declared.verdict.Verdict.TheVariants.{Yes, No}
 use Rattle.mk_run.specs.declared.asked.Asked.{Asked}
 use Rattle.mk_run.specs.declared.asked.Asked.TheVariants.{Check}
 use Rattle.mk_run.specs.CommandLine.{command_line}

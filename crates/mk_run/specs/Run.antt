@@ -3,7 +3,7 @@ use Rattle.std.specs.Prelude.{◌≡◌, ℕ, Bool, false, List, [], ◌∷◌, 
 use Rattle.clap.specs.Words.{IsAmong, Kinds}
 use Rattle.clap.specs.declared.error.ErrorKind.{ErrorKind}
 use Rattle.clap.specs.declared.error.ErrorKind.TheVariants.{DisplayHelp, DisplayVersion, OutOfMemory}
-use Rattle.mk_core.specs.declared.fault.Fault.{Fault}
+use Rattle.mk_print.specs.declared.fault.Fault.{Fault}
 use Rattle.mk_core.specs.declared.request.Request.{Request}
 use Rattle.mk_core.specs.Answer.{Answers, Counts}
 use Rattle.mk_core.specs.CheckAnswer.{AnswersCheck}
@@ -11,15 +11,15 @@ use Rattle.mk_evidence.specs.EvidenceAnswer.{AnswersEvidence}
 use Rattle.mk_core.specs.GraphAnswer.{AnswersGraph}
 use Rattle.mk_core.specs.SimulationAnswer.{AnswersSimulation}
 use Rattle.mk_core.specs.Simulation.{Simulation}
-use Rattle.mk_core.specs.FaultText.{fault_text}
+use Rattle.mk_print.specs.FaultText.{fault_text}
 use Rattle.mk_core.specs.Right.{IsRightFor}
 use Rattle.mk_core.specs.Steps.{is_want_of_memory, seen}
-use Rattle.mk_core.specs.VerdictText.{verdict_text}
+use Rattle.mk_print.specs.VerdictText.{verdict_text}
 use Rattle.mk_core.specs.VerifyAnswer.{AnswersVerify}
 use Rattle.mk_evidence.specs.declared.showing.Evidence.{Evidence}
 use Rattle.mk_evidence.specs.declared.showing.Evidence.TheVariants.{Plan, NoPlan}
-use Rattle.mk_core.specs.declared.verdict.Verdict.{Verdict}
-use Rattle.mk_core.specs.declared.verdict.Verdict.TheVariants.{Yes, No}
+use Rattle.mk_print.specs.declared.verdict.Verdict.{Verdict}
+use Rattle.mk_print.specs.declared.verdict.Verdict.TheVariants.{Yes, No}
 use Rattle.mk_core.specs.Files.{Told}
 use Rattle.mk_ways.specs.Writing.{value_of}
 use Rattle.serde_json.specs.Written.{compact_text}

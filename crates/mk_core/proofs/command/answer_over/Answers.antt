@@ -1,7 +1,7 @@
 use Rattle.std.proofs.Common.{◌≡◌, ◌⊎◌, Ok, Err, subst}
 use Rattle.std.specs.Prelude.{IfSome, Option}
 use Rattle.mk_read.specs.Files.{Told}
-use Rattle.mk_core.specs.declared.fault.Fault.TheVariants.{Memory}
+use Rattle.mk_print.specs.declared.fault.Fault.TheVariants.{Memory}
 use Rattle.mk_core.specs.Views.{Finds, ready_over}
 use Rattle.mk_core.proofs.Faults.{some_both}
 use Rattle.mk_core.proofs.Finding.{over_found}

@@ -5,7 +5,7 @@ use Rattle.mk_infer.specs.Selection.{Selects}
 use Rattle.mk_infer.specs.There.{Exists}
 use Rattle.mk_read.specs.Reading.{Makefile}
 use Rattle.mk_core.specs.Judging.{AnswersTold}
-use Rattle.mk_core.specs.declared.fault.Fault.TheVariants.{Memory}
+use Rattle.mk_print.specs.declared.fault.Fault.TheVariants.{Memory}
 use Rattle.mk_core.proofs.Builds.{as_goals, same_subject, told_well}
 use Rattle.mk_core.proofs.Faults.{some_with}
 use Rattle.mk_core.proofs.judging.judge_graph.Goals as goal

@@ -1,0 +1,7 @@
+use Rattle.std.proofs.Common.{◌≡◌, ◌++◌, take}
+use Rattle.mk_print.specs.VerdictText.{ways_text}
+use Rattle.mk_print.proofs.rendering.push_ways.Given as goal
+
+-- the ways so far
+abbrev pub invariant-loop-way : goal.invariant-loop-way
+invariant-loop-way l = l.out.items ≡ l.initial.out.items ++ ways_text (take l.way-index l.ways)

@@ -1,0 +1,5 @@
+pub mod Faults
+pub mod FaultText
+pub mod GraphText
+pub mod VerdictText
+pub mod Appending

@@ -1,0 +1,14 @@
+//! What is printed: graphs, verdicts, and why a request is refused.
+#![tactic(auto)]
+
+mod fault;
+mod printing;
+mod rendering;
+mod verdict;
+mod wording;
+
+pub use fault::Fault;
+pub use printing::text_of;
+pub use rendering::{render, yes_line};
+pub use verdict::{Findings, Verdict};
+pub use wording::{fault_text, step_fault_text};
