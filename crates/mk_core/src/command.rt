@@ -13,6 +13,7 @@ ghost use Rattle.mk_print.specs.declared.fault.Fault.TheVariants.{Memory, Read};
 use mk_print::Fault;
 use crate::ready::{Ready, ready_over};
 use crate::request::Request;
+use mk_infer::RuleTable;
 use mk_parse::read_makefile;
 use mk_read::{Files, Makefile};
 use std::alloc::Global;
@@ -44,6 +45,25 @@ pub(crate) trait Command {
         (fault : read.ReadFault) → answers command told ready (Err (Read fault)) → ⊥ };
 }
 
+/// The answer to a request over its makefile, whose names are looked up.
+fn answer_with<F: Files, C: Command>(
+    alloc: Global,
+    files: &mut F,
+    request: &Request,
+    table: &RuleTable<'_>,
+    command: &C,
+) -> Result<C::Answer, Fault>
+    requires { F.failed files.old < 2 ^ 64 - 1 }
+    ensures map { F.told files.new ≡ F.told files.old }
+    ensures answer { IfSome (F.told files.old)
+        (λ told. AnswersOver told request.now table.now (C.answers command.now told) result) }
+    ensures memory { IfErr result (λ fault. is_want_of_memory fault ≡ true → fault ≡ Memory) }
+    ensures counted { Counts (F.failed files.old) (F.failed files.new) result }
+{
+    let ready = ready_over(alloc, files, request, table)?;
+    command.answer(alloc, files, &ready)
+}
+
 /// The answer to a request over its makefile.
 fn answer_over<F: Files, C: Command>(
     alloc: Global,
@@ -55,13 +75,12 @@ fn answer_over<F: Files, C: Command>(
     requires { F.failed files.old < 2 ^ 64 - 1 }
     ensures map { F.told files.new ≡ F.told files.old }
     ensures answer { IfSome (F.told files.old)
-        (λ told.
-        AnswersOver told request.now makefile.now (C.answers command.now told) result) }
+        (λ told. AnswersOver told request.now makefile.now (C.answers command.now told) result) }
     ensures memory { IfErr result (λ fault. is_want_of_memory fault ≡ true → fault ≡ Memory) }
     ensures counted { Counts (F.failed files.old) (F.failed files.new) result }
 {
-    let ready = ready_over(alloc, files, request, makefile)?;
-    command.answer(alloc, files, &ready)
+    let table = RuleTable::new(alloc, makefile)?;
+    answer_with(alloc, files, request, &table, command)
 }
 
 /// The answer to a request: what the command answers to what is ready, or the first fault of the

@@ -24,7 +24,7 @@ use std::marker::Model;
 /// what a build of them starts from, and whether each name that nothing makes is given.
 #[derive(Drop)]
 pub struct Ready<'m> {
-    table: RuleTable<'m>,
+    table: &'m RuleTable<'m>,
     goals: Goals,
     setting: Setting,
     any_leaf: bool,
@@ -40,7 +40,7 @@ impl<'m> Model for Ready<'m> {
 
     ghost view = { λ r.
         record {
-          makefile = r.table;
+          makefile = r.table.now;
           goals = r.goals;
           setting = r.setting;
           any_leaf = r.any_leaf;
@@ -51,10 +51,10 @@ impl<'m> Model for Ready<'m> {
 
 impl<'m> Ready<'m> {
     /// The makefile, whose names are looked up.
-    pub fn table(&self) -> &RuleTable<'m>
+    pub fn table(&self) -> &'m RuleTable<'m>
         ensures { result.now ≡ self.now.makefile }
     {
-        &self.table
+        self.table
     }
 
     /// The goals.
@@ -128,15 +128,15 @@ fn book_for<F: Files>(
 fn ready_by<'m>(
     alloc: Global,
     any_leaf: bool,
-    table: RuleTable<'m>,
+    table: &'m RuleTable<'m>,
     goals: Goals,
     book: Book,
 ) -> Result<Ready<'m>, AllocError>
     ensures { IfOk result (λ ready. ready ≡
         record {
-          makefile = table.entry;
+          makefile = table.now;
           goals = goals;
-          setting = setting_of table.entry book;
+          setting = setting_of table.now book;
           any_leaf = any_leaf;
         }) }
 {
@@ -156,13 +156,13 @@ fn ready_with<'m, F: Files>(
     alloc: Global,
     files: &mut F,
     request: &Request,
-    table: RuleTable<'m>,
+    table: &'m RuleTable<'m>,
     goals: Goals,
 ) -> Result<Ready<'m>, Fault>
     requires { F.failed files.old < 2 ^ 64 - 1 }
     ensures map { F.told files.new ≡ F.told files.old }
     ensures ready { IfSome (F.told files.old)
-        (λ told. Finds (λ failing. ready_with told failing request.now table.entry goals) result) }
+        (λ told. Finds (λ failing. ready_with told failing request.now table.now goals) result) }
     ensures memory { IfErr result (λ fault. is_want_of_memory fault ≡ true → fault ≡ Memory) }
     ensures counted { Counts (F.failed files.old) (F.failed files.new) result }
 {
@@ -178,16 +178,15 @@ pub fn ready_over<'m, F: Files>(
     alloc: Global,
     files: &mut F,
     request: &Request,
-    makefile: &'m Makefile,
+    table: &'m RuleTable<'m>,
 ) -> Result<Ready<'m>, Fault>
     requires { F.failed files.old < 2 ^ 64 - 1 }
     ensures map { F.told files.new ≡ F.told files.old }
     ensures ready { IfSome (F.told files.old)
-        (λ told. Finds (λ failing. ready_over told failing request.now makefile.now) result) }
+        (λ told. Finds (λ failing. ready_over told failing request.now table.now) result) }
     ensures memory { IfErr result (λ fault. is_want_of_memory fault ≡ true → fault ≡ Memory) }
     ensures counted { Counts (F.failed files.old) (F.failed files.new) result }
 {
-    let table = RuleTable::new(alloc, makefile)?;
-    let goals = goal_names(alloc, &table, request.goals.as_slice())?;
+    let goals = goal_names(alloc, table, request.goals.as_slice())?;
     ready_with(alloc, files, request, table, goals)
 }

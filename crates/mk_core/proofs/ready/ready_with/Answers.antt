@@ -13,12 +13,12 @@ returns-in_err-book-clause-ready g c =
     let name = option_copied c.as_ref.result in
     let fault = c.in_err-book.field-0.0 in
     rw (p.1, p.2) (some_with {P = λ told. Finds (λ failing. book_for told failing name c.args.goals) (Err fault)} (g.F.Files.told c.args.files.now) c.in_err-book.ensures.book
-    (λ told h. book_fails told c.args.request.now c.args.table c.args.goals name c.as_ref.ensures.value fault h))
+    (λ told h. book_fails told c.args.request.now c.args.table.now c.args.goals name c.as_ref.ensures.value fault h))
 
 pub returns-clause-ready : goal.returns-clause-ready
 returns-clause-ready g c =
     let name = option_copied c.as_ref.result in
     let book = c.in_ok-book.book in
-    let leaf = ap (λ any_leaf. made_with c.args.table c.args.goals book any_leaf) (turned _ c.is_none-any_leaf.result c.is_none-any_leaf.ensures) in
+    let leaf = ap (λ any_leaf. made_with c.args.table.now c.args.goals book any_leaf) (turned _ c.is_none-any_leaf.result c.is_none-any_leaf.ensures) in
     some_with {P = λ told. Finds (λ failing. book_for told failing name c.args.goals) (Ok book)} (g.F.Files.told c.args.files.now) c.in_ok-book.ensures.book
-    (λ told h. book_found told c.args.request.now c.args.table c.args.goals name c.as_ref.ensures.value book c.in_ok-ready.ready h (c.in_ok-ready.ensures ∙ leaf))
+    (λ told h. book_found told c.args.request.now c.args.table.now c.args.goals name c.as_ref.ensures.value book c.in_ok-ready.ready h (c.in_ok-ready.ensures ∙ leaf))
