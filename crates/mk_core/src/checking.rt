@@ -8,14 +8,13 @@ ghost use Rattle.mk_core.specs.Right.{IsRightFor};
 ghost use Rattle.mk_core.specs.Steps.{is_want_of_memory};
 ghost use Rattle.mk_print.specs.declared.fault.Fault.TheVariants.{Memory};
 
-use mk_print::Fault;
 use crate::judging::{Judge, answer_judged};
 use crate::laws::yes_is_right;
 use crate::request::Request;
-use mk_print::{Findings, Verdict};
 use mk_cert::{Subject, counts};
 use mk_find::judge;
 use mk_find::laws::no_findings;
+use mk_print::{Fault, Findings, Verdict};
 use mk_read::Files;
 use std::alloc::{AllocError, Global};
 

@@ -10,11 +10,11 @@ ghost use Rattle.mk_core.specs.Views.{AnswersOver};
 ghost use Rattle.mk_print.specs.declared.fault.Fault as faults;
 ghost use Rattle.mk_print.specs.declared.fault.Fault.TheVariants.{Memory, Read};
 
-use mk_print::Fault;
 use crate::ready::{Ready, ready_over};
 use crate::request::Request;
 use mk_infer::RuleTable;
 use mk_parse::read_makefile;
+use mk_print::Fault;
 use mk_read::{Files, Makefile};
 use std::alloc::Global;
 

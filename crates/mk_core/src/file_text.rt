@@ -7,8 +7,8 @@ ghost use Rattle.mk_core.specs.Steps.{is_want_of_memory, seen};
 ghost use Rattle.mk_core.specs.Views.{Finds};
 ghost use Rattle.mk_print.specs.declared.fault.Fault.TheVariants.{Memory};
 
-use mk_print::Fault;
 use mk_lines::Name;
+use mk_print::Fault;
 use mk_read::{Files, FilesError};
 use std::alloc::Global;
 

@@ -9,12 +9,11 @@ ghost use Rattle.mk_core.specs.Views.{DrawsOver, PrintsOver};
 ghost use Rattle.mk_print.specs.declared.fault.Fault.TheVariants.{Memory};
 
 use crate::command::{Command, answer_request};
-use mk_print::Fault;
-use mk_print::text_of;
 use crate::ready::Ready;
 use crate::request::Request;
 use mk_choice::Choices;
 use mk_infer::InferFault;
+use mk_print::{Fault, text_of};
 use mk_read::Files;
 use mk_select::select;
 use std::alloc::Global;

@@ -13,13 +13,13 @@ ghost use Rattle.mk_print.specs.declared.fault.Fault as faults;
 ghost use Rattle.mk_print.specs.declared.fault.Fault.TheVariants.{Memory, Read};
 
 use crate::command::{Command, answer_request};
-use mk_print::Fault;
 use crate::ready::Ready;
 use crate::request::Request;
 use crate::selecting::selected;
 use mk_cert::Subject;
 use mk_cert::laws::selected_goals;
 use mk_graph::Graph;
+use mk_print::Fault;
 use mk_read::Files;
 use std::alloc::Global;
 

@@ -9,12 +9,12 @@ ghost use Rattle.mk_core.specs.Steps.{is_want_of_memory};
 ghost use Rattle.mk_core.specs.Views.{Finds, ready_over, ready_with};
 ghost use Rattle.mk_print.specs.declared.fault.Fault.TheVariants.{Memory};
 
-use mk_print::Fault;
 use crate::file_text::file_text;
 use crate::request::Request;
 use mk_foot::{Book, Setting, read_book};
 use mk_infer::{Exists, RuleTable};
 use mk_lines::{Name, NameTable};
+use mk_print::Fault;
 use mk_read::{Files, Makefile};
 use mk_select::{Goals, goal_names};
 use std::alloc::{AllocError, Global};

@@ -12,14 +12,13 @@ ghost use Rattle.mk_core.specs.Views.{RunsTextOver, SimulatesOver};
 ghost use Rattle.mk_print.specs.declared.fault.Fault.TheVariants.{Memory};
 
 use crate::command::{Command, answer_request};
-use mk_print::Fault;
 use crate::file_text::file_text;
 use crate::ready::Ready;
 use crate::request::Request;
 use crate::selecting::selected;
-use mk_print::step_fault_text;
 use mk_foot::Setting;
 use mk_graph::Graph;
+use mk_print::{Fault, step_fault_text};
 use mk_read::Files;
 use mk_world::{Plan, StepFault, World, print_files, read_plan, run_plan};
 use std::alloc::{AllocError, Global};

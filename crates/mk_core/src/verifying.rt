@@ -10,14 +10,13 @@ ghost use Rattle.mk_core.specs.VerifyAnswer.{AnswersVerify, VerifiesCertificate,
 ghost use Rattle.mk_core.specs.Views.{AcceptsOver, VerifiesOver};
 ghost use Rattle.mk_print.specs.declared.fault.Fault.TheVariants.{Memory};
 
-use mk_print::Fault;
 use crate::file_text::file_text;
 use crate::judging::{Judge, answer_judged};
 use crate::laws::accepted_is_right;
-use mk_print::yes_line;
 use crate::request::Request;
 use mk_cert::{Subject, counts, verify};
 use mk_lines::Name;
+use mk_print::{Fault, yes_line};
 use mk_read::Files;
 use mk_ways::{Certificate, read_certificate};
 use std::alloc::Global;
