@@ -1,6 +1,6 @@
 //! What is found in footprints alone.
 
-ghost use Rattle.std.specs.Prelude.{◌≡◌, [], map, IfOk, OnOk};
+ghost use Rattle.std.specs.Prelude.{[], map, IfOk, OnOk};
 ghost use Rattle.mk_infer.specs.Laws.{StaysSelected};
 ghost use Rattle.mk_cert.specs.Candidates.{static_candidates};
 ghost use Rattle.mk_cert.specs.Listed.{Adds, TellsNoSelection};
@@ -10,25 +10,12 @@ ghost use Rattle.mk_cert.specs.Subject.{name_of};
 ghost use Rattle.mk_cert.specs.Questions.{asked_each};
 
 use crate::asking::ask_all;
-use crate::counting::counts;
 use crate::finding::Finding;
 use crate::laws::nothing_found_is_selected;
 use crate::pairs::note_pairs;
 use crate::question::Question;
 use crate::subject::Subject;
 use std::alloc::{AllocError, Global};
-
-/// For so many findings, at most, there is room from the start.
-const MOST_ROOM: u128 = 1 << 19;
-
-/// An empty list with room for a finding of each read, so that it seldom moves while it grows: where
-/// it stood there would be holes in the memory. The error is want of memory alone.
-fn with_room(alloc: Global, subject: &Subject<'_>) -> Result<Vec<Finding>, AllocError>
-    ensures { IfOk result (λ found. found.items ≡ []) }
-{
-    let (_, reads) = counts(subject);
-    Vec::with_capacity(alloc, reads.min(MOST_ROOM) as usize)
-}
 
 /// Adds what is found of all nodes by these questions, one after another.
 fn ask_each(
@@ -65,7 +52,7 @@ pub fn static_findings(alloc: Global, subject: &Subject<'_>) -> Result<Vec<Findi
 {
     nothing_found_is_selected();
     let _graph = subject.graph();
-    let mut found = with_room(alloc, subject)?;
+    let mut found = Vec::new(alloc);
     let first = [
         Question::Record,
         Question::Commands,

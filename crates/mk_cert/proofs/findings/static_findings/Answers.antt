@@ -19,11 +19,11 @@ returns c =
     let pairs = pairs_of_writers x (serial_order x.graph) in
     let then = asked_each x (Given ∷ Own ∷ Unknown ∷ Loose ∷ Choice ∷ []) in
     let found = c.ask_each-2.new.found.items in
-    let all : Adds x (first ++ (pairs ++ then)) c.in_ok-found.found.items found =
-    adds_append x first (pairs ++ then) c.in_ok-found.found.items c.ask_each.new.found.items found c.in_ok-ask_each.ensures
+    let all : Adds x (first ++ (pairs ++ then)) c.new-found.result.items found =
+    adds_append x first (pairs ++ then) c.new-found.result.items c.ask_each.new.found.items found c.in_ok-ask_each.ensures
     (adds_append x pairs then c.ask_each.new.found.items c.note_pairs.new.found.items found c.in_ok-note_pairs.ensures c.in_ok-ask_each-2.ensures) in
     let joined : static_candidates x ≡ first ++ (pairs ++ then) = flat_map-append (λ (part : List Candidate). part) (take 4 (by_number x)) (drop 4 (by_number x)) in
-    let adds : Adds x (static_candidates x) [] found = subst (λ (l : List Candidate). Adds x l [] found) (sym joined) (subst (λ (old : List Finding). Adds x (first ++ (pairs ++ then)) old found) c.in_ok-found.ensures all) in
+    let adds : Adds x (static_candidates x) [] found = subst (λ (l : List Candidate). Adds x l [] found) (sym joined) (subst (λ (old : List Finding). Adds x (first ++ (pairs ++ then)) old found) c.new-found.ensures.items all) in
     let stays = λ (none : TellsNoSelection found). c.nothing_found_is_selected.ensures x c.graph-graph.ensures.graph c.graph-graph.ensures.subject adds.kept adds.right
     (λ n chosen stands. none (name_of x n) chosen (subst (λ (l : List Finding). Has l (named x (selection n chosen))) (sym adds.added) (in_mapped (named x) adds.kept (selection n chosen) stands))) in
     record {
