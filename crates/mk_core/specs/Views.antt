@@ -1,5 +1,5 @@
 -- How the parts of an answer are seen. What is answered doesn't stand on this file.
-use Rattle.std.specs.Prelude.{◌≡◌, ◌⊎◌, ℕ, Bool, false, List, ◌++◌, ⊤, Option, Result, Ok, Err}
+use Rattle.std.specs.Prelude.{◌≡◌, ◌⊎◌, ℕ, Bool, false, List, Option, Result, Ok, Err}
 use Rattle.std.specs.Option.{is_none}
 use Rattle.mk_cert.specs.Subject.{Subject}
 use Rattle.mk_foot.specs.Setting.{Setting}
@@ -8,7 +8,6 @@ use Rattle.mk_infer.specs.Goals.{goal_names}
 use Rattle.mk_infer.specs.Selection.{Selects}
 use Rattle.mk_infer.specs.There.{Exists}
 use Rattle.mk_infer.specs.declared.fault.InferFault.{InferFault}
-use Rattle.mk_infer.specs.Steps as inferring
 use Rattle.mk_infer.specs.Steps.{is_want_of_memory}
 use Rattle.mk_read.specs.Files.{Told}
 use Rattle.mk_read.specs.Reading.{Makefile}
