@@ -61,6 +61,68 @@ fn copies_of(alloc: Global, names: &[String]) -> Result<NameTable, AllocError>
     NameTable::new(alloc, clones_of(alloc, names)?)
 }
 
+/// Tables of the makefile's texts, and of the names that its reading passed over.
+fn tables_of(
+    alloc: Global,
+    texts: &[String],
+    passed_over: &[String],
+) -> Result<(NameTable, NameTable), AllocError>
+    ensures texts { IfOk result (λ r. r.0 ≡ map string_bytes texts.now) }
+    ensures passed_over { IfOk result (λ r. r.1 ≡ map string_bytes passed_over.now) }
+{
+    let texts = copies_of(alloc, texts)?;
+    let passed_over = copies_of(alloc, passed_over)?;
+    Ok((texts, passed_over))
+}
+
+/// Tables of fixed prefixes and of sources.
+fn places_of(
+    alloc: Global,
+    fixed: Vec<String>,
+    sources: Vec<String>,
+) -> Result<(Prefixes, NameTable), AllocError>
+    ensures fixed { IfOk result (λ r. r.0 ≡ map string_bytes fixed.items) }
+    ensures sources { IfOk result (λ r. r.1 ≡ map string_bytes sources.items) }
+{
+    let fixed = Prefixes::new(alloc, fixed)?;
+    let sources = NameTable::new(alloc, sources)?;
+    Ok((fixed, sources))
+}
+
+/// The setting of a book, and of tables of the makefile's texts and of the names that its reading
+/// passed over.
+fn of_tables(
+    alloc: Global,
+    book: Book,
+    tables: (NameTable, NameTable),
+) -> Result<Setting, AllocError>
+    ensures { IfOk result (λ setting. setting ≡
+        record {
+          records = book.records;
+          sources = book.sources;
+          texts = tables.0;
+          fixed = book.fixed;
+          passed_over = tables.1;
+        }) }
+{
+    let targets = targets_of(alloc, &book.records)?;
+    let Book {
+        fixed,
+        sources,
+        records,
+    } = book;
+    let (fixed, sources) = places_of(alloc, fixed, sources)?;
+    let (texts, passed_over) = tables;
+    Ok(Setting {
+        fixed,
+        sources,
+        texts,
+        passed_over,
+        targets,
+        records,
+    })
+}
+
 impl Setting {
     /// The setting of a book, the names of the makefile's texts, and the names that its reading
     /// passed over, which are copied. It fails for want of memory alone.
@@ -79,20 +141,8 @@ impl Setting {
               passed_over = map string_bytes passed_over.now;
             }) }
     {
-        let Book {
-            fixed,
-            sources,
-            records,
-        } = book;
-        let targets = targets_of(alloc, &records)?;
-        Ok(Setting {
-            fixed: Prefixes::new(alloc, fixed)?,
-            sources: NameTable::new(alloc, sources)?,
-            texts: copies_of(alloc, texts)?,
-            passed_over: copies_of(alloc, passed_over)?,
-            targets,
-            records,
-        })
+        let tables = tables_of(alloc, texts, passed_over)?;
+        of_tables(alloc, book, tables)
     }
 
     /// Whether a file is given: a source, one under a fixed prefix, or a text of the makefile. It

@@ -12,7 +12,7 @@ ghost use Rattle.mk_read.specs.Needs.{commands_in, commands_of, is_wait};
 ghost use Rattle.mk_read.specs.Special.{is_inference_name, is_suffix};
 ghost use Rattle.mk_infer.specs.Inference.{but_last, ending, ends_in};
 ghost use Rattle.mk_infer.specs.Targets.{is_target, own_commands, prerequisites_of, rules_for, words_for};
-ghost use Rattle.mk_infer.specs.Table.{AreSources, HasLines, HoldsNames, HoldsTargets, counts_for, has_target, lines_at, lines_of, places_at, targets_in, words_in};
+ghost use Rattle.mk_infer.specs.Table.{AreSources, HasLines, HasSources, HoldsNames, HoldsTargets, counts_for, has_target, lines_at, lines_of, places_at, targets_in, words_in};
 
 use crate::source_suffixes::{Sources, is_dotted, sources_among};
 use crate::suffix_set::{SuffixSet, suffixes_among};
@@ -252,19 +252,67 @@ impl<'m> Model for RuleTable<'m> {
         IsTableOf t.makefile.now t.suffixes t.order t.phony t.lines t.sources };
 }
 
+/// What is looked up of a makefile's special targets.
+type Words<'m> = (SuffixSet<'m>, NameTable, NameSet<'m>);
+
+/// A makefile's suffixes, as a set and in their order, and its phony names.
+fn words_among<'m>(alloc: Global, makefile: &'m Makefile) -> Result<Words<'m>, AllocError>
+    ensures suffixes { IfOk result (λ r. list_all is_suffix makefile.now.suffixes ≡ true) }
+    ensures set { IfOk result (λ r. HoldsNames r.0 makefile.now.suffixes) }
+    ensures order { IfOk result (λ r. r.1 ≡ makefile.now.suffixes) }
+    ensures phony { IfOk result (λ r. HoldsNames r.2 makefile.now.phony) }
+{
+    let words = makefile.suffixes();
+    let set = suffixes_among(alloc, words)?;
+    let order = listed(alloc, words)?;
+    let phony = names_among(alloc, makefile.phony())?;
+    Ok((set, order, phony))
+}
+
+/// The places of a makefile's rule lines, and from which suffixes its rules make names.
+fn rules_among<'m>(
+    alloc: Global,
+    makefile: &'m Makefile,
+) -> Result<(Lines<'m>, Sources<'m>), AllocError>
+    ensures targets { IfOk result (λ r. HoldsTargets (targets_in makefile.now.rules) r.0) }
+    ensures lines { IfOk result (λ r. HasLines makefile.now.rules r.0) }
+    ensures sources { IfOk result (λ r. HasSources makefile.now r.1) }
+{
+    let lines = lines_among(alloc, makefile.rules())?;
+    let sources = sources_among(alloc, makefile)?;
+    Ok((lines, sources))
+}
+
+/// The table of a makefile, and of what was found of its rule lines.
+fn of_rules<'m>(
+    alloc: Global,
+    makefile: &'m Makefile,
+    rules: (Lines<'m>, Sources<'m>),
+) -> Result<RuleTable<'m>, AllocError>
+    requires targets { HoldsTargets (targets_in makefile.now.rules) rules.0 }
+    requires lines { HasLines makefile.now.rules rules.0 }
+    requires sources { HasSources makefile.now rules.1 }
+    ensures { IfOk result (λ table. table ≡ makefile.now) }
+{
+    let (suffixes, order, phony) = words_among(alloc, makefile)?;
+    let (lines, sources) = rules;
+    Ok(RuleTable {
+        makefile,
+        suffixes,
+        order,
+        phony,
+        lines,
+        sources,
+    })
+}
+
 impl<'m> RuleTable<'m> {
     /// The table of a makefile. The error is want of memory alone.
     pub fn new(alloc: Global, makefile: &'m Makefile) -> Result<RuleTable<'m>, AllocError>
         ensures { IfOk result (λ table. table ≡ makefile.now) }
     {
-        Ok(RuleTable {
-            makefile,
-            suffixes: suffixes_among(alloc, makefile.suffixes())?,
-            order: listed(alloc, makefile.suffixes())?,
-            phony: names_among(alloc, makefile.phony())?,
-            lines: lines_among(alloc, makefile.rules())?,
-            sources: sources_among(alloc, makefile)?,
-        })
+        let rules = rules_among(alloc, makefile)?;
+        of_rules(alloc, makefile, rules)
     }
 
     /// The makefile.
