@@ -73,6 +73,25 @@ fn read_group_part(
     }
 }
 
+/// Reads the members of a group that was entered, over what no members give.
+fn read_members(
+    alloc: Global,
+    parts: &mut GroupParts,
+    reader: &mut Reader<'_>,
+    depth: usize,
+) -> Result<(), Invalid>
+    requires { IsOfGroup parts.old (object no_members) }
+    ensures { ReadsMembers (λ _ members. IsOfGroup parts.new (object members))
+        depth reader.old result reader.new }
+{
+    members_in_turn();
+    values_take_tokens();
+    'members: while let Some(key) = reader.next_key()? {
+        read_group_part(alloc, key, parts, reader, depth)?;
+    }
+    Ok(())
+}
+
 /// Reads the members of a group that was entered.
 fn read_group_parts(
     alloc: Global,
@@ -82,12 +101,8 @@ fn read_group_parts(
     ensures { ReadsMembers (λ parts members. IsOfGroup parts (object members))
         depth reader.old result reader.new }
 {
-    members_in_turn();
-    values_take_tokens();
     let mut parts = no_group_parts();
-    'members: while let Some(key) = reader.next_key()? {
-        read_group_part(alloc, key, &mut parts, reader, depth)?;
-    }
+    read_members(alloc, &mut parts, reader, depth)?;
     Ok(parts)
 }
 

@@ -130,6 +130,26 @@ fn read_entry_part(
     }
 }
 
+/// Reads the members of a record that was entered, over what no members give.
+fn read_members(
+    alloc: Global,
+    format: Format,
+    parts: &mut EntryParts,
+    reader: &mut Reader<'_>,
+    depth: usize,
+) -> Result<(), Invalid>
+    requires { IsOfEntry format parts.old (object no_members) }
+    ensures { ReadsMembers (λ _ members. IsOfEntry format parts.new (object members))
+        depth reader.old result reader.new }
+{
+    members_in_turn();
+    values_take_tokens();
+    'members: while let Some(key) = reader.next_key()? {
+        read_entry_part(alloc, format, key, parts, reader, depth)?;
+    }
+    Ok(())
+}
+
 /// Reads the members of a record that was entered.
 fn read_entry_parts(
     alloc: Global,
@@ -140,12 +160,8 @@ fn read_entry_parts(
     ensures { ReadsMembers (λ parts members. IsOfEntry format parts (object members))
         depth reader.old result reader.new }
 {
-    members_in_turn();
-    values_take_tokens();
     let mut parts = no_entry_parts(alloc, format);
-    'members: while let Some(key) = reader.next_key()? {
-        read_entry_part(alloc, format, key, &mut parts, reader, depth)?;
-    }
+    read_members(alloc, format, &mut parts, reader, depth)?;
     Ok(parts)
 }
 

@@ -106,17 +106,32 @@ fn read_part(
     }
 }
 
+/// Reads the members of a file that was entered, over what no members give.
+fn read_members(
+    alloc: Global,
+    parts: &mut Parts,
+    reader: &mut Reader<'_>,
+    depth: usize,
+) -> Result<(), Invalid>
+    requires { IsOf parts.old (object no_members) }
+    ensures { ReadsMembers (λ _ members. IsOf parts.new (object members))
+        depth reader.old result reader.new }
+{
+    members_in_turn();
+    values_take_tokens();
+    'members: while let Some(key) = reader.next_key()? {
+        read_part(alloc, key, parts, reader, depth)?;
+    }
+    Ok(())
+}
+
 /// Reads the members of a file that was entered.
 fn read_parts(alloc: Global, reader: &mut Reader<'_>, depth: usize) -> Result<Parts, Invalid>
     ensures { ReadsMembers (λ parts members. IsOf parts (object members))
         depth reader.old result reader.new }
 {
-    members_in_turn();
-    values_take_tokens();
     let mut parts = no_parts();
-    'members: while let Some(key) = reader.next_key()? {
-        read_part(alloc, key, &mut parts, reader, depth)?;
-    }
+    read_members(alloc, &mut parts, reader, depth)?;
     Ok(parts)
 }
 
