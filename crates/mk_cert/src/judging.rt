@@ -11,8 +11,8 @@ use crate::links::Links;
 use crate::subject::Subject;
 use crate::walking::good_start;
 use mk_graph::growth_laws::names_have_one_number;
-use mk_lines::NameSet;
-use mk_ways::Way;
+use mk_lines::{Name, NameSet};
+use mk_ways::{Way, Ways};
 use std::alloc::{AllocError, Global};
 
 /// An empty set for each of so many nodes.
@@ -44,14 +44,14 @@ fn note_at<'a>(sets: &mut Vec<NameSet<'a>>, place: usize, name: &'a str) -> Resu
 fn note_good<'a>(
     subject: &Subject<'_>,
     links: &Links<'_>,
-    way: &'a Way,
+    way: &Way<'a>,
     seen: &mut Vec<NameSet<'a>>,
 ) -> Result<bool, AllocError>
     requires links { AreLinks subject.now links.now.reads.items
         links.now.carried.items links.now.ends.needed.items links.now.ends.always.items }
     requires sets { HasSets subject.now seen.old.items }
     ensures judged { IfOk result (λ good.
-        Judges subject.now way.entry.now seen.old.items seen.new.items good) }
+        Judges subject.now way.now seen.old.items seen.new.items good) }
     ensures sets { HasSets subject.now seen.new.items }
 {
     names_have_one_number();
@@ -59,23 +59,24 @@ fn note_good<'a>(
     let Some(start) = good_start(subject, links, way) else {
         return Ok(false);
     };
-    note_at(seen, start, way.file.as_str())
+    note_at(seen, start, way.file)
 }
 
 /// The fault of a bad entry.
-fn bad_way(way: &Way) -> Result<CertFault, AllocError>
+fn bad_way(alloc: Global, way: &Way<'_>) -> Result<CertFault, AllocError>
     ensures { IfOk result (λ fault. fault ≡ BadWay way.now.recipe way.now.file) }
 {
-    let recipe = way.recipe.clone()?;
-    let file = way.file.clone()?;
+    let recipe = Name::new(alloc, way.recipe)?;
+    let file = Name::new(alloc, way.file)?;
     Ok(CertFault::BadWay { recipe, file })
 }
 
 /// Notes the entries of a list, or answers the first bad one (75).
 pub fn check_entries<'a>(
+    alloc: Global,
     subject: &Subject<'_>,
     links: &Links<'_>,
-    ways: &'a [Way],
+    ways: &'a Ways,
     seen: &mut Vec<NameSet<'a>>,
 ) -> Result<(), CertFault>
     requires links { AreLinks subject.now links.now.reads.items
@@ -85,9 +86,10 @@ pub fn check_entries<'a>(
     ensures answer { (result ≡ Err Memory) ⊎ AnswersEntries subject.now ways.entry.now result }
     ensures seen { OnOk result (AreSeen subject.now ways.entry.now seen.new.items) }
 {
-    for way in ways {
-        if !note_good(subject, links, way, seen)? {
-            return Err(bad_way(way)?);
+    for place in 0..ways.len() {
+        let way = ways.at(place);
+        if !note_good(subject, links, &way, seen)? {
+            return Err(bad_way(alloc, &way)?);
         }
     }
     Ok(())

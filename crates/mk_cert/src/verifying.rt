@@ -20,7 +20,7 @@ use crate::laws::verified_is_right;
 use crate::links::links_of;
 use crate::race_findings::races;
 use crate::subject::Subject;
-use mk_ways::{Certificate, PackedNames, Way};
+use mk_ways::{Certificate, PackedNames, Ways};
 use std::alloc::Global;
 
 /// Whether these names are those of the goals, in their order.
@@ -68,12 +68,12 @@ fn check_found(alloc: Global, subject: &Subject<'_>) -> Result<(), CertFault>
 
 /// That no entry is bad, or the first one that is (75); then that each read that needs a way has
 /// its entry, or the first that hasn't (74).
-fn check_ways(alloc: Global, subject: &Subject<'_>, ways: &[Way]) -> Result<(), CertFault>
+fn check_ways(alloc: Global, subject: &Subject<'_>, ways: &Ways) -> Result<(), CertFault>
     ensures { (result ≡ Err Memory) ⊎ AnswersWays subject.now ways.now result }
 {
     let links = links_of(alloc, subject)?;
     let mut seen = empty_sets(alloc, subject.graph().nodes().len())?;
-    check_entries(subject, &links, ways, &mut seen)?;
+    check_entries(alloc, subject, &links, ways, &mut seen)?;
     check_reads(alloc, subject, &seen)
 }
 
@@ -107,5 +107,5 @@ pub fn verify(
         return Err(CertFault::OtherGoals);
     }
     check_found(alloc, subject)?;
-    check_ways(alloc, subject, certificate.ways.as_slice())
+    check_ways(alloc, subject, &certificate.ways)
 }

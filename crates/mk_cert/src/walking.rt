@@ -21,7 +21,7 @@ use mk_graph::NodeSet;
 use mk_graph::growth_laws::names_have_one_number;
 use mk_graph::laws::serial_reaches_each_once;
 use mk_lines::NameSet;
-use mk_ways::{Finish, PackedNames, Way};
+use mk_ways::{Finish, Path, Way};
 
 /// Whether a number stands in the set at a place.
 fn has_at(sets: &[NodeSet], place: usize, number: usize) -> bool
@@ -77,7 +77,7 @@ fn last_over(
     subject: &Subject<'_>,
     links: &Links<'_>,
     start: usize,
-    path: &PackedNames,
+    path: &Path<'_>,
 ) -> Option<usize>
     requires { AreLinks subject.now links.now.reads.items
         links.now.carried.items links.now.ends.needed.items links.now.ends.always.items }
@@ -146,7 +146,7 @@ fn needs_way(subject: &Subject<'_>, links: &Links<'_>, number: usize, file: &str
 }
 
 /// Whether the path of an entry goes on from its first recipe to its file.
-fn leads(subject: &Subject<'_>, links: &Links<'_>, start: usize, way: &Way) -> bool
+fn leads(subject: &Subject<'_>, links: &Links<'_>, start: usize, way: &Way<'_>) -> bool
     requires { AreLinks subject.now links.now.reads.items
         links.now.carried.items links.now.ends.needed.items links.now.ends.always.items }
     ensures { (result ≡ true) ↔ Leads subject.now start (drop 1 way.now.path) way.now }
@@ -159,12 +159,12 @@ fn leads(subject: &Subject<'_>, links: &Links<'_>, start: usize, way: &Way) -> b
     if way.path.len() < 2 && way.finish == Finish::Written {
         return false;
     }
-    let file = target_of(subject, way.file.as_str());
+    let file = target_of(subject, way.file);
     ends_at(subject, &links.ends, &file, way.finish, last)
 }
 
 /// The number of the recipe of an entry, where the entry is good.
-pub fn good_start(subject: &Subject<'_>, links: &Links<'_>, way: &Way) -> Option<usize>
+pub fn good_start(subject: &Subject<'_>, links: &Links<'_>, way: &Way<'_>) -> Option<usize>
     requires { AreLinks subject.now links.now.reads.items
         links.now.carried.items links.now.ends.needed.items links.now.ends.always.items }
     ensures { MatchOption result (¬ (IsGood subject.now way.now))
@@ -177,13 +177,13 @@ pub fn good_start(subject: &Subject<'_>, links: &Links<'_>, way: &Way) -> Option
         return None;
     }
     let first = way.path.at(0);
-    if first != way.recipe.as_str() {
+    if first != way.recipe {
         return None;
     }
     let Some(start) = recipe_named(subject, &links.ends, first) else {
         return None;
     };
-    if !needs_way(subject, links, start, way.file.as_str()) {
+    if !needs_way(subject, links, start, way.file) {
         return None;
     }
     if !leads(subject, links, start, way) {

@@ -1,6 +1,7 @@
 //! The certificate of a build of which nothing is found.
 
-ghost use Rattle.std.specs.Prelude.{◌≡◌, ◌<◌, [], ℕ, length, map, IfOk};
+ghost use Rattle.std.specs.Prelude.{◌≡◌, ◌<◌, ◌∷◌, ◌++◌, [], ℕ, length, map, IfOk, OnOk};
+ghost use Rattle.mk_ways.specs.Certificate.{Way as WayValue};
 ghost use Rattle.mk_graph.specs.Membership.{Has};
 ghost use Rattle.mk_cert.specs.Candidates.{static_candidates, stale_candidates};
 ghost use Rattle.mk_cert.specs.Entry.{IsEntry};
@@ -13,9 +14,9 @@ use crate::first_path::FirstPath;
 use crate::judging::judge_all;
 use mk_cert::laws::{carried_exactly, list_is_one};
 use mk_cert::{Entry, Subject};
-use mk_lines::Name;
-use mk_ways::{Certificate, PackedNames, Way};
+use mk_ways::{Certificate, PackedNames, Ways};
 use std::alloc::{AllocError, Global};
+use std::marker::Model;
 
 /// How many bytes the names of nodes have together: the room that they take.
 fn room_for(subject: &Subject<'_>, nodes: &[usize]) -> usize
@@ -45,31 +46,76 @@ pub(crate) fn names_of(
     Ok(names)
 }
 
-/// The entry for a read, to whose file this path leads first.
-pub(crate) fn entry_along(
-    alloc: Global,
+/// The entries so far, and room for the names of a path. A contract sees a list of ways.
+#[derive(Drop)]
+pub(crate) struct Entries {
+    ways: Ways,
+    path: PackedNames,
+}
+
+impl Model for Entries {
+    ghost use Rattle.std.specs.Prelude.{List};
+    ghost use Rattle.mk_ways.specs.Certificate as value;
+
+    ghost Value = { List value.Way };
+
+    ghost view = { λ e. e.ways };
+}
+
+/// Puts the names of nodes in the place of others.
+fn name_all(
+    names: &mut PackedNames,
     subject: &Subject<'_>,
-    entry: &Entry<'_>,
-    file: &str,
-    path: &FirstPath,
-) -> Result<Way, AllocError>
-    requires entry { IsEntry subject.now entry.now }
-    requires read { Has (reads_of subject.now entry.now.number) file.now }
-    requires first { GoesFirst subject.now file.now entry.now.number path.now.nodes.items
-        path.now.finish }
-    ensures { IfOk result (λ way.
-        IsEntryFor subject.now (record { recipe = entry.now.number; file = file.now }) way) }
+    nodes: &[usize],
+) -> Result<(), AllocError>
+    requires { (n : ℕ) → Has nodes.now n → n < length subject.now.graph.nodes }
+    ensures { OnOk result (names.new ≡ map (name_of subject.now) nodes.now) }
 {
-    carried_exactly();
-    let names = names_of(alloc, subject, &path.nodes)?;
-    let recipe = entry.copy_of_name()?;
-    let file = Name::new(alloc, file)?;
-    Ok(Way {
-        recipe,
-        file,
-        path: names,
-        finish: path.finish,
-    })
+    names.clear();
+    for node in nodes {
+        names.push(subject.name(*node))?;
+    }
+    Ok(())
+}
+
+impl Entries {
+    /// No entries.
+    pub fn new(alloc: Global) -> Entries
+        ensures { result ≡ [] }
+    {
+        Entries {
+            ways: Ways::new(alloc),
+            path: PackedNames::new(alloc),
+        }
+    }
+
+    /// The entries.
+    pub fn into_ways(self) -> Ways
+        ensures { result ≡ self }
+    {
+        self.ways
+    }
+
+    /// Adds the entry for a read, to whose file this path leads first.
+    pub fn push(
+        &mut self,
+        subject: &Subject<'_>,
+        entry: &Entry<'_>,
+        file: &str,
+        path: &FirstPath,
+    ) -> Result<(), AllocError>
+        requires entry { IsEntry subject.now entry.now }
+        requires read { Has (reads_of subject.now entry.now.number) file.now }
+        requires first { GoesFirst subject.now file.now entry.now.number path.now.nodes.items
+            path.now.finish }
+        ensures { OnOk result ((way : WayValue) ×
+            IsEntryFor subject.now (record { recipe = entry.now.number; file = file.now }) way ×
+            (self.new ≡ self.old ++ way ∷ [])) }
+    {
+        carried_exactly();
+        name_all(&mut self.path, subject, &path.nodes)?;
+        self.ways.push(entry.name(), file, &self.path, path.finish)
+    }
 }
 
 /// The certificate of a build of which nothing is found: for each read of a file that can change

@@ -10,10 +10,12 @@ ghost use Rattle.mk_cert.specs.Links.{AreEnds};
 ghost use Rattle.mk_cert.specs.Listed.{Adds};
 ghost use Rattle.mk_cert.specs.Listing.{Lists};
 ghost use Rattle.mk_cert.specs.Subject.{reads_of};
-ghost use Rattle.mk_find.specs.Certifying.{AddsEntries, AreEntriesFor, IsEntryFor, Needs, reads_by, reads_once};
+ghost use Rattle.mk_find.specs.Certifying.{AddsEntries, AreEntriesFor, Needs, reads_by, reads_once};
+ghost use Rattle.mk_find.specs.FirstPaths.{GoesFirst};
 ghost use Rattle.mk_cert.specs.Target.{target_of};
 
-use crate::certifying::entry_along;
+use crate::certifying::Entries;
+use crate::first_path::FirstPath;
 use crate::stale::note_stale;
 use crate::standing::{Standing, standing_of};
 use mk_cert::laws::{listed_exactly, paths_are_ways};
@@ -22,7 +24,7 @@ use mk_foot::laws::once_keeps_first;
 use mk_foot::{is_repeated, seen_of};
 use mk_graph::Groups;
 use mk_search::Search;
-use mk_ways::Way;
+use mk_ways::Ways;
 use std::alloc::{AllocError, Global};
 
 /// Adds that a read is stale, if it is. What it gives is the entry for the read, if one is needed
@@ -35,7 +37,7 @@ fn judge_read(
     entry: &Entry<'_>,
     file: &Target<'_>,
     found: &mut Vec<Finding>,
-) -> Result<Option<Way>, AllocError>
+) -> Result<Option<FirstPath>, AllocError>
     requires entry { IsEntry subject.now entry.now }
     requires ends { AreEnds subject.now ends.now.needed.items
         ends.now.always.items }
@@ -47,18 +49,17 @@ fn judge_read(
     ensures same { search.new ≡ search.old }
     ensures found { OnOk result (Adds subject.now (stale entry.now.number file.now.file ∷ [])
         found.old.items found.new.items) }
-    ensures way { IfOk result (λ way. found.new.items ≡ [] → MatchOption way
-        (¬ (Needs subject.now (record { recipe = entry.now.number; file = file.now.file })))
-        (λ way. Needs subject.now (record { recipe = entry.now.number; file = file.now.file }) ×
-        IsEntryFor subject.now (record { recipe = entry.now.number; file = file.now.file }) way)) }
+    ensures path { IfOk result (λ path. MatchOption path
+        (found.new.items ≡ [] →
+        ¬ (Needs subject.now (record { recipe = entry.now.number; file = file.now.file })))
+        (λ path. Needs subject.now (record { recipe = entry.now.number; file = file.now.file }) ×
+        GoesFirst subject.now file.now.file entry.now.number path.nodes.items path.finish)) }
 {
     listed_exactly();
     paths_are_ways();
     match standing_of(alloc, subject, ends, search, file)? {
         Standing::Fixed => Ok(None),
-        Standing::Led(path) if found.is_empty() => {
-            Ok(Some(entry_along(alloc, subject, entry, file.file, &path)?))
-        }
+        Standing::Led(path) if found.is_empty() => Ok(Some(path)),
         Standing::Led(_) => Ok(None),
         Standing::Stale => {
             note_stale(alloc, entry, file.file, found)?;
@@ -75,7 +76,7 @@ fn judge_reads<'s>(
     search: &mut Search<'_>,
     entry: &'s Entry<'_>,
     found: &mut Vec<Finding>,
-    ways: &mut Vec<Way>,
+    ways: &mut Entries,
 ) -> Result<(), AllocError>
     requires entry { IsEntry subject.now entry.now }
     requires ends { AreEnds subject.now ends.now.needed.items
@@ -88,19 +89,19 @@ fn judge_reads<'s>(
         (map (λ f. stale entry.now.number f) (reads_of subject.now entry.now.number))
         found.old.items found.new.items) }
     ensures ways { OnOk result (found.new.items ≡ [] → AddsEntries subject.now
-        (reads_by subject.now entry.now.number) ways.old.items ways.new.items) }
+        (reads_by subject.now entry.now.number) ways.old ways.new) }
 {
     once_keeps_first();
     let reads = entry.reads();
     let mut seen = seen_of(alloc, reads.len())?;
     for place in 0..reads.len() {
         let file = subject.read(entry, place);
-        let way = judge_read(alloc, subject, ends, search, entry, &file, found)?;
+        let path = judge_read(alloc, subject, ends, search, entry, &file, found)?;
         if is_repeated(reads, place, &mut seen)? {
             continue;
         }
-        if let Some(way) = way {
-            ways.push(way)?;
+        if let Some(path) = path {
+            ways.push(subject, entry, file.file, &path)?;
         }
     }
     Ok(())
@@ -115,7 +116,7 @@ fn judge_recipe(
     rows: &Groups,
     entry: &Entry<'_>,
     found: &mut Vec<Finding>,
-    ways: &mut Vec<Way>,
+    ways: &mut Entries,
 ) -> Result<(), AllocError>
     requires entry { IsEntry subject.now entry.now }
     requires ends { AreEnds subject.now ends.now.needed.items
@@ -126,7 +127,7 @@ fn judge_recipe(
         (map (λ f. stale entry.now.number f) (reads_of subject.now entry.now.number))
         found.old.items found.new.items) }
     ensures ways { OnOk result (found.new.items ≡ [] → AddsEntries subject.now
-        (reads_by subject.now entry.now.number) ways.old.items ways.new.items) }
+        (reads_by subject.now entry.now.number) ways.old ways.new) }
 {
     if entry.reads().is_empty() {
         return Ok(());
@@ -141,19 +142,19 @@ pub(crate) fn judge_all(
     alloc: Global,
     subject: &Subject<'_>,
     found: &mut Vec<Finding>,
-) -> Result<Vec<Way>, AllocError>
+) -> Result<Ways, AllocError>
     requires { Lists subject.now (static_candidates subject.now) [] }
     ensures found { IfOk result (λ _. Adds subject.now (stale_candidates subject.now)
         found.old.items found.new.items) }
     ensures ways { IfOk result (λ ways. found.new.items ≡ [] →
-        AreEntriesFor subject.now (reads_once subject.now) ways.items) }
+        AreEntriesFor subject.now (reads_once subject.now) ways) }
 {
     let ends = ends_of(alloc, subject)?;
     let rows = carried_lists(alloc, subject)?;
     let entries = subject.entries();
-    let mut ways = Vec::new(alloc);
+    let mut ways = Entries::new(alloc);
     for entry in entries {
         judge_recipe(alloc, subject, &ends, &rows, entry, found, &mut ways)?;
     }
-    Ok(ways)
+    Ok(ways.into_ways())
 }

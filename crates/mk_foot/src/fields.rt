@@ -1,7 +1,7 @@
 //! Texts, lists of them and the format, by the tokens of a file of footprints, each with the fault
 //! of its key.
 
-ghost use Rattle.std.specs.Prelude.{◌≡◌, ◌∷◌, ◌++◌, [], List, Result, option_and_then};
+ghost use Rattle.std.specs.Prelude.{◌≡◌, ◌∷◌, ◌++◌, [], ℕ, List, Result, IfOk, option_and_then};
 ghost use Rattle.std.specs.Option.{option_map};
 ghost use Rattle.std.specs.String.{string_bytes};
 ghost use Rattle.serde_json.specs.Data.{Data};
@@ -18,7 +18,7 @@ use crate::key::Key;
 use json::{Invalid, Reader};
 use mk_json::laws::{items_in_turn, values_take_tokens};
 use mk_json::{enter_array, next_integer, next_text};
-use std::alloc::Global;
+use std::alloc::{AllocError, Global};
 
 /// A list of texts, or its fault.
 pub type Texts = Result<Vec<String>, FootFault>;
@@ -47,6 +47,9 @@ pub fn read_text(
     let text = next_text(reader, depth)?;
     Ok(copy_of(alloc, key, text))
 }
+
+/// So many texts may stand in a list with spare room.
+const FEW: usize = 4;
 
 /// Texts with one more at their end, or the fault of what is no text.
 fn with_text(texts: Texts, text: Result<String, FootFault>) -> Texts
@@ -83,6 +86,29 @@ fn read_list(
     Ok(texts)
 }
 
+/// The same texts. More than a few stand in a list without spare room then: one that grew has room
+/// for up to twice as many. The error is want of memory alone.
+fn fitted(alloc: Global, texts: Vec<String>) -> Result<Vec<String>, AllocError>
+    ensures { IfOk result (λ all. all.items ≡ texts.items) }
+{
+    if texts.len() <= FEW {
+        return Ok(texts);
+    }
+    let mut texts = texts;
+    let mut exact = Vec::with_capacity(alloc, texts.len())?;
+    exact.append(&mut texts)?;
+    Ok(exact)
+}
+
+/// The same texts, or their fault.
+fn without_room(alloc: Global, texts: Texts) -> Texts
+    ensures { (defined : Result (List (List ℕ)) FootFault) →
+        GivesTexts texts defined → GivesTexts result defined }
+{
+    let texts = texts?;
+    Ok(fitted(alloc, texts)?)
+}
+
 /// Reads a list of texts.
 pub fn read_texts(
     alloc: Global,
@@ -98,7 +124,7 @@ pub fn read_texts(
         return Ok(Err(FootFault::Shape(key)));
     }
     let texts = read_list(alloc, key, reader, depth - 1)?;
-    Ok(texts)
+    Ok(without_room(alloc, texts))
 }
 
 /// The format that goes by a number.

@@ -7,7 +7,7 @@ ghost use Rattle.mk_print.specs.VerdictText.{finding_line, findings_text, verdic
 
 use crate::verdict::Verdict;
 use mk_cert::Finding;
-use mk_ways::{PackedNames, Way};
+use mk_ways::{Path, Way, Ways};
 use std::alloc::{AllocError, Global};
 
 /// The line of a yes: how many recipes were judged, and how many files they read.
@@ -19,7 +19,7 @@ pub fn yes_line(alloc: Global, recipes: usize, reads: u128) -> Result<Vec<u8>, A
 }
 
 /// Adds each name behind a space.
-fn push_names(out: &mut Vec<u8>, names: &PackedNames) -> Result<(), AllocError>
+fn push_names(out: &mut Vec<u8>, names: &Path<'_>) -> Result<(), AllocError>
     ensures { OnOk result (out.new.items ≡ out.old.items ++ names_text names.now) }
 {
     for place in 0..names.len() {
@@ -30,13 +30,13 @@ fn push_names(out: &mut Vec<u8>, names: &PackedNames) -> Result<(), AllocError>
 }
 
 /// Adds the line of a way.
-fn push_way(out: &mut Vec<u8>, way: &Way) -> Result<(), AllocError>
+fn push_way(out: &mut Vec<u8>, way: &Way<'_>) -> Result<(), AllocError>
     ensures { OnOk result (out.new.items ≡ out.old.items ++ way_line way.now) }
 {
     out.extend_from_slice(b"way ")?;
-    out.extend_from_slice(way.recipe.as_str().as_bytes())?;
+    out.extend_from_slice(way.recipe.as_bytes())?;
     out.push(b' ')?;
-    out.extend_from_slice(way.file.as_str().as_bytes())?;
+    out.extend_from_slice(way.file.as_bytes())?;
     out.push(b' ')?;
     out.extend_from_slice(way.finish.as_str().as_bytes())?;
     push_names(out, &way.path)?;
@@ -45,11 +45,11 @@ fn push_way(out: &mut Vec<u8>, way: &Way) -> Result<(), AllocError>
 }
 
 /// Adds a line for each way.
-fn push_ways(out: &mut Vec<u8>, ways: &[Way]) -> Result<(), AllocError>
+fn push_ways(out: &mut Vec<u8>, ways: &Ways) -> Result<(), AllocError>
     ensures { OnOk result (out.new.items ≡ out.old.items ++ ways_text ways.now) }
 {
-    for way in ways {
-        push_way(out, way)?;
+    for place in 0..ways.len() {
+        push_way(out, &ways.at(place))?;
     }
     Ok(())
 }
@@ -85,7 +85,7 @@ pub fn render(alloc: Global, verdict: &Verdict) -> Result<Vec<u8>, AllocError>
             reads,
         } => {
             let mut out = yes_line(alloc, *recipes, *reads)?;
-            push_ways(&mut out, certificate.ways.as_slice())?;
+            push_ways(&mut out, &certificate.ways)?;
             Ok(out)
         }
         Verdict::No(found) => findings_text(alloc, found.as_slice()),

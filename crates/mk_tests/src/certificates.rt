@@ -1,8 +1,8 @@
 //! Tests of mk_ways: certificates as they are written and read.
 
-use mk_lines::Name;
 use mk_ways::{
-    Certificate, CertificateFault, Finish, PackedNames, Way, certificate_text, read_certificate,
+    Certificate, CertificateFault, Finish, PackedNames, Way, Ways, certificate_text,
+    read_certificate,
 };
 use std::alloc::{AllocError, Global};
 use std::process::Abort;
@@ -185,14 +185,23 @@ fn push_names(shown: &mut String, names: &PackedNames) -> Result<(), AllocError>
     Ok(())
 }
 
+/// Adds a way.
+fn push_way(alloc: Global, shown: &mut String, way: &Way<'_>) -> Result<(), Fail> {
+    let front = format!(in alloc; "; {} {} {}", way.recipe, way.file, way.finish)?;
+    shown.push_str(front.as_str())?;
+    for place in 0..way.path.len() {
+        shown.push(' ')?;
+        shown.push_str(way.path.at(place))?;
+    }
+    Ok(())
+}
+
 /// A certificate as lines.
 fn shown(alloc: Global, certificate: &Certificate) -> Result<String, Fail> {
     let mut shown = String::from_str(alloc, "goals")?;
     push_names(&mut shown, &certificate.goals)?;
-    for way in &certificate.ways {
-        let front = format!(in alloc; "; {} {} {}", way.recipe, way.file, way.finish)?;
-        shown.push_str(front.as_str())?;
-        push_names(&mut shown, &way.path)?;
+    for place in 0..certificate.ways.len() {
+        push_way(alloc, &mut shown, &certificate.ways.at(place))?;
     }
     Ok(shown)
 }
@@ -223,32 +232,28 @@ fn names(alloc: Global, words: &str) -> Result<PackedNames, AllocError> {
     Ok(names)
 }
 
-/// A way by its names.
-fn way(
+/// Adds a way by its names, where `path` has the words of the path.
+fn add(
     alloc: Global,
+    ways: &mut Ways,
     recipe: &str,
     file: &str,
     path: &str,
     finish: Finish,
-) -> Result<Way, AllocError> {
-    Ok(Way {
-        recipe: Name::new(alloc, recipe)?,
-        file: Name::new(alloc, file)?,
-        path: names(alloc, path)?,
-        finish,
-    })
+) -> Result<(), AllocError> {
+    ways.push(recipe, file, &names(alloc, path)?, finish)
 }
 
 #[test]
 fn writes_and_reads_three_ways(rt: HostRuntime) -> Result<(), Fail> {
     let alloc = rt.alloc();
+    let mut ways = Ways::new(alloc);
+    add(alloc, &mut ways, "a.o", "a.c", "a.o", Finish::Source)?;
+    add(alloc, &mut ways, "p", "a.o", "p a.o", Finish::Written)?;
+    add(alloc, &mut ways, "p", "a.c", "p a.o", Finish::Source)?;
     let certificate = Certificate {
         goals: names(alloc, "p")?,
-        ways: vec![in alloc;
-            way(alloc, "a.o", "a.c", "a.o", Finish::Source)?,
-            way(alloc, "p", "a.o", "p a.o", Finish::Written)?,
-            way(alloc, "p", "a.c", "p a.o", Finish::Source)?,
-        ]?,
+        ways,
     };
     let text = certificate_text(alloc, &certificate)?;
     assert_eq!(rt; text.as_str(), THREE);
@@ -261,7 +266,7 @@ fn writes_without_ways(rt: HostRuntime) -> Result<(), Fail> {
     let alloc = rt.alloc();
     let certificate = Certificate {
         goals: names(alloc, "a\"b c\\d é")?,
-        ways: Vec::new(alloc),
+        ways: Ways::new(alloc),
     };
     let text = certificate_text(alloc, &certificate)?;
     let want = r#"{"format":1,"goals":["a\"b","c\\d","é"],"ways":[]}"#;

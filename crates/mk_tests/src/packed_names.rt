@@ -29,7 +29,7 @@ fn see(rt: &impl Abort, packed: &PackedNames, want: &[&str]) {
 fn no_names(rt: HostRuntime) -> Result<(), Fail> {
     let mut names = PackedNames::new(rt.alloc());
     see(&rt, &names, &[]);
-    names.shrink_to_fit();
+    names.clear();
     see(&rt, &names, &[]);
     Ok(())
 }
@@ -46,12 +46,22 @@ fn one_name(rt: HostRuntime) -> Result<(), Fail> {
 fn some_names_in_order(rt: HostRuntime) -> Result<(), Fail> {
     let mut names = packed(rt.alloc(), &SOME)?;
     see(&rt, &names, &SOME);
-    names.shrink_to_fit();
-    see(&rt, &names, &SOME);
     names.push("last")?;
     assert_eq!(&rt; names.len(), 8);
     assert_eq!(&rt; names.at(7), "last");
     assert_eq!(&rt; names.at(5), "/ü/日本");
+    Ok(())
+}
+
+#[test]
+fn names_behind_others(rt: HostRuntime) -> Result<(), Fail> {
+    let mut names = packed(rt.alloc(), &["x"])?;
+    names.push_all(&packed(rt.alloc(), &SOME)?)?;
+    see(&rt, &names, &["x", "a", "", "b.c", "", "é", "/ü/日本", "a"]);
+    names.clear();
+    see(&rt, &names, &[]);
+    names.push("é")?;
+    see(&rt, &names, &["é"]);
     Ok(())
 }
 

@@ -8,3 +8,4 @@ pub mod NoJson
 pub mod PlainNames
 pub mod Packed
 pub mod Said
+pub mod PackedWays

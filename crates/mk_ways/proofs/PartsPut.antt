@@ -1,5 +1,5 @@
 -- Parts where a member is put.
-use Rattle.std.proofs.Common.{◌≡◌, ℕ, Bool, true, false, List, [], ◌∷◌, map, codes, Option, Some, Result, bytes_eq, Vec, Global, refl, sym, ap, ◌∙◌, subst}
+use Rattle.std.proofs.Common.{◌≡◌, ℕ, Bool, true, false, List, [], ◌∷◌, map, codes, Option, Some, Result, bytes_eq, refl, sym, ap, ◌∙◌, subst}
 use Rattle.std.specs.Prelude.{⊤, option_and_then}
 use Rattle.std.proofs.lemmas.Slice.Eq.{bytes_eq-Decides}
 use Rattle.mk_lines.specs.Names.{has_name}
@@ -14,8 +14,8 @@ use Rattle.mk_ways.specs.declared.fault.CertificateFault.{CertificateFault}
 use Rattle.mk_ways.specs.declared.key.Key.{Key}
 use Rattle.mk_ways.specs.declared.key.Key.TheVariants as keys
 use Rattle.mk_ways.specs.declared.reading.Parts.{Parts}
-use Rattle.mk_ways.specs.declared.ways.WayParts.{WayParts}
-use Rattle.mk_ways.specs.Certificate.{Way}
+use Rattle.mk_ways.specs.declared.reading_ways.WayParts.{WayParts}
+use Rattle.mk_ways.specs.declared.ways.Ways.{Ways}
 use Rattle.mk_ways.specs.Keys.{spelling}
 use Rattle.mk_ways.specs.Parts.{names_from, finish_from, format_from, IsOfWay, IsOf, AreEntries}
 use Rattle.mk_ways.specs.Reading.{is_one, name_in, name_at, names_at, values_at, finish_at, format_is_one}
@@ -91,7 +91,7 @@ module _ (law : LastValueCounts) where
   pub unknown_there : (known : List (List ℕ)) (key : List ℕ) (value : Data) (ms : Members) → has_name known key ≡ false → has_only known (object (put key value ms)) ≡ false
   unknown_there known key value ms e = law.keys known key value ms ∙ rw e refl
 
-  moved_entries : (ways : Result (Result (Vec Way Global) CertificateFault) CertificateFault) (old new : Result (List Data) CertificateFault) → AreEntries ways old → new ≡ old → AreEntries ways new
+  moved_entries : (ways : Result (Result Ways CertificateFault) CertificateFault) (old new : Result (List Data) CertificateFault) → AreEntries ways old → new ≡ old → AreEntries ways new
   moved_entries ways old new given e = subst (λ (z : Result (List Data) CertificateFault). AreEntries ways z) (sym e) given
 
   -- ---- the parts of a way
@@ -172,7 +172,7 @@ module _ (law : LastValueCounts) where
     alone = was.alone ∙ sym (known_there all_keys (codes "goals") value ms refl);
   })
 
-  pub ways_put : (p : Parts) (ways : Result (Result (Vec Way Global) CertificateFault) CertificateFault) (key : List ℕ) (value : Data) (ms : Members) → key ≡ codes "ways" → AreEntries ways (at_least keys.Ways (elements_of value)) → IsOf p (object ms)
+  pub ways_put : (p : Parts) (ways : Result (Result Ways CertificateFault) CertificateFault) (key : List ℕ) (value : Data) (ms : Members) → key ≡ codes "ways" → AreEntries ways (at_least keys.Ways (elements_of value)) → IsOf p (object ms)
       → IsOf (record { format = p.format; goals = p.goals; ways = ways; alone = p.alone }) (object (put key value ms))
   ways_put p ways key value ms is given was = rw is (record {
     format = moved (λ d. d) p.format _ _ was.format (format_there (codes "ways") value ms refl);

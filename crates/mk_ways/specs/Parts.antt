@@ -1,6 +1,5 @@
 -- Certificates and ways by the parts that were read of them.
-use Rattle.std.specs.Prelude.{◌≡◌, ℕ, ⊤, List, [], ◌∷◌, map, option_and_then, Result, Ok, Err, Vec}
-use Rattle.std.specs.declared.alloc.Global.{Global}
+use Rattle.std.specs.Prelude.{◌≡◌, ℕ, ⊤, List, [], ◌∷◌, map, option_and_then, Result, Ok, Err}
 use Rattle.mk_lines.specs.Results.{Fails}
 use Rattle.serde_json.specs.Data.{Data}
 use Rattle.serde_json.specs.Find.{as_str, as_number, as_integer}
@@ -11,8 +10,8 @@ use Rattle.mk_ways.specs.declared.fault.CertificateFault.TheVariants.{Memory}
 use Rattle.mk_ways.specs.declared.key.Key.{Key}
 use Rattle.mk_ways.specs.declared.key.Key.TheVariants as keys
 use Rattle.mk_ways.specs.declared.reading.Parts.{Parts}
-use Rattle.mk_ways.specs.declared.ways.WayParts.{WayParts}
-use Rattle.mk_ways.specs.Certificate.{Way}
+use Rattle.mk_ways.specs.declared.reading_ways.WayParts.{WayParts}
+use Rattle.mk_ways.specs.declared.ways.Ways.{Ways}
 use Rattle.mk_ways.specs.Keys.{spelling}
 use Rattle.mk_ways.specs.Reading.{is_one, name_in, name_at, names_at, values_at, finish_at, format_is_one, way_in}
 use Rattle.mk_ways.specs.Steps.{◌>>=◌, Gives, each, at_least, where_holds}
@@ -42,11 +41,11 @@ pub record IsOfWay (parts : WayParts) (whole : Data) : Type 0 where
 
 -- Where a list stands, its ways are read, or the first fault of them; else it is a fault.
 abbrev pub AreEntries :
-    Result (Result (Vec Way Global) CertificateFault) CertificateFault →
+    Result (Result Ways CertificateFault) CertificateFault →
     Result (List Data) CertificateFault → Type 0
 AreEntries (Ok ways) defined =
     (values : List Data) × (defined ≡ Ok values) ×
-    Gives (λ all. all.items) ways (each way_in values)
+    Gives (λ all. all) ways (each way_in values)
 AreEntries (Err fault) defined = Fails Memory fault defined
 
 -- the parts are those of a certificate that is this object

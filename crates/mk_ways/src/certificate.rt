@@ -4,7 +4,8 @@ ghost use Rattle.std.specs.Prelude.{◌≡◌};
 ghost use Rattle.mk_ways.specs.Words.{finish_word};
 
 use crate::packed_names::PackedNames;
-use mk_lines::Name;
+use crate::path::Path;
+use crate::ways::Ways;
 use std::fmt;
 use std::marker::Model;
 
@@ -43,28 +44,29 @@ impl fmt::Display for Finish {
     }
 }
 
-/// How the change of a file comes to a recipe that reads it. A contract sees lists of bytes.
+/// How the change of a file comes to a recipe that reads it, lent by a list of ways. A contract sees
+/// lists of bytes.
 #[derive(Debug, Drop)]
-pub struct Way {
+pub struct Way<'a> {
     /// The recipe that reads the file.
-    pub recipe: Name,
+    pub recipe: &'a str,
     /// The file.
-    pub file: Name,
+    pub file: &'a str,
     /// Recipes from this one on, each of which carries the next.
-    pub path: PackedNames,
+    pub path: Path<'a>,
     /// How it ends at the last of them.
     pub finish: Finish,
 }
 
-impl Model for Way {
+impl<'a> Model for Way<'a> {
     ghost use Rattle.mk_ways.specs.Certificate as value;
 
     ghost Value = { value.Way };
 
     ghost view = { λ w.
         record {
-          recipe = w.recipe;
-          file = w.file;
+          recipe = w.recipe.now;
+          file = w.file.now;
           path = w.path;
           finish = w.finish;
         } };
@@ -77,7 +79,7 @@ pub struct Certificate {
     /// The goals, each once.
     pub goals: PackedNames,
     /// The ways.
-    pub ways: Vec<Way>,
+    pub ways: Ways,
 }
 
 impl Model for Certificate {
@@ -88,6 +90,6 @@ impl Model for Certificate {
     ghost view = { λ c.
         record {
           goals = c.goals;
-          ways = c.ways.items;
+          ways = c.ways;
         } };
 }

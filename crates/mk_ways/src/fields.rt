@@ -72,21 +72,6 @@ pub fn read_name(
     Ok(copy_of(alloc, name))
 }
 
-/// A list with one more at its end, or the first fault.
-pub fn with_next<T: Drop>(
-    found: Result<Vec<T>, CertificateFault>,
-    next: Result<T, CertificateFault>,
-) -> Result<Vec<T>, CertificateFault>
-    ensures { (part : Data → Result T CertificateFault) (front : List Data) (value : Data) →
-        Gives (λ all. all.items) found (each part front) → Gives (λ one. one) next (part value) →
-        Gives (λ all. all.items) result (each part (front ++ value ∷ [])) }
-{
-    let mut found = found?;
-    let next = next?;
-    found.push(next)?;
-    Ok(found)
-}
-
 /// Names with one more at their end, or the first fault.
 fn with_name(
     found: Result<PackedNames, CertificateFault>,
@@ -136,13 +121,8 @@ pub fn read_names(
     if !enter_array(reader, depth)? {
         return Ok(Err(CertificateFault::Shape(key)));
     }
-    match read_list(alloc, key, reader, depth - 1)? {
-        Ok(mut names) => {
-            names.shrink_to_fit();
-            Ok(Ok(names))
-        }
-        Err(fault) => Ok(Err(fault)),
-    }
+    let names = read_list(alloc, key, reader, depth - 1)?;
+    Ok(names)
 }
 
 /// The end that goes by a word.

@@ -7,7 +7,9 @@ mod fields;
 mod key;
 pub mod laws;
 mod packed_names;
+mod path;
 mod reading;
+mod reading_ways;
 mod ways;
 mod writing;
 
@@ -15,5 +17,7 @@ pub use certificate::{Certificate, Finish, Way};
 pub use fault::CertificateFault;
 pub use key::Key;
 pub use packed_names::PackedNames;
+pub use path::Path;
 pub use reading::read_certificate;
+pub use ways::Ways;
 pub use writing::certificate_text;

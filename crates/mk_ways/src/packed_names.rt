@@ -1,6 +1,6 @@
 //! Names in one text.
 
-ghost use Rattle.std.specs.Prelude.{◌≡◌, ◌==◌, ◌<◌, ◌∷◌, ◌++◌, [], length, slice_index_or, IfOk, OnOk, OnErr};
+ghost use Rattle.std.specs.Prelude.{◌≡◌, ◌==◌, ◌<◌, ◌∷◌, ◌++◌, [], List, ℕ, length, slice_index_or, IfOk, OnOk, OnErr};
 
 use std::alloc::{AllocError, Global};
 use std::marker::Model;
@@ -79,12 +79,23 @@ impl PackedNames {
         Ok(())
     }
 
-    /// Gives back the room that no name takes.
-    pub fn shrink_to_fit(&mut self)
-        ensures { self.new ≡ self.old }
+    /// Adds names at the end. The error is want of memory alone, behind some of them.
+    pub fn push_all(&mut self, names: &PackedNames) -> Result<(), AllocError>
+        ensures ok { OnOk result (self.new ≡ self.old ++ names.now) }
+        ensures grows { (more : List (List ℕ)) × (self.new ≡ self.old ++ more) }
     {
-        self.text.shrink_to_fit();
-        self.ends.shrink_to_fit();
+        for place in 0..names.len() {
+            self.push(names.at(place))?;
+        }
+        Ok(())
+    }
+
+    /// Takes all names out, and keeps their room.
+    pub fn clear(&mut self)
+        ensures { self.new ≡ [] }
+    {
+        self.text.clear();
+        self.ends.clear();
     }
 
     /// How many names there are.

@@ -13,7 +13,7 @@ use crate::fault::CertificateFault;
 use crate::fields::read_names;
 use crate::key::Key;
 use crate::packed_names::PackedNames;
-use crate::ways::{Entries, read_ways};
+use crate::reading_ways::{Entries, read_ways};
 use json::{Invalid, Reader, Scratch};
 use mk_json::laws::{last_value_counts, members_in_turn, values_take_tokens, whole_text};
 use mk_json::{MAX_DEPTH, enter_object, next_integer, skip_value, text_in};

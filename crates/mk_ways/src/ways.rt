@@ -1,176 +1,118 @@
-//! Ways, by the tokens of a certificate: of each only its parts are kept.
+//! Lists of ways.
 
-ghost use Rattle.std.specs.Prelude.{◌≡◌, true, is_some};
-ghost use Rattle.serde_json.specs.Data.{Data, object, Members, no_members, put};
-ghost use Rattle.serde_json.specs.Find.{as_object};
-ghost use Rattle.mk_json.specs.Kinds.{elements_of};
-ghost use Rattle.mk_json.specs.Tokens.{Reads, ReadsItems, ReadsMembers};
-ghost use Rattle.mk_ways.specs.declared.key.Key.TheVariants as keys;
-ghost use Rattle.mk_ways.specs.Parts.{IsOfWay, AreEntries};
-ghost use Rattle.mk_ways.specs.Reading.{way_in};
-ghost use Rattle.mk_ways.specs.Steps.{Gives, at_least, each};
+ghost use Rattle.std.specs.Prelude.{◌≡◌, ◌==◌, ◌<◌, ◌∷◌, ◌++◌, [], List, ℕ, length, slice_index_or, OnErr, OnOk};
 
 use crate::certificate::{Finish, Way};
-use crate::fault::CertificateFault;
-use crate::fields::{read_finish, read_name, read_names, with_next};
-use crate::key::Key;
 use crate::packed_names::PackedNames;
-use json::{Invalid, Reader};
-use mk_json::laws::{items_in_turn, last_value_counts, members_in_turn, values_take_tokens};
-use mk_json::{enter_array, enter_object, skip_value};
-use mk_lines::Name;
-use std::alloc::Global;
+use crate::path::Path;
+use std::alloc::{AllocError, Global};
+use std::marker::Model;
 
-/// What the members of a way give so far: of each key its last value, or its fault, and whether
-/// there are no other keys.
-#[derive(Drop)]
-struct WayParts {
-    finish: Result<Finish, CertificateFault>,
-    file: Result<Name, CertificateFault>,
-    path: Result<PackedNames, CertificateFault>,
-    recipe: Result<Name, CertificateFault>,
-    alone: bool,
+/// Where the names of a way stand among those of all ways: its recipe, then the file, then the path.
+#[derive(Clone, Copy, Debug, Drop)]
+struct Place {
+    start: usize,
+    end: usize,
+    finish: Finish,
 }
 
-/// What no members give.
-fn no_way_parts() -> WayParts
-    ensures { IsOfWay result (object no_members) }
-{
-    WayParts {
-        finish: Err(CertificateFault::Shape(Key::End)),
-        file: Err(CertificateFault::Shape(Key::File)),
-        path: Err(CertificateFault::Shape(Key::Path)),
-        recipe: Err(CertificateFault::Shape(Key::Recipe)),
-        alone: true,
-    }
+/// Ways in their order, the names of all of them in one text. A contract sees a list of ways.
+///
+/// A certificate may have some 300,000 ways; with texts of their own they would take four times the
+/// memory, and five pieces of it each.
+#[derive(Debug, Drop)]
+pub struct Ways {
+    names: PackedNames,
+    places: Vec<Place>,
 }
 
-/// Reads the value of a key of a way.
-fn read_way_part(
-    alloc: Global,
-    key: &str,
-    parts: &mut WayParts,
-    reader: &mut Reader<'_>,
-    depth: usize,
-) -> Result<(), Invalid>
-    ensures { Reads (λ _ value. (members : Members) → IsOfWay parts.old (object members) →
-        IsOfWay parts.new (object (put key.now value members)))
-        depth reader.old result reader.new }
+impl Model for Ways {
+    ghost use Rattle.std.specs.Prelude.{List, map, length};
+    ghost use Rattle.std.specs.List.{All};
+    ghost use Rattle.mk_ways.specs.Certificate as value;
+    ghost use Rattle.mk_ways.specs.Packing.{way_at, IsWithin};
+
+    ghost Value = { List value.Way };
+
+    ghost view = { λ w. map (way_at w.names) w.places.items };
+
+    ghost invariant = { λ w. All (IsWithin (length w.names)) w.places.items };
+}
+
+/// Adds the names of a way at the end.
+fn push_names(
+    names: &mut PackedNames,
+    recipe: &str,
+    file: &str,
+    path: &PackedNames,
+) -> Result<(), AllocError>
+    ensures ok { OnOk result (names.new ≡ names.old ++ recipe.now ∷ file.now ∷ path.now) }
+    ensures grows { (more : List (List ℕ)) × (names.new ≡ names.old ++ more) }
 {
-    last_value_counts();
-    match key {
-        "end" => {
-            parts.finish = read_finish(reader, depth)?;
-            Ok(())
-        }
-        "file" => {
-            parts.file = read_name(alloc, Key::File, reader, depth)?;
-            Ok(())
-        }
-        "path" => {
-            parts.path = read_names(alloc, Key::Path, reader, depth)?;
-            Ok(())
-        }
-        "recipe" => {
-            parts.recipe = read_name(alloc, Key::Recipe, reader, depth)?;
-            Ok(())
-        }
-        _ => {
-            skip_value(reader, depth)?;
-            parts.alone = false;
-            Ok(())
+    names.push(recipe)?;
+    names.push(file)?;
+    names.push_all(path)
+}
+
+impl Ways {
+    /// No ways.
+    pub fn new(alloc: Global) -> Ways
+        ensures { result ≡ [] }
+    {
+        Ways {
+            names: PackedNames::new(alloc),
+            places: Vec::new(alloc),
         }
     }
-}
 
-/// Reads the members of a way that was entered.
-fn read_way_parts(alloc: Global, reader: &mut Reader<'_>, depth: usize) -> Result<WayParts, Invalid>
-    ensures { ReadsMembers (λ parts members. IsOfWay parts (object members))
-        depth reader.old result reader.new }
-{
-    members_in_turn();
-    values_take_tokens();
-    let mut parts = no_way_parts();
-    'members: while let Some(key) = reader.next_key()? {
-        read_way_part(alloc, key, &mut parts, reader, depth)?;
+    /// Adds a way at the end. The error is want of memory alone.
+    pub fn push(
+        &mut self,
+        recipe: &str,
+        file: &str,
+        path: &PackedNames,
+        finish: Finish,
+    ) -> Result<(), AllocError>
+        ensures ok { OnOk result (self.new ≡ self.old ++ record {
+          recipe = recipe.now;
+          file = file.now;
+          path = path.now;
+          finish = finish;
+        } ∷ []) }
+        ensures err { OnErr result (self.new ≡ self.old) }
+    {
+        let start = self.names.len();
+        push_names(&mut self.names, recipe, file, path)?;
+        let end = self.names.len();
+        self.places.push(Place { start, end, finish })?;
+        Ok(())
     }
-    Ok(parts)
-}
 
-/// The way that its parts give: its keys in order, then any other key.
-#[tactic(auto, unfolding(crate::specs::Reading::way_in))]
-fn way_of(parts: WayParts) -> Result<Way, CertificateFault>
-    ensures { (whole : Data) → is_some (as_object whole) ≡ true → IsOfWay parts whole →
-        Gives (λ way. way) result (way_in whole) }
-{
-    let WayParts {
-        finish,
-        file,
-        path,
-        recipe,
-        alone,
-    } = parts;
-    let finish = finish?;
-    let file = file?;
-    let path = path?;
-    let recipe = recipe?;
-    if !alone {
-        return Err(CertificateFault::Shape(Key::Unknown));
+    /// How many ways there are.
+    pub fn len(&self) -> usize
+        ensures { result ≡ length self.now }
+    {
+        self.places.len()
     }
-    Ok(Way {
-        recipe,
-        file,
-        path,
-        finish,
-    })
-}
 
-/// Reads a way.
-fn read_way(
-    alloc: Global,
-    reader: &mut Reader<'_>,
-    depth: usize,
-) -> Result<Result<Way, CertificateFault>, Invalid>
-    ensures { Reads (λ way value. Gives (λ way. way) way (way_in value))
-        depth reader.old result reader.new }
-{
-    if !enter_object(reader, depth)? {
-        return Ok(Err(CertificateFault::Shape(Key::Ways)));
+    /// Whether there are none.
+    pub fn is_empty(&self) -> bool
+        ensures { result ≡ (length self.now == 0) }
+    {
+        self.len() == 0
     }
-    let parts = read_way_parts(alloc, reader, depth - 1)?;
-    Ok(way_of(parts))
-}
 
-/// Reads the ways of a list that was entered.
-fn read_list(
-    alloc: Global,
-    reader: &mut Reader<'_>,
-    depth: usize,
-) -> Result<Result<Vec<Way>, CertificateFault>, Invalid>
-    ensures { ReadsItems (λ ways values. Gives (λ all. all.items) ways (each way_in values))
-        depth reader.old result reader.new }
-{
-    items_in_turn();
-    values_take_tokens();
-    let mut ways: Result<Vec<Way>, CertificateFault> = Ok(Vec::new(alloc));
-    'items: while !reader.take_end_array() {
-        let way = read_way(alloc, reader, depth)?;
-        ways = with_next(ways, way);
+    /// The way at a place, which is lent.
+    pub fn at(&self, place: usize) -> Way<'_>
+        requires { place < length self.now }
+        ensures { result ≡ slice_index_or self.now place result }
+    {
+        let Place { start, end, finish } = self.places[place];
+        Way {
+            recipe: self.names.at(start),
+            file: self.names.at(start + 1),
+            path: Path::among(&self.names, start + 2, end),
+            finish,
+        }
     }
-    Ok(ways)
-}
-
-/// What a list of ways gives, or the fault of what is no list.
-pub type Entries = Result<Result<Vec<Way>, CertificateFault>, CertificateFault>;
-
-/// Reads a list of ways.
-pub fn read_ways(alloc: Global, reader: &mut Reader<'_>, depth: usize) -> Result<Entries, Invalid>
-    ensures { Reads (λ ways value. AreEntries ways (at_least keys.Ways (elements_of value)))
-        depth reader.old result reader.new }
-{
-    if !enter_array(reader, depth)? {
-        return Ok(Err(CertificateFault::Shape(Key::Ways)));
-    }
-    let ways = read_list(alloc, reader, depth - 1)?;
-    Ok(Ok(ways))
 }

@@ -8,6 +8,8 @@ ghost use Rattle.mk_ways.specs.Writing.{names_value, way_value, value_of};
 
 use crate::certificate::{Certificate, Way};
 use crate::packed_names::PackedNames;
+use crate::path::Path;
+use crate::ways::Ways;
 use serde_json::{Value, json};
 use std::alloc::{AllocError, Global};
 
@@ -22,17 +24,28 @@ fn names_value(alloc: Global, names: &PackedNames) -> Result<Value, AllocError>
     Ok(Value::Array(texts))
 }
 
+/// The JSON value of a path.
+fn path_value(alloc: Global, path: &Path<'_>) -> Result<Value, AllocError>
+    ensures { IfOk result (λ value. view value ≡ names_value path.now) }
+{
+    let mut texts = Vec::with_capacity(alloc, path.len())?;
+    for place in 0..path.len() {
+        texts.push(Value::try_from_str(alloc, path.at(place))?)?;
+    }
+    Ok(Value::Array(texts))
+}
+
 /// The JSON value of a way.
-fn way_value(alloc: Global, way: &Way) -> Result<Value, AllocError>
+fn way_value(alloc: Global, way: &Way<'_>) -> Result<Value, AllocError>
     ensures { IfOk result (λ value. view value ≡ way_value way.now) }
 {
-    let path = names_value(alloc, &way.path)?;
+    let path = path_value(alloc, &way.path)?;
     let end = way.finish.as_str();
     json!(in alloc; {
         "end": end,
-        "file": way.file.as_str(),
+        "file": way.file,
         "path": path,
-        "recipe": way.recipe.as_str()
+        "recipe": way.recipe
     })
 }
 
@@ -56,7 +69,7 @@ fn push_names(alloc: Global, text: &mut String, names: &PackedNames) -> Result<(
 }
 
 /// Adds the text of a way.
-fn push_way(alloc: Global, text: &mut String, way: &Way) -> Result<(), AllocError>
+fn push_way(alloc: Global, text: &mut String, way: &Way<'_>) -> Result<(), AllocError>
     ensures { OnOk result (string_bytes text.new ≡
         string_bytes text.old ++ compact_text (way_value way.now)) }
 {
@@ -75,14 +88,14 @@ fn push_comma(text: &mut String, later: bool) -> Result<(), AllocError>
 }
 
 /// Adds the texts of ways, with a comma before each but the first, and the bracket behind them.
-fn push_ways(alloc: Global, text: &mut String, ways: &[Way]) -> Result<(), AllocError>
+fn push_ways(alloc: Global, text: &mut String, ways: &Ways) -> Result<(), AllocError>
     ensures { OnOk result (string_bytes text.new ≡
         string_bytes text.old ++ items_text false (items_of (map way_value ways.now))) }
 {
     let mut later = false;
-    for way in ways {
+    for place in 0..ways.len() {
         push_comma(text, later)?;
-        push_way(alloc, text, way)?;
+        push_way(alloc, text, &ways.at(place))?;
         later = true;
     }
     text.push_str("]")

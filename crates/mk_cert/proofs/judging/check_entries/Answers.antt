@@ -12,30 +12,30 @@ pub returns-then-not-branch-clause-answer : goal.returns-then-not-branch-clause-
 returns-then-not-branch-clause-answer c =
     let x = c.args.subject.now in
     let ways = c.args.ways.now in
-    let i = c.loop-way.way-index in
-    let w = c.way-item.result in
+    let i = c.loop-place.place in
+    let w = c.at-way.result in
     let lt : i < length ways = omega arith in
     let rest : drop i ways ≡ get_or ways i w ∷ drop (i + 1) ways = drop_more ways i w lt in
-    let so_far : JudgedSoFar x ways (take i ways) (get_or ways i w ∷ drop (i + 1) ways) c.loop-way.seen.items = subst (λ (l : List Way). JudgedSoFar x ways (take i ways) l c.loop-way.seen.items) rest c.loop-way.invariant in
-    let judged : Judges x (get_or ways i w) c.loop-way.seen.items c.note_good.new.seen.items false = subst (λ (v : Way). Judges x v c.loop-way.seen.items c.note_good.new.seen.items false) c.way-item.is (subst (λ (b : Bool). Judges x w c.loop-way.seen.items c.note_good.new.seen.items b) c.if-not-branch.true c.in_ok-note_good.ensures.judged) in
-    inr (subst (λ (f : CertFault). AnswersEntries x ways (Err f)) (sym c.in_ok-bad_way.ensures) (w, subst (λ (v : Way). IsFirstBad x [] ways v) (sym c.way-item.is) (judged_bad x ways (take i ways) (drop (i + 1) ways) (get_or ways i w) c.loop-way.seen.items c.note_good.new.seen.items so_far judged), refl, refl))
+    let so_far : JudgedSoFar x ways (take i ways) (get_or ways i w ∷ drop (i + 1) ways) c.loop-place.seen.items = subst (λ (l : List Way). JudgedSoFar x ways (take i ways) l c.loop-place.seen.items) rest c.loop-place.invariant in
+    let judged : Judges x (get_or ways i w) c.loop-place.seen.items c.note_good.new.seen.items false = subst (λ (v : Way). Judges x v c.loop-place.seen.items c.note_good.new.seen.items false) c.at-way.ensures (subst (λ (b : Bool). Judges x w c.loop-place.seen.items c.note_good.new.seen.items b) c.if-not-branch.true c.in_ok-note_good.ensures.judged) in
+    inr (subst (λ (f : CertFault). AnswersEntries x ways (Err f)) (sym c.in_ok-bad_way.ensures) (w, subst (λ (v : Way). IsFirstBad x [] ways v) (sym c.at-way.ensures) (judged_bad x ways (take i ways) (drop (i + 1) ways) (get_or ways i w) c.loop-place.seen.items c.note_good.new.seen.items so_far judged), refl, refl))
 
-pub loop-way-preserved : goal.loop-way-preserved
-loop-way-preserved c =
+pub loop-place-preserved : goal.loop-place-preserved
+loop-place-preserved c =
     let x = c.args.subject.now in
     let ways = c.args.ways.now in
-    let i = c.loop-way.way-index in
-    let w = c.way-item.result in
+    let i = c.loop-place.place in
+    let w = c.at-way.result in
     let lt : i < length ways = omega arith in
     let rest : drop i ways ≡ get_or ways i w ∷ drop (i + 1) ways = drop_more ways i w lt in
-    let so_far : JudgedSoFar x ways (take i ways) (get_or ways i w ∷ drop (i + 1) ways) c.loop-way.seen.items = subst (λ (l : List Way). JudgedSoFar x ways (take i ways) l c.loop-way.seen.items) rest c.loop-way.invariant in
-    let judged : Judges x (get_or ways i w) c.loop-way.seen.items c.note_good.new.seen.items true = subst (λ (v : Way). Judges x v c.loop-way.seen.items c.note_good.new.seen.items true) c.way-item.is (subst (λ (b : Bool). Judges x w c.loop-way.seen.items c.note_good.new.seen.items b) c.if-not-branch.false c.in_ok-note_good.ensures.judged) in
-    judged_on x ways (take i ways) (take (i + 1) ways) (drop (i + 1) ways) (get_or ways i w) c.loop-way.seen.items c.note_good.new.seen.items so_far judged c.in_ok-note_good.ensures.sets (λ v. in_take_more ways i w v lt)
+    let so_far : JudgedSoFar x ways (take i ways) (get_or ways i w ∷ drop (i + 1) ways) c.loop-place.seen.items = subst (λ (l : List Way). JudgedSoFar x ways (take i ways) l c.loop-place.seen.items) rest c.loop-place.invariant in
+    let judged : Judges x (get_or ways i w) c.loop-place.seen.items c.note_good.new.seen.items true = subst (λ (v : Way). Judges x v c.loop-place.seen.items c.note_good.new.seen.items true) c.at-way.ensures (subst (λ (b : Bool). Judges x w c.loop-place.seen.items c.note_good.new.seen.items b) c.if-not-branch.false c.in_ok-note_good.ensures.judged) in
+    judged_on x ways (take i ways) (take (i + 1) ways) (drop (i + 1) ways) (get_or ways i w) c.loop-place.seen.items c.note_good.new.seen.items so_far judged c.in_ok-note_good.ensures.sets (λ v. in_take_more ways i w v lt)
 
 pub returns-clause-seen : goal.returns-clause-seen
 returns-clause-seen c =
     let x = c.args.subject.now in
     let ways = c.args.ways.now in
-    let i = c.loop-way.way-index in
+    let i = c.loop-place.place in
     let past : length ways ≤ i = omega arith in
-    judged_seen x ways (take i ways) (drop i ways) c.loop-way.seen.items (take_all i ways past) c.loop-way.invariant
+    judged_seen x ways (take i ways) (drop i ways) c.loop-place.seen.items (take_all i ways past) c.loop-place.invariant

@@ -3,5 +3,5 @@ use Rattle.mk_cert.proofs.Judged.{JudgedSoFar}
 use Rattle.mk_cert.proofs.judging.check_entries.Given as goal
 
 -- the entries so far, and those that are left
-abbrev pub invariant-loop-way : goal.invariant-loop-way
-invariant-loop-way l = JudgedSoFar l.subject l.ways (take l.way-index l.ways) (drop l.way-index l.ways) l.seen.items
+abbrev pub invariant-loop-place : goal.invariant-loop-place
+invariant-loop-place l = JudgedSoFar l.subject l.ways (take l.place l.ways) (drop l.place l.ways) l.seen.items

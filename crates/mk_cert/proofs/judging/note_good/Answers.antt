@@ -7,5 +7,5 @@ pub returns-clause-judged : goal.returns-clause-judged
 returns-clause-judged c =
     let x = c.args.subject.now in
     let w = c.args.way.now in
-    let file : c.as_str.result.now ≡ w.file = c.as_str.ensures ∙ ap (λ (v : Way). v.file) c.way.view_is in
-    judged_told x c.graph-graph.ensures.graph c.names_have_one_number.ensures w c.in-Some.start c.in-Some.ensures.1 c.in-Some.ensures.2 c.args.seen.now.items c.requires.sets c.in-Some.ensures.0 c.note_at.new.sets.items c.as_str.result.now file c.note_at.result c.note_at.ensures.new c.note_at.ensures.ok
+    let file : c.way.inside.file.now ≡ w.file = ap (λ (v : Way). v.file) c.way.view_is in
+    judged_told x c.graph-graph.ensures.graph c.names_have_one_number.ensures w c.in-Some.start c.in-Some.ensures.1 c.in-Some.ensures.2 c.args.seen.now.items c.requires.sets c.in-Some.ensures.0 c.note_at.new.sets.items c.way.inside.file.now file c.note_at.result c.note_at.ensures.new c.note_at.ensures.ok

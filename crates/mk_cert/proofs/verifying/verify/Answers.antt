@@ -17,7 +17,7 @@ returns c =
     let s = footprints x.setting in
     let goals : HasGoals x k = ap (λ (v : Certificate). v.goals) (sym c.certificate.view_is) ∙ c.has_goals.ensures.0 c.if-not-has_goals.false in
     let found : NothingFound x = ⊎_elim (λ e. absurd (cc)) (λ h. h) c.in_ok-check_found.ensures in
-    let ways : c.as_slice.result.now ≡ k.ways = c.as_slice.ensures.value ∙ ap (λ (v : Certificate). v.ways) c.certificate.view_is in
+    let ways : c.certificate.inside.ways ≡ k.ways = ap (λ (v : Certificate). v.ways) c.certificate.view_is in
     let answer : (c.check_ways.result ≡ Err Memory) ⊎ AnswersWays x k.ways c.check_ways.result = subst (λ (l : List Way). (c.check_ways.result ≡ Err Memory) ⊎ AnswersWays x l c.check_ways.result) ways c.check_ways.ensures in
     let right = c.verified_is_right.ensures x k c.graph-graph.ensures.graph c.graph-graph.ensures.subject in
     record {

@@ -21,7 +21,7 @@ returns-then-not-needs_way c = λ good.
     let x = c.args.subject.now in
     let w = c.args.way.now in
     let path = split_first c.way.inside.path w.path c.at-first.result.now (ap (λ (v : Way). v.path) c.way.view_is) (sym c.is_empty.ensures ∙ c.if-is_empty.false) c.at-first.ensures in
-    let file : c.as_str-2.result.now ≡ w.file = c.as_str-2.ensures ∙ ap (λ (v : Way). v.file) c.way.view_is in
+    let file : c.way.inside.file.now ≡ w.file = ap (λ (v : Way). v.file) c.way.view_is in
     let start = c.in-Some.start in
     let from = good_from x c.graph-graph.ensures.graph c.names_have_one_number.ensures w start c.at-first.result.now (drop 1 w.path) path c.in-Some.ensures.0 (c.in-Some.ensures.1) good in
     true≢false (sym (c.needs_way.ensures.1 (subst (λ (f : List ℕ). NeedsWay x start f) (sym file) from.needed)) ∙ c.if-not-needs_way.true)
@@ -40,12 +40,12 @@ returns c =
     let x = c.args.subject.now in
     let w = c.args.way.now in
     let path = split_first c.way.inside.path w.path c.at-first.result.now (ap (λ (v : Way). v.path) c.way.view_is) (sym c.is_empty.ensures ∙ c.if-is_empty.false) c.at-first.ensures in
-    let file : c.as_str-2.result.now ≡ w.file = c.as_str-2.ensures ∙ ap (λ (v : Way). v.file) c.way.view_is in
-    let recipe : c.as_str.result.now ≡ w.recipe = c.as_str.ensures ∙ ap (λ (v : Way). v.recipe) c.way.view_is in
+    let file : c.way.inside.file.now ≡ w.file = ap (λ (v : Way). v.file) c.way.view_is in
+    let recipe : c.way.inside.recipe.now ≡ w.recipe = ap (λ (v : Way). v.recipe) c.way.view_is in
     let start = c.in-Some.start in
     let named : name_of x start ≡ c.at-first.result.now = c.in-Some.ensures.1 in
-    let equal : bytes_eq c.at-first.result.now c.as_str.result.now ≡ true = not-false (bytes_eq c.at-first.result.now c.as_str.result.now) (sym c.ne.ensures ∙ c.if-ne.false) in
-    let begins : c.at-first.result.now ≡ w.recipe = (bytes_eq-Decides c.at-first.result.now c.as_str.result.now).0 equal ∙ recipe in
+    let equal : bytes_eq c.at-first.result.now c.way.inside.recipe.now ≡ true = not-false (bytes_eq c.at-first.result.now c.way.inside.recipe.now) (sym c.ne.ensures ∙ c.if-ne.false) in
+    let begins : c.at-first.result.now ≡ w.recipe = (bytes_eq-Decides c.at-first.result.now c.way.inside.recipe.now).0 equal ∙ recipe in
     let it = c.leads.ensures.0 c.if-not-leads.false in
     let needed : NeedsWay x start w.file = subst (λ (f : List ℕ). NeedsWay x start f) file (c.needs_way.ensures.0 c.if-not-needs_way.false) in (
       good_entry x w start (drop 1 w.path) it.last (path ∙ ap (λ (n : List ℕ). n ∷ (drop 1 w.path)) (sym named)) (sym (named ∙ begins)) c.in-Some.ensures.0 needed it.over it.ends it.others,

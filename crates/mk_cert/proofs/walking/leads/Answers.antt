@@ -23,7 +23,7 @@ returns c =
     let g = x.graph in
     let s = footprints x.setting in
     let finish : c.way.inside.finish ≡ w.finish = ap (λ (v : Way). v.finish) c.way.view_is in
-    let file : c.target_of-file.result.file ≡ w.file = ap (λ (v : Target). v.file) c.target_of-file.ensures ∙ (c.as_str.ensures ∙ ap (λ (v : Way). v.file) c.way.view_is) in
+    let file : c.target_of-file.result.file ≡ w.file = ap (λ (v : Target). v.file) c.target_of-file.ensures ∙ ap (λ (v : Way). v.file) c.way.view_is in
     let others : w.finish ≡ Written → ¬ (names ≡ []) =
     elim c.else-len-lt2.branch [
       | else-len-lt2-via-then-len-lt2+else-eq k ↦ λ written none.

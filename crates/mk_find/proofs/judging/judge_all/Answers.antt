@@ -19,7 +19,7 @@ use Rattle.mk_find.proofs.judging.judge_all.Goals as goal
 pub loop-entry-init : goal.loop-entry-init
 loop-entry-init c =
     let x = c.args.subject.now in
-    (λ last h. subst (λ (ns : List ℕ). Adds x (flat_map (λ t. map (λ f. stale t f) (reads_of x t)) ns) c.args.found.now.items last) c.entries-entries.ensures.in_order h, λ none. subst (λ (l : List Way). AddsEntries x [] [] l) (sym c.new-ways.ensures.items) (adds_no_entries x []))
+    (λ last h. subst (λ (ns : List ℕ). Adds x (flat_map (λ t. map (λ f. stale t f) (reads_of x t)) ns) c.args.found.now.items last) c.entries-entries.ensures.in_order h, λ none. subst (λ (l : List Way). AddsEntries x [] [] l) (sym c.new-ways.ensures) (adds_no_entries x []))
 
 pub judge_recipe-requires-clause-entry : goal.judge_recipe-requires-clause-entry
 judge_recipe-requires-clause-entry c =
@@ -43,7 +43,7 @@ loop-entry-preserved c =
     let added = c.in_ok-judge_recipe.ensures.found in (
       leads_each x (λ t. map (λ f. stale t f) (reads_of x t)) (map number entries) i 0 _ c.loop-entry.found.items c.judge_recipe.new.found.items c.args.found.now.items low c.loop-entry.invariant.0
           (subst (λ (k : ℕ). Adds x (map (λ f. stale k f) (reads_of x k)) c.loop-entry.found.items c.judge_recipe.new.found.items) (sym is) added),
-      λ none. subst (λ (l : List Read). AddsEntries x l [] c.judge_recipe.new.ways.items) reads (adds_more_entries x (flat_map (reads_by x) (map number (take i entries))) (reads_by x n) [] c.loop-entry.ways.items c.judge_recipe.new.ways.items (c.loop-entry.invariant.1 (nothing_before x (map (λ f. stale n f) (reads_of x n)) c.loop-entry.found.items c.judge_recipe.new.found.items added none)) (c.in_ok-judge_recipe.ensures.ways none)),
+      λ none. subst (λ (l : List Read). AddsEntries x l [] c.judge_recipe.new.ways) reads (adds_more_entries x (flat_map (reads_by x) (map number (take i entries))) (reads_by x n) [] c.loop-entry.ways c.judge_recipe.new.ways (c.loop-entry.invariant.1 (nothing_before x (map (λ f. stale n f) (reads_of x n)) c.loop-entry.found.items c.judge_recipe.new.found.items added none)) (c.in_ok-judge_recipe.ensures.ways none)),
     )
 
 pub returns-clause-found : goal.returns-clause-found
@@ -62,5 +62,5 @@ returns-clause-ways c none =
     let i = c.loop-entry.entry-index in
     let past : length entries ≤ i = c.loop-entry-test.false in
     let all : map (λ (e : Entry). e.number) (take i entries) ≡ serial_order x.graph = ap (map (λ (e : Entry). e.number)) (take_all i entries past) ∙ c.entries-entries.ensures.in_order in
-    let a = subst (λ (l : List ℕ). AddsEntries x (flat_map (reads_by x) l) [] c.loop-entry.ways.items) all (c.loop-entry.invariant.1 none) in
+    let a = subst (λ (l : List ℕ). AddsEntries x (flat_map (reads_by x) l) [] c.loop-entry.ways) all (c.loop-entry.invariant.1 none) in
     subst (λ (l : List Way). AreEntriesFor x (flat_map (reads_by x) (serial_order x.graph)) l) (sym a.added) a.right

@@ -11,4 +11,4 @@ use Rattle.mk_find.proofs.judging.judge_all.Given as goal
 abbrev pub invariant-loop-entry : goal.invariant-loop-entry
 invariant-loop-entry l =
     Leads l.subject (flat_map (λ t. map (λ f. stale t f) (reads_of l.subject t)) (drop l.entry-index (map (λ (e : Entry). e.number) l.entries))) (stale_candidates l.subject) l.found.items l.initial.found.items ×
-    (l.found.items ≡ [] → AddsEntries l.subject (flat_map (reads_by l.subject) (map (λ (e : Entry). e.number) (take l.entry-index l.entries))) [] l.ways.items)
+    (l.found.items ≡ [] → AddsEntries l.subject (flat_map (reads_by l.subject) (map (λ (e : Entry). e.number) (take l.entry-index l.entries))) [] l.ways)

@@ -21,9 +21,9 @@ returns-in-Fixed-clause-found c =
     let so : IsStanding x t f Fixed = subst (λ (s : Standing). IsStanding x t f s) c.in-Fixed.is at in
     adds_none x (stale t f) c.args.found.now.items (λ is. so is.1)
 
-pub returns-in_ok-entry_along-in-Led-clause-found :
-    goal.returns-in_ok-entry_along-in-Led-clause-found
-returns-in_ok-entry_along-in-Led-clause-found c =
+pub returns-in-Led-clause-found :
+    goal.returns-in-Led-clause-found
+returns-in-Led-clause-found c =
     let x = c.args.subject.now in
     let f = c.args.file.now.file in
     let t = c.args.entry.now.number in
@@ -42,9 +42,9 @@ returns-in-Led-2-clause-found c =
     let so : IsStanding x t f (Led p) = subst (λ (s : Standing). IsStanding x t f s) c.in-Led-2.is at in
     adds_none x (stale t f) c.args.found.now.items (path_not_stale c.paths_are_ways.ensures x f t p.nodes.items p.finish so.1)
 
-pub returns-in_ok-note_stale-in-Stale-clause-way :
-    goal.returns-in_ok-note_stale-in-Stale-clause-way
-returns-in_ok-note_stale-in-Stale-clause-way c = λ empty needed.
+pub returns-in_ok-note_stale-in-Stale-clause-path :
+    goal.returns-in_ok-note_stale-in-Stale-clause-path
+returns-in_ok-note_stale-in-Stale-clause-path c = λ empty needed.
     let x = c.args.subject.now in
     let f = c.args.file.now.file in
     let t = c.args.entry.now.number in

@@ -6,14 +6,15 @@ use Rattle.mk_lines.specs.Names.{has_name, once}
 use Rattle.mk_graph.specs.Membership.{Has}
 use Rattle.mk_search.specs.Places.{Task}
 use Rattle.mk_search.specs.Ways.{successors}
-use Rattle.mk_ways.specs.Certificate.{Way}
+use Rattle.mk_find.specs.declared.first_path.FirstPath.{FirstPath}
+use Rattle.mk_find.specs.FirstPaths.{GoesFirst}
 use Rattle.mk_cert.specs.Candidates.{stale}
 use Rattle.mk_cert.specs.Carried.{carried}
 use Rattle.mk_cert.specs.Listed.{Adds}
 use Rattle.mk_cert.specs.Subject.{Subject, reads_of}
 use Rattle.mk_cert.specs.Target.{Target, target_of}
 use Rattle.mk_cert.specs.Verdict.{Read}
-use Rattle.mk_find.specs.Certifying.{Needs, IsEntryFor, AddsEntries}
+use Rattle.mk_find.specs.Certifying.{Needs, AddsEntries}
 use Rattle.mk_find.proofs.Adding.{drop_past, leads_map, leads_done}
 use Rattle.mk_find.proofs.AddingEntries.{reads_of_files, adds_no_entries, adds_more_entries, adds_entry, adds_no_entry, once_same, once_new, nothing_before}
 use Rattle.mk_find.proofs.Noting.{at_place, count_is, place_is, same_reads}
@@ -21,7 +22,7 @@ use Rattle.mk_find.proofs.judging.judge_reads.Goals as goal
 use Rattle.mk_find.proofs.judging.judge_reads.Goals.{in-Some+in_ok-push, in_default}
 
 pub loop-place-init : goal.loop-place-init
-loop-place-init c = (refl, λ last h. h, λ many. c.in_ok-seen.ensures, λ none. adds_no_entries c.args.subject.now c.args.ways.now.items)
+loop-place-init c = (refl, λ last h. h, λ many. c.in_ok-seen.ensures, λ none. adds_no_entries c.args.subject.now c.args.ways.now)
 
 pub read-file-requires-clause-place : goal.read-file-requires-clause-place
 read-file-requires-clause-place c =
@@ -65,12 +66,12 @@ loop-place-preserved-then-branch c =
     let is : get_or files i [] ≡ f = sym (ap (λ (v : Target). v.file) c.read-file.ensures) in
     let after : take (i + 1) files ≡ before ++ f ∷ [] = take_more files i [] low ∙ ap (λ (g : List ℕ). before ++ g ∷ []) is in
     let inv = c.loop-place.invariant in
-    let added = c.in_ok-way.ensures.found in
+    let added = c.in_ok-path.ensures.found in
     let has = stands x t i f (map string_bytes c.reads-reads.result.now) true _ (c.reads-reads.ensures ∙ same_reads x e c.requires.entry) is c.in_ok-is_repeated.ensures.repeated c.if-branch.true in (
-      c.in_ok-way.ensures.same ∙ inv.0,
+      c.in_ok-path.ensures.same ∙ inv.0,
       leads_map x (λ g. stale t g) files i [] _ c.loop-place.found.items c.judge_read.new.found.items c.args.found.now.items low inv.1 (subst (λ (g : List ℕ). Adds x (stale t g ∷ []) c.loop-place.found.items c.judge_read.new.found.items) (sym is) added),
       c.in_ok-is_repeated.ensures.seen,
-      λ none. subst (λ (l : List (List ℕ)). AddsEntries x (reads_of_files t l) c.args.ways.now.items c.loop-place.ways.items) (sym (once_same c.once_keeps_first.ensures before f (once before) refl ((c.once_keeps_first.ensures before).same f ∙ has)) ∙ ap once (sym after)) (inv.3 (nothing_before x (stale t f ∷ []) c.loop-place.found.items c.judge_read.new.found.items added none)),
+      λ none. subst (λ (l : List (List ℕ)). AddsEntries x (reads_of_files t l) c.args.ways.now c.loop-place.ways) (sym (once_same c.once_keeps_first.ensures before f (once before) refl ((c.once_keeps_first.ensures before).same f ∙ has)) ∙ ap once (sym after)) (inv.3 (nothing_before x (stale t f ∷ []) c.loop-place.found.items c.judge_read.new.found.items added none)),
     )
 
 pub loop-place-preserved : goal.loop-place-preserved
@@ -86,17 +87,21 @@ loop-place-preserved c =
     let is : get_or files i [] ≡ f = sym (ap (λ (v : Target). v.file) c.read-file.ensures) in
     let after : take (i + 1) files ≡ before ++ f ∷ [] = take_more files i [] low ∙ ap (λ (g : List ℕ). before ++ g ∷ []) is in
     let inv = c.loop-place.invariant in
-    let added = c.in_ok-way.ensures.found in
+    let added = c.in_ok-path.ensures.found in
     let lacks = stands x t i f (map string_bytes c.reads-reads.result.now) false _ (c.reads-reads.ensures ∙ same_reads x e c.requires.entry) is c.in_ok-is_repeated.ensures.repeated c.if-branch.false in
-    let old = c.loop-place.ways.items in
-    let step : c.judge_read.new.found.items ≡ [] → AddsEntries x (record { recipe = t; file = f } ∷ []) old c.match-way-3.ways.items = λ none.
-    let found = c.in_ok-way.ensures.way none in
-    elim c.match-way-3.branch [ in-Some+in_ok-push w ↦ rw w.ways-is (let m = subst (λ (o : Option Way). MatchOption o (¬ (Needs x (record { recipe = t; file = f }))) (λ way. Needs x (record { recipe = t; file = f }) × IsEntryFor x (record { recipe = t; file = f }) way)) w.in-Some.is found in adds_entry x (record { recipe = t; file = f }) w.in-Some.way old w.push.new.self.items m.0 m.1 w.in_ok-push.ensures.items) | in_default w ↦ rw w.ways-is (adds_no_entry x (record { recipe = t; file = f }) old (subst (λ (o : Option Way). MatchOption o (¬ (Needs x (record { recipe = t; file = f }))) (λ way. Needs x (record { recipe = t; file = f }) × IsEntryFor x (record { recipe = t; file = f }) way)) w.in_default.is found)) ] in
+    let old = c.loop-place.ways in
+    let r = record { recipe = t; file = f } in
+    let told = λ (o : Option FirstPath). MatchOption o (c.judge_read.new.found.items ≡ [] → ¬ (Needs x r)) (λ path. Needs x r × GoesFirst x f t path.nodes.items path.finish) in
+    let step : c.judge_read.new.found.items ≡ [] → AddsEntries x (r ∷ []) old c.match-path-3.ways = λ none.
+    elim c.match-path-3.branch [
+      | in-Some+in_ok-push w ↦ rw w.ways-is (let m = subst told w.in-Some.is c.in_ok-path.ensures.path in let e = w.in_ok-push.ensures in adds_entry x r e.0 old w.push.new.self m.0 e.1 e.2)
+      | in_default w ↦ rw w.ways-is (adds_no_entry x r old (subst told w.in_default.is c.in_ok-path.ensures.path none))
+    ] in
     let reads : reads_of_files t (once before) ++ record { recipe = t; file = f } ∷ [] ≡ reads_of_files t (once (take (i + 1) files)) = sym (map_push (λ g. record { recipe = t; file = g }) (once before) f) ∙ ap (reads_of_files t) (sym (once_new c.once_keeps_first.ensures before f (once before) refl ((c.once_keeps_first.ensures before).same f ∙ lacks)) ∙ ap once (sym after)) in (
-      c.in_ok-way.ensures.same ∙ inv.0,
+      c.in_ok-path.ensures.same ∙ inv.0,
       leads_map x (λ g. stale t g) files i [] _ c.loop-place.found.items c.judge_read.new.found.items c.args.found.now.items low inv.1 (subst (λ (g : List ℕ). Adds x (stale t g ∷ []) c.loop-place.found.items c.judge_read.new.found.items) (sym is) added),
       c.in_ok-is_repeated.ensures.seen,
-      λ none. subst (λ (l : List Read). AddsEntries x l c.args.ways.now.items c.match-way-3.ways.items) reads (adds_more_entries x (reads_of_files t (once before)) (record { recipe = t; file = f } ∷ []) c.args.ways.now.items old c.match-way-3.ways.items (inv.3 (nothing_before x (stale t f ∷ []) c.loop-place.found.items c.judge_read.new.found.items added none)) (step none)),
+      λ none. subst (λ (l : List Read). AddsEntries x l c.args.ways.now c.match-path-3.ways) reads (adds_more_entries x (reads_of_files t (once before)) (record { recipe = t; file = f } ∷ []) c.args.ways.now old c.match-path-3.ways (inv.3 (nothing_before x (stale t f ∷ []) c.loop-place.found.items c.judge_read.new.found.items added none)) (step none)),
     )
 
 pub returns-clause-found : goal.returns-clause-found
@@ -113,4 +118,4 @@ returns-clause-ways c none =
     let e = c.args.entry.now in
     let i = c.loop-place.place in
     let past : length (reads_of x e.number) ≤ i = omega (arith, c.loop-place-test.false, count_is x e c.reads-reads.result.now c.requires.entry c.reads-reads.ensures) in
-    subst (λ (l : List (List ℕ)). AddsEntries x (reads_of_files e.number (once l)) c.args.ways.now.items c.loop-place.ways.items) (take_all i (reads_of x e.number) past) (c.loop-place.invariant.3 none)
+    subst (λ (l : List (List ℕ)). AddsEntries x (reads_of_files e.number (once l)) c.args.ways.now c.loop-place.ways) (take_all i (reads_of x e.number) past) (c.loop-place.invariant.3 none)

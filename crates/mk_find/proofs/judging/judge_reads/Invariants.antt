@@ -15,4 +15,4 @@ invariant-loop-place l =
     (l.search ≡ l.initial.search) × Leads l.subject (map (λ f. stale l.entry.number f) (drop l.place (reads_of l.subject l.entry.number)))
     (map (λ f. stale l.entry.number f) (reads_of l.subject l.entry.number)) l.found.items l.initial.found.items ×
     (4 < length l.reads → l.seen ≡ once (take l.place (map string_bytes l.reads))) ×
-    (l.found.items ≡ [] → AddsEntries l.subject (reads_of_files l.entry.number (once (take l.place (reads_of l.subject l.entry.number)))) l.initial.ways.items l.ways.items)
+    (l.found.items ≡ [] → AddsEntries l.subject (reads_of_files l.entry.number (once (take l.place (reads_of l.subject l.entry.number)))) l.initial.ways l.ways)

@@ -38,4 +38,4 @@ returns-then-is_empty-clause-ways c = λ nothing.
     let t = c.args.entry.now.number in
     let few : length c.reads.result.now ≡ 0 = eqb-true (length c.reads.result.now) 0 (sym c.if-is_empty.ensures) in
     let none : reads_of x t ≡ [] = nil_from_length (reads_of x t) (sym (count_is x c.args.entry.now c.reads.result.now c.requires.entry c.reads.ensures) ∙ few) in
-    subst (λ (fs : List (List ℕ)). AddsEntries x (reads_of_files t (once fs)) c.args.ways.now.items c.args.ways.now.items) (sym none) (adds_no_entries x c.args.ways.now.items)
+    subst (λ (fs : List (List ℕ)). AddsEntries x (reads_of_files t (once fs)) c.args.ways.now c.args.ways.now) (sym none) (adds_no_entries x c.args.ways.now)

@@ -23,4 +23,4 @@ pub returns : goal.returns
 returns c =
     let found = c.in_ok-texts.ensures in
     let value = array_read c.args.depth c.args.reader.now c.enter_array.new.reader c.read_list.new.reader c.in_ok-enter_array.field-0 found.0 c.if-not-branch.false c.in_ok-enter_array.ensures found.1 in
-    (array_of found.0, value, moved (λ all. map string_bytes all.items) c.in_ok-texts.texts _ _ found.2 (texts_listed c.args.key found.0))
+    (array_of found.0, value, c.without_room.ensures _ (moved (λ all. map string_bytes all.items) c.in_ok-texts.texts _ _ found.2 (texts_listed c.args.key found.0)))

@@ -9,7 +9,7 @@ use Rattle.mk_ways.proofs.writing.certificate_text.Goals as goal
 pub returns : goal.returns
 returns c =
     let goals : c.certificate.inside.goals ≡ c.args.certificate.now.goals = ap (λ (x : Certificate). x.goals) c.certificate.view_is in
-    let ways : c.deref.result.now ≡ c.args.certificate.now.ways = c.deref.ensures.value ∙ ap (λ (x : Certificate). x.ways) c.certificate.view_is in
+    let ways : c.certificate.inside.ways ≡ c.args.certificate.now.ways = ap (λ (x : Certificate). x.ways) c.certificate.view_is in
     let second = c.in_ok-push_names.ensures ∙ ap (λ (names : List (List ℕ)). string_bytes c.in_ok-text.text ++ compact_text (names_value names)) goals in
     let fourth = c.in_ok-push_ways.ensures ∙ ap (λ (xs : List Way). string_bytes c.push_str.new.self ++ items_text false (items_of (map way_value xs))) ways in
     parts_joined c.args.certificate.now _ _ _ _ _ c.in_ok-text.ensures.ok second c.in_ok-push_str.ensures.bytes fourth c.in_ok-push_str-2.ensures.bytes

@@ -5,5 +5,5 @@ use Rattle.mk_ways.specs.Writing.{way_value}
 use Rattle.mk_ways.proofs.writing.push_ways.Given as goal
 
 -- the text so far, with that of the ways that are left
-abbrev pub invariant-loop-way : goal.invariant-loop-way
-invariant-loop-way l = string_bytes l.text ++ items_text l.later (items_of (map way_value (drop l.way-index l.ways))) ≡ string_bytes l.fn.text ++ items_text false (items_of (map way_value l.ways))
+abbrev pub invariant-loop-place : goal.invariant-loop-place
+invariant-loop-place l = string_bytes l.text ++ items_text l.later (items_of (map way_value (drop l.place l.ways))) ≡ string_bytes l.fn.text ++ items_text false (items_of (map way_value l.ways))

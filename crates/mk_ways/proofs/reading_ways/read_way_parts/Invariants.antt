@@ -2,7 +2,7 @@ use Rattle.std.proofs.Common.{length}
 use Rattle.serde_json.specs.Data.{Members, object}
 use Rattle.mk_json.specs.Tokens.{MembersRead}
 use Rattle.mk_ways.specs.Parts.{IsOfWay}
-use Rattle.mk_ways.proofs.ways.read_way_parts.Given as goal
+use Rattle.mk_ways.proofs.reading_ways.read_way_parts.Given as goal
 
 -- the parts that the members so far give
 abbrev pub invariant-members : goal.invariant-members

@@ -4,7 +4,7 @@ use Rattle.serde_json.specs.Find.{as_object}
 use Rattle.mk_ways.specs.declared.fault.CertificateFault.TheVariants.{Shape}
 use Rattle.mk_ways.specs.declared.key.Key.TheVariants.{Ways}
 use Rattle.mk_ways.specs.Reading.{way_in}
-use Rattle.mk_ways.proofs.ways.read_way.Goals as goal
+use Rattle.mk_ways.proofs.reading_ways.read_way.Goals as goal
 
 no_object : (value : Data) → as_object value ≡ None → way_in value ≡ Err (Shape Ways)
 unfolding way_in

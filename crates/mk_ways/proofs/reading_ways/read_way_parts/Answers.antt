@@ -2,7 +2,7 @@ use Rattle.std.proofs.Common.{◌≡◌, None, Some, arith}
 use Rattle.json.specs.Json.{read_key}
 use Rattle.serde_json.specs.Data.{put}
 use Rattle.mk_ways.proofs.Read.{refused_members}
-use Rattle.mk_ways.proofs.ways.read_way_parts.Goals as goal
+use Rattle.mk_ways.proofs.reading_ways.read_way_parts.Goals as goal
 
 pub returns-in_err-key : goal.returns-in_err-key
 returns-in_err-key c =

@@ -4,11 +4,11 @@ use Rattle.mk_json.specs.Tokens.{next_value}
 use Rattle.mk_ways.specs.Reading.{way_in}
 use Rattle.mk_ways.specs.Steps.{each}
 use Rattle.mk_ways.proofs.Read.{refused_items}
-use Rattle.mk_ways.proofs.ways.read_list.Goals as goal
+use Rattle.mk_ways.proofs.reading_ways.read_list.Goals as goal
 
 pub items-init : goal.items-init
 unfolding each
-items-init c = ([], c.items_in_turn.ensures.begins c.args.depth c.args.reader.now, rw c.new.ensures.items refl)
+items-init c = ([], c.items_in_turn.ensures.begins c.args.depth c.args.reader.now, rw c.new.ensures refl)
 
 pub returns-in_err-way : goal.returns-in_err-way
 returns-in_err-way c =
@@ -25,5 +25,5 @@ items-preserved c =
     let passed : next_value c.args.depth l.reader ≡ Some (found.0, c.read_way.new.reader) = rw (← going.1) found.1 in (
       l.invariant.0 ++ found.0 ∷ [],
       c.items_in_turn.ensures.goes_on c.args.depth c.args.reader.now l.invariant.0 l.reader c.read_way.new.reader found.0 l.invariant.1 going.0 passed,
-      c.with_next-ways.ensures way_in l.invariant.0 found.0 l.invariant.2 found.2,
+      c.with_way-ways.ensures way_in l.invariant.0 found.0 l.invariant.2 found.2,
     )

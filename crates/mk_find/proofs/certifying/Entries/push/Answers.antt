@@ -3,10 +3,10 @@ use Rattle.std.proofs.Common.{◌<◌, ℕ, List, length, sym, subst}
 use Rattle.mk_graph.specs.Membership.{Has}
 use Rattle.mk_find.proofs.AddingEntries.{nodes_low}
 use Rattle.mk_find.proofs.Noting.{reader_low}
-use Rattle.mk_find.proofs.certifying.entry_along.Goals as goal
+use Rattle.mk_find.proofs.certifying.Entries.push.Goals as goal
 
-pub names_of-requires : goal.names_of-requires
-names_of-requires c =
+pub name_all-requires : goal.name_all-requires
+name_all-requires c =
     let x = c.args.subject.now in
     let f = c.args.file.now in
     let t = c.args.entry.now.number in

@@ -1,5 +1,5 @@
 use Rattle.mk_ways.proofs.PartsPut.{end_put, file_put, path_put, recipe_put, other_put}
-use Rattle.mk_ways.proofs.ways.read_way_part.Goals as goal
+use Rattle.mk_ways.proofs.reading_ways.read_way_part.Goals as goal
 
 pub returns-in_ok-parts-in-end : goal.returns-in_ok-parts-in-end
 returns-in_ok-parts-in-end c =

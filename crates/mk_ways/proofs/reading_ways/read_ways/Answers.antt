@@ -1,7 +1,7 @@
 use Rattle.mk_json.specs.Kinds.{array_of}
 use Rattle.mk_ways.specs.declared.key.Key.TheVariants as keys
 use Rattle.mk_ways.proofs.Read.{array_read, listed}
-use Rattle.mk_ways.proofs.ways.read_ways.Goals as goal
+use Rattle.mk_ways.proofs.reading_ways.read_ways.Goals as goal
 
 pub returns : goal.returns
 returns c =
