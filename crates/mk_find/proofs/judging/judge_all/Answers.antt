@@ -63,4 +63,4 @@ returns-clause-ways c none =
     let past : length entries ≤ i = c.loop-entry-test.false in
     let all : map (λ (e : Entry). e.number) (take i entries) ≡ serial_order x.graph = ap (map (λ (e : Entry). e.number)) (take_all i entries past) ∙ c.entries-entries.ensures.in_order in
     let a = subst (λ (l : List ℕ). AddsEntries x (flat_map (reads_by x) l) [] c.loop-entry.ways) all (c.loop-entry.invariant.1 none) in
-    subst (λ (l : List Way). AreEntriesFor x (flat_map (reads_by x) (serial_order x.graph)) l) (sym a.added) a.right
+    subst (λ (l : List Way). AreEntriesFor x (flat_map (reads_by x) (serial_order x.graph)) l) (sym (c.into_ways.ensures ∙ a.added)) a.right

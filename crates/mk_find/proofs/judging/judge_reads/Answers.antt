@@ -14,7 +14,7 @@ use Rattle.mk_cert.specs.Listed.{Adds}
 use Rattle.mk_cert.specs.Subject.{Subject, reads_of}
 use Rattle.mk_cert.specs.Target.{Target, target_of}
 use Rattle.mk_cert.specs.Verdict.{Read}
-use Rattle.mk_find.specs.Certifying.{Needs, AddsEntries}
+use Rattle.mk_find.specs.Certifying.{Needs, IsEntryFor, AddsEntries}
 use Rattle.mk_find.proofs.Adding.{drop_past, leads_map, leads_done}
 use Rattle.mk_find.proofs.AddingEntries.{reads_of_files, adds_no_entries, adds_more_entries, adds_entry, adds_no_entry, once_same, once_new, nothing_before}
 use Rattle.mk_find.proofs.Noting.{at_place, count_is, place_is, same_reads}
@@ -90,11 +90,11 @@ loop-place-preserved c =
     let added = c.in_ok-path.ensures.found in
     let lacks = stands x t i f (map string_bytes c.reads-reads.result.now) false _ (c.reads-reads.ensures ∙ same_reads x e c.requires.entry) is c.in_ok-is_repeated.ensures.repeated c.if-branch.false in
     let old = c.loop-place.ways in
-    let r = record { recipe = t; file = f } in
+    let r : Read = record { recipe = t; file = f } in
     let told = λ (o : Option FirstPath). MatchOption o (c.judge_read.new.found.items ≡ [] → ¬ (Needs x r)) (λ path. Needs x r × GoesFirst x f t path.nodes.items path.finish) in
     let step : c.judge_read.new.found.items ≡ [] → AddsEntries x (r ∷ []) old c.match-path-3.ways = λ none.
     elim c.match-path-3.branch [
-      | in-Some+in_ok-push w ↦ rw w.ways-is (let m = subst told w.in-Some.is c.in_ok-path.ensures.path in let e = w.in_ok-push.ensures in adds_entry x r e.0 old w.push.new.self m.0 e.1 e.2)
+      | in-Some+in_ok-push w ↦ rw w.ways-is (let m = subst told w.in-Some.is c.in_ok-path.ensures.path in let e = w.in_ok-push.ensures in let file : c.file.inside.file.now ≡ f = ap (λ (v : Target). v.file) c.file.view_is in adds_entry x r e.0 old w.push.new.self m.0 (subst (λ (g : List ℕ). IsEntryFor x (record { recipe = t; file = g }) e.0) file e.1) e.2)
       | in_default w ↦ rw w.ways-is (adds_no_entry x r old (subst told w.in_default.is c.in_ok-path.ensures.path none))
     ] in
     let reads : reads_of_files t (once before) ++ record { recipe = t; file = f } ∷ [] ≡ reads_of_files t (once (take (i + 1) files)) = sym (map_push (λ g. record { recipe = t; file = g }) (once before) f) ∙ ap (reads_of_files t) (sym (once_new c.once_keeps_first.ensures before f (once before) refl ((c.once_keeps_first.ensures before).same f ∙ lacks)) ∙ ap once (sym after)) in (
