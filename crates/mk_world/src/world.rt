@@ -1,10 +1,10 @@
 //! Worlds, in which steps are taken.
 
-ghost use Rattle.std.specs.Prelude.{◌≡◌, map, true, IfOk};
+ghost use Rattle.std.specs.Prelude.{◌≡◌, map, true, IfOk, None};
 ghost use Rattle.mk_graph.specs.Schedule as model;
 ghost use Rattle.mk_graph.specs.SerialMake.{rest_of_run, whole_run};
 ghost use Rattle.mk_world.specs.State.{aged, disk_of, number_of, setting};
-ghost use Rattle.mk_world.specs.First.{AreSorted};
+ghost use Rattle.mk_world.specs.First.{AreNamesOf, AreSorted};
 ghost use Rattle.mk_world.specs.Listing.{listing};
 ghost use Rattle.mk_world.specs.Steps.{Answers, IsFirstOf, MayTake, MayTakeAll, TakesAllowed, step_of};
 ghost use Rattle.mk_world.specs.Running.{AnswersInTurn, PassesIdle, TakesAllAllowed, contents_of, finish_steps, is_node, new_stamp};
@@ -57,6 +57,25 @@ impl<'a> Model for World<'a> {
         IsKeptIn w.scene w.make w.readiness × ArePlaces w.scene w.disk.names w.places };
 }
 
+/// The world of a scene and a disk, with no make in progress. The error is want of memory alone.
+fn in_scene<'a>(alloc: Global, scene: Scene<'a>, disk: Disk) -> Result<World<'a>, AllocError>
+    requires { AreNamesOf scene disk.names }
+    ensures scene { IfOk result (λ w. w.scene ≡ scene.entry) }
+    ensures disk { IfOk result (λ w. w.disk ≡ disk) }
+    ensures idle { IfOk result (λ w. w.make ≡ None) }
+{
+    let readiness = Readiness::new(alloc, scene.graph())?;
+    let places = Places::new(alloc, &scene, &disk)?;
+    Ok(World {
+        alloc,
+        scene,
+        places,
+        disk,
+        make: None,
+        readiness,
+    })
+}
+
 impl<'a> World<'a> {
     /// The world of a graph and what is recorded, with no make in progress: its names are those of
     /// nodes and sources, and those that recipes of the graph read or write. Just the given ones
@@ -69,19 +88,11 @@ impl<'a> World<'a> {
     ) -> Result<World<'a>, AllocError>
         ensures { IfOk result (λ w. IsFirstOf graph.entry.now setting.entry.now w) }
     {
-        let readiness = Readiness::new(alloc, graph)?;
         let names = names_of(alloc, graph, setting)?;
         let disk = Disk::first(alloc, setting, names)?;
         let scene = Scene::new(alloc, graph, setting)?;
-        let places = Places::new(alloc, &scene, &disk)?;
-        Ok(World {
-            alloc,
-            scene,
-            places,
-            disk,
-            make: None,
-            readiness,
-        })
+        let world = in_scene(alloc, scene, disk)?;
+        Ok(world)
     }
 
     /// The files that are there, by the bytes of their names. The error is want of memory alone.

@@ -1,34 +1,29 @@
-use Rattle.std.proofs.Common.{map, string_bytes, sym, refl, subst, None}
+use Rattle.std.proofs.Common.{map, string_bytes, sym, subst, ◌∙◌}
 use Rattle.mk_graph.specs.World.{IsFirst}
 use Rattle.mk_world.specs.State.{Scene, DiskState, setting_of, disk_of}
 use Rattle.mk_world.specs.First.{AreNamesOf}
-use Rattle.mk_world.specs.Fits.{FitsIn}
-use Rattle.mk_world.specs.Kept.{IsKeptIn}
 use Rattle.mk_world.proofs.Tables.{name_there, there_name}
 use Rattle.mk_world.proofs.FirstDisk.{is_first}
 use Rattle.mk_world.proofs.world.World.new.Goals as goal
 
-pub invariant_of-result : goal.invariant_of-result
-invariant_of-result c =
+pub in_scene-requires : goal.in_scene-requires
+in_scene-requires c =
     let all = c.in_ok-names.ensures.all in
-    let three = subst (λ (sc : Scene). FitsIn sc None × AreNamesOf sc c.in_ok-disk.disk.names × IsKeptIn sc None c.in_ok-readiness.readiness) (sym c.in_ok-scene.ensures) (
-      tt,
-      subst (λ (d : DiskState). AreNamesOf (record { graph = c.args.graph.now; recorded = c.args.setting.now }) d.names) (sym c.in_ok-disk.ensures)
-          (record { sorted = c.in_ok-names.ensures.sorted; all = λ f. (λ e. (all f).0 (name_there _ f e), λ w. there_name _ f ((all f).1 w)) }),
-      c.in_ok-readiness.ensures.graph,
-    ) in
-    (three.0, three.1, three.2, c.in_ok-places.ensures)
+    subst (λ (sc : Scene). AreNamesOf sc c.in_ok-disk.disk.names) (sym c.in_ok-scene.ensures) (
+    subst (λ (d : DiskState). AreNamesOf (record { graph = c.args.graph.now; recorded = c.args.setting.now }) d.names) (sym c.in_ok-disk.ensures)
+    (record { sorted = c.in_ok-names.ensures.sorted; all = λ f. (λ e. (all f).0 (name_there _ f e), λ w. there_name _ f ((all f).1 w)) })
+    )
 
 pub returns : goal.returns
 returns c =
     let all = c.in_ok-names.ensures.all in
-    let names = subst (λ (sc : Scene). AreNamesOf sc c.in_ok-disk.disk.names) (sym c.in_ok-scene.ensures) (
-    subst (λ (d : DiskState). AreNamesOf (record { graph = c.args.graph.now; recorded = c.args.setting.now }) d.names) (sym c.in_ok-disk.ensures)
-    (record { sorted = c.in_ok-names.ensures.sorted; all = λ f. (λ e. (all f).0 (name_there _ f e), λ w. there_name _ f ((all f).1 w)) })
-    ) in
+    let scene = c.in_ok-world.ensures.scene ∙ c.in_ok-scene.ensures in
+    let disk = c.in_ok-world.ensures.disk ∙ c.in_ok-disk.ensures in
     record {
-      scene = c.in_ok-scene.ensures;
-      idle = refl;
-      first = subst (λ (d : DiskState). IsFirst c.args.graph.now (setting_of c.args.setting.now) (disk_of d)) (sym c.in_ok-disk.ensures) (is_first c.args.graph.now c.args.setting.now (map string_bytes c.in_ok-names.names.items) c.in_ok-names.ensures.sorted c.in_ok-names.ensures.all);
-      names = names;
+      scene = scene;
+      idle = c.in_ok-world.ensures.idle;
+      first = subst (λ (d : DiskState). IsFirst c.args.graph.now (setting_of c.args.setting.now) (disk_of d)) (sym disk) (is_first c.args.graph.now c.args.setting.now (map string_bytes c.in_ok-names.names.items) c.in_ok-names.ensures.sorted c.in_ok-names.ensures.all);
+      names = subst (λ (sc : Scene). AreNamesOf sc c.in_ok-world.world.disk.names) (sym scene) (
+          subst (λ (d : DiskState). AreNamesOf (record { graph = c.args.graph.now; recorded = c.args.setting.now }) d.names) (sym disk)
+          (record { sorted = c.in_ok-names.ensures.sorted; all = λ f. (λ e. (all f).0 (name_there _ f e), λ w. there_name _ f ((all f).1 w)) }));
     }
