@@ -16,8 +16,8 @@ use Rattle.mk_graph.specs.Stale.{stale_history}
 use Rattle.mk_graph.specs.TurnLists.{until_begin, LeadsPast}
 use Rattle.mk_graph.specs.Turns.{HasAll, InOpenGroup, IsPart, MayTurn, Turns, Wanted, goal, onward}
 use Rattle.mk_world.specs.Steps.{step_of}
-use Rattle.mk_world.specs.declared.step.Step as named
-use Rattle.mk_world.specs.declared.step.Step.TheVariants as by_name
+use Rattle.mk_world.specs.NamedStep as named
+use Rattle.mk_world.specs.NamedStep as by_name
 use Rattle.mk_cert.specs.Laws.{ListedExactly, NothingFoundIsSound}
 use Rattle.mk_cert.specs.Subject.{Subject, IsSubject, footprints}
 use Rattle.mk_cert.specs.declared.finding.Finding.{Finding}
