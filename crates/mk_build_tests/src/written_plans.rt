@@ -22,11 +22,7 @@ fn make(alloc: Global, jobs: usize) -> Result<Step<'static>, AllocError> {
 }
 
 /// What a recipe does behind its begin: it looks at `s`, puts a content into its target, and ends.
-fn push_rest<'a>(
-    steps: &mut Vec<Step<'a>>,
-    node: &'a str,
-    content: u64,
-) -> Result<(), AllocError> {
+fn push_rest<'a>(steps: &mut Vec<Step<'a>>, node: &'a str, content: u64) -> Result<(), AllocError> {
     steps.push(Step::Look { node, file: "s" })?;
     steps.push(Step::Put {
         node,
