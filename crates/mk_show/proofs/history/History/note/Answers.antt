@@ -1,4 +1,4 @@
-use Rattle.std.proofs.Common.{map, sym, subst, ap, ◌∙◌}
+use Rattle.std.proofs.Common.{[], ◌∷◌, map, refl, sym, subst, ap, ◌∙◌}
 use Rattle.std.proofs.lemmas.List.{map_push}
 use Rattle.mk_world.specs.NamedStep.{step_view}
 use Rattle.mk_show.specs.Numbers.{HaveSmallNumbers}
@@ -7,3 +7,11 @@ use Rattle.mk_show.proofs.history.History.note.Goals as goal
 
 pub invariant_of-self-2 : goal.invariant_of-self-2
 invariant_of-self-2 c = (c.self.invariant.0, subst HaveSmallNumbers (sym (ap (map step_view) c.in_ok-push.ensures.items ∙ map_push _ _ _)) (one_more _ _ c.self.invariant.1 c.requires))
+
+pub returns : goal.returns
+returns c = rw (← c.self.view_is) (record {
+  world = refl;
+  more = step_view c.args.step ∷ [];
+  added = ap (map step_view) c.in_ok-push.ensures.items ∙ map_push _ _ _;
+  are = refl;
+})
