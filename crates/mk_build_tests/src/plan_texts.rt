@@ -1,42 +1,34 @@
 //! Plans as they are written.
 
 use crate::graph_fixtures::graph_of;
-use mk_lines::{Name, Names};
 use mk_plans::plan_text;
 use mk_world::Step;
 use std::alloc::{AllocError, Global};
 use std::test::Fail;
 
 /// Names.
-fn names_of(alloc: Global, words: &str) -> Result<Names, AllocError> {
+fn names_of(alloc: Global, words: &str) -> Result<Vec<&str>, AllocError> {
     let mut names = Vec::new(alloc);
     for word in words.split_whitespace() {
-        names.push(Name::new(alloc, word)?)?;
+        names.push(word)?;
     }
-    Ok(Names::new(names))
+    Ok(names)
 }
 
 /// A make of these goals.
-fn make(alloc: Global, jobs: usize, goals: &str) -> Result<Step, AllocError> {
-    Ok(Step::Make {
-        jobs,
-        goals: names_of(alloc, goals)?,
-    })
+fn make(alloc: Global, jobs: usize, goals: &str) -> Result<Step<'_>, AllocError> {
+    let goals = names_of(alloc, goals)?;
+    Ok(Step::Make { jobs, goals })
 }
 
 /// The steps of a run of `p`.
-fn push_run(alloc: Global, steps: &mut Vec<Step>) -> Result<(), AllocError> {
-    let node = Name::new(alloc, "p")?;
-    steps.push(Step::Begin {
-        node: node.clone()?,
-    })?;
-    steps.push(Step::Look {
-        node: node.clone()?,
-        file: Name::new(alloc, "s")?,
-    })?;
+fn push_run(steps: &mut Vec<Step<'_>>) -> Result<(), AllocError> {
+    let node = "p";
+    steps.push(Step::Begin { node })?;
+    steps.push(Step::Look { node, file: "s" })?;
     steps.push(Step::Put {
-        node: node.clone()?,
-        file: Name::new(alloc, "p")?,
+        node,
+        file: "p",
         content: 18_446_744_073_709_551_615,
     })?;
     steps.push(Step::End { node })?;
@@ -44,24 +36,23 @@ fn push_run(alloc: Global, steps: &mut Vec<Step>) -> Result<(), AllocError> {
 }
 
 /// The passing of each of these nodes.
-fn push_passes(alloc: Global, steps: &mut Vec<Step>, nodes: &str) -> Result<(), AllocError> {
+fn push_passes<'a>(steps: &mut Vec<Step<'a>>, nodes: &'a str) -> Result<(), AllocError> {
     for node in nodes.split_whitespace() {
-        let node = Name::new(alloc, node)?;
         steps.push(Step::Pass { node })?;
     }
     Ok(())
 }
 
 /// Two makes with an edit between.
-fn history(alloc: Global) -> Result<Vec<Step>, AllocError> {
+fn history(alloc: Global) -> Result<Vec<Step<'static>>, AllocError> {
     let mut steps = Vec::new(alloc);
     steps.push(make(alloc, 1, "all")?)?;
-    push_passes(alloc, &mut steps, "s")?;
-    push_run(alloc, &mut steps)?;
-    push_passes(alloc, &mut steps, "q all")?;
+    push_passes(&mut steps, "s")?;
+    push_run(&mut steps)?;
+    push_passes(&mut steps, "q all")?;
     steps.push(Step::EndMake)?;
     steps.push(Step::Edit {
-        file: Name::new(alloc, "s")?,
+        file: "s",
         content: 0,
     })?;
     steps.push(make(alloc, 4096, "p q")?)?;

@@ -3,7 +3,6 @@
 use crate::graph_fixtures::graph_of;
 use mk_foot::{Book, Setting, read_book};
 use mk_graph::Graph;
-use mk_lines::{Name, Names};
 use mk_plans::plan_text;
 use mk_world::{Plan, PlanFault, Run, Step, World, read_plan, run_plan};
 use std::alloc::{AllocError, Global};
@@ -16,44 +15,18 @@ const BOOK: &str = r#"{"format":1,"fixed":[],"sources":["s"],"records":[
 {"target":"q","commands":["q"],"reads":["s"],"writes":["q"]}]}"#;
 
 /// A make of `all`.
-fn make(alloc: Global, jobs: usize) -> Result<Step, AllocError> {
+fn make(alloc: Global, jobs: usize) -> Result<Step<'static>, AllocError> {
     let mut goals = Vec::new(alloc);
-    goals.push(Name::new(alloc, "all")?)?;
-    Ok(Step::Make {
-        jobs,
-        goals: Names::new(goals),
-    })
-}
-
-/// The passing of a node.
-fn pass(alloc: Global, node: &str) -> Result<Step, AllocError> {
-    Ok(Step::Pass {
-        node: Name::new(alloc, node)?,
-    })
-}
-
-/// The begin of a recipe.
-fn begin(alloc: Global, node: &str) -> Result<Step, AllocError> {
-    Ok(Step::Begin {
-        node: Name::new(alloc, node)?,
-    })
+    goals.push("all")?;
+    Ok(Step::Make { jobs, goals })
 }
 
 /// What a recipe does behind its begin: it looks at `s`, puts a content into its target, and ends.
-fn push_rest(
-    alloc: Global,
-    steps: &mut Vec<Step>,
-    node: &str,
-    content: u64,
-) -> Result<(), AllocError> {
-    let node = Name::new(alloc, node)?;
-    steps.push(Step::Look {
-        node: node.clone()?,
-        file: Name::new(alloc, "s")?,
-    })?;
+fn push_rest<'a>(steps: &mut Vec<Step<'a>>, node: &'a str, content: u64) -> Result<(), AllocError> {
+    steps.push(Step::Look { node, file: "s" })?;
     steps.push(Step::Put {
-        node: node.clone()?,
-        file: node.clone()?,
+        node,
+        file: node,
         content,
     })?;
     steps.push(Step::End { node })?;
@@ -61,45 +34,45 @@ fn push_rest(
 }
 
 /// A make in which two recipes run side by side.
-fn push_both(alloc: Global, steps: &mut Vec<Step>) -> Result<(), AllocError> {
+fn push_both(alloc: Global, steps: &mut Vec<Step<'_>>) -> Result<(), AllocError> {
     steps.push(make(alloc, 2)?)?;
-    steps.push(pass(alloc, "s")?)?;
-    steps.push(begin(alloc, "p")?)?;
-    steps.push(begin(alloc, "q")?)?;
-    push_rest(alloc, steps, "q", 9)?;
-    push_rest(alloc, steps, "p", 18_446_744_073_709_551_615)?;
-    steps.push(pass(alloc, "all")?)?;
+    steps.push(Step::Pass { node: "s" })?;
+    steps.push(Step::Begin { node: "p" })?;
+    steps.push(Step::Begin { node: "q" })?;
+    push_rest(steps, "q", 9)?;
+    push_rest(steps, "p", 18_446_744_073_709_551_615)?;
+    steps.push(Step::Pass { node: "all" })?;
     steps.push(Step::EndMake)?;
     Ok(())
 }
 
 /// A make in which one runs behind the other.
-fn push_one_by_one(alloc: Global, steps: &mut Vec<Step>) -> Result<(), AllocError> {
+fn push_one_by_one(alloc: Global, steps: &mut Vec<Step<'_>>) -> Result<(), AllocError> {
     steps.push(make(alloc, 1)?)?;
-    steps.push(pass(alloc, "s")?)?;
-    steps.push(begin(alloc, "q")?)?;
-    push_rest(alloc, steps, "q", 3)?;
-    steps.push(begin(alloc, "p")?)?;
-    push_rest(alloc, steps, "p", 0)?;
-    steps.push(pass(alloc, "all")?)?;
+    steps.push(Step::Pass { node: "s" })?;
+    steps.push(Step::Begin { node: "q" })?;
+    push_rest(steps, "q", 3)?;
+    steps.push(Step::Begin { node: "p" })?;
+    push_rest(steps, "p", 0)?;
+    steps.push(Step::Pass { node: "all" })?;
     steps.push(Step::EndMake)?;
     Ok(())
 }
 
 /// Both makes with an edit between, a make that is stopped, and one that passes all.
-fn history(alloc: Global) -> Result<Vec<Step>, AllocError> {
+fn history(alloc: Global) -> Result<Vec<Step<'static>>, AllocError> {
     let mut steps = Vec::new(alloc);
     push_both(alloc, &mut steps)?;
     steps.push(Step::Edit {
-        file: Name::new(alloc, "s")?,
+        file: "s",
         content: 0,
     })?;
     push_one_by_one(alloc, &mut steps)?;
     steps.push(make(alloc, 1)?)?;
     steps.push(Step::Stop)?;
     steps.push(make(alloc, 1)?)?;
-    steps.push(pass(alloc, "s")?)?;
-    steps.push(pass(alloc, "p")?)?;
+    steps.push(Step::Pass { node: "s" })?;
+    steps.push(Step::Pass { node: "p" })?;
     Ok(steps)
 }
 

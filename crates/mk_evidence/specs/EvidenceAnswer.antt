@@ -6,7 +6,7 @@ use Rattle.mk_find.specs.Findings.{AreFindings}
 use Rattle.mk_plans.specs.PlanText.{plan_text}
 use Rattle.mk_show.specs.Numbers.{HaveSmallNumbers}
 use Rattle.mk_show.specs.Shown.{IsNotShown, Shows}
-use Rattle.mk_world.specs.declared.step.Step.{Step}
+use Rattle.mk_world.specs.NamedStep.{Step}
 use Rattle.mk_print.specs.declared.fault.Fault.{Fault}
 use Rattle.mk_evidence.specs.declared.showing.Evidence.{Evidence}
 use Rattle.mk_evidence.specs.declared.showing.Evidence.TheVariants.{Plan, NoPlan}

@@ -1,12 +1,13 @@
 //! A plan that shows what is found.
 
-ghost use Rattle.std.specs.Prelude.{◌≡◌, ◌<◌, ◌-◌, ◌^◌, ℕ, true, option_map, IfErr, IfOk, IfSome, MatchOption};
+ghost use Rattle.std.specs.Prelude.{◌≡◌, ◌<◌, ◌-◌, ◌^◌, ℕ, true, map, option_map, IfErr, IfOk, IfSome, MatchOption};
 ghost use Rattle.mk_cert.specs.declared.finding.Finding.{Finding as FindingValue};
 ghost use Rattle.mk_find.specs.Findings.{AreFindings};
 ghost use Rattle.mk_evidence.specs.NotRead.{evidence_not_read};
 ghost use Rattle.mk_core.specs.Answer.{Answers, Counts};
 ghost use Rattle.mk_core.specs.CheckAnswer.{AnswersCheck};
 ghost use Rattle.mk_core.specs.Right.{IsRightFor};
+ghost use Rattle.mk_world.specs.NamedStep.{step_view};
 ghost use Rattle.mk_plans.specs.PlanText.{plan_text};
 ghost use Rattle.mk_show.specs.Shown.{IsNotShown, IsTold};
 ghost use Rattle.mk_evidence.specs.EvidenceAnswer.{AnswersEvidence, GivesPlanOrVerdict, HasVerdict, HasYes, IsEvidence, IsEvidenceText, IsNumbered, IsPlanFor, findings_in, plan_in};
@@ -35,8 +36,13 @@ fn numbered(found: &[Finding], number: u64) -> Option<&Finding>
 }
 
 /// The plan of steps.
-fn text_of(alloc: Global, subject: &Subject<'_>, steps: &[Step]) -> Result<Vec<u8>, AllocError>
-    ensures { IfOk result (λ text. text.items ≡ plan_text subject.now.graph steps.now) }
+fn text_of(
+    alloc: Global,
+    subject: &Subject<'_>,
+    steps: &[Step<'_>],
+) -> Result<Vec<u8>, AllocError>
+    ensures { IfOk result (λ text. text.items ≡
+        plan_text subject.now.graph (map step_view steps.now)) }
 {
     let text = plan_text(alloc, subject.graph(), steps)?;
     Ok(text.into_bytes())

@@ -26,8 +26,7 @@ use Rattle.mk_show.specs.Shown.{Shows, ShowsFrom}
 use Rattle.mk_world.specs.declared.plan.PlanFault.{PlanFault}
 use Rattle.mk_world.specs.declared.plan.PlanLine.{PlanLine}
 use Rattle.mk_world.specs.declared.fault.StepFault.{StepFault}
-use Rattle.mk_world.specs.declared.step.Step.{Step}
-use Rattle.mk_world.specs.declared.step.Step.TheVariants.{Edit, Make, Begin, Look, Put, End, Pass, Stop, EndMake}
+use Rattle.mk_world.specs.NamedStep.{Step, Edit, Make, Begin, Look, Put, End, Pass, Stop, EndMake}
 use Rattle.mk_world.specs.Plans.{lines_of, max_jobs, max_lines, plan_of}
 use Rattle.mk_world.specs.RunLaws.{AreLegal}
 use Rattle.mk_world.specs.Running.{RunsTo, stage_of}

@@ -12,7 +12,7 @@ use Rattle.mk_plans.specs.PlanText.{plan_text}
 use Rattle.mk_read.specs.Files.{Told}
 use Rattle.mk_show.specs.Shown.{Shows}
 use Rattle.mk_world.specs.declared.plan.PlanLine.{PlanLine}
-use Rattle.mk_world.specs.declared.step.Step.{Step}
+use Rattle.mk_world.specs.NamedStep.{Step}
 use Rattle.mk_world.specs.Plans.{lines_of, max_lines, plan_of}
 use Rattle.mk_world.specs.Running.{stage_of}
 use Rattle.mk_world.specs.State.{State, setting_of, world_of}

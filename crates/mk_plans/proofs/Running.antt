@@ -11,8 +11,7 @@ use Rattle.mk_graph.specs.Setting.{FileName, Setting}
 use Rattle.mk_graph.specs.World.{Disk, Making, World, Idle, Busy, IsOfWorld, disk_of}
 use Rattle.mk_graph.specs.Schedule as model
 use Rattle.mk_graph.specs.Schedule.{Allowed, IsLegal, after, after_all, finished}
-use Rattle.mk_world.specs.declared.step.Step.{Step}
-use Rattle.mk_world.specs.declared.step.Step.TheVariants.{Edit, Make, Begin, Look, Put, End, Pass, Stop, EndMake}
+use Rattle.mk_world.specs.NamedStep.{Step, Edit, Make, Begin, Look, Put, End, Pass, Stop, EndMake}
 use Rattle.mk_world.specs.declared.plan.Order.{Order}
 use Rattle.mk_world.specs.declared.plan.Order.TheVariants as order
 use Rattle.mk_world.specs.declared.fault.StepFault.{StepFault}

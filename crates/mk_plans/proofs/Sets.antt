@@ -1,5 +1,6 @@
 -- Sets of names that grow.
-use Rattle.std.proofs.Common.{◌≡◌, ℕ, ◌+◌, ◌<◌, Bool, true, false, cond, ◌||◌, List, [], ◌∷◌, ◌++◌, length, take, get_or, refl, sym, ap, ◌∙◌}
+use Rattle.std.proofs.Common.{◌≡◌, ℕ, ◌+◌, ◌<◌, Bool, true, false, cond, ◌||◌, List, [], ◌∷◌, ◌++◌, map, length, take, get_or, refl, sym, ap, ◌∙◌}
+use Rattle.std.specs.Borrow.{Bor}
 use Rattle.std.specs.Str.{bytes_eq}
 use Rattle.std.specs.List.{list_any}
 use Rattle.std.proofs.lemmas.List.Folds.{list_any-append, list_any_more}
@@ -26,6 +27,15 @@ has_with names n x = at (has_name names n) refl
     at true t = there (bytes_eq x n) refl t
     at false f = list_any-append (λ other. bytes_eq x other) names (n ∷ []) ∙ ap (λ b. has_name names x || b) (or_false (bytes_eq x n))
 
+-- what names that are lent spell
+abbrev pub texts : List (Bor (List ℕ)) → List (List ℕ)
+texts names = map (λ (one : Bor (List ℕ)). one.now) names
+
+-- a name is among those that are seen of some elements
+seen_any : {X : Type 0} (seen : X → List ℕ) (xs : List X) (name : List ℕ) → has_name (map seen xs) name ≡ list_any (λ x. bytes_eq name (seen x)) xs
+seen_any seen [] name = refl
+seen_any seen (x ∷ xs) name = ap (λ b. bytes_eq name (seen x) || b) (seen_any seen xs name)
+
 -- one element more is looked at
 pub one_more : {X : Type 0} (p : X → Bool) (xs : List X) (i : ℕ) (x : X) (old new : Bool) → x ≡ get_or xs i x → i < length xs → old ≡ list_any p (take i xs) → new ≡ (old || p x) → new ≡ list_any p (take (i + 1) xs)
 one_more p xs i x old new e lt o n = n ∙ (ap (λ b. b || p x) o ∙ (ap (λ y. list_any p (take i xs) || p y) e ∙ sym (list_any_more p xs i x lt)))
@@ -33,3 +43,12 @@ one_more p xs i x old new e lt o n = n ∙ (ap (λ b. b || p x) o ∙ (ap (λ y.
 -- one that doesn't pass changes nothing
 pub none_more : {X : Type 0} (p : X → Bool) (xs : List X) (i : ℕ) (x : X) (old : Bool) → x ≡ get_or xs i x → i < length xs → p x ≡ false → old ≡ list_any p (take i xs) → old ≡ list_any p (take (i + 1) xs)
 none_more p xs i x old e lt f o = one_more p xs i x old old e lt o (sym (ap (λ b. old || b) f ∙ or_false old))
+
+-- one name more that is lent
+pub one_lent : (names : List (Bor (List ℕ))) (i : ℕ) (other : Bor (List ℕ)) (old new : List (List ℕ)) (name : List ℕ) → i < length names → has_name old name ≡ has_name (texts (take i names)) name → new ≡ with_name old (get_or names i other).now → has_name new name ≡ has_name (texts (take (i + 1) names)) name
+one_lent names i other old new name lt so_far is =
+    let among : Bor (List ℕ) → Bool = λ one. bytes_eq name one.now in
+    let here = get_or names i other in
+    let before = so_far ∙ seen_any (λ (one : Bor (List ℕ)). one.now) (take i names) name in
+    let grown = ap (λ (set : List (List ℕ)). has_name set name) is ∙ has_with old here.now name in
+    grown ∙ (ap (λ b. b || among here) before ∙ (sym (list_any_more among names i other lt) ∙ sym (seen_any (λ (one : Bor (List ℕ)). one.now) (take (i + 1) names) name)))

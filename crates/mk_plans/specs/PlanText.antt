@@ -7,8 +7,7 @@ use Rattle.mk_lines.specs.Names.{has_name}
 use Rattle.mk_graph.specs.declared.node.Node.{Node}
 use Rattle.mk_graph.specs.Graph.{Graph}
 use Rattle.mk_graph.specs.Setting.{FileName, name}
-use Rattle.mk_world.specs.declared.step.Step.{Step}
-use Rattle.mk_world.specs.declared.step.Step.TheVariants.{Edit, Make, Begin, Look, Put, End, Pass, Stop, EndMake}
+use Rattle.mk_world.specs.NamedStep.{Step, Edit, Make, Begin, Look, Put, End, Pass, Stop, EndMake}
 
 -- the name is that of a node without recipe
 abbrev pub is_idle_at : FileName → Node → Bool

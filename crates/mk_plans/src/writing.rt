@@ -1,19 +1,21 @@
 //! The text of a plan.
 
-ghost use Rattle.std.specs.Prelude.{◌≡◌, ◌++◌, ℕ, List, IfOk, OnOk};
+ghost use Rattle.std.specs.Prelude.{◌≡◌, ◌++◌, ℕ, List, map, IfOk, OnOk};
 ghost use Rattle.std.specs.String.{string_bytes};
 ghost use Rattle.mk_lines.specs.Names.{has_name};
+ghost use Rattle.mk_world.specs.NamedStep.{step_view};
 ghost use Rattle.mk_plans.specs.PlanText.{are_all_named, goals_text, is_idle, make_line, names_text, pass_line, plan_text, step_text};
 
 use crate::tables::{idle_names, set_of};
 use mk_graph::Graph;
-use mk_lines::{Name, NameSet};
+use mk_lines::NameSet;
 use mk_world::Step;
 use std::alloc::{AllocError, Global};
 
 /// Whether each goal of the graph is among these names.
-fn are_all_named(alloc: Global, graph: &Graph, goals: &[Name]) -> Result<bool, AllocError>
-    ensures { IfOk result (λ all. all ≡ are_all_named graph.now goals.now) }
+fn are_all_named(alloc: Global, graph: &Graph, goals: &[&str]) -> Result<bool, AllocError>
+    ensures { IfOk result (λ all. all ≡
+        are_all_named graph.now (map (λ goal. goal.now) goals.now)) }
 {
     let named = set_of(alloc, goals)?;
     let nodes = graph.nodes();
@@ -26,19 +28,21 @@ fn are_all_named(alloc: Global, graph: &Graph, goals: &[Name]) -> Result<bool, A
 }
 
 /// Adds each name behind a space.
-fn push_names(line: &mut String, names: &[Name]) -> Result<(), AllocError>
-    ensures { OnOk result (string_bytes line.new ≡ string_bytes line.old ++ names_text names.now) }
+fn push_names(line: &mut String, names: &[&str]) -> Result<(), AllocError>
+    ensures { OnOk result (string_bytes line.new ≡
+        string_bytes line.old ++ names_text (map (λ name. name.now) names.now)) }
 {
     for name in names {
         line.push_str(" ")?;
-        line.push_str(name.as_str())?;
+        line.push_str(name)?;
     }
     Ok(())
 }
 
 /// The goals that a make names, each behind a space, and nothing where these are all.
-fn goals_text(alloc: Global, graph: &Graph, goals: &[Name]) -> Result<String, AllocError>
-    ensures { IfOk result (λ text. string_bytes text ≡ goals_text graph.now goals.now) }
+fn goals_text(alloc: Global, graph: &Graph, goals: &[&str]) -> Result<String, AllocError>
+    ensures { IfOk result (λ text. string_bytes text ≡
+        goals_text graph.now (map (λ goal. goal.now) goals.now)) }
 {
     let mut text = String::new(alloc);
     if !are_all_named(alloc, graph, goals)? {
@@ -53,21 +57,21 @@ fn push_make(
     out: &mut String,
     graph: &Graph,
     jobs: usize,
-    goals: &[Name],
+    goals: &[&str],
 ) -> Result<(), AllocError>
     ensures { OnOk result (string_bytes out.new ≡
-        string_bytes out.old ++ make_line graph.now jobs goals.now) }
+        string_bytes out.old ++ make_line graph.now jobs (map (λ goal. goal.now) goals.now)) }
 {
     let goals = goals_text(alloc, graph, goals)?;
     writeln!(out, "make {jobs}{goals}")
 }
 
 /// Adds the line by which a node is passed, and nothing where it is among these.
-fn push_pass(out: &mut String, idle: &NameSet<'_>, node: &Name) -> Result<(), AllocError>
+fn push_pass(out: &mut String, idle: &NameSet<'_>, node: &str) -> Result<(), AllocError>
     ensures { OnOk result (string_bytes out.new ≡
         string_bytes out.old ++ pass_line (has_name idle.now node.now) node.now) }
 {
-    if idle.contains(node.as_str()) {
+    if idle.contains(node) {
         return Ok(());
     }
     writeln!(out, "pass {node}")
@@ -79,11 +83,11 @@ fn push_step(
     out: &mut String,
     graph: &Graph,
     idle: &NameSet<'_>,
-    step: &Step,
+    step: &Step<'_>,
 ) -> Result<(), AllocError>
     requires { (name : List ℕ) → has_name idle.now name ≡ is_idle graph.now name }
     ensures { OnOk result (string_bytes out.new ≡
-        string_bytes out.old ++ step_text graph.now step.now) }
+        string_bytes out.old ++ step_text graph.now (step_view step.now)) }
 {
     match step {
         Step::Edit { file, content } => writeln!(out, "edit {file} {content}"),
@@ -107,8 +111,9 @@ fn push_step(
 /// make that names all goals names none.
 ///
 /// The error is want of memory alone. The time is linear in the steps and the nodes.
-pub fn plan_text(alloc: Global, graph: &Graph, steps: &[Step]) -> Result<String, AllocError>
-    ensures { IfOk result (λ text. string_bytes text ≡ plan_text graph.now steps.now) }
+pub fn plan_text(alloc: Global, graph: &Graph, steps: &[Step<'_>]) -> Result<String, AllocError>
+    ensures { IfOk result (λ text. string_bytes text ≡
+        plan_text graph.now (map step_view steps.now)) }
 {
     let idle = idle_names(alloc, graph)?;
     let mut text = String::new(alloc);

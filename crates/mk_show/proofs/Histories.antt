@@ -9,7 +9,7 @@ use Rattle.mk_graph.specs.SerialMake.{whole_run}
 use Rattle.mk_graph.specs.InTurn.{MakesBut, ends, passes, runs}
 use Rattle.mk_world.specs.State.{Scene, setting, world_of}
 use Rattle.mk_world.specs.Steps.{step_of}
-use Rattle.mk_world.specs.declared.step.Step as named
+use Rattle.mk_world.specs.NamedStep as named
 use Rattle.mk_show.specs.Histories.{History, MayGoOn, GoesOn, puts_in, MakesOn, MayMake, GoesOnMaking}
 use Rattle.mk_show.proofs.Steps.{after_appended, legal_front, legal_behind, makes_exist}
 

@@ -14,7 +14,7 @@ use Rattle.mk_graph.specs.Clean.{order_of}
 use Rattle.mk_graph.specs.InTurn.{MakesBut}
 use Rattle.mk_graph.specs.SerialMake.{one_make}
 use Rattle.mk_graph.specs.Stale.{Chain, IsEditOf, stale_history, MakesGoalsBut, ShowsStale, IsLaterThanAll}
-use Rattle.mk_world.specs.declared.step.Step.{Step}
+use Rattle.mk_world.specs.NamedStep.{Step}
 use Rattle.mk_world.specs.State.{Scene, DiskState, MakeState, State, setting, disk_of, world_in, world_of}
 use Rattle.mk_world.specs.Steps.{step_of, IsFirstOf}
 use Rattle.mk_cert.specs.Candidates.{static_candidates}

@@ -4,7 +4,7 @@ use Rattle.std.proofs.lemmas.List.{append-nil, map-append}
 use Rattle.mk_graph.specs.Schedule.{Step, after_all}
 use Rattle.mk_world.specs.State.{Scene, State, setting, world_of}
 use Rattle.mk_world.specs.Steps.{step_of}
-use Rattle.mk_world.specs.declared.step.Step as named
+use Rattle.mk_world.specs.NamedStep as named
 use Rattle.mk_show.specs.Histories.{History, GoesOn, Notes}
 
 -- no steps are noted

@@ -1,6 +1,6 @@
 -- Numbers in the steps of histories.
 use Rattle.std.proofs.Common.{List, [], ◌∷◌, ◌++◌, inl, inr, subst}
-use Rattle.mk_world.specs.declared.step.Step.{Step}
+use Rattle.mk_world.specs.NamedStep.{Step}
 use Rattle.mk_show.specs.Numbers.{HasSmallNumbers, HaveSmallNumbers}
 
 -- a step more

@@ -16,8 +16,7 @@ use Rattle.mk_graph.specs.Stale.{stale_history}
 use Rattle.mk_graph.specs.TurnLists.{until_begin, LeadsPast}
 use Rattle.mk_graph.specs.Turns.{HasAll, InOpenGroup, IsPart, MayTurn, Turns, Wanted, goal, onward}
 use Rattle.mk_world.specs.Steps.{step_of}
-use Rattle.mk_world.specs.declared.step.Step as named
-use Rattle.mk_world.specs.declared.step.Step.TheVariants as by_name
+use Rattle.mk_world.specs.NamedStep as by_name
 use Rattle.mk_cert.specs.Laws.{ListedExactly, NothingFoundIsSound}
 use Rattle.mk_cert.specs.Subject.{Subject, IsSubject, footprints}
 use Rattle.mk_cert.specs.declared.finding.Finding.{Finding}
@@ -46,7 +45,7 @@ AreLow g [] = Unit {0}
 AreLow g (step ∷ steps) = IsLow g step × AreLow g steps
 
 module _ (g : Graph) (sound : IsSound g) where
-  name_step : (step : Step) → IsLow g step → (step_is : named.Step) × (step_of g step_is ≡ step)
+  name_step : (step : Step) → IsLow g step → (step_is : by_name.Step) × (step_of g step_is ≡ step)
   name_step (Edit f c) low = (by_name.Edit f c, refl)
   name_step (Make jobs goals) low = (by_name.Make jobs (map (name g) goals), ap (λ (ns : List ℕ). Make jobs ns) (numbers_are g goals sound low))
   name_step (Begin t) low = (by_name.Begin (name g t), ap (λ (n : ℕ). Begin n) (number_is g t sound low))
@@ -57,7 +56,7 @@ module _ (g : Graph) (sound : IsSound g) where
   name_step Stop low = (by_name.Stop, refl)
   name_step EndMake low = (by_name.EndMake, refl)
 
-  name_steps : (steps : List Step) → AreLow g steps → (are : List named.Step) × (map (step_of g) are ≡ steps)
+  name_steps : (steps : List Step) → AreLow g steps → (are : List by_name.Step) × (map (step_of g) are ≡ steps)
   name_steps [] low = ([], refl)
   name_steps (step ∷ steps) low =
       let first = name_step step low.0 in
@@ -129,7 +128,7 @@ module _ (g : Graph) (s : Setting) (is : IsGraph g) where
       (first.0, legal_low (after g s w step) steps first.1 legal.1)
 
   -- so legal steps are those of a list by names
-  by_names : (d : Disk) (steps : List Step) → IsLegal g s (Idle d) steps → (list : List named.Step) × (map (step_of g) list ≡ steps)
+  by_names : (d : Disk) (steps : List Step) → IsLegal g s (Idle d) steps → (list : List by_name.Step) × (map (step_of g) list ≡ steps)
   by_names d steps legal = name_steps g is.sound steps (legal_low (Idle d) steps tt legal)
 
 -- ---- a turn list that leads past a node
@@ -182,7 +181,7 @@ leads_past stay g o t goals ns shows =
 -- ---- the law
 
 module _ (listed : ListedExactly) (sound : NothingFoundIsSound) (starts : FirstIsAStart) (not_before : NotBeforeIsShown) (run : TurnListsRun) (stay : TurnsStay) (once : SerialReachesEachOnce) (exists : StaleHistoryExists) (stale : StaleIsShown) (all : OrderOfAllGoals) (x : Subject) (is : IsGraph x.graph) (is_subject : IsSubject x) (room : HasStamps x) (d : Disk) (first : IsFirst x.graph (footprints x.setting) d) where
-  race_shown : (recipe writer f : List ℕ) → IsTold x (found.Race recipe writer f) → (steps : List named.Step) × ShowsFrom x d (found.Race recipe writer f) (map (step_of x.graph) steps)
+  race_shown : (recipe writer f : List ℕ) → IsTold x (found.Race recipe writer f) → (steps : List by_name.Step) × ShowsFrom x d (found.Race recipe writer f) (map (step_of x.graph) steps)
   race_shown recipe writer f told =
       let g = x.graph in
       let s = footprints x.setting in
@@ -203,7 +202,7 @@ module _ (listed : ListedExactly) (sound : NothingFoundIsSound) (starts : FirstI
       let numbers = race_numbers x recipe writer f race in
       (listed_steps.0, (race.o, race.t, numbers.0, numbers.1, subst (λ (steps : List Step). EndsInRace x.graph (footprints x.setting) d race.o race.t steps) (sym listed_steps.1) ends))
 
-  stale_shown : (recipe f : List ℕ) → IsTold x (found.Stale recipe f) → (steps : List named.Step) × ShowsFrom x d (found.Stale recipe f) (map (step_of x.graph) steps)
+  stale_shown : (recipe f : List ℕ) → IsTold x (found.Stale recipe f) → (steps : List by_name.Step) × ShowsFrom x d (found.Stale recipe f) (map (step_of x.graph) steps)
   stale_shown recipe f told =
       let read = told_stale listed x recipe f told in
       let t = read.0.t in
@@ -225,7 +224,7 @@ module _ (listed : ListedExactly) (sound : NothingFoundIsSound) (starts : FirstI
       } in
       (listed_steps.0, (read.0.t, stale_number x recipe f read.0, subst (λ (steps : List Step). EndsStale x.graph (footprints x.setting) d read.0.t f steps) (sym listed_steps.1) ends))
 
-  pub shown : (finding : Finding) → IsTold x finding → IsOfHistories finding → (steps : List named.Step) × ShowsFrom x d finding (map (step_of x.graph) steps)
+  pub shown : (finding : Finding) → IsTold x finding → IsOfHistories finding → (steps : List by_name.Step) × ShowsFrom x d finding (map (step_of x.graph) steps)
   shown (found.Race recipe writer f) told of = race_shown recipe writer f told
   shown (found.Stale recipe f) told of = stale_shown recipe f told
   shown (found.NoRecord recipe) told of = absurd of

@@ -10,6 +10,7 @@ use Rattle.mk_graph.specs.Serial.{serial_order}
 use Rattle.mk_graph.specs.Setting.{IsNumberOf}
 use Rattle.mk_graph.specs.World.{Disk, IsFirst}
 use Rattle.mk_world.specs.Steps.{step_of}
+use Rattle.mk_world.specs.NamedStep.{step_view}
 use Rattle.mk_world.specs.declared.step.Step.{Step}
 use Rattle.mk_cert.specs.Candidates.{Candidate, Holds, no_record, other_commands, varying_commands, no_target, two_writers, given_written, own_read, unknown_read, loose, race, stale, selection, pairs_of_writers, choice_with_writes, static_candidates}
 use Rattle.mk_cert.specs.Conditions.{RacesWith, IsStale}
@@ -20,7 +21,7 @@ use Rattle.mk_cert.specs.Subject.{Subject, footprints, name_of, reads_of, writes
 use Rattle.mk_cert.specs.declared.finding.Finding.{Finding}
 use Rattle.mk_cert.specs.declared.finding.Finding.TheVariants as found
 use Rattle.mk_find.specs.Findings.{AreFindings}
-use Rattle.mk_show.specs.Shown.{EndsInRace, HasStamps, IsNotShown, IsTold, Shows, ShowsStaleRead}
+use Rattle.mk_show.specs.Shown.{HasStamps, IsNotShown, IsTold, Shows, ShowsRace, ShowsStaleRead}
 use Rattle.mk_show.proofs.Chains.{has_recipe, recipe_is_node}
 
 -- some element is taken to what stands in a mapped list
@@ -171,16 +172,16 @@ stale_number x recipe f is = (reader_is_node x is.t f is.stale.0, is.recipe_is)
 module _ (x : Subject) (finding : Finding) where
   -- what shows that a node races with another one shows the race that is told
   pub race_answers : (recipe writer f : List ℕ) (o t : ℕ) → finding ≡ found.Race recipe writer f → IsNumberOf x.graph writer o → IsNumberOf x.graph recipe t → (answer : Result (Option (Vec Step Global)) AllocError)
-      → IfOk answer (λ shown. MatchOption shown (¬ (HasStamps x)) (λ steps. (d : Disk) → IsFirst x.graph (footprints x.setting) d → EndsInRace x.graph (footprints x.setting) d o t (map (step_of x.graph) steps.items)))
-      → IfOk answer (λ shown. MatchOption shown (IsNotShown x finding) (λ steps. Shows x finding steps.items))
-  race_answers recipe writer f o t is first second (Ok (Some steps)) ends = subst (λ (k : Finding). Shows x k steps.items) (sym is) (λ d one. (o, t, first, second, ends d one))
+      → IfOk answer (λ shown. MatchOption shown (¬ (HasStamps x)) (λ steps. ShowsRace x o t (map step_view steps.items)))
+      → IfOk answer (λ shown. MatchOption shown (IsNotShown x finding) (λ steps. Shows x finding (map step_view steps.items)))
+  race_answers recipe writer f o t is first second (Ok (Some steps)) ends = subst (λ (k : Finding). Shows x k (map step_view steps.items)) (sym is) (λ d one. (o, t, first, second, ends d one))
   race_answers recipe writer f o t is first second (Ok None) few = inr few
   race_answers recipe writer f o t is first second (Err e) h = tt
 
   -- and what shows a stale read of a node the one that is told
   pub stale_answers : (recipe f : List ℕ) (t : ℕ) → finding ≡ found.Stale recipe f → IsNumberOf x.graph recipe t → (answer : Result (Option (Vec Step Global)) AllocError)
-      → IfOk answer (λ shown. MatchOption shown (¬ (HasStamps x)) (λ steps. ShowsStaleRead x t f steps.items))
-      → IfOk answer (λ shown. MatchOption shown (IsNotShown x finding) (λ steps. Shows x finding steps.items))
-  stale_answers recipe f t is number (Ok (Some steps)) ends = subst (λ (k : Finding). Shows x k steps.items) (sym is) (λ d one. (t, number, ends d one))
+      → IfOk answer (λ shown. MatchOption shown (¬ (HasStamps x)) (λ steps. ShowsStaleRead x t f (map step_view steps.items)))
+      → IfOk answer (λ shown. MatchOption shown (IsNotShown x finding) (λ steps. Shows x finding (map step_view steps.items)))
+  stale_answers recipe f t is number (Ok (Some steps)) ends = subst (λ (k : Finding). Shows x k (map step_view steps.items)) (sym is) (λ d one. (t, number, ends d one))
   stale_answers recipe f t is number (Ok None) few = inr few
   stale_answers recipe f t is number (Err e) h = tt

@@ -6,7 +6,7 @@ use Rattle.mk_graph.specs.World as world
 use Rattle.mk_graph.specs.Schedule as model
 use Rattle.mk_graph.specs.SerialMake.{puts}
 use Rattle.mk_graph.specs.InTurn.{MakesBut, to_put}
-use Rattle.mk_world.specs.declared.step.Step.{Step}
+use Rattle.mk_world.specs.NamedStep.{Step}
 use Rattle.mk_world.specs.State.{State, setting, world_of}
 use Rattle.mk_world.specs.Steps.{step_of}
 

@@ -4,7 +4,7 @@ use Rattle.mk_cert.specs.Subject.{Subject, IsSubject, footprints}
 use Rattle.mk_cert.specs.declared.finding.Finding.{Finding}
 use Rattle.mk_graph.specs.Graph.{IsGraph}
 use Rattle.mk_graph.specs.World.{Disk, IsFirst}
-use Rattle.mk_world.specs.declared.step.Step.{Step}
+use Rattle.mk_world.specs.NamedStep.{Step}
 use Rattle.mk_world.specs.Steps.{step_of}
 use Rattle.mk_show.specs.Shown.{IsTold, IsOfHistories, HasStamps, ShowsFrom}
 

@@ -1,8 +1,7 @@
 -- Numbers in the steps of histories.
 use Rattle.std.specs.Prelude.{◌≡◌, ◌<◌, ◌^◌, List}
 use Rattle.mk_graph.specs.Membership.{Has}
-use Rattle.mk_world.specs.declared.step.Step.{Step}
-use Rattle.mk_world.specs.declared.step.Step.TheVariants.{Edit, Make, Put}
+use Rattle.mk_world.specs.NamedStep.{Step, Edit, Make, Put}
 
 -- A make has one job, and a content is below 2 to the 64th.
 abbrev pub HasSmallNumbers : Step → Type 0

@@ -7,7 +7,7 @@ use Rattle.mk_graph.specs.Setting.{FileName, Setting, IsNumberOf, writings}
 use Rattle.mk_graph.specs.World.{Disk, World, Idle, Busy, IsFirst, HasStampsFor}
 use Rattle.mk_graph.specs.Schedule as model
 use Rattle.mk_graph.specs.Stale.{stale_history, ShowsStale, IsLaterThanAll}
-use Rattle.mk_world.specs.declared.step.Step.{Step}
+use Rattle.mk_world.specs.NamedStep.{Step}
 use Rattle.mk_world.specs.Steps.{step_of}
 use Rattle.mk_cert.specs.Subject.{Subject, footprints}
 use Rattle.mk_cert.specs.declared.finding.Finding.{Finding}
@@ -55,6 +55,12 @@ abbrev pub Shows : Subject → Finding → List Step → Type 0
 Shows x finding steps =
     (d : Disk) → IsFirst x.graph (footprints x.setting) d →
     ShowsFrom x d finding (map (step_of x.graph) steps)
+
+-- The steps show that t may begin while o isn't done: they do from the first disk of the world.
+abbrev pub ShowsRace : Subject → (o t : ℕ) → List Step → Type 0
+ShowsRace x o t steps =
+    (d : Disk) → IsFirst x.graph (footprints x.setting) d →
+    EndsInRace x.graph (footprints x.setting) d o t (map (step_of x.graph) steps)
 
 -- The steps show that this read is stale: they do from the first disk of the world.
 abbrev pub ShowsStaleRead : Subject → ℕ → FileName → List Step → Type 0

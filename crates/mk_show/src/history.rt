@@ -9,6 +9,7 @@ ghost use Rattle.mk_graph.specs.Schedule as model;
 ghost use Rattle.mk_graph.specs.Setting.{name};
 ghost use Rattle.mk_graph.specs.SerialMake.{puts, whole_run};
 ghost use Rattle.mk_graph.specs.World.{last_stamp};
+ghost use Rattle.mk_world.specs.NamedStep.{step_view};
 ghost use Rattle.mk_world.specs.Running.{contents_of};
 ghost use Rattle.mk_world.specs.State.{disk_of, number_of, setting};
 ghost use Rattle.mk_world.specs.Steps.{IsFirstOf, step_of};
@@ -17,7 +18,6 @@ ghost use Rattle.mk_show.specs.Numbers.{HasSmallNumbers, HaveSmallNumbers};
 
 use mk_foot::{Record, Setting};
 use mk_graph::{Graph, Node};
-use mk_lines::{Name, Names};
 use mk_world::{Step, World};
 use std::alloc::{AllocError, Global};
 use std::marker::Model;
@@ -30,21 +30,22 @@ pub struct History<'a> {
     graph: &'a Graph,
     setting: &'a Setting,
     world: World<'a>,
-    steps: Vec<Step>,
+    steps: Vec<Step<'a>>,
 }
 
 impl<'a> Model for History<'a> {
-    ghost use Rattle.std.specs.Prelude.{◌≡◌};
+    ghost use Rattle.std.specs.Prelude.{◌≡◌, map};
+    ghost use Rattle.mk_world.specs.NamedStep.{step_view};
     ghost use Rattle.mk_show.specs.Histories as value;
     ghost use Rattle.mk_show.specs.Numbers.{HaveSmallNumbers};
 
     ghost Value = { value.History };
 
-    ghost view = { λ h. record { world = h.world; steps = h.steps.items } };
+    ghost view = { λ h. record { world = h.world; steps = map step_view h.steps.items } };
 
     ghost invariant = { λ h.
         (h.world.scene ≡ record { graph = h.graph.now; recorded = h.setting.now }) ×
-        HaveSmallNumbers h.steps.items };
+        HaveSmallNumbers (map step_view h.steps.items) };
 }
 
 impl<'a> History<'a> {
@@ -67,9 +68,9 @@ impl<'a> History<'a> {
     }
 
     /// The steps.
-    pub fn into_steps(self) -> Vec<Step>
-        ensures steps { result.items ≡ self.entry.steps }
-        ensures numbers { HaveSmallNumbers result.items }
+    pub fn into_steps(self) -> Vec<Step<'a>>
+        ensures steps { map step_view result.items ≡ self.entry.steps }
+        ensures numbers { HaveSmallNumbers (map step_view result.items) }
     {
         self.steps
     }
@@ -82,32 +83,26 @@ impl<'a> History<'a> {
     }
 
     /// Notes a step with small numbers.
-    fn note(&mut self, step: Step) -> Result<(), AllocError>
-        requires { HasSmallNumbers step }
+    fn note(&mut self, step: Step<'a>) -> Result<(), AllocError>
+        requires { HasSmallNumbers (step_view step) }
         ensures { OnOk result (Notes self.old self.new
-            (step_of self.old.world.scene.graph step ∷ [])) }
+            (step_of self.old.world.scene.graph (step_view step.entry) ∷ [])) }
     {
         self.steps.push(step)?;
         Ok(())
     }
 
     /// Takes a step that is allowed, with small numbers.
-    fn take(&mut self, step: Step) -> Result<(), AllocError>
-        requires numbers { HasSmallNumbers step }
-        requires legal { MayGoOn self.old (step_of self.old.world.scene.graph step ∷ []) }
+    fn take(&mut self, step: Step<'a>) -> Result<(), AllocError>
+        requires numbers { HasSmallNumbers (step_view step) }
+        requires legal { MayGoOn self.old
+            (step_of self.old.world.scene.graph (step_view step) ∷ []) }
         ensures { OnOk result (GoesOn self.old self.new
-            (step_of self.old.world.scene.graph step ∷ [])) }
+            (step_of self.old.world.scene.graph (step_view step.entry) ∷ [])) }
     {
         self.world.take_allowed(&step)?;
         self.note(step)?;
         Ok(())
-    }
-
-    /// A copy of a text as a name.
-    fn copy(&self, text: &str) -> Result<Name, AllocError>
-        ensures { IfOk result (λ copy. copy ≡ text.now) }
-    {
-        Name::new(self.alloc, text)
     }
 
     /// A node.
@@ -120,27 +115,26 @@ impl<'a> History<'a> {
         &nodes[number]
     }
 
-    /// A copy of the name of a node.
-    fn name_of(&self, number: usize) -> Result<Name, AllocError>
+    /// The name of a node.
+    fn name_of(&self, number: usize) -> &'a str
         requires { number < length self.now.world.scene.graph.nodes }
-        ensures { IfOk result (λ name. number_of self.now.world.scene.graph name ≡ number) }
+        ensures { number_of self.now.world.scene.graph result.now ≡ number }
     {
         let node = self.node(number);
-        let copy = self.copy(node.name.as_str())?;
-        Ok(copy)
+        node.name.as_str()
     }
 
     /// The names of all goals.
-    fn goals(&self) -> Result<Names, AllocError>
-        ensures { IfOk result (λ goals. map (number_of self.now.world.scene.graph) goals ≡
-            self.now.world.scene.graph.goals) }
+    fn goals(&self) -> Result<Vec<&'a str>, AllocError>
+        ensures { IfOk result (λ goals. map (number_of self.now.world.scene.graph)
+            (map (λ goal. goal.now) goals.items) ≡ self.now.world.scene.graph.goals) }
     {
         let goals = self.graph.goals();
         let mut names = Vec::with_capacity(self.alloc, goals.len())?;
         for goal in goals {
-            names.push(self.name_of(*goal)?)?;
+            names.push(self.name_of(*goal))?;
         }
-        Ok(Names::new(names))
+        Ok(names)
     }
 
     /// A make of all goals with one job starts.
@@ -162,15 +156,14 @@ impl<'a> History<'a> {
     }
 
     /// A file is edited, and holds its new stamp then.
-    pub fn edit(&mut self, file: &str) -> Result<(), AllocError>
+    pub fn edit(&mut self, file: &'a str) -> Result<(), AllocError>
         requires stamp { self.old.world.disk.clock < last_stamp }
         requires legal { MayGoOn self.old
             (model.Edit file.now (self.old.world.disk.clock + 1) ∷ []) }
         ensures { OnOk result (GoesOn self.old self.new
-            (model.Edit file.now (self.old.world.disk.clock + 1) ∷ [])) }
+            (model.Edit file.entry.now (self.old.world.disk.clock + 1) ∷ [])) }
     {
         let content = self.clock() + 1;
-        let file = self.copy(file)?;
         self.take(Step::Edit { file, content })
     }
 
@@ -180,7 +173,7 @@ impl<'a> History<'a> {
         requires legal { MayGoOn self.old (model.Pass number ∷ []) }
         ensures { OnOk result (GoesOn self.old self.new (model.Pass number ∷ [])) }
     {
-        let node = self.name_of(number)?;
+        let node = self.name_of(number);
         self.take(Step::Pass { node })
     }
 
@@ -190,7 +183,7 @@ impl<'a> History<'a> {
         requires legal { MayGoOn self.old (model.Begin number ∷ []) }
         ensures { OnOk result (GoesOn self.old self.new (model.Begin number ∷ [])) }
     {
-        let node = self.name_of(number)?;
+        let node = self.name_of(number);
         self.take(Step::Begin { node })
     }
 
@@ -199,27 +192,26 @@ impl<'a> History<'a> {
         requires { number < length self.old.world.scene.graph.nodes }
         ensures { OnOk result (Notes self.old self.new (model.Begin number ∷ [])) }
     {
-        let node = self.name_of(number)?;
+        let node = self.name_of(number);
         self.note(Step::Begin { node })
     }
 
     /// Notes the look of a recipe at a file.
-    fn note_look(&mut self, number: usize, file: &str) -> Result<(), AllocError>
+    fn note_look(&mut self, number: usize, file: &'a str) -> Result<(), AllocError>
         requires { number < length self.old.world.scene.graph.nodes }
-        ensures { OnOk result (Notes self.old self.new (model.Look number file.now ∷ [])) }
+        ensures { OnOk result (Notes self.old self.new (model.Look number file.entry.now ∷ [])) }
     {
-        let node = self.name_of(number)?;
-        let file = self.copy(file)?;
+        let node = self.name_of(number);
         self.note(Step::Look { node, file })
     }
 
     /// Notes what a recipe puts into a file.
-    fn note_put(&mut self, number: usize, file: &str, content: u64) -> Result<(), AllocError>
+    fn note_put(&mut self, number: usize, file: &'a str, content: u64) -> Result<(), AllocError>
         requires { number < length self.old.world.scene.graph.nodes }
-        ensures { OnOk result (Notes self.old self.new (model.Put number file.now content ∷ [])) }
+        ensures { OnOk result (Notes self.old self.new
+            (model.Put number file.entry.now content ∷ [])) }
     {
-        let node = self.name_of(number)?;
-        let file = self.copy(file)?;
+        let node = self.name_of(number);
         self.note(Step::Put {
             node,
             file,
@@ -232,7 +224,7 @@ impl<'a> History<'a> {
         requires { number < length self.old.world.scene.graph.nodes }
         ensures { OnOk result (Notes self.old self.new (model.End number ∷ [])) }
     {
-        let node = self.name_of(number)?;
+        let node = self.name_of(number);
         self.note(Step::End { node })
     }
 
@@ -259,10 +251,10 @@ impl<'a> History<'a> {
     }
 
     /// Notes the looks of a recipe at these files.
-    fn note_looks(&mut self, number: usize, files: &[String]) -> Result<(), AllocError>
+    fn note_looks(&mut self, number: usize, files: &'a [String]) -> Result<(), AllocError>
         requires { number < length self.old.world.scene.graph.nodes }
         ensures { OnOk result (Notes self.old self.new
-            (map (λ f. model.Look number f) (map string_bytes files.now))) }
+            (map (λ f. model.Look number f) (map string_bytes files.entry.now))) }
     {
         for file in files {
             self.note_look(number, file.as_str())?;
@@ -274,12 +266,12 @@ impl<'a> History<'a> {
     fn note_puts(
         &mut self,
         number: usize,
-        files: &[String],
+        files: &'a [String],
         contents: &[u64],
     ) -> Result<(), AllocError>
         requires { number < length self.old.world.scene.graph.nodes }
         ensures { OnOk result (Notes self.old self.new
-            (puts number (map string_bytes files.now) contents.now)) }
+            (puts number (map string_bytes files.entry.now) contents.now)) }
     {
         let mut rest = contents;
         for file in files {

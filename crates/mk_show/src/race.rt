@@ -1,13 +1,16 @@
 //! Evidence for a race.
 
-ghost use Rattle.std.specs.Prelude.{◌≡◌, ◌<◌, length, map, true, IfOk, IfSome, MatchOption};
+ghost use Rattle.std.specs.Prelude.{◌≡◌, ◌<◌, ◌≤◌, ◌+◌, ◌*◌, [], length, map, true, IfOk, IfSome, MatchOption, OnOk};
 ghost use Rattle.mk_graph.specs.Graph.{node};
+ghost use Rattle.mk_graph.specs.Serial.{serial_order};
+ghost use Rattle.mk_graph.specs.Setting.{writings};
 ghost use Rattle.mk_graph.specs.Turns.{Before};
-ghost use Rattle.mk_graph.specs.World.{Disk, IsFirst};
-ghost use Rattle.mk_world.specs.Steps.{step_of};
+ghost use Rattle.mk_graph.specs.World.{last_stamp};
+ghost use Rattle.mk_world.specs.NamedStep.{step_view};
+ghost use Rattle.mk_world.specs.Steps.{IsFirstOf};
 ghost use Rattle.mk_cert.specs.Subject.{footprints};
 ghost use Rattle.mk_show.specs.Numbers.{HaveSmallNumbers};
-ghost use Rattle.mk_show.specs.Shown.{EndsInRace, HasStamps};
+ghost use Rattle.mk_show.specs.Shown.{HasStamps, ShowsRace};
 
 use crate::bound::has_stamps;
 use crate::history::History;
@@ -19,37 +22,57 @@ use mk_graph::{NodeSet, turn_list_past};
 use mk_world::Step;
 use std::alloc::{AllocError, Global};
 
-/// A make with one job that begins the recipe of `t` while `o` isn't done; or none, where `o` is
-/// before `t`, or there are too few stamps.
-pub fn race(
+/// A make of all goals with one job starts, makes nodes one after another in which `o` isn't done,
+/// and begins the recipe of `t`.
+fn make_until_begin(
     alloc: Global,
     subject: &Subject<'_>,
+    history: &mut History<'_>,
     o: usize,
     t: usize,
-) -> Result<Option<Vec<Step>>, AllocError>
+) -> Result<(), AllocError>
     requires node { t < length subject.now.graph.nodes }
     requires recipe { (node subject.now.graph t).recipe ≡ true }
     requires not_before { ¬ (Before subject.now.graph o t) }
-    ensures shown { IfOk result (λ found. MatchOption found (¬ (HasStamps subject.now))
-        (λ steps. (d : Disk) → IsFirst subject.now.graph (footprints subject.now.setting) d →
-        EndsInRace subject.now.graph (footprints subject.now.setting) d o t
-        (map (step_of subject.now.graph) steps.items))) }
-    ensures numbers { IfOk result (λ found. IfSome found
-        (λ steps. HaveSmallNumbers steps.items)) }
+    requires first { IsFirstOf subject.now.graph subject.now.setting history.old.world }
+    requires steps { history.old.steps ≡ [] }
+    requires stamps { history.old.world.disk.clock + (2 * writings subject.now.graph
+        (footprints subject.now.setting) (serial_order subject.now.graph) + 1) ≤ last_stamp }
+    ensures { OnOk result (ShowsRace subject.now o t history.new.steps) }
 {
     first_is_a_start();
     serial_reaches_each_once();
     turn_lists_run();
     let graph = subject.graph();
-    let mut history = History::new(alloc, graph, subject.setting())?;
+    let Some(turns) = turn_list_past(alloc, graph, o, t)? else {
+        return Ok(());
+    };
+    history.start()?;
+    make_but(graph, history, &turns, &NodeSet::new())?;
+    history.begin(t)?;
+    Ok(())
+}
+
+/// A make with one job that begins the recipe of `t` while `o` isn't done; or none, where there are
+/// too few stamps.
+pub fn race<'a>(
+    alloc: Global,
+    subject: &'a Subject<'_>,
+    o: usize,
+    t: usize,
+) -> Result<Option<Vec<Step<'a>>>, AllocError>
+    requires node { t < length subject.now.graph.nodes }
+    requires recipe { (node subject.now.graph t).recipe ≡ true }
+    requires not_before { ¬ (Before subject.now.graph o t) }
+    ensures shown { IfOk result (λ found. MatchOption found (¬ (HasStamps subject.entry.now))
+        (λ steps. ShowsRace subject.entry.now o t (map step_view steps.items))) }
+    ensures numbers { IfOk result (λ found. IfSome found
+        (λ steps. HaveSmallNumbers (map step_view steps.items))) }
+{
+    let mut history = History::new(alloc, subject.graph(), subject.setting())?;
     if !has_stamps(subject, history.clock()) {
         return Ok(None);
     }
-    let Some(turns) = turn_list_past(alloc, graph, o, t)? else {
-        return Ok(None);
-    };
-    history.start()?;
-    make_but(graph, &mut history, &turns, &NodeSet::new())?;
-    history.begin(t)?;
+    make_until_begin(alloc, subject, &mut history, o, t)?;
     Ok(Some(history.into_steps()))
 }

@@ -1,7 +1,8 @@
 //! Evidence for what is found.
 
-ghost use Rattle.std.specs.Prelude.{◌≡◌, ℕ, IfOk, IfSome, MatchOption};
+ghost use Rattle.std.specs.Prelude.{◌≡◌, ℕ, map, IfOk, IfSome, MatchOption};
 ghost use Rattle.mk_graph.specs.Setting.{IsNumberOf};
+ghost use Rattle.mk_world.specs.NamedStep.{step_view};
 ghost use Rattle.mk_show.specs.Numbers.{HaveSmallNumbers};
 ghost use Rattle.mk_show.specs.Shown.{IsNotShown, IsTold, Shows};
 
@@ -35,16 +36,17 @@ fn number_of(graph: &Graph, name: &SharedName) -> Option<usize>
 ///
 /// There is none either where given files, two writings of each file that a recipe writes, and an
 /// edit would take more than 18,446,744,073,709,551,615 stamps. The error is want of memory alone.
-pub fn evidence(
+pub fn evidence<'a>(
     alloc: Global,
-    subject: &Subject<'_>,
-    finding: &Finding,
-) -> Result<Option<Vec<Step>>, AllocError>
+    subject: &'a Subject<'_>,
+    finding: &'a Finding,
+) -> Result<Option<Vec<Step<'a>>>, AllocError>
     requires { IsTold subject.now finding.now }
-    ensures shown { IfOk result (λ found. MatchOption found (IsNotShown subject.now finding.now)
-        (λ steps. Shows subject.now finding.now steps.items)) }
+    ensures shown { IfOk result (λ found. MatchOption found
+        (IsNotShown subject.entry.now finding.entry.now)
+        (λ steps. Shows subject.entry.now finding.entry.now (map step_view steps.items))) }
     ensures numbers { IfOk result (λ found. IfSome found
-        (λ steps. HaveSmallNumbers steps.items)) }
+        (λ steps. HaveSmallNumbers (map step_view steps.items))) }
 {
     listed_exactly();
     names_have_one_number();

@@ -1,11 +1,12 @@
 //! Evidence for a stale read.
 
-ghost use Rattle.std.specs.Prelude.{◌≡◌, ◌<◌, ◌≤◌, ◌+◌, ◌*◌, ◌↔◌, [], ℕ, length, IfOk, IfSome, MatchOption, OnOk};
+ghost use Rattle.std.specs.Prelude.{◌≡◌, ◌<◌, ◌≤◌, ◌+◌, ◌*◌, ◌↔◌, [], ℕ, length, map, IfOk, IfSome, MatchOption, OnOk};
 ghost use Rattle.mk_graph.specs.Membership.{Has};
 ghost use Rattle.mk_graph.specs.Serial.{serial_order};
 ghost use Rattle.mk_graph.specs.Stale.{Chain};
 ghost use Rattle.mk_graph.specs.Setting.{writings};
 ghost use Rattle.mk_graph.specs.World.{last_stamp};
+ghost use Rattle.mk_world.specs.NamedStep.{step_view};
 ghost use Rattle.mk_world.specs.Steps.{IsFirstOf};
 ghost use Rattle.mk_cert.specs.Candidates.{static_candidates};
 ghost use Rattle.mk_cert.specs.Conditions.{IsStale};
@@ -74,16 +75,16 @@ fn make_all(
 }
 
 /// An edit of the file, if it is editable.
-fn edit_if_editable(
+fn edit_if_editable<'a>(
     subject: &Subject<'_>,
-    history: &mut History<'_>,
-    file: &str,
+    history: &mut History<'a>,
+    file: &'a str,
 ) -> Result<(), AllocError>
     requires scene { history.old.world.scene ≡
         record { graph = subject.now.graph; recorded = subject.now.setting } }
     requires idle { IsIdle history.old }
     requires legal { MayEdit history.old file.now }
-    ensures { OnOk result (GoesOnEditing history.old history.new file.now) }
+    ensures { OnOk result (GoesOnEditing history.old history.new file.entry.now) }
 {
     if subject.setting().is_editable(file) {
         history.edit(file)?;
@@ -93,11 +94,11 @@ fn edit_if_editable(
 
 /// A make of all goals, an edit of the file where it is editable, and a make of all goals again in
 /// which these nodes are passed.
-fn make_edit_make(
+fn make_edit_make<'a>(
     subject: &Subject<'_>,
-    history: &mut History<'_>,
+    history: &mut History<'a>,
     t: usize,
-    file: &str,
+    file: &'a str,
     passed: &NodeSet,
 ) -> Result<(), AllocError>
     requires nothing { Lists subject.now (static_candidates subject.now) [] }
@@ -108,7 +109,7 @@ fn make_edit_make(
         (footprints subject.now.setting) (serial_order subject.now.graph) + 1) ≤ last_stamp }
     requires passed { (n : ℕ) → Has passed.now n ↔
         Chain subject.now.graph (footprints subject.now.setting) t n }
-    ensures { OnOk result (ShowsStaleRead subject.now t file.now history.new.steps) }
+    ensures { OnOk result (ShowsStaleRead subject.now t file.entry.now history.new.steps) }
 {
     first_is_a_start();
     nothing_found_is_sound();
@@ -124,19 +125,20 @@ fn make_edit_make(
 /// A make of all with one job, an edit of the file where it is editable, and the same make again
 /// in which the recipe of `t` and all that it reaches by carrying are passed; or none, where there
 /// are too few stamps.
-pub fn stale(
+pub fn stale<'a>(
     alloc: Global,
-    subject: &Subject<'_>,
+    subject: &'a Subject<'_>,
     t: usize,
-    file: &str,
-) -> Result<Option<Vec<Step>>, AllocError>
+    file: &'a str,
+) -> Result<Option<Vec<Step<'a>>>, AllocError>
     requires node { t < length subject.now.graph.nodes }
     requires nothing { Lists subject.now (static_candidates subject.now) [] }
     requires stale { IsStale subject.now t file.now }
-    ensures shown { IfOk result (λ found. MatchOption found (¬ (HasStamps subject.now))
-        (λ steps. ShowsStaleRead subject.now t file.now steps.items)) }
+    ensures shown { IfOk result (λ found. MatchOption found (¬ (HasStamps subject.entry.now))
+        (λ steps. ShowsStaleRead subject.entry.now t file.entry.now
+        (map step_view steps.items))) }
     ensures numbers { IfOk result (λ found. IfSome found
-        (λ steps. HaveSmallNumbers steps.items)) }
+        (λ steps. HaveSmallNumbers (map step_view steps.items))) }
 {
     let passed = chained(alloc, subject, t)?;
     let mut history = History::new(alloc, subject.graph(), subject.setting())?;

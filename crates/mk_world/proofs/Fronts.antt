@@ -8,7 +8,7 @@ use Rattle.mk_graph.specs.Setting.{Setting}
 use Rattle.mk_graph.specs.World.{World, Disk, Making, Idle, Busy, disk_of}
 use Rattle.mk_graph.specs.Schedule as model
 use Rattle.mk_graph.specs.Schedule.{IsLegal, after, after_all, finished}
-use Rattle.mk_world.specs.declared.step.Step as code
+use Rattle.mk_world.specs.NamedStep as code
 use Rattle.mk_world.specs.declared.fault.StepFault.{StepFault}
 use Rattle.mk_world.specs.declared.fault.StepFault.TheVariants as faults
 use Rattle.mk_world.specs.declared.plan.Order.{Order}

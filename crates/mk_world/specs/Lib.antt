@@ -7,6 +7,7 @@ pub mod Fits
 pub mod Places
 pub mod Kept
 pub mod Faults
+pub mod NamedStep
 pub mod Steps
 pub mod StepLaws
 pub mod Plans

@@ -2,7 +2,7 @@
 use Rattle.std.specs.Prelude.{◌≡◌, ℕ, List, [], ◌∷◌, ◌++◌, map, Option, None, Result, Ok, Err, ◌⊎◌, ◌↔◌}
 use Rattle.mk_graph.specs.World.{World}
 use Rattle.mk_graph.specs.Schedule.{IsLegal, after_all}
-use Rattle.mk_world.specs.declared.step.Step.{Step}
+use Rattle.mk_world.specs.NamedStep.{Step}
 use Rattle.mk_world.specs.declared.fault.StepFault.{StepFault}
 use Rattle.mk_world.specs.declared.fault.StepFault.TheVariants.{Memory}
 use Rattle.mk_world.specs.declared.plan.PlanLine.{PlanLine}

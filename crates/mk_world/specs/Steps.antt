@@ -6,8 +6,7 @@ use Rattle.mk_graph.specs.Graph.{Graph}
 use Rattle.mk_graph.specs.Setting.{Setting}
 use Rattle.mk_graph.specs.World.{World, IsFirst}
 use Rattle.mk_graph.specs.Schedule as model
-use Rattle.mk_world.specs.declared.step.Step.{Step}
-use Rattle.mk_world.specs.declared.step.Step.TheVariants.{Edit, Make, Begin, Look, Put, End, Pass, Stop, EndMake}
+use Rattle.mk_world.specs.NamedStep.{Step, Edit, Make, Begin, Look, Put, End, Pass, Stop, EndMake}
 use Rattle.mk_world.specs.declared.fault.StepFault.{StepFault}
 use Rattle.mk_world.specs.declared.fault.StepFault.TheVariants.{Memory}
 use Rattle.mk_world.specs.State.{State, Scene, setting, setting_of, disk_of, world_of, number_of}

@@ -6,17 +6,16 @@ ghost use Rattle.mk_world.specs.State.{number_of};
 
 use crate::scene::Scene;
 use mk_graph::NodeSet;
-use mk_lines::Name;
 use std::alloc::{AllocError, Global};
 
 /// The numbers of names.
-fn numbers_of(alloc: Global, scene: &Scene, names: &[Name]) -> Result<Vec<usize>, AllocError>
+fn numbers_of(alloc: Global, scene: &Scene, names: &[&str]) -> Result<Vec<usize>, AllocError>
     ensures { IfOk result (λ numbers. numbers.items ≡
-        map (number_of scene.now.graph) names.now) }
+        map (number_of scene.now.graph) (map (λ name. name.now) names.now)) }
 {
     let mut numbers = Vec::with_capacity(alloc, names.len())?;
     for name in names {
-        numbers.push(scene.number(name.as_str()))?;
+        numbers.push(scene.number(name))?;
     }
     Ok(numbers)
 }
@@ -25,11 +24,12 @@ fn numbers_of(alloc: Global, scene: &Scene, names: &[Name]) -> Result<Vec<usize>
 pub fn goals_of(
     alloc: Global,
     scene: &Scene,
-    names: &[Name],
+    names: &[&str],
 ) -> Result<Option<Vec<usize>>, AllocError>
     ensures { IfOk result (λ found. MatchOption found
-        (¬ (IsPart (map (number_of scene.now.graph) names.now) scene.now.graph.goals))
-        (λ numbers. (numbers.items ≡ map (number_of scene.now.graph) names.now) ×
+        (¬ (IsPart (map (number_of scene.now.graph) (map (λ name. name.now) names.now))
+        scene.now.graph.goals)) (λ numbers. (numbers.items ≡
+        map (number_of scene.now.graph) (map (λ name. name.now) names.now)) ×
         IsPart numbers.items scene.now.graph.goals)) }
 {
     if names.is_empty() {

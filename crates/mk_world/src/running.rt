@@ -62,15 +62,32 @@ fn content_or_stamp(world: &World, content: Option<u64>) -> u64
     }
 }
 
+/// These names, as they are lent.
+fn lent<'a>(alloc: Global, names: &'a [Name]) -> Result<Vec<&'a str>, AllocError>
+    ensures { IfOk result (λ lent. map (λ name. name.now) lent.items ≡ names.entry.now) }
+{
+    let mut lent = Vec::with_capacity(alloc, names.len())?;
+    for name in names {
+        lent.push(name.as_str())?;
+    }
+    Ok(lent)
+}
+
 /// A make of these goals starts, or of all where none is named.
-fn start(world: &mut World, jobs: usize, goals: &[Name]) -> Result<(), StepFault>
+fn start(
+    alloc: Global,
+    world: &mut World,
+    jobs: usize,
+    goals: &[Name],
+) -> Result<(), StepFault>
     ensures { Answers world.old world.new
         (model.Make jobs (goals_among world.old.scene.graph goals.now)) result }
 {
     if goals.is_empty() {
         return world.start_all(jobs);
     }
-    world.start(jobs, goals)
+    let goals = lent(alloc, goals)?;
+    world.start(jobs, &goals)
 }
 
 /// A recipe begins, and is finished.
@@ -83,12 +100,12 @@ fn run_whole(world: &mut World, node: &str) -> Result<(), StepFault>
 }
 
 /// The steps that a line stands for are taken in turn.
-fn obey(world: &mut World, order: &Order) -> Result<(), StepFault>
+fn obey(alloc: Global, world: &mut World, order: &Order) -> Result<(), StepFault>
     requires { is_known world.old.scene.graph world.old.disk.names order.now ≡ true }
     ensures { AnswersInTurn world.old world.new (steps_of world.old order.now) result }
 {
     match order {
-        Order::Make { jobs, goals } => start(world, *jobs, goals.as_slice()),
+        Order::Make { jobs, goals } => start(alloc, world, *jobs, goals.as_slice()),
         Order::Stop => world.stop(),
         Order::Begin { node } => world.begin(node.as_str()),
         Order::Look { node, file } => world.look(node.as_str(), file.as_str()),
@@ -125,14 +142,14 @@ fn prepare(world: &mut World, order: &Order) -> Result<(), AllocError>
 }
 
 /// A line is followed.
-fn follow(world: &mut World, order: &Order) -> Result<(), StepFault>
+fn follow(alloc: Global, world: &mut World, order: &Order) -> Result<(), StepFault>
     ensures { AnswersLine world.old world.new order.now result }
 {
     if !knows(world, order) {
         return Err(StepFault::PlanLine);
     }
     prepare(world, order)?;
-    obey(world, order)
+    obey(alloc, world, order)
 }
 
 /// The line of a file.
@@ -189,7 +206,7 @@ pub fn run_plan(alloc: Global, world: &mut World, plan: &Plan) -> Result<Run, Al
 {
     let mut text = String::new(alloc);
     for line in plan.as_slice() {
-        match follow(world, &line.order) {
+        match follow(alloc, world, &line.order) {
             Ok(()) => print(alloc, world, &line.order, &mut text)?,
             Err(fault) => {
                 if is_memory(&fault) {

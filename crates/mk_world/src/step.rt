@@ -1,15 +1,13 @@
 //! Steps of builds, by names.
 
-use mk_lines::{Name, Names};
-
-/// One step of a build. Nodes and files are names; one that the world hasn't is never ready or
-/// running, in no footprint and not editable.
+/// One step of a build. Nodes and files are names, which are lent; one that the world hasn't is
+/// never ready or running, in no footprint and not editable.
 #[derive(Debug, Drop)]
-pub enum Step {
+pub enum Step<'a> {
     /// A source is edited.
     Edit {
         /// The file.
-        file: Name,
+        file: &'a str,
         /// What it holds then.
         content: u64,
     },
@@ -18,38 +16,38 @@ pub enum Step {
         /// How many recipes may run at once.
         jobs: usize,
         /// The goals that it names.
-        goals: Names,
+        goals: Vec<&'a str>,
     },
     /// A recipe begins.
     Begin {
         /// Its node.
-        node: Name,
+        node: &'a str,
     },
     /// A running recipe looks at a file.
     Look {
         /// Its node.
-        node: Name,
+        node: &'a str,
         /// The file.
-        file: Name,
+        file: &'a str,
     },
     /// A running recipe puts a content into a file.
     Put {
         /// Its node.
-        node: Name,
+        node: &'a str,
         /// The file.
-        file: Name,
+        file: &'a str,
         /// What it holds then.
         content: u64,
     },
     /// A running recipe ends.
     End {
         /// Its node.
-        node: Name,
+        node: &'a str,
     },
     /// A node is passed.
     Pass {
         /// The node.
-        node: Name,
+        node: &'a str,
     },
     /// The make is given up.
     Stop,

@@ -3,6 +3,7 @@
 ghost use Rattle.std.specs.Prelude.{◌≡◌, map, true, IfOk, None};
 ghost use Rattle.mk_graph.specs.Schedule as model;
 ghost use Rattle.mk_graph.specs.SerialMake.{rest_of_run, whole_run};
+ghost use Rattle.mk_world.specs.NamedStep.{step_view};
 ghost use Rattle.mk_world.specs.State.{aged, disk_of, number_of, setting};
 ghost use Rattle.mk_world.specs.First.{AreNamesOf, AreSorted};
 ghost use Rattle.mk_world.specs.Listing.{listing};
@@ -23,7 +24,6 @@ use crate::step::Step;
 use crate::{ending, finishing, passing, recipes};
 use mk_foot::Setting;
 use mk_graph::Graph;
-use mk_lines::Name;
 use mk_ready::Readiness;
 use std::alloc::{AllocError, Global};
 use std::marker::Model;
@@ -114,17 +114,19 @@ impl<'a> World<'a> {
     /// what is known of a run that saw the same (60); a pass that the node is ready (63) and has no
     /// recipe or isn't out of date (65); a stop that nothing runs (68), and the end of a make that
     /// its goals are done too (68).
-    pub fn step(&mut self, step: Step) -> Result<(), StepFault>
-        ensures { Answers self.old self.new (step_of self.old.scene.graph step) result }
+    pub fn step(&mut self, step: Step<'_>) -> Result<(), StepFault>
+        ensures { Answers self.old self.new
+            (step_of self.old.scene.graph (step_view step.entry)) result }
     {
         self.ask(&step)
     }
 
     /// Takes a step that is allowed, and leaves it to the caller. The error is want of memory alone,
     /// and nothing changes then.
-    pub fn take_allowed(&mut self, step: &Step) -> Result<(), AllocError>
-        requires { MayTake self.old (step_of self.old.scene.graph step.now) }
-        ensures { TakesAllowed self.old self.new (step_of self.old.scene.graph step.now) result }
+    pub fn take_allowed(&mut self, step: &Step<'_>) -> Result<(), AllocError>
+        requires { MayTake self.old (step_of self.old.scene.graph (step_view step.now)) }
+        ensures { TakesAllowed self.old self.new
+            (step_of self.old.scene.graph (step_view step.now)) result }
     {
         allowed_where_all_holds();
         match self.ask(step) {
@@ -156,21 +158,22 @@ impl<'a> World<'a> {
     }
 
     /// Takes a step, if it is allowed, as `step` does.
-    fn ask(&mut self, step: &Step) -> Result<(), StepFault>
-        ensures { Answers self.old self.new (step_of self.old.scene.graph step.now) result }
+    fn ask(&mut self, step: &Step<'_>) -> Result<(), StepFault>
+        ensures { Answers self.old self.new
+            (step_of self.old.scene.graph (step_view step.now)) result }
     {
         match step {
-            Step::Edit { file, content } => self.edit(file.as_str(), *content),
+            Step::Edit { file, content } => self.edit(file, *content),
             Step::Make { jobs, goals } => self.start(*jobs, goals.as_slice()),
-            Step::Begin { node } => self.begin(node.as_str()),
-            Step::Look { node, file } => self.look(node.as_str(), file.as_str()),
+            Step::Begin { node } => self.begin(node),
+            Step::Look { node, file } => self.look(node, file),
             Step::Put {
                 node,
                 file,
                 content,
-            } => self.put(node.as_str(), file.as_str(), *content),
-            Step::End { node } => self.end(node.as_str()),
-            Step::Pass { node } => self.pass(node.as_str()),
+            } => self.put(node, file, *content),
+            Step::End { node } => self.end(node),
+            Step::Pass { node } => self.pass(node),
             Step::Stop => self.stop(),
             Step::EndMake => self.end_make(),
         }
@@ -225,9 +228,9 @@ impl<'a> World<'a> {
     }
 
     /// A make starts.
-    pub(crate) fn start(&mut self, jobs: usize, goals: &[Name]) -> Result<(), StepFault>
-        ensures { Answers self.old self.new
-            (model.Make jobs (map (number_of self.old.scene.graph) goals.now)) result }
+    pub(crate) fn start(&mut self, jobs: usize, goals: &[&str]) -> Result<(), StepFault>
+        ensures { Answers self.old self.new (model.Make jobs
+            (map (number_of self.old.scene.graph) (map (λ goal. goal.now) goals.now))) result }
     {
         if self.make.is_some() {
             return Err(StepFault::MakeRuns);

@@ -1,94 +1,25 @@
-use Rattle.std.proofs.Common.{◌+◌, ◌*◌, ◌<◌, ◌≤◌, List, ℕ, length, map, reverse, refl, sym, ap, ◌∙◌, subst}
+use Rattle.std.proofs.Common.{◌+◌, ◌*◌, ◌≤◌, List, ℕ, sym, subst}
 use Rattle.std.proofs.lemmas.Bool.{false≢true}
 use Rattle.mk_foot.specs.Setting as recorded
 use Rattle.mk_graph.specs.Graph.{Graph}
 use Rattle.mk_graph.specs.Serial.{serial_order}
 use Rattle.mk_graph.specs.Setting.{writings}
-use Rattle.mk_graph.specs.Turns.{Before}
-use Rattle.mk_graph.specs.TurnLists.{LeadsPast}
-use Rattle.mk_graph.specs.World.{Disk, IsFirst, last_stamp}
+use Rattle.mk_graph.specs.World.{last_stamp}
 use Rattle.mk_cert.specs.Subject.{footprints}
-use Rattle.mk_world.specs.State.{Scene, disk_of}
-use Rattle.mk_world.specs.declared.step.Step.{Step}
-use Rattle.mk_world.specs.Steps.{IsFirstOf, step_of}
-use Rattle.mk_show.specs.Shown.{EndsInRace}
-use Rattle.mk_show.proofs.Races.{turns_are_nodes}
-use Rattle.mk_show.proofs.RaceHistories.{some_of, none_of, may_start, may_make, may_begin, ends_in_race}
+use Rattle.mk_world.specs.State.{disk_of}
+use Rattle.mk_world.specs.NamedStep.{Step}
+use Rattle.mk_world.specs.Steps.{IsFirstOf}
+use Rattle.mk_show.specs.Shown.{ShowsRace}
 use Rattle.mk_show.proofs.race.race.Goals as goal
 
 pub returns-then-not-has_stamps-clause-shown : goal.returns-then-not-has_stamps-clause-shown
 returns-then-not-has_stamps-clause-shown c = λ enough.
     let x = c.args.subject.now in
     let h = c.in_ok-history.history in
-    let first = subst (λ (k : Graph). IsFirstOf k x.setting h.world) c.graph-graph.ensures.value (subst (λ (s : recorded.Setting). IsFirstOf c.graph-graph.result.now s h.world) c.setting.ensures c.in_ok-history.ensures.first) in
+    let first = subst (λ (k : Graph). IsFirstOf k x.setting h.world) c.graph.ensures.value (subst (λ (s : recorded.Setting). IsFirstOf c.graph.result.now s h.world) c.setting.ensures c.in_ok-history.ensures.first) in
     let room = subst (λ (n : ℕ). n + (2 * writings x.graph (footprints x.setting) (serial_order x.graph) + 1) ≤ last_stamp) (sym c.clock.ensures) (enough (disk_of h.world.disk) first.first) in
     false≢true (c.if-not-has_stamps.ensures.1 room)
 
-pub returns-in_default-clause-shown : goal.returns-in_default-clause-shown
-returns-in_default-clause-shown c = λ enough. c.requires.not_before (subst (λ (k : Graph). Before k c.args.o c.args.t) c.graph-graph.ensures.value (none_of _ _ c.in_default.is c.in_ok-turns.ensures))
-
-pub start-requires : goal.start-requires
-start-requires c =
-    let x = c.args.subject.now in
-    let h = c.in_ok-history.history in
-    let first = subst (λ (k : Graph). IsFirstOf k x.setting h.world) c.graph-graph.ensures.value (subst (λ (s : recorded.Setting). IsFirstOf c.graph-graph.result.now s h.world) c.setting.ensures c.in_ok-history.ensures.first) in
-    let room = subst (λ (n : ℕ). n + (2 * writings x.graph (footprints x.setting) (serial_order x.graph) + 1) ≤ last_stamp) c.clock.ensures (c.if-not-has_stamps.ensures.0 refl) in
-    let past = subst (λ (k : Graph). LeadsPast k c.args.o c.args.t (reverse c.in-Some.turns.items)) c.graph-graph.ensures.value (some_of _ _ c.in-Some.is c.in_ok-turns.ensures) in
-    may_start x.graph x.setting h first c.in_ok-history.ensures.steps c.args.o c.args.t c.in-Some.turns.items c.graph-graph.ensures.graph c.turn_lists_run.ensures c.serial_reaches_each_once.ensures c.first_is_a_start.ensures past c.requires.recipe room
-
-pub make_but-requires-clause-graph : goal.make_but-requires-clause-graph
-make_but-requires-clause-graph c =
-    let x = c.args.subject.now in
-    let h = c.in_ok-history.history in
-    let first = subst (λ (k : Graph). IsFirstOf k x.setting h.world) c.graph-graph.ensures.value (subst (λ (s : recorded.Setting). IsFirstOf c.graph-graph.result.now s h.world) c.setting.ensures c.in_ok-history.ensures.first) in
-    c.graph-graph.ensures.value ∙ sym (ap (λ (k : Scene). k.graph) (c.in_ok-start.ensures.scene ∙ first.scene))
-
-pub make_but-requires-clause-nodes : goal.make_but-requires-clause-nodes
-make_but-requires-clause-nodes c = λ n has.
-    let x = c.args.subject.now in
-    let turns = c.deref.result.now in
-    let found = subst (λ (k : Graph). LeadsPast k c.args.o c.args.t (reverse c.in-Some.turns.items)) c.graph-graph.ensures.value (some_of _ _ c.in-Some.is c.in_ok-turns.ensures) in
-    let past = subst (λ (l : List ℕ). LeadsPast x.graph c.args.o c.args.t (reverse l)) (sym c.deref.ensures.value) found in
-    subst (λ (k : Graph). n < length k.nodes) (sym c.graph-graph.ensures.value) (turns_are_nodes x.graph c.args.o c.args.t turns c.graph-graph.ensures.graph past n has)
-
-pub make_but-requires-clause-legal : goal.make_but-requires-clause-legal
-make_but-requires-clause-legal c =
-    let x = c.args.subject.now in
-    let h = c.in_ok-history.history in
-    let first = subst (λ (k : Graph). IsFirstOf k x.setting h.world) c.graph-graph.ensures.value (subst (λ (s : recorded.Setting). IsFirstOf c.graph-graph.result.now s h.world) c.setting.ensures c.in_ok-history.ensures.first) in
-    let room = subst (λ (n : ℕ). n + (2 * writings x.graph (footprints x.setting) (serial_order x.graph) + 1) ≤ last_stamp) c.clock.ensures (c.if-not-has_stamps.ensures.0 refl) in
-    let turns = c.deref.result.now in
-    let found = subst (λ (k : Graph). LeadsPast k c.args.o c.args.t (reverse c.in-Some.turns.items)) c.graph-graph.ensures.value (some_of _ _ c.in-Some.is c.in_ok-turns.ensures) in
-    let past = subst (λ (l : List ℕ). LeadsPast x.graph c.args.o c.args.t (reverse l)) (sym c.deref.ensures.value) found in
-    may_make x.graph x.setting h first c.in_ok-history.ensures.steps c.args.o c.args.t turns c.graph-graph.ensures.graph c.turn_lists_run.ensures c.serial_reaches_each_once.ensures c.first_is_a_start.ensures past c.requires.recipe room c.start.new.self c.in_ok-start.ensures c.new-2.result c.new-2.ensures
-
-pub begin-requires-clause-node : goal.begin-requires-clause-node
-begin-requires-clause-node c =
-    let x = c.args.subject.now in
-    let h = c.in_ok-history.history in
-    let first = subst (λ (k : Graph). IsFirstOf k x.setting h.world) c.graph-graph.ensures.value (subst (λ (s : recorded.Setting). IsFirstOf c.graph-graph.result.now s h.world) c.setting.ensures c.in_ok-history.ensures.first) in
-    let scene = c.in_ok-make_but.ensures.goes_on.scene ∙ (c.in_ok-start.ensures.scene ∙ first.scene) in
-    subst (λ (k : Scene). c.args.t < length k.graph.nodes) (sym scene) c.requires.node
-
-pub begin-requires-clause-legal : goal.begin-requires-clause-legal
-begin-requires-clause-legal c =
-    let x = c.args.subject.now in
-    let h = c.in_ok-history.history in
-    let first = subst (λ (k : Graph). IsFirstOf k x.setting h.world) c.graph-graph.ensures.value (subst (λ (s : recorded.Setting). IsFirstOf c.graph-graph.result.now s h.world) c.setting.ensures c.in_ok-history.ensures.first) in
-    let room = subst (λ (n : ℕ). n + (2 * writings x.graph (footprints x.setting) (serial_order x.graph) + 1) ≤ last_stamp) c.clock.ensures (c.if-not-has_stamps.ensures.0 refl) in
-    let turns = c.deref.result.now in
-    let found = subst (λ (k : Graph). LeadsPast k c.args.o c.args.t (reverse c.in-Some.turns.items)) c.graph-graph.ensures.value (some_of _ _ c.in-Some.is c.in_ok-turns.ensures) in
-    let past = subst (λ (l : List ℕ). LeadsPast x.graph c.args.o c.args.t (reverse l)) (sym c.deref.ensures.value) found in
-    may_begin x.graph x.setting h first c.in_ok-history.ensures.steps c.args.o c.args.t turns c.graph-graph.ensures.graph c.turn_lists_run.ensures c.serial_reaches_each_once.ensures c.first_is_a_start.ensures past c.requires.recipe room c.start.new.self c.in_ok-start.ensures c.new-2.result c.new-2.ensures c.make_but.new.history c.in_ok-make_but.ensures
-
 pub returns-clause-shown : goal.returns-clause-shown
 returns-clause-shown c =
-    let x = c.args.subject.now in
-    let h = c.in_ok-history.history in
-    let first = subst (λ (k : Graph). IsFirstOf k x.setting h.world) c.graph-graph.ensures.value (subst (λ (s : recorded.Setting). IsFirstOf c.graph-graph.result.now s h.world) c.setting.ensures c.in_ok-history.ensures.first) in
-    let room = subst (λ (n : ℕ). n + (2 * writings x.graph (footprints x.setting) (serial_order x.graph) + 1) ≤ last_stamp) c.clock.ensures (c.if-not-has_stamps.ensures.0 refl) in
-    let turns = c.deref.result.now in
-    let found = subst (λ (k : Graph). LeadsPast k c.args.o c.args.t (reverse c.in-Some.turns.items)) c.graph-graph.ensures.value (some_of _ _ c.in-Some.is c.in_ok-turns.ensures) in
-    let past = subst (λ (l : List ℕ). LeadsPast x.graph c.args.o c.args.t (reverse l)) (sym c.deref.ensures.value) found in
-    let shown = ends_in_race x.graph x.setting h first c.in_ok-history.ensures.steps c.args.o c.args.t turns c.graph-graph.ensures.graph c.turn_lists_run.ensures c.serial_reaches_each_once.ensures c.first_is_a_start.ensures past c.requires.recipe room c.start.new.self c.in_ok-start.ensures c.new-2.result c.new-2.ensures c.make_but.new.history c.in_ok-make_but.ensures c.begin.new.self c.in_ok-begin.ensures in
-    subst (λ (l : List Step). (d : Disk) → IsFirst x.graph (footprints x.setting) d → EndsInRace x.graph (footprints x.setting) d c.args.o c.args.t (map (step_of x.graph) l)) (sym c.into_steps.ensures.steps) shown
+    subst (λ (steps : List Step). ShowsRace c.args.subject.now c.args.o c.args.t steps) (sym c.into_steps.ensures.steps) c.in_ok-make_until_begin.ensures

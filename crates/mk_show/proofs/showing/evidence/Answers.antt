@@ -1,11 +1,12 @@
 -- What is told of a race and of a stale read is what is asked to show them.
-use Rattle.std.proofs.Common.{◌≡◌, ℕ, List, true, sym, subst}
+use Rattle.std.proofs.Common.{◌≡◌, ℕ, List, map, true, sym, subst}
 use Rattle.std.specs.Prelude.{IfOk, MatchOption}
 use Rattle.mk_graph.specs.Graph.{Graph, node}
 use Rattle.mk_graph.specs.Setting.{IsNumberOf}
 use Rattle.mk_graph.specs.Turns.{Before}
 use Rattle.mk_cert.specs.Conditions.{IsStale}
 use Rattle.mk_cert.specs.declared.finding.Finding.{Finding}
+use Rattle.mk_world.specs.NamedStep.{step_view}
 use Rattle.mk_show.specs.Shown.{HasStamps, IsTold, ShowsStaleRead}
 use Rattle.mk_show.proofs.Told.{race_answers, race_numbers, reader_has_recipe, stale_answers, stale_number, told_race, told_stale}
 use Rattle.mk_show.proofs.showing.evidence.Goals as goal
@@ -77,4 +78,4 @@ returns-in-Some-number_of-2-clause-shown c =
     let x = c.args.subject.now in
     let t = subst (λ (g : Graph). IsNumberOf g c.in-Stale.recipe c.in-Some-number_of-2.t) c.graph-graph.ensures.value c.in-Some-number_of-2.ensures in
     stale_answers x c.args.finding.now c.in-Stale.recipe c.in-Stale.file c.in-Some-number_of-2.t c.in-Stale.is t c.stale.result
-    (subst (λ (f : List ℕ). IfOk c.stale.result (λ shown. MatchOption shown (¬ (HasStamps x)) (λ steps. ShowsStaleRead x c.in-Some-number_of-2.t f steps.items))) c.as_str.ensures c.stale.ensures.shown)
+    (subst (λ (f : List ℕ). IfOk c.stale.result (λ shown. MatchOption shown (¬ (HasStamps x)) (λ steps. ShowsStaleRead x c.in-Some-number_of-2.t f (map step_view steps.items)))) c.as_str.ensures c.stale.ensures.shown)

@@ -8,7 +8,7 @@ use Rattle.mk_graph.specs.World.{last_stamp}
 use Rattle.mk_cert.specs.Subject.{footprints}
 use Rattle.mk_world.specs.State.{disk_of}
 use Rattle.mk_world.specs.Steps.{IsFirstOf}
-use Rattle.mk_world.specs.declared.step.Step.{Step}
+use Rattle.mk_world.specs.NamedStep.{Step}
 use Rattle.mk_show.specs.Shown.{ShowsStaleRead}
 use Rattle.mk_show.proofs.stale.stale.Goals as goal
 

@@ -1,8 +1,8 @@
-use Rattle.std.proofs.Common.{ℕ, List, length, refl, sym, ap, ◌∙◌, subst, inl, ⊎_elim}
+use Rattle.std.proofs.Common.{◌≡◌, ℕ, List, [], ◌∷◌, length, map, refl, sym, ap, ◌∙◌, subst, inl, ⊎_elim}
 use Rattle.std.proofs.lemmas.Bool.{false≢true, eq-eqb}
-use Rattle.std.proofs.lemmas.List.{length-map}
 use Rattle.mk_graph.specs.Membership.{Has}
 use Rattle.mk_graph.specs.Turns.{HasAll}
+use Rattle.mk_graph.specs.Setting.{FileName}
 use Rattle.mk_world.specs.State.{number_of}
 use Rattle.mk_world.proofs.Makes.{has_all_within}
 use Rattle.mk_world.proofs.names.goals_of.Goals as goal
@@ -14,13 +14,18 @@ returns-then-not-has_all c = λ part.
     let within : (n : ℕ) → Has c.args.scene.now.graph.goals n → Has c.insert_all.new.self n = λ n h. (c.insert_all.ensures n).1 (inl (subst (λ (l : List ℕ). Has l n) (sym goals) h)) in
     false≢true (c.if-not-has_all.ensures.1 (subst (HasAll c.insert_all.new.self) (sym numbers) (has_all_within c.args.scene.now.graph.goals c.insert_all.new.self _ within part.within)))
 
+-- where there are no numbers there are no names
+no_names : {A : Type 0} (names : List A) (seen : A → FileName) (number : FileName → ℕ) → map number (map seen names) ≡ [] → length names ≡ 0
+no_names [] seen number none = refl
+no_names (x ∷ xs) seen number none = cc
+
 pub returns : goal.returns
 returns c =
     let goals = c.goals.ensures.value ∙ ap (λ g. g.goals) c.graph.ensures in
     let within : (n : ℕ) → Has c.insert_all.new.self n → Has c.args.scene.now.graph.goals n = λ n h. ⊎_elim (λ k. subst (λ (l : List ℕ). Has l n) goals k) (λ none. absurd (c.new-goals.ensures n none)) ((c.insert_all.ensures n).0 h) in (
       c.in_ok-numbers.ensures,
       record {
-        not_empty = λ none. false≢true (c.if-is_empty.ensures ∙ eq-eqb (length c.args.names.now) 0 (sym (length-map c.args.names.now (number_of c.args.scene.now.graph)) ∙ ap length (sym c.in_ok-numbers.ensures ∙ none)));
+        not_empty = λ none. false≢true (c.if-is_empty.ensures ∙ eq-eqb (length c.args.names.now) 0 (no_names c.args.names.now (λ name. name.now) (number_of c.args.scene.now.graph) (sym c.in_ok-numbers.ensures ∙ none)));
         within = has_all_within c.insert_all.new.self c.args.scene.now.graph.goals _ within (subst (HasAll c.insert_all.new.self) c.deref.ensures.value (c.if-not-has_all.ensures.0 refl));
       },
     )

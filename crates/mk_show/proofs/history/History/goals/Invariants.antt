@@ -4,4 +4,4 @@ use Rattle.mk_show.proofs.history.History.goals.Given as goal
 
 -- the names so far are those of the goals so far
 abbrev pub invariant-loop-goal : goal.invariant-loop-goal
-invariant-loop-goal l = map (number_of l.self.world.scene.graph) l.names.items ≡ take l.goal-index l.goals
+invariant-loop-goal l = map (number_of l.self.world.scene.graph) (map (λ name. name.now) l.names.items) ≡ take l.goal-index l.goals

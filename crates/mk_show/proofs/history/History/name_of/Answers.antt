@@ -8,5 +8,5 @@ use Rattle.mk_show.proofs.history.History.name_of.Goals as goal
 pub returns : goal.returns
 returns c =
     let g = c.args.self.now.world.scene.graph in
-    let at : c.in_ok-copy.copy ≡ name g c.args.number = c.in_ok-copy.ensures ∙ (c.as_str.ensures ∙ ap (λ (n : Node). n.name) c.node-node.ensures.value) in
+    let at : c.as_str.result.now ≡ name g c.args.number = c.as_str.ensures ∙ ap (λ (n : Node). n.name) c.node-node.ensures.value in
     ap (number_of g) at ∙ number_is g c.args.number c.node-node.ensures.graph.sound c.requires

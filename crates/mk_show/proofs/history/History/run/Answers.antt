@@ -1,8 +1,9 @@
-use Rattle.std.proofs.Common.{◌≡◌, ℕ, List, true, refl, ap, sym, ◌∙◌, subst}
+use Rattle.std.proofs.Common.{◌≡◌, ℕ, List, map, true, refl, ap, sym, ◌∙◌, subst}
 use Rattle.mk_graph.specs.declared.node.Node.{Node}
 use Rattle.mk_graph.specs.Schedule.{Step, after_all}
 use Rattle.mk_graph.specs.SerialMake.{whole_run}
 use Rattle.mk_graph.specs.Setting.{name}
+use Rattle.mk_world.specs.NamedStep.{step_view}
 use Rattle.mk_world.specs.Running.{is_node, contents_of}
 use Rattle.mk_world.specs.State.{Scene, disk_of, number_of, setting, world_of}
 use Rattle.mk_show.specs.Histories.{History, MayGoOn, Notes, puts_in}
@@ -14,7 +15,7 @@ use Rattle.mk_show.proofs.history.History.run.Goals as goal
 pub run_allowed-requires-clause-node : goal.run_allowed-requires-clause-node
 run_allowed-requires-clause-node c =
     let world = c.self.inside.world in
-    let h : History = record { world = world; steps = c.self.inside.steps.items } in
+    let h : History = record { world = world; steps = map step_view c.self.inside.steps.items } in
     let g = world.scene.graph in
     let s = setting world.scene in
     let t = c.args.number in
@@ -26,7 +27,7 @@ run_allowed-requires-clause-node c =
 pub run_allowed-requires-clause-allowed : goal.run_allowed-requires-clause-allowed
 run_allowed-requires-clause-allowed c =
     let world = c.self.inside.world in
-    let h : History = record { world = world; steps = c.self.inside.steps.items } in
+    let h : History = record { world = world; steps = map step_view c.self.inside.steps.items } in
     let g = world.scene.graph in
     let s = setting world.scene in
     let t = c.args.number in
@@ -43,7 +44,7 @@ run_allowed-requires-clause-allowed c =
 pub returns : goal.returns
 returns c =
     let world = c.self.inside.world in
-    let h : History = record { world = world; steps = c.self.inside.steps.items } in
+    let h : History = record { world = world; steps = map step_view c.self.inside.steps.items } in
     let g = world.scene.graph in
     let s = setting world.scene in
     let t = c.args.number in
@@ -55,7 +56,7 @@ returns c =
     let contents = subst (λ (k : History). c.in_ok-contents.contents.items ≡ contents_of k.world.scene.graph (setting k.world.scene) (disk_of k.world.disk) t) (sym c.self.view_is) c.in_ok-contents.ensures in
     let legal = subst (λ (k : History). MayGoOn k (whole_run k.world.scene.graph (setting k.world.scene) t (puts_in k t))) (sym c.self.view_is) c.requires.legal in
     let run = run_is h t c.deref.result.now (c.deref.ensures.value ∙ contents) legal (number_of g c.as_str.result.now) number in
-    let mid : History = record { world = c.run_allowed.new.self; steps = c.self.inside.steps.items } in
+    let mid : History = record { world = c.run_allowed.new.self; steps = map step_view c.self.inside.steps.items } in
     let new = c.note_run.new.self in
     let steps = whole_run g s t (puts_in h t) in
     let leaves = subst (λ (l : List Step). world_of c.run_allowed.new.self ≡ after_all g s (world_of world) l) run c.in_ok-run_allowed.ensures.leaves in

@@ -43,6 +43,6 @@ returns c =
     rw (← c.self.view_is) (record {
       scene = refl;
       names = refl;
-      judged = subst (λ (m : MakeState). Takes scene.graph (setting scene) (world_in scene disk make) (busy scene m disk) (model.Make c.args.jobs (map (number_of scene.graph) c.args.goals.now))) (sym c.in_ok-new.ensures) takes;
+      judged = subst (λ (m : MakeState). Takes scene.graph (setting scene) (world_in scene disk make) (busy scene m disk) (model.Make c.args.jobs (map (number_of scene.graph) (map (λ goal. goal.now) c.args.goals.now)))) (sym c.in_ok-new.ensures) takes;
       unchanged = tt;
     })
