@@ -1,8 +1,11 @@
 //! The answer to a request for the run of a plan.
 
 ghost use Rattle.std.specs.Prelude.{◌≡◌, ◌<◌, ◌-◌, ◌^◌, true, IfErr, IfOk, IfSome};
+ghost use Rattle.mk_foot.specs.Setting.{Setting as SettingValue};
+ghost use Rattle.mk_graph.specs.Graph.{Graph as GraphValue};
 ghost use Rattle.mk_world.specs.Running.{stage_of};
 ghost use Rattle.mk_world.specs.State.{world_of};
+ghost use Rattle.mk_world.specs.Steps.{IsFirstOf};
 ghost use Rattle.mk_core.specs.NotRead.{simulation_not_read};
 ghost use Rattle.mk_core.specs.Answer.{Answers, Counts};
 ghost use Rattle.mk_core.specs.Simulation.{ShowsRun, last_lines};
@@ -61,6 +64,19 @@ fn last_lines(
     Ok(text)
 }
 
+/// What is shown of the run of a plan in a world, which is to be a first one.
+fn shown_in(alloc: Global, world: &mut World<'_>, plan: &Plan) -> Result<Simulation, AllocError>
+    ensures { IfOk result (λ shown. (g : GraphValue) (s : SettingValue) →
+        IsFirstOf g s world.old → ShowsRun g s plan.now shown) }
+{
+    let run = run_plan(alloc, world, plan)?;
+    let last = last_lines(alloc, world, &run.refused)?;
+    let refused = run.refused.is_some();
+    let mut text = run.text.into_bytes();
+    text.extend_from_slice(&last)?;
+    Ok(Simulation { text, refused })
+}
+
 /// What is shown of the run of a plan.
 fn shown(
     alloc: Global,
@@ -71,12 +87,7 @@ fn shown(
     ensures { IfOk result (λ shown. ShowsRun graph.now setting.now plan.now shown) }
 {
     let mut world = World::new(alloc, graph, setting)?;
-    let run = run_plan(alloc, &mut world, plan)?;
-    let last = last_lines(alloc, &world, &run.refused)?;
-    let refused = run.refused.is_some();
-    let mut text = run.text.into_bytes();
-    text.extend_from_slice(&last)?;
-    Ok(Simulation { text, refused })
+    shown_in(alloc, &mut world, plan)
 }
 
 /// The answer over a graph and what is recorded: the plan is read, and run.

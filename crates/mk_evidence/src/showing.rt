@@ -36,11 +36,7 @@ fn numbered(found: &[Finding], number: u64) -> Option<&Finding>
 }
 
 /// The plan of steps.
-fn text_of(
-    alloc: Global,
-    subject: &Subject<'_>,
-    steps: &[Step<'_>],
-) -> Result<Vec<u8>, AllocError>
+fn text_of(alloc: Global, subject: &Subject<'_>, steps: &[Step<'_>]) -> Result<Vec<u8>, AllocError>
     ensures { IfOk result (λ text. text.items ≡
         plan_text subject.now.graph (map step_view steps.now)) }
 {

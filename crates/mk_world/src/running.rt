@@ -74,12 +74,7 @@ fn lent<'a>(alloc: Global, names: &'a [Name]) -> Result<Vec<&'a str>, AllocError
 }
 
 /// A make of these goals starts, or of all where none is named.
-fn start(
-    alloc: Global,
-    world: &mut World,
-    jobs: usize,
-    goals: &[Name],
-) -> Result<(), StepFault>
+fn start(alloc: Global, world: &mut World, jobs: usize, goals: &[Name]) -> Result<(), StepFault>
     ensures { Answers world.old world.new
         (model.Make jobs (goals_among world.old.scene.graph goals.now)) result }
 {
