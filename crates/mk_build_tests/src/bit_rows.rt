@@ -1,7 +1,12 @@
 //! Rows of bits by number, beside a plain form and beside the greedy order.
 
-use crate::graph_fixtures::{built, chain, graph_of, is_sound, node, told};
-use mk_graph::{BitRows, Graph, Greedy, Groups, Node, Without, meet, unite};
+ghost use Rattle.std.specs.Prelude.{◌<◌};
+
+use crate::graph_fixtures::{
+    built, graph_of, greatest_chain, is_sound, same_number, see_along, see_before, see_that, told,
+};
+use mk_graph::{BitRows, Graph, GraphFault, Greedy, Groups, Node, Without, meet, unite};
+use mk_lines::Name;
 use std::alloc::{AllocError, Global};
 use std::process::Abort;
 use std::test::Fail;
@@ -37,98 +42,115 @@ fn met(alloc: Global, words: &[u64], others: &[u64]) -> Result<Vec<u64>, AllocEr
         .collect(alloc)
 }
 
+/// Sees that the code's union is the plain one.
+fn see_union(rt: &impl Abort, words: &mut [u64], others: &[u64], plain: &[u64]) {
+    assert_eq!(rt; words.len(), others.len());
+    unite(words, others);
+    see_that(rt, *words == *plain, "united words");
+}
+
 #[test]
 fn unions_of_each_length(rt: HostRuntime) -> Result<(), Fail> {
-    let alloc = rt.alloc();
     for count in 0usize..21 {
-        let mut words = some_words(alloc, count, 1)?;
-        let others = some_words(alloc, count, 2)?;
-        let plain = united(alloc, &words, &others)?;
-        assert_eq!(rt; words.len(), others.len());
-        unite(&mut words, &others);
-        assert_eq!(rt; words.as_slice(), plain.as_slice(), "{count} words");
+        let mut words = some_words(rt.alloc(), count, 1)?;
+        let others = some_words(rt.alloc(), count, 2)?;
+        let plain = united(rt.alloc(), &words, &others)?;
+        see_union(&rt, &mut words, &others, &plain);
     }
     Ok(())
+}
+
+/// Sees that the code's intersection is the plain one.
+fn see_intersection(rt: &impl Abort, words: &mut [u64], others: &[u64], plain: &[u64]) {
+    assert_eq!(rt; words.len(), others.len());
+    meet(words, others);
+    see_that(rt, *words == *plain, "words that are met");
 }
 
 #[test]
 fn intersections_of_each_length(rt: HostRuntime) -> Result<(), Fail> {
-    let alloc = rt.alloc();
     for count in 0usize..21 {
-        let mut words = some_words(alloc, count, 3)?;
-        let others = some_words(alloc, count, 4)?;
-        let plain = met(alloc, &words, &others)?;
-        assert_eq!(rt; words.len(), others.len());
-        meet(&mut words, &others);
-        assert_eq!(rt; words.as_slice(), plain.as_slice(), "{count} words");
+        let mut words = some_words(rt.alloc(), count, 3)?;
+        let others = some_words(rt.alloc(), count, 4)?;
+        let plain = met(rt.alloc(), &words, &others)?;
+        see_intersection(&rt, &mut words, &others, &plain);
     }
     Ok(())
 }
 
-/// Rows, the greedy order and what is done without a node agree on each two nodes; the first two on
-/// numbers past the last node, too.
-fn compare(rt: &impl Abort, alloc: Global, graph: &Graph) -> Result<(), AllocError> {
-    let greedy = Greedy::new(graph);
-    let rows = BitRows::new(alloc, graph)?;
+/// Rows, the greedy order and what is done without a node agree on whether the node is before each
+/// other one.
+fn compare_with(
+    rt: &impl Abort,
+    rows: &BitRows<'_>,
+    greedy: &Greedy<'_>,
+    without: &Without<'_>,
+    o: usize,
+    count: usize,
+) {
+    for t in 0..count {
+        see_before(rt, told(rows, o, t), told(greedy, o, t), (o, t));
+        see_before(rt, told(rows, o, t), without.is_before(t), (o, t));
+    }
+}
+
+/// The same of each node.
+fn compare_each(rt: &impl Abort, graph: &Graph, rows: &BitRows<'_>, greedy: &Greedy<'_>) {
     let count = graph.nodes().len();
     for o in 0..count {
         let without = Without::new(graph, o);
-        assert_eq!(rt; without.other(), o);
-        for t in 0..count {
-            assert_eq!(rt; told(&rows, o, t), told(&greedy, o, t), "{o} before {t}");
-            assert_eq!(rt; told(&rows, o, t), without.is_before(t), "{o} before {t}");
-        }
+        same_number(rt, without.other(), o, "the node without");
+        compare_with(rt, rows, greedy, &without, o, count);
     }
-    assert_eq!(rt;
-        told(&rows, count, 0),
-        told(&greedy, count, 0),
-        "no node before 0"
-    );
-    assert!(rt; told(&rows, 0, count), "0 before no node");
-    assert_eq!(rt;
-        told(&rows, 5000, 0),
-        told(&greedy, 5000, 0),
-        "no node before 0"
-    );
-    Ok(())
 }
+
+/// Rows and the greedy order agree on numbers past the last node.
+fn compare_past(rt: &impl Abort, rows: &BitRows<'_>, greedy: &Greedy<'_>, count: usize) {
+    see_before(rt, told(rows, count, 0), told(greedy, count, 0), (count, 0));
+    see_before(rt, told(rows, 0, count), true, (0, count));
+    see_before(rt, told(rows, 5000, 0), told(greedy, 5000, 0), (5000, 0));
+}
+
+/// Rows, the greedy order and what is done without a node agree on each two nodes; the first two on
+/// numbers past the last node, too.
+fn compare(rt: &impl Abort, graph: &Graph, rows: &BitRows<'_>) {
+    let greedy = Greedy::new(graph);
+    compare_each(rt, graph, rows, &greedy);
+    compare_past(rt, rows, &greedy, graph.nodes().len());
+}
+
+/// Nodes, two of their numbers, and whether each of these is before the other one: waits side by
+/// side, one alone, and one between waits; one node.
+const ORDERS: &[(&str, (usize, usize), (bool, bool))] = &[
+    ("all:12 p:3|4 q:4|3 e! n!", (3, 4), (false, false)),
+    ("all:1 p:2|3 e! n!", (2, 3), (true, false)),
+    ("all:1|2 p:3|4 q:4|3 e! n!", (3, 4), (true, false)),
+    ("a!", (0, 0), (false, false)),
+];
 
 /// Sees whether each of two numbers is before the other one, and compares the orders.
 fn see_order(
     rt: &impl Abort,
     alloc: Global,
-    rows: &str,
+    graph: &Graph,
     numbers: (usize, usize),
     want: (bool, bool),
-) -> Result<(), Fail> {
-    let graph = graph_of(rt, alloc, rows)?;
-    let order = BitRows::new(alloc, &graph)?;
+) -> Result<(), AllocError> {
+    let order = BitRows::new(alloc, graph)?;
     let (a, b) = numbers;
-    assert_eq!(rt; (told(&order, a, b), told(&order, b, a)), want, "in {rows}");
-    compare(rt, alloc, &graph)?;
+    see_before(rt, told(&order, a, b), want.0, (a, b));
+    see_before(rt, told(&order, b, a), want.1, (b, a));
+    compare(rt, graph, &order);
     Ok(())
 }
 
 #[test]
-fn waits_side_by_side(rt: HostRuntime) -> Result<(), Fail> {
-    let rows = "all:12 p:3|4 q:4|3 e! n!";
-    see_order(&rt, rt.alloc(), rows, (3, 4), (false, false))
-}
-
-#[test]
-fn one_wait_alone(rt: HostRuntime) -> Result<(), Fail> {
-    see_order(&rt, rt.alloc(), "all:1 p:2|3 e! n!", (2, 3), (true, false))
-}
-
-#[test]
-fn a_wait_between_waits(rt: HostRuntime) -> Result<(), Fail> {
-    let rows = "all:1|2 p:3|4 q:4|3 e! n!";
-    see_order(&rt, rt.alloc(), rows, (3, 4), (true, false))
-}
-
-#[test]
-fn one_node(rt: HostRuntime) -> Result<(), Fail> {
-    see_order(&rt, rt.alloc(), "a!", (0, 0), (false, false))
+fn orders_of_two(rt: HostRuntime) -> Result<(), Fail> {
+    for &(rows, numbers, want) in ORDERS {
+        let graph = graph_of(&rt, rt.alloc(), rows)?;
+        see_order(&rt, rt.alloc(), &graph, numbers, want)?;
+    }
+    Ok(())
 }
 
 #[test]
@@ -136,25 +158,16 @@ fn no_nodes(rt: HostRuntime) -> Result<(), Fail> {
     let alloc = rt.alloc();
     let none = built(&rt, alloc, Vec::new(alloc), &[])?;
     let order = BitRows::new(alloc, &none)?;
-    assert!(rt; told(&order, 0, 0), "no node before no node");
+    see_before(&rt, told(&order, 0, 0), true, (0, 0));
     Ok(())
-}
-
-/// Sees what an order of the greatest chain tells, in two rounds.
-fn see_chain(rt: &impl Abort, order: &BitRows<'_>) {
-    for (o, t) in [(4095, 0), (2000, 1000), (64, 63), (0, 4096)] {
-        assert!(rt; told(order, o, t), "{o} before {t}");
-        assert!(rt; !told(order, t, o), "{t} before {o}");
-    }
-    assert!(rt; order.rounds() <= 2, "{} rounds", order.rounds());
 }
 
 #[test]
 fn along_the_greatest_chain(rt: HostRuntime) -> Result<(), Fail> {
-    let alloc = rt.alloc();
-    let graph = built(&rt, alloc, chain(alloc, 4096)?, &[0])?;
-    let order = BitRows::new(alloc, &graph)?;
-    see_chain(&rt, &order);
+    let graph = greatest_chain(&rt, rt.alloc())?;
+    let order = BitRows::new(rt.alloc(), &graph)?;
+    see_along(&rt, &order);
+    see_that(&rt, order.rounds() <= 2, "two rounds");
     Ok(())
 }
 
@@ -176,40 +189,81 @@ fn some_of(
     Ok(group)
 }
 
+/// Three groups of later nodes, of ten, as codes tell.
+fn groups_at(alloc: Global, codes: &[u64], number: usize) -> Result<Vec<Vec<usize>>, AllocError>
+    requires { number < 10 }
+{
+    let mut groups = Vec::new(alloc);
+    for part in 0usize..3 {
+        let code = codes
+            .get(number * 3 + part)
+            .map_or(0, |word| (*word >> 40) as usize);
+        groups.push(some_of(alloc, number + 1, 9 - number, code & (code >> 10))?)?;
+    }
+    Ok(groups)
+}
+
+/// One of ten nodes, as codes tell.
+fn node_at(alloc: Global, codes: &[u64], number: usize) -> Result<Node, AllocError>
+    requires { number < 10 }
+{
+    let name = format!(in alloc; "{number}")?;
+    let groups = groups_at(alloc, codes, number)?;
+    Ok(Node {
+        name: Name::from_string(name),
+        groups: Groups::new(groups),
+        recipe: codes.get(number).map_or(true, |word| *word % 4 > 0),
+        phony: false,
+    })
+}
+
 /// Ten nodes, each with three groups of later ones, as a seed tells.
 fn ten_nodes(alloc: Global, seed: u64) -> Result<Vec<Node>, AllocError> {
     let codes = some_words(alloc, 30, seed)?;
     let mut nodes = Vec::new(alloc);
     for number in 0usize..10 {
-        let mut groups = Vec::new(alloc);
-        for part in 0usize..3 {
-            let code = codes
-                .get(number * 3 + part)
-                .map_or(0, |word| (*word >> 40) as usize);
-            groups.push(some_of(alloc, number + 1, 9 - number, code & (code >> 10))?)?;
-        }
-        let name = format!(in alloc; "{number}")?;
-        let mut made = node(alloc, name.as_str(), &[])?;
-        made.groups = Groups::new(groups);
-        made.recipe = codes.get(number).map_or(true, |word| *word % 4 > 0);
-        nodes.push(made)?;
+        nodes.push(node_at(alloc, &codes, number)?)?;
     }
     Ok(nodes)
+}
+
+/// The first node is a goal, and some of the others are, as a seed tells.
+fn goals_at(alloc: Global, seed: u64) -> Result<Vec<usize>, AllocError> {
+    let mut goals = vec![in alloc; 0]?;
+    goals.extend_from_slice(&some_of(alloc, 1, 9, seed as usize % 7)?)?;
+    Ok(goals)
+}
+
+/// Compares the orders of a graph.
+fn compare_graph(rt: &impl Abort, alloc: Global, graph: &Graph) -> Result<(), AllocError> {
+    compare(rt, graph, &BitRows::new(alloc, graph)?);
+    Ok(())
+}
+
+/// Compares the orders over these nodes and goals, where they are sound, and says whether they are.
+fn compare_sound(
+    rt: &impl Abort,
+    alloc: Global,
+    nodes: Vec<Node>,
+    goals: Vec<usize>,
+) -> Result<bool, GraphFault> {
+    if !is_sound(alloc, &nodes, &goals)? {
+        return Ok(false);
+    }
+    compare_graph(rt, alloc, &Graph::build(alloc, nodes, goals)?)?;
+    Ok(true)
 }
 
 #[test]
 fn beside_the_greedy_order(rt: HostRuntime) -> Result<(), Fail> {
     let alloc = rt.alloc();
-    let mut compared: u32 = 0;
+    let mut compared: usize = 0;
     for seed in 0u64..400 {
         let nodes = ten_nodes(alloc, seed)?;
-        let mut goals = vec![in alloc; 0]?;
-        goals.extend_from_slice(&some_of(alloc, 1, 9, seed as usize % 7)?)?;
-        if is_sound(alloc, &nodes, &goals)? {
-            compare(&rt, alloc, &Graph::build(alloc, nodes, goals)?)?;
+        if compare_sound(&rt, alloc, nodes, goals_at(alloc, seed)?)? {
             compared = compared.saturating_add(1);
         }
     }
-    assert_eq!(rt; compared, 240);
+    same_number(&rt, compared, 240, "sound graphs");
     Ok(())
 }

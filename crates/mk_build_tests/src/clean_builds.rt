@@ -1,7 +1,7 @@
 //! A plain program for clean builds, and what it gives on builds that were worked out by hand.
 
-use crate::graph_fixtures::graph_of;
-use mk_graph::{Graph, GraphFault};
+use crate::graph_fixtures::{graph_of, see_that};
+use mk_graph::Graph;
 use std::alloc::{AllocError, Global};
 use std::process::Abort;
 use std::test::Fail;
@@ -107,60 +107,72 @@ fn clean_build<'a>(
     Ok(Some(files))
 }
 
-/// What a file holds after the clean build of a program `p` from `a.o` and `a.c`, of which `a.o` is
-/// made from `a.c`, where `a.c` holds this.
-fn content_of_program(
-    rt: &impl Abort,
+/// What the recipes of a program `p` read and write, which is made from `a.o` and `a.c`, of which
+/// `a.o` is made from `a.c`.
+const FOOTPRINTS: &[Footprint<'static>] = &[
+    Footprint {
+        target: "p",
+        reads: &["a.o", "a.c"],
+        writes: &["p"],
+    },
+    Footprint {
+        target: "a.o",
+        reads: &["a.c"],
+        writes: &["a.o"],
+    },
+];
+
+/// What they wrote.
+const OUTCOMES: &[Outcome<'static>] = &[
+    Outcome {
+        target: "a.o",
+        seen: &[Some(1)],
+        written: &[7],
+    },
+    Outcome {
+        target: "p",
+        seen: &[Some(7), Some(1)],
+        written: &[9],
+    },
+    Outcome {
+        target: "a.o",
+        seen: &[Some(2)],
+        written: &[7],
+    },
+];
+
+/// What `a.c` holds, a file, and what it holds after a clean build. `p` has not seen 2.
+const CONTENTS: &[(u64, &str, Option<u64>)] = &[
+    (1, "a.o", Some(7)),
+    (1, "p", Some(9)),
+    (1, "a.h", None),
+    (2, "a.o", None),
+];
+
+/// What a file holds after the clean build of the program, where `a.c` holds this.
+fn content_after(
     alloc: Global,
+    graph: &Graph,
     source: u64,
     name: &str,
-) -> Result<Option<u64>, GraphFault> {
-    let graph = graph_of(rt, alloc, "p!:1 a.o!:2 a.c!")?;
-    let footprints = [
-        Footprint {
-            target: "p",
-            reads: &["a.o", "a.c"],
-            writes: &["p"],
-        },
-        Footprint {
-            target: "a.o",
-            reads: &["a.c"],
-            writes: &["a.o"],
-        },
-    ];
-    let outcomes = [
-        Outcome {
-            target: "a.o",
-            seen: &[Some(1)],
-            written: &[7],
-        },
-        Outcome {
-            target: "p",
-            seen: &[Some(7), Some(1)],
-            written: &[9],
-        },
-        Outcome {
-            target: "a.o",
-            seen: &[Some(2)],
-            written: &[7],
-        },
-    ];
-    match clean_build(alloc, &graph, &footprints, &outcomes, &[("a.c", source)])? {
+) -> Result<Option<u64>, AllocError> {
+    match clean_build(alloc, graph, FOOTPRINTS, OUTCOMES, &[("a.c", source)])? {
         Some(files) => Ok(content(files.as_slice(), name)),
         None => Ok(None),
     }
 }
 
+/// Sees what files hold after clean builds of the program.
+fn see_contents(rt: &impl Abort, alloc: Global, graph: &Graph) -> Result<(), AllocError> {
+    for &(source, name, want) in CONTENTS {
+        see_that(rt, content_after(alloc, graph, source, name)? == want, name);
+    }
+    Ok(())
+}
+
 #[test]
 fn clean_build_of_a_program(rt: HostRuntime) -> Result<(), Fail> {
-    let alloc = rt.alloc();
-    assert_eq!(rt; content_of_program(&rt, alloc, 1, "a.o")?, Some(7));
-    assert_eq!(rt; content_of_program(&rt, alloc, 1, "p")?, Some(9));
-    assert_eq!(rt; content_of_program(&rt, alloc, 1, "a.h")?, None);
-    assert_eq!(rt;
-        content_of_program(&rt, alloc, 2, "a.o")?,
-        None,
-        "p has not seen 2"
-    );
+    let graph = graph_of(&rt, rt.alloc(), "p!:1 a.o!:2 a.c!")?;
+    see_contents(&rt, rt.alloc(), &graph)?;
     Ok(())
 }

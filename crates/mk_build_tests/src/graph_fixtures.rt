@@ -151,7 +151,7 @@ pub fn node(alloc: Global, name: &str, groups: &[&[usize]]) -> Result<Node, Allo
 }
 
 /// The digits of a text, each as a number.
-fn digits(alloc: Global, text: &str) -> Result<Vec<usize>, AllocError> {
+pub fn digits(alloc: Global, text: &str) -> Result<Vec<usize>, AllocError> {
     let mut numbers = Vec::new(alloc);
     for byte in text.as_bytes() {
         numbers.push(usize::from(byte.saturating_sub(b'0')))?;
@@ -224,4 +224,41 @@ pub fn chain(alloc: Global, count: usize) -> Result<Vec<Node>, AllocError>
 /// What an order tells, through its bound.
 pub fn told<T: Order>(order: &T, o: usize, t: usize) -> bool {
     order.before(o, t)
+}
+
+/// The graph of the greatest chain.
+pub fn greatest_chain(rt: &impl Abort, alloc: Global) -> Result<Graph, GraphFault> {
+    built(rt, alloc, chain(alloc, 4096)?, &[0])
+}
+
+/// Pairs of which the first is before the second in the greatest chain.
+const ALONG: &[(usize, usize)] = &[(4095, 0), (2000, 1000), (64, 63), (0, 4096)];
+
+/// Sees what an order of the greatest chain tells.
+pub fn see_along<T: Order>(rt: &impl Abort, order: &T) {
+    for &(o, t) in ALONG {
+        see_before(rt, told(order, o, t), true, (o, t));
+        see_before(rt, told(order, t, o), false, (t, o));
+    }
+}
+
+/// Sees whether the first of two is before the second.
+pub fn see_before(rt: &impl Abort, got: bool, want: bool, pair: (usize, usize)) {
+    let (o, t) = pair;
+    assert_eq!(rt; got, want, "{o} before {t}");
+}
+
+/// Sees that something holds, and else says what.
+pub fn see_that(rt: &impl Abort, holds: bool, what: &str) {
+    assert!(rt; holds, "{what}");
+}
+
+/// Sees that two texts are the same, and else says the row that they are of.
+pub fn same(rt: &impl Abort, got: &str, want: &str, row: &str) {
+    assert_eq!(rt; got, want, "at {row}");
+}
+
+/// Sees that two numbers are the same, and else says of what they are.
+pub fn same_number(rt: &impl Abort, got: usize, want: usize, what: &str) {
+    assert_eq!(rt; got, want, "{what}");
 }

@@ -1,7 +1,9 @@
 //! Orders by number, and a slow program that goes through all turn lists.
 
-use crate::graph_fixtures::{built, chain, graph_of, is_sound, node, told};
-use mk_graph::{Graph, Greedy, Node};
+use crate::graph_fixtures::{
+    graph_of, greatest_chain, is_sound, node, same_number, see_along, see_before, told,
+};
+use mk_graph::{Graph, GraphFault, Greedy, Node};
 use std::alloc::{AllocError, Global};
 use std::process::Abort;
 use std::test::Fail;
@@ -150,63 +152,42 @@ fn compare(rt: &impl Abort, graph: &Graph) {
     for pair in 0usize..49 {
         let (o, t) = (pair / 7, pair % 7);
         let slow = slow_before(graph.nodes(), graph.goals(), o, t);
-        assert_eq!(rt; told(&order, o, t), slow, "{o} before {t}");
+        see_before(rt, told(&order, o, t), slow, (o, t));
     }
 }
 
+/// Nodes, two of their numbers, and whether each of these is before the other one: what is wanted
+/// beside a wait, and behind one alone; waits side by side, one alone, and one between waits.
+const ORDERS: &[(&str, (usize, usize), (bool, bool))] = &[
+    ("all:14 x:2|3 a! b! y:3", (2, 3), (false, false)),
+    ("all:1 x:2|3 a! b!", (2, 3), (true, false)),
+    ("all:12 p:3|4 q:4|3 e! n!", (3, 4), (false, false)),
+    ("all:1 p:2|3 e! n!", (2, 3), (true, false)),
+    ("all:1|2 p:3|4 q:4|3 e! n!", (3, 4), (true, false)),
+];
+
 /// Sees whether each of two numbers is before the other one, and compares the programs.
-fn see_order(
-    rt: &impl Abort,
-    alloc: Global,
-    rows: &str,
-    numbers: (usize, usize),
-    want: (bool, bool),
-) -> Result<(), Fail> {
-    let graph = graph_of(rt, alloc, rows)?;
-    let order = Greedy::new(&graph);
+fn see_order(rt: &impl Abort, graph: &Graph, numbers: (usize, usize), want: (bool, bool)) {
+    let order = Greedy::new(graph);
     let (a, b) = numbers;
-    assert_eq!(rt; (told(&order, a, b), told(&order, b, a)), want, "in {rows}");
-    compare(rt, &graph);
+    see_before(rt, told(&order, a, b), want.0, (a, b));
+    see_before(rt, told(&order, b, a), want.1, (b, a));
+    compare(rt, graph);
+}
+
+#[test]
+fn orders_of_two(rt: HostRuntime) -> Result<(), Fail> {
+    for &(rows, numbers, want) in ORDERS {
+        let graph = graph_of(&rt, rt.alloc(), rows)?;
+        see_order(&rt, &graph, numbers, want);
+    }
     Ok(())
 }
 
 #[test]
-fn wanted_beside_a_wait(rt: HostRuntime) -> Result<(), Fail> {
-    let rows = "all:14 x:2|3 a! b! y:3";
-    see_order(&rt, rt.alloc(), rows, (2, 3), (false, false))
-}
-
-#[test]
-fn wanted_behind_a_wait_alone(rt: HostRuntime) -> Result<(), Fail> {
-    see_order(&rt, rt.alloc(), "all:1 x:2|3 a! b!", (2, 3), (true, false))
-}
-
-#[test]
-fn waits_side_by_side(rt: HostRuntime) -> Result<(), Fail> {
-    let rows = "all:12 p:3|4 q:4|3 e! n!";
-    see_order(&rt, rt.alloc(), rows, (3, 4), (false, false))
-}
-
-#[test]
-fn one_wait_alone(rt: HostRuntime) -> Result<(), Fail> {
-    see_order(&rt, rt.alloc(), "all:1 p:2|3 e! n!", (2, 3), (true, false))
-}
-
-#[test]
-fn a_wait_between_waits(rt: HostRuntime) -> Result<(), Fail> {
-    let rows = "all:1|2 p:3|4 q:4|3 e! n!";
-    see_order(&rt, rt.alloc(), rows, (3, 4), (true, false))
-}
-
-#[test]
 fn along_the_greatest_chain(rt: HostRuntime) -> Result<(), Fail> {
-    let alloc = rt.alloc();
-    let graph = built(&rt, alloc, chain(alloc, 4096)?, &[0])?;
-    let order = Greedy::new(&graph);
-    for (o, t) in [(4095, 0), (2000, 1000), (64, 63), (0, 4096)] {
-        assert!(rt; told(&order, o, t), "{o} before {t}");
-        assert!(rt; !told(&order, t, o), "{t} before {o}");
-    }
+    let graph = greatest_chain(&rt, rt.alloc())?;
+    see_along(&rt, &Greedy::new(&graph));
     Ok(())
 }
 
@@ -238,18 +219,31 @@ fn some_goals(alloc: Global, code: usize) -> Result<Vec<usize>, AllocError> {
     Ok(goals)
 }
 
+/// Compares the programs over these nodes and goals, where they are sound, and says whether they
+/// are.
+fn compare_sound(
+    rt: &impl Abort,
+    alloc: Global,
+    nodes: Vec<Node>,
+    goals: Vec<usize>,
+) -> Result<bool, GraphFault> {
+    if !is_sound(alloc, &nodes, &goals)? {
+        return Ok(false);
+    }
+    compare(rt, &Graph::build(alloc, nodes, goals)?);
+    Ok(true)
+}
+
 #[test]
 fn all_graphs_of_three_nodes(rt: HostRuntime) -> Result<(), Fail> {
     let alloc = rt.alloc();
-    let mut count: u32 = 0;
+    let mut count: usize = 0;
     for code in 0..256 {
         let nodes = three_nodes(alloc, code)?;
-        let goals = some_goals(alloc, code)?;
-        if is_sound(alloc, &nodes, &goals)? {
-            compare(&rt, &Graph::build(alloc, nodes, goals)?);
+        if compare_sound(&rt, alloc, nodes, some_goals(alloc, code)?)? {
             count = count.saturating_add(1);
         }
     }
-    assert_eq!(rt; count, 217);
+    same_number(&rt, count, 217, "sound graphs");
     Ok(())
 }

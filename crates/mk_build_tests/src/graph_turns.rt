@@ -1,6 +1,6 @@
 //! What is wanted, which turns may come, and turn lists that lead past a node.
 
-use crate::graph_fixtures::{are_below, graph_of, told};
+use crate::graph_fixtures::{are_below, graph_of, see_before, see_that, told};
 use mk_graph::{Graph, Greedy, NodeSet, turn_list_past, wanted_with};
 use std::alloc::{AllocError, Global};
 use std::process::Abort;
@@ -27,14 +27,17 @@ fn leads(graph: &Graph, turns: &[usize], t: usize) -> bool {
     may_turn(graph, &done, t)
 }
 
+/// Sees the prerequisites of a node.
+fn see_row(rt: &impl Abort, graph: &Graph, number: usize, want: &[usize]) {
+    see_that(rt, *graph.prerequisites(number) == *want, "prerequisites");
+}
+
 #[test]
 fn prerequisites_are_one_row(rt: HostRuntime) -> Result<(), Fail> {
-    let alloc = rt.alloc();
-    let graph = graph_of(&rt, alloc, GATED)?;
-    let none: &[usize] = &[];
-    assert_eq!(rt; graph.prerequisites(4), [5, 6].as_slice());
-    assert_eq!(rt; graph.prerequisites(5), none);
-    assert_eq!(rt; graph.prerequisites(7), none);
+    let graph = graph_of(&rt, rt.alloc(), GATED)?;
+    see_row(&rt, &graph, 4, &[5, 6]);
+    see_row(&rt, &graph, 5, &[]);
+    see_row(&rt, &graph, 7, &[]);
     Ok(())
 }
 
@@ -50,16 +53,27 @@ fn is_wanted(
     wanted_with(graph, goals, done).has(number)
 }
 
+/// Sees what is wanted before and behind a wait.
+fn see_wanted(rt: &impl Abort, graph: &Graph) {
+    let mut done = NodeSet::new();
+    see_that(rt, is_wanted(rt, graph, graph.goals(), &done, 5), "5");
+    see_that(rt, !is_wanted(rt, graph, graph.goals(), &done, 6), "no 6");
+    done.insert(5);
+    see_that(rt, is_wanted(rt, graph, graph.goals(), &done, 6), "6");
+    see_that(rt, !is_wanted(rt, graph, &[1], &done, 6), "no 6 for 1");
+}
+
 #[test]
 fn what_is_behind_a_wait_is_wanted_later(rt: HostRuntime) -> Result<(), Fail> {
     let graph = graph_of(&rt, rt.alloc(), GATED)?;
-    let mut done = NodeSet::new();
-    assert!(rt; is_wanted(&rt, &graph, graph.goals(), &done, 5));
-    assert!(rt; !is_wanted(&rt, &graph, graph.goals(), &done, 6));
-    done.insert(5);
-    assert!(rt; is_wanted(&rt, &graph, graph.goals(), &done, 6));
-    assert!(rt; !is_wanted(&rt, &graph, &[1], &done, 6));
+    see_wanted(&rt, &graph);
     Ok(())
+}
+
+/// Sees that a turn list leads to `t` past `o`.
+fn see_list(rt: &impl Abort, graph: &Graph, turns: &[usize], o: usize, t: usize) {
+    assert!(rt; !turns.contains(&o), "{o} in the list for {t}");
+    assert!(rt; leads(graph, turns, t), "to {t} past {o}");
 }
 
 /// Sees that a turn list leads to `t` past `o` exactly where `o` isn't before it.
@@ -70,14 +84,18 @@ fn see_turns(
     o: usize,
     t: usize,
 ) -> Result<(), AllocError> {
-    let is_before = told(&Greedy::new(graph), o, t);
-    match turn_list_past(alloc, graph, o, t)? {
-        None => assert!(rt; is_before, "{o} before {t}"),
-        Some(turns) => {
-            assert!(rt; !is_before, "{o} not before {t}");
-            assert!(rt; !turns.contains(&o), "{o} in the list for {t}");
-            assert!(rt; leads(graph, &turns, t), "to {t} past {o}");
-        }
+    let found = turn_list_past(alloc, graph, o, t)?;
+    see_before(rt, told(&Greedy::new(graph), o, t), found.is_none(), (o, t));
+    if let Some(turns) = &found {
+        see_list(rt, graph, turns, o, t);
+    }
+    Ok(())
+}
+
+/// The same of each two numbers below eight.
+fn see_all_turns(rt: &impl Abort, alloc: Global, graph: &Graph) -> Result<(), AllocError> {
+    for pair in 0usize..64 {
+        see_turns(rt, alloc, graph, pair / 8, pair % 8)?;
     }
     Ok(())
 }
@@ -85,10 +103,6 @@ fn see_turns(
 #[test]
 fn a_turn_list_leads_past(rt: HostRuntime) -> Result<(), Fail> {
     let graph = graph_of(&rt, rt.alloc(), GATED)?;
-    for o in 0usize..8 {
-        for t in 0usize..8 {
-            see_turns(&rt, rt.alloc(), &graph, o, t)?;
-        }
-    }
+    see_all_turns(&rt, rt.alloc(), &graph)?;
     Ok(())
 }

@@ -1,6 +1,8 @@
 //! Graphs, serial orders and cycles by name.
 
-use crate::graph_fixtures::{built, chain, graph_of, node};
+use crate::graph_fixtures::{
+    built, chain, graph_of, greatest_chain, node, same, same_number, see_that,
+};
 use mk_graph::{Graph, GraphFault};
 use std::alloc::{AllocError, Global};
 use std::process::Abort;
@@ -34,66 +36,77 @@ fn cycle_names(alloc: Global, refused: Result<Graph, GraphFault>) -> Result<Stri
     Ok(text)
 }
 
+/// Sees the serial order, the goals and the nodes of a program's graph.
+fn see_program(rt: &impl Abort, alloc: Global, graph: &Graph) -> Result<(), AllocError> {
+    let names = serial_names(alloc, graph)?;
+    same(rt, names.as_str(), "a.c a.o p ", "a program");
+    see_that(rt, graph.goals() == [0].as_slice(), "goals");
+    same_number(rt, graph.nodes().len(), 3, "nodes");
+    Ok(())
+}
+
 #[test]
 fn prerequisites_stand_first(rt: HostRuntime) -> Result<(), Fail> {
     let graph = graph_of(&rt, rt.alloc(), "p!:1 a.o!:2 a.c!")?;
-    assert_eq!(rt; serial_names(rt.alloc(), &graph)?.as_str(), "a.c a.o p ");
-    assert_eq!(rt; graph.goals(), [0].as_slice());
-    assert_eq!(rt; graph.nodes().len(), 3);
+    see_program(&rt, rt.alloc(), &graph)?;
     Ok(())
 }
+
+/// Nodes, and the first closed path: with others before it, and of a node by itself.
+const CYCLES: &[(&str, &str)] = &[("a!:1|2 b! c!:3 d!:20", "c d c "), ("a!:0", "a a ")];
 
 #[test]
 fn first_closed_path(rt: HostRuntime) -> Result<(), Fail> {
-    let refused = graph_of(&rt, rt.alloc(), "a!:1|2 b! c!:3 d!:20");
-    assert_eq!(rt; cycle_names(rt.alloc(), refused)?.as_str(), "c d c ");
+    for &(rows, want) in CYCLES {
+        let refused = graph_of(&rt, rt.alloc(), rows);
+        let names = cycle_names(rt.alloc(), refused)?;
+        same(&rt, names.as_str(), want, rows);
+    }
     Ok(())
 }
 
-#[test]
-fn itself(rt: HostRuntime) -> Result<(), Fail> {
-    let refused = graph_of(&rt, rt.alloc(), "a!:0");
-    assert_eq!(rt; cycle_names(rt.alloc(), refused)?.as_str(), "a a ");
+/// Sees that a graph has nothing.
+fn see_nothing(rt: &impl Abort, graph: &Graph) -> Result<(), AllocError> {
+    see_that(rt, graph.nodes().is_empty(), "no nodes");
+    see_that(rt, graph.goals().is_empty(), "no goals");
+    see_that(rt, graph.serial()?.is_empty(), "no order");
     Ok(())
 }
 
 #[test]
 fn nothing(rt: HostRuntime) -> Result<(), Fail> {
-    let alloc = rt.alloc();
-    let graph = built(&rt, alloc, Vec::new(alloc), &[])?;
-    assert!(rt; graph.nodes().is_empty());
-    assert!(rt; graph.goals().is_empty());
-    assert!(rt; graph.serial()?.is_empty());
+    let graph = built(&rt, rt.alloc(), Vec::new(rt.alloc()), &[])?;
+    see_nothing(&rt, &graph)?;
     Ok(())
 }
 
+/// Sees the serial order of the greatest chain.
+fn see_chain(rt: &impl Abort, order: &[usize]) {
+    same_number(rt, order.len(), 4096, "nodes");
+    see_that(rt, order.first().copied() == Some(4095), "the first one");
+    see_that(rt, order.last().copied() == Some(0), "the last one");
+}
+
 #[test]
-fn greatest_chain(rt: HostRuntime) -> Result<(), Fail> {
-    let alloc = rt.alloc();
-    let graph = built(&rt, alloc, chain(alloc, 4096)?, &[0])?;
+fn order_of_the_greatest_chain(rt: HostRuntime) -> Result<(), Fail> {
+    let graph = greatest_chain(&rt, rt.alloc())?;
     let order = graph.serial()?;
-    assert_eq!(rt; order.len(), 4096);
-    assert_eq!(rt; order.first().copied(), Some(4095));
-    assert_eq!(rt; order.last().copied(), Some(0));
+    see_chain(&rt, &order);
     Ok(())
 }
 
 #[test]
 fn one_node_too_many(rt: HostRuntime) -> Result<(), Fail> {
-    let alloc = rt.alloc();
-    match built(&rt, alloc, chain(alloc, 4097)?, &[0]) {
-        Err(GraphFault::TooManyNodes) => {}
-        other => {
-            let _graph = other?;
-            assert!(rt; false, "4,097 nodes are a graph");
-        }
+    match built(&rt, rt.alloc(), chain(rt.alloc(), 4097)?, &[0]) {
+        Err(GraphFault::TooManyNodes) => Ok(()),
+        Err(fault) => Err(fault.into()),
+        Ok(_graph) => Err("4,097 nodes are a graph".into()),
     }
-    Ok(())
 }
 
 #[test]
 fn groups_stay(rt: HostRuntime) -> Result<(), Fail> {
     let one = node(rt.alloc(), "a", &[&[1, 2], &[3]])?;
-    assert_eq!(rt; one.groups.as_slice().len(), 2);
+    same_number(&rt, one.groups.as_slice().len(), 2, "groups");
     Ok(())
 }

@@ -1,6 +1,6 @@
 //! Plans, run in worlds.
 
-use crate::graph_fixtures::{built, graph_of, nodes_of};
+use crate::graph_fixtures::{built, nodes_of, same};
 use mk_foot::{Book, Setting, read_book};
 use mk_graph::Graph;
 use mk_world::{Plan, PlanFault, Run, StepFault, World, print_files, read_plan, run_plan};
@@ -46,21 +46,21 @@ edit a 007/make 1/run b/end => a 7 2/b 3 3/plan ok/
 # a/  #b// \t/make 1 =>  plan ok/";
 
 /// Texts over it that are no plans, and what is printed.
-const REFUSED_ROWS: &str = "make 0 => 1
-make 4097 => 1
-make => 1
-make 1/begin b/fin => 3
-frob => 1
-# a//frob => 3
-begin => 1
-begin b b => 1
-stop b => 1
-look b => 1
-put b b 7 7 => 1
-edit a 18446744073709551616 => 1
-edit a +1 => 1
-edit a 1a => 1
-make -1 => 1";
+const REFUSED_ROWS: &str = "make 0 => refused 69 line 1
+make 4097 => refused 69 line 1
+make => refused 69 line 1
+make 1/begin b/fin => refused 69 line 3
+frob => refused 69 line 1
+# a//frob => refused 69 line 3
+begin => refused 69 line 1
+begin b b => refused 69 line 1
+stop b => refused 69 line 1
+look b => refused 69 line 1
+put b b 7 7 => refused 69 line 1
+edit a 18446744073709551616 => refused 69 line 1
+edit a +1 => refused 69 line 1
+edit a 1a => refused 69 line 1
+make -1 => refused 69 line 1";
 
 /// A recipe that copies what another copied.
 const COPIES: &str = r#"{"format":1,"fixed":[],"sources":["a"],"records":[
@@ -115,27 +115,42 @@ fn number_of(fault: &StepFault) -> usize {
     }
 }
 
-/// A text with what a refusal prints behind it: the line, and the files.
-fn push_refusal(
-    alloc: Global,
-    text: &mut String,
-    world: &World,
-    line: usize,
-    fault: &StepFault,
-) -> Result<(), AllocError> {
-    let number = number_of(fault);
-    text.push_str(&format!(in alloc; "refused {number} line {line}\n")?)?;
-    print_files(alloc, world, text)
+/// What a run prints: its text, and behind a refusal its line and the files.
+fn printed(alloc: Global, run: &Run, files: &str) -> Result<String, AllocError> {
+    let text = run.text.as_str();
+    match &run.refused {
+        Some((line, fault)) => {
+            let number = number_of(fault);
+            format!(in alloc; "{text}refused {number} line {line}\n{files}")
+        }
+        None => format!(in alloc; "{text}plan ok\n"),
+    }
 }
 
-/// What a run prints.
-fn printed(alloc: Global, world: &World, run: &Run) -> Result<String, AllocError> {
-    let mut text = run.text.clone()?;
-    match &run.refused {
-        Some((line, fault)) => push_refusal(alloc, &mut text, world, *line, fault)?,
-        None => text.push_str("plan ok\n")?,
-    }
-    Ok(text)
+/// The run of a plan once time has run on to a stamp, and the files behind it.
+fn run_in(
+    alloc: Global,
+    world: &mut World,
+    stamp: u64,
+    plan: &Plan,
+) -> Result<(Run, String), AllocError> {
+    world.age(stamp);
+    let run = run_plan(alloc, world, plan)?;
+    let mut files = String::new(alloc);
+    print_files(alloc, world, &mut files)?;
+    Ok((run, files))
+}
+
+/// The same in a new world.
+pub fn run_of(
+    alloc: Global,
+    graph: &Graph,
+    setting: &Setting,
+    stamp: u64,
+    plan: &Plan,
+) -> Result<(Run, String), AllocError> {
+    let mut world = World::new(alloc, graph, setting)?;
+    run_in(alloc, &mut world, stamp, plan)
 }
 
 /// What the run of a plan prints in a world in which time has run on to a stamp.
@@ -146,10 +161,8 @@ fn simulated(
     stamp: u64,
     plan: &Plan,
 ) -> Result<String, AllocError> {
-    let mut world = World::new(alloc, graph, setting)?;
-    world.age(stamp);
-    let run = run_plan(alloc, &mut world, plan)?;
-    printed(alloc, &world, &run)
+    let (run, files) = run_of(alloc, graph, setting, stamp, plan)?;
+    printed(alloc, &run, files.as_str())
 }
 
 /// The line at which a text is no plan.
@@ -175,11 +188,6 @@ fn ran_at(
     }
 }
 
-/// What the run of a text as a plan prints, or the line at which it is no plan.
-fn ran(alloc: Global, graph: &Graph, setting: &Setting, plan: &[u8]) -> Result<String, AllocError> {
-    ran_at(alloc, graph, setting, 0, plan)
-}
-
 /// A text with a newline for each slash.
 fn unfolded(alloc: Global, text: &str) -> Result<String, AllocError> {
     let mut out = String::new(alloc);
@@ -189,9 +197,13 @@ fn unfolded(alloc: Global, text: &str) -> Result<String, AllocError> {
     Ok(out)
 }
 
-/// Sees that two texts are the same, and else says the row that they are of.
-fn same(rt: &impl Abort, got: &str, want: &str, row: &str) {
-    assert_eq!(rt; got, want, "at {row}");
+/// The stamp to which time has run on before a plan, 0 where none is said, and the plan.
+fn late_of(plan: &str) -> (u64, &str) {
+    let (front, rest) = plan.split_once(' ').unwrap_or((plan, ""));
+    match front.parse::<u64>() {
+        Ok(stamp) => (stamp, rest),
+        Err(_) => (0, plan),
+    }
 }
 
 /// Sees that a plan prints what its row says.
@@ -203,8 +215,9 @@ fn see_row(
     row: &str,
 ) -> Result<(), AllocError> {
     let (plan, want) = row.split_once(" => ").unwrap_or((row, ""));
+    let (stamp, plan) = late_of(plan);
     let plan = unfolded(alloc, plan)?;
-    let got = ran(alloc, graph, setting, plan.as_bytes())?;
+    let got = ran_at(alloc, graph, setting, stamp, plan.as_bytes())?;
     let want = unfolded(alloc, want.trim_start())?;
     same(rt, got.as_str(), want.as_str(), row);
     Ok(())
@@ -248,57 +261,23 @@ fn see_plans(
     Ok(see_recorded(rt, alloc, graph, book, rows)?)
 }
 
-/// Sees that a plan that begins at a late stamp prints what its row says.
-fn see_late_row(
-    rt: &impl Abort,
-    alloc: Global,
-    graph: &Graph,
-    setting: &Setting,
-    row: &str,
-) -> Result<(), AllocError> {
-    let (stamp, rest) = row.split_once(' ').unwrap_or((row, ""));
-    let (plan, want) = rest.split_once(" => ").unwrap_or((rest, ""));
-    let plan = unfolded(alloc, plan)?;
-    let stamp = stamp.parse::<u64>().unwrap_or(0);
-    let got = ran_at(alloc, graph, setting, stamp, plan.as_bytes())?;
-    let want = unfolded(alloc, want)?;
-    same(rt, got.as_str(), want.as_str(), row);
-    Ok(())
-}
+/// Nodes, goals, a book, and rows of plans over them: over a copy, and once time has run on;
+/// recipes in turn.
+const PLANS: &[(&str, &[usize], &str, &str)] = &[
+    ("b!:1 a", &[0], COPY, COPY_ROWS),
+    ("b!:1 a", &[0], COPY, LATE_ROWS),
+    ("b!:1 a", &[0], COPY, REFUSED_ROWS),
+    ("c!:1 b!:2 a", &[0, 1], COPIES, COPIES_ROWS),
+    ("all:12 p!:3 q!:3 s", &[0], TWO, TWO_ROWS),
+];
 
-/// Sees that plans that begin at late stamps print what their rows say.
-fn see_late(rt: &impl Abort, alloc: Global, graph: &Graph, book: Book) -> Result<(), AllocError> {
-    let setting = Setting::new(alloc, book, &[], &[])?;
-    for row in LATE_ROWS.lines() {
-        see_late_row(rt, alloc, graph, &setting, row)?;
+#[test]
+fn plans_that_are_run(rt: HostRuntime) -> Result<(), Fail> {
+    for &(nodes, goals, book, rows) in PLANS {
+        let graph = built(&rt, rt.alloc(), nodes_of(rt.alloc(), nodes)?, goals)?;
+        see_plans(&rt, rt.alloc(), &graph, book, rows)?;
     }
     Ok(())
-}
-
-#[test]
-fn plans_where_time_runs_out(rt: HostRuntime) -> Result<(), Fail> {
-    let graph = graph_of(&rt, rt.alloc(), "b!:1 a")?;
-    let book = read_book(rt.alloc(), COPY.as_bytes(), &[])?;
-    Ok(see_late(&rt, rt.alloc(), &graph, book)?)
-}
-
-#[test]
-fn plans_over_a_copy(rt: HostRuntime) -> Result<(), Fail> {
-    let graph = graph_of(&rt, rt.alloc(), "b!:1 a")?;
-    see_plans(&rt, rt.alloc(), &graph, COPY, COPY_ROWS)
-}
-
-#[test]
-fn plans_over_two_copies(rt: HostRuntime) -> Result<(), Fail> {
-    let nodes = nodes_of(rt.alloc(), "c!:1 b!:2 a")?;
-    let graph = built(&rt, rt.alloc(), nodes, &[0, 1])?;
-    see_plans(&rt, rt.alloc(), &graph, COPIES, COPIES_ROWS)
-}
-
-#[test]
-fn recipes_in_turn(rt: HostRuntime) -> Result<(), Fail> {
-    let graph = graph_of(&rt, rt.alloc(), "all:12 p!:3 q!:3 s")?;
-    see_plans(&rt, rt.alloc(), &graph, TWO, TWO_ROWS)
 }
 
 /// The line at which a text is no plan, or none.
@@ -309,44 +288,31 @@ fn bad_line(alloc: Global, text: &[u8]) -> Result<String, AllocError> {
     }
 }
 
-/// Sees that a text is no plan at the line that its row says.
-fn see_line(rt: &impl Abort, alloc: Global, row: &str) -> Result<(), AllocError> {
-    let (plan, line) = row.split_once(" => ").unwrap_or((row, ""));
-    let plan = unfolded(alloc, plan)?;
-    let got = bad_line(alloc, plan.as_bytes())?;
-    let want = format!(in alloc; "refused 69 line {line}")?;
-    same(rt, got.as_str(), want.as_str(), row);
-    Ok(())
-}
+/// A text, how many comment lines stand behind it, what stands behind these, and the line at which
+/// all is no plan: words that are no text, and as many lines as there may be.
+const TEXTS: &[(&[u8], usize, &[u8], &str)] = &[
+    (b"begin b\nbegin \xff\n", 0, b"", "refused 69 line 2"),
+    (b"# \xff\n\n", 0, b"", "none"),
+    (b"", 65_536, b"", "none"),
+    (b"", 65_536, b"#", "refused 69 line 65537"),
+];
 
-#[test]
-fn malformed_lines(rt: HostRuntime) -> Result<(), Fail> {
-    for row in REFUSED_ROWS.lines() {
-        see_line(&rt, rt.alloc(), row)?;
-    }
-    Ok(())
-}
-
-#[test]
-fn words_that_are_no_text(rt: HostRuntime) -> Result<(), Fail> {
-    let alloc = rt.alloc();
-    assert_eq!(rt;
-        bad_line(alloc, b"begin b\nbegin \xff\n")?.as_str(),
-        "refused 69 line 2"
-    );
-    assert_eq!(rt; bad_line(alloc, b"# \xff\n\n")?.as_str(), "none");
-    Ok(())
-}
-
-#[test]
-fn as_many_lines_as_there_may_be(rt: HostRuntime) -> Result<(), Fail> {
-    let alloc = rt.alloc();
-    let mut text = Vec::new(alloc);
-    for _ in 0..65_536 {
+/// A text, so many comment lines, and another text.
+fn commented(alloc: Global, front: &[u8], count: usize, end: &[u8]) -> Result<Vec<u8>, AllocError> {
+    let mut text = Vec::from_slice(alloc, front)?;
+    for _ in 0..count {
         text.extend_from_slice(b"#\n")?;
     }
-    assert_eq!(rt; bad_line(alloc, &text)?.as_str(), "none");
-    text.push(b'#')?;
-    assert_eq!(rt; bad_line(alloc, &text)?.as_str(), "refused 69 line 65537");
+    text.extend_from_slice(end)?;
+    Ok(text)
+}
+
+#[test]
+fn texts_and_their_bad_lines(rt: HostRuntime) -> Result<(), Fail> {
+    for &(front, count, end, want) in TEXTS {
+        let text = commented(rt.alloc(), front, count, end)?;
+        let got = bad_line(rt.alloc(), &text)?;
+        same(&rt, got.as_str(), want, want);
+    }
     Ok(())
 }

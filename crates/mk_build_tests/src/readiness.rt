@@ -2,7 +2,7 @@
 
 ghost use Rattle.std.specs.Prelude.{◌≡◌, OnOk};
 
-use crate::graph_fixtures::{are_below, graph_of};
+use crate::graph_fixtures::{are_below, graph_of, same, see_that};
 use mk_graph::Graph;
 use mk_ready::Readiness;
 use std::alloc::{AllocError, Global};
@@ -55,7 +55,7 @@ fn shown(alloc: Global, readiness: &Readiness) -> Result<String, AllocError> {
 }
 
 /// A node that is done, what is shown then, and the node that is passed next.
-const STEPS: [(usize, &str, Option<usize>); 7] = [
+const STEPS: &[(usize, &str, Option<usize>)] = &[
     (2, "wwwwwtt", None),
     (6, "wwwtwtw", None),
     (3, "wtwwwtw", Some(1)),
@@ -64,6 +64,18 @@ const STEPS: [(usize, &str, Option<usize>); 7] = [
     (4, "twwwwww", Some(0)),
     (0, "wwwwwww", None),
 ];
+
+/// Sees what is shown of the nodes.
+fn see_shown(
+    rt: &impl Abort,
+    alloc: Global,
+    readiness: &Readiness,
+    want: &str,
+) -> Result<(), AllocError> {
+    let got = shown(alloc, readiness)?;
+    same(rt, got.as_str(), want, want);
+    Ok(())
+}
 
 /// The nodes are done in turn.
 fn goes_on(
@@ -75,24 +87,35 @@ fn goes_on(
     requires { readiness.old.graph ≡ graph.now }
     ensures { OnOk result (readiness.new.graph ≡ graph.now) }
 {
-    for (number, text, next) in STEPS {
+    for &(number, text, next) in STEPS {
         done(rt, graph, readiness, number);
-        assert_eq!(rt; shown(alloc, readiness)?.as_str(), text, "{number}");
-        assert_eq!(rt; readiness.next_idle(), next, "{number}");
+        see_shown(rt, alloc, readiness, text)?;
+        see_that(rt, readiness.next_idle() == next, text);
     }
     Ok(())
 }
 
+/// Sees what is kept in two makes.
+fn see_makes(
+    rt: &impl Abort,
+    alloc: Global,
+    graph: &Graph,
+    readiness: &mut Readiness,
+) -> Result<(), AllocError>
+    requires { readiness.old.graph ≡ graph.now }
+{
+    see_shown(rt, alloc, readiness, "-------")?;
+    begin(rt, alloc, graph, readiness, &[0])?;
+    see_shown(rt, alloc, readiness, "wwt-wt-")?;
+    goes_on(rt, alloc, graph, readiness)?;
+    begin(rt, alloc, graph, readiness, &[6])?;
+    see_shown(rt, alloc, readiness, "------t")
+}
+
 #[test]
 fn what_is_kept_as_nodes_are_done(rt: HostRuntime) -> Result<(), Fail> {
-    let alloc = rt.alloc();
-    let graph = graph_of(&rt, alloc, GATED)?;
-    let mut readiness = Readiness::new(alloc, &graph)?;
-    assert_eq!(rt; shown(alloc, &readiness)?.as_str(), "-------");
-    begin(&rt, alloc, &graph, &mut readiness, &[0])?;
-    assert_eq!(rt; shown(alloc, &readiness)?.as_str(), "wwt-wt-");
-    goes_on(&rt, alloc, &graph, &mut readiness)?;
-    begin(&rt, alloc, &graph, &mut readiness, &[6])?;
-    assert_eq!(rt; shown(alloc, &readiness)?.as_str(), "------t");
+    let graph = graph_of(&rt, rt.alloc(), GATED)?;
+    let mut readiness = Readiness::new(rt.alloc(), &graph)?;
+    see_makes(&rt, rt.alloc(), &graph, &mut readiness)?;
     Ok(())
 }

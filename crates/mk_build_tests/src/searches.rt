@@ -1,5 +1,6 @@
 //! Searches for first ways, by tables: a row of successors for each node, and the ways by place.
 
+use crate::graph_fixtures::{digits, same, see_that};
 use mk_graph::Groups;
 use mk_search::Search;
 use std::alloc::{AllocError, Global};
@@ -10,34 +11,34 @@ use std::test::Fail;
 fn rows_of(alloc: Global, text: &str) -> Result<Groups, AllocError> {
     let mut rows = Vec::new(alloc);
     for part in text.split('|') {
-        let mut row = Vec::new(alloc);
-        for digit in part.chars() {
-            if let Some(number) = digit.to_digit(10) {
-                row.push(number as usize)?;
-            }
-        }
-        rows.push(row)?;
+        rows.push(digits(alloc, part)?)?;
     }
     Ok(Groups::new(rows))
+}
+
+/// Adds numbers, and a bar behind them.
+fn push_way(alloc: Global, text: &mut String, nodes: &[usize]) -> Result<(), AllocError> {
+    for node in nodes {
+        let digits = format!(in alloc; "{node}")?;
+        text.push_str(digits.as_str())?;
+    }
+    text.push('|')
 }
 
 /// The ways at the places before a bound, each from the start to its end, with a bar behind it.
 fn ways_of(alloc: Global, search: &mut Search<'_>, bound: usize) -> Result<String, AllocError> {
     let mut text = String::new(alloc);
     for place in 0..bound {
-        let Some(nodes) = search.way(alloc, place)? else {
-            break;
-        };
-        for node in &nodes {
-            text.push_str(format!(in alloc; "{node}")?.as_str())?;
+        match search.way(alloc, place)? {
+            Some(nodes) => push_way(alloc, &mut text, &nodes)?,
+            None => break,
         }
-        text.push('|')?;
     }
     Ok(text)
 }
 
 /// The start of this search, its rows, and the ways by place.
-const WAYS: [(usize, &str, &str); 9] = [
+const WAYS: &[(usize, &str, &str)] = &[
     (0, "12|3|3|", "0|01|02|013|"),
     (0, "212|3|3|", "0|02|01|023|"),
     (0, "13|2|3|", "0|01|03|012|"),
@@ -49,38 +50,69 @@ const WAYS: [(usize, &str, &str); 9] = [
     (7, "0||", "7|"),
 ];
 
+/// Sees the ways of a search.
+fn see_ways(
+    rt: &impl Abort,
+    alloc: Global,
+    rows: &Groups,
+    start: usize,
+    want: &str,
+) -> Result<(), AllocError> {
+    let mut search = Search::new(alloc, rows, start)?;
+    let got = ways_of(alloc, &mut search, 10)?;
+    same(rt, got.as_str(), want, want);
+    Ok(())
+}
+
 #[test]
 fn ways_by_place(rt: HostRuntime) -> Result<(), Fail> {
-    let alloc = rt.alloc();
-    for (start, text, ways) in WAYS {
-        let rows = rows_of(alloc, text)?;
-        let mut search = Search::new(alloc, &rows, start)?;
-        assert_eq!(rt; ways_of(alloc, &mut search, 10)?.as_str(), ways, "{text}");
+    for &(start, text, ways) in WAYS {
+        let rows = rows_of(rt.alloc(), text)?;
+        see_ways(&rt, rt.alloc(), &rows, start, ways)?;
+    }
+    Ok(())
+}
+
+/// Places, and the ends of the ways at these.
+const ENDS: &[(usize, Option<usize>)] = &[
+    (0, Some(0)),
+    (3, Some(3)),
+    (1, Some(2)),
+    (4, Some(4)),
+    (5, None),
+];
+
+/// Sees the ends of the ways of a search.
+fn see_ends(rt: &impl Abort, search: &mut Search<'_>) -> Result<(), AllocError> {
+    for &(place, want) in ENDS {
+        see_that(rt, search.visit(place)? == want, "an end");
     }
     Ok(())
 }
 
 #[test]
 fn ends_by_place(rt: HostRuntime) -> Result<(), Fail> {
-    let alloc = rt.alloc();
-    let rows = rows_of(alloc, "21|3|34||0")?;
-    let mut search = Search::new(alloc, &rows, 0)?;
-    assert_eq!(rt; search.visit(0)?, Some(0));
-    assert_eq!(rt; search.visit(3)?, Some(3));
-    assert_eq!(rt; search.visit(1)?, Some(2));
-    assert_eq!(rt; search.visit(4)?, Some(4));
-    assert_eq!(rt; search.visit(5)?, None);
+    let rows = rows_of(rt.alloc(), "21|3|34||0")?;
+    let mut search = Search::new(rt.alloc(), &rows, 0)?;
+    see_ends(&rt, &mut search)?;
+    Ok(())
+}
+
+/// Ends, and the places of the ways there.
+const PLACES: &[(usize, Option<usize>)] = &[(4, Some(4)), (0, Some(0)), (2, Some(1)), (5, None)];
+
+/// Sees the places of the ways of a search.
+fn see_places(rt: &impl Abort, search: &mut Search<'_>) -> Result<(), AllocError> {
+    for &(end, want) in PLACES {
+        see_that(rt, search.place_of(end)? == want, "a place");
+    }
     Ok(())
 }
 
 #[test]
 fn places_by_end(rt: HostRuntime) -> Result<(), Fail> {
-    let alloc = rt.alloc();
-    let rows = rows_of(alloc, "21|3|34||0|0")?;
-    let mut search = Search::new(alloc, &rows, 0)?;
-    assert_eq!(rt; search.place_of(4)?, Some(4));
-    assert_eq!(rt; search.place_of(0)?, Some(0));
-    assert_eq!(rt; search.place_of(2)?, Some(1));
-    assert_eq!(rt; search.place_of(5)?, None);
+    let rows = rows_of(rt.alloc(), "21|3|34||0|0")?;
+    let mut search = Search::new(rt.alloc(), &rows, 0)?;
+    see_places(&rt, &mut search)?;
     Ok(())
 }

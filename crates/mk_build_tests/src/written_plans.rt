@@ -1,10 +1,11 @@
 //! Histories that are written as plans, read again and run.
 
 use crate::graph_fixtures::graph_of;
+use crate::plans::run_of;
 use mk_foot::{Book, Setting, read_book};
 use mk_graph::Graph;
 use mk_plans::plan_text;
-use mk_world::{Plan, PlanFault, Run, Step, World, read_plan, run_plan};
+use mk_world::{Plan, PlanFault, Run, Step, read_plan};
 use std::alloc::{AllocError, Global};
 use std::process::Abort;
 use std::test::Fail;
@@ -92,8 +93,8 @@ fn run_told(
     setting: &Setting,
     plan: &Plan,
 ) -> Result<String, AllocError> {
-    let mut world = World::new(alloc, graph, setting)?;
-    told(alloc, &run_plan(alloc, &mut world, plan)?)
+    let (run, _files) = run_of(alloc, graph, setting, 0, plan)?;
+    told(alloc, &run)
 }
 
 /// What is told of the run of a text, if it is read.
