@@ -25,9 +25,9 @@ range_stays names more a b order low =
 pub stays : (names more : List (List ℕ)) (p : Place) → IsWithin (length names) p → way_at (names ++ more) p ≡ way_at names p
 stays names more p within =
     way_is p.finish
-      (get_or_append_left names more [] p.start (omega (arith, within.0, within.1)))
-      (get_or_append_left names more [] (p.start + 1) (omega (arith, within.0, within.1)))
-      (range_stays names more (p.start + 2) p.end within.0 within.1)
+    (get_or_append_left names more [] p.start (omega (arith, within.0, within.1)))
+    (get_or_append_left names more [] (p.start + 1) (omega (arith, within.0, within.1)))
+    (range_stays names more (p.start + 2) p.end within.0 within.1)
 
 -- so it is with each of these
 pub all_stay : (names more : List (List ℕ)) (ps : List Place) → All (IsWithin (length names)) ps → map (way_at (names ++ more)) ps ≡ map (way_at names) ps
