@@ -1,6 +1,7 @@
 //! The text of a plan.
 
 ghost use Rattle.std.specs.Prelude.{◌≡◌, ◌++◌, ℕ, List, map, IfOk, OnOk};
+ghost use Rattle.std.specs.List.{flat_map};
 ghost use Rattle.std.specs.String.{string_bytes};
 ghost use Rattle.mk_lines.specs.Names.{has_name};
 ghost use Rattle.mk_world.specs.NamedStep.{step_view};
@@ -11,6 +12,17 @@ use mk_graph::Graph;
 use mk_lines::NameSet;
 use mk_world::Step;
 use std::alloc::{AllocError, Global};
+
+/// Adds texts, one after another.
+fn push_all(out: &mut String, texts: &[&str]) -> Result<(), AllocError>
+    ensures { OnOk result (string_bytes out.new ≡
+        string_bytes out.old ++ flat_map (λ text. text.now) texts.now) }
+{
+    for text in texts {
+        out.push_str(text)?;
+    }
+    Ok(())
+}
 
 /// Whether each goal of the graph is among these names.
 fn are_all_named(alloc: Global, graph: &Graph, goals: &[&str]) -> Result<bool, AllocError>
@@ -74,7 +86,7 @@ fn push_pass(out: &mut String, idle: &NameSet<'_>, node: &str) -> Result<(), All
     if idle.contains(node) {
         return Ok(());
     }
-    writeln!(out, "pass {node}")
+    push_all(out, &["pass ", node, "\n"])
 }
 
 /// Adds the line of a step.
@@ -92,14 +104,14 @@ fn push_step(
     match step {
         Step::Edit { file, content } => writeln!(out, "edit {file} {content}"),
         Step::Make { jobs, goals } => push_make(alloc, out, graph, *jobs, goals.as_slice()),
-        Step::Begin { node } => writeln!(out, "begin {node}"),
-        Step::Look { node, file } => writeln!(out, "look {node} {file}"),
+        Step::Begin { node } => push_all(out, &["begin ", node, "\n"]),
+        Step::Look { node, file } => push_all(out, &["look ", node, " ", file, "\n"]),
         Step::Put {
             node,
             file,
             content,
         } => writeln!(out, "put {node} {file} {content}"),
-        Step::End { node } => writeln!(out, "done {node}"),
+        Step::End { node } => push_all(out, &["done ", node, "\n"]),
         Step::Pass { node } => push_pass(out, idle, node),
         Step::Stop => writeln!(out, "stop"),
         Step::EndMake => writeln!(out, "end"),

@@ -1,3 +1,4 @@
+pub mod Answered
 pub mod Numbers
 pub mod Steps
 pub mod FirstDisks

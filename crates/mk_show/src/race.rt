@@ -1,14 +1,10 @@
 //! Evidence for a race.
 
-ghost use Rattle.std.specs.Prelude.{◌≡◌, ◌<◌, ◌≤◌, ◌+◌, ◌*◌, [], length, map, true, IfOk, IfSome, MatchOption, OnOk};
+ghost use Rattle.std.specs.Prelude.{◌≡◌, ◌<◌, [], length, map, true, IfOk, IfSome, MatchBool, MatchOption};
 ghost use Rattle.mk_graph.specs.Graph.{node};
-ghost use Rattle.mk_graph.specs.Serial.{serial_order};
-ghost use Rattle.mk_graph.specs.Setting.{writings};
 ghost use Rattle.mk_graph.specs.Turns.{Before};
-ghost use Rattle.mk_graph.specs.World.{last_stamp};
 ghost use Rattle.mk_world.specs.NamedStep.{step_view};
 ghost use Rattle.mk_world.specs.Steps.{IsFirstOf};
-ghost use Rattle.mk_cert.specs.Subject.{footprints};
 ghost use Rattle.mk_show.specs.Numbers.{HaveSmallNumbers};
 ghost use Rattle.mk_show.specs.Shown.{HasStamps, ShowsRace};
 
@@ -23,34 +19,36 @@ use mk_world::Step;
 use std::alloc::{AllocError, Global};
 
 /// A make of all goals with one job starts, makes nodes one after another in which `o` isn't done,
-/// and begins the recipe of `t`.
+/// and begins the recipe of `t`. Answers whether there are stamps enough: else nothing is done.
 fn make_until_begin(
     alloc: Global,
     subject: &Subject<'_>,
     history: &mut History<'_>,
     o: usize,
     t: usize,
-) -> Result<(), AllocError>
+) -> Result<bool, AllocError>
     requires node { t < length subject.now.graph.nodes }
     requires recipe { (node subject.now.graph t).recipe ≡ true }
     requires not_before { ¬ (Before subject.now.graph o t) }
     requires first { IsFirstOf subject.now.graph subject.now.setting history.old.world }
     requires steps { history.old.steps ≡ [] }
-    requires stamps { history.old.world.disk.clock + (2 * writings subject.now.graph
-        (footprints subject.now.setting) (serial_order subject.now.graph) + 1) ≤ last_stamp }
-    ensures { OnOk result (ShowsRace subject.now o t history.new.steps) }
+    ensures { IfOk result (λ enough. MatchBool enough
+        (ShowsRace subject.now o t history.new.steps) (¬ (HasStamps subject.now))) }
 {
     first_is_a_start();
     serial_reaches_each_once();
     turn_lists_run();
     let graph = subject.graph();
+    if !has_stamps(subject, history.clock()) {
+        return Ok(false);
+    }
     let Some(turns) = turn_list_past(alloc, graph, o, t)? else {
-        return Ok(());
+        return Ok(false);
     };
     history.start()?;
     make_but(graph, history, &turns, &NodeSet::new())?;
     history.begin(t)?;
-    Ok(())
+    Ok(true)
 }
 
 /// A make with one job that begins the recipe of `t` while `o` isn't done; or none, where there are
@@ -70,9 +68,7 @@ pub fn race<'a>(
         (λ steps. HaveSmallNumbers (map step_view steps.items))) }
 {
     let mut history = History::new(alloc, subject.graph(), subject.setting())?;
-    if !has_stamps(subject, history.clock()) {
-        return Ok(None);
-    }
-    make_until_begin(alloc, subject, &mut history, o, t)?;
-    Ok(Some(history.into_steps()))
+    let enough = make_until_begin(alloc, subject, &mut history, o, t);
+    let steps = history.into_steps();
+    if enough? { Ok(Some(steps)) } else { Ok(None) }
 }

@@ -1,11 +1,9 @@
 //! Evidence for a stale read.
 
-ghost use Rattle.std.specs.Prelude.{◌≡◌, ◌<◌, ◌≤◌, ◌+◌, ◌*◌, ◌↔◌, [], ℕ, length, map, IfOk, IfSome, MatchOption, OnOk};
+ghost use Rattle.std.specs.Prelude.{◌≡◌, ◌<◌, ◌↔◌, [], ℕ, length, map, IfOk, IfSome, MatchBool, MatchOption, OnOk};
 ghost use Rattle.mk_graph.specs.Membership.{Has};
 ghost use Rattle.mk_graph.specs.Serial.{serial_order};
 ghost use Rattle.mk_graph.specs.Stale.{Chain};
-ghost use Rattle.mk_graph.specs.Setting.{writings};
-ghost use Rattle.mk_graph.specs.World.{last_stamp};
 ghost use Rattle.mk_world.specs.NamedStep.{step_view};
 ghost use Rattle.mk_world.specs.Steps.{IsFirstOf};
 ghost use Rattle.mk_cert.specs.Candidates.{static_candidates};
@@ -93,33 +91,37 @@ fn edit_if_editable<'a>(
 }
 
 /// A make of all goals, an edit of the file where it is editable, and a make of all goals again in
-/// which these nodes are passed.
+/// which these nodes are passed. Answers whether there are stamps enough: else nothing is done.
 fn make_edit_make<'a>(
     subject: &Subject<'_>,
     history: &mut History<'a>,
     t: usize,
     file: &'a str,
     passed: &NodeSet,
-) -> Result<(), AllocError>
+) -> Result<bool, AllocError>
     requires nothing { Lists subject.now (static_candidates subject.now) [] }
     requires stale { IsStale subject.now t file.now }
     requires first { IsFirstOf subject.now.graph subject.now.setting history.old.world }
     requires steps { history.old.steps ≡ [] }
-    requires stamps { history.old.world.disk.clock + (2 * writings subject.now.graph
-        (footprints subject.now.setting) (serial_order subject.now.graph) + 1) ≤ last_stamp }
     requires passed { (n : ℕ) → Has passed.now n ↔
         Chain subject.now.graph (footprints subject.now.setting) t n }
-    ensures { OnOk result (ShowsStaleRead subject.now t file.entry.now history.new.steps) }
+    ensures { IfOk result (λ enough. MatchBool enough
+        (ShowsStaleRead subject.now t file.entry.now history.new.steps)
+        (¬ (HasStamps subject.now))) }
 {
     first_is_a_start();
     nothing_found_is_sound();
     order_of_all_goals();
     stale_is_shown();
     let graph = subject.graph();
+    if !has_stamps(subject, history.clock()) {
+        return Ok(false);
+    }
     let order = graph.serial()?;
     make_all(graph, history, &order, &NodeSet::new())?;
     edit_if_editable(subject, history, file)?;
-    make_all(graph, history, &order, passed)
+    make_all(graph, history, &order, passed)?;
+    Ok(true)
 }
 
 /// A make of all with one job, an edit of the file where it is editable, and the same make again
@@ -142,9 +144,7 @@ pub fn stale<'a>(
 {
     let passed = chained(alloc, subject, t)?;
     let mut history = History::new(alloc, subject.graph(), subject.setting())?;
-    if !has_stamps(subject, history.clock()) {
-        return Ok(None);
-    }
-    make_edit_make(subject, &mut history, t, file, &passed)?;
-    Ok(Some(history.into_steps()))
+    let enough = make_edit_make(subject, &mut history, t, file, &passed);
+    let steps = history.into_steps();
+    if enough? { Ok(Some(steps)) } else { Ok(None) }
 }
