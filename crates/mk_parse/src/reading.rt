@@ -12,7 +12,7 @@ ghost use Rattle.mk_read.specs.Following.{Answers, Counts, Follows, IsOfText, an
 ghost use Rattle.mk_read.specs.Reading.{after_default, counts, from_named, makefile, makefile_of, named, reading, with_operands};
 ghost use Rattle.mk_read.specs.Special.{is_inference_name};
 ghost use Rattle.mk_read.specs.Names.{has_name};
-ghost use Rattle.mk_read.specs.State.{nothing_read};
+ghost use Rattle.mk_read.specs.State.{nothing_read, rules_of};
 ghost use Rattle.mk_read.specs.Steps.{Gives, at_place, is_want_of_memory, seen};
 ghost use Rattle.mk_parse.specs.Views.{IsUnread, begun, is_joined, second_text, state_read, without_makefile};
 
@@ -310,6 +310,15 @@ fn counted(alloc: Global, suffixes: &SuffixList, rules: Vec<Rule>) -> Result<Vec
     Ok(kept)
 }
 
+/// The rule lines that were read and count.
+fn rules_of(alloc: Global, suffixes: &SuffixList, lines: RuleLines) -> Result<Vec<Rule>, AllocError>
+    ensures { IfOk result (λ kept. kept.items ≡ filter (counts suffixes.now) (rules_of lines)) }
+{
+    let RuleLines { earlier, owner, .. } = lines;
+    let all = with_last(earlier, owner)?;
+    counted(alloc, suffixes, all)
+}
+
 /// What the makefile says, once all is read.
 fn makefile_of(alloc: Global, state: State) -> Result<Makefile, AllocError>
     ensures { IfOk result (λ makefile. makefile ≡ makefile_of state) }
@@ -323,8 +332,7 @@ fn makefile_of(alloc: Global, state: State) -> Result<Makefile, AllocError>
         texts,
         missing,
     } = state;
-    let RuleLines { earlier, owner, .. } = lines;
-    let rules = counted(alloc, &suffixes, with_last(earlier, owner)?)?;
+    let rules = rules_of(alloc, &suffixes, lines)?;
     Ok(Makefile::new(rules, suffixes, phony, not_parallel, macros, texts, missing))
 }
 

@@ -3,12 +3,12 @@
 ghost use Rattle.std.specs.Prelude.{◌≡◌, find, map, IfOk};
 ghost use Rattle.std.specs.Option.{option_map};
 ghost use Rattle.mk_infer.specs.Selection.{Selects};
-ghost use Rattle.mk_select.specs.Walked.{lacks, node_with};
+ghost use Rattle.mk_select.specs.Walked.{IsWalked, lacks, node_with};
 ghost use Rattle.mk_infer.specs.Targets.{have_text};
 
 use crate::goals::Goals;
 use crate::groups::{groups_with, numbers};
-use crate::walk::{Met, walk_from};
+use crate::walk::{Met, Walked, walk_from};
 use mk_choice::Choices;
 use mk_graph::{Graph, GraphFault, MAX_NODES, Node};
 use mk_infer::InferFault;
@@ -88,6 +88,30 @@ fn first_lacking<'m>(choices: &Choices<'_>, met: &[Met<'m>]) -> Option<&'m str>
     None
 }
 
+/// The graph of what a walk from the goals met, or the first fault.
+fn of_walk<'m>(
+    alloc: Global,
+    choices: &'m Choices<'m>,
+    goals: &[&'m str],
+    walked: &Walked<'m>,
+) -> Result<Graph, InferFault>
+    requires { IsWalked choices.now.makefile choices.now.exists
+        (map (λ goal. goal.now) goals.now) walked.now }
+    ensures { Selects choices.now.makefile choices.now.exists
+        (map (λ goal. goal.now) goals.now) result }
+{
+    handed_graph_is_sound();
+    if let Some(name) = first_lacking(choices, &walked.met) {
+        return Err(InferFault::NoRule(Name::new(alloc, name)?));
+    }
+    if walked.names.as_slice().len() > MAX_NODES {
+        return Err(InferFault::Graph(GraphFault::TooManyNodes));
+    }
+    let nodes = nodes_of(alloc, choices, &walked.names, &walked.met)?;
+    let goals = numbers(alloc, &walked.names, goals)?;
+    Ok(Graph::build(alloc, nodes, goals)?)
+}
+
 /// The graph of what the goals reach, with the inference rules that are chosen.
 ///
 /// Faults as a walk depth first, left to right, from the goals meets them: 41 for a name that is no
@@ -101,16 +125,7 @@ pub fn select<'m>(
 ) -> Result<Graph, InferFault>
     ensures { Selects choices.now.makefile choices.now.exists goals.now result }
 {
-    handed_graph_is_sound();
     let goals = goals.texts(alloc)?;
     let walked = walk_from(alloc, choices, &goals)?;
-    if let Some(name) = first_lacking(choices, &walked.met) {
-        return Err(InferFault::NoRule(Name::new(alloc, name)?));
-    }
-    if walked.names.as_slice().len() > MAX_NODES {
-        return Err(InferFault::Graph(GraphFault::TooManyNodes));
-    }
-    let nodes = nodes_of(alloc, choices, &walked.names, &walked.met)?;
-    let goals = numbers(alloc, &walked.names, &goals)?;
-    Ok(Graph::build(alloc, nodes, goals)?)
+    of_walk(alloc, choices, &goals, &walked)
 }
