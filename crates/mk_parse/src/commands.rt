@@ -3,6 +3,7 @@
 ghost use Rattle.std.specs.Prelude.{◌≡◌, ◌||◌, true, find, map, None, Some, ℕ, List, IfOk, IfErr, MatchOption};
 ghost use Rattle.std.specs.Option.{option_map};
 ghost use Rattle.std.specs.String.{string_bytes};
+ghost use Rattle.mk_lines.specs.Bytes.{trimmed};
 ghost use Rattle.mk_read.specs.Following.{IsOfText};
 ghost use Rattle.mk_read.specs.Names.{has_name};
 ghost use Rattle.mk_read.specs.Rules.{has_some, is_comment, taken, unless_taken, with_command, commanded, command_line, new_rule};
@@ -161,6 +162,16 @@ impl RuleLines {
     }
 }
 
+/// A rule line with a command line more.
+fn with_text(spot: &Spot<'_>, rule: Rule, text: &[u8]) -> Result<Rule, AllocError>
+    ensures { IfOk result (λ more. more ≡
+        commanded rule (record { text = trimmed text.now; place = place_at spot.now })) }
+{
+    let text = Vec::from_slice(spot.alloc, trimmed(text))?;
+    let place = spot.place()?;
+    with_command(spot.alloc, rule, Command { text, place })
+}
+
 /// A command line behind a rule line.
 #[tactic(auto, unfolding(mk_read::specs::Rules::command_line))]
 fn behind_rule(
@@ -178,12 +189,8 @@ fn behind_rule(
         lines) result (command_line (place_at spot.now) text.now earlier.items (Last rule)) }
     ensures own { IfErr result IsOfText }
 {
-    let command = Command {
-        text: Vec::from_slice(spot.alloc, trimmed(text))?,
-        place: spot.place()?,
-    };
     let goes_on = rule.commands.is_some();
-    let rule = with_command(spot.alloc, rule, command)?;
+    let rule = with_text(spot, rule, text)?;
     if goes_on {
         return Ok(RuleLines {
             earlier,

@@ -13,6 +13,22 @@ pub fn same(rt: &impl Abort, got: &str, want: &str, row: &str) {
     assert_eq!(rt; got, want, "at {front}");
 }
 
+/// The same of bytes.
+pub fn same_bytes(rt: &impl Abort, got: &[u8], want: &[u8], row: &str) {
+    let front = row.get(..80).unwrap_or(row);
+    assert_eq!(rt; got, want, "at {front}");
+}
+
+/// The same of numbers.
+pub fn same_number(rt: &impl Abort, got: usize, want: usize, row: &str) {
+    assert_eq!(rt; got, want, "at {row}");
+}
+
+/// Sees that something holds, and else says the row that it is of.
+pub fn see_that(rt: &impl Abort, holds: bool, row: &str) {
+    assert!(rt; holds, "at {row}");
+}
+
 /// A text, and so many units behind it.
 pub fn long(alloc: Global, front: &[u8], unit: &[u8], count: usize) -> Result<Vec<u8>, AllocError> {
     let mut text = Vec::from_slice(alloc, front)?;
@@ -40,15 +56,44 @@ pub fn add_names(shown: &mut String, names: &[String]) -> Result<(), AllocError>
     Ok(())
 }
 
-/// A text of a row, in which `¶` stands for a newline and `→` for a tab.
-pub fn unfolded(alloc: Global, text: &str) -> Result<String, AllocError> {
-    let mut out = String::new(alloc);
+/// Adds a text in which `¶` stands for a newline and `→` for a tab.
+fn push_unfolded(out: &mut String, text: &str) -> Result<(), AllocError> {
     for c in text.chars() {
         match c {
             '¶' => out.push('\n')?,
             '→' => out.push('\t')?,
             other => out.push(other)?,
         }
+    }
+    Ok(())
+}
+
+/// Adds a text so many times.
+fn push_times(out: &mut String, count: usize, text: &str) -> Result<(), AllocError> {
+    for _ in 0..count {
+        out.push_str(text)?;
+    }
+    Ok(())
+}
+
+/// Adds a text, and behind it another one so many times, where there is one.
+fn push_part(out: &mut String, part: &[&str]) -> Result<(), AllocError> {
+    match part {
+        [front] => push_unfolded(out, front),
+        [front, count, text] => {
+            push_unfolded(out, front)?;
+            push_times(out, count.parse().unwrap_or(0), text)
+        }
+        _ => Ok(()),
+    }
+}
+
+/// A text of a row, in which `¶` stands for a newline, `→` for a tab, and `×3×ab×` for `ababab`.
+pub fn unfolded(alloc: Global, text: &str) -> Result<String, AllocError> {
+    let parts: Vec<&str> = text.split("×").collect(alloc)?;
+    let mut out = String::new(alloc);
+    for part in parts.chunks(3) {
+        push_part(&mut out, part)?;
     }
     Ok(out)
 }

@@ -1,30 +1,30 @@
 //! Rows on inference, selection, goals and commands, over makefiles in memory.
 
-use crate::fixtures::{field, fields_of, file_of, names};
+use crate::fixtures::{field, fields_of, file_of, names, same_bytes, unfolded};
 use mk_choice::{Choices, Commands, Made, choice, choice_and_commands, commands};
 use mk_graph::Graph;
 use mk_infer::{Exists, InferFault, RuleTable};
-use mk_lines::{Name, NameTable, Prefixes};
+use mk_lines::{NameTable, Prefixes};
 use mk_parse::read_makefile;
 use mk_read::Makefile;
-use mk_select::{goal_names, select};
+use mk_select::{Goals, goal_names, select};
 use std::alloc::{AllocError, Global};
 use std::process::Abort;
 use std::test::Fail;
 
-/// The makefile of a text, with an operand, behind the default text or not.
-fn makefile(alloc: Global, text: &[u8], defaults: bool, operand: &str) -> Result<Makefile, Fail> {
+/// The makefile of a text behind the default text, with an operand.
+fn makefile(alloc: Global, text: &[u8]) -> Result<Makefile, Fail> {
     let mut files = file_of(alloc, "makefile", text)?;
-    let operand = operand.as_bytes().to_vec(alloc)?;
-    Ok(read_makefile(alloc, &mut files, None, defaults, &[operand])?)
+    let operand = b"CC=cc".to_vec(alloc)?;
+    Ok(read_makefile(alloc, &mut files, None, true, &[operand])?)
 }
 
 /// The words of a text as a table of names.
-fn table(alloc: Global, words: &str) -> Result<NameTable, Fail> {
-    Ok(NameTable::new(alloc, names(alloc, words)?)?)
+fn table(alloc: Global, words: &str) -> Result<NameTable, AllocError> {
+    NameTable::new(alloc, names(alloc, words)?)
 }
 
-/// ThereTables of what is there.
+/// Tables of what is there.
 #[derive(Drop)]
 struct ThereTables {
     sources: NameTable,
@@ -33,13 +33,29 @@ struct ThereTables {
     more: NameTable,
 }
 
-/// These sources and fixed prefixes, and `m.c` as a name more that counts as there.
-fn tables(alloc: Global, sources: &str, fixed: &str) -> Result<ThereTables, Fail> {
+/// These sources and fixed prefixes.
+fn given(alloc: Global, sources: &str, fixed: &str) -> Result<(NameTable, Prefixes), AllocError> {
+    let sources = table(alloc, sources)?;
+    let fixed = Prefixes::new(alloc, names(alloc, fixed)?)?;
+    Ok((sources, fixed))
+}
+
+/// The makefile's texts, and `m.c` as a name more that counts as there.
+fn others(alloc: Global) -> Result<(NameTable, NameTable), AllocError> {
+    let texts = table(alloc, "makefile")?;
+    let more = table(alloc, "m.c")?;
+    Ok((texts, more))
+}
+
+/// What is there where these sources and fixed prefixes are.
+fn tables(alloc: Global, sources: &str, fixed: &str) -> Result<ThereTables, AllocError> {
+    let (texts, more) = others(alloc)?;
+    let (sources, fixed) = given(alloc, sources, fixed)?;
     Ok(ThereTables {
-        sources: table(alloc, sources)?,
-        fixed: Prefixes::new(alloc, names(alloc, fixed)?)?,
-        texts: table(alloc, "makefile")?,
-        more: table(alloc, "m.c")?,
+        sources,
+        fixed,
+        texts,
+        more,
     })
 }
 
@@ -90,93 +106,208 @@ fn shown(alloc: Global, graph: &Graph) -> Result<Vec<u8>, AllocError> {
     Ok(out)
 }
 
-/// What is shown of the graph of a table's goals, or the words of the fault.
+/// What is shown of the graph of a table's first goal, or the words of the fault.
 fn graph_shown(
     alloc: Global,
     table: &RuleTable<'_>,
     exists: &Exists<'_>,
-    goals: &[Name],
-) -> Result<Vec<u8>, Fail> {
-    match selected(alloc, table, exists, goals) {
-        Ok(graph) => Ok(shown(alloc, &graph)?),
-        Err(fault) => Ok(fault_words(alloc, &fault)?),
+) -> Result<Vec<u8>, AllocError> {
+    match selected(alloc, table, exists) {
+        Ok(graph) => shown(alloc, &graph),
+        Err(fault) => fault_words(alloc, &fault),
     }
 }
 
-/// The same of a makefile's goals.
-fn makefile_graph(
+/// The graph of a table's goals.
+fn selected_of(
     alloc: Global,
-    makefile: &Makefile,
+    table: &RuleTable<'_>,
     exists: &Exists<'_>,
-    goals: &[Name],
-) -> Result<Vec<u8>, Fail> {
-    let table = RuleTable::new(alloc, makefile)?;
-    graph_shown(alloc, &table, exists, goals)
+    goals: &Goals,
+) -> Result<Graph, InferFault> {
+    let choices = Choices::new(alloc, table, exists)?;
+    select(alloc, &choices, goals)
 }
 
-/// The same of a text's first goal.
-fn graph_of(alloc: Global, text: &[u8], exists: &Exists<'_>) -> Result<Vec<u8>, Fail> {
-    let makefile = makefile(alloc, text, true, "CC=cc")?;
-    makefile_graph(alloc, &makefile, exists, &[])
-}
-
+/// The graph of a table's first goal.
 fn selected(
     alloc: Global,
     table: &RuleTable<'_>,
     exists: &Exists<'_>,
-    words: &[Name],
 ) -> Result<Graph, InferFault> {
-    let goals = goal_names(alloc, table, words)?;
-    let choices = Choices::new(alloc, table, exists)?;
-    select(alloc, &choices, &goals)
+    let goals = goal_names(alloc, table, &[])?;
+    selected_of(alloc, table, exists, &goals)
 }
 
 /// The number of a fault, with its line or its name.
-fn fault_words(alloc: Global, fault: &InferFault) -> Result<Vec<u8>, Fail> {
-    let text = match fault {
-        InferFault::BadGoal(place) => format!(in alloc; "27 {}", place.line)?,
-        InferFault::GoalIsMember(place) => format!(in alloc; "28 {}", place.line)?,
-        InferFault::NoRule(name) => format!(in alloc; "41 {}", name.as_str())?,
-        InferFault::NoGoal => format!(in alloc; "44")?,
-        InferFault::InferencePrerequisites(place) => format!(in alloc; "45 {}", place.line)?,
-        InferFault::Macro(place, _) => format!(in alloc; "macro {}", place.line)?,
-        InferFault::Graph(_) => format!(in alloc; "graph")?,
-        InferFault::Memory => format!(in alloc; "memory")?,
-    };
-    Ok(text.into_bytes())
+fn fault_text(alloc: Global, fault: &InferFault) -> Result<String, AllocError> {
+    match fault {
+        InferFault::BadGoal(place) => format!(in alloc; "27 {}", place.line),
+        InferFault::GoalIsMember(place) => format!(in alloc; "28 {}", place.line),
+        InferFault::NoRule(name) => format!(in alloc; "41 {}", name.as_str()),
+        InferFault::NoGoal => format!(in alloc; "44"),
+        InferFault::InferencePrerequisites(place) => format!(in alloc; "45 {}", place.line),
+        InferFault::Macro(place, _) => format!(in alloc; "macro {}", place.line),
+        InferFault::Graph(_) => format!(in alloc; "graph"),
+        InferFault::Memory => format!(in alloc; "memory"),
+    }
 }
 
-/// What is shown of the graph of a row's makefile.
-fn graph_of_row(alloc: Global, exists: &Exists<'_>, fields: &[&str]) -> Result<Vec<u8>, Fail> {
-    let text = field(alloc, fields, 0)?;
-    graph_of(alloc, text.as_bytes(), exists)
+/// The same as bytes.
+fn fault_words(alloc: Global, fault: &InferFault) -> Result<Vec<u8>, AllocError> {
+    Ok(fault_text(alloc, fault)?.into_bytes())
 }
 
-/// Expects the second field of a row to be shown.
-fn expect_graph(
-    rt: &impl Abort,
+/// Commands, each behind a newline; before them `?` where they vary.
+fn lines_text(alloc: Global, found: &Commands) -> Result<Vec<u8>, AllocError> {
+    let mut out = Vec::new(alloc);
+    if found.varying {
+        out.push(b'?')?;
+    }
+    for line in &found.lines {
+        out.push(b'\n')?;
+        out.extend_from_slice(line)?;
+    }
+    Ok(out)
+}
+
+/// The commands of a name, or the words of the fault.
+fn told(alloc: Global, choices: &Choices<'_>, name: &str) -> Result<Vec<u8>, AllocError> {
+    match commands(alloc, choices, name) {
+        Ok(found) => lines_text(alloc, &found),
+        Err(fault) => fault_words(alloc, &fault),
+    }
+}
+
+/// The inferred prerequisite of a name, `-` where there is none.
+fn choice_text(alloc: Global, choices: &Choices<'_>, name: &str) -> Result<Vec<u8>, AllocError> {
+    choice(alloc, choices, name)?
+        .unwrap_or("-")
+        .as_bytes()
+        .to_vec(alloc)
+}
+
+/// The inferred prerequisite, `-` where there is none, and the commands.
+fn made_text(alloc: Global, made: &Made<'_>) -> Result<Vec<u8>, AllocError> {
+    let mut out = made.choice.unwrap_or("-").as_bytes().to_vec(alloc)?;
+    out.extend_from_slice(&lines_text(alloc, &made.commands)?)?;
+    Ok(out)
+}
+
+/// What makes a name, or the words of the fault.
+fn told_at_once(alloc: Global, choices: &Choices<'_>, name: &str) -> Result<Vec<u8>, AllocError> {
+    match choice_and_commands(alloc, choices, name) {
+        Ok(made) => made_text(alloc, &made),
+        Err(fault) => fault_words(alloc, &fault),
+    }
+}
+
+/// What is asked of a name.
+fn asked(
     alloc: Global,
+    choices: &Choices<'_>,
+    what: &str,
+    name: &str,
+) -> Result<Vec<u8>, AllocError> {
+    match what {
+        "commands" => told(alloc, choices, name),
+        "choice" => choice_text(alloc, choices, name),
+        _ => told_at_once(alloc, choices, name),
+    }
+}
+
+/// What is asked of a name of a table.
+fn asked_of(
+    alloc: Global,
+    table: &RuleTable<'_>,
     exists: &Exists<'_>,
-    row: &str,
-) -> Result<(), Fail> {
+    what: &str,
+    name: &str,
+) -> Result<Vec<u8>, AllocError> {
+    let choices = Choices::new(alloc, table, exists)?;
+    asked(alloc, &choices, what, name)
+}
+
+/// What the fields of a row ask of a table.
+fn of_table(
+    alloc: Global,
+    table: &RuleTable<'_>,
+    exists: &Exists<'_>,
+    fields: &[&str],
+) -> Result<Vec<u8>, AllocError> {
+    match fields {
+        [what, _, name] => asked_of(alloc, table, exists, what, name),
+        _ => graph_shown(alloc, table, exists),
+    }
+}
+
+/// The same of a makefile.
+fn of_makefile(
+    alloc: Global,
+    makefile: &Makefile,
+    exists: &Exists<'_>,
+    fields: &[&str],
+) -> Result<Vec<u8>, AllocError> {
+    let table = RuleTable::new(alloc, makefile)?;
+    of_table(alloc, &table, exists, fields)
+}
+
+/// A makefile whose last line defines a macro of its commands.
+const OBJECT: &str = "d/a.o: b b¶→echo $* $< $^ $+ $(X)¶b.o:¶b.c:¶v: b¶→echo $?¶X = 2¶";
+
+/// The text of a row's makefile: that one, or the first of two fields.
+fn text_of(alloc: Global, fields: &[&str]) -> Result<String, AllocError> {
+    match fields {
+        [text, _] => unfolded(alloc, text),
+        _ => unfolded(alloc, OBJECT),
+    }
+}
+
+/// The same of the text of a row.
+fn answer_of(alloc: Global, exists: &Exists<'_>, fields: &[&str]) -> Result<Vec<u8>, Fail> {
+    let text = text_of(alloc, fields)?;
+    let makefile = makefile(alloc, text.as_bytes())?;
+    Ok(of_makefile(alloc, &makefile, exists, fields)?)
+}
+
+/// Expects the second field of a row.
+fn expect_row(rt: &impl Abort, alloc: Global, exists: &Exists<'_>, row: &str) -> Result<(), Fail> {
     let fields = fields_of(alloc, row)?;
-    let got = graph_of_row(alloc, exists, &fields)?;
+    let got = answer_of(alloc, exists, &fields)?;
     let wanted = field(alloc, &fields, 1)?;
-    assert_eq!(rt; got.as_slice(), wanted.as_bytes(), "over {row:?}");
+    same_bytes(rt, &got, wanted.as_bytes(), row);
     Ok(())
 }
 
 /// Each line of the table is a row.
-fn expect_graphs(
+fn expect_rows(
     rt: &impl Abort,
     alloc: Global,
     exists: &Exists<'_>,
-    table: &str,
+    rows: &str,
 ) -> Result<(), Fail> {
-    for row in table.lines() {
-        expect_graph(rt, alloc, exists, row)?;
+    for row in rows.lines() {
+        expect_row(rt, alloc, exists, row)?;
     }
     Ok(())
+}
+
+/// The same where this is there.
+fn expect_there(
+    rt: &impl Abort,
+    alloc: Global,
+    tables: &ThereTables,
+    any_leaf: bool,
+    rows: &str,
+) -> Result<(), Fail> {
+    let exists = exists(tables, any_leaf);
+    expect_rows(rt, alloc, &exists, rows)
+}
+
+/// The same where no sources or fixed prefixes are given, and any name may be a leaf.
+fn expect_anywhere(rt: &impl Abort, alloc: Global, rows: &str) -> Result<(), Fail> {
+    let tables = tables(alloc, "", "")?;
+    expect_there(rt, alloc, &tables, true, rows)
 }
 
 /// Makefiles behind the default text, and what is shown of their first goal.
@@ -203,9 +334,7 @@ a: b¶b: a‖graph";
 
 #[test]
 fn selects_graphs(rt: HostRuntime) -> Result<(), Fail> {
-    let tables = tables(rt.alloc(), "", "")?;
-    let exists = exists(&tables, true);
-    expect_graphs(&rt, rt.alloc(), &exists, GRAPHS)
+    expect_anywhere(&rt, rt.alloc(), GRAPHS)
 }
 
 /// The same where `a.c` is the one source, and what begins with `/usr/` is fixed.
@@ -221,131 +350,20 @@ p: /usr/a.o¶/usr/a.c:‖p| /usr/a.o¶/usr/a.o¶
 #[test]
 fn minds_what_is_given(rt: HostRuntime) -> Result<(), Fail> {
     let tables = tables(rt.alloc(), "a.c", "/usr/")?;
-    let exists = exists(&tables, false);
-    expect_graphs(&rt, rt.alloc(), &exists, GIVEN)
+    expect_there(&rt, rt.alloc(), &tables, false, GIVEN)
 }
 
-/// Commands, each behind a newline; before them `?` where they vary.
-fn lines_text(alloc: Global, found: &Commands) -> Result<Vec<u8>, AllocError> {
-    let mut out = Vec::new(alloc);
-    if found.varying {
-        out.push(b'?')?;
-    }
-    for line in &found.lines {
-        out.push(b'\n')?;
-        out.extend_from_slice(line)?;
-    }
-    Ok(out)
-}
-
-/// The commands of a name, or the words of the fault.
-fn told(alloc: Global, choices: &Choices<'_>, name: &str) -> Result<Vec<u8>, Fail> {
-    match commands(alloc, choices, name) {
-        Ok(found) => Ok(lines_text(alloc, &found)?),
-        Err(fault) => Ok(fault_words(alloc, &fault)?),
-    }
-}
-
-/// Whether a name has this inferred prerequisite.
-fn has_choice(
-    alloc: Global,
-    choices: &Choices<'_>,
-    name: &str,
-    wanted: &str,
-) -> Result<bool, AllocError> {
-    match choice(alloc, choices, name)? {
-        Some(found) => Ok(found == wanted),
-        None => Ok(false),
-    }
-}
-
-/// A makefile whose last line defines a macro of its commands.
-const OBJECT: &[u8] = b"d/a.o: b b\n\techo $* $< $^ $+ $(X)\nb.o:\nb.c:\nv: b\n\techo $?\nX = 2\n";
-
-/// Sees the commands of a name.
-fn see_told(
-    rt: &impl Abort,
-    alloc: Global,
-    choices: &Choices<'_>,
-    name: &str,
-    want: &[u8],
-) -> Result<(), Fail> {
-    let found = told(alloc, choices, name)?;
-    assert_eq!(rt; found.as_slice(), want, "of {name}");
-    Ok(())
-}
-
-/// The inferred prerequisite, `-` where there is none, and the commands.
-fn made_text(alloc: Global, made: &Made<'_>) -> Result<Vec<u8>, AllocError> {
-    let mut out = made.choice.unwrap_or("-").as_bytes().to_vec(alloc)?;
-    out.extend_from_slice(&lines_text(alloc, &made.commands)?)?;
-    Ok(out)
-}
-
-/// What makes a name, or the words of the fault.
-fn told_at_once(alloc: Global, choices: &Choices<'_>, name: &str) -> Result<Vec<u8>, Fail> {
-    match choice_and_commands(alloc, choices, name) {
-        Ok(made) => Ok(made_text(alloc, &made)?),
-        Err(fault) => Ok(fault_words(alloc, &fault)?),
-    }
-}
-
-/// Sees what makes a name.
-fn see_made(
-    rt: &impl Abort,
-    alloc: Global,
-    choices: &Choices<'_>,
-    name: &str,
-    want: &[u8],
-) -> Result<(), Fail> {
-    let found = told_at_once(alloc, choices, name)?;
-    assert_eq!(rt; found.as_slice(), want, "of {name}");
-    Ok(())
-}
-
-/// Sees the commands of three names, and the inferred prerequisite of one.
-fn see_commands(rt: &impl Abort, alloc: Global, choices: &Choices<'_>) -> Result<(), Fail> {
-    see_told(rt, alloc, choices, "d/a.o", b"\necho d/a b b b b 2")?;
-    see_told(rt, alloc, choices, "v", b"?\necho ")?;
-    see_told(rt, alloc, choices, "b.o", b"\ncc -O1 -c b.c")?;
-    assert!(rt; has_choice(alloc, choices, "b.o", "b.c")?);
-    assert!(rt; !has_choice(alloc, choices, "b.c", "b.c")?);
-    see_made(rt, alloc, choices, "b.o", b"b.c\ncc -O1 -c b.c")?;
-    see_made(rt, alloc, choices, "b.c", b"-")?;
-    see_made(rt, alloc, choices, "v", b"-?\necho ")
-}
-
-/// The same over a makefile whose names are looked up.
-fn see_table(
-    rt: &impl Abort,
-    alloc: Global,
-    table: &RuleTable<'_>,
-    exists: &Exists<'_>,
-) -> Result<(), Fail> {
-    let choices = Choices::new(alloc, table, exists)?;
-    see_commands(rt, alloc, &choices)
-}
-
-/// The same over a makefile.
-fn see_makefile(
-    rt: &impl Abort,
-    alloc: Global,
-    makefile: &Makefile,
-    exists: &Exists<'_>,
-) -> Result<(), Fail> {
-    let table = RuleTable::new(alloc, makefile)?;
-    see_table(rt, alloc, &table, exists)
-}
-
-/// The same over a text.
-fn see_text(rt: &impl Abort, alloc: Global, text: &[u8], exists: &Exists<'_>) -> Result<(), Fail> {
-    let makefile = makefile(alloc, text, true, "CC=cc")?;
-    see_makefile(rt, alloc, &makefile, exists)
-}
+/// What is asked of a name of the one makefile, what is told, and the name.
+const MADE: &str = r"commands‖¶echo d/a b b b b 2‖d/a.o
+commands‖?¶echo ‖v
+commands‖¶cc -O1 -c b.c‖b.o
+choice‖b.c‖b.o
+choice‖-‖b.c
+both‖b.c¶cc -O1 -c b.c‖b.o
+both‖-‖b.c
+both‖-?¶echo ‖v";
 
 #[test]
 fn expands_commands(rt: HostRuntime) -> Result<(), Fail> {
-    let tables = tables(rt.alloc(), "", "")?;
-    let exists = exists(&tables, true);
-    see_text(&rt, rt.alloc(), OBJECT, &exists)
+    expect_anywhere(&rt, rt.alloc(), MADE)
 }

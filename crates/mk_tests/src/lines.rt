@@ -1,36 +1,38 @@
 //! Lines, comments, words, paths, references and names that are looked up, by tables.
 
-use crate::fixtures::{long, names, same};
+use crate::fixtures::{long, names, same, same_bytes, same_number, see_that};
 use mk_lines::{
-    LineFault, Name, NameTable, Prefixes, Span, first_outside, is_blank, is_plain_path,
+    Line, LineFault, Name, NameTable, Prefixes, Span, first_outside, is_blank, is_plain_path,
     is_plain_text_path, is_rule_line, logical_lines, trimmed, uncomment, words,
 };
-use std::alloc::Global;
+use std::alloc::{AllocError, Global};
 use std::process::Abort;
 use std::str;
 use std::test::Fail;
 
-/// What a text reads as: of each line its number, `!` for a command line or `:`, its text and `/`;
-/// or the fault.
-fn read(alloc: Global, text: &[u8]) -> Result<String, LineFault> {
+/// A line as a text: its number, `!` for a command line or `:`, its text and `/`.
+fn line_text(alloc: Global, line: &Line) -> Result<String, AllocError> {
+    let mark = if line.command { '!' } else { ':' };
+    let text = str::from_utf8(&line.text).unwrap_or("?");
+    format!(in alloc; "{}{mark}{text}/", line.first)
+}
+
+/// Lines as a text.
+fn lines_text(alloc: Global, lines: &[Line]) -> Result<String, AllocError> {
     let mut out = String::new(alloc);
-    match logical_lines(alloc, text) {
-        Ok(lines) => {
-            for line in &lines {
-                let mark = if line.command { '!' } else { ':' };
-                let head = format!(in alloc; "{}{mark}", line.first)?;
-                out.push_str(head.as_str())?;
-                out.push_str(str::from_utf8(&line.text).unwrap_or("?"))?;
-                out.push('/')?;
-            }
-        }
-        Err(LineFault::Memory) => return Err(LineFault::Memory),
-        Err(fault) => {
-            let words = format!(in alloc; "{fault}")?;
-            out.push_str(words.as_str())?;
-        }
+    for line in lines {
+        out.push_str(line_text(alloc, line)?.as_str())?;
     }
     Ok(out)
+}
+
+/// What a text reads as: its lines, or the fault.
+fn read(alloc: Global, text: &[u8]) -> Result<String, LineFault> {
+    match logical_lines(alloc, text) {
+        Ok(lines) => Ok(lines_text(alloc, &lines)?),
+        Err(LineFault::Memory) => Err(LineFault::Memory),
+        Err(fault) => Ok(format!(in alloc; "{fault}")?),
+    }
 }
 
 /// Texts, and what they read as.
@@ -61,72 +63,49 @@ fn reads_lines(rt: HostRuntime) -> Result<(), Fail> {
     Ok(())
 }
 
-/// Sees what a front, so many units and an end read as.
-fn see_long(
-    rt: &impl Abort,
-    alloc: Global,
-    unit: (&[u8], usize),
-    ends: (&[u8], &[u8]),
-    want: &str,
-) -> Result<(), Fail> {
-    let mut text = long(alloc, ends.0, unit.0, unit.1)?;
-    text.extend_from_slice(ends.1)?;
-    let got = read(alloc, &text)?;
-    assert_eq!(rt; got.as_str(), want);
+/// A front, a unit with its number, an end, and what they read as.
+const LONG: &[(&str, &str, usize, &str, &str)] = &[
+    ("\n#", "x", 65_536, "", "line 2 is over 65,536 bytes"),
+    ("x\\\n", "y", 65_535, "", "line 1 is over 65,536 bytes"),
+    ("\0", "x", 65_536, "", "line 1 holds byte 0"),
+    ("", "x", 65_537, "\n\0", "line 1 is over 65,536 bytes"),
+    ("", " ", 65_537, "", ""),
+    (
+        "\n\n",
+        "a:\n",
+        65_536,
+        " \na:\n",
+        "line 65540 is one too many",
+    ),
+    ("", "a:\n", 65_537, "", "line 65537 is one too many"),
+    ("", "a:\n", 65_536, "\0", "line 65537 holds byte 0"),
+];
+
+#[test]
+fn keeps_limits(rt: HostRuntime) -> Result<(), Fail> {
+    for &(front, unit, count, end, want) in LONG {
+        let mut text = long(rt.alloc(), front.as_bytes(), unit.as_bytes(), count)?;
+        text.extend_from_slice(end.as_bytes())?;
+        let got = read(rt.alloc(), &text)?;
+        same(&rt, got.as_str(), want, want);
+    }
     Ok(())
 }
 
-#[test]
-fn keeps_limits_of_lines(rt: HostRuntime) -> Result<(), Fail> {
-    let alloc = rt.alloc();
-    let over = "line 1 is over 65,536 bytes";
-    see_long(
-        &rt,
-        alloc,
-        (b"x", 65_536),
-        (b"\n#", b""),
-        "line 2 is over 65,536 bytes",
-    )?;
-    see_long(&rt, alloc, (b"y", 65_535), (b"x\\\n", b""), over)?;
-    see_long(
-        &rt,
-        alloc,
-        (b"x", 65_536),
-        (b"\0", b""),
-        "line 1 holds byte 0",
-    )?;
-    see_long(&rt, alloc, (b"x", 65_537), (b"", b"\n\0"), over)?;
-    see_long(&rt, alloc, (b" ", 65_537), (b"", b""), "")
-}
-
-#[test]
-fn keeps_number_of_lines(rt: HostRuntime) -> Result<(), Fail> {
-    let alloc = rt.alloc();
-    let over = "line 65540 is one too many";
-    see_long(&rt, alloc, (b"a:\n", 65_536), (b"\n\n", b" \na:\n"), over)?;
-    let over = "line 65537 is one too many";
-    see_long(&rt, alloc, (b"a:\n", 65_537), (b"", b""), over)?;
-    let zero = "line 65537 holds byte 0";
-    see_long(&rt, alloc, (b"a:\n", 65_536), (b"", b"\0"), zero)
-}
-
-/// Sees how many lines a front and so many units have.
-fn see_count(
-    rt: &impl Abort,
-    alloc: Global,
-    front: &[u8],
-    unit: (&[u8], usize),
-    want: usize,
-) -> Result<(), Fail> {
-    let text = long(alloc, front, unit.0, unit.1)?;
-    assert_eq!(rt; logical_lines(alloc, &text)?.len(), want);
-    Ok(())
-}
+/// A front, a unit with its number, and how many lines they have.
+const COUNTS: &[(&str, &str, usize, usize)] = &[
+    ("#", "x", 65_535, 1),
+    ("\n\n", "a:\n", 65_536, 65_536),
+];
 
 #[test]
 fn reads_to_the_limits(rt: HostRuntime) -> Result<(), Fail> {
-    see_count(&rt, rt.alloc(), b"#", (b"x", 65_535), 1)?;
-    see_count(&rt, rt.alloc(), b"\n\n", (b"a:\n", 65_536), 65_536)
+    for &(front, unit, count, want) in COUNTS {
+        let text = long(rt.alloc(), front.as_bytes(), unit.as_bytes(), count)?;
+        let lines = logical_lines(rt.alloc(), &text)?;
+        same_number(&rt, lines.len(), want, front);
+    }
+    Ok(())
 }
 
 /// Plain lines, and what is left of them without comments.
@@ -149,28 +128,43 @@ const COMMENTS: &[(&str, &str)] = &[
 fn drops_comments(rt: HostRuntime) -> Result<(), Fail> {
     for &(text, left) in COMMENTS {
         let line = uncomment(rt.alloc(), text.as_bytes())?;
-        same(&rt, str::from_utf8(&line).unwrap_or("?"), left, text);
+        same_bytes(&rt, &line, left.as_bytes(), text);
     }
     Ok(())
 }
 
+/// Texts, and what is left of them without leading blanks.
+const BLANKS: &[(&str, &str)] = &[(" \t a b ", "a b "), ("a", "a"), ("\t ", ""), ("", "")];
+
 #[test]
-fn drops_leading_blanks(rt: HostRuntime) -> Result<(), Fail> {
-    for (text, rest) in [(" \t a b ", "a b "), ("a", "a"), ("\t ", ""), ("", "")] {
-        assert_eq!(rt; trimmed(text.as_bytes()), rest.as_bytes(), "{text:?}");
+fn drops_leading_blanks(rt: HostRuntime) {
+    for &(text, rest) in BLANKS {
+        same_bytes(&rt, trimmed(text.as_bytes()), rest.as_bytes(), text);
     }
-    assert!(rt; is_blank(b' ') && is_blank(b'\t') && !is_blank(b'\n') && !is_blank(b'\x0b'));
-    Ok(())
 }
+
+#[test]
+fn knows_blanks(rt: HostRuntime) {
+    see_that(&rt, is_blank(b' ') && is_blank(b'\t'), "blanks");
+    see_that(&rt, !is_blank(b'\n') && !is_blank(b'\x0b'), "no blanks");
+}
+
+/// Texts, and where their words are.
+const WORDS: &[(&str, &[Span])] = &[
+    (
+        " a  bc",
+        &[Span { start: 1, end: 2 }, Span { start: 4, end: 6 }],
+    ),
+    (" \t ", &[]),
+    ("", &[]),
+];
 
 #[test]
 fn finds_words(rt: HostRuntime) -> Result<(), Fail> {
-    let alloc = rt.alloc();
-    let spans = words(alloc, b" a  bc")?;
-    let expected = [Span { start: 1, end: 2 }, Span { start: 4, end: 6 }];
-    assert_eq!(rt; spans.as_slice(), expected.as_slice());
-    assert_eq!(rt; words(alloc, b" \t ")?.len(), 0);
-    assert_eq!(rt; words(alloc, b"")?.len(), 0);
+    for &(text, expected) in WORDS {
+        let spans = words(rt.alloc(), text.as_bytes())?;
+        see_that(&rt, spans.as_slice() == expected, text);
+    }
     Ok(())
 }
 
@@ -204,8 +198,8 @@ a\x7f";
 
 /// Sees whether a text is a plain path.
 fn see_path(rt: &impl Abort, path: &str, want: bool) {
-    assert_eq!(rt; is_plain_path(path.as_bytes()), want, "{path:?}");
-    assert_eq!(rt; is_plain_text_path(path), want, "{path:?}");
+    see_that(rt, is_plain_path(path.as_bytes()) == want, path);
+    see_that(rt, is_plain_text_path(path) == want, path);
 }
 
 #[test]
@@ -220,11 +214,11 @@ fn knows_plain_paths(rt: HostRuntime) {
 
 #[test]
 fn knows_long_paths(rt: HostRuntime) -> Result<(), Fail> {
-    let longest = long(rt.alloc(), b"", b"x", 4096)?;
-    assert!(rt; is_plain_path(&longest));
-    let longer = long(rt.alloc(), b"", b"x", 4097)?;
-    assert!(rt; !is_plain_path(&longer));
-    assert!(rt; !is_plain_path(b"a\xff"));
+    for (count, want) in [(4096, true), (4097, false)] {
+        let path = long(rt.alloc(), b"", b"x", count)?;
+        see_that(&rt, is_plain_path(&path) == want, "a long path");
+    }
+    see_that(&rt, !is_plain_path(b"a\xff"), "no text");
     Ok(())
 }
 
@@ -245,7 +239,7 @@ const COLONS: &[(&str, Option<usize>)] = &[
 fn searches_outside_references(rt: HostRuntime) -> Result<(), Fail> {
     for &(text, at) in COLONS {
         let found = first_outside(rt.alloc(), b":", text.as_bytes())?;
-        assert_eq!(rt; found, at, "over {text:?}");
+        see_that(&rt, found == at, text);
     }
     Ok(())
 }
@@ -271,7 +265,7 @@ a;b:c";
 /// Sees whether each line is a rule line.
 fn see_rule_lines(rt: &impl Abort, alloc: Global, lines: &str, want: bool) -> Result<(), Fail> {
     for line in lines.lines() {
-        assert_eq!(rt; is_rule_line(alloc, line.as_bytes())?, want, "{line:?}");
+        see_that(rt, is_rule_line(alloc, line.as_bytes())? == want, line);
     }
     Ok(())
 }
@@ -284,9 +278,9 @@ fn knows_rule_lines(rt: HostRuntime) -> Result<(), Fail> {
 
 /// Sees where a name stands in a table, and what is lent of it.
 fn see_name(rt: &impl Abort, table: &NameTable, name: &str, place: Option<usize>) {
-    assert_eq!(rt; table.place(name), place, "{name}");
-    assert_eq!(rt; table.contains(name), place.is_some(), "{name}");
-    assert_eq!(rt; table.get(name).unwrap_or(""), place.map_or("", |_| name));
+    see_that(rt, table.place(name) == place, name);
+    see_that(rt, table.contains(name) == place.is_some(), name);
+    see_that(rt, table.get(name) == place.map(|_| name), name);
 }
 
 /// Sees what a table of four names finds.
@@ -295,10 +289,11 @@ fn see_names(rt: &impl Abort, table: &NameTable) {
     see_name(rt, table, "a.c", Some(1));
     see_name(rt, table, "é", Some(3));
     see_name(rt, table, "a", None);
-    assert!(rt; table.contains_bytes("é".as_bytes()));
-    assert!(rt; !table.contains_bytes(b"\xc3"));
-    assert_eq!(rt; table.as_slice().len(), 4);
-    assert_eq!(rt; table.as_slice()[2].as_str(), "b");
+    see_that(rt, table.contains_bytes("é".as_bytes()), "é");
+    see_that(rt, !table.contains_bytes(b"\xc3"), "half of é");
+    same_number(rt, table.as_slice().len(), 4, "names");
+    let third = table.as_slice().get(2);
+    same(rt, third.map_or("", String::as_str), "b", "names");
 }
 
 #[test]
@@ -308,21 +303,37 @@ fn finds_names(rt: HostRuntime) -> Result<(), Fail> {
     Ok(())
 }
 
+/// Names, and whether they stand under `/usr/`, `lib/` or `é/`.
+const UNDER: &[(&str, bool)] = &[
+    ("/usr/x.h", true),
+    ("/usr/", true),
+    ("lib/a/b", true),
+    ("é/x", true),
+    ("/usr", false),
+    ("usr/x.h", false),
+    ("li", false),
+    ("x/lib/", false),
+    ("", false),
+    ("e/x", false),
+];
+
+/// Sees whether names stand under these prefixes.
+fn see_under(rt: &impl Abort, prefixes: &Prefixes) {
+    for &(name, want) in UNDER {
+        see_that(rt, prefixes.is_under(name) == want, name);
+    }
+}
+
 #[test]
 fn finds_prefixes(rt: HostRuntime) -> Result<(), Fail> {
     let prefixes = Prefixes::new(rt.alloc(), names(rt.alloc(), "/usr/ lib/ é/")?)?;
-    for name in ["/usr/x.h", "/usr/", "lib/a/b", "é/x"] {
-        assert!(rt; prefixes.is_under(name), "{name}");
-    }
-    for name in ["/usr", "usr/x.h", "li", "x/lib/", "", "e/x"] {
-        assert!(rt; !prefixes.is_under(name), "{name}");
-    }
+    see_under(&rt, &prefixes);
     Ok(())
 }
 
 #[test]
 fn copies_names(rt: HostRuntime) -> Result<(), Fail> {
     let spelled = Name::from_string(String::from_str(rt.alloc(), "b.c")?);
-    assert_eq!(rt; spelled.clone()?.as_str(), "b.c");
+    same(&rt, spelled.clone()?.as_str(), "b.c", "a copy");
     Ok(())
 }

@@ -1,17 +1,11 @@
 //! Rows on definitions, operands and substitutions.
 
-use crate::fixtures::{fields_of, same, unfolded};
-use crate::macro_rows::{expanded, follow, told};
+use crate::fixtures::same_number;
+use crate::macro_rows::{expanded, follow_anew};
 use mk_macros::{Locals, MacroTable, Op};
 use std::alloc::Global;
 use std::process::Abort;
 use std::test::Fail;
-
-/// Follows rows over a new table, outside commands.
-fn follow_anew(rt: &impl Abort, alloc: Global, rows: &str) -> Result<(), Fail> {
-    let mut macros = MacroTable::new(alloc);
-    follow(rt, alloc, &mut macros, &Locals::Empty, rows)
-}
 
 /// Definitions of `N` by each operator behind each other one, and what it is expanded to then.
 const DEFINITIONS: &str = r"N‖=‖x‖
@@ -98,49 +92,19 @@ fn names_are_tested(rt: HostRuntime) -> Result<(), Fail> {
     follow_anew(&rt, rt.alloc(), NAMES)
 }
 
-/// Sees what is said of a definition by so many bytes.
-fn see_long(
-    rt: &impl Abort,
-    alloc: Global,
-    macros: &mut MacroTable,
-    name: &str,
-    count: usize,
-    want: &str,
-) -> Result<(), Fail> {
-    let text = Vec::from_elem(alloc, b'x', count)?;
-    let said = told(alloc, macros.define(name.as_bytes(), Op::Delay, &text))?;
-    same(rt, said.as_str(), want, name);
-    Ok(())
-}
-
-/// The words of fault 15.
-const TOO_LONG: &str = "a value is over 1,048,576 bytes";
-
-/// Rows behind `A` of the most bytes.
-const FULL: &str = "A‖+=‖‖a value is over 1,048,576 bytes
-$(B)‖";
-
-/// Rows behind `A` of one byte less.
-const NEARLY_FULL: &str = "A‖+=‖y‖a value is over 1,048,576 bytes
+/// Definitions by texts of the most bytes, of one more, and of one less.
+const LIMITS: &str = r"A‖=‖×1048576×x×‖
+B‖=‖×1048577×x×‖a value is over 1,048,576 bytes
+a b‖=‖×1048577×x×‖a bad macro name
+A‖+=‖‖a value is over 1,048,576 bytes
+$(B)‖
+A‖=‖×1048575×x×‖
+A‖+=‖y‖a value is over 1,048,576 bytes
 A‖+=‖‖";
 
 #[test]
 fn texts_have_a_limit(rt: HostRuntime) -> Result<(), Fail> {
-    let alloc = rt.alloc();
-    let mut macros = MacroTable::new(alloc);
-    see_long(&rt, alloc, &mut macros, "A", 1_048_576, "")?;
-    see_long(&rt, alloc, &mut macros, "B", 1_048_577, TOO_LONG)?;
-    see_long(
-        &rt,
-        alloc,
-        &mut macros,
-        "a b",
-        1_048_577,
-        "a bad macro name",
-    )?;
-    follow(&rt, alloc, &mut macros, &Locals::Empty, FULL)?;
-    see_long(&rt, alloc, &mut macros, "A", 1_048_575, "")?;
-    follow(&rt, alloc, &mut macros, &Locals::Empty, NEARLY_FULL)
+    follow_anew(&rt, rt.alloc(), LIMITS)
 }
 
 /// Operands, what is said of them, and what `<$(A)>` is expanded to when `A` was then defined as
@@ -168,43 +132,17 @@ A ?= x‖a bad macro name‖<later>
 A::::=x‖a bad macro name‖<later>
 A b=x‖a bad macro name‖<later>";
 
-/// What `<$(A)>` is expanded to when `A` is defined as `later` and `v` as `w`.
-fn left(alloc: Global, macros: &mut MacroTable) -> Result<String, Fail> {
-    macros.define(b"A", Op::Delay, b"later")?;
-    macros.define(b"v", Op::Delay, b"w")?;
-    expanded(alloc, macros, &Locals::Empty, "<$(A)>")
-}
-
-/// Sees what is said of an operand, and what is left of later definitions.
-fn see_operand(
-    rt: &impl Abort,
-    alloc: Global,
-    operand: &str,
-    want: &str,
-    value: &str,
-) -> Result<(), Fail> {
-    let mut macros = MacroTable::new(alloc);
-    let said = told(alloc, macros.fix(operand.as_bytes()))?;
-    same(rt, said.as_str(), want, operand);
-    let left = left(alloc, &mut macros)?;
-    same(rt, left.as_str(), value, operand);
-    Ok(())
-}
-
-/// Sees what a row says of an operand.
-fn see_operand_row(rt: &impl Abort, alloc: Global, row: &str) -> Result<(), Fail> {
-    let row = unfolded(alloc, row)?;
-    let fields = fields_of(alloc, row.as_str())?;
-    match fields.as_slice() {
-        [operand, want, value] => see_operand(rt, alloc, operand, want, value),
-        _ => Err("no row".into()),
-    }
+/// Sees what a row says of an operand, and of what is defined behind it.
+fn see_operand(rt: &impl Abort, alloc: Global, row: &str) -> Result<(), Fail> {
+    let (operand, value) = row.rsplit_once("‖").ok_or("no row")?;
+    let rows = format!(in alloc; "fix‖{operand}\nA‖=‖later‖\nv‖=‖w‖\n<$(A)>‖{value}")?;
+    follow_anew(rt, alloc, rows.as_str())
 }
 
 #[test]
 fn operands_fix_macros(rt: HostRuntime) -> Result<(), Fail> {
     for row in OPERANDS.lines() {
-        see_operand_row(&rt, rt.alloc(), row)?;
+        see_operand(&rt, rt.alloc(), row)?;
     }
     Ok(())
 }
@@ -237,61 +175,59 @@ fn operands_win(rt: HostRuntime) -> Result<(), Fail> {
     follow_anew(&rt, rt.alloc(), FIXED)
 }
 
-#[test]
-fn many_appends_are_quick(rt: HostRuntime) -> Result<(), Fail> {
-    let mut macros = MacroTable::new(rt.alloc());
+/// How long a macro's value is behind so many definitions.
+fn length_of_many(alloc: Global, macros: &mut MacroTable) -> Result<usize, Fail> {
     for _ in 0..60_000 {
         macros.define(b"A", Op::Append, b"sixteen bytes of")?;
     }
-    let found = expanded(rt.alloc(), &macros, &Locals::Empty, "$(A)")?;
-    assert_eq!(rt; found.len(), 1_019_999);
-    Ok(())
-}
-
-/// A value, the texts of a substitution, and what the value's words become.
-const SUBSTITUTIONS: &str = r"‖.c‖.o‖
- → ‖.c‖.o‖
-a.c‖.c‖.o‖a.o
-  a.c→b.c  c.h ‖.c‖.o‖a.o b.o c.h
-.c‖.c‖.o‖.o
-a.c.c‖.c‖.o‖a.c.o
-a.cc b‖.c‖.o‖a.cc b
-a b‖‖.o‖a.o b.o
-a b‖a‖‖ b
-a.c b.c‖%.c‖o/%.o‖o/a.o o/b.o
-xa.c a.c‖x%.c‖%.o‖a.o a.c
-aba ababa‖ab%ba‖[%]‖aba [a]
-abba‖ab%ba‖[%]‖[]
-a.c‖%.c‖x‖x
-a.c‖%.c‖%%‖a%
-a.c b%.c‖%%.c‖<%>‖a.c <b>
-a.c‖.c‖%‖a%
-a‖%‖%-%‖a-%";
-
-/// What a substitution makes of a value.
-fn substituted(alloc: Global, value: &str, old: &str, new: &str) -> Result<String, Fail> {
-    let mut macros = MacroTable::new(alloc);
-    macros.define(b"V", Op::Delay, value.as_bytes())?;
-    let text = format!(in alloc; "$(V:{old}={new})")?;
-    expanded(alloc, &macros, &Locals::Empty, text.as_str())
-}
-
-/// Sees what a row's substitution makes.
-fn see_substitution(rt: &impl Abort, alloc: Global, row: &str) -> Result<(), Fail> {
-    let row = unfolded(alloc, row)?;
-    let fields = fields_of(alloc, row.as_str())?;
-    let [value, old, new, want] = fields.as_slice() else {
-        return Err("no row".into());
-    };
-    let found = substituted(alloc, value, old, new)?;
-    same(rt, found.as_str(), want, row.as_str());
-    Ok(())
+    Ok(expanded(alloc, macros, &Locals::Empty, "$(A)")?.len())
 }
 
 #[test]
-fn words_are_replaced(rt: HostRuntime) -> Result<(), Fail> {
-    for row in SUBSTITUTIONS.lines() {
-        see_substitution(&rt, rt.alloc(), row)?;
-    }
+fn many_appends_are_quick(rt: HostRuntime) -> Result<(), Fail> {
+    let mut macros = MacroTable::new(rt.alloc());
+    let length = length_of_many(rt.alloc(), &mut macros)?;
+    same_number(&rt, length, 1_019_999, "$(A)");
     Ok(())
+}
+
+/// Values, and what substitutions make of their words.
+const SUBSTITUTIONS: &str = r"V‖=‖‖
+$(V:.c=.o)‖
+V‖=‖ → ‖
+$(V:.c=.o)‖
+V‖=‖a.c‖
+$(V:.c=.o)‖a.o
+V‖=‖  a.c→b.c  c.h ‖
+$(V:.c=.o)‖a.o b.o c.h
+V‖=‖.c‖
+$(V:.c=.o)‖.o
+V‖=‖a.c.c‖
+$(V:.c=.o)‖a.c.o
+V‖=‖a.cc b‖
+$(V:.c=.o)‖a.cc b
+V‖=‖a b‖
+$(V:=.o)‖a.o b.o
+$(V:a=)‖ b
+V‖=‖a.c b.c‖
+$(V:%.c=o/%.o)‖o/a.o o/b.o
+V‖=‖xa.c a.c‖
+$(V:x%.c=%.o)‖a.o a.c
+V‖=‖aba ababa‖
+$(V:ab%ba=[%])‖aba [a]
+V‖=‖abba‖
+$(V:ab%ba=[%])‖[]
+V‖=‖a.c‖
+$(V:%.c=x)‖x
+$(V:%.c=%%)‖a%
+V‖=‖a.c b%.c‖
+$(V:%%.c=<%>)‖a.c <b>
+V‖=‖a.c‖
+$(V:.c=%)‖a%
+V‖=‖a‖
+$(V:%=%-%)‖a-%";
+
+#[test]
+fn words_are_replaced(rt: HostRuntime) -> Result<(), Fail> {
+    follow_anew(&rt, rt.alloc(), SUBSTITUTIONS)
 }

@@ -121,3 +121,9 @@ pub fn follow(
     }
     Ok(())
 }
+
+/// Sees what is said of each row over a new table, outside commands.
+pub fn follow_anew(rt: &impl Abort, alloc: Global, rows: &str) -> Result<(), Fail> {
+    let mut macros = MacroTable::new(alloc);
+    follow(rt, alloc, &mut macros, &Locals::Empty, rows)
+}

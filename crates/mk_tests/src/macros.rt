@@ -1,12 +1,11 @@
 //! Rows on expansions. The expected texts were worked out by hand.
 
-use crate::fixtures::long;
-use crate::macro_rows::{expanded, follow};
+use crate::fixtures::{same_bytes, same_number, see_that, unfolded};
+use crate::macro_rows::{follow, follow_anew};
 use mk_macros::{Locals, MacroTable, Op, without_blanks};
-use std::alloc::Global;
+use std::alloc::{AllocError, Global};
 use std::borrow::CowSlice;
 use std::process::Abort;
-use std::str;
 use std::test::Fail;
 
 /// Macros of the rows below.
@@ -163,26 +162,19 @@ $(Z)|$(Y)‖$v w|$v $v";
 
 #[test]
 fn values_that_were_stored(rt: HostRuntime) -> Result<(), Fail> {
-    let mut macros = MacroTable::new(rt.alloc());
-    follow(&rt, rt.alloc(), &mut macros, &Locals::Empty, STORED)
+    follow_anew(&rt, rt.alloc(), STORED)
 }
 
-/// Defines the macro of this number.
-fn put(alloc: Global, macros: &mut MacroTable, number: usize, text: &str) -> Result<(), Fail> {
-    let name = format!(in alloc; "A{number}")?;
-    Ok(macros.define(name.as_str().as_bytes(), Op::Delay, text.as_bytes())?)
-}
-
-/// Macros of which each stands for the one below it twice, and the lowest for nothing.
-fn doubling(alloc: Global, count: usize) -> Result<MacroTable, Fail> {
-    let mut macros = MacroTable::new(alloc);
-    put(alloc, &mut macros, 0, "")?;
+/// Rows of macros of which each stands for the one below it twice, and the lowest for nothing.
+fn doubling(alloc: Global, count: usize, rows: &str) -> Result<String, AllocError> {
+    let mut out = String::from_str(alloc, "A0‖=‖‖\n")?;
     for n in 1..count {
         let below = n.saturating_sub(1);
-        let text = format!(in alloc; "$(A{below})$(A{below})")?;
-        put(alloc, &mut macros, n, text.as_str())?;
+        let row = format!(in alloc; "A{n}‖=‖$(A{below})$(A{below})‖\n")?;
+        out.push_str(row.as_str())?;
     }
-    Ok(macros)
+    out.push_str(rows)?;
+    Ok(out)
 }
 
 /// Texts of the most references, and of one more.
@@ -191,62 +183,44 @@ $(A15)$(A0)$(A0)‖too many references";
 
 #[test]
 fn most_references(rt: HostRuntime) -> Result<(), Fail> {
-    let mut macros = doubling(rt.alloc(), 16)?;
-    follow(&rt, rt.alloc(), &mut macros, &Locals::Empty, MOST)
+    let rows = doubling(rt.alloc(), 16, MOST)?;
+    follow_anew(&rt, rt.alloc(), rows.as_str())
 }
 
-/// So many macros of which each stands for the next, and the last for nothing.
-fn chained(alloc: Global, count: usize) -> Result<MacroTable, Fail> {
-    let mut macros = MacroTable::new(alloc);
+/// Rows of so many macros of which each stands for the next, and the one behind the last for
+/// nothing.
+fn chained(alloc: Global, count: usize, row: &str) -> Result<String, AllocError> {
+    let mut out = String::new(alloc);
     for n in 1..count {
         let next = n.saturating_add(1);
-        let text = format!(in alloc; "$(A{next})")?;
-        put(alloc, &mut macros, n, text.as_str())?;
+        let row = format!(in alloc; "A{n}‖=‖$(A{next})‖\n")?;
+        out.push_str(row.as_str())?;
     }
-    put(alloc, &mut macros, count, "")?;
-    Ok(macros)
+    let last = format!(in alloc; "A{count}‖=‖‖\n{row}")?;
+    out.push_str(last.as_str())?;
+    Ok(out)
 }
 
 #[test]
 fn deepest_values(rt: HostRuntime) -> Result<(), Fail> {
-    let mut macros = chained(rt.alloc(), 256)?;
-    follow(&rt, rt.alloc(), &mut macros, &Locals::Empty, "$(A1)‖")
+    let rows = chained(rt.alloc(), 256, "$(A1)‖")?;
+    follow_anew(&rt, rt.alloc(), rows.as_str())
 }
 
 #[test]
 fn too_deep_values(rt: HostRuntime) -> Result<(), Fail> {
-    let mut macros = chained(rt.alloc(), 257)?;
-    let row = "$(A1)‖too many references";
-    follow(&rt, rt.alloc(), &mut macros, &Locals::Empty, row)
+    let rows = chained(rt.alloc(), 257, "$(A1)‖too many references")?;
+    follow_anew(&rt, rt.alloc(), rows.as_str())
 }
 
-/// A row of one name in so many references round one another.
-fn nested(alloc: Global, count: usize, want: &str) -> Result<String, Fail> {
-    let front = long(alloc, b"", b"$(", count)?;
-    let ends = long(alloc, b"X", b")", count)?;
-    let mut row = String::from_utf8(front)?;
-    row.push_str(str::from_utf8(&ends).unwrap_or("?"))?;
-    row.push('‖')?;
-    row.push_str(want)?;
-    Ok(row)
-}
+/// One name in the most references round one another, and in one more.
+const NESTED: &str = r"X‖=‖X‖
+×256×$(×X×256×)×‖X
+×257×$(×X×257×)×‖too many references";
 
 #[test]
 fn deepest_names(rt: HostRuntime) -> Result<(), Fail> {
-    let alloc = rt.alloc();
-    let mut macros = MacroTable::new(alloc);
-    follow(&rt, alloc, &mut macros, &Locals::Empty, "X‖=‖X‖")?;
-    let deepest = nested(alloc, 256, "X")?;
-    follow(&rt, alloc, &mut macros, &Locals::Empty, deepest.as_str())?;
-    let deeper = nested(alloc, 257, "too many references")?;
-    follow(&rt, alloc, &mut macros, &Locals::Empty, deeper.as_str())
-}
-
-/// So many bytes, and a text behind them.
-fn bytes_and(alloc: Global, count: usize, behind: &str) -> Result<String, Fail> {
-    let mut text = String::from_utf8(Vec::from_elem(alloc, b'x', count)?)?;
-    text.push_str(behind)?;
-    Ok(text)
+    follow_anew(&rt, rt.alloc(), NESTED)
 }
 
 /// Whether a text was lent.
@@ -254,48 +228,53 @@ fn is_lent(text: &CowSlice<'_, u8>) -> bool {
     matches!(text, CowSlice::Borrowed(_))
 }
 
-/// Sees how long the expansion of a text is, and whether it is lent.
+/// How long the expansion of a text is, and whether it is lent.
+fn measured(alloc: Global, macros: &MacroTable, text: &[u8]) -> Result<(usize, bool), Fail> {
+    let found = macros.expand(alloc, text, &Locals::Empty)?;
+    Ok((found.text.as_slice().len(), is_lent(&found.text)))
+}
+
+/// Sees how long the expansion of a row's text is, and whether it is lent.
 fn see_measured(
     rt: &impl Abort,
     alloc: Global,
-    text: &str,
+    macros: &MacroTable,
+    row: &str,
     want: (usize, bool),
 ) -> Result<(), Fail> {
-    let mut macros = MacroTable::new(alloc);
-    macros.define(b"E", Op::Delay, b"")?;
-    let found = macros.expand(alloc, text.as_bytes(), &Locals::Empty)?;
-    assert_eq!(rt; (found.text.as_slice().len(), is_lent(&found.text)), want);
+    let text = unfolded(alloc, row)?;
+    let found = measured(alloc, macros, text.as_bytes())?;
+    same_number(rt, found.0, want.0, row);
+    see_that(rt, found.1 == want.1, row);
     Ok(())
+}
+
+/// Sees texts of the most bytes, where `E` stands for nothing.
+fn see_longest(rt: &impl Abort, alloc: Global, macros: &MacroTable) -> Result<(), Fail> {
+    see_measured(rt, alloc, macros, "×1048576×x×", (1_048_576, true))?;
+    see_measured(rt, alloc, macros, "×1048576×x×$(E)", (1_048_576, false))
 }
 
 #[test]
 fn longest_texts(rt: HostRuntime) -> Result<(), Fail> {
-    let alloc = rt.alloc();
-    let longest = bytes_and(alloc, 1_048_576, "")?;
-    see_measured(&rt, alloc, longest.as_str(), (1_048_576, true))?;
-    let longest = bytes_and(alloc, 1_048_576, "$(E)")?;
-    see_measured(&rt, alloc, longest.as_str(), (1_048_576, false))
+    let mut macros = MacroTable::new(rt.alloc());
+    macros.define(b"E", Op::Delay, b"")?;
+    see_longest(&rt, rt.alloc(), &macros)
 }
 
-/// What becomes of so many bytes and a text behind them, where `E` stands for nothing.
-fn told_of_long(alloc: Global, count: usize, behind: &str) -> Result<String, Fail> {
-    let mut macros = MacroTable::new(alloc);
-    macros.define(b"E", Op::Delay, b"")?;
-    let text = bytes_and(alloc, count, behind)?;
-    expanded(alloc, &macros, &Locals::Empty, text.as_str())
-}
+/// Longer texts, where `E` stands for nothing.
+const LONGER: &str = r"E‖=‖‖
+×1048576×x×$(E)x$‖a value is over 1,048,576 bytes
+×1048577×x×‖a value is over 1,048,576 bytes";
 
 #[test]
 fn too_long_texts(rt: HostRuntime) -> Result<(), Fail> {
-    let found = told_of_long(rt.alloc(), 1_048_576, "$(E)x$")?;
-    assert_eq!(rt; found.as_str(), "a value is over 1,048,576 bytes");
-    let found = told_of_long(rt.alloc(), 1_048_577, "")?;
-    assert_eq!(rt; found.as_str(), "a value is over 1,048,576 bytes");
-    Ok(())
+    follow_anew(&rt, rt.alloc(), LONGER)
 }
 
 /// Texts round a macro of the most bytes, and what they expand to.
-const TOO_LONG: &str = r"$(L)$‖a lone dollar
+const TOO_LONG: &str = r"L‖=‖×1048576×x×‖
+$(L)$‖a lone dollar
 $(L)x$‖a value is over 1,048,576 bytes
 x$(L)$‖a value is over 1,048,576 bytes
 $(L)$$$‖a value is over 1,048,576 bytes
@@ -306,20 +285,15 @@ $(L:x=yx)$‖a value is over 1,048,576 bytes";
 
 #[test]
 fn too_long_before_other_faults(rt: HostRuntime) -> Result<(), Fail> {
-    let text = bytes_and(rt.alloc(), 1_048_576, "")?;
-    let mut macros = MacroTable::new(rt.alloc());
-    macros.define(b"L", Op::Delay, text.as_bytes())?;
-    follow(&rt, rt.alloc(), &mut macros, &Locals::Empty, TOO_LONG)
+    follow_anew(&rt, rt.alloc(), TOO_LONG)
 }
 
+/// Texts, and what is left of them without blanks at their ends.
+const BLANKS: &[(&str, &str)] = &[(" \t a b \t", "a b"), ("a", "a"), (" \t ", ""), ("", "")];
+
 #[test]
-fn blanks_at_the_ends(rt: HostRuntime) -> Result<(), Fail> {
-    for (text, rest) in [(" \t a b \t", "a b"), ("a", "a"), (" \t ", ""), ("", "")] {
-        assert_eq!(rt;
-            without_blanks(text.as_bytes()),
-            rest.as_bytes(),
-            "{text:?}"
-        );
+fn blanks_at_the_ends(rt: HostRuntime) {
+    for &(text, rest) in BLANKS {
+        same_bytes(&rt, without_blanks(text.as_bytes()), rest.as_bytes(), text);
     }
-    Ok(())
 }

@@ -1,6 +1,6 @@
 //! Rows on the kinds of lines, on words as names, and on special targets.
 
-use crate::fixtures::same;
+use crate::fixtures::{same, see_that};
 use mk_lines::{Name, uncomment};
 use mk_macros::Op;
 use mk_parse::{Kind, is_special, is_suffix, kind_of, name_of, names_of, special_of};
@@ -222,8 +222,8 @@ fn told_of_word(alloc: Global, file: &Name, word: &[u8]) -> Result<String, Fail>
 fn knows_places(rt: HostRuntime) -> Result<(), Fail> {
     let file = Name::new(rt.alloc(), "f1")?;
     let told = told_of_word(rt.alloc(), &file, b"a*")?;
-    assert!(rt; told.as_str().contains("f1"), "{told}");
-    assert!(rt; told.as_str().contains("line: 7"), "{told}");
+    see_that(&rt, told.as_str().contains("f1"), "the file");
+    see_that(&rt, told.as_str().contains("line: 7"), "the line");
     Ok(())
 }
 
@@ -231,42 +231,72 @@ fn knows_places(rt: HostRuntime) -> Result<(), Fail> {
 fn knows_want_of_memory(rt: HostRuntime) -> Result<(), Fail> {
     let file = Name::new(rt.alloc(), "f1")?;
     let fault = ReadFault::IncludeDepth(Place { file, line: 1 });
-    assert!(rt; !fault.is_want_of_memory());
-    assert!(rt; ReadFault::Memory.is_want_of_memory());
+    see_that(&rt, !fault.is_want_of_memory(), "another fault");
+    see_that(&rt, ReadFault::Memory.is_want_of_memory(), "want of memory");
     Ok(())
 }
 
-#[test]
-fn knows_special_names(rt: HostRuntime) -> Result<(), Fail> {
-    for name in [".POSIX", ".WAIT", ".SCCS_GET", ".ABC", ".___"] {
-        assert!(rt; is_special(name), "{name:?}");
-    }
-    for name in [".AB", ".c.o", ".abc", "POSIX", "a.ABC", ".ABC1", "."] {
-        assert!(rt; !is_special(name), "{name:?}");
-    }
-    Ok(())
-}
+/// Names, and whether they are of special targets.
+const SPECIAL: &[(&str, bool)] = &[
+    (".POSIX", true),
+    (".WAIT", true),
+    (".SCCS_GET", true),
+    (".ABC", true),
+    (".___", true),
+    (".AB", false),
+    (".c.o", false),
+    (".abc", false),
+    ("POSIX", false),
+    ("a.ABC", false),
+    (".ABC1", false),
+    (".", false),
+];
 
 #[test]
-fn knows_special_targets(rt: HostRuntime) -> Result<(), Fail> {
-    assert!(rt; special_of(".SUFFIXES") == Some(Special::Suffixes));
-    assert!(rt; special_of(".PHONY") == Some(Special::Phony));
-    assert!(rt; special_of(".NOTPARALLEL") == Some(Special::NotParallel));
-    assert!(rt; special_of(".WAIT") == Some(Special::Wordless));
-    assert!(rt; special_of(".PRECIOUS") == Some(Special::Unread));
-    for name in [".DEFAULT", ".SCCS_GET", ".phony", "PHONY", ".c"] {
-        assert!(rt; special_of(name).is_none(), "{name:?}");
+fn knows_special_names(rt: HostRuntime) {
+    for &(name, want) in SPECIAL {
+        see_that(&rt, is_special(name) == want, name);
     }
-    Ok(())
 }
 
+/// Names, and the special targets that are read.
+const TARGETS: &[(&str, Option<Special>)] = &[
+    (".SUFFIXES", Some(Special::Suffixes)),
+    (".PHONY", Some(Special::Phony)),
+    (".NOTPARALLEL", Some(Special::NotParallel)),
+    (".WAIT", Some(Special::Wordless)),
+    (".PRECIOUS", Some(Special::Unread)),
+    (".DEFAULT", None),
+    (".SCCS_GET", None),
+    (".phony", None),
+    ("PHONY", None),
+    (".c", None),
+];
+
 #[test]
-fn knows_suffixes(rt: HostRuntime) -> Result<(), Fail> {
-    for word in [".o", ".c~", ".WAIT"] {
-        assert!(rt; is_suffix(word), "{word:?}");
+fn knows_special_targets(rt: HostRuntime) {
+    for (name, want) in TARGETS {
+        see_that(&rt, special_of(name) == *want, name);
     }
-    for word in ["", ".", "o", ".a.b", ".a/b", "..", "a.o"] {
-        assert!(rt; !is_suffix(word), "{word:?}");
+}
+
+/// Words, and whether they are suffixes.
+const SUFFIXES: &[(&str, bool)] = &[
+    (".o", true),
+    (".c~", true),
+    (".WAIT", true),
+    ("", false),
+    (".", false),
+    ("o", false),
+    (".a.b", false),
+    (".a/b", false),
+    ("..", false),
+    ("a.o", false),
+];
+
+#[test]
+fn knows_suffixes(rt: HostRuntime) {
+    for &(word, want) in SUFFIXES {
+        see_that(&rt, is_suffix(word) == want, word);
     }
-    Ok(())
 }

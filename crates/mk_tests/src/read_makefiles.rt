@@ -3,7 +3,7 @@
 ghost use Rattle.std.specs.Prelude.{◌≡◌, IfOk};
 ghost use Rattle.mk_parse.specs.MemFiles.{failures_of};
 
-use crate::fixtures::{add_names, file_of, unfolded};
+use crate::fixtures::{add_names, file_of, same, see_that, unfolded};
 use mk_parse::{MemFiles, read_makefile};
 use mk_read::{Command, Files, Makefile};
 use std::alloc::{AllocError, Global};
@@ -73,43 +73,48 @@ fn files(alloc: Global) -> Result<MemFiles, AllocError>
     Ok(files)
 }
 
-/// Sees the rule lines and the lists of a makefile.
-fn see(
-    rt: &impl Abort,
-    alloc: Global,
-    makefile: &Makefile,
-    rules: &str,
-    lists: &str,
-) -> Result<(), Fail> {
-    let found = rules_text(alloc, makefile)?;
-    assert_eq!(rt; found.as_str(), rules);
-    let found = lists_text(alloc, makefile)?;
-    assert_eq!(rt; found.as_str(), lists);
+/// What is seen of a makefile: its rule lines, its lists, and whether it isn't parallel.
+type Seen<'a> = (&'a str, &'a str, bool);
+
+/// Sees this of a makefile.
+fn see(rt: &impl Abort, alloc: Global, makefile: &Makefile, want: Seen<'_>) -> Result<(), Fail> {
+    let rules = rules_text(alloc, makefile)?;
+    same(rt, rules.as_str(), want.0, "rule lines");
+    let lists = lists_text(alloc, makefile)?;
+    same(rt, lists.as_str(), want.1, "lists");
+    see_that(rt, makefile.not_parallel() == want.2, "not parallel");
     Ok(())
 }
 
-/// Reads both of them with an operand, and sees what they say.
-fn see_both(
+/// Reads files, behind the default text or not, with operands, and sees what they say.
+fn see_read(
     rt: &impl Abort,
     alloc: Global,
     files: &mut MemFiles,
+    defaults: bool,
     operands: &[Vec<u8>],
+    want: Seen<'_>,
 ) -> Result<(), Fail>
     requires { failures_of files.old ≡ 0 }
 {
-    let makefile = read_makefile(alloc, files, None, false, operands)?;
-    let lists = " .s .c | all | makefile more.mk | gone.mk";
-    see(rt, alloc, &makefile, INCLUDING_RULES, lists)?;
-    assert!(rt; makefile.not_parallel());
-    assert_eq!(rt; files.failures(), 0);
-    Ok(())
+    let makefile = read_makefile(alloc, files, None, defaults, operands)?;
+    see(rt, alloc, &makefile, want)
 }
+
+/// What is seen of both of them.
+const BOTH: Seen<'static> = (
+    INCLUDING_RULES,
+    " .s .c | all | makefile more.mk | gone.mk",
+    true,
+);
 
 #[test]
 fn reads_makefiles(rt: HostRuntime) -> Result<(), Fail> {
     let operand = b"OUT=a.out".to_vec(rt.alloc())?;
     let mut files = files(rt.alloc())?;
-    see_both(&rt, rt.alloc(), &mut files, &[operand])
+    see_read(&rt, rt.alloc(), &mut files, false, &[operand], BOTH)?;
+    see_that(&rt, files.failures() == 0, "no failures");
+    Ok(())
 }
 
 /// The rule lines of the default text, and one of the makefile.
@@ -119,12 +124,16 @@ const DEFAULT_RULES: &str = " .c:;$(CC) $(CFLAGS) $(LDFLAGS) -o $@ $<
  .c.o:;cc -c $<
 ";
 
+/// What is seen of both of them.
+const DEFAULT: Seen<'static> = (
+    DEFAULT_RULES,
+    " .o .c .sh .x | | Makefile | makefile",
+    false,
+);
+
 #[test]
 fn reads_the_default_text(rt: HostRuntime) -> Result<(), Fail> {
-    let alloc = rt.alloc();
     let text = b".SUFFIXES: .x\n.c.o:\n\tcc -c $<\n";
-    let mut files = file_of(alloc, "Makefile", text)?;
-    let makefile = read_makefile(alloc, &mut files, None, true, &[])?;
-    let lists = " .o .c .sh .x | | Makefile | makefile";
-    see(&rt, alloc, &makefile, DEFAULT_RULES, lists)
+    let mut files = file_of(rt.alloc(), "Makefile", text)?;
+    see_read(&rt, rt.alloc(), &mut files, true, &[], DEFAULT)
 }
