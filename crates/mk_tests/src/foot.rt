@@ -359,12 +359,6 @@ fn push_records(out: &mut String, setting: &Setting, names: &str) -> Result<(), 
     Ok(())
 }
 
-/// The setting of `BUILD`, with these texts and these names that were passed over.
-fn setting(alloc: Global, texts: &[String], passed_over: &[String]) -> Result<Setting, Fail> {
-    let book = read_book(alloc, BUILD.as_bytes(), &[])?;
-    Ok(Setting::new(alloc, book, texts, passed_over)?)
-}
-
 /// What a setting tells.
 fn told(alloc: Global, setting: &Setting) -> Result<String, AllocError> {
     let mut out = String::new(alloc);
@@ -375,10 +369,15 @@ fn told(alloc: Global, setting: &Setting) -> Result<String, AllocError> {
     Ok(out)
 }
 
-/// What the setting tells with these texts, and those that were passed over.
-fn told_with(alloc: Global, texts: &[String], passed_over: &[String]) -> Result<String, Fail> {
-    let setting = setting(alloc, texts, passed_over)?;
-    Ok(told(alloc, &setting)?)
+/// What the setting of a book tells with these texts, and those that were passed over.
+fn told_with(
+    alloc: Global,
+    book: Book,
+    texts: &[String],
+    passed_over: &[String],
+) -> Result<String, AllocError> {
+    let setting = Setting::new(alloc, book, texts, passed_over)?;
+    told(alloc, &setting)
 }
 
 /// What it tells.
@@ -389,7 +388,8 @@ const TOLD: &str =
 fn knows_its_files(rt: HostRuntime) -> Result<(), Fail> {
     let texts = names(rt.alloc(), "c.mk b.mk")?;
     let passed_over = names(rt.alloc(), "gone.mk")?;
-    let out = told_with(rt.alloc(), &texts, &passed_over)?;
+    let book = read_book(rt.alloc(), BUILD.as_bytes(), &[])?;
+    let out = told_with(rt.alloc(), book, &texts, &passed_over)?;
     same(&rt, out.as_str(), TOLD, "a setting");
     Ok(())
 }
