@@ -1,6 +1,5 @@
 //! Tests of mk_ways: names in one text.
 
-use crate::fixtures::{same, same_number};
 use mk_ways::PackedNames;
 use std::alloc::{AllocError, Global};
 use std::process::Abort;
@@ -20,9 +19,9 @@ fn packed(alloc: Global, names: &[&str]) -> Result<PackedNames, AllocError> {
 
 /// Sees that they are these names, in their order.
 fn see(rt: &impl Abort, packed: &PackedNames, want: &[&str]) {
-    same_number(rt, packed.len(), want.len(), "names");
+    assert_eq!(rt; packed.len(), want.len());
     for (place, name) in want.iter().enumerate() {
-        same(rt, packed.at(place), name, name);
+        assert_eq!(rt; packed.at(place), *name, "at {place}");
     }
 }
 
@@ -43,69 +42,40 @@ fn one_name(rt: HostRuntime) -> Result<(), Fail> {
     Ok(())
 }
 
-/// Sees some names, and one more behind them.
-fn see_some(rt: &impl Abort, names: &mut PackedNames) -> Result<(), AllocError> {
-    see(rt, names, &SOME);
-    names.push("last")?;
-    see(rt, names, &["a", "", "b.c", "", "é", "/ü/日本", "a", "last"]);
-    Ok(())
-}
-
 #[test]
 fn some_names_in_order(rt: HostRuntime) -> Result<(), Fail> {
     let mut names = packed(rt.alloc(), &SOME)?;
-    see_some(&rt, &mut names)?;
-    Ok(())
-}
-
-/// Adds so many names, each with its number.
-fn push_numbers(alloc: Global, names: &mut PackedNames) -> Result<(), AllocError> {
-    for number in 0..3000u32 {
-        let name = format!(in alloc; "n{number}")?;
-        names.push(name.as_str())?;
-    }
-    Ok(())
-}
-
-/// Places of such names.
-const PLACES: &[usize] = &[0, 1, 9, 10, 99, 100, 1234, 2999];
-
-/// Sees names with numbers.
-fn see_numbers(rt: &impl Abort, alloc: Global, names: &PackedNames) -> Result<(), AllocError> {
-    same_number(rt, names.len(), 3000, "names");
-    for &place in PLACES {
-        let want = format!(in alloc; "n{place}")?;
-        same(rt, names.at(place), want.as_str(), "numbers");
-    }
-    Ok(())
-}
-
-/// Sees some names behind another one, and one in the place of all.
-fn see_behind(
-    rt: &impl Abort,
-    names: &mut PackedNames,
-    some: &PackedNames,
-) -> Result<(), AllocError> {
-    names.push_all(some)?;
-    see(rt, names, &["x", "a", "", "b.c", "", "é", "/ü/日本", "a"]);
-    names.clear();
-    names.push("é")?;
-    see(rt, names, &["é"]);
+    see(&rt, &names, &SOME);
+    names.push("last")?;
+    assert_eq!(&rt; names.len(), 8);
+    assert_eq!(&rt; names.at(7), "last");
+    assert_eq!(&rt; names.at(5), "/ü/日本");
     Ok(())
 }
 
 #[test]
 fn names_behind_others(rt: HostRuntime) -> Result<(), Fail> {
     let mut names = packed(rt.alloc(), &["x"])?;
-    let some = packed(rt.alloc(), &SOME)?;
-    see_behind(&rt, &mut names, &some)?;
+    names.push_all(&packed(rt.alloc(), &SOME)?)?;
+    see(&rt, &names, &["x", "a", "", "b.c", "", "é", "/ü/日本", "a"]);
+    names.clear();
+    see(&rt, &names, &[]);
+    names.push("é")?;
+    see(&rt, &names, &["é"]);
     Ok(())
 }
 
 #[test]
 fn many_names(rt: HostRuntime) -> Result<(), Fail> {
-    let mut names = PackedNames::with_capacity(rt.alloc(), 10, 30)?;
-    push_numbers(rt.alloc(), &mut names)?;
-    see_numbers(&rt, rt.alloc(), &names)?;
+    let alloc = rt.alloc();
+    let mut names = PackedNames::with_capacity(alloc, 10, 30)?;
+    for number in 0..3000u32 {
+        names.push(format!(in alloc; "n{number}")?.as_str())?;
+    }
+    assert_eq!(&rt; names.len(), 3000);
+    for place in [0, 1, 9, 10, 99, 100, 1234, 2999usize] {
+        let want = format!(in alloc; "n{place}")?;
+        assert_eq!(&rt; names.at(place), want.as_str());
+    }
     Ok(())
 }
