@@ -77,7 +77,7 @@ pub fn expanded(
     ensures { Gives (λ found.
         found) result (expanded macros.now (recipe_of locals.now) commands.now) }
 {
-    let mut lines = Vec::new(alloc);
+    let mut lines = Vec::with_capacity(alloc, commands.len())?;
     let mut varying = false;
     for command in commands {
         let (line, varies) = expanded_command(alloc, macros, locals, command)?;

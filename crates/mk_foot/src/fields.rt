@@ -1,7 +1,7 @@
 //! Texts, lists of them and the format, by the tokens of a file of footprints, each with the fault
 //! of its key.
 
-ghost use Rattle.std.specs.Prelude.{◌≡◌, ◌∷◌, ◌++◌, [], ℕ, List, Result, IfOk, option_and_then};
+ghost use Rattle.std.specs.Prelude.{◌≡◌, ◌∷◌, ◌++◌, [], ℕ, List, Result, IfOk, OnOk, option_and_then};
 ghost use Rattle.std.specs.Option.{option_map};
 ghost use Rattle.std.specs.String.{string_bytes};
 ghost use Rattle.serde_json.specs.Data.{Data};
@@ -51,6 +51,17 @@ pub fn read_text(
 /// So many texts may stand in a list with spare room.
 const FEW: usize = 4;
 
+/// A text behind others. Many lists have one alone, so the first one gets no spare room.
+fn push_text(texts: &mut Vec<String>, text: String) -> Result<(), AllocError>
+    ensures { OnOk result (texts.new.items ≡ texts.old.items ++ text ∷ []) }
+{
+    if texts.is_empty() {
+        texts.reserve_exact(1)?;
+    }
+    texts.push(text)?;
+    Ok(())
+}
+
 /// Texts with one more at their end, or the fault of what is no text.
 fn with_text(texts: Texts, text: Result<String, FootFault>) -> Texts
     ensures { (key : Key) (front : List Data) (value : Data) →
@@ -61,7 +72,7 @@ fn with_text(texts: Texts, text: Result<String, FootFault>) -> Texts
 {
     let mut texts = texts?;
     let text = text?;
-    texts.push(text)?;
+    push_text(&mut texts, text)?;
     Ok(texts)
 }
 

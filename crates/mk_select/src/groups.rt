@@ -31,9 +31,14 @@ fn push_group(groups: &mut Vec<Vec<usize>>, group: Vec<usize>) -> Result<(), All
     ensures { OnOk result (map (λ group. group.items) groups.new.items ≡
         map (λ group. group.items) groups.old.items ++ filter has_numbers (group.items ∷ [])) }
 {
-    if !group.is_empty() {
-        groups.push(group)?;
+    if group.is_empty() {
+        return Ok(());
     }
+    // Most names have one group.
+    if groups.is_empty() {
+        groups.reserve_exact(1)?;
+    }
+    groups.push(group)?;
     Ok(())
 }
 

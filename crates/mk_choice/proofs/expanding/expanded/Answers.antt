@@ -29,7 +29,7 @@ returns-in_err-line c =
     let lt : c.loop-command.command-index < length c.args.commands.now = omega arith in
     let macros = c.args.macros.now in
     let recipe = recipe_of c.args.locals.now in
-    let p = err_from_is_err_and c.from_residual.result c.from_residual.ensures.1 in
+    let p = err_from_is_err_and c.from_residual-in_err-line.result c.from_residual-in_err-line.ensures.1 in
     let here = subst (λ (command : Command). Fails c.in_err-line.field-0.0 (at_place command.place (told (expansion macros recipe command.text)))) c.command-item.is c.in_err-line.ensures in
     rw (p.1, p.2) (commands_fail macros recipe (map (λ line. line.items) c.loop-command.lines.items) c.loop-command.varying c.args.commands.now c.loop-command.command-index c.command-item.result _ _ here c.loop-command.invariant lt)
 

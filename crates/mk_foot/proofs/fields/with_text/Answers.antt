@@ -15,4 +15,4 @@ returns-in_err-text c =
     λ key front value before last. rw (p.1, p.2) (fails_last (text_of key) front value (map string_bytes c.in_ok-texts.texts.items) c.in_err-text.field-0.0 (rw c.in_ok-texts.was at before) (rw c.in_err-text.was at last))
 
 pub returns : goal.returns
-returns c = λ key front value before last. rw c.in_ok-push.ensures.items (has_text key front value c.in_ok-texts.texts.items c.in_ok-text.text (rw c.in_ok-texts.was at before) (rw c.in_ok-text.was at last))
+returns c = λ key front value before last. rw c.in_ok-push_text.ensures (has_text key front value c.in_ok-texts.texts.items c.in_ok-text.text (rw c.in_ok-texts.was at before) (rw c.in_ok-text.was at last))
