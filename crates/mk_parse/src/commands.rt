@@ -91,7 +91,10 @@ fn with_one_more(
     ensures { IfOk result (λ all. all.items ≡
         with_command (option_map (λ commands. commands.items) commands) command) }
 {
-    let mut all = commands.unwrap_or(Vec::new(alloc));
+    let mut all = match commands {
+        Some(commands) => commands,
+        None => Vec::with_capacity(alloc, 1)?,
+    };
     all.push(command)?;
     Ok(all)
 }
