@@ -4,13 +4,10 @@ ghost use Rattle.std.specs.Prelude.{◌≡◌, ◌<◌, ◌-◌, ◌^◌, IfOk};
 ghost use Rattle.mk_parse.specs.MemFiles.{failures_of};
 
 use crate::expecting::expect_rows;
-use mk_core::{Fault, Files, FilesError, MemFiles, Name, Names, fault_text, split_words};
-use mk_graph::GraphFault;
+use mk_core::{Fault, Files, FilesError, MemFiles, Name, Names, split_words};
 use mk_infer::InferFault;
-use mk_lines::LineFault;
-use mk_macros::{MacroFault, MacroName};
-use mk_read::{KindFault, Place, ReadFault};
-use mk_rows::rows::{answer, over, request, unfolded};
+use mk_rows::builds::part;
+use mk_rows::rows::{answer, bytes_of, over, request, unfolded};
 use std::alloc::{AllocError, Global};
 use std::process::Abort;
 use std::test::Fail;
@@ -202,20 +199,21 @@ fn refuses_makefiles(rt: HostRuntime) -> Result<(), Fail> {
 }
 
 /// Bytes that a table can't show, and what is printed over them.
+const BYTES: [(&[u8], &str); 6] = [
+    (b"a: $\nb\0:\n", "refused 1 makefile:2"),
+    (b"a: b\xff\n", "refused 27 makefile:1"),
+    (b"a: b\r\n", "refused 27 makefile:1"),
+    (b"a:\x0bb\n", "refused 27 makefile:1"),
+    (b"\xff", "refused 25 makefile:1"),
+    (b"\r\n", "refused 25 makefile:1"),
+];
+
 #[test]
 fn refuses_bytes(rt: HostRuntime) -> Result<(), Fail> {
-    let got = over(rt.alloc(), b"a: $\nb\0:\n", "")?;
-    assert_eq!(rt; got.as_str(), "refused 1 makefile:2");
-    let got = over(rt.alloc(), b"a: b\xff\n", "")?;
-    assert_eq!(rt; got.as_str(), "refused 27 makefile:1");
-    let got = over(rt.alloc(), b"a: b\r\n", "")?;
-    assert_eq!(rt; got.as_str(), "refused 27 makefile:1");
-    let got = over(rt.alloc(), b"a:\x0bb\n", "")?;
-    assert_eq!(rt; got.as_str(), "refused 27 makefile:1");
-    let got = over(rt.alloc(), b"\xff", "")?;
-    assert_eq!(rt; got.as_str(), "refused 25 makefile:1");
-    let got = over(rt.alloc(), b"\r\n", "")?;
-    assert_eq!(rt; got.as_str(), "refused 25 makefile:1");
+    for (text, printed) in BYTES {
+        let got = over(rt.alloc(), text, "")?;
+        assert_eq!(rt; got.as_str(), printed, "over {text:?}");
+    }
     Ok(())
 }
 
@@ -236,45 +234,43 @@ a b‖a b‖0‖refused 27 a b
 x/‖x/‖1‖refused 27 x/
 a*(b)‖a*(b)‖0‖goals a¶a:¶";
 
+/// What is printed over a file of this name, where a makefile is asked for and a read fails.
+fn chosen(alloc: Global, there: &str, asked: &str, failing: &str) -> Result<String, Fail> {
+    let makefile = if asked == "." { None } else { Some(asked) };
+    let failing = failing.parse::<u64>()?;
+    let request = request(alloc, makefile, "")?;
+    let mut files = MemFiles::new(alloc);
+    files.add(there, b"a:")?;
+    files.fail_at(failing);
+    answer(alloc, &mut files, &request)
+}
+
 #[test]
 fn chooses_makefiles(rt: HostRuntime) -> Result<(), Fail> {
-    let alloc = rt.alloc();
     for row in CHOICES.lines() {
-        let fields: Vec<&str> = row.split("‖").collect(alloc)?;
-        let [there, asked, failing, printed] = fields.as_slice() else {
-            assert!(rt; false, "no row: {row:?}");
-            continue;
-        };
-        let mut files = MemFiles::new(alloc);
-        files.add(there, b"a:")?;
-        files.fail_at(failing.parse::<u64>()?);
-        let makefile = if *asked == "." { None } else { Some(*asked) };
-        let request = request(alloc, makefile, "")?;
-        let got = answer(alloc, &mut files, &request)?;
-        assert_eq!(rt;
-            got.as_str(),
-            unfolded(alloc, printed)?.as_str(),
-            "for {row:?}"
-        );
+        let got = chosen(rt.alloc(), part(row, 0), part(row, 1), part(row, 2))?;
+        let want = unfolded(rt.alloc(), part(row, 3))?;
+        assert_eq!(rt; got.as_str(), want.as_str(), "for {row:?}");
     }
     Ok(())
 }
 
 #[test]
 fn takes_the_first_makefile(rt: HostRuntime) -> Result<(), Fail> {
+    let asked = request(rt.alloc(), None, "")?;
     let mut files = MemFiles::new(rt.alloc());
     files.add("Makefile", b"b:")?;
     files.add("makefile", b"a:")?;
     files.add("makefile", b"c:")?;
-    let got = answer(rt.alloc(), &mut files, &request(rt.alloc(), None, "")?)?;
+    let got = answer(rt.alloc(), &mut files, &asked)?;
     assert_eq!(rt; got.as_str(), "goals a\na:\n");
-    let mut files = MemFiles::new(rt.alloc());
-    files.add("-", b"a:")?;
-    let got = answer(
-        rt.alloc(),
-        &mut files,
-        &request(rt.alloc(), Some("-"), "=")?,
-    )?;
+    Ok(())
+}
+
+#[test]
+fn refuses_names_before_operands(rt: HostRuntime) -> Result<(), Fail> {
+    let asked = request(rt.alloc(), Some("-"), "=")?;
+    let got = answer(rt.alloc(), &mut MemFiles::new(rt.alloc()), &asked)?;
     assert_eq!(rt; got.as_str(), "refused 27 -");
     Ok(())
 }
@@ -295,65 +291,72 @@ fn chain(alloc: Global, last: &str) -> Result<MemFiles, Fail>
     Ok(files)
 }
 
+/// What is printed over such a makefile where the read with this number fails, and how many failed.
+fn over_chain(alloc: Global, last: &str, failing: u64) -> Result<(String, u64), Fail> {
+    let asked = request(alloc, None, "")?;
+    let mut files = chain(alloc, last)?;
+    files.fail_at(failing);
+    let got = answer(alloc, &mut files, &asked)?;
+    Ok((got, files.failures()))
+}
+
 #[test]
 fn includes_16_levels_deep(rt: HostRuntime) -> Result<(), Fail> {
-    let alloc = rt.alloc();
-    let asked = request(alloc, None, "")?;
-    let mut files = chain(alloc, "a:\n")?;
-    assert_eq!(rt;
-        answer(alloc, &mut files, &asked)?.as_str(),
-        "goals a\na:\n"
-    );
-    let mut files = chain(alloc, "include f17\n")?;
-    assert_eq!(rt;
-        answer(alloc, &mut files, &asked)?.as_str(),
-        "refused 33 f16:1"
-    );
+    for (last, printed) in [
+        ("a:\n", "goals a\na:\n"),
+        ("include f17\n", "refused 33 f16:1"),
+    ] {
+        let (got, failures) = over_chain(rt.alloc(), last, 0)?;
+        assert_eq!(rt; got.as_str(), printed);
+        assert_eq!(rt; failures, 0);
+    }
     Ok(())
+}
+
+/// What is printed where the read with this number fails, of the makefile and `f1` to `f16`.
+fn failed(alloc: Global, read: u64) -> Result<String, AllocError> {
+    let (before, name) = (read.saturating_sub(2), read.saturating_sub(1));
+    match read {
+        1 => String::from_str(alloc, "refused 35 makefile"),
+        2 => String::from_str(alloc, "refused 35 makefile:1 f1"),
+        _ => format!(in alloc; "refused 35 f{before}:1 f{name}"),
+    }
 }
 
 #[test]
 fn answers_each_failed_read(rt: HostRuntime) -> Result<(), Fail> {
-    let alloc = rt.alloc();
-    let asked = request(alloc, None, "")?;
     for read in 1..18 {
-        let mut files = chain(alloc, "a:\n")?;
-        files.fail_at(read);
-        let printed = match read {
-            1 => String::from_str(alloc, "refused 35 makefile")?,
-            2 => String::from_str(alloc, "refused 35 makefile:1 f1")?,
-            _ => {
-                let (before, name) = (read.saturating_sub(2), read.saturating_sub(1));
-                format!(in alloc; "refused 35 f{before}:1 f{name}")?
-            }
-        };
-        assert_eq!(rt;
-            answer(alloc, &mut files, &asked)?.as_str(),
-            printed.as_str()
-        );
-        assert_eq!(rt; files.failures(), 1);
+        let (got, failures) = over_chain(rt.alloc(), "a:\n", read)?;
+        let want = failed(rt.alloc(), read)?;
+        assert_eq!(rt; got.as_str(), want.as_str());
+        assert_eq!(rt; failures, 1);
     }
-    let mut files = chain(alloc, "a:\n")?;
-    files.fail_at(18);
-    assert_eq!(rt;
-        answer(alloc, &mut files, &asked)?.as_str(),
-        "goals a\na:\n"
-    );
-    assert_eq!(rt; files.failures(), 0);
+    let (got, failures) = over_chain(rt.alloc(), "a:\n", 18)?;
+    assert_eq!(rt; got.as_str(), "goals a\na:\n");
+    assert_eq!(rt; failures, 0);
     Ok(())
+}
+
+/// What is printed over a makefile with this include line, where the read with this number fails.
+fn over_includes(alloc: Global, line: &str, failing: u64) -> Result<String, Fail> {
+    let text = format!(in alloc; "a:\n\n{line}\n")?;
+    let asked = request(alloc, None, "")?;
+    let mut files = MemFiles::new(alloc);
+    files.add("makefile", text.as_bytes())?;
+    files.add("y.mk", b"")?;
+    files.add("x.mk", b"")?;
+    files.fail_at(failing);
+    answer(alloc, &mut files, &asked)
 }
 
 #[test]
 fn answers_failed_includes(rt: HostRuntime) -> Result<(), Fail> {
-    let alloc = rt.alloc();
-    for line in ["include x.mk", "-include x.mk", "include y.mk x.mk"] {
-        let mut files = MemFiles::new(alloc);
-        let text = format!(in alloc; "a:\n\n{line}\n")?;
-        files.add("makefile", text.as_bytes())?;
-        files.add("y.mk", b"")?;
-        files.add("x.mk", b"")?;
-        files.fail_at(if line.len() > 13 { 3 } else { 2 });
-        let got = answer(alloc, &mut files, &request(alloc, None, "")?)?;
+    for (line, failing) in [
+        ("include x.mk", 2),
+        ("-include x.mk", 2),
+        ("include y.mk x.mk", 3),
+    ] {
+        let got = over_includes(rt.alloc(), line, failing)?;
         assert_eq!(rt; got.as_str(), "refused 35 makefile:3 x.mk", "over {line:?}");
     }
     Ok(())
@@ -376,15 +379,18 @@ fn expect_or_memory(
 }
 
 #[test]
-fn wants_memory_or_answers(rt: HostRuntime) -> Result<(), Fail> {
-    let alloc = rt.alloc();
-    let mut files = chain(alloc, "a:\n")?;
-    expect_or_memory(&rt, alloc, &mut files, "goals a\na:\n")?;
+fn chain_wants_memory_or_answers(rt: HostRuntime) -> Result<(), Fail> {
+    let mut files = chain(rt.alloc(), "a:\n")?;
+    expect_or_memory(&rt, rt.alloc(), &mut files, "goals a\na:\n")
+}
+
+#[test]
+fn macros_want_memory_or_answer(rt: HostRuntime) -> Result<(), Fail> {
     let text = b"S = a.c b.h\nall: $(S:%.c=obj/%.o)\n";
-    let mut files = MemFiles::new(alloc);
+    let mut files = MemFiles::new(rt.alloc());
     files.add("makefile", text)?;
     let printed = "goals all\nobj/a.o:\nb.h:\nall: obj/a.o b.h\n";
-    expect_or_memory(&rt, alloc, &mut files, printed)
+    expect_or_memory(&rt, rt.alloc(), &mut files, printed)
 }
 
 /// A part of a text, so often, between a front and a back; and what is printed over it.
@@ -402,78 +408,103 @@ include‖ x.mk‖1023‖¶a:¶‖goals a¶a:¶
 include‖ x.mk‖1024‖¶a:¶‖refused 36 makefile:1
 -include‖ y.mk‖2000‖¶a:¶‖goals a¶a:¶";
 
+/// The text of such a row.
+fn repeated(alloc: Global, row: &str) -> Result<String, Fail> {
+    let count = part(row, 2).parse::<usize>()?;
+    let mut text = unfolded(alloc, part(row, 0))?;
+    text.push_str(&unfolded(alloc, part(row, 1))?.repeat(alloc, count)?)?;
+    text.push_str(&unfolded(alloc, part(row, 3))?)?;
+    Ok(text)
+}
+
+/// What is printed over a makefile beside an empty file `x.mk`.
+fn beside_empty(alloc: Global, text: &str) -> Result<String, Fail> {
+    let asked = request(alloc, None, "")?;
+    let mut files = MemFiles::new(alloc);
+    files.add("makefile", text.as_bytes())?;
+    files.add("x.mk", b"")?;
+    answer(alloc, &mut files, &asked)
+}
+
 #[test]
 fn keeps_limits(rt: HostRuntime) -> Result<(), Fail> {
-    let alloc = rt.alloc();
     for row in REPEATED.lines() {
-        let fields: Vec<&str> = row.split("‖").collect(alloc)?;
-        let [front, part, count, back, printed] = fields.as_slice() else {
-            assert!(rt; false, "no row: {row:?}");
-            continue;
-        };
-        let mut text = unfolded(alloc, front)?;
-        text.push_str(&unfolded(alloc, part)?.repeat(alloc, count.parse::<usize>()?)?)?;
-        text.push_str(&unfolded(alloc, back)?)?;
-        let mut files = MemFiles::new(alloc);
-        files.add("makefile", text.as_bytes())?;
-        files.add("x.mk", b"")?;
-        let got = answer(alloc, &mut files, &request(alloc, None, "")?)?;
-        assert_eq!(rt;
-            got.as_str(),
-            unfolded(alloc, printed)?.as_str(),
-            "over {row:?}"
-        );
+        let text = repeated(rt.alloc(), row)?;
+        let got = beside_empty(rt.alloc(), text.as_str())?;
+        let want = unfolded(rt.alloc(), part(row, 4))?;
+        assert_eq!(rt; got.as_str(), want.as_str(), "over {row:?}");
     }
     Ok(())
 }
 
 #[test]
-fn keeps_long_names(rt: HostRuntime) -> Result<(), Fail> {
-    let alloc = rt.alloc();
-    let name = "b".repeat(alloc, 4_096)?;
-    let text = format!(in alloc; "a: {name}\n")?;
-    let printed = format!(in alloc; "goals a\n{name}:\na: {name}\n")?;
-    assert!(rt;
-        over(alloc, text.as_bytes(), "")? == printed,
-        "a name of 4,096 bytes"
-    );
-    let text = format!(in alloc; "{name}:\n")?;
-    let printed = format!(in alloc; "goals {name}\n{name}:\n")?;
-    assert!(rt;
-        over(alloc, text.as_bytes(), "")? == printed,
-        "a target of 4,096 bytes"
-    );
-    let long = "x".repeat(alloc, 70_000)?;
-    let text = format!(in alloc; "{long}\0")?;
-    assert_eq!(rt;
-        over(alloc, text.as_bytes(), "")?.as_str(),
-        "refused 1 makefile:1"
-    );
+fn keeps_long_prerequisites(rt: HostRuntime) -> Result<(), Fail> {
+    let name = "b".repeat(rt.alloc(), 4_096)?;
+    let text = format!(in rt.alloc(); "a: {name}\n")?;
+    let printed = format!(in rt.alloc(); "goals a\n{name}:\na: {name}\n")?;
+    let got = over(rt.alloc(), text.as_bytes(), "")?;
+    assert!(rt; got == printed, "a name of 4,096 bytes");
     Ok(())
 }
 
-/// References as deep as they may be: round a name, and each in the value of another.
+#[test]
+fn keeps_long_targets(rt: HostRuntime) -> Result<(), Fail> {
+    let name = "b".repeat(rt.alloc(), 4_096)?;
+    let text = format!(in rt.alloc(); "{name}:\n")?;
+    let printed = format!(in rt.alloc(); "goals {name}\n{name}:\n")?;
+    let got = over(rt.alloc(), text.as_bytes(), "")?;
+    assert!(rt; got == printed, "a target of 4,096 bytes");
+    Ok(())
+}
+
+#[test]
+fn finds_bad_bytes_before_long_lines(rt: HostRuntime) -> Result<(), Fail> {
+    let mut text = "x".repeat(rt.alloc(), 70_000)?;
+    text.push('\0')?;
+    let got = over(rt.alloc(), text.as_bytes(), "")?;
+    assert_eq!(rt; got.as_str(), "refused 1 makefile:1");
+    Ok(())
+}
+
+/// A makefile with so many references round one name.
+fn nested(alloc: Global, count: usize) -> Result<String, Fail> {
+    let mut text = String::from_str(alloc, "X = X\nall: ")?;
+    text.push_str(&"$(".repeat(alloc, count)?)?;
+    text.push_str("X")?;
+    text.push_str(&")".repeat(alloc, count)?)?;
+    Ok(text)
+}
+
 #[test]
 fn keeps_to_256_levels(rt: HostRuntime) -> Result<(), Fail> {
-    let alloc = rt.alloc();
     for (count, printed) in [
         (256, "goals all\nX:\nall: X\n"),
         (257, "refused 14 makefile:2"),
     ] {
-        let mut text = String::from_str(alloc, "X = X\nall: ")?;
-        text.push_str(&"$(".repeat(alloc, count)?)?;
-        text.push_str("X")?;
-        text.push_str(&")".repeat(alloc, count)?)?;
-        assert_eq!(rt; over(alloc, text.as_bytes(), "")?.as_str(), printed);
+        let text = nested(rt.alloc(), count)?;
+        let got = over(rt.alloc(), text.as_bytes(), "")?;
+        assert_eq!(rt; got.as_str(), printed);
     }
+    Ok(())
+}
+
+/// A makefile with so many macros, each in the value of the one before it.
+fn in_turn(alloc: Global, count: usize) -> Result<String, Fail> {
+    let mut text = String::new(alloc);
+    for i in 1..count {
+        let next = i + 1;
+        text.push_str(&format!(in alloc; "A{i} = $(A{next})\n")?)?;
+    }
+    text.push_str(&format!(in alloc; "A{count} =\nall: $(A1)\n")?)?;
+    Ok(text)
+}
+
+#[test]
+fn keeps_to_256_values(rt: HostRuntime) -> Result<(), Fail> {
     for (count, printed) in [(256, "goals all\nall:\n"), (257, "refused 14 makefile:258")] {
-        let mut text = String::new(alloc);
-        for i in 1..count {
-            let next = i + 1;
-            text.push_str(&format!(in alloc; "A{i} = $(A{next})\n")?)?;
-        }
-        text.push_str(&format!(in alloc; "A{count} =\nall: $(A1)\n")?)?;
-        assert_eq!(rt; over(alloc, text.as_bytes(), "")?.as_str(), printed);
+        let text = in_turn(rt.alloc(), count)?;
+        let got = over(rt.alloc(), text.as_bytes(), "")?;
+        assert_eq!(rt; got.as_str(), printed);
     }
     Ok(())
 }
@@ -488,35 +519,42 @@ fn doubled(alloc: Global, first: &str, op: &str, count: usize) -> Result<String,
     Ok(text)
 }
 
+/// What is printed over such macros and these lines.
+fn over_doubled(
+    alloc: Global,
+    first: &str,
+    op: &str,
+    count: usize,
+    lines: &str,
+) -> Result<String, Fail> {
+    let mut text = doubled(alloc, first, op, count)?;
+    text.push_str(lines)?;
+    over(alloc, text.as_bytes(), "")
+}
+
 #[test]
 fn keeps_to_65536_references(rt: HostRuntime) -> Result<(), Fail> {
-    let alloc = rt.alloc();
-    let rows = [
+    for (line, printed) in [
         ("all: $(A15)$(A0)\n", "goals all\nall:\n"),
         ("all: $(A15)$(A0)$(A0)\n", "refused 14 makefile:17"),
-    ];
-    for (line, printed) in rows {
-        let mut text = doubled(alloc, "", "=", 15)?;
-        text.push_str(line)?;
-        assert_eq!(rt; over(alloc, text.as_bytes(), "")?.as_str(), printed);
+    ] {
+        let got = over_doubled(rt.alloc(), "", "=", 15, line)?;
+        assert_eq!(rt; got.as_str(), printed);
     }
     Ok(())
 }
 
 #[test]
 fn keeps_to_values_of_1048576_bytes(rt: HostRuntime) -> Result<(), Fail> {
-    let alloc = rt.alloc();
-    let rows = [
+    let first = "x".repeat(rt.alloc(), 1_024)?;
+    for (lines, printed) in [
         ("B ::= $(A10)\nall:\n", "goals all\nall:\n"),
         ("B ::= $(A10)x\nall:\n", "refused 15 makefile:12"),
         ("all:$(A10)\n", "refused 27 makefile:12"),
         ("all:x$(A10)\n", "refused 15 makefile:12"),
-    ];
-    let first = "x".repeat(alloc, 1_024)?;
-    for (lines, printed) in rows {
-        let mut text = doubled(alloc, first.as_str(), "::=", 10)?;
-        text.push_str(lines)?;
-        assert_eq!(rt; over(alloc, text.as_bytes(), "")?.as_str(), printed);
+    ] {
+        let got = over_doubled(rt.alloc(), first.as_str(), "::=", 10, lines)?;
+        assert_eq!(rt; got.as_str(), printed);
     }
     Ok(())
 }
@@ -530,92 +568,47 @@ fn star(alloc: Global, count: usize) -> Result<String, Fail> {
     Ok(text)
 }
 
+/// What is printed of such a target.
+fn star_printed(alloc: Global, count: usize) -> Result<String, Fail> {
+    let mut printed = "goals all\n".to_string(alloc)?;
+    for i in 0..count {
+        printed.push_str(&format!(in alloc; "n{i}:\n")?)?;
+    }
+    printed.push_str(&star(alloc, count)?)?;
+    printed.push_str("\n")?;
+    Ok(printed)
+}
+
 #[test]
 fn keeps_to_4096_nodes(rt: HostRuntime) -> Result<(), Fail> {
     let text = star(rt.alloc(), 4_095)?;
-    let mut printed = "goals all\n".to_string(rt.alloc())?;
-    for i in 0..4_095 {
-        printed.push_str(&format!(in rt.alloc(); "n{i}:\n")?)?;
-    }
-    printed.push_str(&text)?;
-    printed.push_str("\n")?;
+    let printed = star_printed(rt.alloc(), 4_095)?;
     let got = over(rt.alloc(), text.as_bytes(), "")?;
     assert!(rt; got == printed, "4,096 nodes");
     assert_eq!(rt; got.as_str().lines().count(), 4_097);
+    Ok(())
+}
+
+#[test]
+fn refuses_4097_nodes(rt: HostRuntime) -> Result<(), Fail> {
     let text = star(rt.alloc(), 4_096)?;
-    assert_eq!(rt;
-        over(rt.alloc(), text.as_bytes(), "")?.as_str(),
-        "refused 43"
-    );
+    let got = over(rt.alloc(), text.as_bytes(), "")?;
+    assert_eq!(rt; got.as_str(), "refused 43");
     Ok(())
 }
 
-/// A list of these names.
-fn names(alloc: Global, words: &[&str]) -> Result<Names, Fail> {
-    let mut names = Vec::new(alloc);
-    for word in words {
-        names.push(Name::new(alloc, word)?)?;
-    }
-    Ok(Names::new(names))
-}
-
-/// What is printed of a fault of a makefile.
-fn of_read(alloc: Global, fault: ReadFault) -> Result<Vec<u8>, AllocError> {
-    fault_text(alloc, &Fault::Read(fault))
-}
-
-/// What is printed of a fault of goals or of their graph.
-fn of_infer(alloc: Global, fault: InferFault) -> Result<Vec<u8>, AllocError> {
-    fault_text(alloc, &Fault::Infer(fault))
-}
-
 #[test]
-fn writes_faults_of_makefiles(rt: HostRuntime) -> Result<(), Fail> {
-    let alloc = rt.alloc();
-    let name = || Name::new(alloc, "a b");
-    let place = || -> Result<Place, Fail> {
-        Ok(Place {
-            file: Name::new(alloc, "f")?,
-            line: 65_537,
-        })
-    };
-    let text = of_read(
-        alloc,
-        ReadFault::Line(Name::new(alloc, "f")?, LineFault::TooManyLines(65_537)),
-    )?;
-    assert_eq!(rt; text.as_slice(), b"refused 3 f:65537".as_slice());
-    let fault = MacroFault::Recursive(MacroName::new(alloc, b"X")?);
-    let text = of_read(alloc, ReadFault::Macro(place()?, fault))?;
-    assert_eq!(rt; text.as_slice(), b"refused 12 f:65537 X".as_slice());
-    let text = of_read(alloc, ReadFault::Kind(place()?, KindFault::TargetMacro))?;
-    assert_eq!(rt; text.as_slice(), b"refused 24 f:65537".as_slice());
-    let text = of_read(alloc, ReadFault::TwoRecipes(place()?, name()?))?;
-    assert_eq!(rt; text.as_slice(), b"refused 31 f:65537 a b".as_slice());
-    let text = of_read(alloc, ReadFault::ReadFailed(Some(place()?), name()?))?;
-    assert_eq!(rt; text.as_slice(), b"refused 35 f:65537 a b".as_slice());
-    let text = of_read(alloc, ReadFault::ReadFailed(None, name()?))?;
-    assert_eq!(rt; text.as_slice(), b"refused 35 a b".as_slice());
-    let text = of_read(alloc, ReadFault::NoMakefile(None))?;
-    assert_eq!(rt; text.as_slice(), b"refused 37".as_slice());
-    let text = of_read(alloc, ReadFault::NoMakefile(Some(name()?)))?;
-    assert_eq!(rt; text.as_slice(), b"refused 37 a b".as_slice());
-    let text = of_read(alloc, ReadFault::Macro(place()?, MacroFault::Memory))?;
+fn writes_want_of_memory(rt: HostRuntime) -> Result<(), Fail> {
+    let text = bytes_of(rt.alloc(), Err(Fault::Infer(InferFault::Memory)))?;
     assert_eq!(rt; text.as_slice(), b"want of memory".as_slice());
     Ok(())
 }
 
 #[test]
-fn writes_other_faults(rt: HostRuntime) -> Result<(), Fail> {
-    let alloc = rt.alloc();
-    let cycle = InferFault::Graph(GraphFault::Cycle(names(alloc, &["a", "b", "a"])?));
-    let text = of_infer(alloc, cycle)?;
-    assert_eq!(rt; text.as_slice(), b"refused 42 a b a".as_slice());
-    let text = of_infer(alloc, InferFault::NoRule(Name::new(alloc, "a b")?))?;
+fn writes_names_with_blanks(rt: HostRuntime) -> Result<(), Fail> {
+    let name = Name::new(rt.alloc(), "a b")?;
+    let text = bytes_of(rt.alloc(), Err(Fault::Infer(InferFault::NoRule(name))))?;
     assert_eq!(rt; text.as_slice(), b"refused 41 a b".as_slice());
-    let text = of_infer(alloc, InferFault::NoGoal)?;
-    assert_eq!(rt; text.as_slice(), b"refused 44".as_slice());
-    let text = of_infer(alloc, InferFault::Memory)?;
-    assert_eq!(rt; text.as_slice(), b"want of memory".as_slice());
     Ok(())
 }
 
@@ -625,36 +618,45 @@ fn spelled<'a>(alloc: Global, names: &'a Names) -> Result<Vec<&'a str>, Fail> {
 }
 
 #[test]
-fn parts_words(rt: HostRuntime) -> Result<(), Fail> {
-    let (operands, goals) = split_words(rt.alloc(), &["b=1", "a", "", "=", "a", "c::="])?;
+fn tells_operands_from_goals(rt: HostRuntime) -> Result<(), Fail> {
+    let (operands, _goals) = split_words(rt.alloc(), &["b=1", "a", "", "=", "a", "c::="])?;
     let mut text = Vec::new(rt.alloc());
     for operand in operands.as_slice() {
         text.push(b' ')?;
         text.extend_from_slice(operand)?;
     }
     assert_eq!(rt; text.as_slice(), b" b=1 = c::=".as_slice());
-    assert_eq!(rt;
-        spelled(rt.alloc(), &goals)?.as_slice(),
-        ["a", "", "a"].as_slice()
-    );
     Ok(())
 }
 
 #[test]
-fn counts_failed_reads(rt: HostRuntime) -> Result<(), Fail> {
-    let mut files = MemFiles::new(rt.alloc());
+fn tells_goals_from_operands(rt: HostRuntime) -> Result<(), Fail> {
+    let (_operands, goals) = split_words(rt.alloc(), &["b=1", "a", "", "=", "a", "c::="])?;
+    let spelled = spelled(rt.alloc(), &goals)?;
+    assert_eq!(rt; spelled.as_slice(), ["a", "", "a"].as_slice());
+    Ok(())
+}
+
+/// Files of which the second read fails.
+fn failing_second(alloc: Global) -> Result<MemFiles, AllocError>
+    ensures { IfOk result (λ files. failures_of files ≡ 0) }
+{
+    let mut files = MemFiles::new(alloc);
     files.add("a", b"x")?;
     files.fail_at(2);
-    assert_eq!(rt;
-        files.read(rt.alloc(), "a")?.as_deref(),
-        Some(b"x".as_slice())
-    );
-    assert_eq!(rt;
-        files.read(rt.alloc(), "a").err(),
-        Some(FilesError::ReadFailed)
-    );
+    Ok(files)
+}
+
+#[test]
+fn counts_failed_reads(rt: HostRuntime) -> Result<(), Fail> {
+    let mut files = failing_second(rt.alloc())?;
+    let text = files.read(rt.alloc(), "a");
+    assert!(rt; matches!(&text, Ok(Some(text)) if text.as_slice() == b"x".as_slice()));
+    let text = files.read(rt.alloc(), "a");
+    assert!(rt; matches!(&text, Err(FilesError::ReadFailed)));
     assert_eq!(rt; files.failures(), 1);
-    assert_eq!(rt; files.read(rt.alloc(), "b")?.is_none(), true);
+    let text = files.read(rt.alloc(), "b");
+    assert!(rt; matches!(&text, Ok(None)));
     assert_eq!(rt; files.failures(), 1);
     Ok(())
 }

@@ -83,19 +83,25 @@ fn push_records(out: &mut String, records: &str) -> Result<(), AllocError> {
     out.push(']')
 }
 
+/// Adds footprints with these sources and records, as JSON.
+fn push_footprints(out: &mut String, sources: &str, records: &str) -> Result<(), AllocError> {
+    out.push_str("{\"format\":1,\"fixed\":")?;
+    push_words(out, sources, true)?;
+    out.push_str(",\"sources\":")?;
+    push_words(out, sources, false)?;
+    out.push_str(",\"records\":")?;
+    push_records(out, records)?;
+    out.push('}')
+}
+
 /// The footprints of a build. Where its sources begin with `{`, they are the text itself.
 pub fn footprints(alloc: Global, build: &str) -> Result<String, AllocError> {
     let sources = part(build, 2);
     if sources.starts_with("{") {
         return String::from_str(alloc, sources);
     }
-    let mut out = String::from_str(alloc, "{\"format\":1,\"fixed\":")?;
-    push_words(&mut out, sources, true)?;
-    out.push_str(",\"sources\":")?;
-    push_words(&mut out, sources, false)?;
-    out.push_str(",\"records\":")?;
-    push_records(&mut out, part(build, 3))?;
-    out.push_str("}")?;
+    let mut out = String::new(alloc);
+    push_footprints(&mut out, sources, part(build, 3))?;
     Ok(out)
 }
 
@@ -127,6 +133,15 @@ fn push_entries(out: &mut String, entries: &str) -> Result<(), AllocError> {
     out.push(']')
 }
 
+/// Adds a certificate for these goals with these entries, as JSON.
+fn push_certificate(out: &mut String, goals: &str, entries: &str) -> Result<(), AllocError> {
+    out.push_str("{\"format\":1,\"goals\":")?;
+    push_words(out, goals, false)?;
+    out.push_str(",\"ways\":")?;
+    push_entries(out, entries)?;
+    out.push('}')
+}
+
 /// The text of a certificate that is told as `goals | entries`. Where it begins with `{` or `[`, it
 /// is the text itself.
 pub fn certificate(alloc: Global, told: &str) -> Result<String, AllocError> {
@@ -134,11 +149,8 @@ pub fn certificate(alloc: Global, told: &str) -> Result<String, AllocError> {
         return String::from_str(alloc, told);
     }
     let (goals, entries) = told.split_once("|").unwrap_or((told, ""));
-    let mut out = String::from_str(alloc, "{\"format\":1,\"goals\":")?;
-    push_words(&mut out, goals, false)?;
-    out.push_str(",\"ways\":")?;
-    push_entries(&mut out, entries.trim())?;
-    out.push_str("}")?;
+    let mut out = String::new(alloc);
+    push_certificate(&mut out, goals, entries.trim())?;
     Ok(out)
 }
 
@@ -146,9 +158,11 @@ pub fn certificate(alloc: Global, told: &str) -> Result<String, AllocError> {
 pub fn files_of_build(alloc: Global, build: &str) -> Result<MemFiles, Fail>
     ensures { IfOk result (λ files. failures_of files ≡ 0) }
 {
+    let makefile = unfolded(alloc, part(build, 0))?;
+    let book = footprints(alloc, build)?;
     let mut files = MemFiles::new(alloc);
-    files.add("makefile", unfolded(alloc, part(build, 0))?.as_bytes())?;
-    files.add("B", footprints(alloc, build)?.as_bytes())?;
+    files.add("makefile", makefile.as_bytes())?;
+    files.add("B", book.as_bytes())?;
     Ok(files)
 }
 
@@ -185,8 +199,9 @@ pub fn verdict_over(alloc: Global, files: &mut MemFiles, asked: &Request) -> Res
 
 /// What is printed of the verdict on a build, or the words of the fault.
 pub fn verdict(alloc: Global, build: &str) -> Result<String, Fail> {
+    let asked = request_of(alloc, build)?;
     let mut files = files_of_build(alloc, build)?;
-    verdict_over(alloc, &mut files, &request_of(alloc, build)?)
+    verdict_over(alloc, &mut files, &asked)
 }
 
 /// The text of the certificate of a yes over files, and of another answer nothing.
@@ -198,8 +213,9 @@ fn certificate_over(alloc: Global, files: &mut MemFiles, asked: &Request) -> Res
 
 /// The text of the certificate of a build, where there is one.
 pub fn certificate_of(alloc: Global, build: &str) -> Result<String, Fail> {
+    let asked = request_of(alloc, build)?;
     let mut files = files_of_build(alloc, build)?;
-    certificate_over(alloc, &mut files, &request_of(alloc, build)?)
+    certificate_over(alloc, &mut files, &asked)
 }
 
 /// What is printed of the certificate `K` over files, or the words of the fault.
@@ -212,9 +228,10 @@ pub fn answer_over(alloc: Global, files: &mut MemFiles, asked: &Request) -> Resu
 
 /// What is printed of a certificate for a build, or the words of the fault.
 pub fn verified(alloc: Global, build: &str, certificate: &str) -> Result<String, Fail> {
+    let asked = request_of(alloc, build)?;
     let mut files = files_of_build(alloc, build)?;
     files.add("K", certificate.as_bytes())?;
-    answer_over(alloc, &mut files, &request_of(alloc, build)?)
+    answer_over(alloc, &mut files, &asked)
 }
 
 /// The text of a certificate with a goal more before its goals.

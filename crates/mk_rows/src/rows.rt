@@ -9,12 +9,12 @@ use std::test::Fail;
 
 /// A request with these macro operands and goals.
 pub fn request(alloc: Global, makefile: Option<&str>, words: &str) -> Result<Request, Fail> {
+    let words: Vec<&str> = words.split_whitespace().collect(alloc)?;
+    let (operands, goals) = split_words(alloc, &words)?;
     let makefile = match makefile {
         Some(name) => Some(Name::new(alloc, name)?),
         None => None,
     };
-    let words: Vec<&str> = words.split_whitespace().collect(alloc)?;
-    let (operands, goals) = split_words(alloc, &words)?;
     Ok(Request {
         makefile,
         defaults: true,
@@ -25,28 +25,49 @@ pub fn request(alloc: Global, makefile: Option<&str>, words: &str) -> Result<Req
     })
 }
 
-/// What these words of a command line ask: `-r`, `-c`, `-b` and a name, operands and goals.
-pub fn asked_by(alloc: Global, words: &str) -> Result<Request, Fail> {
-    let mut asked = request(alloc, None, "")?;
-    let mut others: Vec<&str> = Vec::new(alloc);
+/// The words that are neither options nor the name behind `-b`.
+fn others_among<'a>(alloc: Global, words: &'a str) -> Result<Vec<&'a str>, AllocError> {
+    let mut others = Vec::new(alloc);
+    let mut is_book = false;
+    for word in words.split_whitespace() {
+        if !is_book && !matches!(word, "-r" | "-c" | "-b") {
+            others.push(word)?;
+        }
+        is_book = !is_book && word == "-b";
+    }
+    Ok(others)
+}
+
+/// The name behind `-b`, where there is one.
+fn book_in(alloc: Global, words: &str) -> Result<Option<Name>, AllocError> {
     let mut is_book = false;
     for word in words.split_whitespace() {
         if is_book {
-            asked.book = Some(Name::new(alloc, word)?);
-            is_book = false;
-            continue;
+            return Ok(Some(Name::new(alloc, word)?));
         }
-        match word {
-            "-r" => asked.defaults = false,
-            "-c" => asked.commands = true,
-            "-b" => is_book = true,
-            other => others.push(other)?,
-        }
+        is_book = word == "-b";
     }
+    Ok(None)
+}
+
+/// Whether a word is among these.
+fn has_word(words: &str, asked: &str) -> bool {
+    words.split_whitespace().any(|word| word == asked)
+}
+
+/// What these words of a command line ask: `-r`, `-c`, `-b` and a name, operands and goals.
+pub fn asked_by(alloc: Global, words: &str) -> Result<Request, Fail> {
+    let others = others_among(alloc, words)?;
+    let book = book_in(alloc, words)?;
     let (operands, goals) = split_words(alloc, &others)?;
-    asked.operands = operands;
-    asked.goals = goals;
-    Ok(asked)
+    Ok(Request {
+        makefile: None,
+        defaults: !has_word(words, "-r"),
+        operands,
+        goals,
+        book,
+        commands: has_word(words, "-c"),
+    })
 }
 
 /// The text of an answer, or the line of its fault.
@@ -67,9 +88,10 @@ pub fn answer(alloc: Global, files: &mut MemFiles, request: &Request) -> Result<
 
 /// What is printed over a `makefile` of this text.
 pub fn over(alloc: Global, text: &[u8], words: &str) -> Result<String, Fail> {
+    let asked = request(alloc, None, words)?;
     let mut files = MemFiles::new(alloc);
     files.add("makefile", text)?;
-    answer(alloc, &mut files, &request(alloc, None, words)?)
+    answer(alloc, &mut files, &asked)
 }
 
 /// A text of a row, in which `¶` stands for a newline and `→` for a tab.
@@ -98,27 +120,39 @@ pub fn field(alloc: Global, fields: &[&str], at: usize) -> Result<String, Fail> 
     }
 }
 
+/// Adds the file whose name and text are these fields of a row.
+fn add_fields(
+    alloc: Global,
+    files: &mut MemFiles,
+    fields: &[&str],
+    name: usize,
+    text: usize,
+) -> Result<(), Fail>
+    ensures { failures_of files.new ≡ failures_of files.old }
+{
+    let name = field(alloc, fields, name)?;
+    let text = field(alloc, fields, text)?;
+    files.add(name.as_str(), text.as_bytes())?;
+    Ok(())
+}
+
 /// The files of a row: a `makefile`, and behind the third field two more at most, each name before
 /// its text.
 pub fn files_of(alloc: Global, fields: &[&str]) -> Result<MemFiles, Fail>
     ensures { IfOk result (λ files. failures_of files ≡ 0) }
 {
+    let makefile = field(alloc, fields, 0)?;
     let mut files = MemFiles::new(alloc);
-    files.add("makefile", field(alloc, fields, 0)?.as_bytes())?;
-    files.add(
-        field(alloc, fields, 3)?.as_str(),
-        field(alloc, fields, 4)?.as_bytes(),
-    )?;
-    files.add(
-        field(alloc, fields, 5)?.as_str(),
-        field(alloc, fields, 6)?.as_bytes(),
-    )?;
+    files.add("makefile", makefile.as_bytes())?;
+    add_fields(alloc, &mut files, fields, 3, 4)?;
+    add_fields(alloc, &mut files, fields, 5, 6)?;
     Ok(files)
 }
 
 /// What is printed over the files of a row with the words of its second field.
 pub fn over_row(alloc: Global, fields: &[&str]) -> Result<String, Fail> {
-    let mut files = files_of(alloc, fields)?;
     let words = field(alloc, fields, 1)?;
-    answer(alloc, &mut files, &asked_by(alloc, words.as_str())?)
+    let asked = asked_by(alloc, words.as_str())?;
+    let mut files = files_of(alloc, fields)?;
+    answer(alloc, &mut files, &asked)
 }
