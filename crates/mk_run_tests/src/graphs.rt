@@ -1,8 +1,6 @@
-//! Worked rows of `run`.
+//! Worked rows of `run` for graphs and plans.
 
-ghost use Rattle.std.specs.Prelude.{◌≡◌, IfOk};
-ghost use Rattle.mk_core.specs.MemFiles.{failures_of};
-
+use crate::expecting::{expect_faults, expect_rows};
 use mk_core::MemFiles;
 use mk_host::Outcome;
 use mk_run::run;
@@ -10,182 +8,120 @@ use std::alloc::{AllocError, Global};
 use std::process::Abort;
 use std::test::Fail;
 
-const PROGRAM: &str = "p: a.o\n\tcc -o p a.o\na.o: a.c\n\tcc -c a.c\n";
-
-fn holding(alloc: Global, text: &str) -> Result<MemFiles, AllocError>
-    ensures { IfOk result (λ files. failures_of files ≡ 0) }
-{
-    let mut files = MemFiles::new(alloc);
-    files.add("makefile", text.as_bytes())?;
-    Ok(files)
-}
-
-fn ran(alloc: Global, text: &str, words: &[&str]) -> Result<Outcome, AllocError> {
-    run(alloc, &mut holding(alloc, text)?, words)
-}
-
-fn expect(rt: &impl Abort, outcome: Outcome, out: &str, status: u8) {
-    assert_eq!(rt; outcome.out.as_slice(), out.as_bytes());
-    assert!(rt; outcome.err.is_empty());
-    assert_eq!(rt; outcome.status, status);
-}
+/// Graphs of goals, over which macros are set too.
+const GRAPHS: &str =
+    r"p: a.o¶→cc -o p a.o¶a.o: a.c¶→cc -c a.c¶‖graph‖‖‖0‖goals p¶a.c:¶a.o recipe: a.c¶p recipe: a.o¶
+p: a.o¶→cc -o p a.o¶a.o: a.c¶→cc -c a.c¶‖graph zzz‖‖‖0‖goals zzz¶zzz:¶
+p: a.o¶→cc -o p a.o¶a.o: a.c¶→cc -c a.c¶‖graph -f makefile -- a.o‖‖‖0‖goals a.o¶a.c:¶a.o recipe: a.c¶
+a: $(X)¶b:¶‖graph b X=c a‖‖‖0‖goals b a¶b:¶c:¶a: c¶";
 
 #[test]
 fn prints_the_graph(rt: HostRuntime) -> Result<(), Fail> {
-    let outcome = ran(rt.alloc(), PROGRAM, &["graph"])?;
-    let out = "goals p\na.c:\na.o recipe: a.c\np recipe: a.o\n";
-    expect(&rt, outcome, out, 0);
-    let outcome = ran(rt.alloc(), PROGRAM, &["graph", "zzz"])?;
-    expect(&rt, outcome, "goals zzz\nzzz:\n", 0);
-    let outcome = ran(
-        rt.alloc(),
-        PROGRAM,
-        &["graph", "-f", "makefile", "--", "a.o"],
-    )?;
-    expect(&rt, outcome, "goals a.o\na.c:\na.o recipe: a.c\n", 0);
-    let outcome = ran(rt.alloc(), "a: $(X)\nb:\n", &["graph", "b", "X=c", "a"])?;
-    expect(&rt, outcome, "goals b a\nb:\nc:\na: c\n", 0);
-    Ok(())
+    expect_rows(&rt, rt.alloc(), GRAPHS)
 }
+
+/// Graphs with commands, without the default rules, and by footprints.
+const OPTIONS: &str =
+    r"p: a.o¶→$(CC) -o $@ $^¶a.o:¶a.c:¶‖graph -c CC=cc‖‖‖0‖goals p¶a.c:¶a.o recipe: a.c¶→cc -O1 -c a.c¶p recipe: a.o¶→cc -o p a.o¶
+p: a.o¶→$(CC) -o $@ $^¶a.o:¶a.c:¶‖graph -r -c CC=cc‖‖‖0‖goals p¶a.o:¶p recipe: a.o¶→cc -o p a.o¶
+p: a.o¶→$(CC) -o $@ $^¶a.o:¶a.c:¶‖graph -rr a.o‖‖‖0‖goals a.o¶a.o:¶
+p: a.o¶→$(CC) -o $@ $^¶a.o:¶a.c:¶‖graph -b C‖‖‖2‖refused 38 C¶
+p: a.o¶→cc -o p a.o¶a.o: a.c¶→cc -c a.c¶‖graph -b B‖‖‖2‖refused 41 a.c¶
+p: a.o¶→cc -o p a.o¶a.o: a.c¶→cc -c a.c¶‖graph -b B‖{‖‖2‖refused 51¶";
 
 #[test]
 fn takes_options(rt: HostRuntime) -> Result<(), Fail> {
-    let rules = "p: a.o\n\t$(CC) -o $@ $^\na.o:\na.c:\n";
-    let outcome = ran(rt.alloc(), rules, &["graph", "-c", "CC=cc"])?;
-    let out = "goals p\na.c:\na.o recipe: a.c\n\tcc -O1 -c a.c\np recipe: a.o\n\tcc -o p a.o\n";
-    expect(&rt, outcome, out, 0);
-    let outcome = ran(rt.alloc(), rules, &["graph", "-r", "-c", "CC=cc"])?;
-    let out = "goals p\na.o:\np recipe: a.o\n\tcc -o p a.o\n";
-    expect(&rt, outcome, out, 0);
-    let outcome = ran(rt.alloc(), rules, &["graph", "-rr", "a.o"])?;
-    expect(&rt, outcome, "goals a.o\na.o:\n", 0);
-    let outcome = ran(rt.alloc(), rules, &["graph", "-b", "B"])?;
-    expect(&rt, outcome, "refused 38 B\n", 2);
-    Ok(())
+    expect_rows(&rt, rt.alloc(), OPTIONS)
 }
 
-#[test]
-fn reads_footprints(rt: HostRuntime) -> Result<(), Fail> {
-    let alloc = rt.alloc();
-    let mut files = holding(alloc, PROGRAM)?;
-    files.add(
-        "B",
-        b"{\"format\":1,\"fixed\":[],\"sources\":[],\"records\":[]}",
-    )?;
-    let outcome = run(alloc, &mut files, &["graph", "-b", "B"])?;
-    expect(&rt, outcome, "refused 41 a.c\n", 2);
-    let mut files = holding(alloc, PROGRAM)?;
-    files.add("B", b"{")?;
-    let outcome = run(alloc, &mut files, &["graph", "-b", "B"])?;
-    expect(&rt, outcome, "refused 51\n", 2);
-    Ok(())
-}
+/// Makefiles and words that are refused.
+const REFUSALS: &str = r"a: b c¶c: d¶d: c a¶‖graph‖‖‖2‖refused 42 c d c¶
+‖graph‖‖‖2‖refused 44¶
+p: a.o¶→cc -o p a.o¶‖graph CC+=cc‖‖‖2‖refused 11 operand:1¶
+a: b¶V != date¶‖graph‖‖‖2‖refused 21 makefile:2¶
+p: a.o¶→cc -o p a.o¶‖graph -f -‖‖‖2‖refused 27 -¶
+p: a.o¶→cc -o p a.o¶‖graph -f x.mk‖‖‖2‖refused 37 x.mk¶";
 
 #[test]
 fn prints_refusals(rt: HostRuntime) -> Result<(), Fail> {
-    let outcome = ran(rt.alloc(), "a: b c\nc: d\nd: c a\n", &["graph"])?;
-    expect(&rt, outcome, "refused 42 c d c\n", 2);
-    let outcome = ran(rt.alloc(), "", &["graph"])?;
-    expect(&rt, outcome, "refused 44\n", 2);
-    let outcome = ran(rt.alloc(), PROGRAM, &["graph", "CC+=cc"])?;
-    expect(&rt, outcome, "refused 11 operand:1\n", 2);
-    let outcome = ran(rt.alloc(), "a: b\nV != date\n", &["graph"])?;
-    expect(&rt, outcome, "refused 21 makefile:2\n", 2);
-    let outcome = ran(rt.alloc(), PROGRAM, &["graph", "-f", "-"])?;
-    expect(&rt, outcome, "refused 27 -\n", 2);
-    Ok(())
+    expect_rows(&rt, rt.alloc(), REFUSALS)
+}
+
+/// What becomes of `graph` where the read with this number fails, over this file or none.
+fn graph_over(alloc: Global, file: &str, failing: u64) -> Result<Outcome, AllocError> {
+    let mut files = MemFiles::new(alloc);
+    files.add(file, b"a:\n")?;
+    files.fail_at(failing);
+    run(alloc, &mut files, &["graph"])
 }
 
 #[test]
-fn prints_that_there_is_no_makefile(rt: HostRuntime) -> Result<(), Fail> {
-    let mut none = MemFiles::new(rt.alloc());
-    let outcome = run(rt.alloc(), &mut none, &["graph"])?;
-    expect(&rt, outcome, "refused 37\n", 2);
-    let outcome = ran(rt.alloc(), PROGRAM, &["graph", "-f", "x.mk"])?;
-    expect(&rt, outcome, "refused 37 x.mk\n", 2);
+fn prints_what_is_not_read(rt: HostRuntime) -> Result<(), Fail> {
+    let rows: [(&str, u64, &str); 3] = [
+        ("x", 0, "refused 37\n"),
+        ("makefile", 1, "refused 35 makefile\n"),
+        ("Makefile", 2, "refused 35 Makefile\n"),
+    ];
+    for (file, failing, printed) in rows {
+        let outcome = graph_over(rt.alloc(), file, failing)?;
+        assert_eq!(rt; outcome.out.as_slice(), printed.as_bytes());
+        assert!(rt; outcome.err.is_empty() && outcome.status == 2);
+    }
     Ok(())
 }
 
-#[test]
-fn prints_that_a_read_failed(rt: HostRuntime) -> Result<(), Fail> {
-    let mut files = holding(rt.alloc(), PROGRAM)?;
-    files.fail_at(1);
-    let outcome = run(rt.alloc(), &mut files, &["graph"])?;
-    expect(&rt, outcome, "refused 35 makefile\n", 2);
-    Ok(())
-}
-
-const COPY: &str = "b: a\n\tcp a b\n";
-
-const COPIES: &str = r#"{"format":1,"fixed":[],"sources":["a"],"records":[
-{"target":"b","commands":["cp a b"],"reads":["a"],"writes":["b"]}]}"#;
-
-fn simulated(alloc: Global, plan: &str) -> Result<Outcome, AllocError> {
-    let mut files = holding(alloc, COPY)?;
-    files.add("B", COPIES.as_bytes())?;
-    files.add("P", plan.as_bytes())?;
-    run(alloc, &mut files, &["simulate", "-b", "B", "-p", "P"])
-}
+/// Runs of plans, which stand in the file `P`.
+const PLANS: &str =
+    r"b: a¶→cp a b¶‖simulate -b B -p P‖a‖b: a > b = cp a b‖2‖a 1 1¶b 2 2¶refused 65 line 7¶a 3 3¶b 2 2¶‖P‖make 1¶begin b¶finish b¶end¶edit a¶make 1¶pass b
+b: a¶→cp a b¶‖simulate -b B -p P‖a‖b: a > b = cp a b‖0‖a 1 1¶b 2 2¶plan ok¶‖P‖make 1¶run b¶end¶
+b: a¶→cp a b¶‖simulate -b B -p P‖a‖b: a > b = cp a b‖2‖refused 69 line 1¶‖P‖frob
+b: a¶→cp a b¶‖simulate -b B -p P‖a‖b: a > b = cp a b‖2‖refused 38 P¶";
 
 #[test]
 fn runs_plans(rt: HostRuntime) -> Result<(), Fail> {
-    let alloc = rt.alloc();
-    let plan = "make 1\nbegin b\nfinish b\nend\nedit a\nmake 1\npass b";
-    let out = "a 1 1\nb 2 2\nrefused 65 line 7\na 3 3\nb 2 2\n";
-    expect(&rt, simulated(alloc, plan)?, out, 2);
-    let plan = "make 1\nrun b\nend\n";
-    expect(&rt, simulated(alloc, plan)?, "a 1 1\nb 2 2\nplan ok\n", 0);
-    expect(&rt, simulated(alloc, "frob")?, "refused 69 line 1\n", 2);
-    let mut files = holding(alloc, COPY)?;
-    files.add("B", COPIES.as_bytes())?;
-    let outcome = run(alloc, &mut files, &["simulate", "-b", "B", "-p", "P"])?;
-    expect(&rt, outcome, "refused 38 P\n", 2);
-    Ok(())
+    expect_rows(&rt, rt.alloc(), PLANS)
 }
 
-fn expect_fault(rt: &impl Abort, outcome: Outcome) {
-    assert!(rt; outcome.out.is_empty());
-    assert!(rt; !outcome.err.is_empty());
-    assert_eq!(rt; outcome.status, 2);
-}
+/// Words that the command line doesn't take.
+const OTHER_WORDS: &str = r"
+repair
+help
+graph -x
+graph --file makefile
+graph -f
+graph -f a -f b
+graph -b
+graph -b A -b B
+simulate -b B
+simulate -p P
+simulate -b B -p P -c";
 
 #[test]
 fn refuses_other_words(rt: HostRuntime) -> Result<(), Fail> {
-    expect_fault(&rt, ran(rt.alloc(), PROGRAM, &[])?);
-    expect_fault(&rt, ran(rt.alloc(), PROGRAM, &["repair"])?);
-    expect_fault(&rt, ran(rt.alloc(), PROGRAM, &["help"])?);
-    expect_fault(&rt, ran(rt.alloc(), PROGRAM, &["graph", "-x"])?);
-    expect_fault(
-        &rt,
-        ran(rt.alloc(), PROGRAM, &["graph", "--file", "makefile"])?,
-    );
-    expect_fault(&rt, ran(rt.alloc(), PROGRAM, &["graph", "-f"])?);
-    expect_fault(
-        &rt,
-        ran(rt.alloc(), PROGRAM, &["graph", "-f", "a", "-f", "b"])?,
-    );
-    expect_fault(&rt, ran(rt.alloc(), PROGRAM, &["graph", "-b"])?);
-    expect_fault(
-        &rt,
-        ran(rt.alloc(), PROGRAM, &["graph", "-b", "A", "-b", "B"])?,
-    );
-    for words in [["-b", "B"], ["-p", "P"]] {
-        let words = ["simulate", words[0], words[1]];
-        expect_fault(&rt, ran(rt.alloc(), PROGRAM, &words)?);
-    }
-    let words = ["simulate", "-b", "B", "-p", "P", "-c"];
-    expect_fault(&rt, ran(rt.alloc(), PROGRAM, &words)?);
-    Ok(())
+    expect_faults(&rt, rt.alloc(), OTHER_WORDS)
 }
 
 #[test]
-fn prints_help_and_version(rt: HostRuntime) -> Result<(), Fail> {
-    let outcome = ran(rt.alloc(), PROGRAM, &["--version"])?;
-    expect(&rt, outcome, "mkcheck 0.1.0\n", 0);
-    let outcome = ran(rt.alloc(), PROGRAM, &["--help"])?;
-    assert!(rt; !outcome.out.is_empty() && outcome.err.is_empty() && outcome.status == 0);
-    for name in ["graph", "check", "verify", "simulate"] {
-        let outcome = ran(rt.alloc(), PROGRAM, &[name, "--help"])?;
+fn prints_the_version(rt: HostRuntime) -> Result<(), Fail> {
+    expect_rows(&rt, rt.alloc(), "‖--version‖‖‖0‖mkcheck 0.1.0¶")
+}
+
+/// What becomes of these words where there are no files.
+fn answered(alloc: Global, words: &str) -> Result<Outcome, AllocError> {
+    let words: Vec<&str> = words.split_whitespace().collect(alloc)?;
+    run(alloc, &mut MemFiles::new(alloc), &words)
+}
+
+#[test]
+fn prints_help(rt: HostRuntime) -> Result<(), Fail> {
+    for words in [
+        "--help",
+        "graph --help",
+        "check --help",
+        "verify --help",
+        "simulate --help",
+    ] {
+        let outcome = answered(rt.alloc(), words)?;
         assert!(rt; !outcome.out.is_empty() && outcome.err.is_empty() && outcome.status == 0);
     }
     Ok(())

@@ -4,6 +4,8 @@
 #[cfg(test)]
 mod edges;
 #[cfg(test)]
+mod expecting;
+#[cfg(test)]
 mod graphs;
 #[cfg(test)]
 mod verdicts;
