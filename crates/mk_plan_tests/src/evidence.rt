@@ -3,7 +3,8 @@
 ghost use Rattle.std.specs.Prelude.{◌≡◌, ◌<◌, ◌-◌, ◌^◌};
 ghost use Rattle.mk_parse.specs.MemFiles.{failures_of};
 
-use mk_core::{Fault, MemFiles, Request, Simulation, fault_text, render, simulate_text};
+use crate::simulations::printed;
+use mk_core::{Fault, MemFiles, Request, fault_text, render};
 use mk_evidence::{Evidence, evidence_or_verdict, evidence_text};
 use mk_rows::builds::{files_of_build, part, request_of};
 use mk_rows::rows::unfolded;
@@ -32,21 +33,6 @@ fn plan_over(
     told(alloc, evidence_text(alloc, files, asked, number))
 }
 
-/// The text of a run, or the line of its fault.
-fn text_of(alloc: Global, answer: Result<Simulation, Fault>) -> Result<Vec<u8>, AllocError> {
-    match answer {
-        Ok(run) => Ok(run.text),
-        Err(fault) => fault_text(alloc, &fault),
-    }
-}
-
-/// What is printed of the run of the plan `P` over files.
-fn run_over(alloc: Global, files: &mut MemFiles, asked: &Request) -> Result<Vec<u8>, AllocError>
-    requires { failures_of files.old < 2 ^ 64 - 1 }
-{
-    text_of(alloc, simulate_text(alloc, files, asked, "P"))
-}
-
 /// The plan that shows the finding of a build under a number.
 pub(crate) fn plan_for(alloc: Global, build: &str, number: u64) -> Result<Vec<u8>, Fail> {
     let mut files = files_of_build(alloc, build)?;
@@ -54,10 +40,11 @@ pub(crate) fn plan_for(alloc: Global, build: &str, number: u64) -> Result<Vec<u8
 }
 
 /// What is printed of the run of a plan over a build.
-fn ran(alloc: Global, build: &str, plan: &[u8]) -> Result<Vec<u8>, Fail> {
+fn ran(alloc: Global, build: &str, plan: &[u8]) -> Result<String, Fail> {
+    let asked = request_of(alloc, build)?;
     let mut files = files_of_build(alloc, build)?;
     files.add("P", plan)?;
-    Ok(run_over(alloc, &mut files, &request_of(alloc, build)?)?)
+    printed(alloc, &mut files, &asked)
 }
 
 /// The number that a row names, and 0 for none.
@@ -77,7 +64,7 @@ fn expect_plans(rt: &impl Abort, alloc: Global, table: &str) -> Result<(), Fail>
         let want = unfolded(alloc, part(row, 5))?;
         assert_eq!(rt; text.as_str(), want.as_str(), "the plan of {row:?}");
         if text.as_str() != "none\n" {
-            let run = String::from_utf8(ran(alloc, row, &plan)?)?;
+            let run = ran(alloc, row, &plan)?;
             let want = unfolded(alloc, part(row, 6))?;
             assert_eq!(rt; run.as_str(), want.as_str(), "the run of {row:?}");
         }

@@ -57,7 +57,11 @@ fn text_of(alloc: Global, answer: Result<Simulation, Fault>) -> Result<Vec<u8>, 
 }
 
 /// What is printed of the run of a plan, or the words of the fault.
-fn printed(alloc: Global, files: &mut MemFiles, request: &Request) -> Result<String, Fail>
+pub(crate) fn printed(
+    alloc: Global,
+    files: &mut MemFiles,
+    request: &Request,
+) -> Result<String, Fail>
     requires { failures_of files.old < 2 ^ 64 - 1 }
 {
     let bytes = text_of(alloc, simulate_text(alloc, files, request, "P"))?;
