@@ -10,7 +10,7 @@ use Rattle.mk_cert.specs.Listing.{Lists, nothing, keeps, drops}
 use Rattle.mk_cert.specs.Listed.{Adds, named}
 
 -- lists one behind the other
-lists_append : (x : Subject) {one other kept more : List Candidate} → Lists x one kept → Lists x other more → Lists x (one ++ other) (kept ++ more)
+pub lists_append : (x : Subject) {one other kept more : List Candidate} → Lists x one kept → Lists x other more → Lists x (one ++ other) (kept ++ more)
 lists_append x nothing l = l
 lists_append x (keeps h m) l = keeps h (lists_append x m l)
 lists_append x (drops h m) l = drops h (lists_append x m l)

@@ -28,6 +28,11 @@ holding_listed x all kept (keeps {c = d} {all = rest} {kept = others} held more)
 holding_listed x all kept (drops {c = d} {all = rest} {kept = others} not more) c (inl here) holds = absurd (not (subst (λ (k : Candidate). Holds x k) (sym here) holds))
 holding_listed x all kept (drops {c = d} {all = rest} {kept = others} not more) c (inr there) holds = holding_listed x rest others more c there holds
 
+-- where no condition holds, nothing is listed
+pub lists_nothing : (x : Subject) (all : List Candidate) → ((c : Candidate) → Has all c → ¬ (Holds x c)) → Lists x all []
+lists_nothing x [] none = nothing
+lists_nothing x (c ∷ all) none = drops (none c (inl refl)) (lists_nothing x all (λ d h. none d (inr h)))
+
 -- where nothing is listed, no condition holds
 pub nothing_holds : (x : Subject) (all : List Candidate) → Lists x all [] → (c : Candidate) → Has all c → ¬ (Holds x c)
 nothing_holds x all none c h holds = holding_listed x all [] none c h holds

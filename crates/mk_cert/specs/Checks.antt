@@ -1,13 +1,21 @@
 -- What the tests of a certificate answer, one after another.
-use Rattle.std.specs.Prelude.{◌≡◌, ⊤, ℕ, Bool, true, false, List, [], ◌∷◌, ◌++◌, length, map, Result, Ok, Err}
+use Rattle.std.specs.Prelude.{◌≡◌, ⊤, ℕ, Bool, true, false, List, [], ◌∷◌, ◌++◌, length, map, Option, None, Some, Result, Ok, Err}
 use Rattle.mk_ways.specs.Certificate.{Way}
 use Rattle.mk_cert.specs.declared.fault.CertFault.{CertFault}
 use Rattle.mk_cert.specs.declared.fault.CertFault.TheVariants.{NoWay, BadWay, Static}
+use Rattle.mk_cert.specs.declared.finding.Finding.{Finding}
 use Rattle.mk_cert.specs.Subject.{Subject, name_of, reads_of}
 use Rattle.mk_cert.specs.Candidates.{Candidate, Holds, static_candidates, race_candidates}
+use Rattle.mk_cert.specs.Listing.{Lists}
 use Rattle.mk_cert.specs.Listed.{named}
 use Rattle.mk_cert.specs.Links.{AreSeen}
 use Rattle.mk_cert.specs.Verdict.{IsFirst, NothingFound, MayStand, NoneBad, IsFirstBad, Read, all_reads, LacksWay, NoneLacks}
+
+-- the first of these candidates of which the condition holds, or that it holds of none
+abbrev pub TellsFirst : Subject → List Candidate → Option Finding → Type 0
+TellsFirst x all None = Lists x all []
+TellsFirst x all (Some finding) =
+    (k : Candidate) × IsFirst (Holds x) all k × (finding ≡ named x k)
 
 -- whether something is found
 abbrev pub AnswersFound : Subject → Result ⊤ CertFault → Type 0

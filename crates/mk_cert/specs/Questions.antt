@@ -5,7 +5,8 @@ use Rattle.mk_graph.specs.Serial.{serial_order}
 use Rattle.mk_cert.specs.declared.question.Question.{Question}
 use Rattle.mk_cert.specs.declared.question.Question.TheVariants.{Record, Commands, Varying, Target, Given, Own, Unknown, Loose, Choice}
 use Rattle.mk_cert.specs.Subject.{Subject, reads_of, writes_of}
-use Rattle.mk_cert.specs.Candidates.{Candidate, by_node, no_record, other_commands, varying_commands, no_target, given_written, own_read, unknown_read, loose, selection, choice_with_writes}
+use Rattle.mk_cert.specs.Entry.{behind}
+use Rattle.mk_cert.specs.Candidates.{Candidate, by_node, no_record, other_commands, varying_commands, no_target, given_written, own_read, unknown_read, loose, selection, two_writers, choice_with_writes}
 
 -- what may be found of a node by a question
 abbrev pub asked : Subject → Question → ℕ → List Candidate
@@ -22,3 +23,8 @@ asked x Choice n = map (λ c. selection n c) (choice_with_writes x n)
 -- what may be found by these questions, one after another, each asked of all nodes
 abbrev pub asked_each : Subject → List Question → List Candidate
 asked_each x questions = flat_map (λ question. by_node x (asked x question)) questions
+
+-- what may be found of a recipe and those behind it in the serial order: a file that both write
+abbrev pub pairs_with : Subject → ℕ → List Candidate
+pairs_with x n =
+    flat_map (λ f. map (λ t. two_writers n t f) (behind n (serial_order x.graph))) (writes_of x n)

@@ -92,7 +92,7 @@ impl<'a> Entry<'a> {
     }
 
     /// A copy of its name.
-    pub fn copy_of_name(&self) -> Result<Name, AllocError>
+    pub(crate) fn copy_of_name(&self) -> Result<Name, AllocError>
         ensures { IfOk result (λ name. name ≡ self.now.node.name) }
     {
         self.node.name.clone()

@@ -121,8 +121,8 @@ pub fn note_unknown_reads<'s>(
     Ok(())
 }
 
-/// Adds that a recipe reads a file that is one of those that it writes, if it is. Each two writers
-/// of a file are told before, so going through these takes no longer than that.
+/// Adds that a recipe reads a file that is one of those that it writes, if it is. The writers of
+/// the file are gone through: each two of them were told, so where nothing is found there is one.
 fn note_own(
     alloc: Global,
     subject: &Subject<'_>,

@@ -18,7 +18,7 @@ use crate::subject::Subject;
 use std::alloc::{AllocError, Global};
 
 /// Adds what is found of all nodes by these questions, one after another.
-fn ask_each(
+pub fn ask_each(
     alloc: Global,
     subject: &Subject<'_>,
     questions: &[Question],

@@ -6,6 +6,7 @@ ghost use Rattle.mk_ways.specs.Certificate.{Way};
 ghost use Rattle.mk_cert.specs.Subject.{name_of, reads_of};
 ghost use Rattle.mk_cert.specs.Entry.{IsEntry};
 ghost use Rattle.mk_cert.specs.Links.{AreSeen};
+ghost use Rattle.mk_cert.specs.Target.{target_of};
 ghost use Rattle.mk_cert.specs.Verdict.{IsFirst, Read, LacksWay};
 ghost use Rattle.mk_cert.specs.Checks.{AnswersReads, reads_by};
 ghost use Rattle.mk_cert.specs.declared.fault.CertFault.TheVariants.{Memory, NoWay};
@@ -13,25 +14,27 @@ ghost use Rattle.mk_cert.specs.declared.fault.CertFault.TheVariants.{Memory, NoW
 use crate::entry::Entry;
 use crate::fault::CertFault;
 use crate::subject::Subject;
-use crate::target::can_change;
+use crate::target::Target;
 use crate::walking::stands_at;
 use mk_graph::laws::serial_reaches_each_once;
 use mk_lines::{Name, NameSet};
 use std::alloc::{AllocError, Global};
 
-/// Whether a file that a recipe reads can change and isn't noted for it.
-fn lacks(subject: &Subject<'_>, seen: &[NameSet<'_>], entry: &Entry<'_>, file: &str) -> bool
-    requires read { Has (reads_of subject.now entry.now.number) file.now }
+/// Whether a file that a recipe reads can change and isn't noted for it. One that can't change isn't
+/// looked up.
+fn lacks(subject: &Subject<'_>, seen: &[NameSet<'_>], entry: &Entry<'_>, file: &Target<'_>) -> bool
+    requires read { Has (reads_of subject.now entry.now.number) file.now.file }
+    requires file { file.now ≡ target_of subject.now file.now.file }
     ensures { (ways : List Way) → AreSeen subject.now ways seen.now → (result ≡ true) ↔
-        LacksWay subject.now ways (record { recipe = entry.now.number; file = file.now }) }
+        LacksWay subject.now ways (record { recipe = entry.now.number; file = file.now.file }) }
 {
     let _graph = subject.graph();
-    can_change(subject, file) && !stands_at(seen, entry.number, file)
+    file.can_change(subject) && !stands_at(seen, entry.number, file.file)
 }
 
 /// The first file that a recipe reads which can change and isn't noted for it.
 fn first_lacking<'a>(
-    subject: &Subject<'_>,
+    subject: &'a Subject<'_>,
     seen: &[NameSet<'_>],
     entry: &'a Entry<'_>,
 ) -> Option<&'a str>
@@ -43,10 +46,11 @@ fn first_lacking<'a>(
         (λ file. IsFirst (LacksWay subject.now ways) (reads_by subject.now entry.now.number)
         (record { recipe = entry.now.number; file = file.now })) }
 {
-    let files = entry.reads();
-    for file in files {
-        if lacks(subject, seen, entry, file.as_str()) {
-            return Some(file.as_str());
+    let count = entry.reads().len();
+    for place in 0..count {
+        let file = subject.read(entry, place);
+        if lacks(subject, seen, entry, &file) {
+            return Some(file.file);
         }
     }
     None

@@ -11,6 +11,7 @@ mod fault;
 mod file_findings;
 mod finding;
 mod findings;
+mod first;
 mod judging;
 mod known;
 mod lacking;

@@ -1,7 +1,6 @@
 //! Two recipes that write a file.
 
 ghost use Rattle.std.specs.Prelude.{◌≡◌, ◌∷◌, [], ℕ, map, OnOk};
-ghost use Rattle.std.specs.List.{flat_map};
 ghost use Rattle.mk_graph.specs.Membership.{Has};
 ghost use Rattle.mk_graph.specs.Serial.{serial_order};
 ghost use Rattle.mk_cert.specs.Subject.{writes_of};
@@ -9,6 +8,7 @@ ghost use Rattle.mk_cert.specs.Candidates.{pairs_of_writers, two_writers};
 ghost use Rattle.mk_cert.specs.Conditions.{AreTwoWriters};
 ghost use Rattle.mk_cert.specs.Entry.{IsEntry, behind};
 ghost use Rattle.mk_cert.specs.Listed.{Adds};
+ghost use Rattle.mk_cert.specs.Questions.{pairs_with};
 
 use crate::entry::Entry;
 use crate::finding::Finding;
@@ -99,17 +99,15 @@ fn note_file(
 }
 
 /// Adds which files a recipe and others behind it in the serial order write.
-fn note_files(
+pub fn note_files(
     alloc: Global,
     subject: &Subject<'_>,
     entry: &Entry<'_>,
     found: &mut Vec<Finding>,
 ) -> Result<(), AllocError>
     requires { IsEntry subject.now entry.now }
-    ensures { OnOk result (Adds subject.now
-        (flat_map (λ f. map (λ t. two_writers entry.now.number t f)
-        (behind entry.now.number (serial_order subject.now.graph)))
-        (writes_of subject.now entry.now.number)) found.old.items found.new.items) }
+    ensures { OnOk result (Adds subject.now (pairs_with subject.now entry.now.number)
+        found.old.items found.new.items) }
 {
     let files = entry.writes();
     for file in files {

@@ -121,7 +121,7 @@ impl<'a> Subject<'a> {
     }
 
     /// The numbers of the nodes that write a file, in the serial order. It takes no memory.
-    pub fn writers(&self, file: &str) -> &[usize]
+    pub(crate) fn writers(&self, file: &str) -> &[usize]
         ensures { result.now ≡ writers_of self.now file.now }
     {
         writers_at(&self.tables.writers, file)
@@ -136,7 +136,7 @@ impl<'a> Subject<'a> {
     }
 
     /// A copy of the name of a node. The error is want of memory alone.
-    pub fn copy_of_name(&self, number: usize) -> Result<Name, AllocError>
+    pub(crate) fn copy_of_name(&self, number: usize) -> Result<Name, AllocError>
         requires { number < length self.now.graph.nodes }
         ensures { IfOk result (λ name. name ≡ name_of self.now number) }
     {

@@ -62,10 +62,3 @@ impl Target<'_> {
         self.editable || !self.given
     }
 }
-
-/// Whether a file can change.
-pub fn can_change(subject: &Subject<'_>, file: &str) -> bool
-    ensures { (result ≡ true) ↔ CanChange (footprints subject.now.setting) file.now }
-{
-    subject.setting().is_editable(file) || !subject.setting().is_given(file)
-}

@@ -1,6 +1,6 @@
 //! Whether a certificate shows that a build is safe.
 
-ghost use Rattle.std.specs.Prelude.{◌≡◌, ◌⊎◌, ◌↔◌, ◌∷◌, List, [], true, map, Err, MatchOption, OnOk};
+ghost use Rattle.std.specs.Prelude.{◌≡◌, ◌⊎◌, ◌↔◌, true, map, Err, OnOk};
 ghost use Rattle.mk_graph.specs.Right.{IsRight};
 ghost use Rattle.mk_infer.specs.Laws.{StaysSelected};
 ghost use Rattle.mk_cert.specs.Conditions.{all_writes};
@@ -8,17 +8,14 @@ ghost use Rattle.mk_cert.specs.Subject.{footprints, name_of};
 ghost use Rattle.mk_cert.specs.Laws.{IsRightOnce, PartsStay};
 ghost use Rattle.mk_cert.specs.Verdict.{Verifies};
 ghost use Rattle.mk_cert.specs.Checks.{AnswersFound, AnswersWays};
-ghost use Rattle.mk_cert.specs.declared.finding.Finding.{Finding};
 ghost use Rattle.mk_cert.specs.declared.fault.CertFault.TheVariants.{Memory};
 
 use crate::fault::CertFault;
-use crate::finding::Finding;
-use crate::findings::static_findings;
+use crate::first::{first_race, first_static};
 use crate::judging::{check_entries, empty_sets};
 use crate::lacking::check_reads;
 use crate::laws::verified_is_right;
 use crate::links::links_of;
-use crate::race_findings::races;
 use crate::subject::Subject;
 use mk_ways::{Certificate, PackedNames, Ways};
 use std::alloc::Global;
@@ -41,26 +38,14 @@ fn has_goals(subject: &Subject<'_>, names: &PackedNames) -> bool
     true
 }
 
-/// The first of findings, if there are any.
-fn first_of(found: Vec<Finding>) -> Option<Finding>
-    ensures { MatchOption result (found.items ≡ [])
-        (λ first. (rest : List Finding) × (found.items ≡ first ∷ rest)) }
-{
-    let mut found = found;
-    if found.is_empty() {
-        return None;
-    }
-    Some(found.swap_remove(0))
-}
-
 /// That nothing is found, or the first that is: static, or else a race (76).
 fn check_found(alloc: Global, subject: &Subject<'_>) -> Result<(), CertFault>
     ensures { (result ≡ Err Memory) ⊎ AnswersFound subject.now result }
 {
-    if let Some(finding) = first_of(static_findings(alloc, subject)?) {
+    if let Some(finding) = first_static(alloc, subject)? {
         return Err(CertFault::Static(finding));
     }
-    if let Some(finding) = first_of(races(alloc, subject)?) {
+    if let Some(finding) = first_race(alloc, subject)? {
         return Err(CertFault::Static(finding));
     }
     Ok(())

@@ -15,7 +15,7 @@ ghost use Rattle.mk_cert.specs.Walking.{GoesOver, Leads};
 use crate::links::{Ends, Links};
 use crate::needed::Needed;
 use crate::subject::Subject;
-use crate::target::{Target, can_change, target_of};
+use crate::target::{Target, target_of};
 use crate::writer_findings::has_number;
 use mk_graph::NodeSet;
 use mk_graph::growth_laws::names_have_one_number;
@@ -137,18 +137,26 @@ pub fn ends_at(
 }
 
 /// Whether a recipe reads a file which can change.
-fn needs_way(subject: &Subject<'_>, links: &Links<'_>, number: usize, file: &str) -> bool
-    requires { AreLinks subject.now links.now.reads.items
+fn needs_way(subject: &Subject<'_>, links: &Links<'_>, number: usize, file: &Target<'_>) -> bool
+    requires links { AreLinks subject.now links.now.reads.items
         links.now.carried.items links.now.ends.needed.items links.now.ends.always.items }
-    ensures { (result ≡ true) ↔ NeedsWay subject.now number file.now }
+    requires file { file.now ≡ target_of subject.now file.now.file }
+    ensures { (result ≡ true) ↔ NeedsWay subject.now number file.now.file }
 {
-    stands_at(&links.reads, number, file) && can_change(subject, file)
+    stands_at(&links.reads, number, file.file) && file.can_change(subject)
 }
 
 /// Whether the path of an entry goes on from its first recipe to its file.
-fn leads(subject: &Subject<'_>, links: &Links<'_>, start: usize, way: &Way<'_>) -> bool
-    requires { AreLinks subject.now links.now.reads.items
+fn leads(
+    subject: &Subject<'_>,
+    links: &Links<'_>,
+    start: usize,
+    way: &Way<'_>,
+    file: &Target<'_>,
+) -> bool
+    requires links { AreLinks subject.now links.now.reads.items
         links.now.carried.items links.now.ends.needed.items links.now.ends.always.items }
+    requires file { file.now ≡ target_of subject.now way.now.file }
     ensures { (result ≡ true) ↔ Leads subject.now start (drop 1 way.now.path) way.now }
 {
     names_have_one_number();
@@ -159,8 +167,7 @@ fn leads(subject: &Subject<'_>, links: &Links<'_>, start: usize, way: &Way<'_>) 
     if way.path.len() < 2 && way.finish == Finish::Written {
         return false;
     }
-    let file = target_of(subject, way.file);
-    ends_at(subject, &links.ends, &file, way.finish, last)
+    ends_at(subject, &links.ends, file, way.finish, last)
 }
 
 /// The number of the recipe of an entry, where the entry is good.
@@ -183,10 +190,11 @@ pub fn good_start(subject: &Subject<'_>, links: &Links<'_>, way: &Way<'_>) -> Op
     let Some(start) = recipe_named(subject, &links.ends, first) else {
         return None;
     };
-    if !needs_way(subject, links, start, way.file) {
+    let file = target_of(subject, way.file);
+    if !needs_way(subject, links, start, &file) {
         return None;
     }
-    if !leads(subject, links, start, way) {
+    if !leads(subject, links, start, way, &file) {
         return None;
     }
     Some(start)

@@ -30,7 +30,10 @@ fn writes_the_certificate(rt: HostRuntime) -> Result<(), Fail> {
 const ORDERS: &str =
     r"p | a.o a.c source a.o; p a.o written p a.o; p a.c source p a.o => yes 2 recipes 3 reads¶
 p | p a.c source p a.o; p a.o written p a.o; a.o a.c source a.o => yes 2 recipes 3 reads¶
-p | p a.o written p a.o; a.o a.c source a.o; p a.c source p a.o => yes 2 recipes 3 reads¶";
+p | p a.o written p a.o; a.o a.c source a.o; p a.c source p a.o => yes 2 recipes 3 reads¶
+p | a.o a.c source a.o; p a.c source p a.o; p a.o written p a.o => yes 2 recipes 3 reads¶
+p | p a.c source p a.o; a.o a.c source a.o; p a.o written p a.o => yes 2 recipes 3 reads¶
+p | p a.o written p a.o; p a.c source p a.o; a.o a.c source a.o => yes 2 recipes 3 reads¶";
 
 #[test]
 fn accepts_entries_in_any_order(rt: HostRuntime) -> Result<(), Fail> {
@@ -200,6 +203,8 @@ const OTHERS: &str =
 all: a t¶a:¶→a¶t:¶→t¶‖‖‖a: > a = a; t: a z > t = t‖all |‖refused 76 unknown t z
 p: s¶→mk p¶‖‖s‖‖p |‖refused 76 record p
 p: s¶→mk p¶‖‖s‖p: s > p = mk q‖p | p s source p‖refused 76 commands p
+p: a.o¶→cc -o p a.o¶a.o: a.c¶→cc -c a.c¶‖‖a.c‖p: a.o a.c > p = cc -o q a.o; a.o: a.c > a.o = cc -c a.c‖p | a.o a.c source a.o; p a.o written p a.o; p a.c source p a.o‖refused 76 commands p
+p: a.o¶→cc -o p a.o¶a.o: a.c¶→cc -c a.c¶‖‖a.c‖p: a.o > p = cc -o p a.o; a.o: a.c > a.o = cc -c a.c‖p | a.o a.c source a.o; p a.o written p a.o; p a.c source p a.o‖refused 75 p a.c
 p: s¶→mk p¶‖‖s u‖p: s u > p = mk p‖p | p s source p‖refused 74 p u
 p: s¶→mk p¶‖‖s u‖p: s u > p = mk p‖p | p s source p; p u source p‖refused 75 p u
 p: s¶→mk p¶‖‖‖‖{‖refused 41 s

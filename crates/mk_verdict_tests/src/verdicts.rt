@@ -5,7 +5,7 @@ ghost use Rattle.mk_parse.specs.MemFiles.{failures_of};
 
 use crate::expecting::expect_verdicts;
 use mk_core::MemFiles;
-use mk_rows::builds::{files_of_build, request_of, verdict, verdict_over};
+use mk_rows::builds::{certificate_of, files_of_build, request_of, verdict, verdict_over};
 use std::process::Abort;
 use std::test::Fail;
 
@@ -96,6 +96,17 @@ fn says_the_same_again(rt: HostRuntime) -> Result<(), Fail> {
     for build in AGAIN.lines() {
         let first = verdict(alloc, build)?;
         let second = verdict(alloc, build)?;
+        assert_eq!(rt; first.as_str(), second.as_str(), "of {build:?}");
+    }
+    Ok(())
+}
+
+#[test]
+fn writes_the_same_certificate_again(rt: HostRuntime) -> Result<(), Fail> {
+    let alloc = rt.alloc();
+    for build in AGAIN.lines() {
+        let first = certificate_of(alloc, build)?;
+        let second = certificate_of(alloc, build)?;
         assert_eq!(rt; first.as_str(), second.as_str(), "of {build:?}");
     }
     Ok(())

@@ -1,75 +1,68 @@
-use Rattle.std.proofs.Common.{◌≡◌, ◌+◌, ◌<◌, ◌≤◌, ◌∷◌, ◌∙◌, [], ℕ, List, ap, sym, subst, get_or, length, map, drop, arith}
-use Rattle.std.specs.String.{string_bytes}
+use Rattle.std.proofs.Common.{◌≡◌, ◌+◌, ◌<◌, ◌≤◌, ◌∷◌, ◌∙◌, [], ℕ, List, ap, refl, sym, subst, get_or, length, map, drop, arith}
 use Rattle.std.proofs.lemmas.Bool.{true≢false}
-use Rattle.std.proofs.lemmas.List.{drop_more, get_or-map, length-map}
+use Rattle.std.proofs.lemmas.List.{drop_more}
 use Rattle.mk_graph.specs.Membership.{Has}
 use Rattle.mk_cert.specs.Subject.{reads_of}
+use Rattle.mk_cert.specs.Target.{Target, target_of}
 use Rattle.mk_cert.specs.Verdict.{IsFirst, Read, LacksWay}
 use Rattle.mk_cert.specs.Checks.{reads_by}
 use Rattle.mk_cert.proofs.Adding.{drop_past}
-use Rattle.mk_cert.proofs.Entries.{same_reads}
 use Rattle.mk_cert.proofs.FileDecided.{at_place}
 use Rattle.mk_cert.proofs.FirstOf.{Left, left_all, left_here, left_on, left_none}
+use Rattle.mk_cert.proofs.KnownFiles.{count_is, place_is}
 use Rattle.mk_cert.proofs.lacking.first_lacking.Goals as goal
 
-pub loop-file-init : goal.loop-file-init
-loop-file-init c =
-    let x = c.args.subject.now in
-    let e = c.args.entry.now in
-    let files = map string_bytes c.reads-files.result.now in
-    let all : files ≡ reads_of x e.number = c.reads-files.ensures ∙ same_reads x e c.requires in
-    λ ways seen. subst (λ (fs : List (List ℕ)). Left (LacksWay x ways) (map (λ f. let r : Read = record { recipe = e.number; file = f } in r) fs) (reads_by x e.number)) (sym all) (left_all (LacksWay x ways) (reads_by x e.number))
+pub loop-place-init : goal.loop-place-init
+loop-place-init c = λ ways seen. left_all (LacksWay c.args.subject.now ways) (reads_by c.args.subject.now c.args.entry.now.number)
 
-pub lacks-requires : goal.lacks-requires
-lacks-requires c =
+pub read-file-requires-clause-place : goal.read-file-requires-clause-place
+read-file-requires-clause-place c =
+    place_is c.args.entry.now c.reads-count.result.now c.loop-place.place c.reads-count.ensures c.loop-place-test.true
+
+pub lacks-requires-clause-file : goal.lacks-requires-clause-file
+lacks-requires-clause-file c =
+    subst (λ (v : Target). v ≡ target_of c.args.subject.now v.file) (sym c.read-file.ensures) refl
+
+pub lacks-requires-clause-read : goal.lacks-requires-clause-read
+lacks-requires-clause-read c =
     let x = c.args.subject.now in
     let e = c.args.entry.now in
-    let files = c.reads-files.result.now in
-    let i = c.loop-file.file-index in
-    let all : map string_bytes files ≡ reads_of x e.number = c.reads-files.ensures ∙ same_reads x e c.requires in
-    let lt : i < length files = omega arith in
-    let low : i < length (map string_bytes files) = omega (arith, length-map files string_bytes) in
-    let is : get_or (map string_bytes files) i [] ≡ c.as_str.result.now = get_or-map string_bytes files i c.file-item.result [] lt ∙ (ap string_bytes (sym c.file-item.is) ∙ sym c.as_str.ensures.value) in
-    record { read = subst (λ (f : List ℕ). Has (reads_of x e.number) f) is (subst (λ (fs : List (List ℕ)). Has fs (get_or (map string_bytes files) i [])) all (at_place (map string_bytes files) i [] low)) }
+    let i = c.loop-place.place in
+    let low : i < length (reads_of x e.number) = omega (arith, c.loop-place-test.true, count_is x e c.reads-count.result.now c.requires c.reads-count.ensures) in
+    subst (λ (v : Target). Has (reads_of x e.number) v.file) (sym c.read-file.ensures) (at_place (reads_of x e.number) i [] low)
 
 pub returns-then-lacks : goal.returns-then-lacks
 returns-then-lacks c = λ ways seen.
     let x = c.args.subject.now in
     let e = c.args.entry.now in
-    let files = c.reads-files.result.now in
-    let names = map string_bytes files in
-    let i = c.loop-file.file-index in
-    let lt : i < length files = omega arith in
-    let low : i < length names = omega (arith, length-map files string_bytes) in
-    let is : get_or names i [] ≡ c.as_str.result.now = get_or-map string_bytes files i c.file-item.result [] lt ∙ (ap string_bytes (sym c.file-item.is) ∙ sym c.as_str.ensures.value) in
-    let too : c.as_str.result.now ≡ c.as_str-then-lacks.result.now = c.as_str.ensures.value ∙ sym c.as_str-then-lacks.ensures.value in
+    let files = reads_of x e.number in
+    let i = c.loop-place.place in
+    let low : i < length files = omega (arith, c.loop-place-test.true, count_is x e c.reads-count.result.now c.requires c.reads-count.ensures) in
     let read = λ (f : List ℕ). let r : Read = record { recipe = e.number; file = f } in r in
-    let left : Left (LacksWay x ways) (read (get_or names i []) ∷ map read (drop (i + 1) names)) (reads_by x e.number) = subst (λ (fs : List (List ℕ)). Left (LacksWay x ways) (map read fs) (reads_by x e.number)) (drop_more names i [] low) (c.loop-file.invariant ways seen) in
-    subst (λ (f : List ℕ). IsFirst (LacksWay x ways) (reads_by x e.number) (read f)) (is ∙ too)
-    (left_here (LacksWay x ways) (read (get_or names i [])) (map read (drop (i + 1) names)) (reads_by x e.number) left
-    (subst (λ (f : List ℕ). LacksWay x ways (read f)) (sym is) ((c.lacks.ensures ways seen).0 c.if-lacks.true)))
+    let left : Left (LacksWay x ways) (read (get_or files i []) ∷ map read (drop (i + 1) files)) (reads_by x e.number) = subst (λ (fs : List (List ℕ)). Left (LacksWay x ways) (map read fs) (reads_by x e.number)) (drop_more files i [] low) (c.loop-place.invariant ways seen) in
+    let file : c.file.inside.file.now ≡ get_or files i [] = ap (λ (v : Target). v.file) (c.file.view_is ∙ c.read-file.ensures) in
+    subst (λ (f : List ℕ). IsFirst (LacksWay x ways) (reads_by x e.number) (read f)) (sym file)
+    (left_here (LacksWay x ways) (read (get_or files i [])) (map read (drop (i + 1) files)) (reads_by x e.number) left
+    (subst (λ (v : Target). LacksWay x ways (read v.file)) c.read-file.ensures ((c.lacks.ensures ways seen).0 c.if-lacks.true)))
 
-pub loop-file-preserved : goal.loop-file-preserved
-loop-file-preserved c = λ ways seen.
+pub loop-place-preserved : goal.loop-place-preserved
+loop-place-preserved c = λ ways seen.
     let x = c.args.subject.now in
     let e = c.args.entry.now in
-    let files = c.reads-files.result.now in
-    let names = map string_bytes files in
-    let i = c.loop-file.file-index in
-    let lt : i < length files = omega arith in
-    let low : i < length names = omega (arith, length-map files string_bytes) in
-    let is : get_or names i [] ≡ c.as_str.result.now = get_or-map string_bytes files i c.file-item.result [] lt ∙ (ap string_bytes (sym c.file-item.is) ∙ sym c.as_str.ensures.value) in
+    let files = reads_of x e.number in
+    let i = c.loop-place.place in
+    let low : i < length files = omega (arith, c.loop-place-test.true, count_is x e c.reads-count.result.now c.requires c.reads-count.ensures) in
     let read = λ (f : List ℕ). let r : Read = record { recipe = e.number; file = f } in r in
-    let left : Left (LacksWay x ways) (read (get_or names i []) ∷ map read (drop (i + 1) names)) (reads_by x e.number) = subst (λ (fs : List (List ℕ)). Left (LacksWay x ways) (map read fs) (reads_by x e.number)) (drop_more names i [] low) (c.loop-file.invariant ways seen) in
-    left_on (LacksWay x ways) (read (get_or names i [])) (map read (drop (i + 1) names)) (reads_by x e.number) left
-    (λ h. true≢false (sym ((c.lacks.ensures ways seen).1 (subst (λ (f : List ℕ). LacksWay x ways (read f)) is h)) ∙ c.if-lacks.false))
+    let left : Left (LacksWay x ways) (read (get_or files i []) ∷ map read (drop (i + 1) files)) (reads_by x e.number) = subst (λ (fs : List (List ℕ)). Left (LacksWay x ways) (map read fs) (reads_by x e.number)) (drop_more files i [] low) (c.loop-place.invariant ways seen) in
+    left_on (LacksWay x ways) (read (get_or files i [])) (map read (drop (i + 1) files)) (reads_by x e.number) left
+    (λ h. true≢false (sym ((c.lacks.ensures ways seen).1 (subst (λ (v : Target). LacksWay x ways (read v.file)) (sym c.read-file.ensures) h)) ∙ c.if-lacks.false))
 
 pub returns : goal.returns
 returns c = λ ways seen.
     let x = c.args.subject.now in
     let e = c.args.entry.now in
-    let names = map string_bytes c.reads-files.result.now in
-    let i = c.loop-file.file-index in
+    let files = reads_of x e.number in
+    let i = c.loop-place.place in
     let read = λ (f : List ℕ). let r : Read = record { recipe = e.number; file = f } in r in
-    let past : length names ≤ i = omega (arith, length-map c.reads-files.result.now string_bytes) in
-    left_none (LacksWay x ways) (reads_by x e.number) (subst (λ (fs : List (List ℕ)). Left (LacksWay x ways) (map read fs) (reads_by x e.number)) (drop_past names i past) (c.loop-file.invariant ways seen))
+    let past : length files ≤ i = omega (arith, c.loop-place-test.false, count_is x e c.reads-count.result.now c.requires c.reads-count.ensures) in
+    left_none (LacksWay x ways) (reads_by x e.number) (subst (λ (fs : List (List ℕ)). Left (LacksWay x ways) (map read fs) (reads_by x e.number)) (drop_past files i past) (c.loop-place.invariant ways seen))

@@ -1,12 +1,12 @@
 use Rattle.std.proofs.Common.{List, map, drop}
-use Rattle.std.specs.String.{string_bytes}
 use Rattle.mk_ways.specs.Certificate.{Way}
 use Rattle.mk_cert.specs.Links.{AreSeen}
+use Rattle.mk_cert.specs.Subject.{reads_of}
 use Rattle.mk_cert.specs.Verdict.{Read, LacksWay}
 use Rattle.mk_cert.specs.Checks.{reads_by}
 use Rattle.mk_cert.proofs.FirstOf.{Left}
 use Rattle.mk_cert.proofs.lacking.first_lacking.Given as goal
 
 -- the files that are left
-abbrev pub invariant-loop-file : goal.invariant-loop-file
-invariant-loop-file l = (ways : List Way) → AreSeen l.subject ways l.seen → Left (LacksWay l.subject ways) (map (λ f. let r : Read = record { recipe = l.entry.number; file = f } in r) (drop l.file-index (map string_bytes l.files))) (reads_by l.subject l.entry.number)
+abbrev pub invariant-loop-place : goal.invariant-loop-place
+invariant-loop-place l = (ways : List Way) → AreSeen l.subject ways l.seen → Left (LacksWay l.subject ways) (map (λ f. let r : Read = record { recipe = l.entry.number; file = f } in r) (drop l.place (reads_of l.subject l.entry.number))) (reads_by l.subject l.entry.number)

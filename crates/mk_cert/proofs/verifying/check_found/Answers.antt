@@ -1,28 +1,27 @@
-use Rattle.std.proofs.Common.{inr}
-use Rattle.mk_cert.specs.Candidates.{Holds, static_candidates, race_candidates}
-use Rattle.mk_cert.proofs.FirstOf.{first_in, first_behind}
-use Rattle.mk_cert.proofs.Found.{first_found, none_found}
-use Rattle.mk_cert.proofs.Lists.{nothing_holds}
+use Rattle.std.proofs.Common.{[], inr, subst}
+use Rattle.std.specs.Prelude.{Option, Some}
+use Rattle.mk_cert.specs.declared.finding.Finding.{Finding}
+use Rattle.mk_cert.specs.Candidates.{static_candidates, race_candidates}
+use Rattle.mk_cert.specs.Listing.{Lists}
+use Rattle.mk_cert.specs.Checks.{TellsFirst}
+use Rattle.mk_cert.proofs.Found.{tells_before, tells_behind}
 use Rattle.mk_cert.proofs.verifying.check_found.Goals as goal
 
 pub returns-in-Some : goal.returns-in-Some
 returns-in-Some c =
     let x = c.args.subject.now in
-    let found = c.in_ok-static_findings.field-0.items in
-    let (k, first, same) = first_found x (static_candidates x) found c.in-Some.finding c.in-Some.ensures.0 c.in_ok-static_findings.ensures.found c.in-Some.ensures.1 in
-    inr (k, first_in (Holds x) (static_candidates x) (race_candidates x) k first, same)
+    inr (tells_before x (static_candidates x) (race_candidates x) c.in-Some.finding (subst (λ (r : Option Finding). TellsFirst x (static_candidates x) r) c.in-Some.is c.in_ok-finding.ensures))
 
-pub returns-in-Some-first_of : goal.returns-in-Some-first_of
-returns-in-Some-first_of c =
+pub returns-in-Some-2 : goal.returns-in-Some-2
+returns-in-Some-2 c =
     let x = c.args.subject.now in
-    let none = none_found x (static_candidates x) c.in_ok-static_findings.field-0.items c.in_ok-static_findings.ensures.found c.in_default.ensures in
-    let (k, first, same) = first_found x (race_candidates x) c.in_ok-races.field-0.items c.in-Some-first_of.finding c.in-Some-first_of.ensures.0 c.in_ok-races.ensures c.in-Some-first_of.ensures.1 in
-    inr (k, first_behind (Holds x) (static_candidates x) (race_candidates x) k (nothing_holds x (static_candidates x) none) first, same)
+    let none : Lists x (static_candidates x) [] = subst (λ (r : Option Finding). TellsFirst x (static_candidates x) r) c.in_default.is c.in_ok-finding.ensures in
+    inr (tells_behind x (static_candidates x) (race_candidates x) (Some c.in-Some-2.finding) none (subst (λ (r : Option Finding). TellsFirst x (race_candidates x) r) c.in-Some-2.is c.in_ok-finding-2.ensures))
 
 pub returns : goal.returns
 returns c =
     let x = c.args.subject.now in
     inr (
-      none_found x (static_candidates x) c.in_ok-static_findings.field-0.items c.in_ok-static_findings.ensures.found c.in_default.ensures,
-      none_found x (race_candidates x) c.in_ok-races.field-0.items c.in_ok-races.ensures c.in_default-first_of.ensures,
+      subst (λ (r : Option Finding). TellsFirst x (static_candidates x) r) c.in_default.is c.in_ok-finding.ensures,
+      subst (λ (r : Option Finding). TellsFirst x (race_candidates x) r) c.in_default-2.is c.in_ok-finding-2.ensures,
     )

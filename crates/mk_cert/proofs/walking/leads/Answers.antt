@@ -7,11 +7,17 @@ use Rattle.mk_ways.specs.declared.certificate.Finish.{Finish}
 use Rattle.mk_ways.specs.declared.certificate.Finish.TheVariants.{Written}
 use Rattle.mk_cert.specs.Subject.{footprints}
 use Rattle.mk_cert.specs.Paths.{EndsAt}
-use Rattle.mk_cert.specs.Target.{Target}
+use Rattle.mk_cert.specs.Target.{Target, target_of}
 use Rattle.mk_cert.specs.Walking.{GoesOver}
 use Rattle.mk_cert.proofs.Walks.{one_end}
 use Rattle.mk_cert.proofs.walking.leads.Goals as goal
 use Rattle.mk_cert.proofs.walking.leads.Goals.{else-len-lt2-via-then-len-lt2+else-eq, else-len-lt2-via-else-len-lt2}
+
+pub ends_at-requires-clause-file : goal.ends_at-requires-clause-file
+ends_at-requires-clause-file c =
+    let x = c.args.subject.now in
+    let t = c.args.file.now in
+    subst (λ (f : List ℕ). t ≡ target_of x f) (sym (ap (λ (v : Target). v.file) c.requires.file)) c.requires.file
 
 pub returns : goal.returns
 returns c =
@@ -23,7 +29,7 @@ returns c =
     let g = x.graph in
     let s = footprints x.setting in
     let finish : c.way.inside.finish ≡ w.finish = ap (λ (v : Way). v.finish) c.way.view_is in
-    let file : c.target_of-file.result.file ≡ w.file = ap (λ (v : Target). v.file) c.target_of-file.ensures ∙ ap (λ (v : Way). v.file) c.way.view_is in
+    let file : c.args.file.now.file ≡ w.file = ap (λ (v : Target). v.file) c.requires.file in
     let others : w.finish ≡ Written → ¬ (names ≡ []) =
     elim c.else-len-lt2.branch [
       | else-len-lt2-via-then-len-lt2+else-eq k ↦ λ written none.
