@@ -27,17 +27,21 @@ LARGE = 2
 
 @dataclass(frozen=True)
 class Build:
-    """A makefile, its sources, which are written to the disk, and for each recipe its target, commands and reads."""
+    """A makefile, its sources, which are written to the disk, and for each recipe its target, commands and reads.
+
+    Beside its target a recipe writes the files that `more` has for it.
+    """
 
     text: str
     sources: list[str]
     records: list[tuple[str, list[str], list[str]]]
     fixed: list[str] = field(default_factory=list)
+    more: dict[str, list[str]] = field(default_factory=dict)
 
     def book(self) -> str:
-        """The footprints; each recipe writes its target."""
+        """The footprints."""
         records = [
-            {"target": target, "commands": commands, "reads": reads, "writes": [target]}
+            {"target": target, "commands": commands, "reads": reads, "writes": [target, *self.more.get(target, [])]}
             for target, commands, reads in self.records
         ]
         return json.dumps({"format": 1, "fixed": self.fixed, "sources": self.sources, "records": records})
