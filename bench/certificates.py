@@ -1,5 +1,8 @@
-"""Measures `mkcheck verify` on the certificates of large builds, and `mkcheck check` on builds that it finds much of."""
+"""Measures `mkcheck verify` on the certificates of large builds, and of one that it refuses, and `mkcheck check` on
+builds of which it finds much.
+"""
 
+import json
 import os
 import sys
 from collections.abc import Callable
@@ -34,6 +37,19 @@ def carrying(layers: int) -> Build:
     return ruled(names[0], {name: reads for layer, reads in zip(names, below) for name in layer}, [])
 
 
+def outputs(count: int) -> Build:
+    """Targets that read a source each, and whose recipes write a second file each, which is no target."""
+    build = own(count)
+    more = {target: [f"{target}.map"] for target, _, _ in build.records}
+    return Build(build.text, build.sources, build.records, more=more)
+
+
+def logged(count: int) -> Build:
+    """Targets whose recipes all append to one file: a finding for any two of them."""
+    build = flat(count)
+    return Build(build.text, [], build.records, more={target: ["log"] for target, _, _ in build.records})
+
+
 def unrecorded(count: int) -> Build:
     """Targets of which nothing is recorded: a finding for each."""
     build = flat(count)
@@ -53,8 +69,10 @@ VERIFIED: list[tuple[Callable[[int], Build], int, int]] = [
     (deep, 2000, 4000),
     (reading, 1000, 2000),
     (carrying, 30, 60),
-    (far, 900, 1800),
+    (far, 970, 1940),
+    (outputs, 1000, 2000),
 ]
+REFUSED: list[tuple[Callable[[int], Build], int, int]] = [(logged, 2000, 4000)]
 FOUND: list[tuple[Callable[[int], Build], int, int]] = [(unrecorded, 2000, 4000), (unknown, 2000, 4000)]
 
 
@@ -73,6 +91,18 @@ def verified(program: str, build: Build) -> tuple[float, Measure]:
     return measured([program, "verify", *words, "-k", certificate.name], 0, [makefile, book, certificate])
 
 
+def refused(program: str, build: Build) -> tuple[float, Measure]:
+    """`verify` of a certificate without ways, of a build in which two recipes write one file."""
+    makefile, book = written(build, "certificates")
+    certificate, output = DATA / "certificates.cert", DATA / "output"
+    certificate.write_text(json.dumps({"format": 1, "goals": ["all"], "ways": []}))
+    command = [program, "verify", "-f", makefile.name, "-b", book.name, "-k", certificate.name]
+    spent(command, {2}, output)
+    if not output.read_text().startswith("refused 76 writers "):
+        sys.exit(f"bench: {' '.join(command)}: another refusal, output in {output}")
+    return measured(command, 2, [makefile, book, certificate])
+
+
 def found(program: str, build: Build) -> tuple[float, Measure]:
     """`check` of a build that is found to be wrong without a search for ways."""
     makefile, book = written(build, "certificates")
@@ -87,6 +117,16 @@ def show(label: str, half: tuple[float, Measure], whole: tuple[float, Measure]) 
     print(f"{label:<18}{size:>6.1f}{figures.time:>10.1f}{growth:>8.1f}{figures.memory:>11.0f}{by_size}", flush=True)
 
 
+def rows(
+    program: str,
+    measure: Callable[[str, Build], tuple[float, Measure]],
+    shapes: list[tuple[Callable[[int], Build], int, int]],
+) -> None:
+    """Measures shapes with half of the targets and with all, and prints a row for each."""
+    for shape, smaller, count in shapes:
+        show(f"{shape.__name__} {count}", measure(program, shape(smaller)), measure(program, shape(count)))
+
+
 def main() -> None:
     program = asked(__doc__)[0].path
     DATA.mkdir(exist_ok=True)
@@ -94,11 +134,10 @@ def main() -> None:
     os.chdir(DATA)
     print(f"processor time, least of {RUNS} runs; {program}")
     print(f"{'verify':<18}{'MB':>6}{'ms':>10}{'growth':>8}{'memory MB':>11}{'by MB':>7}")
-    for shape, smaller, count in VERIFIED:
-        show(f"{shape.__name__} {count}", verified(program, shape(smaller)), verified(program, shape(count)))
+    rows(program, verified, VERIFIED)
+    rows(program, refused, REFUSED)
     print(f"{'check':<18}")
-    for shape, smaller, count in FOUND:
-        show(f"{shape.__name__} {count}", found(program, shape(smaller)), found(program, shape(count)))
+    rows(program, found, FOUND)
     print(f"{'at most':<34}{GROWTH_BOUND:>8.1f}{MEMORY_BOUND:>18.1f}")
 
 

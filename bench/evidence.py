@@ -1,14 +1,14 @@
 """Measures `mkcheck check -e 1`, which prints a plan that shows the first finding, beside `mkcheck check`.
 
 The growth is the time of the former divided by its own on half the targets, and that of the plan its size divided so.
-Nothing shows a recipe without record: there the answer is `no plan`.
+Nothing shows a recipe without record, or a read of a file of which nothing is known: there the answer is `no plan`.
 """
 
 import os
 import sys
 from pathlib import Path
 
-from certificates import unrecorded
+from certificates import unknown, unrecorded
 from run import DATA, RUNS, asked
 from spending import least, spent
 from verdicts import GROWTH_BOUND, Build, forgotten, recipe, waiting, written
@@ -27,7 +27,13 @@ def racing(count: int) -> Build:
 
 
 NO_PLAN = "no plan\n"
-SHAPES = [(forgotten, 1000, 2000), (waiting, 950, 1900), (racing, 2000, 4000), (unrecorded, 2000, 4000)]
+SHAPES = [
+    (forgotten, 1000, 2000),
+    (waiting, 950, 1900),
+    (racing, 2000, 4000),
+    (unrecorded, 2000, 4000),
+    (unknown, 2000, 4000),
+]
 
 
 def measured(program: str, build: Build) -> tuple[float, float, int]:

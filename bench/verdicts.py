@@ -21,23 +21,27 @@ RATIO_BOUND = 1.00
 GROWTH_BOUND = 2.3
 MEMORY_BOUND = 10.0
 
-# From this many megabytes on, what is read and written is held against the memory.
+# From this many megabytes on, what is read and written is held against the memory, and the answer against the time.
 LARGE = 2
 
 
 @dataclass(frozen=True)
 class Build:
-    """A makefile, its sources, which are written to the disk, and for each recipe its target, commands and reads."""
+    """A makefile, its sources, which are written to the disk, and for each recipe its target, commands and reads.
+
+    Beside its target a recipe writes the files that `more` has for it.
+    """
 
     text: str
     sources: list[str]
     records: list[tuple[str, list[str], list[str]]]
     fixed: list[str] = field(default_factory=list)
+    more: dict[str, list[str]] = field(default_factory=dict)
 
     def book(self) -> str:
-        """The footprints; each recipe writes its target."""
+        """The footprints."""
         records = [
-            {"target": target, "commands": commands, "reads": reads, "writes": [target]}
+            {"target": target, "commands": commands, "reads": reads, "writes": [target, *self.more.get(target, [])]}
             for target, commands, reads in self.records
         ]
         return json.dumps({"format": 1, "fixed": self.fixed, "sources": self.sources, "records": records})
@@ -122,7 +126,7 @@ def large(count: int) -> Build:
 
 
 def far(count: int) -> Build:
-    """A chain in which each reads the 40 below it: its certificate has tens of MB."""
+    """A chain in which each reads the 40 below it: of 1,500 targets the answer has 59,180 ways, 8,010,664 bytes."""
     names = [f"f{number}" for number in range(count)]
     rules = [recipe(name, below) for name, below in zip(names, [*([name] for name in names[1:]), []])]
     records = [(name, [f"touch {name}"], names[number + 1 : number + 41]) for number, name in enumerate(names)]
@@ -144,9 +148,10 @@ SHAPES: list[tuple[Callable[[int], Build], int, int, int]] = [
 
 @dataclass(frozen=True)
 class Figures:
-    """What is read and written in megabytes; mkcheck; the faster make; Python's json."""
+    """What is read and written in megabytes, and of it the answer; mkcheck; the faster make; Python's json."""
 
     size: float
+    answer: float
     own: Measure
     make: float
     json: float
@@ -196,7 +201,8 @@ def measure(build: Build, label: str, status: int, measured: list[Tool]) -> Figu
     spent(check, {status}, output)
     peers = measured[1:]
     read = makefile if all(reads(tool, makefile) for tool in peers) else without_wait(makefile)
-    size = (makefile.stat().st_size + book.stat().st_size + output.stat().st_size) / 2**20
+    answer = output.stat().st_size / 2**20
+    size = (makefile.stat().st_size + book.stat().st_size) / 2**20 + answer
     own, others, loads = [], {tool.name: [] for tool in peers}, []
     for _ in range(RUNS):
         own.append(spent(check, {status}, Path(os.devnull)))
@@ -204,7 +210,16 @@ def measure(build: Build, label: str, status: int, measured: list[Tool]) -> Figu
             others[tool.name].append(spent([tool.path, *tool.arguments, read.name], {0}, Path(os.devnull)))
         loads.append(json_time(book))
     fastest = min((least(taken).time for taken in others.values()), default=0.0)
-    return Figures(size, least(own), fastest, min(loads))
+    return Figures(size, answer, least(own), fastest, min(loads))
+
+
+def row(label: str, whole: Figures, growth: float) -> str:
+    """A row of the table; what is held against a size stands there where that is large."""
+    own = whole.own
+    by_answer = f"{own.time / whole.answer:.1f}" if whole.answer >= LARGE else ""
+    by_size = f"{own.memory / whole.size:.1f}" if whole.size >= LARGE else ""
+    times = f"{own.time:>10.1f}{by_answer:>8}{whole.make:>9.1f}{whole.json:>9.1f}{whole.ratio():>7.2f}{growth:>8.1f}"
+    return f"{label:<18}{whole.size:>6.1f}{times}{own.memory:>11.0f}{by_size:>7}".rstrip()
 
 
 def main() -> None:
@@ -212,15 +227,13 @@ def main() -> None:
     DATA.mkdir(exist_ok=True)
     os.chdir(DATA)
     print(f"processor time, least of {RUNS} runs; {', '.join(tool.path for tool in measured)}")
-    print(f"{'build':<18}{'MB':>6}{'check ms':>10}{'make ms':>9}{'json ms':>9}{'ratio':>7}{'growth':>8}{'memory MB':>11}{'by MB':>7}")
+    times = f"{'check ms':>10}{'per MB':>8}{'make ms':>9}{'json ms':>9}{'ratio':>7}{'growth':>8}"
+    print(f"{'build':<18}{'MB':>6}{times}{'memory MB':>11}{'by MB':>7}")
     for shape, smaller, count, status in SHAPES:
         half = measure(shape(smaller), "half", status, measured)
         whole = measure(shape(count), "whole", status, measured)
-        by_size = f"{whole.own.memory / whole.size:>7.1f}" if whole.size >= LARGE else ""
-        growth = whole.own.time / half.own.time
-        label = f"{shape.__name__} {count}"
-        print(f"{label:<18}{whole.size:>6.1f}{whole.own.time:>10.1f}{whole.make:>9.1f}{whole.json:>9.1f}{whole.ratio():>7.2f}{growth:>8.1f}{whole.own.memory:>11.0f}{by_size}", flush=True)
-    print(f"{'at most':<52}{RATIO_BOUND:>7.2f}{GROWTH_BOUND:>8.1f}{MEMORY_BOUND:>18.1f}")
+        print(row(f"{shape.__name__} {count}", whole, whole.own.time / half.own.time), flush=True)
+    print(f"{'at most':<60}{RATIO_BOUND:>7.2f}{GROWTH_BOUND:>8.1f}{MEMORY_BOUND:>18.1f}")
 
 
 if __name__ == "__main__":

@@ -1,5 +1,6 @@
 """Tries the makefiles that docs/FROM_GNU_MAKE.md shows, each of which is refused by its number or read, and our own; and
-the sessions that README.md, examples/ and docs/ show; follows the links from page to page; and reads the manual pages.
+the sessions that README.md, examples/ and docs/ show; follows the links from page to page; holds the lengths that
+docs/WHY.md says to the files; and reads the manual pages.
 
 The word is the path of mkcheck; without it MKCHECK names it, else it is bin/mkcheck.
 """
@@ -14,6 +15,7 @@ import tempfile
 from collections.abc import Sequence
 from pathlib import Path
 
+from lengths import wrong_lengths
 from links import broken_links
 from sessions import try_page
 
@@ -73,7 +75,7 @@ def main() -> int:
             wrong += 1
             print(f"pages: {said or 'read'} and not {number or 'read'}:\n{makefile}")
     print(f"pages: {len(blocks) + 1 - wrong} makefiles as they are said to be, {wrong} not")
-    wrong += try_sessions(mkcheck) + broken_links() + read_manuals()
+    wrong += try_sessions(mkcheck) + broken_links() + wrong_lengths() + read_manuals()
     return 1 if wrong else 0
 
 

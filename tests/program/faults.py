@@ -25,11 +25,12 @@ GRAPH = ["graph", "-b", "B"]
 SHOWN = ["graph", "-c", "-b", "B"]
 VERIFY = ["verify", "-b", "B", "-k", "C"]
 SIMULATE = ["simulate", "-b", "B", "-p", "P"]
-# What expands commands under footprints, what reads footprints, and all.
-JUDGING = [["check", "-b", "B"], ["check", "-c", "-b", "B"], ["check", "-b", "B", "-e", "1"], VERIFY]
+# What expands commands under footprints, what reads footprints, and all; two of these leave out the default text.
+CHECKS = [["check", "-b", "B"], ["check", "-c", "-b", "B"], ["check", "-b", "B", "-e", "1"], ["check", "-r", "-b", "B"]]
+JUDGING = [*CHECKS, VERIFY]
 EXPANDING = [SHOWN, *JUDGING]
 BOOKED = [GRAPH, *EXPANDING, SIMULATE]
-ALL = [BARE, ["graph", "-c"], *BOOKED]
+ALL = [BARE, ["graph", "-r"], ["graph", "-c"], *BOOKED]
 MOST = 16_777_216
 LONG = "n" * 256
 
@@ -43,6 +44,11 @@ class Row:
     files: dict[str, str] = field(default_factory=dict)
     words: list[str] = field(default_factory=list)
     status: int = 2
+
+
+def with_default(commands: list[list[str]]) -> list[list[str]]:
+    """The commands that read the default text."""
+    return [command for command in commands if "-r" not in command]
 
 
 def refused(words: str, commands: list[list[str]], **files: str) -> Row:
@@ -95,7 +101,7 @@ def lines() -> Iterator[Row]:
 
 
 def kinds() -> Iterator[Row]:
-    """21 to 31, and 45."""
+    """21 to 31, 44 and 45."""
     for words, text in [
         ("21 makefile:2", "a:\nV != date\n"),
         ("22 makefile:1", "V := x\na:\n"),
@@ -110,13 +116,17 @@ def kinds() -> Iterator[Row]:
         ("30 makefile:2", ".PHONY: a\n\tcc\na:\n"),
         ("30 makefile:1", ".POSIX: a\na:\n"),
         ("31 makefile:3 a", "a: b\n\tx\na: c\n\ty\n"),
+        ("44", ""),
+    ]:
+        yield refused(words, ALL, makefile=text)
+    # Where no suffix is known, `.c.o` is a target like others.
+    for words, text in [
         ("45 makefile:2", "a:\n.c.o: x\n\tcc\n"),
         ("45 makefile:2", "a:\n.c.o b: x\n\tcc\n"),
         ("45 makefile:2", "a:\n.c.o .c: x\n\tcc\n.sh: y\n"),
-        ("44", ""),
         ("44", ".c.o:\n\tcc\n.PHONY: a\n"),
     ]:
-        yield refused(words, ALL, makefile=text)
+        yield refused(words, with_default(ALL), makefile=text)
 
 
 def joined() -> Iterator[Row]:
@@ -253,7 +263,8 @@ def commands() -> Iterator[Row]:
         yield refused(line, [["graph", "-c"], *EXPANDING], makefile=text)
         yield Row("goals p\np recipe:\n", [BARE, GRAPH], {"makefile": text}, status=0)
         yield Row("plan ok\n", [SIMULATE], {"makefile": text, "P": "make 1\nrun p\nend\n", "B": book(sources=[], records=[])}, status=0)
-    yield Row("refused 12 (default):12 CC\n", EXPANDING, {"makefile": "p.o:\n", "B": book(sources=["p.c"])}, ["CC=$(CC)"])
+    inferred = {"makefile": "p.o:\n", "B": book(sources=["p.c"])}
+    yield Row("refused 12 (default):12 CC\n", with_default(EXPANDING), inferred, ["CC=$(CC)"])
 
 
 def certificates() -> Iterator[Row]:
