@@ -244,31 +244,43 @@ fn add(
     ways.push(recipe, file, &names(alloc, path)?, finish)
 }
 
-#[test]
-fn writes_and_reads_three_ways(rt: HostRuntime) -> Result<(), Fail> {
-    let alloc = rt.alloc();
+/// Adds the ways of the certificate of three ways.
+fn add_three(alloc: Global, ways: &mut Ways) -> Result<(), AllocError> {
+    add(alloc, ways, "a.o", "a.c", "a.o", Finish::Source)?;
+    add(alloc, ways, "p", "a.o", "p a.o", Finish::Written)?;
+    add(alloc, ways, "p", "a.c", "p a.o", Finish::Source)
+}
+
+/// The text of a certificate of goals and ways.
+fn written(alloc: Global, goals: PackedNames, ways: Ways) -> Result<String, AllocError> {
+    certificate_text(alloc, &Certificate { goals, ways })
+}
+
+/// That of the certificate of three ways.
+fn three_written(alloc: Global) -> Result<String, AllocError> {
     let mut ways = Ways::new(alloc);
-    add(alloc, &mut ways, "a.o", "a.c", "a.o", Finish::Source)?;
-    add(alloc, &mut ways, "p", "a.o", "p a.o", Finish::Written)?;
-    add(alloc, &mut ways, "p", "a.c", "p a.o", Finish::Source)?;
-    let certificate = Certificate {
-        goals: names(alloc, "p")?,
-        ways,
-    };
-    let text = certificate_text(alloc, &certificate)?;
+    add_three(alloc, &mut ways)?;
+    written(alloc, names(alloc, "p")?, ways)
+}
+
+#[test]
+fn writes_three_ways(rt: HostRuntime) -> Result<(), Fail> {
+    let text = three_written(rt.alloc())?;
     assert_eq!(rt; text.as_str(), THREE);
-    see(&rt, alloc, THREE.as_bytes(), THREE_WAYS)?;
-    see(&rt, alloc, SHUFFLED.as_bytes(), SHUFFLED_WAYS)
+    Ok(())
+}
+
+#[test]
+fn reads_three_ways(rt: HostRuntime) -> Result<(), Fail> {
+    see(&rt, rt.alloc(), THREE.as_bytes(), THREE_WAYS)?;
+    see(&rt, rt.alloc(), SHUFFLED.as_bytes(), SHUFFLED_WAYS)
 }
 
 #[test]
 fn writes_without_ways(rt: HostRuntime) -> Result<(), Fail> {
     let alloc = rt.alloc();
-    let certificate = Certificate {
-        goals: names(alloc, "a\"b c\\d é")?,
-        ways: Ways::new(alloc),
-    };
-    let text = certificate_text(alloc, &certificate)?;
+    let goals = names(alloc, "a\"b c\\d é")?;
+    let text = written(alloc, goals, Ways::new(alloc))?;
     let want = r#"{"format":1,"goals":["a\"b","c\\d","é"],"ways":[]}"#;
     assert_eq!(rt; text.as_str(), want);
     see(&rt, alloc, text.as_bytes(), "goals a\"b c\\d é")
@@ -277,23 +289,23 @@ fn writes_without_ways(rt: HostRuntime) -> Result<(), Fail> {
 #[test]
 fn reads_objects(rt: HostRuntime) -> Result<(), Fail> {
     for row in OBJECTS.lines() {
-        let (text, line) = row.split_once(" => ").ok_or("no arrow")?;
-        let got = read(rt.alloc(), text.as_bytes())?;
-        assert_eq!(rt; got.as_str(), line, "at {row}");
+        let (text, line) = row.split_once(" => ").unwrap_or((row, ""));
+        see(&rt, rt.alloc(), text.as_bytes(), line)?;
     }
     Ok(())
+}
+
+/// The text of a certificate with these ways.
+fn with_ways(alloc: Global, ways: &str) -> Result<String, AllocError> {
+    format!(in alloc; "{{\"format\":1,\"goals\":[],\"ways\":{ways}}}")
 }
 
 #[test]
 fn reads_ways(rt: HostRuntime) -> Result<(), Fail> {
     let alloc = rt.alloc();
     for row in WAYS.lines() {
-        let (ways, line) = row.split_once(" => ").ok_or("no arrow")?;
-        let mut text = String::from_str(alloc, r#"{"format":1,"goals":[],"ways":"#)?;
-        text.push_str(ways)?;
-        text.push('}')?;
-        let got = read(alloc, text.as_bytes())?;
-        assert_eq!(rt; got.as_str(), line, "at {row}");
+        let (ways, line) = row.split_once(" => ").unwrap_or((row, ""));
+        see(&rt, alloc, with_ways(alloc, ways)?.as_bytes(), line)?;
     }
     Ok(())
 }
@@ -358,16 +370,27 @@ fn nested(alloc: Global, front: &str, levels: usize, rest: &str) -> Result<Strin
     Ok(text)
 }
 
+/// Sees what a text reads as in which brackets nest so deep.
+fn see_nested(
+    rt: &impl Abort,
+    alloc: Global,
+    front: &str,
+    levels: usize,
+    rest: &str,
+    want: &str,
+) -> Result<(), Fail> {
+    let text = nested(alloc, front, levels, rest)?;
+    see(rt, alloc, text.as_bytes(), want)
+}
+
 /// Values nest 127 deep, and no deeper.
 #[test]
 fn reads_nested_values(rt: HostRuntime) -> Result<(), Fail> {
     let alloc = rt.alloc();
     for row in &NESTED {
         let (front, rest, around, want) = *row;
-        let text = nested(alloc, front, 127 - around, rest)?;
-        see(&rt, alloc, text.as_bytes(), want)?;
-        let text = nested(alloc, front, 128 - around, rest)?;
-        see(&rt, alloc, text.as_bytes(), "refused 71")?;
+        see_nested(&rt, alloc, front, 127 - around, rest, want)?;
+        see_nested(&rt, alloc, front, 128 - around, rest, "refused 71")?;
     }
     Ok(())
 }
@@ -388,17 +411,20 @@ fn refuses_fronts(rt: HostRuntime) -> Result<(), Fail> {
     see(&rt, rt.alloc(), b"\xef\xbb\xbf{}", "refused 71")
 }
 
+/// Sees that a certificate is the one of three ways, also as it is written where memory suffices.
+fn see_three(rt: &impl Abort, alloc: Global, certificate: &Certificate) -> Result<(), Fail> {
+    assert_eq!(rt; shown(alloc, certificate)?.as_str(), THREE_WAYS);
+    if let Ok(text) = certificate_text(alloc, certificate) {
+        assert_eq!(rt; text.as_str(), THREE);
+    }
+    Ok(())
+}
+
 /// With a growth refused the answer is want of memory, or the whole one.
 #[test]
 fn wants_memory_or_answers(rt: HostRuntime) -> Result<(), Fail> {
-    let alloc = rt.alloc();
-    match read_certificate(alloc, THREE.as_bytes()) {
-        Ok(certificate) => {
-            assert_eq!(rt; shown(alloc, &certificate)?.as_str(), THREE_WAYS);
-            if let Ok(text) = certificate_text(alloc, &certificate) {
-                assert_eq!(rt; text.as_str(), THREE);
-            }
-        }
+    match read_certificate(rt.alloc(), THREE.as_bytes()) {
+        Ok(certificate) => see_three(&rt, rt.alloc(), &certificate)?,
         Err(fault) => assert!(rt; matches!(fault, CertificateFault::Memory)),
     }
     Ok(())
