@@ -270,13 +270,35 @@ fn answer_of(alloc: Global, exists: &Exists<'_>, fields: &[&str]) -> Result<Vec<
     Ok(of_makefile(alloc, &makefile, exists, fields)?)
 }
 
+/// Sees that an answer is the second field of a row.
+fn see_answer(
+    rt: &impl Abort,
+    alloc: Global,
+    answer: &[u8],
+    fields: &[&str],
+    row: &str,
+) -> Result<(), AllocError> {
+    let wanted = field(alloc, fields, 1)?;
+    same_bytes(rt, answer, wanted.as_bytes(), row);
+    Ok(())
+}
+
+/// The same of what is answered to these fields.
+fn expect_fields(
+    rt: &impl Abort,
+    alloc: Global,
+    exists: &Exists<'_>,
+    fields: &[&str],
+    row: &str,
+) -> Result<(), Fail> {
+    let got = answer_of(alloc, exists, fields)?;
+    Ok(see_answer(rt, alloc, &got, fields, row)?)
+}
+
 /// Expects the second field of a row.
 fn expect_row(rt: &impl Abort, alloc: Global, exists: &Exists<'_>, row: &str) -> Result<(), Fail> {
     let fields = fields_of(alloc, row)?;
-    let got = answer_of(alloc, exists, &fields)?;
-    let wanted = field(alloc, &fields, 1)?;
-    same_bytes(rt, &got, wanted.as_bytes(), row);
-    Ok(())
+    expect_fields(rt, alloc, exists, &fields, row)
 }
 
 /// Each line of the table is a row.

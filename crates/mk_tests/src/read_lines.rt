@@ -210,11 +210,16 @@ fn knows_names(rt: HostRuntime) -> Result<(), Fail> {
     Ok(())
 }
 
-/// What is told of a word's fault to who looks into it.
-fn told_of_word(alloc: Global, file: &Name, word: &[u8]) -> Result<String, Fail> {
+/// What is told of a fault to who looks into it.
+fn told_of(alloc: Global, fault: &ReadFault) -> Result<String, AllocError> {
+    format!(in alloc; "{fault:?}")
+}
+
+/// What is told so of a word's fault.
+fn told_of_word(alloc: Global, file: &Name, word: &[u8]) -> Result<String, AllocError> {
     match name_of(alloc, file, 7, word) {
         Ok(_) => Ok(String::new(alloc)),
-        Err(fault) => Ok(format!(in alloc; "{fault:?}")?),
+        Err(fault) => told_of(alloc, &fault),
     }
 }
 
