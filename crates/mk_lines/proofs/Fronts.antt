@@ -1,13 +1,14 @@
 -- Names that begin with one of some prefixes, by the lengths of these.
 use Rattle.std.proofs.Common.{◌≡◌, ℕ, Bool, true, ◌&&◌, List, [], ◌∷◌, ◌++◌, length, take, drop, inl, inr, refl, sym, ap, ◌∙◌, true≢false, arith, length-append}
 use Rattle.std.specs.Prelude.{nat_eq, nat_le}
-use Rattle.std.specs.List.{list_any, starts_with}
+use Rattle.std.specs.List.{list_any}
 use Rattle.std.specs.Str.{bytes_eq}
 use Rattle.std.specs.Cmp.{both_ways}
 use Rattle.std.proofs.lemmas.Bool.{eqb-true, le-leb, or_cases, or_left, or_right, and_parts}
 use Rattle.std.proofs.lemmas.List.{take-append-drop}
 use Rattle.std.proofs.Math.Seq.{take-append_seam}
 use Rattle.std.proofs.lemmas.Slice.Eq.{bytes_eq-Decides}
+use Rattle.mk_lines.specs.Bytes.{begins_with}
 use Rattle.mk_lines.specs.Names.{has_name, is_under}
 
 -- a front of this length is a prefix
@@ -15,19 +16,19 @@ abbrev pub front_there : List (List ℕ) → List ℕ → ℕ → Bool
 front_there prefixes name n = nat_le n (length name) && has_name prefixes (take n name)
 
 -- a front, and what is behind it
-front_told : (name prefix : List ℕ) → starts_with nat_eq name prefix ≡ true → (rest : List ℕ) × (name ≡ prefix ++ rest)
+front_told : (name prefix : List ℕ) → begins_with prefix name ≡ true → (rest : List ℕ) × (name ≡ prefix ++ rest)
 front_told name prefix e =
-    let front : prefix ≡ take (length prefix) name = (bytes_eq-Decides prefix (take (length prefix) name)).0 e in
-    (drop (length prefix) name, sym (ap (λ f. f ++ drop (length prefix) name) front ∙ take-append-drop (length prefix) name))
+    let front : take (length prefix) name ≡ prefix = (bytes_eq-Decides (take (length prefix) name) prefix).0 e in
+    (drop (length prefix) name, sym (ap (λ f. f ++ drop (length prefix) name) (sym front) ∙ take-append-drop (length prefix) name))
 
-front_tells : (name prefix rest : List ℕ) → name ≡ prefix ++ rest → starts_with nat_eq name prefix ≡ true
-front_tells name prefix rest e = (bytes_eq-Decides prefix (take (length prefix) name)).1 (sym (ap (take (length prefix)) e ∙ take-append_seam prefix rest))
+front_tells : (name prefix rest : List ℕ) → name ≡ prefix ++ rest → begins_with prefix name ≡ true
+front_tells name prefix rest e = (bytes_eq-Decides (take (length prefix) name) prefix).1 (ap (take (length prefix)) e ∙ take-append_seam prefix rest)
 
 -- the prefix with which a name begins
 under_told : (prefixes : List (List ℕ)) (name : List ℕ) → is_under prefixes name ≡ true → (prefix : List ℕ) × (has_name prefixes prefix ≡ true) × (rest : List ℕ) × (name ≡ prefix ++ rest)
 under_told [] name e = absurd (true≢false (sym e))
 under_told (prefix ∷ prefixes) name e =
-    elim (or_cases (starts_with nat_eq name prefix) (is_under prefixes name) e) [
+    elim (or_cases (begins_with prefix name) (is_under prefixes name) e) [
       | inl t ↦ (let f = front_told name prefix t in (prefix, or_left (bytes_eq prefix prefix) (has_name prefixes prefix) ((bytes_eq-Decides prefix prefix).1 refl), f.0, f.1))
       | inr h ↦ (let u = under_told prefixes name h in (u.0, or_right (bytes_eq u.0 prefix) (has_name prefixes u.0) u.1, u.2, u.3))
     ]
@@ -36,8 +37,8 @@ under_tells : (prefixes : List (List ℕ)) (name prefix rest : List ℕ) → has
 under_tells [] name prefix rest h e = absurd (true≢false (sym h))
 under_tells (other ∷ prefixes) name prefix rest h e =
     elim (or_cases (bytes_eq prefix other) (has_name prefixes prefix) h) [
-      | inl t ↦ or_left (starts_with nat_eq name other) (is_under prefixes name) (front_tells name other rest (e ∙ ap (λ p. p ++ rest) ((bytes_eq-Decides prefix other).0 t)))
-      | inr t ↦ or_right (starts_with nat_eq name other) (is_under prefixes name) (under_tells prefixes name prefix rest t e)
+      | inl t ↦ or_left (begins_with other name) (is_under prefixes name) (front_tells name other rest (e ∙ ap (λ p. p ++ rest) ((bytes_eq-Decides prefix other).0 t)))
+      | inr t ↦ or_right (begins_with other name) (is_under prefixes name) (under_tells prefixes name prefix rest t e)
     ]
 
 -- one that is found

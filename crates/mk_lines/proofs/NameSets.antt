@@ -1,11 +1,13 @@
 -- Sets of names that are lent.
-use Rattle.std.proofs.Common.{◌≡◌, ℕ, Bool, true, false, not, ◌+◌, length, cond, List, [], ◌∷◌, ◌++◌, map, refl, sym, ap, ◌∙◌, arith}
+use Rattle.std.proofs.Common.{◌≡◌, ℕ, Bool, true, false, not, ◌||◌, ◌+◌, length, cond, List, [], ◌∷◌, ◌++◌, map, refl, sym, ap, ◌∙◌, arith}
 use Rattle.std.specs.Borrow.{Bor}
 use Rattle.std.specs.Str.{bytes_eq}
-use Rattle.std.specs.Prelude.{position, find, Some, None}
+use Rattle.std.specs.Prelude.{position, find, fold, Some, None}
 use Rattle.std.specs.List.{list_any, position_or_len}
 use Rattle.std.proofs.lemmas.List.{map_push}
-use Rattle.mk_lines.specs.Names.{has_name, number_of, with_name}
+use Rattle.std.proofs.lemmas.List.Folds.{list_any-append}
+use Rattle.std.proofs.lemmas.Slice.Eq.{bytes_eq-Decides}
+use Rattle.mk_lines.specs.Names.{HoldsNames, has_name, number_of, with_name}
 use Rattle.mk_lines.proofs.ListTests.{list_any_map, position_some, position_none, position_within}
 
 -- what names of the code spell
@@ -51,3 +53,34 @@ number_missing keys name e =
     let within = position_within (λ (key : Bor (List ℕ)). bytes_eq name key.now) keys in
     let same = place_map (λ other. bytes_eq name other) keys in
     omega arith
+
+or_false : (a : Bool) → (a || false) ≡ a
+or_false true = refl
+or_false false = refl
+
+or_assoc : (a b c : Bool) → ((a || b) || c) ≡ (a || (b || c))
+or_assoc true b c = refl
+or_assoc false b c = refl
+
+-- a name that is there, and another one or itself
+or_there : (names : List (List ℕ)) (name other : List ℕ) → has_name names name ≡ true → (b : Bool) → bytes_eq other name ≡ b → has_name names other ≡ (has_name names other || b)
+or_there names name other h false e = sym (or_false (has_name names other))
+or_there names name other h true e =
+    let same : has_name names other ≡ true = ap (has_name names) ((bytes_eq-Decides other name).0 e) ∙ h in
+    same ∙ sym (ap (λ b. b || true) same)
+
+-- which names are there after one was added
+after_one : (names : List (List ℕ)) (name other : List ℕ) (b : Bool) → has_name names name ≡ b → has_name (cond b names (names ++ name ∷ [])) other ≡ (has_name names other || bytes_eq other name)
+after_one names name other true h = or_there names name other h (bytes_eq other name) refl
+after_one names name other false h = list_any-append (λ n. bytes_eq other n) names (name ∷ []) ∙ ap (λ b. has_name names other || b) (or_false (bytes_eq other name))
+
+-- which are there after all were added
+after_all : (set names : List (List ℕ)) (other : List ℕ) → has_name (fold with_name set names) other ≡ (has_name set other || has_name names other)
+after_all set [] other = sym (or_false (has_name set other))
+after_all set (name ∷ names) other =
+    after_all (with_name set name) names other
+    ∙ (ap (λ b. b || has_name names other) (after_one set name other (has_name set name) refl) ∙ or_assoc (has_name set other) (bytes_eq other name) (has_name names other))
+
+-- a set that was empty
+pub all_held : (names : List (List ℕ)) → HoldsNames (fold with_name [] names) names
+all_held names = λ other. after_all [] names other

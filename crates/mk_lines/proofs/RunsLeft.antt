@@ -1,10 +1,12 @@
 -- The lines so far, and the runs that are left.
 use Rattle.std.proofs.Common.{◌≡◌, ℕ, ◌+◌, true, false, not, cond, eqb, List, [], ◌∷◌, ◌++◌, length, map, filter, Option, None, Some, Ok, Err, refl, sym, ap, ◌∙◌, append-nil}
+use Rattle.std.specs.Option.{option_or}
 use Rattle.std.proofs.lemmas.List.{length_push}
 use Rattle.mk_lines.specs.Bytes.{is_blank_alone}
 use Rattle.mk_lines.specs.declared.fault.LineFault.{LineFault}
 use Rattle.mk_lines.specs.declared.lines.Line as code
-use Rattle.mk_lines.specs.Lines.{Line, Run, runs, numbered, joined, line_of, is_kept, runs_of, lines_of, line_fault, or_else, first_fault, unless, logical_lines, line_view, is_whole, is_lent}
+use Rattle.mk_lines.specs.Lines.{Line, Run, runs, numbered, joined, line_of, is_kept, runs_of, lines_of, line_fault, first_fault, unless, logical_lines}
+use Rattle.mk_lines.specs.Views.{line_view, is_whole, is_lent}
 use Rattle.mk_lines.proofs.Pieces.{pieces}
 use Rattle.mk_lines.proofs.RunsFound.{no_runs}
 
@@ -43,11 +45,11 @@ map_more f (z ∷ xs) x ys = ap (λ zs. f z ∷ zs) (map_more f xs x ys)
 
 fault_here : (before : ℕ) (line : Line) (lines : List Line) (f : LineFault) → line_fault before line ≡ Some f → first_fault before (line ∷ lines) ≡ Some f
 unfolding first_fault
-fault_here before line lines f e = ap (λ o. or_else o (first_fault (before + 1) lines)) e
+fault_here before line lines f e = ap (λ o. option_or o (first_fault (before + 1) lines)) e
 
 fault_later : (before : ℕ) (line : Line) (lines : List Line) → line_fault before line ≡ None → first_fault before (line ∷ lines) ≡ first_fault (before + 1) lines
 unfolding first_fault
-fault_later before line lines e = ap (λ o. or_else o (first_fault (before + 1) lines)) e
+fault_later before line lines e = ap (λ o. option_or o (first_fault (before + 1) lines)) e
 
 fault_nowhere : (before : ℕ) → first_fault before [] ≡ None
 unfolding first_fault

@@ -1,6 +1,7 @@
 -- Bytes, and texts cut at a byte.
-use Rattle.std.specs.Prelude.{ℕ, ◌==◌, Bool, ◌||◌, List, [], drop, Option, None, Some}
+use Rattle.std.specs.Prelude.{ℕ, ◌==◌, Bool, ◌||◌, List, [], length, take, drop, Option, None, Some}
 use Rattle.std.specs.List.{slice_split, list_all, prefix_len}
+use Rattle.std.specs.Str.{bytes_eq}
 
 abbrev pub is_byte : ℕ → ℕ → Bool
 is_byte wanted b = b == wanted
@@ -16,6 +17,10 @@ is_blank_alone text = list_all is_blank text
 -- the text behind the blanks that lead it
 abbrev pub trimmed : List ℕ → List ℕ
 trimmed text = drop (prefix_len is_blank text) text
+
+-- the text begins with the front
+abbrev pub begins_with : List ℕ → List ℕ → Bool
+begins_with front text = bytes_eq (take (length front) text) front
 
 -- the parts between the separators of what is left of a text
 abbrev pub parts_left : ℕ → Option (List ℕ) → List (List ℕ)

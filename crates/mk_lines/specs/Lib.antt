@@ -4,6 +4,7 @@ pub mod References
 pub mod RuleLines
 pub mod Comments
 pub mod Lines
+pub mod Views
 pub mod Paths
 pub mod Words
 pub mod Names

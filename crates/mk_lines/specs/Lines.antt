@@ -1,12 +1,10 @@
 -- The logical lines of a text.
 use Rattle.std.specs.Prelude.{ℕ, ◌+◌, ◌-◌, ◌==◌, Bool, true, false, not, List, [], ◌∷◌, ◌++◌, length, map, filter, take, drop, reverse, Option, None, Some, Result, Ok, Err, nat_lt, nat_le, ◌%◌, if◌then◌else◌}
 use Rattle.std.specs.List.{slice_split, list_any, prefix_len}
-use Rattle.std.specs.Cow.{cow_slice_items}
-use Rattle.mk_lines.specs.Borrowed.{is_borrowed}
+use Rattle.std.specs.Option.{option_or}
 use Rattle.mk_lines.specs.Bytes.{is_byte, is_blank_alone, trimmed}
 use Rattle.mk_lines.specs.declared.fault.LineFault.{LineFault}
 use Rattle.mk_lines.specs.declared.fault.LineFault.TheVariants.{NulByte, LineTooLong, TooManyLines}
-use Rattle.mk_lines.specs.declared.lines.Line as code
 
 -- a logical line: the number of its first physical line, counted from 1; whether it is a command
 -- line; its text, of a command line without the tab
@@ -106,7 +104,6 @@ runs_of text = filter is_kept (numbered 1 (runs (slice_split (is_byte 10) text))
 abbrev pub lines_of : List ℕ → List Line
 lines_of text = map line_of (runs_of text)
 
--- what is wrong with a line, before which so many stand in its text: the lowest number of its
 -- the most bytes of a line, and the most lines of a text
 abbrev pub max_line : ℕ
 max_line = 65536
@@ -114,7 +111,7 @@ max_line = 65536
 abbrev pub max_lines : ℕ
 max_lines = 65536
 
--- faults
+-- what is wrong with a line, before which so many stand in its text: the lowest number of its faults
 abbrev pub line_fault : ℕ → Line → Option LineFault
 line_fault before line =
     if list_any (is_byte 0) line.text then Some (NulByte line.first)
@@ -122,15 +119,11 @@ line_fault before line =
     else (if nat_le max_lines before then Some (TooManyLines line.first)
     else None))
 
-abbrev pub or_else : Option LineFault → Option LineFault → Option LineFault
-or_else (Some fault) other = Some fault
-or_else None other = other
-
 -- what is wrong with the first faulty line
 unfoldable pub first_fault : ℕ → List Line → Option LineFault
 first_fault before [] = None
 first_fault before (line ∷ lines) =
-    or_else (line_fault before line) (first_fault (before + 1) lines)
+    option_or (line_fault before line) (first_fault (before + 1) lines)
 
 abbrev pub unless : {A : Type 0} → Option LineFault → A → Result A LineFault
 unless (Some fault) x = Err fault
@@ -139,16 +132,3 @@ unless None x = Ok x
 -- the lines of a text, or what is wrong with the first faulty one
 unfoldable pub logical_lines : List ℕ → Result (List Line) LineFault
 logical_lines text = unless (first_fault 0 (lines_of text)) (lines_of text)
-
--- a line of the code
-abbrev pub line_view : code.Line → Line
-line_view line =
-    record { first = line.first; command = line.command; text = cow_slice_items line.text }
-
--- a line of one physical line
-abbrev pub is_whole : Run → Bool
-is_whole run = length run.pieces == 1
-
--- the line's text is a slice of what it was read from
-abbrev pub is_lent : code.Line → Bool
-is_lent line = is_borrowed line.text

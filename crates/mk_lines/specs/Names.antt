@@ -1,11 +1,16 @@
 -- Names in lists.
-use Rattle.std.specs.Prelude.{ℕ, ◌+◌, Bool, not, List, [], ◌∷◌, ◌++◌, filter, nat_eq, Option, None, Some, if◌then◌else◌}
-use Rattle.std.specs.List.{list_any, position_or_len, starts_with}
+use Rattle.std.specs.Prelude.{◌≡◌, ℕ, ◌+◌, Bool, not, List, [], ◌∷◌, ◌++◌, filter, Option, None, Some, if◌then◌else◌}
+use Rattle.std.specs.List.{list_any, position_or_len}
 use Rattle.std.specs.Str.{bytes_eq}
+use Rattle.mk_lines.specs.Bytes.{begins_with}
 
 -- the name stands among the names
 abbrev pub has_name : List (List ℕ) → List ℕ → Bool
 has_name names name = list_any (λ other. bytes_eq name other) names
+
+-- a set holds the names of a list
+abbrev pub HoldsNames : List (List ℕ) → List (List ℕ) → Type 0
+HoldsNames set names = (name : List ℕ) → has_name set name ≡ has_name names name
 
 -- the names, with this one behind them unless it is there
 abbrev pub with_name : List (List ℕ) → List ℕ → List (List ℕ)
@@ -33,4 +38,4 @@ else_last None test last = if test then Some last else None
 
 -- the name begins with one of the prefixes
 abbrev pub is_under : List (List ℕ) → List ℕ → Bool
-is_under prefixes name = list_any (λ prefix. starts_with nat_eq name prefix) prefixes
+is_under prefixes name = list_any (λ prefix. begins_with prefix name) prefixes

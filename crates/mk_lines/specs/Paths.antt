@@ -1,5 +1,5 @@
 -- Plain paths.
-use Rattle.std.specs.Prelude.{ℕ, ◌==◌, Bool, true, false, not, ◌&&◌, List, [], ◌∷◌, length, nat_lt, nat_le, if◌then◌else◌}
+use Rattle.std.specs.Prelude.{ℕ, ◌==◌, Bool, true, false, not, ◌&&◌, List, [], ◌∷◌, codes, length, nat_lt, nat_le, if◌then◌else◌}
 use Rattle.std.specs.List.{slice_split, list_all}
 use Rattle.std.specs.Str.{bytes_eq, is_utf8}
 use Rattle.mk_lines.specs.Bytes.{is_byte}
@@ -11,10 +11,10 @@ is_visible b = nat_lt 32 b && not (b == 127)
 -- a component other than the empty one, `.` and `..`
 abbrev pub is_proper : List ℕ → Bool
 is_proper part =
-    not (length part == 0) && (not (bytes_eq part (46 ∷ [])) && not (bytes_eq part (46 ∷ 46 ∷ [])))
+    not (length part == 0) && (not (bytes_eq part (codes ".")) && not (bytes_eq part (codes "..")))
 
 abbrev pub is_up : List ℕ → Bool
-is_up part = bytes_eq part (46 ∷ 46 ∷ [])
+is_up part = bytes_eq part (codes "..")
 
 -- proper components, behind nothing but `..`
 abbrev pub goes_up_first : List (List ℕ) → Bool

@@ -3,11 +3,10 @@
 -- A reference is `$(` up to the first `)` outside an inner reference, or `${` up to the first `}`
 -- outside one; one without an end reaches to the end of the text. `$$` is passed over as two bytes.
 -- Any other `$` is one byte.
-use Rattle.std.specs.Prelude.{◌≡◌, ℕ, suc, ◌==◌, Bool, true, false, ◌&&◌, ◌||◌, List, [], ◌∷◌, ◌++◌, length, drop, reverse, Option, None, Some, if◌then◌else◌}
+use Rattle.std.specs.Prelude.{◌≡◌, ℕ, suc, ◌==◌, Bool, true, false, ◌&&◌, ◌||◌, List, [], ◌∷◌, ◌++◌, length, drop, Option, None, Some, if◌then◌else◌}
 use Rattle.std.specs.List.{list_any}
 use Rattle.std.specs.Option.{option_map}
 use Rattle.mk_lines.specs.Bytes.{is_byte}
-use Rattle.mk_lines.specs.declared.references.Place as code
 
 -- a place between the bytes of a text: the closing bytes of the references that are open there,
 -- innermost first, and whether a `$` stands just before it that isn't the second of `$$`
@@ -41,10 +40,6 @@ behind_dollar ends b =
 
 abbrev pub next_place : Place → ℕ → Place
 next_place place b = if place.dollar then behind_dollar place.ends b else behind place.ends b
-
--- a place of the code, which holds the closing bytes innermost last
-abbrev pub place_view : code.Place → Place
-place_view place = record { ends = reverse place.ends.items; dollar = place.dollar }
 
 -- where the first wanted byte outside references stands, in a text that follows this place
 unfoldable pub first_from : (ℕ → Bool) → Place → List ℕ → Option ℕ

@@ -23,7 +23,7 @@ pub use comments::uncomment;
 pub use fault::LineFault;
 pub use lines::{Line, logical_lines};
 pub use name::{Name, Names};
-pub use name_set::NameSet;
+pub use name_set::{NameSet, names_among};
 pub use name_table::NameTable;
 pub use paths::{is_plain_path, is_plain_text_path};
 pub use prefixes::Prefixes;

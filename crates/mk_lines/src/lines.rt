@@ -5,8 +5,9 @@ ghost use Rattle.std.specs.List.{slice_split};
 ghost use Rattle.std.specs.Cow.{cow_slice_items};
 ghost use Rattle.mk_lines.specs.Borrowed.{is_borrowed};
 ghost use Rattle.mk_lines.specs.Bytes.{is_byte};
-ghost use Rattle.mk_lines.specs.Lines.{is_command, joined, line_view, line_fault, unless, logical_lines, is_lent, is_whole, runs_of};
+ghost use Rattle.mk_lines.specs.Lines.{is_command, joined, line_fault, unless, logical_lines, runs_of};
 ghost use Rattle.mk_lines.specs.Results.{Gives};
+ghost use Rattle.mk_lines.specs.Views.{is_lent, is_whole, line_view};
 
 use crate::bytes::is_blank_alone;
 use crate::fault::LineFault;

@@ -2,7 +2,7 @@
 
 ghost use Rattle.std.specs.Prelude.{◌≡◌, [], true, false, not, map, fold, IfOk, MatchOption, OnOk, OnErr};
 ghost use Rattle.std.specs.String.{string_bytes};
-ghost use Rattle.mk_lines.specs.Names.{has_name, number_of, with_name};
+ghost use Rattle.mk_lines.specs.Names.{HoldsNames, has_name, number_of, with_name};
 
 use indexmap::IndexSet;
 use std::alloc::{AllocError, Global};
@@ -98,4 +98,13 @@ impl<'a> NameSet<'a> {
     {
         self.names.as_slice()
     }
+}
+
+/// Names of a list, each once. The error is want of memory alone.
+pub fn names_among<'a>(alloc: Global, names: &'a [String]) -> Result<NameSet<'a>, AllocError>
+    ensures { IfOk result (λ set. HoldsNames set (map string_bytes names.now)) }
+{
+    let mut set = NameSet::new(alloc);
+    set.insert_all(names)?;
+    Ok(set)
 }

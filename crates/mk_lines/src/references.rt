@@ -1,7 +1,8 @@
 //! What stands outside references: `$(..)` and `${..}`.
 
 ghost use Rattle.std.specs.Prelude.{◌≡◌, ◌<◌, ◌==◌, length, IfOk, IfSome};
-ghost use Rattle.mk_lines.specs.References.{closed, place_view, next_place, first_outside, is_one_of};
+ghost use Rattle.mk_lines.specs.References.{closed, next_place, first_outside, is_one_of};
+ghost use Rattle.mk_lines.specs.Views.{place_view};
 
 use bstr::ByteSlice;
 use std::alloc::{AllocError, Global};

@@ -3,7 +3,8 @@ use Rattle.std.specs.Borrow.{Bor}
 use Rattle.std.specs.Option.{option_map}
 use Rattle.std.proofs.lemmas.Result.{err_from_is_err_and}
 use Rattle.mk_lines.specs.Bytes.{is_blank_alone, parts_left}
-use Rattle.mk_lines.specs.Lines.{runs, line_fault, line_view}
+use Rattle.mk_lines.specs.Lines.{runs, line_fault}
+use Rattle.mk_lines.specs.Views.{line_view}
 use Rattle.mk_lines.proofs.TextLeft.{size_left, still_counted}
 use Rattle.mk_lines.proofs.Pieces.{pieces, some_piece}
 use Rattle.mk_lines.proofs.RunsLeft.{Left, nothing_read, one_kept, one_dropped, one_faulty, all_read, all_lent, tested_well, tested_ill}

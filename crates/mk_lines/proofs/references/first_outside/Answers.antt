@@ -1,5 +1,6 @@
 use Rattle.std.proofs.Common.{◌<◌, ◌≤◌, ◌≡◌, ◌&&◌, eqb, true, false, length, get_or, sym, ap, refl, ◌∙◌, arith}
-use Rattle.mk_lines.specs.References.{is_one_of, place_view, first_outside, first_from}
+use Rattle.mk_lines.specs.References.{is_one_of, first_outside, first_from}
+use Rattle.mk_lines.specs.Views.{place_view}
 use Rattle.mk_lines.proofs.Found.{moved, moved_zero, found_here, found_more, found_end}
 use Rattle.mk_lines.proofs.NoReference.{found_without_references}
 use Rattle.mk_lines.proofs.references.first_outside.Goals as goal

@@ -1,5 +1,6 @@
 use Rattle.std.proofs.Common.{◌≡◌, drop}
-use Rattle.mk_lines.specs.References.{place_view, first_from, first_outside, is_one_of}
+use Rattle.mk_lines.specs.References.{first_from, first_outside, is_one_of}
+use Rattle.mk_lines.specs.Views.{place_view}
 use Rattle.mk_lines.proofs.Found.{moved}
 use Rattle.mk_lines.proofs.references.first_outside.Given as goal
 
