@@ -1,12 +1,12 @@
 -- Which names are given, and which are editable.
 use Rattle.std.proofs.Common.{◌≡◌, ℕ, Bool, true, false, not, ◌||◌, ◌&&◌, List, [], ◌∷◌, ◌++◌, length, take, drop, inl, inr, refl, sym, ap, ◌∙◌, true≢false}
-use Rattle.std.specs.Prelude.{◌⊎◌, nat_eq}
-use Rattle.std.specs.List.{starts_with}
+use Rattle.std.specs.Prelude.{◌⊎◌}
 use Rattle.std.specs.Str.{bytes_eq}
 use Rattle.std.proofs.lemmas.Bool.{false_from_ne_true}
 use Rattle.std.proofs.lemmas.List.{take-append-drop}
 use Rattle.std.proofs.Math.Seq.{take-append_seam}
 use Rattle.std.proofs.lemmas.Slice.Eq.{bytes_eq-Decides}
+use Rattle.mk_lines.specs.Bytes.{begins_with}
 use Rattle.mk_foot.specs.Names.{Has, has_name, is_under}
 use Rattle.mk_foot.specs.Setting.{Setting, is_given, is_editable}
 use Rattle.mk_foot.specs.Laws.{Under, GivenExactly, EditableExactly, EditableIsGiven}
@@ -41,26 +41,26 @@ has_tells (other ∷ names) name (inl e) = left_true (bytes_eq name other) (has_
 has_tells (other ∷ names) name (inr h) = right_true (bytes_eq name other) (has_name names name) (has_tells names name h)
 
 -- a front, and what is behind it
-front_told : (name prefix : List ℕ) → starts_with nat_eq name prefix ≡ true → (rest : List ℕ) × (name ≡ prefix ++ rest)
+front_told : (name prefix : List ℕ) → begins_with prefix name ≡ true → (rest : List ℕ) × (name ≡ prefix ++ rest)
 front_told name prefix e =
-    let front : prefix ≡ take (length prefix) name = (bytes_eq-Decides prefix (take (length prefix) name)).0 e in
-    (drop (length prefix) name, sym (ap (λ f. f ++ drop (length prefix) name) front ∙ take-append-drop (length prefix) name))
+    let front : take (length prefix) name ≡ prefix = (bytes_eq-Decides (take (length prefix) name) prefix).0 e in
+    (drop (length prefix) name, sym (ap (λ f. f ++ drop (length prefix) name) (sym front) ∙ take-append-drop (length prefix) name))
 
-front_tells : (name prefix rest : List ℕ) → name ≡ prefix ++ rest → starts_with nat_eq name prefix ≡ true
-front_tells name prefix rest e = (bytes_eq-Decides prefix (take (length prefix) name)).1 (sym (ap (take (length prefix)) e ∙ take-append_seam prefix rest))
+front_tells : (name prefix rest : List ℕ) → name ≡ prefix ++ rest → begins_with prefix name ≡ true
+front_tells name prefix rest e = (bytes_eq-Decides (take (length prefix) name) prefix).1 (ap (take (length prefix)) e ∙ take-append_seam prefix rest)
 
 pub under_told : (fixed : List (List ℕ)) (name : List ℕ) → is_under fixed name ≡ true → Under fixed name
 under_told [] name e = absurd (true≢false (sym e))
 under_told (prefix ∷ fixed) name e =
-    elim (either_true (starts_with nat_eq name prefix) (is_under fixed name) e) [
+    elim (either_true (begins_with prefix name) (is_under fixed name) e) [
       | inl t ↦ (prefix, inl refl, front_told name prefix t)
       | inr h ↦ (let u = under_told fixed name h in (u.0, inr u.1, u.2))
     ]
 
 pub under_tells : (fixed : List (List ℕ)) (name prefix rest : List ℕ) → Has fixed prefix → name ≡ prefix ++ rest → is_under fixed name ≡ true
 under_tells [] name prefix rest h e = absurd h
-under_tells (other ∷ fixed) name prefix rest (inl same) e = left_true (starts_with nat_eq name other) (is_under fixed name) (front_tells name other rest (e ∙ ap (λ p. p ++ rest) (sym same)))
-under_tells (other ∷ fixed) name prefix rest (inr h) e = right_true (starts_with nat_eq name other) (is_under fixed name) (under_tells fixed name prefix rest h e)
+under_tells (other ∷ fixed) name prefix rest (inl same) e = left_true (begins_with other name) (is_under fixed name) (front_tells name other rest (e ∙ ap (λ p. p ++ rest) (sym same)))
+under_tells (other ∷ fixed) name prefix rest (inr h) e = right_true (begins_with other name) (is_under fixed name) (under_tells fixed name prefix rest h e)
 
 given_told : (s : Setting) (name : List ℕ) → is_given s name ≡ true → Has s.sources name ⊎ (Under s.fixed name ⊎ Has s.texts name)
 given_told s name e =

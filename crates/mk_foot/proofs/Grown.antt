@@ -1,6 +1,6 @@
 -- Lists that grow at their end, up to the first fault.
 use Rattle.std.proofs.Common.{◌≡◌, ℕ, List, [], ◌∷◌, ◌++◌, map, Option, Some, None, Result, Ok, Err, String, Global, string_bytes, option_map, inl, inr, refl, sym, ap, ◌∙◌}
-use Rattle.std.specs.Prelude.{option_and_then}
+use Rattle.std.specs.Prelude.{option_and_then, ok_or}
 use Rattle.std.proofs.lemmas.List.{map_push}
 use Rattle.serde_json.specs.Data.{Data}
 use Rattle.serde_json.specs.Find.{as_str}
@@ -11,7 +11,7 @@ use Rattle.mk_foot.specs.declared.fault.FootFault.TheVariants.{Shape}
 use Rattle.mk_foot.specs.declared.key.Key.{Key}
 use Rattle.mk_foot.specs.Kinds.{texts_of}
 use Rattle.mk_foot.specs.PartsRead.{text_of}
-use Rattle.mk_foot.specs.Steps.{◌>>=◌, or_fault, each}
+use Rattle.mk_foot.specs.Steps.{◌>>=◌, each}
 use Rattle.mk_foot.proofs.Members.{elements_items}
 use Rattle.mk_foot.proofs.Steps.{Fails}
 
@@ -50,16 +50,16 @@ has_text key front value texts text e h = has_more (text_of key) front value (ma
 
 -- texts one by one, and all of them
 one_text : {A : Type 0} (fault : FootFault) (o : Option A) (more : Option (List A))
-    → or_fault fault (option_and_then (λ y. option_map (λ ys. y ∷ ys) more) o) ≡ (or_fault fault o >>= λ y. or_fault fault more >>= λ ys. Ok (y ∷ ys))
+    → ok_or (option_and_then (λ y. option_map (λ ys. y ∷ ys) more) o) fault ≡ (ok_or o fault >>= λ y. ok_or more fault >>= λ ys. Ok (y ∷ ys))
 one_text fault None more = refl
 one_text fault (Some y) None = refl
 one_text fault (Some y) (Some ys) = refl
 
-texts_each : (key : Key) (ds : List Data) → or_fault (Shape key) (json.each_some as_str ds) ≡ each (text_of key) ds
+texts_each : (key : Key) (ds : List Data) → ok_or (json.each_some as_str ds) (Shape key) ≡ each (text_of key) ds
 unfolding each json.each_some
 texts_each key [] = refl
 texts_each key (d ∷ ds) = one_text (Shape key) (as_str d) (json.each_some as_str ds) ∙ ap (λ (r : Result (List (List ℕ)) FootFault). text_of key d >>= λ y. r >>= λ ys. Ok (y ∷ ys)) (texts_each key ds)
 
 pub texts_listed : (key : Key) (ds : List Data) → texts_of key (array_of ds) ≡ each (text_of key) ds
 unfolding json.texts_of
-texts_listed key ds = ap (λ (es : List Data). or_fault (Shape key) (json.each_some as_str es)) (elements_items ds) ∙ texts_each key ds
+texts_listed key ds = ap (λ (es : List Data). ok_or (json.each_some as_str es) (Shape key)) (elements_items ds) ∙ texts_each key ds

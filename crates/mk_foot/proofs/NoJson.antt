@@ -1,6 +1,6 @@
 -- Which fault says that there is no JSON value.
 use Rattle.std.proofs.Common.{◌≡◌, ℕ, Bool, true, false, cond, List, [], ◌∷◌, map, Option, Some, None, Result, Ok, Err, refl, ap}
-use Rattle.std.specs.Prelude.{⊤, ◌≢◌, ℤ, pos, option_and_then}
+use Rattle.std.specs.Prelude.{⊤, ◌≢◌, ℤ, pos, option_and_then, ok_or}
 use Rattle.std.specs.List.{list_all}
 use Rattle.std.specs.Ordering.{int_eq}
 use Rattle.serde_json.specs.Data.{Data}
@@ -13,7 +13,7 @@ use Rattle.mk_foot.specs.declared.key.Key.{Key}
 use Rattle.mk_foot.specs.declared.key.Key.TheVariants as keys
 use Rattle.mk_foot.specs.declared.format.Format.{Format}
 use Rattle.mk_foot.specs.declared.format.Format.TheVariants.{One, Two}
-use Rattle.mk_foot.specs.Steps.{◌>>=◌, or_fault, unless_holds, each, test_each}
+use Rattle.mk_foot.specs.Steps.{◌>>=◌, unless_holds, each, test_each}
 use Rattle.mk_foot.specs.Kinds.{texts_of, text_at, texts_at, elements_at, members_at, is_object, has_only, format_of, format_in}
 use Rattle.mk_foot.specs.Keys.{spelling}
 use Rattle.mk_foot.specs.Parts.{Entry, Group, Footprints}
@@ -34,7 +34,7 @@ other_then : {A B : Type 0} (r : Result A FootFault) (f : A → Result B FootFau
 other_then (Ok x) f h k e = k x e
 other_then {A} (Err fault) f h k e = let same : fault ≡ NotJson = cc e in h (ap (λ z. Err z) same)
 
-other_or : {A : Type 0} (fault : FootFault) (o : Option A) → fault ≢ NotJson → Other (or_fault fault o)
+other_or : {A : Type 0} (fault : FootFault) (o : Option A) → fault ≢ NotJson → Other (ok_or o fault)
 other_or fault (Some x) h e = cc
 other_or {A} fault None h e = let same : fault ≡ NotJson = cc e in h same
 
@@ -90,7 +90,7 @@ format_other number e = chosen (int_eq number (pos 1)) (int_eq number (pos 2)) e
 
 format_in_other : (value : Data) → Other (format_in value)
 unfolding format_in
-format_in_other value = other_then (or_fault (Shape keys.Format) (json.integer_at (spelling keys.Format) value)) _ (other_or (Shape keys.Format) (json.integer_at (spelling keys.Format) value) (shape keys.Format)) format_other
+format_in_other value = other_then (ok_or (json.integer_at (spelling keys.Format) value) (Shape keys.Format)) _ (other_or (Shape keys.Format) (json.integer_at (spelling keys.Format) value) (shape keys.Format)) format_other
 
 shared_other : (format : Format) (value : Data) → Other (shared_in format value)
 unfolding shared_in
@@ -194,10 +194,10 @@ book_other goals value =
     other_then (test_all file) _ (tests_other file) (λ _.
     other_then (group_for goals file.groups) _ (other_or NoGroup _ (λ e. cc e)) (λ group. other_ok (book_of file group))))
 
-no_value : (goals : List (List ℕ)) (o : Option Data) → (or_fault NotJson o >>= book_in goals) ≡ Err NotJson → o ≡ None
+no_value : (goals : List (List ℕ)) (o : Option Data) → (ok_or o NotJson >>= book_in goals) ≡ Err NotJson → o ≡ None
 no_value goals None e = refl
 no_value goals (Some value) e = absurd (book_other goals value e)
 
 pub only_text_without_value_is_no_json : OnlyTextWithoutValueIsNoJson
 unfolding book_from
-only_text_without_value_is_no_json goals bytes = (no_value goals (json_of bytes), λ e. ap (λ (o : Option Data). or_fault NotJson o >>= book_in goals) e)
+only_text_without_value_is_no_json goals bytes = (no_value goals (json_of bytes), λ e. ap (λ (o : Option Data). ok_or o NotJson >>= book_in goals) e)

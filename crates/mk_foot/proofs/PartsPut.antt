@@ -1,6 +1,6 @@
 -- Parts where a member is put.
 use Rattle.std.proofs.Common.{◌≡◌, ℕ, Bool, true, false, List, [], ◌∷◌, map, codes, Option, Some, Result, bytes_eq, String, Vec, Global, string_bytes, refl, sym, ap, ◌∙◌, subst}
-use Rattle.std.specs.Prelude.{option_and_then}
+use Rattle.std.specs.Prelude.{option_and_then, ok_or}
 use Rattle.std.proofs.lemmas.Slice.Eq.{bytes_eq-Decides}
 use Rattle.mk_lines.specs.Names.{has_name}
 use Rattle.serde_json.specs.Data.{Data, object, Members, put}
@@ -21,7 +21,7 @@ use Rattle.mk_foot.specs.Keys.{spelling}
 use Rattle.mk_foot.specs.Kinds.{texts_of, text_at, texts_at, elements_at, members_at, format_of, format_in}
 use Rattle.mk_foot.specs.Parts.{Entry, Group, SharedList}
 use Rattle.mk_foot.specs.PartsRead.{text_of, format_from, lists_from, GivesTexts, AreEach, IsOfEntry, IsOfGroup, IsOf, first_keys, second_keys}
-use Rattle.mk_foot.specs.Steps.{◌>>=◌, Gives, each, or_fault}
+use Rattle.mk_foot.specs.Steps.{◌>>=◌, Gives, each}
 use Rattle.mk_foot.proofs.Read.{moved}
 
 turned : {key other : List ℕ} → (key ≡ other → ⊥) → other ≡ key → ⊥
@@ -50,43 +50,43 @@ module _ (law : LastValueCounts) where
 
   text_here : (q : Key) (value : Data) (ms : Members) → text_at q (object (put (spelling q) value ms)) ≡ text_of q value
   unfolding text_at
-  text_here q value ms = ap (λ (o : Option Data). or_fault (Shape q) (option_and_then as_str o)) (here (spelling q) value ms)
+  text_here q value ms = ap (λ (o : Option Data). ok_or (option_and_then as_str o) (Shape q)) (here (spelling q) value ms)
 
   text_there : (q : Key) (other : List ℕ) (value : Data) (ms : Members) → bytes_eq (spelling q) other ≡ false → text_at q (object (put other value ms)) ≡ text_at q (object ms)
   unfolding text_at
-  text_there q other value ms apart = ap (λ (o : Option Data). or_fault (Shape q) (option_and_then as_str o)) (there (spelling q) other value ms apart)
+  text_there q other value ms apart = ap (λ (o : Option Data). ok_or (option_and_then as_str o) (Shape q)) (there (spelling q) other value ms apart)
 
   texts_here : (q : Key) (value : Data) (ms : Members) → texts_at q (object (put (spelling q) value ms)) ≡ texts_of q value
   unfolding texts_at
-  texts_here q value ms = ap (λ (o : Option Data). or_fault (Shape q) (option_and_then json.texts_of o)) (here (spelling q) value ms)
+  texts_here q value ms = ap (λ (o : Option Data). ok_or (option_and_then json.texts_of o) (Shape q)) (here (spelling q) value ms)
 
   texts_there : (q : Key) (other : List ℕ) (value : Data) (ms : Members) → bytes_eq (spelling q) other ≡ false → texts_at q (object (put other value ms)) ≡ texts_at q (object ms)
   unfolding texts_at
-  texts_there q other value ms apart = ap (λ (o : Option Data). or_fault (Shape q) (option_and_then json.texts_of o)) (there (spelling q) other value ms apart)
+  texts_there q other value ms apart = ap (λ (o : Option Data). ok_or (option_and_then json.texts_of o) (Shape q)) (there (spelling q) other value ms apart)
 
-  elements_here : (q : Key) (value : Data) (ms : Members) → elements_at q (object (put (spelling q) value ms)) ≡ or_fault (Shape q) (json.elements_of value)
+  elements_here : (q : Key) (value : Data) (ms : Members) → elements_at q (object (put (spelling q) value ms)) ≡ ok_or (json.elements_of value) (Shape q)
   unfolding elements_at
-  elements_here q value ms = ap (λ (o : Option Data). or_fault (Shape q) (option_and_then json.elements_of o)) (here (spelling q) value ms)
+  elements_here q value ms = ap (λ (o : Option Data). ok_or (option_and_then json.elements_of o) (Shape q)) (here (spelling q) value ms)
 
   elements_there : (q : Key) (other : List ℕ) (value : Data) (ms : Members) → bytes_eq (spelling q) other ≡ false → elements_at q (object (put other value ms)) ≡ elements_at q (object ms)
   unfolding elements_at
-  elements_there q other value ms apart = ap (λ (o : Option Data). or_fault (Shape q) (option_and_then json.elements_of o)) (there (spelling q) other value ms apart)
+  elements_there q other value ms apart = ap (λ (o : Option Data). ok_or (option_and_then json.elements_of o) (Shape q)) (there (spelling q) other value ms apart)
 
   format_here : (value : Data) (ms : Members) → format_in (object (put (codes "format") value ms)) ≡ format_from value
   unfolding format_in
-  format_here value ms = ap (λ (o : Option Data). or_fault (Shape keys.Format) (option_and_then as_integer (option_and_then as_number o)) >>= format_of) (here (codes "format") value ms)
+  format_here value ms = ap (λ (o : Option Data). ok_or (option_and_then as_integer (option_and_then as_number o)) (Shape keys.Format) >>= format_of) (here (codes "format") value ms)
 
   format_there : (other : List ℕ) (value : Data) (ms : Members) → bytes_eq (codes "format") other ≡ false → format_in (object (put other value ms)) ≡ format_in (object ms)
   unfolding format_in
-  format_there other value ms apart = ap (λ (o : Option Data). or_fault (Shape keys.Format) (option_and_then as_integer (option_and_then as_number o)) >>= format_of) (there (codes "format") other value ms apart)
+  format_there other value ms apart = ap (λ (o : Option Data). ok_or (option_and_then as_integer (option_and_then as_number o)) (Shape keys.Format) >>= format_of) (there (codes "format") other value ms apart)
 
   lists_here : (value : Data) (ms : Members) → lists_in (object (put (codes "lists") value ms)) ≡ lists_from value
   unfolding lists_in members_at
-  lists_here value ms = ap (λ (o : Option Data). or_fault (Shape keys.Lists) (option_and_then json.pairs_of o) >>= each list_in) (here (codes "lists") value ms)
+  lists_here value ms = ap (λ (o : Option Data). ok_or (option_and_then json.pairs_of o) (Shape keys.Lists) >>= each list_in) (here (codes "lists") value ms)
 
   lists_there : (other : List ℕ) (value : Data) (ms : Members) → bytes_eq (codes "lists") other ≡ false → lists_in (object (put other value ms)) ≡ lists_in (object ms)
   unfolding lists_in members_at
-  lists_there other value ms apart = ap (λ (o : Option Data). or_fault (Shape keys.Lists) (option_and_then json.pairs_of o) >>= each list_in) (there (codes "lists") other value ms apart)
+  lists_there other value ms apart = ap (λ (o : Option Data). ok_or (option_and_then json.pairs_of o) (Shape keys.Lists) >>= each list_in) (there (codes "lists") other value ms apart)
 
   shared_here : (value : Data) (ms : Members) → shared_in Two (object (put (codes "shared") value ms)) ≡ texts_of keys.Shared value
   unfolding shared_in
@@ -222,7 +222,7 @@ module _ (law : LastValueCounts) where
     alone = was.alone ∙ sym (known_there group_names (codes "goals") value ms refl);
   })
 
-  pub group_records_put : (p : GroupParts) (records : Result (Result (Vec Entry Global) FootFault) FootFault) (key : List ℕ) (value : Data) (ms : Members) → key ≡ codes "records" → AreEach (entry_in Two) records (or_fault (Shape keys.Records) (json.elements_of value))
+  pub group_records_put : (p : GroupParts) (records : Result (Result (Vec Entry Global) FootFault) FootFault) (key : List ℕ) (value : Data) (ms : Members) → key ≡ codes "records" → AreEach (entry_in Two) records (ok_or (json.elements_of value) (Shape keys.Records))
       → IsOfGroup p (object ms) → IsOfGroup (record { goals = p.goals; records = records; alone = p.alone }) (object (put key value ms))
   group_records_put p records key value ms is given was = rw is (record {
     goals = texts_moved p.goals _ _ was.goals (texts_there keys.Goals (codes "records") value ms refl);
@@ -285,7 +285,7 @@ module _ (law : LastValueCounts) where
     is_second = was.is_second ∙ sym (known_there second_names (codes "sources") value ms refl);
   })
 
-  pub file_records_put : (p : Parts) (records : Result (Result (Vec Entry Global) FootFault) FootFault) (key : List ℕ) (value : Data) (ms : Members) → key ≡ codes "records" → AreEach (entry_in One) records (or_fault (Shape keys.Records) (json.elements_of value)) → IsOf p (object ms)
+  pub file_records_put : (p : Parts) (records : Result (Result (Vec Entry Global) FootFault) FootFault) (key : List ℕ) (value : Data) (ms : Members) → key ≡ codes "records" → AreEach (entry_in One) records (ok_or (json.elements_of value) (Shape keys.Records)) → IsOf p (object ms)
       → IsOf (record { format = p.format; fixed = p.fixed; sources = p.sources; records = records; lists = p.lists; groups = p.groups; is_first = p.is_first; is_second = false }) (object (put key value ms))
   file_records_put p records key value ms is given was = rw is (record {
     format = moved (λ format. format) p.format _ _ was.format (format_there (codes "records") value ms refl);
@@ -311,7 +311,7 @@ module _ (law : LastValueCounts) where
     is_second = was.is_second ∙ sym (known_there second_names (codes "lists") value ms refl);
   })
 
-  pub file_groups_put : (p : Parts) (groups : Result (Result (Vec Group Global) FootFault) FootFault) (key : List ℕ) (value : Data) (ms : Members) → key ≡ codes "groups" → AreEach group_in groups (or_fault (Shape keys.Groups) (json.elements_of value)) → IsOf p (object ms)
+  pub file_groups_put : (p : Parts) (groups : Result (Result (Vec Group Global) FootFault) FootFault) (key : List ℕ) (value : Data) (ms : Members) → key ≡ codes "groups" → AreEach group_in groups (ok_or (json.elements_of value) (Shape keys.Groups)) → IsOf p (object ms)
       → IsOf (record { format = p.format; fixed = p.fixed; sources = p.sources; records = p.records; lists = p.lists; groups = groups; is_first = false; is_second = p.is_second }) (object (put key value ms))
   file_groups_put p groups key value ms is given was = rw is (record {
     format = moved (λ format. format) p.format _ _ was.format (format_there (codes "groups") value ms refl);

@@ -1,6 +1,6 @@
 -- What is read has plain paths for names.
 use Rattle.std.proofs.Common.{◌≡◌, ℕ, Bool, true, false, not, cond, List, [], ◌∷◌, ◌++◌, map, Some, Result, Ok, Err, refl, sym, subst, ◌∙◌}
-use Rattle.std.specs.Prelude.{⊤, filter, find}
+use Rattle.std.specs.Prelude.{⊤, filter, find, ok_or}
 use Rattle.std.specs.List.{list_all, flat_map}
 use Rattle.std.specs.Str.{bytes_eq}
 use Rattle.std.proofs.lemmas.Bool.{and_parts, and_from}
@@ -18,7 +18,7 @@ use Rattle.mk_foot.specs.Laws.{names_of_record, names_of, NamesReadArePlain}
 use Rattle.mk_foot.specs.Names.{once, is_prefix}
 use Rattle.mk_foot.specs.Parts.{Entry, Group, SharedList, Footprints}
 use Rattle.mk_foot.specs.Reading.{listed, record_of, book_of, book_in, book_from}
-use Rattle.mk_foot.specs.Steps.{◌>>=◌, or_fault, unless_holds, test_each}
+use Rattle.mk_foot.specs.Steps.{◌>>=◌, unless_holds, test_each}
 
 abbrev ArePlain : List (List ℕ) → Type 0
 ArePlain names = list_all is_plain_path names ≡ true
@@ -167,7 +167,7 @@ found_plain goals (one ∷ groups) group all e =
     let p = and_parts (is_plain_group one) (list_all is_plain_group groups) all in
     at (serves goals one.goals) p.0 (found_plain goals groups group p.1) e
   where
-    at : (b : Bool) → is_plain_group one ≡ true → (group_for goals groups ≡ Ok group → is_plain_group group ≡ true) → or_fault NoGroup (cond b (Some one) (find (λ (other : Group). serves goals other.goals) groups)) ≡ Ok group → is_plain_group group ≡ true
+    at : (b : Bool) → is_plain_group one ≡ true → (group_for goals groups ≡ Ok group → is_plain_group group ≡ true) → ok_or (cond b (Some one) (find (λ (other : Group). serves goals other.goals) groups)) NoGroup ≡ Ok group → is_plain_group group ≡ true
     at true own rest is = let same : one ≡ group = cc in subst (λ g. is_plain_group g ≡ true) same own
     at false own rest is = rest is
 
@@ -185,5 +185,5 @@ in_plain goals value book e =
 pub names_read_are_plain : NamesReadArePlain
 unfolding book_from
 names_read_are_plain goals bytes book e =
-    let first = bind_ok (or_fault NotJson (json_of bytes)) (book_in goals) book e in
+    let first = bind_ok (ok_or (json_of bytes) NotJson) (book_in goals) book e in
     in_plain goals first.0 book first.2

@@ -1,6 +1,6 @@
 -- What was read of lists and objects.
 use Rattle.std.proofs.Common.{◌≡◌, ℕ, ◌-◌, Bool, true, false, List, None, Some, Result, Ok, Err, true≢false, sym, ap, ◌∙◌, subst}
-use Rattle.std.specs.Prelude.{IsErr}
+use Rattle.std.specs.Prelude.{IsErr, ok_or}
 use Rattle.json.specs.Token.{Token}
 use Rattle.json.specs.Json.{parse_map}
 use Rattle.json.specs.declared.reader.Invalid.{Invalid}
@@ -11,7 +11,7 @@ use Rattle.mk_json.specs.Tokens.{next_value, next_items, next_members, ReadsItem
 use Rattle.mk_foot.specs.declared.fault.FootFault.{FootFault}
 use Rattle.mk_foot.specs.declared.fault.FootFault.TheVariants.{Shape}
 use Rattle.mk_foot.specs.declared.key.Key.{Key}
-use Rattle.mk_foot.specs.Steps.{Gives, or_fault}
+use Rattle.mk_foot.specs.Steps.{Gives}
 use Rattle.mk_foot.proofs.Members.{elements_items}
 
 -- what is given, in other words
@@ -28,7 +28,7 @@ refused_members Told depth old new (Ok x) e none = absurd (true≢false (sym e))
 refused_members Told depth old new (Err x) e none = none
 
 -- the list of an array
-pub listed : (key : Key) (ds : List Data) → or_fault (Shape key) (elements_of (array_of ds)) ≡ Ok ds
+pub listed : (key : Key) (ds : List Data) → ok_or (elements_of (array_of ds)) (Shape key) ≡ Ok ds
 listed key ds = ap (λ (es : List Data). Ok es) (elements_items ds)
 
 -- an array that was entered, and its values

@@ -1,12 +1,12 @@
 -- What a file of footprints owes beside its shape.
-use Rattle.std.specs.Prelude.{ℕ, ⊤, Bool, true, List, [], ◌∷◌, map, find, Option, None, Some, Result, Ok, Err}
+use Rattle.std.specs.Prelude.{ℕ, ⊤, Bool, true, List, [], ◌∷◌, map, find, Option, None, Some, Result, Ok, Err, ok_or}
 use Rattle.std.specs.List.{list_all}
 use Rattle.mk_lines.specs.Paths.{is_plain_path}
 use Rattle.mk_foot.specs.declared.fault.FootFault.{FootFault}
 use Rattle.mk_foot.specs.declared.fault.FootFault.TheVariants.{BadName, TwoRecords, SourceIsFixed, NoGroup, NoList}
 use Rattle.mk_foot.specs.declared.key.Key.{Key}
 use Rattle.mk_foot.specs.declared.key.Key.TheVariants as keys
-use Rattle.mk_foot.specs.Steps.{◌>>=◌, or_fault, unless_holds, test_each}
+use Rattle.mk_foot.specs.Steps.{◌>>=◌, unless_holds, test_each}
 use Rattle.mk_foot.specs.Names.{has_name, first_again, same_names, is_prefix, is_under}
 use Rattle.mk_foot.specs.Parts.{Entry, Group, SharedList, Footprints}
 
@@ -83,4 +83,4 @@ serves goals (Some own) = same_names goals own
 -- the first group that serves the goals
 abbrev pub group_for : List (List ℕ) → List Group → Result Group FootFault
 group_for goals groups =
-    or_fault NoGroup (find (λ (group : Group). serves goals group.goals) groups)
+    ok_or (find (λ (group : Group). serves goals group.goals) groups) NoGroup

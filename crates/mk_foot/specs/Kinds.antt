@@ -1,5 +1,5 @@
 -- Parts of a JSON value, with the fault of their key.
-use Rattle.std.specs.Prelude.{ℕ, ⊤, ℤ, pos, List, map, is_some, option_and_then, Result, Ok, Err, if◌then◌else◌}
+use Rattle.std.specs.Prelude.{ℕ, ⊤, ℤ, pos, List, map, is_some, option_and_then, Result, Ok, Err, if◌then◌else◌, ok_or}
 use Rattle.std.specs.Ordering.{int_eq}
 use Rattle.serde_json.specs.Data.{Data}
 use Rattle.serde_json.specs.Find.{get, as_object}
@@ -11,25 +11,25 @@ use Rattle.mk_foot.specs.declared.key.Key.TheVariants as keys
 use Rattle.mk_foot.specs.declared.format.Format.{Format}
 use Rattle.mk_foot.specs.declared.format.Format.TheVariants.{One, Two}
 use Rattle.mk_foot.specs.Keys.{spelling}
-use Rattle.mk_foot.specs.Steps.{◌>>=◌, or_fault, unless_holds}
+use Rattle.mk_foot.specs.Steps.{◌>>=◌, unless_holds}
 
 -- a list of texts
 abbrev pub texts_of : Key → Data → Result (List (List ℕ)) FootFault
-texts_of key value = or_fault (Shape key) (json.texts_of value)
+texts_of key value = ok_or (json.texts_of value) (Shape key)
 
 -- the text, the list of texts, the values of the array and the members of the object under a key
 unfoldable pub text_at : Key → Data → Result (List ℕ) FootFault
-text_at key whole = or_fault (Shape key) (json.text_at (spelling key) whole)
+text_at key whole = ok_or (json.text_at (spelling key) whole) (Shape key)
 
 unfoldable pub texts_at : Key → Data → Result (List (List ℕ)) FootFault
-texts_at key whole = or_fault (Shape key) (json.texts_at (spelling key) whole)
+texts_at key whole = ok_or (json.texts_at (spelling key) whole) (Shape key)
 
 unfoldable pub elements_at : Key → Data → Result (List Data) FootFault
-elements_at key whole = or_fault (Shape key) (json.elements_at (spelling key) whole)
+elements_at key whole = ok_or (json.elements_at (spelling key) whole) (Shape key)
 
 unfoldable pub members_at : Key → Data → Result (List (List ℕ × Data)) FootFault
 members_at key whole =
-    or_fault (Shape key) (option_and_then json.pairs_of (get (spelling key) whole))
+    ok_or (option_and_then json.pairs_of (get (spelling key) whole)) (Shape key)
 
 -- a value is an object
 abbrev pub is_object : Key → Data → Result ⊤ FootFault
@@ -47,5 +47,5 @@ format_of number =
 
 unfoldable pub format_in : Data → Result Format FootFault
 format_in whole = do
-  number ← or_fault (Shape keys.Format) (json.integer_at (spelling keys.Format) whole)
+  number ← ok_or (json.integer_at (spelling keys.Format) whole) (Shape keys.Format)
   format_of number

@@ -1,5 +1,5 @@
 -- Files of footprints, groups, records and shared lists by the parts that were read of them.
-use Rattle.std.specs.Prelude.{◌≡◌, ℕ, ⊤, List, [], ◌∷◌, map, String, Vec, option_and_then, Result, Ok, Err}
+use Rattle.std.specs.Prelude.{◌≡◌, ℕ, ⊤, List, [], ◌∷◌, map, String, Vec, option_and_then, Result, Ok, Err, ok_or}
 use Rattle.std.specs.String.{string_bytes}
 use Rattle.std.specs.declared.alloc.Global.{Global}
 use Rattle.mk_lines.specs.Results.{Fails}
@@ -23,20 +23,20 @@ use Rattle.mk_foot.specs.Keys.{spelling}
 use Rattle.mk_foot.specs.Kinds.{texts_of, text_at, texts_at, elements_at, format_of, format_in}
 use Rattle.mk_foot.specs.Parts.{SharedList, Footprints}
 use Rattle.mk_foot.specs.Reading.{book_of}
-use Rattle.mk_foot.specs.Steps.{◌>>=◌, Gives, each, or_fault}
+use Rattle.mk_foot.specs.Steps.{◌>>=◌, Gives, each}
 
 -- what a value gives under a key: a text, the format, shared lists
 abbrev pub text_of : Key → Data → Result (List ℕ) FootFault
-text_of key value = or_fault (Shape key) (as_str value)
+text_of key value = ok_or (as_str value) (Shape key)
 
 abbrev pub format_from : Data → Result Format FootFault
 format_from value = do
-  number ← or_fault (Shape keys.Format) (option_and_then as_integer (as_number value))
+  number ← ok_or (option_and_then as_integer (as_number value)) (Shape keys.Format)
   format_of number
 
 abbrev pub lists_from : Data → Result (List SharedList) FootFault
 lists_from value = do
-  members ← or_fault (Shape keys.Lists) (json.pairs_of value)
+  members ← ok_or (json.pairs_of value) (Shape keys.Lists)
   each list_in members
 
 -- What was read is a list of these texts.
@@ -99,7 +99,7 @@ pub record IsOf (parts : Parts) (whole : Data) : Type 0 where
 -- the parts of a file's bytes, and the book of them
 unfoldable pub footprints_from : List ℕ → Result Footprints FootFault
 footprints_from bytes = do
-  value ← or_fault NotJson (json_of bytes)
+  value ← ok_or (json_of bytes) NotJson
   footprints_in value
 
 abbrev pub book_of_file : List (List ℕ) → Footprints → Result Book FootFault

@@ -1,5 +1,5 @@
 -- The book of a file of footprints, for some goals.
-use Rattle.std.specs.Prelude.{ℕ, List, [], ◌∷◌, ◌++◌, map, Result, Ok, if◌then◌else◌}
+use Rattle.std.specs.Prelude.{ℕ, List, [], ◌∷◌, ◌++◌, map, Result, Ok, if◌then◌else◌, ok_or}
 use Rattle.std.specs.List.{flat_map}
 use Rattle.std.specs.Str.{bytes_eq}
 use Rattle.serde_json.specs.Data.{Data}
@@ -7,7 +7,7 @@ use Rattle.mk_json.specs.Reading.{json_of}
 use Rattle.mk_foot.specs.declared.fault.FootFault.{FootFault}
 use Rattle.mk_foot.specs.declared.fault.FootFault.TheVariants.{NotJson}
 use Rattle.mk_foot.specs.Book.{Record, Book}
-use Rattle.mk_foot.specs.Steps.{◌>>=◌, or_fault}
+use Rattle.mk_foot.specs.Steps.{◌>>=◌}
 use Rattle.mk_foot.specs.Names.{once}
 use Rattle.mk_foot.specs.Parts.{Entry, Group, SharedList, Footprints}
 use Rattle.mk_foot.specs.Footprints.{footprints_in}
@@ -47,5 +47,5 @@ book_in goals value = do
 -- the book of a file's bytes
 unfoldable pub book_from : List (List ℕ) → List ℕ → Result Book FootFault
 book_from goals bytes = do
-  value ← or_fault NotJson (json_of bytes)
+  value ← ok_or (json_of bytes) NotJson
   book_in goals value

@@ -2,7 +2,7 @@
 use Rattle.std.specs.Prelude.{⊤, List, [], ◌∷◌, Result, Ok}
 use Rattle.mk_foot.specs.declared.fault.FootFault.{FootFault}
 use Rattle.mk_foot.specs.declared.fault.FootFault.TheVariants.{Memory}
-pub use Rattle.mk_json.specs.Steps.{◌>>=◌, or_fault, unless_holds}
+pub use Rattle.mk_json.specs.Steps.{◌>>=◌, unless_holds}
 unfoldable pub use Rattle.mk_json.specs.Steps.{each}
 use Rattle.mk_lines.specs.Results as results
 

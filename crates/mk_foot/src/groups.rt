@@ -1,10 +1,9 @@
 //! Groups of records, by the tokens of a file of footprints: of each only its parts are kept.
 
-ghost use Rattle.std.specs.Prelude.{◌≡◌, true, is_some};
+ghost use Rattle.std.specs.Prelude.{◌≡◌, true, is_some, ok_or};
 ghost use Rattle.serde_json.specs.Data.{Data, object, Members, no_members, put};
 ghost use Rattle.serde_json.specs.Find.{as_object};
 ghost use Rattle.mk_json.specs.Kinds.{elements_of};
-ghost use Rattle.mk_json.specs.Steps.{or_fault};
 ghost use Rattle.mk_json.specs.Tokens.{Reads, ReadsItems, ReadsMembers};
 ghost use Rattle.mk_foot.specs.declared.fault.FootFault.TheVariants.{Shape};
 ghost use Rattle.mk_foot.specs.declared.key.Key.TheVariants as keys;
@@ -170,7 +169,7 @@ pub type Groups = Result<Result<Vec<Group>, FootFault>, FootFault>;
 /// Reads a list of groups.
 pub fn read_groups(alloc: Global, reader: &mut Reader<'_>, depth: usize) -> Result<Groups, Invalid>
     ensures { Reads (λ groups value. AreEach group_in groups
-        (or_fault (Shape keys.Groups) (elements_of value)))
+        (ok_or (elements_of value) (Shape keys.Groups)))
         depth reader.old result reader.new }
 {
     if !enter_array(reader, depth)? {

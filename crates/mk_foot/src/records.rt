@@ -1,10 +1,9 @@
 //! Records, by the tokens of a file of footprints: of each only its parts are kept.
 
-ghost use Rattle.std.specs.Prelude.{◌≡◌, true, is_some};
+ghost use Rattle.std.specs.Prelude.{◌≡◌, true, is_some, ok_or};
 ghost use Rattle.serde_json.specs.Data.{Data, object, Members, no_members, put};
 ghost use Rattle.serde_json.specs.Find.{as_object};
 ghost use Rattle.mk_json.specs.Kinds.{elements_of};
-ghost use Rattle.mk_json.specs.Steps.{or_fault};
 ghost use Rattle.mk_json.specs.Tokens.{Reads, ReadsItems, ReadsMembers};
 ghost use Rattle.mk_foot.specs.declared.fault.FootFault.TheVariants.{Shape};
 ghost use Rattle.mk_foot.specs.declared.format.Format.{Format};
@@ -245,7 +244,7 @@ pub fn read_entries(
     depth: usize,
 ) -> Result<Entries, Invalid>
     ensures { Reads (λ entries value. AreEach (entry_in format) entries
-        (or_fault (Shape keys.Records) (elements_of value)))
+        (ok_or (elements_of value) (Shape keys.Records)))
         depth reader.old result reader.new }
 {
     if !enter_array(reader, depth)? {

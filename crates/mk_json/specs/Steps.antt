@@ -1,11 +1,6 @@
 -- Results in steps: the first fault is the result.
-use Rattle.std.specs.Prelude.{⊤, List, [], ◌∷◌, Bool, if◌then◌else◌, Option, Some, None, Result, Ok, Err}
+use Rattle.std.specs.Prelude.{⊤, List, [], ◌∷◌, Bool, if◌then◌else◌, Result, Ok, Err}
 pub use Rattle.mk_lines.specs.Results.{◌>>=◌}
-
--- what is there, or this fault
-abbrev pub or_fault : {A E : Type 0} → E → Option A → Result A E
-or_fault fault (Some x) = Ok x
-or_fault fault None = Err fault
 
 -- nothing where the test holds, or this fault
 abbrev pub unless_holds : {E : Type 0} → E → Bool → Result ⊤ E

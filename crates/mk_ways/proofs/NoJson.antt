@@ -1,12 +1,11 @@
 -- Which fault says that there is no JSON value.
 use Rattle.std.proofs.Common.{◌≡◌, Bool, true, false, List, [], ◌∷◌, map, Option, Some, None, Result, Ok, Err, refl, ap}
-use Rattle.std.specs.Prelude.{◌≢◌, is_some}
+use Rattle.std.specs.Prelude.{◌≢◌, is_some, ok_or}
 use Rattle.mk_lines.specs.Paths.{is_plain_path}
 use Rattle.serde_json.specs.Data.{Data}
 use Rattle.serde_json.specs.Find.{get, as_str, as_object}
 use Rattle.mk_json.specs.Kinds.{has_only}
 use Rattle.mk_json.specs.Reading.{json_of}
-use Rattle.mk_json.specs.Steps.{or_fault}
 use Rattle.mk_ways.specs.declared.fault.CertificateFault.{CertificateFault}
 use Rattle.mk_ways.specs.declared.fault.CertificateFault.TheVariants.{NotJson}
 use Rattle.mk_ways.specs.declared.key.Key.{Key}
@@ -84,10 +83,10 @@ certificate_other value =
     other_then (where_holds keys.Unknown (has_only (map spelling (keys.Format ∷ keys.Goals ∷ keys.Ways ∷ [])) value)) _ (other_held keys.Unknown (has_only (map spelling (keys.Format ∷ keys.Goals ∷ keys.Ways ∷ [])) value)) (λ _.
     other_then (each way_in entries) _ (other_each way_in entries way_other) (λ ways. other_ok _))))))
 
-no_value : (o : Option Data) → (or_fault NotJson o >>= certificate_in) ≡ Err NotJson → o ≡ None
+no_value : (o : Option Data) → (ok_or o NotJson >>= certificate_in) ≡ Err NotJson → o ≡ None
 no_value None e = refl
 no_value (Some value) e = absurd (certificate_other value e)
 
 pub only_text_without_value_is_no_json : OnlyTextWithoutValueIsNoJson
 unfolding certificate_from
-only_text_without_value_is_no_json bytes = (no_value (json_of bytes), λ e. ap (λ (o : Option Data). or_fault NotJson o >>= certificate_in) e)
+only_text_without_value_is_no_json bytes = (no_value (json_of bytes), λ e. ap (λ (o : Option Data). ok_or o NotJson >>= certificate_in) e)

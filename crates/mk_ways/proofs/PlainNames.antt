@@ -1,6 +1,6 @@
 -- What is read has plain paths for names.
 use Rattle.std.proofs.Common.{◌≡◌, ℕ, Bool, true, false, List, [], ◌∷◌, map, Result, Ok, Err, refl, ◌∙◌, subst}
-use Rattle.std.specs.Prelude.{◌&&◌, is_some}
+use Rattle.std.specs.Prelude.{◌&&◌, is_some, ok_or}
 use Rattle.std.specs.List.{list_all, flat_map}
 use Rattle.std.proofs.lemmas.List.Folds.{list_all-append}
 use Rattle.mk_lines.specs.Paths.{is_plain_path}
@@ -8,7 +8,6 @@ use Rattle.serde_json.specs.Data.{Data}
 use Rattle.serde_json.specs.Find.{get, as_str, as_object}
 use Rattle.mk_json.specs.Kinds.{has_only}
 use Rattle.mk_json.specs.Reading.{json_of}
-use Rattle.mk_json.specs.Steps.{or_fault}
 use Rattle.mk_ways.specs.declared.fault.CertificateFault.{CertificateFault}
 use Rattle.mk_ways.specs.declared.fault.CertificateFault.TheVariants.{NotJson}
 use Rattle.mk_ways.specs.declared.key.Key.{Key}
@@ -122,7 +121,7 @@ certificate_plain value =
 pub names_read_are_plain : NamesReadArePlain
 unfolding certificate_from
 names_read_are_plain bytes c e =
-    let known : Gave (λ x. ArePlain (names_of x)) (or_fault NotJson (json_of bytes) >>= certificate_in) =
-    after (λ _. Unit {0}) (λ x. ArePlain (names_of x)) (or_fault NotJson (json_of bytes)) certificate_in (anything (or_fault NotJson (json_of bytes))) (λ value _. certificate_plain value) in
+    let known : Gave (λ x. ArePlain (names_of x)) (ok_or (json_of bytes) NotJson >>= certificate_in) =
+    after (λ _. Unit {0}) (λ x. ArePlain (names_of x)) (ok_or (json_of bytes) NotJson) certificate_in (anything (ok_or (json_of bytes) NotJson)) (λ value _. certificate_plain value) in
     let Q : Result Certificate CertificateFault → Type 0 = λ r. Gave (λ x. ArePlain (names_of x)) r in
     subst Q e known

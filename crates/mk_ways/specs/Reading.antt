@@ -1,5 +1,5 @@
 -- A certificate, from its JSON value, or the first key at fault.
-use Rattle.std.specs.Prelude.{ℕ, ℤ, ⊤, Bool, false, List, [], ◌∷◌, map, pos, is_some, Option, None, Some, option_and_then, Result, Ok}
+use Rattle.std.specs.Prelude.{ℕ, ℤ, ⊤, Bool, false, List, [], ◌∷◌, map, pos, is_some, Option, None, Some, option_and_then, Result, Ok, ok_or}
 use Rattle.std.specs.Ordering.{int_eq}
 use Rattle.mk_lines.specs.Paths.{is_plain_path}
 use Rattle.serde_json.specs.Data.{Data}
@@ -11,7 +11,6 @@ use Rattle.mk_ways.specs.declared.fault.CertificateFault.{CertificateFault}
 use Rattle.mk_ways.specs.declared.fault.CertificateFault.TheVariants.{NotJson}
 use Rattle.mk_ways.specs.declared.key.Key.{Key}
 use Rattle.mk_ways.specs.declared.key.Key.TheVariants as keys
-use Rattle.mk_json.specs.Steps.{or_fault}
 use Rattle.mk_ways.specs.Certificate.{Way, Certificate}
 use Rattle.mk_ways.specs.Keys.{spelling}
 use Rattle.mk_ways.specs.Steps.{◌>>=◌, each, at_least, where_holds}
@@ -81,5 +80,5 @@ certificate_in value = do
 -- the certificate of bytes
 unfoldable pub certificate_from : List ℕ → Result Certificate CertificateFault
 certificate_from bytes = do
-  value ← or_fault NotJson (json_of bytes)
+  value ← ok_or (json_of bytes) NotJson
   certificate_in value

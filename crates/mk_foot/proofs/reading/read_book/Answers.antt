@@ -1,4 +1,5 @@
 use Rattle.std.proofs.Common.{◌≡◌, ℕ, List, Option, None, Some, Result, inl, inr, refl, ap, ◌∙◌}
+use Rattle.std.specs.Prelude.{ok_or}
 use Rattle.std.proofs.lemmas.Result.{err_from_is_err_and}
 use Rattle.serde_json.specs.Data.{Data}
 use Rattle.mk_json.specs.Reading.{json_of}
@@ -8,13 +9,13 @@ use Rattle.mk_foot.specs.Footprints.{footprints_in}
 use Rattle.mk_foot.specs.Parts.{Footprints}
 use Rattle.mk_foot.specs.PartsRead.{footprints_from, book_of_file}
 use Rattle.mk_foot.specs.Reading.{book_in, book_from}
-use Rattle.mk_foot.specs.Steps.{◌>>=◌, or_fault}
+use Rattle.mk_foot.specs.Steps.{◌>>=◌}
 use Rattle.mk_foot.proofs.Read.{moved}
 use Rattle.mk_foot.proofs.Steps.{Fails}
 use Rattle.mk_foot.proofs.reading.read_book.Goals as goal
 
 -- the book, from the parts of the file
-of_value : (goals : List (List ℕ)) (o : Option Data) → (or_fault NotJson o >>= book_in goals) ≡ ((or_fault NotJson o >>= footprints_in) >>= book_of_file goals)
+of_value : (goals : List (List ℕ)) (o : Option Data) → (ok_or o NotJson >>= book_in goals) ≡ ((ok_or o NotJson >>= footprints_in) >>= book_of_file goals)
 unfolding book_in
 of_value goals None = refl
 of_value goals (Some value) = refl
