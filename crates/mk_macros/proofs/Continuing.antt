@@ -4,7 +4,8 @@ use Rattle.std.proofs.lemmas.List.{append-nil}
 use Rattle.mk_macros.specs.declared.fault.MacroFault.{MacroFault}
 use Rattle.mk_macros.specs.declared.fault.MacroFault.TheVariants.{ValueTooLong, Memory}
 use Rattle.mk_macros.specs.declared.appending.Used.{Used}
-use Rattle.mk_macros.specs.Forms.{IsCut, IsPlain, texts_of, forms, dollar_form}
+use Rattle.mk_macros.specs.Forms.{IsCut, IsPlain, forms, dollar_form}
+use Rattle.mk_macros.specs.Views.{texts_of}
 use Rattle.mk_macros.specs.Expansion.{Expanded, Scope, Deeper, given, joined, in_order, expanded}
 use Rattle.mk_macros.specs.Appending.{Appends, below, form_within}
 use Rattle.mk_macros.proofs.InOrder.{run_done, run_over, form_done, form_failed, in_order_nil, expanded_is}

@@ -5,7 +5,8 @@ use Rattle.std.proofs.lemmas.Bool.Decides.{nat_tests}
 use Rattle.mk_macros.specs.declared.fault.MacroFault.{MacroFault}
 use Rattle.mk_macros.specs.declared.fault.MacroFault.TheVariants.{TooManyReferences, BadMacroName, Recursive, MemberMacro}
 use Rattle.mk_macros.specs.declared.locals.Part.{Part}
-use Rattle.mk_macros.specs.Names.{is_macro_name, is_among}
+use Rattle.mk_lines.specs.Names.{has_name}
+use Rattle.mk_macros.specs.Names.{is_macro_name}
 use Rattle.mk_macros.specs.Forms.{Form, Byte, Dollars, Reference, Endless, Lone, Parts, parts_of, forms}
 use Rattle.mk_macros.specs.Table.{Macro, macro_named}
 use Rattle.mk_macros.specs.Locals.{internal_of, internal_value}
@@ -47,8 +48,8 @@ module _ (scope : Scope) (deeper : Deeper) (going : List (List ℕ)) (low : (goi
   value_low : (references : ℕ) (name : List ℕ) (internal : Option (ℕ × Part)) (found : Expanded) → value_of scope deeper going references name internal ≡ Ok found → found.references ≤ 65536
   value_low references name None found e =
       let s = second (not (is_macro_name name)) BadMacroName _ found e in
-      let a = step_of (counted references) (λ count. cond (is_among going name) (Err (Recursive name)) (macro_value deeper going count name (macro_named scope.table name))) found s in
-      macro_low a.0 name (macro_named scope.table name) found (counted_low references a.0 a.1) (second (is_among going name) (Recursive name) _ found a.2)
+      let a = step_of (counted references) (λ count. cond (has_name going name) (Err (Recursive name)) (macro_value deeper going count name (macro_named scope.table name))) found s in
+      macro_low a.0 name (macro_named scope.table name) found (counted_low references a.0 a.1) (second (has_name going name) (Recursive name) _ found a.2)
   value_low references name (Some internal) found e =
       let s = second (eqb internal.0 37) MemberMacro _ found e in
       let a = step_of (counted references) (λ count. Ok (record { text = internal_value scope.recipe internal.0 internal.1; references = count; varying = eqb internal.0 63 })) found s in

@@ -10,7 +10,8 @@ use Rattle.std.specs.declared.alloc.Global.{Global}
 use Rattle.std.proofs.lemmas.Slice.Eq.{bytes_eq-Decides}
 use Rattle.indexmap.specs.IndexMap.{insert_entry}
 use Rattle.mk_macros.specs.declared.table.Macro as code
-use Rattle.mk_macros.specs.Table.{Macro, is_called, macro_of, entry_view, with_macro, with_text_behind, macro_named}
+use Rattle.mk_macros.specs.Table.{Macro, is_called, with_macro, with_text_behind, macro_named}
+use Rattle.mk_macros.specs.Views.{macro_of, entry_view}
 use Rattle.std.specs.Prelude.{map}
 
 -- keys are told apart by their bytes

@@ -1,6 +1,7 @@
 -- What the functions that expand put into their buffers.
 use Rattle.std.specs.Prelude.{◌≡◌, ◌⊎◌, ◌≤◌, ◌<◌, ℕ, zero, suc, ◌||◌, List, [], ◌∷◌, ◌++◌, length, nat_lt, Option, Result, Ok, Err, if◌then◌else◌}
 use Rattle.std.specs.Cow.{cow_slice_items}
+use Rattle.mk_lines.specs.Results.{Fails}
 use Rattle.mk_macros.specs.declared.fault.MacroFault.{MacroFault}
 use Rattle.mk_macros.specs.declared.fault.MacroFault.TheVariants.{ValueTooLong, Memory}
 use Rattle.mk_macros.specs.declared.appending.Used.{Used}
@@ -75,4 +76,4 @@ abbrev pub Appends : List ℕ → List ℕ → Result Used MacroFault → Result
 Appends old new (Ok used) defined =
     (text : List ℕ) × (new ≡ old ++ text) ×
     (defined ≡ Ok (record { text = text; references = used.references; varying = used.varying }))
-Appends old new (Err fault) defined = (fault ≡ Memory) ⊎ (defined ≡ Err fault)
+Appends old new (Err fault) defined = Fails Memory fault defined

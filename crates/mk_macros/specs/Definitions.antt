@@ -1,5 +1,5 @@
 -- Definitions of macros, by the lines of a makefile and by operands.
-use Rattle.std.specs.Prelude.{ℕ, ◌==◌, Bool, true, false, not, List, [], ◌∷◌, ◌++◌, length, reverse, nat_lt, Option, None, Some, Result, Ok, Err, if◌then◌else◌}
+use Rattle.std.specs.Prelude.{ℕ, ◌==◌, Bool, true, false, not, List, [], ◌∷◌, ◌++◌, codes, length, reverse, nat_lt, Option, None, Some, Result, Ok, Err, if◌then◌else◌}
 use Rattle.std.specs.List.{flat_map, list_any, before_first, after_first}
 use Rattle.mk_lines.specs.Bytes.{is_byte, trimmed}
 use Rattle.mk_macros.specs.Limits.{max_value}
@@ -15,7 +15,7 @@ use Rattle.mk_macros.specs.Steps.{◌>>=◌}
 
 -- each `$` doubled
 abbrev pub doubled_byte : ℕ → List ℕ
-doubled_byte b = if b == 36 then 36 ∷ 36 ∷ [] else b ∷ []
+doubled_byte b = if b == 36 then codes "$$" else b ∷ []
 
 abbrev pub doubled : List ℕ → List ℕ
 doubled text = flat_map doubled_byte text
@@ -92,8 +92,8 @@ without_blanks text = reverse (trimmed (reverse (trimmed text)))
 -- first `=`
 abbrev pub operator_of : List ℕ → Op × List ℕ
 operator_of before =
-    if ends_with (58 ∷ 58 ∷ 58 ∷ []) before then (Double, without_end 3 before)
-    else (if ends_with (58 ∷ 58 ∷ []) before then (Now, without_end 2 before)
+    if ends_with (codes ":::") before then (Double, without_end 3 before)
+    else (if ends_with (codes "::") before then (Now, without_end 2 before)
     else (Delay, before))
 
 abbrev pub operand_set : List Macro → Op × List ℕ → List ℕ → Result (List Macro) MacroFault

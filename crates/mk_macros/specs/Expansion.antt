@@ -1,12 +1,11 @@
 -- The expansion of a text.
 use Rattle.std.specs.Prelude.{ℕ, zero, suc, ◌+◌, ◌==◌, Bool, false, not, ◌||◌, List, [], ◌∷◌, ◌++◌, length, nat_lt, Option, None, Some, Result, Ok, Err, if◌then◌else◌}
-use Rattle.std.specs.Cow.{cow_slice_items}
+use Rattle.mk_lines.specs.Names.{has_name}
 use Rattle.mk_macros.specs.Limits.{max_levels, max_references, max_value}
-use Rattle.mk_macros.specs.declared.expansion.Expansion as code
 use Rattle.mk_macros.specs.declared.fault.MacroFault.{MacroFault}
 use Rattle.mk_macros.specs.declared.fault.MacroFault.TheVariants.{BadMacroName, Recursive, Unclosed, TooManyReferences, ValueTooLong, LoneDollar, MemberMacro}
 use Rattle.mk_macros.specs.declared.locals.Part.{Part}
-use Rattle.mk_macros.specs.Names.{is_macro_name, is_among}
+use Rattle.mk_macros.specs.Names.{is_macro_name}
 use Rattle.mk_macros.specs.Forms.{Form, Byte, Dollars, Reference, Endless, Lone, Parts, parts_of, forms}
 use Rattle.mk_macros.specs.Substitution.{substituted}
 use Rattle.mk_macros.specs.Locals.{Recipe, internal_of, internal_value}
@@ -55,7 +54,7 @@ abbrev pub value_of : Scope → Deeper → List (List ℕ) → ℕ → List ℕ 
 value_of scope deeper going references name None =
     if not (is_macro_name name) then Err BadMacroName
     else (counted references >>= λ count.
-    if is_among going name then Err (Recursive name)
+    if has_name going name then Err (Recursive name)
     else macro_value deeper going count name (macro_named scope.table name))
 value_of scope deeper going references name (Some internal) =
     if internal.0 == 37 then Err MemberMacro
@@ -154,7 +153,3 @@ expansion table recipe text =
 -- the text of an expansion, and whether it is varying
 abbrev pub told : Result Expanded MacroFault → Result (List ℕ × Bool) MacroFault
 told result = result >>= λ expanded. Ok (expanded.text, expanded.varying)
-
--- an expansion of the code
-abbrev pub expansion_view : code.Expansion → List ℕ × Bool
-expansion_view found = (cow_slice_items found.text, found.varying)

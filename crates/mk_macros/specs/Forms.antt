@@ -1,14 +1,8 @@
 -- A text as a list of forms.
-use Rattle.std.specs.Prelude.{◌≡◌, ℕ, zero, suc, ◌==◌, Bool, false, ◌||◌, List, [], ◌∷◌, ◌++◌, length, take, drop, Option, None, Some, Result, Ok, Err, if◌then◌else◌}
-use Rattle.std.specs.Borrow.{Bor}
-use Rattle.std.specs.Option.{option_map}
+use Rattle.std.specs.Prelude.{◌≡◌, ℕ, zero, suc, ◌==◌, Bool, false, ◌||◌, List, [], ◌∷◌, ◌++◌, codes, length, take, drop, Option, None, Some, Result, Ok, Err, if◌then◌else◌}
 use Rattle.std.specs.List.{list_any}
 use Rattle.mk_lines.specs.Bytes.{is_byte}
 use Rattle.mk_lines.specs.References.{first_outside, is_one_of}
-use Rattle.mk_macros.specs.declared.forms.Form as code
-use Rattle.mk_macros.specs.declared.forms.Form.TheVariants as variant
-use Rattle.mk_macros.specs.declared.forms.Parts as parts
-use Rattle.mk_macros.specs.declared.forms.Ends as ends
 use Rattle.mk_macros.specs.declared.fault.MacroFault.{MacroFault}
 use Rattle.mk_macros.specs.declared.fault.MacroFault.TheVariants.{BadMacroName}
 use Rattle.mk_macros.specs.Names.{is_name_byte}
@@ -24,7 +18,7 @@ pub data Form : Type 0 where
 
 -- the bytes @ * < ^ + ? %
 abbrev pub internal_bytes : List ℕ
-internal_bytes = 64 ∷ 42 ∷ 60 ∷ 94 ∷ 43 ∷ 63 ∷ 37 ∷ []
+internal_bytes = codes "@*<^+?%"
 
 abbrev pub is_internal : ℕ → Bool
 is_internal b = is_one_of internal_bytes b
@@ -93,26 +87,3 @@ IsCut text run (Some behind) = (text ≡ run ++ 36 ∷ behind) × IsPlain run
 abbrev pub round : List ℕ → Option ℕ → Option (List ℕ × List ℕ)
 round text None = None
 round text (Some at) = Some (take at text, drop (suc at) text)
-
--- two texts of the code
-abbrev pub pair_view : Bor (List ℕ) × Bor (List ℕ) → List ℕ × List ℕ
-pair_view texts = (texts.0.now, texts.1.now)
-
--- a text of the code, if there is one
-abbrev pub texts_of : Option (Bor (List ℕ)) → Option (List ℕ)
-texts_of text = option_map (λ found. found.now) text
-
--- a form of the code
-abbrev pub form_view : code.Form → Form
-form_view variant.Dollars = Dollars
-form_view (variant.Reference inside) = Reference inside.now
-form_view variant.Endless = Endless
-form_view variant.Lone = Lone
-
--- the two texts of a substitution of the code
-abbrev pub ends_view : ends.Ends → List ℕ × List ℕ
-ends_view texts = (texts.old.now, texts.new.now)
-
--- parts of the code
-abbrev pub parts_view : parts.Parts → Parts
-parts_view inside = record { name = inside.name.now; ends = option_map ends_view inside.ends }

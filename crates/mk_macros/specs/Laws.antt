@@ -1,5 +1,5 @@
 -- Laws of expansion and of definitions.
-use Rattle.std.specs.Prelude.{◌≡◌, ◌≤◌, ℕ, ◌+◌, ◌==◌, Bool, true, false, not, List, [], ◌∷◌, ◌++◌, length, Option, None, Some, Result, Ok}
+use Rattle.std.specs.Prelude.{◌≡◌, ◌≤◌, ℕ, ◌+◌, ◌==◌, Bool, true, false, not, List, [], ◌∷◌, ◌++◌, codes, length, Option, None, Some, Result, Ok}
 use Rattle.std.specs.List.{list_all, before_first}
 use Rattle.std.specs.Str.{bytes_eq}
 use Rattle.mk_lines.specs.Bytes.{is_byte}
@@ -62,7 +62,7 @@ DoubledTextsComeBack =
 
 -- no byte that ends or parts what stands inside a reference, and no `$`
 abbrev pub is_inert : ℕ → Bool
-is_inert b = list_all (λ other. not (other == b)) (36 ∷ 41 ∷ 58 ∷ 61 ∷ [])
+is_inert b = list_all (λ other. not (other == b)) (codes "$):=")
 
 -- `$(N:s1=s2)` is the words of the value of `$(N)`, each replaced or kept, joined by one space.
 abbrev pub SubstitutionsReplaceWords : Type 0

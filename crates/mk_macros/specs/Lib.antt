@@ -6,6 +6,7 @@ pub mod Locals
 pub mod Table
 pub mod Steps
 pub mod Expansion
+pub mod Views
 pub mod Appending
 pub mod Definitions
 pub mod Laws

@@ -1,7 +1,6 @@
 -- Names of macros.
 use Rattle.std.specs.Prelude.{ℕ, ◌==◌, Bool, not, ◌&&◌, ◌||◌, List, length, nat_le}
-use Rattle.std.specs.List.{list_all, list_any}
-use Rattle.std.specs.Str.{bytes_eq}
+use Rattle.std.specs.List.{list_all}
 
 -- A-Z a-z 0-9 . _ -
 abbrev pub is_name_byte : ℕ → Bool
@@ -13,7 +12,3 @@ is_name_byte b =
 -- one or more of these bytes
 abbrev pub is_macro_name : List ℕ → Bool
 is_macro_name name = not (length name == 0) && list_all is_name_byte name
-
--- the name is among the names
-abbrev pub is_among : List (List ℕ) → List ℕ → Bool
-is_among names name = list_any (λ other. bytes_eq name other) names

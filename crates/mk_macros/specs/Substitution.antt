@@ -2,14 +2,11 @@
 use Rattle.std.specs.Prelude.{ℕ, ◌+◌, ◌-◌, Bool, ◌&&◌, List, ◌++◌, length, map, take, drop, nat_le, if◌then◌else◌}
 use Rattle.std.specs.List.{list_any, before_first, after_first, join_with_byte}
 use Rattle.std.specs.Str.{bytes_eq}
-use Rattle.mk_lines.specs.Bytes.{is_byte}
+use Rattle.mk_lines.specs.Bytes.{is_byte, begins_with}
 use Rattle.mk_lines.specs.Words.{words}
 
 abbrev pub is_percent : ℕ → Bool
 is_percent b = is_byte 37 b
-
-abbrev pub begins_with : List ℕ → List ℕ → Bool
-begins_with front text = bytes_eq (take (length front) text) front
 
 -- the text without so many bytes of its end
 abbrev pub without_end : ℕ → List ℕ → List ℕ

@@ -1,8 +1,6 @@
 -- Macro tables.
-use Rattle.std.specs.Prelude.{ℕ, Bool, List, [], ◌∷◌, ◌++◌, Vec, Option, None, Some, find, if◌then◌else◌}
+use Rattle.std.specs.Prelude.{ℕ, Bool, List, [], ◌∷◌, ◌++◌, Option, None, Some, find, if◌then◌else◌}
 use Rattle.std.specs.Str.{bytes_eq}
-use Rattle.std.specs.declared.alloc.Global.{Global}
-use Rattle.mk_macros.specs.declared.table.Macro as code
 
 -- a macro: its name, its text, whether the text is its value as it stands (immediate) or is
 -- expanded at each use (delayed), and whether an operand has fixed it
@@ -30,17 +28,3 @@ abbrev pub with_text_behind : List Macro → List ℕ → Option Macro → List 
 with_text_behind table more None = table
 with_text_behind table more (Some macro) =
     with_macro table (record macro { text = macro.text ++ 32 ∷ more })
-
--- a macro of the code, of this name
-abbrev pub macro_of : List ℕ → code.Macro → Macro
-macro_of name macro =
-    record {
-      name = name;
-      text = macro.text.items;
-      immediate = macro.immediate;
-      fixed = macro.fixed;
-    }
-
--- an entry of the code's table
-abbrev pub entry_view : Vec ℕ Global × code.Macro → Macro
-entry_view entry = macro_of entry.0.items entry.1

@@ -5,7 +5,7 @@ ghost use Rattle.mk_macros.specs.Appending.{Appends, below, names_in, piece_view
 ghost use Rattle.mk_macros.specs.Expansion.{expanded, value_of, macro_value, refused};
 ghost use Rattle.mk_macros.specs.Locals.{internal_of};
 ghost use Rattle.mk_macros.specs.Table.{macro_named};
-ghost use Rattle.mk_macros.specs.Forms.{form_view, ends_view};
+ghost use Rattle.mk_macros.specs.Views.{form_view, ends_view};
 ghost use Rattle.mk_macros.specs.Steps.{Gives};
 
 use crate::fault::MacroFault;

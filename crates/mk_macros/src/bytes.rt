@@ -3,7 +3,8 @@
 ghost use Rattle.std.specs.Prelude.{◌≡◌, ◌≤◌, length};
 ghost use Rattle.std.specs.List.{position_or_len};
 ghost use Rattle.mk_lines.specs.Bytes.{is_byte};
-ghost use Rattle.mk_macros.specs.Substitution.{begins_with, ends_with};
+ghost use Rattle.mk_lines.specs.Bytes.{begins_with};
+ghost use Rattle.mk_macros.specs.Substitution.{ends_with};
 
 /// Where a byte first stands in a text, or the text's length where it doesn't.
 pub fn first_place(byte: u8, text: &[u8]) -> usize

@@ -5,7 +5,8 @@ ghost use Rattle.mk_macros.specs.declared.op.Op.TheVariants.{Now, Double};
 ghost use Rattle.mk_macros.specs.Definitions.{doubled, stored, with_more, if_unset, set, is_fixed, defined, operator_of, with_operand, value_text, more_stored};
 ghost use Rattle.mk_macros.specs.Expansion.{expansion};
 ghost use Rattle.mk_macros.specs.Steps.{Gives};
-ghost use Rattle.mk_macros.specs.Table.{macro_named, macro_of};
+ghost use Rattle.mk_macros.specs.Table.{macro_named};
+ghost use Rattle.mk_macros.specs.Views.{macro_of};
 
 use crate::blanks::without_blanks;
 use crate::bytes::{ends_with, first_place};

@@ -4,7 +4,8 @@ ghost use Rattle.std.specs.Prelude.{◌≡◌, ◌<◌, length, take, drop, suc,
 ghost use Rattle.std.specs.Option.{option_map};
 ghost use Rattle.mk_lines.specs.Bytes.{is_byte};
 ghost use Rattle.mk_lines.specs.References.{first_outside};
-ghost use Rattle.mk_macros.specs.Forms.{IsCut, closed_at, dollar_form, form_view, pair_view, parts_of, parts_view, round, texts_of};
+ghost use Rattle.mk_macros.specs.Forms.{IsCut, closed_at, dollar_form, parts_of, round};
+ghost use Rattle.mk_macros.specs.Views.{form_view, pair_view, parts_view, texts_of};
 ghost use Rattle.mk_macros.specs.Steps.{Gives};
 
 use crate::bytes::first_place;

@@ -1,7 +1,7 @@
 //! The names of the macros whose values are being expanded.
 
 ghost use Rattle.std.specs.Prelude.{◌≡◌};
-ghost use Rattle.mk_macros.specs.Names.{is_among};
+ghost use Rattle.mk_lines.specs.Names.{has_name};
 ghost use Rattle.mk_macros.specs.Appending.{names_in};
 
 /// The names of the macros whose values are being expanded, the innermost first.
@@ -16,7 +16,7 @@ pub enum Going<'a> {
 impl<'a> Going<'a> {
     /// Whether a name is in progress.
     pub fn has(&self, name: &[u8]) -> bool
-        ensures { result ≡ is_among (names_in self.now) name.now }
+        ensures { result ≡ has_name (names_in self.now) name.now }
     {
         match self {
             Going::Nothing => false,

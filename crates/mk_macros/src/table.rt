@@ -2,7 +2,8 @@
 
 ghost use Rattle.std.specs.Prelude.{◌≡◌, [], OnOk, OnErr};
 ghost use Rattle.std.specs.Option.{option_map};
-ghost use Rattle.mk_macros.specs.Table.{macro_named, with_macro, with_text_behind, macro_of};
+ghost use Rattle.mk_macros.specs.Table.{macro_named, with_macro, with_text_behind};
+ghost use Rattle.mk_macros.specs.Views.{macro_of};
 
 use indexmap::IndexMap;
 use std::alloc::{AllocError, Global};
@@ -30,7 +31,8 @@ pub struct MacroTable {
 
 impl Model for MacroTable {
     ghost use Rattle.std.specs.Prelude.{List, map};
-    ghost use Rattle.mk_macros.specs.Table.{Macro, entry_view};
+    ghost use Rattle.mk_macros.specs.Table.{Macro};
+    ghost use Rattle.mk_macros.specs.Views.{entry_view};
 
     ghost Value = { List Macro };
 

@@ -3,7 +3,8 @@ use Rattle.std.proofs.Common.{length-append}
 use Rattle.std.proofs.lemmas.Result.{err_from_is_err_and}
 use Rattle.mk_macros.specs.declared.fault.MacroFault.{MacroFault}
 use Rattle.mk_macros.specs.declared.appending.Used.{Used}
-use Rattle.mk_macros.specs.Forms.{Form, form_view, dollar_form}
+use Rattle.mk_macros.specs.Forms.{Form, dollar_form}
+use Rattle.mk_macros.specs.Views.{form_view}
 use Rattle.mk_macros.specs.Appending.{Appends, below, names_in, scope_view}
 use Rattle.mk_macros.specs.Expansion.{expanded}
 use Rattle.mk_macros.proofs.FormLists.{dollar_le}

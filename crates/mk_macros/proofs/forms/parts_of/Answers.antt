@@ -2,7 +2,8 @@ use Rattle.std.proofs.Common.{sym, ap, inr, ◌∙◌}
 use Rattle.std.specs.Option.{option_map}
 use Rattle.mk_lines.specs.Bytes.{is_byte}
 use Rattle.mk_lines.specs.References.{first_outside}
-use Rattle.mk_macros.specs.Forms.{pair_view, parts_of}
+use Rattle.mk_macros.specs.Forms.{parts_of}
+use Rattle.mk_macros.specs.Views.{pair_view}
 use Rattle.mk_macros.proofs.Cuts.{no_colon, no_equals, with_both}
 use Rattle.mk_macros.proofs.forms.parts_of.Goals as goal
 

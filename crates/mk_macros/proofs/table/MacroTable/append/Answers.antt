@@ -1,7 +1,7 @@
 use Rattle.std.proofs.Common.{◌++◌, ◌∷◌, List, [], ℕ, ap, sym, ◌∙◌, Result, Ok, Err, append_assoc}
 use Rattle.std.specs.Prelude.{OnErr}
 use Rattle.std.specs.Option.{option_copied_mut}
-use Rattle.mk_macros.specs.Table.{macro_of}
+use Rattle.mk_macros.specs.Views.{macro_of}
 use Rattle.mk_macros.proofs.Tables.{none_written, written_same, written_more, text_same}
 use Rattle.mk_macros.proofs.table.MacroTable.append.Goals as goal
 
