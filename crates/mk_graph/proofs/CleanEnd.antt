@@ -12,7 +12,7 @@ use Rattle.mk_graph.specs.World.{Disk, content, changed, outcome}
 use Rattle.mk_graph.specs.Turns.{HasAll, InOpenGroup, Wanted, goal as wanted_goal, onward as wanted_onward, MayTurn, Turns, IsPart}
 use Rattle.mk_graph.specs.Clean.{Contents, given_contents, put_all, run_clean, make_clean, make_all_clean, ReachedFrom, IsBuilt}
 use Rattle.mk_graph.specs.Right.{AreSound, HaveNoRace}
-use Rattle.mk_graph.proofs.Members.{Has-append_left, Has-append_right}
+use Rattle.mk_graph.specs.Lists.{has_left, has_right}
 use Rattle.mk_graph.proofs.Changes.{cases_name, changed_here, changed_there}
 use Rattle.mk_graph.proofs.Turning.{HasAll-has, turn_has_prerequisites}
 use Rattle.mk_graph.proofs.SerialTurns.{serial_turns, order_back, goal_is_chosen}
@@ -33,8 +33,8 @@ cases_among (k ∷ files) f = ⊎_elim (λ here. inl (inl here)) (λ differ. ⊎
 -- what stands in an open group is a direct prerequisite
 pub open_is_needed : (groups : List (List ℕ)) (done : List ℕ) (n : ℕ) → InOpenGroup done groups n → Has (flat_map (λ group. group) groups) n
 open_is_needed [] done n h = absurd h
-open_is_needed (group ∷ groups) done n (inl here) = Has-append_left group (flat_map (λ group. group) groups) n here
-open_is_needed (group ∷ groups) done n (inr there) = Has-append_right group (flat_map (λ group. group) groups) n (open_is_needed groups done n there.1)
+open_is_needed (group ∷ groups) done n (inl here) = has_left group (flat_map (λ group. group) groups) n here
+open_is_needed (group ∷ groups) done n (inr there) = has_right group (flat_map (λ group. group) groups) n (open_is_needed groups done n there.1)
 
 -- what files hold can be put into them, and then agrees with the disk where it did or where it was put
 pub put_all_agrees : (d : Disk) (files : List FileName) (cs : List ℕ) (at : Contents) → map (content d) files ≡ map (λ c. Some c) cs → (end : Contents) × (put_all at files cs ≡ Some end) × ((f : FileName) → (at f ≡ content d f) ⊎ Has files f → end f ≡ content d f)

@@ -8,7 +8,8 @@ use Rattle.mk_graph.specs.Serial.{serial_order}
 use Rattle.mk_graph.specs.Turns.{HasAll, InOpenGroup, Wanted, MayTurn, Turns, Before}
 use Rattle.mk_graph.specs.Without.{AreFree}
 use Rattle.mk_graph.specs.BuildLaws.{NotBeforeIsShown}
-use Rattle.mk_graph.proofs.Members.{cases_Has, Has-append_left, Has-append_right, Has-append_cases}
+use Rattle.mk_graph.specs.Lists.{has_left, has_right, has_cases}
+use Rattle.mk_graph.proofs.Members.{cases_Has}
 use Rattle.mk_graph.proofs.AllButOne.{is_before, is_not_before, turn_comes, wanted_part}
 use Rattle.mk_graph.proofs.Rounds.{AreFreeUpTo, free_joins, free_stays, all_free, AreWantedFrom, goals_wanted, opens_this, passes_this, all_wanted}
 use Rattle.mk_graph.proofs.BareBuilds.{begins_last}
@@ -24,11 +25,11 @@ opened : (done : List ℕ) (groups : List (List ℕ)) → (ms : List ℕ) × ((n
 opened done [] = ([], λ n. (λ h. h, λ h. h))
 opened done (group ∷ groups) =
     let rest = opened done groups in
-    ⊎_elim (λ all. (group ++ rest.0, λ n. (λ h. ⊎_elim (λ here. inl here) (λ later. inr (all, (rest.1 n).0 later)) (Has-append_cases group rest.0 n h), λ h. ⊎_elim (λ here. Has-append_left group rest.0 n here) (λ later. Has-append_right group rest.0 n ((rest.1 n).1 later.1)) h))) (λ out. (group, λ n. (λ h. inl h, λ h. ⊎_elim (λ here. here) (λ later. absurd (out later.0)) h))) (cases_HasAll done group)
+    ⊎_elim (λ all. (group ++ rest.0, λ n. (λ h. ⊎_elim (λ here. inl here) (λ later. inr (all, (rest.1 n).0 later)) (has_cases group rest.0 n h), λ h. ⊎_elim (λ here. has_left group rest.0 n here) (λ later. has_right group rest.0 n ((rest.1 n).1 later.1)) h))) (λ out. (group, λ n. (λ h. inl h, λ h. ⊎_elim (λ here. here) (λ later. absurd (out later.0)) h))) (cases_HasAll done group)
 
 -- the elements of two lists
 joins_list : (ms ns : List ℕ) (n : ℕ) → Has (ms ++ ns) n ↔ (Has ms n ⊎ Has ns n)
-joins_list ms ns n = (Has-append_cases ms ns n, λ h. ⊎_elim (Has-append_left ms ns n) (Has-append_right ms ns n) h)
+joins_list ms ns n = (has_cases ms ns n, λ h. ⊎_elim (has_left ms ns n) (has_right ms ns n) h)
 
 -- one more element
 joins_one : (m : ℕ) (ns : List ℕ) (n : ℕ) → Has (m ∷ ns) n ↔ ((n ≡ m) ⊎ Has ns n)

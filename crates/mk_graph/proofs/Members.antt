@@ -5,6 +5,7 @@ use Rattle.std.proofs.lemmas.Bool.{false≢true, or_cases, or_left, or_right, ca
 use Rattle.std.proofs.lemmas.Map.Steps.{length-le_from_distinct_below}
 use mathlib.Core.List.{reverse-cons}
 use Rattle.mk_graph.specs.Membership.{Has, has, IsDistinct}
+use Rattle.mk_graph.specs.Lists.{has_left, has_right, has_cases}
 
 -- the test says yes only of what stands in the list
 pub Has-from_has : (ns : List ℕ) (n : ℕ) → has ns n ≡ true → Has ns n
@@ -29,36 +30,17 @@ not-from_has ns n e h = false≢true (sym e ∙ has-from_Has ns n h)
 pub cases_Has : (ns : List ℕ) (n : ℕ) → Has ns n ⊎ (¬ (Has ns n))
 cases_Has ns n = ⊎_elim (λ e. inl (Has-from_has ns n e)) (λ e. inr (not-from_has ns n e)) (cases_Bool (has ns n))
 
--- in two joined lists
-module _ {A : Type 0} where
-  -- what stands in the first list
-  pub Has-append_left : (xs ys : List A) (x : A) → Has xs x → Has (xs ++ ys) x
-  Has-append_left [] ys x h = absurd h
-  Has-append_left (y ∷ xs) ys x (inl here) = inl here
-  Has-append_left (y ∷ xs) ys x (inr there) = inr (Has-append_left xs ys x there)
-
-  -- what stands in the second list
-  pub Has-append_right : (xs ys : List A) (x : A) → Has ys x → Has (xs ++ ys) x
-  Has-append_right [] ys x h = h
-  Has-append_right (y ∷ xs) ys x h = inr (Has-append_right xs ys x h)
-
-  -- it stands in one of the two
-  pub Has-append_cases : (xs ys : List A) (x : A) → Has (xs ++ ys) x → Has xs x ⊎ Has ys x
-  Has-append_cases [] ys x h = inr h
-  Has-append_cases (y ∷ xs) ys x (inl here) = inl (inl here)
-  Has-append_cases (y ∷ xs) ys x (inr there) = ⊎_elim (λ h. inl (inr h)) (λ h. inr h) (Has-append_cases xs ys x there)
-
 -- in a reversed list
 pub Has-reverse : (xs : List ℕ) (n : ℕ) → Has xs n → Has (reverse xs) n
 Has-reverse [] n h = absurd h
-Has-reverse (x ∷ xs) n (inl here) = subst (λ (l : List ℕ). Has l n) (sym (reverse-cons x xs)) (Has-append_right (reverse xs) (x ∷ []) n (inl here))
-Has-reverse (x ∷ xs) n (inr there) = subst (λ (l : List ℕ). Has l n) (sym (reverse-cons x xs)) (Has-append_left (reverse xs) (x ∷ []) n (Has-reverse xs n there))
+Has-reverse (x ∷ xs) n (inl here) = subst (λ (l : List ℕ). Has l n) (sym (reverse-cons x xs)) (has_right (reverse xs) (x ∷ []) n (inl here))
+Has-reverse (x ∷ xs) n (inr there) = subst (λ (l : List ℕ). Has l n) (sym (reverse-cons x xs)) (has_left (reverse xs) (x ∷ []) n (Has-reverse xs n there))
 
 -- and the other way round
 pub Has-from_reverse : (xs : List ℕ) (n : ℕ) → Has (reverse xs) n → Has xs n
 Has-from_reverse [] n h = absurd h
 Has-from_reverse (x ∷ xs) n h =
-    elim (Has-append_cases (reverse xs) (x ∷ []) n (subst (λ (l : List ℕ). Has l n) (reverse-cons x xs) h)) [ inl before ↦ inr (Has-from_reverse xs n before) | inr (inl last) ↦ inl last | inr (inr none) ↦ absurd none ]
+    elim (has_cases (reverse xs) (x ∷ []) n (subst (λ (l : List ℕ). Has l n) (reverse-cons x xs) h)) [ inl before ↦ inr (Has-from_reverse xs n before) | inr (inl last) ↦ inl last | inr (inr none) ↦ absurd none ]
 
 -- the test of a reversed list
 pub has-reverse : (xs : List ℕ) (n : ℕ) → has (reverse xs) n ≡ has xs n
@@ -68,7 +50,7 @@ has-reverse xs n =
 -- a list without repeats and one more element behind it
 pub IsDistinct-push : (xs : List ℕ) (n : ℕ) → ¬ (Has xs n) → IsDistinct xs → IsDistinct (xs ++ n ∷ [])
 IsDistinct-push [] n out d = (λ h. h, tt)
-IsDistinct-push (x ∷ xs) n out d = (λ h. elim (Has-append_cases xs (n ∷ []) x h) [ inl before ↦ d.0 before | inr (inl last) ↦ out (inl (sym last)) | inr (inr none) ↦ none ], IsDistinct-push xs n (λ h. out (inr h)) d.1)
+IsDistinct-push (x ∷ xs) n out d = (λ h. elim (has_cases xs (n ∷ []) x h) [ inl before ↦ d.0 before | inr (inl last) ↦ out (inl (sym last)) | inr (inr none) ↦ none ], IsDistinct-push xs n (λ h. out (inr h)) d.1)
 
 -- a reversed list without repeats has none
 pub IsDistinct-reverse : (xs : List ℕ) → IsDistinct xs → IsDistinct (reverse xs)

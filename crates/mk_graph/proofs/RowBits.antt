@@ -16,7 +16,7 @@ use Rattle.mk_graph.specs.Membership.{Has}
 use Rattle.mk_graph.specs.Without.{joined}
 use Rattle.mk_graph.specs.Bits.{is_set}
 use Rattle.mk_graph.specs.BitRows.{row, Lacks, RowLacks, Stays, IsOpenTo}
-use Rattle.mk_graph.proofs.Members.{Has-append_left, Has-append_right, Has-append_cases}
+use Rattle.mk_graph.specs.Lists.{has_left, has_right, has_cases}
 use Rattle.mk_graph.proofs.Loops.{lists, lists_more}
 use Rattle.mk_graph.proofs.Sets.{bit_of, bit_beyond, with_bit, set_there, kept_elsewhere}
 
@@ -194,7 +194,7 @@ module _ (groups : List (Vec ℕ Global)) (i : ℕ) (group : Vec ℕ Global) (nu
   each_group P =
       let e = lists_more groups i group numbers low is value in
       let rest : List ℕ = joined (lists (drop (i + 1) groups)) in
-      (λ all. (λ n h. all n (subst (λ (l : List (List ℕ)). Has (joined l) n) (sym e) (Has-append_left numbers rest n h)), λ n h. all n (subst (λ (l : List (List ℕ)). Has (joined l) n) (sym e) (Has-append_right numbers rest n h))), λ both n h. ⊎_elim (both.0 n) (both.1 n) (Has-append_cases numbers rest n (subst (λ (l : List (List ℕ)). Has (joined l) n) e h)))
+      (λ all. (λ n h. all n (subst (λ (l : List (List ℕ)). Has (joined l) n) (sym e) (has_left numbers rest n h)), λ n h. all n (subst (λ (l : List (List ℕ)). Has (joined l) n) (sym e) (has_right numbers rest n h))), λ both n h. ⊎_elim (both.0 n) (both.1 n) (has_cases numbers rest n (subst (λ (l : List (List ℕ)). Has (joined l) n) e h)))
 
   module _ (stride : ℕ) (words : List ℕ) where
     -- the rows of a group more were united

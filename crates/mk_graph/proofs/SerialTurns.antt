@@ -8,7 +8,8 @@ use Rattle.mk_graph.specs.Graph.{Graph, node, prerequisites, HasNoCycle}
 use Rattle.mk_graph.specs.Serial.{visit, visits, serial_from}
 use Rattle.mk_graph.specs.Turns.{HasAll, InOpenGroup, Wanted, goal, onward, MayTurn, Turns}
 use Rattle.mk_graph.specs.Clean.{order_of}
-use Rattle.mk_graph.proofs.Members.{Has-from_has, not-from_has, Has-append_right}
+use Rattle.mk_graph.specs.Lists.{has_right}
+use Rattle.mk_graph.proofs.Members.{Has-from_has, not-from_has}
 use Rattle.mk_graph.proofs.SerialOrder.{visit_old, visit_new, cut_height, cut_low, cut_falls}
 use Rattle.mk_graph.proofs.Turning.{HasAll-from, Wanted-grow}
 
@@ -101,7 +102,7 @@ module _ (g : Graph) (is : HasNoCycle g) (goals : List ℕ) where
 
   -- what stands before a place in a list stands in it
   at_place : (ns front back : List ℕ) (n : ℕ) → ns ≡ front ++ n ∷ back → Has ns n
-  at_place ns front back n e = subst (λ (l : List ℕ). Has l n) (sym e) (Has-append_right front (n ∷ back) n (inl refl))
+  at_place ns front back n e = subst (λ (l : List ℕ). Has l n) (sym e) (has_right front (n ∷ back) n (inl refl))
 
   -- the serial order of the goals, the last node first
   pub serial_turns : Turns g goals (visits g [] (filter (has goals) g.goals)) × HasAll (visits g [] (filter (has goals) g.goals)) (filter (has goals) g.goals)

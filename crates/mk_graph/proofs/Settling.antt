@@ -10,7 +10,8 @@ use Rattle.mk_graph.specs.Serial.{serial_order}
 use Rattle.mk_graph.specs.Turns.{HasAll, InOpenGroup, Wanted, goal as wanted_goal, onward as wanted_onward, Turns, Before}
 use Rattle.mk_graph.specs.Without.{IsFree, AreFree, joined}
 use Rattle.mk_graph.specs.BitRows.{IsSized, IsOpenTo, PassesGates, PassesTargets, OnlyIfWanted, OnlyIfFree, Stays, AreSettled}
-use Rattle.mk_graph.proofs.Members.{cases_Has, Has-append_left, Has-append_right, Has-append_cases}
+use Rattle.mk_graph.specs.Lists.{has_left, has_right, has_cases}
+use Rattle.mk_graph.proofs.Members.{cases_Has}
 use Rattle.mk_graph.proofs.Parts.{HasAll-from_Has, Has-from_HasAll, Wanted-grows}
 use Rattle.mk_graph.proofs.AllButOne.{free_made, wanted_reached, reached_is_node, is_not_before}
 use Rattle.mk_graph.proofs.Rounds.{Has-take_more, AreFreeUpTo, in_order, free_joins, free_stays, all_free}
@@ -39,7 +40,7 @@ open_free : (g : Graph) (o : ℕ) (done : ℕ → ℕ → Type 0) (free : List �
 open_free g o done free are lack [] nodes n stands = absurd stands
 open_free g o done free are lack (group ∷ groups) nodes n (inl here) = inl here
 open_free g o done free are lack (group ∷ groups) nodes n (inr later) =
-    inr (HasAll-from_Has free group (λ m h. let low = nodes m (Has-append_left group (joined groups) m h) in (are m).1 (low, lack m low (later.0 m h))), open_free g o done free are lack groups (λ m h. nodes m (Has-append_right group (joined groups) m h)) n later.1)
+    inr (HasAll-from_Has free group (λ m h. let low = nodes m (has_left group (joined groups) m h) in (are m).1 (low, lack m low (later.0 m h))), open_free g o done free are lack groups (λ m h. nodes m (has_right group (joined groups) m h)) n later.1)
 
 -- what is open once nodes are done that all lack o is open to them
 open_lacking : (o : ℕ) (done : ℕ → ℕ → Type 0) (ns : List ℕ) → ((m : ℕ) → Has ns m → done m o) → (groups : List (List ℕ)) (n : ℕ) → InOpenGroup ns groups n → IsOpenTo (λ m. done m o) groups n
@@ -117,7 +118,7 @@ module _ (g : Graph) (is : IsGraph g) where
   all_open : (free : List ℕ) (groups : List (List ℕ)) → ((m : ℕ) → Has (joined groups) m → Has free m) → (n : ℕ) → Has (joined groups) n → InOpenGroup free groups n
   all_open free [] all n h = absurd h
   all_open free (group ∷ groups) all n h =
-      elim (Has-append_cases group (joined groups) n h) [ inl here ↦ inl here | inr later ↦ inr (HasAll-from_Has free group (λ m t. all m (Has-append_left group (joined groups) m t)), all_open free groups (λ m t. all m (Has-append_right group (joined groups) m t)) n later) ]
+      elim (has_cases group (joined groups) n h) [ inl here ↦ inl here | inr later ↦ inr (HasAll-from_Has free group (λ m t. all m (has_left group (joined groups) m t)), all_open free groups (λ m t. all m (has_right group (joined groups) m t)) n later) ]
 
   -- so all that is reached is wanted once they are done
   pub wanted_without_none : (o : ℕ) (free : List ℕ) → length g.nodes ≤ o → AreFree g o free → (n : ℕ) → Reached g n → Wanted g g.goals free n

@@ -6,6 +6,7 @@ use Rattle.std.specs.declared.cmp.Ordering.TheVariants.{Less}
 use Rattle.std.specs.Ordering.{nat_cmp}
 use Rattle.std.specs.Cmp.Lexicographic.{slice_cmp}
 use lib.Pointwise.{pointwise}
+use Rattle.mk_lines.specs.Names.{place_from}
 use Rattle.mk_graph.specs.Membership.{Has}
 use Rattle.mk_graph.specs.Graph.{Graph}
 use Rattle.mk_graph.specs.Setting.{FileName, Setting, is_given, IsNumberOf, reads, writes}
@@ -103,19 +104,13 @@ pub record IsStart (s : Setting) (d : Disk) : Type 0 where
   pub given : (f : FileName) (file : File) → d.files f ≡ Some file → is_given s f ≡ true
   pub stamped : (f : FileName) (file : File) → d.files f ≡ Some file → file.stamp ≤ d.clock
 
--- the place of a name in a list, counted from 1
-abbrev pub place_of : List FileName → FileName → Option ℕ
-place_of [] f = None
-place_of (h ∷ names) f =
-    if bytes_eq h f then Some 1 else option_map (λ place. place + 1) (place_of names f)
-
--- the disk on which each of these names has its place as content and stamp, and nothing else is
--- there or known
+-- the disk on which each of these names has its place, counted from 1, as content and stamp, and
+-- nothing else is there or known
 abbrev pub numbered : List FileName → Disk
 numbered names =
     record {
       files = λ f.
-          option_map (λ place. record { content = place; stamp = place }) (place_of names f);
+          option_map (λ place. record { content = place; stamp = place }) (place_from 1 names f);
       clock = length names;
       known = [];
     }

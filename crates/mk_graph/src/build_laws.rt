@@ -61,9 +61,9 @@ pub fn accepted_is_right()
 {}
 
 /// Where footprints are sound and a read of a file that can change has no way, a legal history
-/// shows it: all is made, the file is edited if it is editable, and all is made again but for the
-/// recipe and those that it reaches by carrying. At its end the file is later than all that the
-/// recipe wrote.
+/// shows it, if there are stamps enough: all is made, the file is edited if it is editable, and all
+/// is made again but for the recipe and those that it reaches by carrying. At its end the file is
+/// later than all that the recipe wrote.
 pub fn stale_is_shown()
     ensures { StaleIsShown }
 {}
@@ -88,7 +88,7 @@ pub fn turn_list_history_exists()
 
 /// Steps really overlap: from a start, in a make of two jobs or more, behind a turn list whose
 /// recipes have run whole, two recipes whose turns may come both begin, and then look, put and end
-/// in any order of their steps.
+/// in any order of their steps, if there are stamps enough.
 pub fn recipes_overlap()
     ensures { RecipesOverlap }
 {}

@@ -1,6 +1,7 @@
 //! Sets of node numbers, on the stack.
 
 ghost use Rattle.std.specs.Prelude.{◌≡◌, ℕ, ◌<◌, [], List, true, ◌⊎◌, ◌↔◌, map};
+ghost use Rattle.mk_graph.specs.Graph.{max_nodes};
 ghost use Rattle.mk_graph.specs.Membership.{Has};
 ghost use Rattle.mk_graph.specs.Turns.{HasAll};
 ghost use Rattle.mk_graph.specs.Without.{joined};
@@ -43,7 +44,7 @@ impl NodeSet {
 
     /// Adds a number.
     pub fn insert(&mut self, number: usize)
-        requires { number < 4096 }
+        requires { number < max_nodes }
         ensures { (n : ℕ) → Has self.new n ↔ (n ≡ number) ⊎ Has self.old n }
     {
         self.words[number / 64] |= 1u64 << (number % 64);
@@ -62,7 +63,7 @@ impl NodeSet {
     }
 
     /// Whether all numbers of all groups are members.
-    pub fn has_groups(&self, groups: &[Vec<usize>]) -> bool
+    pub(crate) fn has_groups(&self, groups: &[Vec<usize>]) -> bool
         ensures { (result ≡ true) ↔
             HasAll self.now (joined (map (λ group. group.items) groups.now)) }
     {
@@ -76,7 +77,7 @@ impl NodeSet {
 
     /// Adds all numbers.
     pub fn insert_all(&mut self, numbers: &[usize])
-        requires { (n : ℕ) → Has numbers.now n → n < 4096 }
+        requires { (n : ℕ) → Has numbers.now n → n < max_nodes }
         ensures { (n : ℕ) → Has self.new n ↔ Has numbers.now n ⊎ Has self.old n }
     {
         for number in numbers {

@@ -1,6 +1,7 @@
 //! What a make wants once some nodes are done.
 
 ghost use Rattle.std.specs.Prelude.{ℕ, ◌<◌, ◌⊎◌, ◌↔◌, length, map};
+ghost use Rattle.mk_graph.specs.Graph.{max_nodes};
 ghost use Rattle.mk_graph.specs.Membership.{Has};
 ghost use Rattle.mk_graph.specs.Turns.{InOpenGroup, Wanted};
 ghost use Rattle.mk_graph.specs.Without.{joined};
@@ -35,7 +36,7 @@ pub fn wanted_with(graph: &Graph, goals: &[usize], done: &NodeSet) -> NodeSet
 
 /// Adds what stands in open groups.
 fn want_open(wanted: &mut NodeSet, done: &NodeSet, groups: &[Vec<usize>])
-    requires { (n : ℕ) → Has (joined (map (λ group. group.items) groups.now)) n → n < 4096 }
+    requires { (n : ℕ) → Has (joined (map (λ group. group.items) groups.now)) n → n < max_nodes }
     ensures { (n : ℕ) → Has wanted.new n ↔
         InOpenGroup done.now (map (λ group. group.items) groups.now) n ⊎ Has wanted.old n }
 {
