@@ -1,16 +1,16 @@
 -- The kinds of plain lines.
-use Rattle.std.specs.Prelude.{◌≡◌, ◌⊎◌, ℕ, suc, ◌==◌, Bool, true, false, List, length, take, drop, codes, slice_index, ◌||◌, Option, None, Some, Result, Ok, Err, if◌then◌else◌}
+use Rattle.std.specs.Prelude.{ℕ, suc, ◌==◌, Bool, true, false, List, length, take, drop, codes, slice_index, ◌||◌, Option, None, Some, Result, Ok, Err, if◌then◌else◌}
 use Rattle.std.specs.List.{before_first, after_first}
 use Rattle.std.specs.Str.{bytes_eq}
-use Rattle.mk_lines.specs.Bytes.{is_blank, trimmed}
+use Rattle.mk_lines.specs.Bytes.{is_blank, trimmed, begins_with}
 use Rattle.mk_lines.specs.References.{first_outside}
 use Rattle.mk_lines.specs.RuleLines.{is_decisive}
 use Rattle.mk_macros.specs.declared.op.Op.{Op}
 use Rattle.mk_macros.specs.declared.op.Op.TheVariants.{Delay, Now, Double, IfUnset, Append}
 use Rattle.mk_macros.specs.Definitions.{without_blanks}
-use Rattle.mk_macros.specs.Substitution.{begins_with, ends_with, without_end}
+use Rattle.mk_macros.specs.Substitution.{ends_with, without_end}
 use Rattle.mk_read.specs.declared.fault.KindFault.{KindFault}
-use Rattle.mk_read.specs.declared.fault.KindFault.TheVariants.{ShellAssign, ColonAssign, DoubleColon, TargetMacro, NotALine, Memory}
+use Rattle.mk_read.specs.declared.fault.KindFault.TheVariants.{ShellAssign, ColonAssign, DoubleColon, TargetMacro, NotALine}
 
 -- an include line: whether a file that isn't there is passed over, and the text with the names of
 -- the files
@@ -113,9 +113,3 @@ of_trimmed line = if length line == 0 then Ok Comment else by_word line (include
 -- The kind of a plain line without its comment.
 unfoldable pub kind_of : List ℕ → Result Kind KindFault
 kind_of text = of_trimmed (trimmed text)
-
--- What a call returned, seen by view, is what is defined, unless memory ran out, of which nothing
--- is said.
-abbrev pub GivesKind : {X Y : Type 0} → (X → Y) → Result X KindFault → Result Y KindFault → Type 0
-GivesKind view (Ok x) defined = defined ≡ Ok (view x)
-GivesKind view (Err fault) defined = (fault ≡ Memory) ⊎ (defined ≡ Err fault)

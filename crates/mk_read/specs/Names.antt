@@ -1,6 +1,6 @@
 -- Names of files and targets.
 pub use Rattle.mk_lines.specs.Names.{has_name, with_name, once}
-use Rattle.std.specs.Prelude.{ℕ, ◌==◌, Bool, not, ◌&&◌, ◌||◌, List, [], ◌∷◌, length, Result, Ok, Err, if◌then◌else◌}
+use Rattle.std.specs.Prelude.{ℕ, ◌==◌, Bool, not, ◌&&◌, ◌||◌, List, [], ◌∷◌, codes, length, Result, Ok, Err, if◌then◌else◌}
 use Rattle.std.specs.List.{list_any}
 use Rattle.mk_lines.specs.Paths.{is_plain_path}
 use Rattle.mk_lines.specs.Words.{words}
@@ -14,9 +14,7 @@ use Rattle.mk_read.specs.Steps.{◌>>=◌, at_place}
 
 -- the bytes % * ? [ ] : ; = # $ \ " ' ` | & < > ( )
 abbrev pub reserved : List ℕ
-reserved =
-    37 ∷ 42 ∷ 63 ∷ 91 ∷ 93 ∷ 58 ∷ 59 ∷ 61 ∷ 35 ∷ 36 ∷ 92 ∷ 34 ∷ 39 ∷ 96 ∷ 124 ∷ 38 ∷ 60 ∷ 62 ∷ 40 ∷
-    41 ∷ []
+reserved = codes "%*?[]:;=#$\\\"'`|&<>()"
 
 abbrev pub is_reserved : ℕ → Bool
 is_reserved b = list_any (λ r. r == b) reserved

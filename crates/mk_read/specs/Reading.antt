@@ -47,7 +47,6 @@ pub record Text : Type 0 where
 abbrev pub Deeper : Type 0
 Deeper = Option (List ℕ → List ℕ → State → Result State ReadFault)
 
--- A file that an include line names, or nothing in its place where it isn't there and may be passed
 -- the level of include lines at which none is read
 abbrev pub max_levels : ℕ
 max_levels = 16
@@ -56,6 +55,7 @@ max_levels = 16
 abbrev pub max_texts : ℕ
 max_texts = 1024
 
+-- A file that an include line names, or nothing in its place where it isn't there and may be passed
 -- over.
 abbrev pub found : (List ℕ → List ℕ → State → Result State ReadFault) → Place → Bool → State →
     List ℕ → Option (List ℕ) → Result State ReadFault
