@@ -8,9 +8,10 @@ use Rattle.std.proofs.lemmas.Slice.Eq.{bytes_eq-Decides}
 use Rattle.std.proofs.Math.Seq.{take-append_seam, drop-append_seam}
 use Rattle.mk_graph.specs.Membership.{Has}
 use Rattle.mk_lines.specs.Bytes.{is_byte}
+use Rattle.mk_lines.specs.Names.{HoldsNames}
 use Rattle.mk_read.specs.Names.{has_name, is_empty}
 use Rattle.mk_read.specs.Special.{is_inference_name, is_suffix, is_suffix_byte}
-use Rattle.mk_infer.specs.Table.{HoldsNames, is_dotted, second_dot, is_joined}
+use Rattle.mk_infer.specs.Table.{is_dotted, second_dot, is_joined}
 use Rattle.mk_infer.proofs.Members.{Has_name, has_name_Has}
 
 -- ---- tests over lists

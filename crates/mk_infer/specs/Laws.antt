@@ -1,6 +1,6 @@
 -- Laws of what goals reach, of their answer, and of writes that count as there.
 use Rattle.std.specs.Prelude.{◌≡◌, ◌<◌, ℕ, false, List, [], ◌∷◌, ◌++◌, ◌↔◌, length, map, Option, Some, Result, Ok, Err}
-use Rattle.mk_graph.specs.Membership.{Has, IsDistinct}
+use Rattle.mk_graph.specs.Membership.{Has, IsDistinct, IsWithin}
 use Rattle.mk_graph.specs.Graph.{Graph, IsSound, node}
 use Rattle.mk_read.specs.Names.{has_name}
 use Rattle.mk_read.specs.Reading.{Makefile}
@@ -77,13 +77,9 @@ abbrev pub SelectionExists : Type 0
 SelectionExists = (m : Makefile) (e : Exists) (goals : List (List ℕ))
     → (answer : Result Graph InferFault) × IsSettled answer × Selects m e goals answer
 
--- these names are all among those
-abbrev pub AreAmong : List (List ℕ) → List (List ℕ) → Type 0
-AreAmong these those = (name : List ℕ) → Has these name → Has those name
-
 -- A name that has an inferred prerequisite has one, this or another, where more names are there.
 abbrev pub MoreTakesNoChoiceAway : Type 0
-MoreTakesNoChoiceAway = (m : Makefile) (e : Exists) (few many : List (List ℕ)) → AreAmong few many
+MoreTakesNoChoiceAway = (m : Makefile) (e : Exists) (few many : List (List ℕ)) → IsWithin few many
     → (name found : List ℕ) → choice m (with_more e few) name ≡ Some found
     → (other : List ℕ) × (choice m (with_more e many) name ≡ Some other)
 
@@ -112,7 +108,7 @@ pub record IsSelectedAlike (m : Makefile) (e : Exists) (goals : List (List ℕ))
 
 -- It is so with any part of the writes there.
 abbrev pub StaysSelected : Makefile → Exists → List (List ℕ) → List (List ℕ) → Graph → Type 0
-StaysSelected m e writes goals g = (part : List (List ℕ)) → AreAmong part writes
+StaysSelected m e writes goals g = (part : List (List ℕ)) → IsWithin part writes
     → IsSelectedAlike m e goals g part
 
 -- A graph that is selected with no writes stays selected where its nodes keep their choices.
@@ -143,7 +139,7 @@ IsPartOf g h = (n : ℕ) → n < length g.nodes
 abbrev pub PartsStaySelected : Type 0
 PartsStaySelected = (m : Makefile) (e : Exists) (writes goals some : List (List ℕ)) (g : Graph)
     → Selects m (with_more e []) goals (Ok g) → NodesKeepTheirChoices m e writes g
-    → AreAmong some goals
+    → IsWithin some goals
     → (h : Graph) × IsPartOf h g × StaysSelected m e writes some h
 
 -- With any names met before it, there is a walk of any names.

@@ -7,6 +7,7 @@ use Rattle.std.specs.Str.{bytes_eq}
 use Rattle.std.specs.declared.alloc.Global.{Global}
 use Rattle.indexmap.specs.IndexMap.{IndexMap, get_by}
 use Rattle.mk_lines.specs.Bytes.{is_byte}
+use Rattle.mk_lines.specs.Names.{HoldsNames}
 use Rattle.mk_read.specs.Names.{has_name}
 use Rattle.mk_read.specs.Reading.{Makefile}
 use Rattle.mk_read.specs.Special.{is_suffix}
@@ -49,10 +50,6 @@ words_in lines = flat_map (λ (rule : RuleRead). rule.words) lines
 -- The rule line has commands. Where only the makefile's own count, it isn't of the default text.
 abbrev pub counts_for : Bool → RuleRead → Bool
 counts_for own rule = not (own && rule.default) && has_some rule.commands
-
--- a set holds the names of a list
-abbrev pub HoldsNames : List (List ℕ) → List (List ℕ) → Type 0
-HoldsNames set names = (name : List ℕ) → has_name set name ≡ has_name names name
 
 -- where a dot stands next behind the first byte, or past the end
 abbrev pub second_dot : List ℕ → ℕ

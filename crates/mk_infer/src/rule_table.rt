@@ -6,18 +6,18 @@ ghost use Rattle.std.specs.List.{list_all};
 ghost use Rattle.std.specs.Str.{bytes_eq};
 ghost use Rattle.std.specs.String.{string_bytes};
 ghost use Rattle.indexmap.specs.IndexMap.{get_by};
-ghost use Rattle.mk_lines.specs.Names.{place_from};
+ghost use Rattle.mk_lines.specs.Names.{HoldsNames, place_from};
 ghost use Rattle.mk_read.specs.Names.{has_name};
 ghost use Rattle.mk_read.specs.Needs.{commands_in, commands_of, is_wait};
 ghost use Rattle.mk_read.specs.Special.{is_inference_name, is_suffix};
 ghost use Rattle.mk_infer.specs.Inference.{but_last, ending, ends_in};
 ghost use Rattle.mk_infer.specs.Targets.{is_target, own_commands, prerequisites_of, rules_for, words_for};
-ghost use Rattle.mk_infer.specs.Table.{AreSources, HasLines, HasSources, HoldsNames, HoldsTargets, counts_for, has_target, lines_at, lines_of, places_at, targets_in, words_in};
+ghost use Rattle.mk_infer.specs.Table.{AreSources, HasLines, HasSources, HoldsTargets, counts_for, has_target, lines_at, lines_of, places_at, targets_in, words_in};
 
 use crate::source_suffixes::{Sources, is_dotted, sources_among};
 use crate::suffix_set::{SuffixSet, suffixes_among};
 use indexmap::IndexMap;
-use mk_lines::{NameSet, NameTable};
+use mk_lines::{NameSet, NameTable, names_among};
 use mk_macros::MacroTable;
 use mk_read::{Command, Makefile, Rule};
 use std::alloc::{AllocError, Global};
@@ -87,17 +87,6 @@ fn lines_among<'m>(alloc: Global, rules: &'m [Rule]) -> Result<Lines<'m>, AllocE
         add_targets(alloc, &mut lines, &rule.targets, place)?;
     }
     Ok(lines)
-}
-
-/// Names, each once.
-fn names_among<'m>(alloc: Global, names: &'m [String]) -> Result<NameSet<'m>, AllocError>
-    ensures { IfOk result (λ set. HoldsNames set (map string_bytes names.now)) }
-{
-    let mut set = NameSet::new(alloc);
-    for name in names {
-        set.insert(name)?;
-    }
-    Ok(set)
 }
 
 /// A list of names, in which each is looked up.

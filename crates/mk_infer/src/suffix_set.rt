@@ -4,8 +4,9 @@ ghost use Rattle.std.specs.Prelude.{◌≡◌, ◌∷◌, ◌++◌, [], map, len
 ghost use Rattle.std.specs.List.{position_or_len};
 ghost use Rattle.std.specs.String.{string_bytes};
 ghost use Rattle.mk_lines.specs.Bytes.{is_byte};
+ghost use Rattle.mk_lines.specs.Names.{HoldsNames};
 ghost use Rattle.mk_read.specs.Names.{has_name};
-ghost use Rattle.mk_infer.specs.Table.{HoldsNames, is_joined};
+ghost use Rattle.mk_infer.specs.Table.{is_joined};
 
 use indexmap::IndexSet;
 use std::alloc::{AllocError, Global};

@@ -111,7 +111,8 @@ max_line = 65536
 abbrev pub max_lines : ℕ
 max_lines = 65536
 
--- what is wrong with a line, before which so many stand in its text: the lowest number of its faults
+-- what is wrong with a line, before which so many stand in its text: the lowest number of its
+-- faults
 abbrev pub line_fault : ℕ → Line → Option LineFault
 line_fault before line =
     if list_any (is_byte 0) line.text then Some (NulByte line.first)

@@ -1,6 +1,6 @@
 use Rattle.std.proofs.Common.{map, take}
 use Rattle.std.specs.String.{string_bytes}
-use Rattle.mk_infer.specs.Table.{HoldsNames}
+use Rattle.mk_lines.specs.Names.{HoldsNames}
 use Rattle.mk_infer.proofs.suffix_set.suffixes_among.Given as goal
 
 -- the words so far
