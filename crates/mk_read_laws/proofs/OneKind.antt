@@ -6,12 +6,12 @@ use Rattle.std.specs.Option.{option_map}
 use Rattle.std.specs.Str.{bytes_eq}
 use Rattle.std.proofs.lemmas.Bool.Decides.{nat_tests}
 use Rattle.std.proofs.lemmas.Bool.{both_ways}
-use Rattle.mk_lines.specs.Bytes.{is_blank, trimmed}
+use Rattle.mk_lines.specs.Bytes.{is_blank, trimmed, begins_with}
 use Rattle.mk_lines.specs.References.{first_from, first_outside}
 use Rattle.mk_lines.specs.RuleLines.{begins_with_rule_colon, is_decisive, is_include, is_rule_colon_at, is_rule_line}
 use Rattle.mk_read.specs.declared.fault.KindFault.{KindFault}
 use Rattle.mk_read.specs.declared.fault.KindFault.TheVariants.{ShellAssign, ColonAssign, DoubleColon, TargetMacro, NotALine}
-use Rattle.mk_macros.specs.Substitution.{begins_with, ends_with, without_end}
+use Rattle.mk_macros.specs.Substitution.{ends_with, without_end}
 use Rattle.mk_macros.specs.Definitions.{without_blanks}
 use Rattle.mk_macros.specs.declared.op.Op.TheVariants.{Delay, Now, Double, IfUnset, Append}
 use Rattle.mk_read.specs.Kinds.{Kind, AssignmentLine, IncludeLine, RuleLine, Assignment, Comment, Include, Rule, assignment_line, by_byte, by_parts, by_word, include_line, is_end_of_words, kind_of, of_trimmed, rule_line, with_targets, words_and_command}

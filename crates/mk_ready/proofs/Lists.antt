@@ -2,27 +2,11 @@
 use Rattle.std.proofs.Common.{◌≡◌, ℕ, zero, suc, ◌+◌, ◌<◌, List, [], ◌∷◌, ◌++◌, length, get_or, drop, take, inl, inr, ◌⊎◌, refl, sym, ap, subst, ◌∙◌, arith}
 use Rattle.std.proofs.lemmas.List.{drop_more, take_more}
 use Rattle.mk_graph.specs.Membership.{Has, IsDistinct}
+use Rattle.mk_graph.specs.Lists.{has_left, has_right, has_cases}
 use Rattle.mk_graph.specs.Turns.{HasAll}
 use Rattle.mk_graph.specs.Without.{joined}
 
 module _ {A : Type 0} where
-  -- what stands in the first list
-  pub has_left : (xs ys : List A) (x : A) → Has xs x → Has (xs ++ ys) x
-  has_left [] ys x h = absurd h
-  has_left (y ∷ xs) ys x (inl here) = inl here
-  has_left (y ∷ xs) ys x (inr there) = inr (has_left xs ys x there)
-
-  -- what stands in the second list
-  pub has_right : (xs ys : List A) (x : A) → Has ys x → Has (xs ++ ys) x
-  has_right [] ys x h = h
-  has_right (y ∷ xs) ys x h = inr (has_right xs ys x h)
-
-  -- it stands in one of the two
-  pub has_cases : (xs ys : List A) (x : A) → Has (xs ++ ys) x → Has xs x ⊎ Has ys x
-  has_cases [] ys x h = inr h
-  has_cases (y ∷ xs) ys x (inl here) = inl (inl here)
-  has_cases (y ∷ xs) ys x (inr there) = elim (has_cases xs ys x there) [ inl h ↦ inl (inr h) | inr h ↦ inr h ]
-
   -- lists are joined in any order
   pub join_assoc : (xs ys zs : List A) → (xs ++ ys) ++ zs ≡ xs ++ (ys ++ zs)
   join_assoc [] ys zs = refl

@@ -8,7 +8,8 @@ use Rattle.mk_graph.specs.Without.{joined}
 use Rattle.mk_ready.specs.Rest.{Rest}
 use Rattle.mk_ready.specs.Left.{Skips, IsStopped, IsStoppedAt, Halts, Opens, IsLeft}
 use Rattle.mk_ready.specs.Stages.{to_come, work, Wants, IsOpened, WantsOpened, Wakes}
-use Rattle.mk_ready.proofs.Lists.{has_left, has_right, has_cases, join_assoc, join_nothing, all_has, has_all, all_joined, all_more, joined_both, more_taken, taken_more}
+use Rattle.mk_graph.specs.Lists.{has_left, has_right, has_cases}
+use Rattle.mk_ready.proofs.Lists.{join_assoc, join_nothing, all_has, has_all, all_joined, all_more, joined_both, more_taken, taken_more}
 
 -- one stage is another one
 pub work_set : (stages : List ℕ) (k v : ℕ) → k < length stages → work (set stages k v) + to_come (get_or stages k 0) ≡ work stages + to_come v

@@ -10,7 +10,8 @@ use Rattle.mk_graph.specs.Laws.{SerialReachesEachOnce}
 use Rattle.mk_graph.specs.Progress.{row}
 use Rattle.mk_graph.specs.Serial.{serial_order}
 use Rattle.mk_ready.specs.Layout.{ArePlaces, AreUsers}
-use Rattle.mk_ready.proofs.Lists.{has_left, has_right, has_cases, at_any, place_of, one_place, rest_is, rest_has}
+use Rattle.mk_graph.specs.Lists.{has_left, has_right, has_cases}
+use Rattle.mk_ready.proofs.Lists.{at_any, place_of, one_place, rest_is, rest_has}
 
 abbrev pub lists : List (Vec ℕ Global) → List (List ℕ)
 lists rows = map (λ (r : Vec ℕ Global). r.items) rows

@@ -1,7 +1,7 @@
 use Rattle.std.proofs.Common.{ℕ, List, sym, subst, arith}
 use Rattle.mk_graph.specs.Membership.{Has}
 use Rattle.mk_graph.specs.Without.{joined}
-use Rattle.mk_ready.proofs.Lists.{has_left, has_right}
+use Rattle.mk_graph.specs.Lists.{has_left, has_right}
 use Rattle.mk_ready.proofs.Stepping.{halts_left, opens_left, wants_more}
 use Rattle.mk_ready.proofs.state.advance.Goals as goal
 
