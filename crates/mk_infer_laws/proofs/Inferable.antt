@@ -11,6 +11,7 @@ use Rattle.std.proofs.lemmas.Slice.Eq.{bytes_eq-Decides}
 use Rattle.std.proofs.Math.Seq.{take-append_seam}
 use Rattle.std.proofs.lemmas.List.{length-append}
 use Rattle.mk_graph.specs.Membership.{Has}
+use Rattle.mk_graph.specs.Lists.{has_left, has_right, has_mapped, joined_to}
 use Rattle.mk_lines.specs.Names.{has_name}
 use Rattle.mk_read.specs.Reading.{Makefile}
 use Rattle.mk_read.specs.Special.{is_inference_name}
@@ -23,7 +24,6 @@ use Rattle.mk_infer.specs.Targets.{is_target, prerequisites_of}
 use Rattle.mk_infer.specs.There.{Exists, is_there}
 use Rattle.mk_infer_laws.proofs.RuleNeeds.{no_prerequisites}
 use Rattle.mk_infer_laws.proofs.Walking.{Covers, Has_name, has_name_Has}
-use Rattle.mk_infer_laws.proofs.Walks.{Has_left, Has_right}
 
 -- ---- lists
 
@@ -34,16 +34,6 @@ either false b h = inr h
 both : (a b : Bool) → (a && b) ≡ true → (a ≡ true) × (b ≡ true)
 both true b h = (refl, h)
 both false b h = absurd cc
-
-in_flat : {A B : Type 0} (f : A → List B) (xs : List A) (x : A) (y : B) → Has xs x → Has (f x) y → Has (flat_map f xs) y
-in_flat f [] x y h k = absurd h
-in_flat f (z ∷ xs) x y (inl e) k = Has_left (f z) (flat_map f xs) y (subst (λ w. Has (f w) y) (sym e) k)
-in_flat f (z ∷ xs) x y (inr h) k = Has_right (f z) (flat_map f xs) y (in_flat f xs x y h k)
-
-in_map : {A B : Type 0} (f : A → B) (xs : List A) (x : A) → Has xs x → Has (map f xs) (f x)
-in_map f [] x h = absurd h
-in_map f (y ∷ xs) x (inl e) = inl (ap f e)
-in_map f (y ∷ xs) x (inr h) = inr (in_map f xs x h)
 
 -- what is found stands there and passes
 pub found_is : {A : Type 0} (p : A → Bool) (xs : List A) (x : A) → find p xs ≡ Some x → Has xs x × (p x ≡ true)
@@ -73,16 +63,16 @@ there_listed : (m : Makefile) (e : Exists) (name : List ℕ) → is_there m e na
 there_listed m e name h = by_source (either (has_name e.sources name) _ h)
   where
     by_target : (is_target m name ≡ true) ⊎ (has_name e.more name ≡ true) → Has (targets_in m.rules ++ e.more) name
-    by_target (inl t) = Has_left (targets_in m.rules) e.more name (a_target m name t)
-    by_target (inr k) = Has_right (targets_in m.rules) e.more name (Has_name e.more name k)
+    by_target (inl t) = has_left (targets_in m.rules) e.more name (a_target m name t)
+    by_target (inr k) = has_right (targets_in m.rules) e.more name (Has_name e.more name k)
 
     by_text : (has_name e.texts name ≡ true) ⊎ ((is_target m name || has_name e.more name) ≡ true) → Has (e.texts ++ (targets_in m.rules ++ e.more)) name
-    by_text (inl t) = Has_left e.texts (targets_in m.rules ++ e.more) name (Has_name e.texts name t)
-    by_text (inr k) = Has_right e.texts (targets_in m.rules ++ e.more) name (by_target (either (is_target m name) (has_name e.more name) k))
+    by_text (inl t) = has_left e.texts (targets_in m.rules ++ e.more) name (Has_name e.texts name t)
+    by_text (inr k) = has_right e.texts (targets_in m.rules ++ e.more) name (by_target (either (is_target m name) (has_name e.more name) k))
 
     by_source : (has_name e.sources name ≡ true) ⊎ ((has_name e.texts name || (is_target m name || has_name e.more name)) ≡ true) → Has (names_there m e) name
-    by_source (inl t) = Has_left e.sources (e.texts ++ (targets_in m.rules ++ e.more)) name (Has_name e.sources name t)
-    by_source (inr k) = Has_right e.sources (e.texts ++ (targets_in m.rules ++ e.more)) name (by_text (either (has_name e.texts name) _ k))
+    by_source (inl t) = has_left e.sources (e.texts ++ (targets_in m.rules ++ e.more)) name (Has_name e.sources name t)
+    by_source (inr k) = has_right e.sources (e.texts ++ (targets_in m.rules ++ e.more)) name (by_text (either (has_name e.texts name) _ k))
 
 -- ---- names that an inference rule may make
 
@@ -113,13 +103,13 @@ made_there : (m : Makefile) (e : Exists) (name suffix : List ℕ) → Has m.suff
 made_there m e name suffix listed there =
     let from = stem m name ++ suffix in
     let front : but_last (length suffix) from ≡ stem m name = front_of (stem m name) suffix in
-    in_flat (λ other. flat_map (made_from m other) m.suffixes) (names_there m e) from name (there_listed m e from there)
-    (in_flat (made_from m from) m.suffixes suffix name listed (by front (by_suffix m name (find (ends_in name) m.suffixes) refl)))
+    joined_to (λ other. flat_map (made_from m other) m.suffixes) (names_there m e) from name (there_listed m e from there)
+    (joined_to (made_from m from) m.suffixes suffix name listed (by front (by_suffix m name (find (ends_in name) m.suffixes) refl)))
   where
     by : but_last (length suffix) (stem m name ++ suffix) ≡ stem m name → (name ≡ stem m name) ⊎ ((other : List ℕ) × Has m.suffixes other × (name ≡ stem m name ++ other)) → Has (made_from m (stem m name ++ suffix) suffix) name
     by front (inl same) = inl (front ∙ sym same)
     by front (inr (other, known, same)) =
-        inr (subst (Has (map (λ (x : List ℕ). but_last (length suffix) (stem m name ++ suffix) ++ x) m.suffixes)) (ap (λ (xs : List ℕ). xs ++ other) front ∙ sym same) (in_map (λ (x : List ℕ). but_last (length suffix) (stem m name ++ suffix) ++ x) m.suffixes other known))
+        inr (subst (Has (map (λ (x : List ℕ). but_last (length suffix) (stem m name ++ suffix) ++ x) m.suffixes)) (ap (λ (xs : List ℕ). xs ++ other) front ∙ sym same) (has_mapped (λ (x : List ℕ). but_last (length suffix) (stem m name ++ suffix) ++ x) m.suffixes other known))
 
 -- a name outside of them has no inferred prerequisite
 not_inferable : (m : Makefile) (e : Exists) (name : List ℕ) → has_name (inferable m e) name ≡ false → choice m e name ≡ None

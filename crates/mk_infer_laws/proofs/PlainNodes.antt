@@ -1,13 +1,14 @@
 -- The names of goals, and of nodes, are plain paths.
 use Rattle.std.proofs.Common.{◌≡◌, ℕ, ◌+◌, Bool, true, false, not, cond, List, [], ◌∷◌, ◌++◌, map, Option, None, Some, Result, Ok, Err, inl, inr, refl, subst, ⊎_elim}
 use Rattle.std.specs.Prelude.{◌&&◌, ◌||◌, filter, find, option_to_list}
-use Rattle.std.specs.List.{list_all, list_any, flat_map}
+use Rattle.std.specs.List.{list_all, list_any}
 use Rattle.std.specs.Option.{option_map}
 use Rattle.std.specs.Str.{bytes_eq}
 use Rattle.std.proofs.lemmas.Bool.{and_parts, and_from, or_cases}
 use Rattle.mk_graph.specs.declared.node.Node.{Node}
 use Rattle.mk_graph.specs.Graph.{Graph}
 use Rattle.mk_graph.specs.Membership.{Has}
+use Rattle.mk_graph.specs.Lists.{has_cases, joined_from}
 use Rattle.mk_lines.specs.Paths.{is_plain_path}
 use Rattle.mk_read.specs.Names.{has_name, is_bracket, is_make_name, is_reserved, once}
 use Rattle.mk_read.specs.Needs.{is_wait, words_of}
@@ -28,7 +29,7 @@ use Rattle.mk_infer.specs.There.{Exists, is_there}
 use Rattle.mk_infer_laws.proofs.Inferable.{found_is}
 use Rattle.mk_infer_laws.proofs.Stacks.{of_tree}
 use Rattle.mk_infer_laws.proofs.Walking.{Has_name}
-use Rattle.mk_infer_laws.proofs.Walks.{Has_cases, goes_along}
+use Rattle.mk_infer_laws.proofs.Walks.{goes_along}
 
 abbrev IsPlain : List ℕ → Type 0
 IsPlain name = is_plain_path name ≡ true
@@ -89,12 +90,6 @@ module _ (rules : List RuleRead) (named : list_all is_well_named rules ≡ true)
   of_rule : (rule : RuleRead) → Has rules rule → ((name : List ℕ) → Has rule.targets name → IsPlain name) × ((word : List ℕ) → Has rule.words word → IsPlain word)
   of_rule rule h = rule_plain rule (told is_well_named rules rule named h)
 
--- what stands in one of the lists of a list
-in_one : {A : Type 0} (names : A → List (List ℕ)) (xs : List A) (name : List ℕ) → Has (flat_map names xs) name → (x : A) × Has xs x × Has (names x) name
-in_one names [] name h = absurd h
-in_one names (x ∷ xs) name h =
-    ⊎_elim (λ k. (x, inl refl, k)) (λ k. let r = in_one names xs name k in (r.0, inr r.1, r.2)) (Has_cases (names x) (flat_map names xs) name h)
-
 some_rule : (rules : List RuleRead) (name : List ℕ) → list_any (λ (rule : RuleRead). has_name rule.targets name) rules ≡ true → (rule : RuleRead) × Has rules rule × Has rule.targets name
 some_rule [] name h = absurd cc
 some_rule (rule ∷ rules) name h =
@@ -128,7 +123,7 @@ goals_plain number (word ∷ rest) names e =
 target_plain : (m : Makefile) (target : List ℕ) → list_all is_well_named m.rules ≡ true → first_target m ≡ Some target → IsPlain target
 target_plain m target named e =
     let found = found_is (is_plain_target m.suffixes) (own_targets m.rules) target e in
-    let rule = in_one (λ (rule : RuleRead). rule.targets) (filter (λ (rule : RuleRead). not rule.default) m.rules) target found.0 in
+    let rule = joined_from (λ (rule : RuleRead). rule.targets) (filter (λ (rule : RuleRead). not rule.default) m.rules) target found.0 in
     (of_rule m.rules named rule.0 (fewer (λ (rule : RuleRead). not rule.default) m.rules rule.0 rule.1)).0 target rule.2
 
 given_plain : (m : Makefile) (words goals : List (List ℕ)) → list_all is_well_named m.rules ≡ true → list_all is_plain_path words ≡ true → given_or_first words m ≡ Ok goals → list_all is_plain_path goals ≡ true
@@ -192,11 +187,11 @@ module _ (m : Makefile) (e : Exists) (plain : HavePlainNames m e) where
       at : (b : Bool) → Has (words_of (cond b [] m.rules) name) word → IsPlain word
       at true k = absurd k
       at false k =
-          let r = in_one (λ (rule : RuleRead). rule.words) (filter (λ (rule : RuleRead). has_name rule.targets name) m.rules) word k in
+          let r = joined_from (λ (rule : RuleRead). rule.words) (filter (λ (rule : RuleRead). has_name rule.targets name) m.rules) word k in
           (of_rule m.rules plain.rules r.0 (fewer (λ (rule : RuleRead). has_name rule.targets name) m.rules r.0 r.1)).1 word r.2
 
   needs_plain : (name word : List ℕ) → Has (needs m e name) word → IsPlain word
-  needs_plain name word h = ⊎_elim (choice_plain name word) (words_plain name word) (Has_cases (option_to_list (choice m e name)) (prerequisites_of m name) word h)
+  needs_plain name word h = ⊎_elim (choice_plain name word) (words_plain name word) (has_cases (option_to_list (choice m e name)) (prerequisites_of m name) word h)
 
   all_plain : (all names : List (List ℕ)) → ((name : List ℕ) → Has names name → IsPlain name) → list_all (λ (n : Node). is_plain_path n.name) (map (node_of m e all) names) ≡ true
   all_plain all [] h = refl

@@ -10,6 +10,7 @@ use Rattle.std.proofs.lemmas.Slice.Eq.{bytes_eq-Decides}
 use Rattle.mk_graph.specs.declared.node.Node.{Node}
 use Rattle.mk_graph.specs.Graph.{IsSound, Reached, goal, onward, node, no_node, prerequisites}
 use Rattle.mk_graph.specs.Membership.{Has, IsDistinct}
+use Rattle.mk_graph.specs.Lists.{has_mapped, mapped_from}
 use Rattle.mk_lines.specs.Names.{number_of}
 use Rattle.mk_read.specs.Laws.{GroupsKeepTheirWords, joined}
 use Rattle.mk_read.specs.Needs.{groups}
@@ -27,16 +28,6 @@ abbrev Name : Type 0
 Name = List ℕ
 
 -- ---- membership
-
-pub Has_map : {A B : Type 0} (f : A → B) (xs : List A) (y : B) → Has (map f xs) y → (x : A) × Has xs x × (f x ≡ y)
-Has_map f [] y h = absurd h
-Has_map f (x ∷ xs) y (inl e) = (x, inl refl, e)
-Has_map f (x ∷ xs) y (inr h) = let k = Has_map f xs y h in (k.0, inr k.1, k.2)
-
-map_Has : {A B : Type 0} (f : A → B) (xs : List A) (x : A) → Has xs x → Has (map f xs) (f x)
-map_Has f [] x h = absurd h
-map_Has f (y ∷ xs) x (inl e) = inl (ap f e)
-map_Has f (y ∷ xs) x (inr h) = inr (map_Has f xs x h)
 
 pub Has_get_or : {A : Type 0} (xs : List A) (i : ℕ) (d : A) → i < length xs → Has xs (get_or xs i d)
 Has_get_or [] i d lt = absurd (omega arith)
@@ -113,7 +104,7 @@ module _ (keeps : GroupsKeepTheirWords) (m : Makefile) (e : Exists) (goals all :
   edge name word h k =
       let at : prerequisites (graph_of m e goals all) (number_of all name) ≡ map (number_of all) (needs m e name) =
       prerequisites_are (number_of all name) (number_below all name h) ∙ ap (λ n. map (number_of all) (needs m e n)) (get_number all name [] h) in
-      subst (λ (ns : List ℕ). Has ns (number_of all word)) (sym at) (map_Has (number_of all) (needs m e name) word k)
+      subst (λ (ns : List ℕ). Has ns (number_of all word)) (sym at) (has_mapped (number_of all) (needs m e name) word k)
 
   -- the maker owes nothing more
   pub is_sound : Meets (needs m e) [] goals all → IsSound (graph_of m e goals all)
@@ -122,14 +113,14 @@ module _ (keeps : GroupsKeepTheirWords) (m : Makefile) (e : Exists) (goals all :
       let distinct : IsDistinct all = stay_distinct needing (of_tree w) tt in
       let closed : (n : Name) → Has all n → (x : Name) → Has (needing n) x → Has all x = stay_closed needing (of_tree w) (λ n h. absurd h) in
       let reach : (a : Name) → Has all a → Reached (graph_of m e goals all) (number_of all a) =
-      goes_along needing (λ a. Reached (graph_of m e goals all) (number_of all a)) (λ n x h r k. onward r (edge n x h k)) (of_tree w) (λ x h. absurd h) (λ t h. goal (map_Has (number_of all) goals t h)) in
+      goes_along needing (λ a. Reached (graph_of m e goals all) (number_of all a)) (λ n x h r k. onward r (edge n x h k)) (of_tree w) (λ x h. absurd h) (λ t h. goal (has_mapped (number_of all) goals t h)) in
       record {
         names = subst IsDistinct (sym (names_of_nodes m e all all)) distinct;
-        goals = λ n h. let k = Has_map (number_of all) goals n h in
+        goals = λ n h. let k = mapped_from (number_of all) goals n h in
             let lt = number_below all k.0 (gets_met needing (of_tree w) k.0 k.1) in
             let same = k.2 in omega (arith, count);
         edges = λ n p h. ⊎_elim
-            (λ lt. let k = Has_map (number_of all) (needing (get_or all n [])) p (subst (λ (ns : List ℕ). Has ns p) (prerequisites_are n lt) h) in
+            (λ lt. let k = mapped_from (number_of all) (needing (get_or all n [])) p (subst (λ (ns : List ℕ). Has ns p) (prerequisites_are n lt) h) in
             let below = number_below all k.0 (closed (get_or all n []) (Has_get_or all n [] lt) k.0 k.1) in
             let same = k.2 in
             let fits : p < length (map (node_of m e all) all) = omega (arith, count) in fits)

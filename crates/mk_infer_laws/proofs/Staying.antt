@@ -7,20 +7,21 @@ use Rattle.mk_graph.specs.declared.node.Node.{Node}
 use Rattle.mk_graph.specs.Build.{WalksAll}
 use Rattle.mk_graph.specs.Graph.{Graph, Leads, one, then, node, prerequisites}
 use Rattle.mk_graph.specs.Laws.{ClosesOnlyCycles, ComesThroughWithoutCycles, WalkHasAnEnd}
-use Rattle.mk_graph.specs.Membership.{Has, IsDistinct}
+use Rattle.mk_graph.specs.Membership.{Has, IsDistinct, IsWithin}
+use Rattle.mk_graph.specs.Lists.{has_left, has_right, has_cases, mapped_from}
 use Rattle.mk_graph.specs.Walk.{WalkEnd, Through, Closes}
 use Rattle.mk_read.specs.Laws.{GroupsKeepTheirWords, joined}
 use Rattle.mk_read.specs.Reading.{Makefile}
 use Rattle.mk_infer.specs.Inference.{choice}
-use Rattle.mk_infer.specs.Laws.{AreAmong, GraphStaysSelected, IsPartOf, NodesKeepTheirChoices, PartsStaySelected, Reaches, goal, onward, StaysSelected, names_in_groups, with_more}
+use Rattle.mk_infer.specs.Laws.{GraphStaysSelected, IsPartOf, NodesKeepTheirChoices, PartsStaySelected, Reaches, goal, onward, StaysSelected, names_in_groups, with_more}
 use Rattle.mk_lines.specs.Names.{number_of}
 use Rattle.mk_infer.specs.Selection.{BuiltUnless, Selects, graph_of, groups_of, is_lacking, lacking, needs, node_of, numbered}
 use Rattle.mk_infer.specs.There.{Exists}
 use Rattle.mk_infer.specs.Walk.{Meets}
 use Rattle.mk_infer_laws.proofs.Ending.{walk_exists}
-use Rattle.mk_infer_laws.proofs.Soundness.{Has_get_or, Has_map, edge, get_number, grouped, is_sound, node_is, none_past, number_below, prerequisites_are}
+use Rattle.mk_infer_laws.proofs.Soundness.{Has_get_or, edge, get_number, grouped, is_sound, node_is, none_past, number_below, prerequisites_are}
 use Rattle.mk_infer_laws.proofs.Stacks.{of_tree}
-use Rattle.mk_infer_laws.proofs.Walks.{Has_cases, Has_left, Has_right, meets_what_is_reached, stay_closed}
+use Rattle.mk_infer_laws.proofs.Walks.{meets_what_is_reached, stay_closed}
 use Rattle.mk_infer_laws.proofs.Writes.{part_chooses, same_choice, same_commands, take_Has, writes_change_nothing}
 
 abbrev Name : Type 0
@@ -45,7 +46,7 @@ no_more (x ∷ xs) ys distinct within =
     omega arith
   where
     other : (front back : List Name) (y : Name) → ¬ (x ≡ y) → Has (front ++ x ∷ back) y → Has (front ++ back) y
-    other front back y differs h = ⊎_elim (λ k. Has_left front back y k) (λ k. ⊎_elim (λ e. absurd (differs e)) (λ k2. Has_right front back y k2) k) (Has_cases front (x ∷ back) y h)
+    other front back y differs h = ⊎_elim (λ k. has_left front back y k) (λ k. ⊎_elim (λ e. absurd (differs e)) (λ k2. has_right front back y k2) k) (has_cases front (x ∷ back) y h)
 
 module _ (p : Name → Bool) where
   none_passes : (xs : List Name) (x : Name) → find p xs ≡ None → Has xs x → p x ≡ false
@@ -104,8 +105,8 @@ module _ (keeps : GroupsKeepTheirWords) (m : Makefile) (e : Exists) (goals all :
   named_back : (gs : List (List Name)) → ((word : Name) → Has (joined gs) word → Has all word) → map (map (λ p. (node whole p).name)) (numbered all gs) ≡ gs
   named_back [] within = refl
   named_back (group ∷ gs) within =
-      ap (λ (ws : List Name). ws ∷ map (map (λ p. (node whole p).name)) (numbered all gs)) (names_back group (λ word h. within word (Has_left group (joined gs) word h)))
-      ∙ ap (λ (hs : List (List Name)). group ∷ hs) (named_back gs (λ word h. within word (Has_right group (joined gs) word h)))
+      ap (λ (ws : List Name). ws ∷ map (map (λ p. (node whole p).name)) (numbered all gs)) (names_back group (λ word h. within word (has_left group (joined gs) word h)))
+      ∙ ap (λ (hs : List (List Name)). group ∷ hs) (named_back gs (λ word h. within word (has_right group (joined gs) word h)))
     where
       names_back : (words : List Name) → ((word : Name) → Has words word → Has all word) → map (λ p. (node whole p).name) (map (number_of all) words) ≡ words
       names_back [] met = refl
@@ -154,7 +155,7 @@ graph_stays_selected keeps m e writes goals g selects keep = stays keeps m e wri
 
 module _ (an_end : WalkHasAnEnd) (closes : ClosesOnlyCycles) (comes : ComesThroughWithoutCycles) (keeps : GroupsKeepTheirWords) (m : Makefile) (e : Exists) (goals all : List Name) (walk : Meets (needs m e) [] goals all)
     (none : lacking m e all ≡ None) (few : length (graph_of m e goals all).nodes ≤ 4096) (finished : List ℕ) (through : WalksAll (graph_of m e goals all) (Through finished))
-    (some : List Name) (within : AreAmong some goals) (met : List Name) (going : Meets (needs m e) [] some met) where
+    (some : List Name) (within : IsWithin some goals) (met : List Name) (going : Meets (needs m e) [] some met) where
   abbrev large : Graph
   large = graph_of m e goals all
 
@@ -194,7 +195,7 @@ module _ (an_end : WalkHasAnEnd) (closes : ClosesOnlyCycles) (comes : ComesThrou
       by (inl lt) =
           let name = get_or met n [] in
           let there : Has met name = Has_get_or met n [] lt in
-          let k = Has_map (number_of met) (needs m e name) p (subst (λ (ns : List ℕ). Has ns p) (prerequisites_are keeps m e some met n lt) h) in
+          let k = mapped_from (number_of met) (needs m e name) p (subst (λ (ns : List ℕ). Has ns p) (prerequisites_are keeps m e some met n lt) h) in
           let word : Has met k.0 = closed keeps m e some met going name k.0 there k.1 in
           let at : get_or met p [] ≡ k.0 = ap (λ (i : ℕ). get_or met i []) (sym k.2) ∙ get_number met k.0 [] word in
           subst (λ (w : Name). Has (prerequisites large (moved n)) (number_of all w)) (sym at) (edge keeps m e goals all name k.0 (met_within name there) k.1)

@@ -1,6 +1,7 @@
 -- What a walk of names meets.
 use Rattle.std.proofs.Common.{◌≡◌, ℕ, List, [], ◌∷◌, ◌++◌, inl, inr, ◌⊎◌, refl, sym, subst, ⊎_elim}
 use Rattle.mk_graph.specs.Membership.{Has, IsDistinct}
+use Rattle.mk_graph.specs.Lists.{has_left, has_right, has_cases}
 use Rattle.mk_infer.specs.Laws.{Reaches, goal, onward, MeetsWhatIsReached, WalkIsOne}
 use Rattle.mk_infer.specs.Walk.{Meets}
 use Rattle.mk_infer_laws.proofs.Stacks.{Stack, ends, known, new, of_tree, to_tree}
@@ -10,24 +11,10 @@ Name = List ℕ
 
 -- ---- membership
 
-pub Has_left : {A : Type 0} (xs ys : List A) (x : A) → Has xs x → Has (xs ++ ys) x
-Has_left [] ys x h = absurd h
-Has_left (y ∷ xs) ys x (inl e) = inl e
-Has_left (y ∷ xs) ys x (inr h) = inr (Has_left xs ys x h)
-
-pub Has_right : {A : Type 0} (xs ys : List A) (x : A) → Has ys x → Has (xs ++ ys) x
-Has_right [] ys x h = h
-Has_right (y ∷ xs) ys x h = inr (Has_right xs ys x h)
-
-pub Has_cases : {A : Type 0} (xs ys : List A) (x : A) → Has (xs ++ ys) x → Has xs x ⊎ Has ys x
-Has_cases [] ys x h = inr h
-Has_cases (y ∷ xs) ys x (inl e) = inl (inl e)
-Has_cases (y ∷ xs) ys x (inr h) = ⊎_elim (λ k. inl (inr k)) (λ k. inr k) (Has_cases xs ys x h)
-
 push_distinct : {A : Type 0} (xs : List A) (x : A) → IsDistinct xs → ¬ (Has xs x) → IsDistinct (xs ++ x ∷ [])
 push_distinct [] x d fresh = (λ h. h, tt)
 push_distinct (y ∷ xs) x d fresh =
-    (λ h. ⊎_elim d.0 (λ k. ⊎_elim (λ e. fresh (inl (sym e))) (λ k2. k2) k) (Has_cases xs (x ∷ []) y h), push_distinct xs x d.1 (λ h. fresh (inr h)))
+    (λ h. ⊎_elim d.0 (λ k. ⊎_elim (λ e. fresh (inl (sym e))) (λ k2. k2) k) (has_cases xs (x ∷ []) y h), push_distinct xs x d.1 (λ h. fresh (inr h)))
 
 -- ---- what the walk meets
 
@@ -36,15 +23,15 @@ module _ (needs : Name → List Name) where
   stays_met : {met todo all : List Name} → Stack needs met todo all → (name : Name) → Has met name → Has all name
   stays_met ends name h = h
   stays_met (known k m) name h = stays_met m name h
-  stays_met {met} (new {name = other} u m) name h = stays_met m name (Has_left met (other ∷ []) name h)
+  stays_met {met} (new {name = other} u m) name h = stays_met m name (has_left met (other ∷ []) name h)
 
   -- what is to do is met
   pub gets_met : {met todo all : List Name} → Stack needs met todo all → (name : Name) → Has todo name → Has all name
   gets_met ends name h = absurd h
   gets_met (known k m) name (inl e) = subst (Has _) e (stays_met m _ k)
   gets_met (known k m) name (inr h) = gets_met m name h
-  gets_met {met} (new {name = other} u m) name (inl e) = stays_met m name (Has_right met (other ∷ []) name (inl e))
-  gets_met (new {todo} {name = other} u m) name (inr h) = gets_met m name (Has_right (needs other) todo name h)
+  gets_met {met} (new {name = other} u m) name (inl e) = stays_met m name (has_right met (other ∷ []) name (inl e))
+  gets_met (new {todo} {name = other} u m) name (inr h) = gets_met m name (has_right (needs other) todo name h)
 
   -- each name is met once
   pub stay_distinct : {met todo all : List Name} → Stack needs met todo all → IsDistinct met → IsDistinct all
@@ -59,8 +46,8 @@ module _ (needs : Name → List Name) where
   goes_along P step (known k m) of_met of_todo a h = goes_along P step m of_met (λ t k2. of_todo t (inr k2)) a h
   goes_along {met} P step (new {todo} {name} u m) of_met of_todo a h =
       goes_along P step m
-      (λ x k. ⊎_elim (of_met x) (λ k2. ⊎_elim (λ e. subst P e (of_todo name (inl refl))) (λ k3. absurd k3) k2) (Has_cases met (name ∷ []) x k))
-      (λ t k. ⊎_elim (λ k2. step name t (stays_met m name (Has_right met (name ∷ []) name (inl refl))) (of_todo name (inl refl)) k2) (λ k2. of_todo t (inr k2)) (Has_cases (needs name) todo t k))
+      (λ x k. ⊎_elim (of_met x) (λ k2. ⊎_elim (λ e. subst P e (of_todo name (inl refl))) (λ k3. absurd k3) k2) (has_cases met (name ∷ []) x k))
+      (λ t k. ⊎_elim (λ k2. step name t (stays_met m name (has_right met (name ∷ []) name (inl refl))) (of_todo name (inl refl)) k2) (λ k2. of_todo t (inr k2)) (has_cases (needs name) todo t k))
       a h
 
   -- what is needed by what is met is met
@@ -70,9 +57,9 @@ module _ (needs : Name → List Name) where
       stay_closed m (λ n2 h2 w2 k2. ⊎_elim inl (λ x. ⊎_elim (λ e. inl (subst (Has met) e there)) inr x) (closed n2 h2 w2 k2)) n h w k
   stay_closed {met} (new {todo} {name} u m) closed n h w k =
       stay_closed m (λ n2 h2 w2 k2. ⊎_elim
-      (λ old. ⊎_elim (λ x. inl (Has_left met (name ∷ []) w2 x)) (λ x. ⊎_elim (λ e. inl (Has_right met (name ∷ []) w2 (inl e))) (λ y. inr (Has_right (needs name) todo w2 y)) x) (closed n2 old w2 k2))
-      (λ now. ⊎_elim (λ e. inr (Has_left (needs name) todo w2 (subst (λ (z : Name). Has (needs z) w2) (sym e) k2))) (λ z. absurd z) now)
-      (Has_cases met (name ∷ []) n2 h2)) n h w k
+      (λ old. ⊎_elim (λ x. inl (has_left met (name ∷ []) w2 x)) (λ x. ⊎_elim (λ e. inl (has_right met (name ∷ []) w2 (inl e))) (λ y. inr (has_right (needs name) todo w2 y)) x) (closed n2 old w2 k2))
+      (λ now. ⊎_elim (λ e. inr (has_left (needs name) todo w2 (subst (λ (z : Name). Has (needs z) w2) (sym e) k2))) (λ z. absurd z) now)
+      (has_cases met (name ∷ []) n2 h2)) n h w k
 
   -- walks of the same names meet the same
   meets_one : {met todo one other : List Name} → Stack needs met todo one → Stack needs met todo other → one ≡ other
@@ -87,7 +74,7 @@ module _ (needs : Name → List Name) where
   carried other ends same = ends
   carried other (known k m) same = known k (carried other m same)
   carried other {met} (new {todo} {all} {name} u m) same =
-      new u (subst (λ (ns : List Name). Stack other (met ++ name ∷ []) (ns ++ todo) all) (same name (stays_met m name (Has_right met (name ∷ []) name (inl refl)))) (carried other m same))
+      new u (subst (λ (ns : List Name). Stack other (met ++ name ∷ []) (ns ++ todo) all) (same name (stays_met m name (has_right met (name ∷ []) name (inl refl)))) (carried other m same))
 
 -- ---- laws
 
