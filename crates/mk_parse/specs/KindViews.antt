@@ -1,5 +1,9 @@
--- How the parts of lines of the code are seen.
+-- How the parts of lines of the code are seen, and what calls that read them give.
+use Rattle.std.specs.Prelude.{Result}
 use Rattle.std.specs.Option.{option_map}
+use Rattle.mk_lines.specs.Results.{Gives}
+use Rattle.mk_read.specs.declared.fault.KindFault.{KindFault}
+use Rattle.mk_read.specs.declared.fault.KindFault.TheVariants.{Memory}
 use Rattle.mk_read.specs.Kinds.{Kind, IncludeLine, AssignmentLine, RuleLine, Comment, Include, Assignment, Rule}
 use Rattle.mk_parse.specs.declared.kinds.Kind as code
 use Rattle.mk_parse.specs.declared.kinds.Kind.TheVariants as kinds
@@ -26,3 +30,7 @@ kind_view kinds.Comment = Comment
 kind_view (kinds.Include line) = Include (include_view line)
 kind_view (kinds.Assignment line) = Assignment (assignment_view line)
 kind_view (kinds.Rule line) = Rule (rule_view line)
+
+-- What a call returned, seen by view, is what is defined, unless memory ran out.
+abbrev pub GivesKind : {X Y : Type 0} → (X → Y) → Result X KindFault → Result Y KindFault → Type 0
+GivesKind = Gives Memory

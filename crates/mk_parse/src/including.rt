@@ -3,7 +3,8 @@
 ghost use Rattle.std.specs.Prelude.{◌≡◌, ◌<◌, ◌^◌, ◌-◌, ◌⊎◌, Some, map, IfErr, IfOk, IfSome};
 ghost use Rattle.std.specs.Option.{option_map};
 ghost use Rattle.std.specs.String.{string_bytes};
-ghost use Rattle.mk_lines.specs.Lines.{Line, line_view, logical_lines};
+ghost use Rattle.mk_lines.specs.Lines.{Line, logical_lines};
+ghost use Rattle.mk_lines.specs.Views.{line_view};
 ghost use Rattle.mk_lines.specs.Comments.{uncomment};
 ghost use Rattle.mk_read.specs.declared.fault.ReadFault.TheVariants.{Memory, ReadFailed};
 ghost use Rattle.mk_read.specs.Files.{text_at};

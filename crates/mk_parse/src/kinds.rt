@@ -4,8 +4,8 @@ ghost use Rattle.std.specs.Prelude.{◌≡◌, ◌<◌, length, position, IfSome
 ghost use Rattle.std.specs.List.{before_first, after_first};
 ghost use Rattle.mk_lines.specs.Bytes.{is_blank};
 ghost use Rattle.std.specs.Option.{option_map};
-ghost use Rattle.mk_read.specs.Kinds.{include_line, assigned, assignment_line, words_and_command, rule_line, by_parts, of_trimmed, kind_of, GivesKind};
-ghost use Rattle.mk_parse.specs.KindViews.{include_view, rule_view, kind_view};
+ghost use Rattle.mk_read.specs.Kinds.{include_line, assigned, assignment_line, words_and_command, rule_line, by_parts, of_trimmed, kind_of};
+ghost use Rattle.mk_parse.specs.KindViews.{GivesKind, include_view, rule_view, kind_view};
 
 use mk_lines::{first_outside, is_blank, trimmed};
 use mk_macros::{Op, without_blanks};

@@ -2,6 +2,7 @@
 
 ghost use Rattle.std.specs.Prelude.{◌≡◌, [], ◌∷◌, ◌++◌, length, map, nat_le, IfOk, OnOk};
 ghost use Rattle.std.specs.String.{string_bytes};
+ghost use Rattle.mk_read.specs.Reading.{max_texts};
 ghost use Rattle.mk_read.specs.State.{nothing_read, last_rule, owned, Nobody};
 ghost use Rattle.mk_parse.specs.Views.{IsBare, owner_view};
 
@@ -156,7 +157,7 @@ impl State {
 
     /// Whether no text more may be read.
     pub(crate) fn is_full(&self) -> bool
-        ensures { result ≡ nat_le 1024 (length self.now.texts) }
+        ensures { result ≡ nat_le max_texts (length self.now.texts) }
     {
         self.texts.len() >= MAX_TEXTS
     }

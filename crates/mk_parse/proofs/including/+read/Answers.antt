@@ -5,7 +5,7 @@ use Rattle.std.specs.Cow.{cow_slice_items}
 use Rattle.std.specs.Option.{option_map}
 use Rattle.std.specs.declared.alloc.Global.{Global}
 use Rattle.mk_lines.specs.Comments.{uncomment}
-use Rattle.mk_lines.specs.Lines.{line_view}
+use Rattle.mk_lines.specs.Views.{line_view}
 use Rattle.mk_macros.specs.Table.{Macro}
 use Rattle.mk_read.specs.declared.fault.Place.{Place}
 use Rattle.mk_parse.specs.declared.kinds.Kind as code

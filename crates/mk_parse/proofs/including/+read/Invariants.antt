@@ -1,6 +1,6 @@
 use Rattle.std.proofs.Common.{◌≡◌, ◌+◌, ◌*◌, drop, map, string_bytes}
 use Rattle.std.specs.Prelude.{IfSome}
-use Rattle.mk_lines.specs.Lines.{line_view}
+use Rattle.mk_lines.specs.Views.{line_view}
 use Rattle.mk_read.specs.Following.{below}
 use Rattle.mk_read.specs.Reading.{files, with_lines}
 use Rattle.mk_parse.specs.Views.{place_at, read_below, text_of}

@@ -1,7 +1,7 @@
 use Rattle.std.proofs.Common.{rules, sym, subst}
 use Rattle.std.proofs.lemmas.List.{take_rest}
-use Rattle.mk_read.specs.Kinds.{rule_line, GivesKind}
-use Rattle.mk_parse.specs.KindViews.{kind_view}
+use Rattle.mk_read.specs.Kinds.{rule_line}
+use Rattle.mk_parse.specs.KindViews.{GivesKind, kind_view}
 use Rattle.mk_parse.proofs.Colons.{by_rule}
 use Rattle.mk_parse.proofs.kinds.by_parts.Goals as goal
 use Rattle.mk_parse.proofs.kinds.by_parts.Goals.{then-from-lt2+in-58-1, else-from-lt2+then-from-lt3+in-58+in_default-1, else-from-lt2+else-from-lt3+then-from-lt4+in-58+in_default-1, else-from-lt2+else-from-lt3+else-from-lt4+in-58+in_default-1}

@@ -1,6 +1,6 @@
 use Rattle.std.proofs.Common.{subst}
-use Rattle.mk_read.specs.Kinds.{kind_of, of_trimmed, GivesKind}
-use Rattle.mk_parse.specs.KindViews.{kind_view}
+use Rattle.mk_read.specs.Kinds.{kind_of, of_trimmed}
+use Rattle.mk_parse.specs.KindViews.{GivesKind, kind_view}
 use Rattle.mk_parse.proofs.kinds.kind_of.Goals as goal
 
 pub returns : goal.returns

@@ -2,8 +2,8 @@ use Rattle.std.proofs.Common.{◌≡◌, ◌-◌, cond, length, Ok, None, Some, 
 use Rattle.std.proofs.lemmas.List.{take_rest}
 use Rattle.mk_lines.specs.References.{first_outside}
 use Rattle.mk_lines.specs.RuleLines.{is_decisive}
-use Rattle.mk_read.specs.Kinds.{Comment, include_line, by_word, by_byte, by_parts, of_trimmed, GivesKind}
-use Rattle.mk_parse.specs.KindViews.{kind_view}
+use Rattle.mk_read.specs.Kinds.{Comment, include_line, by_word, by_byte, by_parts, of_trimmed}
+use Rattle.mk_parse.specs.KindViews.{GivesKind, kind_view}
 use Rattle.mk_parse.proofs.FirstBytes.{first_decisive}
 use Rattle.mk_parse.proofs.kinds.of_trimmed.Goals as goal
 
