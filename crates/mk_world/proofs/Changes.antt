@@ -1,11 +1,12 @@
 -- What steps of recipes leave of a make.
-use Rattle.std.proofs.Common.{◌≡◌, ℕ, zero, suc, ◌<◌, Bool, true, false, List, [], ◌∷◌, ◌++◌, length, Option, Some, None, map, refl, sym, ap, ◌∙◌, arith, inl, inr, set, subst, nat_eq, not, filter, true≢false, ◌⊎◌, cond, String, Global, string_bytes}
+use Rattle.std.proofs.Common.{◌≡◌, ℕ, zero, suc, ◌<◌, Bool, true, false, List, [], ◌∷◌, length, Option, Some, None, map, refl, sym, ap, ◌∙◌, arith, inl, inr, set, subst, nat_eq, not, filter, true≢false, cond, String, Global, string_bytes}
 use Rattle.std.specs.Prelude.{replicate, unwrap_or, MatchOption, IfSome, is_some}
 use Rattle.std.specs.Option.{option_flatten}
 use Rattle.std.specs.List.{flat_map}
 use Rattle.std.proofs.lemmas.Bool.{cases_Bool, eqb-true, eq-eqb, cond-true, cond-false}
 use Rattle.std.proofs.lemmas.List.{get_or-set_same, get_or-set_other, length-set, length-map, length-replicate}
 use Rattle.mk_graph.specs.Membership.{Has}
+use Rattle.mk_graph.specs.Lists.{has_left, has_right}
 use Rattle.mk_graph.specs.Graph.{Graph, node, IsGraph}
 use Rattle.mk_graph.specs.Setting.{FileName, reads, writes}
 use Rattle.mk_graph.specs.World.{Disk, Busy, changed, outcome}
@@ -19,13 +20,9 @@ use Rattle.mk_world.specs.Fits.{Fits}
 use Rattle.mk_world.proofs.Makes.{changed_run}
 use Rattle.mk_world.proofs.Tables.{look_nothing}
 
-has_appended : (xs ys : List ℕ) (n : ℕ) → Has xs n ⊎ Has ys n → Has (xs ++ ys) n
-has_appended [] ys n h = elim h [ inl none ↦ absurd none | inr r ↦ r ]
-has_appended (x ∷ xs) ys n h = elim h [ inl l ↦ elim l [ inl e ↦ inl e | inr more ↦ inr (has_appended xs ys n (inl more)) ] | inr r ↦ inr (has_appended xs ys n (inr r)) ]
-
 in_open : (done : List ℕ) (groups : List (List ℕ)) (n : ℕ) → InOpenGroup done groups n → Has (flat_map (λ group. group) groups) n
 in_open done [] n h = absurd h
-in_open done (group ∷ groups) n h = elim h [ inl here ↦ has_appended group _ n (inl here) | inr later ↦ has_appended group _ n (inr (in_open done groups n later.1)) ]
+in_open done (group ∷ groups) n h = elim h [ inl here ↦ has_left group _ n here | inr later ↦ has_right group _ n (in_open done groups n later.1) ]
 
 -- what is wanted is a node
 pub wanted_low : (g : Graph) (goals done : List ℕ) → IsGraph g → ((n : ℕ) → Has goals n → n < length g.nodes) → (n : ℕ) → Wanted g goals done n → n < length g.nodes

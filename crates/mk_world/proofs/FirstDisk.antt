@@ -9,18 +9,18 @@ use Rattle.std.proofs.lemmas.List.Kept.{IsStrictlySortedBy-filter}
 use Rattle.std.specs.Ordering.{nat_cmp}
 use Rattle.std.specs.Cmp.Lexicographic.{slice_cmp}
 use Rattle.std.specs.Str.{bytes_eq}
+use Rattle.mk_lines.specs.Names.{place_from}
 use Rattle.mk_foot.specs.Setting as recorded
 use Rattle.mk_graph.specs.Membership.{Has}
 use Rattle.mk_graph.specs.Graph.{Graph, node, no_node}
 use Rattle.mk_graph.specs.declared.node.Node.{Node}
 use Rattle.mk_graph.specs.Setting.{FileName}
 use Rattle.mk_graph.specs.World as world
-use Rattle.mk_graph.specs.World.{place_of, numbered, IsFirst, IsOfWorld}
+use Rattle.mk_graph.specs.World.{numbered, IsFirst, IsOfWorld}
 use Rattle.mk_world.specs.declared.file.File.{File}
 use Rattle.mk_world.specs.Tables.{look}
 use Rattle.mk_world.specs.State.{disk_of, file_of, setting_of}
 use Rattle.mk_world.specs.First.{first_files, first_disk, given_among, AreSorted, IsNameOf, reads_of, writes_of}
-use Rattle.mk_world.proofs.Tables.{bytes_eq_sym}
 use Rattle.mk_world.proofs.Ascending.{ascending}
 
 -- the file with this number, as the model has it
@@ -28,49 +28,42 @@ abbrev numbered_file : ℕ → world.File
 numbered_file n = record { content = n; stamp = n }
 
 -- what isn't given has no place among the given ones
-no_place : (s : recorded.Setting) (names : List FileName) (f : FileName) → recorded.is_given s f ≡ false → place_of (given_among s names) f ≡ None
-no_place s [] f e = refl
-no_place s (h ∷ names) f e = at (recorded.is_given s h) refl (no_place s names f e)
+no_place : (s : recorded.Setting) (n : ℕ) (names : List FileName) (f : FileName) → recorded.is_given s f ≡ false → place_from n (given_among s names) f ≡ None
+unfolding place_from
+no_place s n [] f e = refl
+no_place s n (h ∷ names) f e = at (recorded.is_given s h) refl (no_place s n names f e) (no_place s (n + 1) names f e)
   where
-    at : (b : Bool) → recorded.is_given s h ≡ b → place_of (given_among s names) f ≡ None → place_of (cond b (h ∷ given_among s names) (given_among s names)) f ≡ None
-    at false g ih = ih
-    at true g ih = elim (cases_Bool (bytes_eq h f)) [
-      | inl same ↦ absurd (true≢false (sym g ∙ (ap (recorded.is_given s) ((bytes_eq-Decides h f).0 same) ∙ e)))
-      | inr other ↦ cond-false (bytes_eq h f) (Some 1) _ other ∙ ap (option_map (λ place. place + 1)) ih
+    at : (b : Bool) → recorded.is_given s h ≡ b → place_from n (given_among s names) f ≡ None → place_from (n + 1) (given_among s names) f ≡ None → place_from n (cond b (h ∷ given_among s names) (given_among s names)) f ≡ None
+    at false g this next = this
+    at true g this next = elim (cases_Bool (bytes_eq f h)) [
+      | inl same ↦ absurd (true≢false (sym g ∙ (ap (recorded.is_given s) (sym ((bytes_eq-Decides f h).0 same)) ∙ e)))
+      | inr other ↦ cond-false (bytes_eq f h) (Some n) _ other ∙ next
     ]
 
 -- what stands in the table is what is numbered
-first_from : (s : recorded.Setting) (n : ℕ) (names : List FileName) (f : FileName) → option_map file_of (look names (first_files s n names) f) ≡ option_map (λ place. numbered_file (n + place)) (place_of (given_among s names) f)
+first_from : (s : recorded.Setting) (n : ℕ) (names : List FileName) (f : FileName) → option_map file_of (look names (first_files s n names) f) ≡ option_map numbered_file (place_from (n + 1) (given_among s names) f)
+unfolding place_from
 first_from s n [] f = refl
 first_from s n (h ∷ names) f = at (recorded.is_given s h) refl (first_from s (n + 1) names f) (first_from s n names f)
   where
-    later : (o : Option ℕ) → option_map (λ place. numbered_file (n + 1 + place)) o ≡ option_map (λ place. numbered_file (n + place)) (option_map (λ place. place + 1) o)
-    later None = refl
-    later (Some p) = ap (λ k. Some (numbered_file k)) (omega arith)
-
     at : (b : Bool) → recorded.is_given s h ≡ b
-        → option_map file_of (look names (first_files s (n + 1) names) f) ≡ option_map (λ place. numbered_file (n + 1 + place)) (place_of (given_among s names) f)
-        → option_map file_of (look names (first_files s n names) f) ≡ option_map (λ place. numbered_file (n + place)) (place_of (given_among s names) f)
-        → option_map file_of (look (h ∷ names) (cond b (Some (record { content = n + 1; stamp = n + 1 }) ∷ first_files s (n + 1) names) (None ∷ first_files s n names)) f) ≡ option_map (λ place. numbered_file (n + place)) (place_of (cond b (h ∷ given_among s names) (given_among s names)) f)
+        → option_map file_of (look names (first_files s (n + 1) names) f) ≡ option_map numbered_file (place_from (n + 1 + 1) (given_among s names) f)
+        → option_map file_of (look names (first_files s n names) f) ≡ option_map numbered_file (place_from (n + 1) (given_among s names) f)
+        → option_map file_of (look (h ∷ names) (cond b (Some (record { content = n + 1; stamp = n + 1 }) ∷ first_files s (n + 1) names) (None ∷ first_files s n names)) f) ≡ option_map numbered_file (place_from (n + 1) (cond b (h ∷ given_among s names) (given_among s names)) f)
     at true g next this = elim (cases_Bool (bytes_eq f h)) [
-      | inl e ↦ ap (option_map file_of) (cond-true (bytes_eq f h) _ _ e) ∙ sym (ap (option_map (λ place. numbered_file (n + place))) (cond-true (bytes_eq h f) (Some 1) _ (bytes_eq_sym h f ∙ e)))
-      | inr e ↦ ap (option_map file_of) (cond-false (bytes_eq f h) _ _ e) ∙ (next ∙ (later (place_of (given_among s names) f) ∙ sym (ap (option_map (λ place. numbered_file (n + place))) (cond-false (bytes_eq h f) (Some 1) _ (bytes_eq_sym h f ∙ e)))))
+      | inl e ↦ ap (option_map file_of) (cond-true (bytes_eq f h) _ _ e) ∙ sym (ap (option_map numbered_file) (cond-true (bytes_eq f h) (Some (n + 1)) _ e))
+      | inr e ↦ ap (option_map file_of) (cond-false (bytes_eq f h) _ _ e) ∙ (next ∙ sym (ap (option_map numbered_file) (cond-false (bytes_eq f h) (Some (n + 1)) _ e)))
     ]
     at false g next this = elim (cases_Bool (bytes_eq f h)) [
-      | inl e ↦ ap (option_map file_of) (cond-true (bytes_eq f h) _ _ e) ∙ sym (ap (option_map (λ place. numbered_file (n + place))) (no_place s names f (ap (recorded.is_given s) ((bytes_eq-Decides f h).0 e) ∙ g)))
+      | inl e ↦ ap (option_map file_of) (cond-true (bytes_eq f h) _ _ e) ∙ sym (ap (option_map numbered_file) (no_place s (n + 1) names f (ap (recorded.is_given s) ((bytes_eq-Decides f h).0 e) ∙ g)))
       | inr e ↦ ap (option_map file_of) (cond-false (bytes_eq f h) _ _ e) ∙ this
     ]
 
 -- it is the disk on which the given names are numbered
 pub first_is : (s : recorded.Setting) (names : List FileName) → disk_of (first_disk s names) ≡ numbered (given_among s names)
 first_is s names =
-    let at : (f : FileName) → option_map file_of (look names (first_files s 0 names) f) ≡ option_map numbered_file (place_of (given_among s names) f) =
-    λ f. first_from s 0 names f ∙ plain (place_of (given_among s names) f) in
+    let at : (f : FileName) → option_map file_of (look names (first_files s 0 names) f) ≡ option_map numbered_file (place_from 1 (given_among s names) f) = λ f. first_from s 0 names f in
     λ i. record { files = λ f. at f i; clock = length (given_among s names); known = [] }
-  where
-    plain : (o : Option ℕ) → option_map (λ place. numbered_file (0 + place)) o ≡ option_map numbered_file o
-    plain None = refl
-    plain (Some p) = ap (λ k. Some (numbered_file k)) (omega arith)
 
 -- what stands among the given ones
 given_has : (s : recorded.Setting) (names : List FileName) (f : FileName) → Has (given_among s names) f ↔ (Has names f × (recorded.is_given s f ≡ true))

@@ -5,6 +5,7 @@ ghost use Rattle.std.specs.String.{string_bytes};
 ghost use Rattle.mk_lines.specs.Names.{has_name};
 ghost use Rattle.mk_world.specs.First.{first_disk};
 ghost use Rattle.mk_world.specs.Listing.{listing};
+ghost use Rattle.mk_graph.specs.Graph.{max_nodes};
 ghost use Rattle.mk_graph.specs.World.{content, written, last_stamp, outcome};
 ghost use Rattle.mk_graph.specs.Schedule.{noted};
 ghost use Rattle.mk_graph.specs.Setting.{FileName};
@@ -206,7 +207,7 @@ impl Disk {
         making: &mut Making,
     ) -> Result<(), AllocError>
         requires node { sight.recipe < length making.old.runs }
-        requires small { sight.recipe < 4096 }
+        requires small { sight.recipe < max_nodes }
         ensures noted { OnOk result (disk_of self.new ≡ noted (disk_of self.old) (record {
           recipe = sight.recipe;
           seen = sight.seen.items;

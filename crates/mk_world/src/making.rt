@@ -3,6 +3,7 @@
 ghost use Rattle.std.specs.Prelude.{◌≡◌, ℕ, [], ◌<◌, ◌↔◌, length, true, IfOk, OnOk, OnErr, filter, not, nat_eq, replicate};
 ghost use Rattle.std.specs.Bool.{OnTrue, OnFalse};
 ghost use Rattle.mk_lines.specs.Names.{has_name};
+ghost use Rattle.mk_graph.specs.Graph.{max_nodes};
 ghost use Rattle.mk_graph.specs.Membership.{Has};
 ghost use Rattle.mk_graph.specs.Turns.{MayTurn, HasAll};
 ghost use Rattle.mk_world.specs.Kept.{IsKept};
@@ -143,7 +144,7 @@ impl Making {
     /// Notes that a node is done.
     pub fn finish(&mut self, number: usize) -> Result<(), AllocError>
         requires node { number < length self.old.runs }
-        requires small { number < 4096 }
+        requires small { number < max_nodes }
         ensures ok { OnOk result (self.new ≡ finished self.old number) }
         ensures err { OnErr result (self.new ≡ self.old) }
     {

@@ -1,6 +1,7 @@
 //! What recipes are known to give.
 
 ghost use Rattle.std.specs.Prelude.{◌≡◌, ◌∷◌, [], ◌<◌, length, IfOk, OnOk, OnErr, None, Option, option_map};
+ghost use Rattle.mk_graph.specs.Graph.{max_nodes};
 ghost use Rattle.mk_graph.specs.World.{outcome};
 ghost use Rattle.mk_world.specs.State.{finished};
 
@@ -65,7 +66,7 @@ impl Outcomes {
     ) -> Result<(), AllocError>
         requires new { outcome self.old sight.recipe sight.seen.items ≡ None }
         requires node { sight.recipe < length making.old.runs }
-        requires small { sight.recipe < 4096 }
+        requires small { sight.recipe < max_nodes }
         ensures noted { OnOk result (self.new ≡ record {
           recipe = sight.recipe;
           seen = sight.seen.items;

@@ -2,6 +2,7 @@
 
 ghost use Rattle.std.specs.Prelude.{◌≡◌, ◌<◌, ◌≤◌, length, true, IfOk};
 ghost use Rattle.mk_foot.specs.Setting as recorded;
+ghost use Rattle.mk_graph.specs.Graph.{max_nodes};
 ghost use Rattle.mk_world.specs.State.{number_of, setting};
 ghost use Rattle.mk_world.specs.Fits.{footprint};
 ghost use Rattle.mk_world.specs.Running.{is_node};
@@ -93,7 +94,7 @@ impl<'a> Scene<'a> {
     pub fn footprint(&self, number: usize) -> &Footprint<'a>
         requires { number < length self.now.graph.nodes }
         ensures value { result.now ≡ footprint self.now.graph (setting self.now) number }
-        ensures few { length self.now.graph.nodes ≤ 4096 }
+        ensures few { length self.now.graph.nodes ≤ max_nodes }
     {
         &self.footprints[number]
     }
