@@ -1,7 +1,8 @@
 -- Makes of a run and of the history that it follows: they agree in all but nodes without recipe that are done, and in the order of goals and of what is done.
-use Rattle.std.proofs.Common.{◌≡◌, ℕ, ◌<◌, Bool, true, false, cond, not, ◌||◌, None, List, [], ◌∷◌, ◌++◌, length, filter, flat_map, nat_eq, refl, sym, ap, ◌∙◌, subst, inl, inr}
+use Rattle.std.proofs.Common.{◌≡◌, ℕ, ◌<◌, Bool, true, false, cond, not, ◌||◌, None, List, [], ◌∷◌, length, filter, flat_map, nat_eq, refl, sym, ap, ◌∙◌, subst, inl, inr}
 use Rattle.std.proofs.lemmas.Bool.{true≢false, eqb-true, eq-eqb}
 use Rattle.mk_graph.specs.Membership.{Has, has, IsWithin}
+use Rattle.mk_graph.specs.Lists.{has_left, has_right}
 use Rattle.mk_graph.specs.Graph.{Graph, IsGraph, node}
 use Rattle.mk_graph.specs.Serial.{serial_order}
 use Rattle.mk_graph.specs.Laws.{SerialReachesEachOnce}
@@ -95,19 +96,10 @@ changed_beside at n new t apart = both (nat_eq n t) refl
 
 -- wanted nodes are nodes
 
-has_front : (xs ys : List ℕ) (n : ℕ) → Has xs n → Has (xs ++ ys) n
-has_front [] ys n h = absurd h
-has_front (x ∷ xs) ys n (inl e) = inl e
-has_front (x ∷ xs) ys n (inr r) = inr (has_front xs ys n r)
-
-has_back : (xs ys : List ℕ) (n : ℕ) → Has ys n → Has (xs ++ ys) n
-has_back [] ys n h = h
-has_back (x ∷ xs) ys n h = inr (has_back xs ys n h)
-
 pub open_joined : (done : List ℕ) (groups : List (List ℕ)) (n : ℕ) → InOpenGroup done groups n → Has (flat_map (λ group. group) groups) n
 open_joined done [] n h = absurd h
-open_joined done (group ∷ groups) n (inl here) = has_front group (flat_map (λ l. l) groups) n here
-open_joined done (group ∷ groups) n (inr later) = has_back group (flat_map (λ l. l) groups) n (open_joined done groups n later.1)
+open_joined done (group ∷ groups) n (inl here) = has_left group (flat_map (λ l. l) groups) n here
+open_joined done (group ∷ groups) n (inr later) = has_right group (flat_map (λ l. l) groups) n (open_joined done groups n later.1)
 
 pub wanted_low : (g : Graph) (goals done : List ℕ) → IsGraph g → IsWithin goals g.goals → (n : ℕ) → Wanted g goals done n → n < length g.nodes
 wanted_low g goals done is within n (goal h) = is.sound.goals n (within n h)

@@ -8,7 +8,8 @@ use Rattle.mk_graph.specs.Membership.{Has, IsDistinct}
 use Rattle.mk_search.specs.Ways.{end, IsWay, Precedes, IsFirstThere}
 use Rattle.mk_search.specs.Places.{IsRising}
 use Rattle.mk_search.specs.Laws.{PlacesAreBelow}
-use Rattle.mk_search.proofs.Lists.{mapped_from, length_mapped}
+use Rattle.mk_graph.specs.Lists.{mapped_from}
+use Rattle.mk_search.proofs.Lists.{length_mapped}
 use Rattle.mk_search.proofs.Order.{before_none}
 use Rattle.mk_search.proofs.Firsts.{one_first_there}
 use Rattle.mk_search.proofs.Tables.{has_from_any}

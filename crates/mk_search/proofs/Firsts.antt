@@ -6,7 +6,8 @@ use Rattle.mk_graph.specs.Membership.{Has}
 use Rattle.mk_search.specs.Ways.{end, IsWay, Precedes, IsFirst, IsFirstThere}
 use Rattle.mk_search.specs.Places.{IsRising, IsBeginning, StandsAt}
 use Rattle.mk_search.specs.Laws.{FirstIsOne, FirstIsShortest, OneWayAtAPlace, SaysNoBefore, FirstByPlaces, NoneByPlaces}
-use Rattle.mk_search.proofs.Lists.{has_left, has_right, has_cases, cut_at, at_place, join_assoc, mapped_from, has_mapped, map_joined}
+use Rattle.mk_graph.specs.Lists.{has_left, has_right, has_cases, mapped_from, has_mapped}
+use Rattle.mk_search.proofs.Lists.{cut_at, at_place, join_assoc, map_joined}
 use Rattle.mk_search.proofs.Order.{before_none, before_once, before_later}
 use Rattle.mk_search.proofs.Reading.{as_read}
 

@@ -7,7 +7,8 @@ use Rattle.mk_search.specs.declared.visits.Visit.{Visit}
 use Rattle.mk_search.specs.Ways.{successors, end, IsWay}
 use Rattle.mk_search.specs.Places.{EndsAt, GoesAt, HasAtMost, IsOut}
 use Rattle.mk_search.specs.Progress.{IsUnderWay, nodes_of, visit_at, IsVisited, AreWaysOf, Stands}
-use Rattle.mk_search.proofs.Lists.{has_at, at_place, at_front, at_mapped, length_mapped, map_joined, join_none, join_assoc, mapped_from}
+use Rattle.mk_graph.specs.Lists.{mapped_from}
+use Rattle.mk_search.proofs.Lists.{has_at, at_place, at_front, at_mapped, length_mapped, map_joined, join_none, join_assoc}
 use Rattle.mk_search.proofs.Few.{few_below}
 use Rattle.mk_search.proofs.Steps.{begins, passes, finds, goes_on, has_at_most, is_out, stands_at}
 

@@ -1,28 +1,12 @@
 -- What stands in joined and mapped lists, and at which place.
-use Rattle.std.proofs.Common.{◌≡◌, ℕ, ◌<◌, zero, suc, eqb, List, [], ◌∷◌, ◌++◌, length, map, get_or, ◌⊎◌, inl, inr, ⊎_elim, refl, sym, ◌∙◌, ap, subst, arith, eqb-true, eq-eqb}
+use Rattle.std.proofs.Common.{◌≡◌, ℕ, ◌<◌, zero, suc, eqb, List, [], ◌∷◌, ◌++◌, length, map, get_or, ◌⊎◌, inl, inr, refl, sym, ◌∙◌, ap, subst, arith, eqb-true, eq-eqb}
 use Rattle.std.proofs.lemmas.Bool.{cases_Bool, cond-true, cond-false, false≢true, ne_eqb}
 use Rattle.mk_graph.specs.Membership.{Has, IsDistinct}
+use Rattle.mk_graph.specs.Lists.{has_cases, has_mapped}
 use Rattle.mk_search.specs.Ways.{place}
 
 -- in two joined lists
 module _ {A : Type 0} where
-  -- what stands in the first list
-  pub has_left : (xs ys : List A) (x : A) → Has xs x → Has (xs ++ ys) x
-  has_left [] ys x h = absurd h
-  has_left (y ∷ xs) ys x (inl here) = inl here
-  has_left (y ∷ xs) ys x (inr there) = inr (has_left xs ys x there)
-
-  -- what stands in the second list
-  pub has_right : (xs ys : List A) (x : A) → Has ys x → Has (xs ++ ys) x
-  has_right [] ys x h = h
-  has_right (y ∷ xs) ys x h = inr (has_right xs ys x h)
-
-  -- it stands in one of the two
-  pub has_cases : (xs ys : List A) (x : A) → Has (xs ++ ys) x → Has xs x ⊎ Has ys x
-  has_cases [] ys x h = inr h
-  has_cases (y ∷ xs) ys x (inl here) = inl (inl here)
-  has_cases (y ∷ xs) ys x (inr there) = ⊎_elim (λ h. inl (inr h)) (λ h. inr h) (has_cases xs ys x there)
-
   -- what stands in a list cuts it in two
   pub cut_at : (xs : List A) (x : A) → Has xs x → (front : List A) × (back : List A) × (xs ≡ front ++ x ∷ back)
   cut_at [] x h = absurd h
@@ -72,18 +56,6 @@ module _ {A : Type 0} where
 
 -- in a mapped list
 module _ {A B : Type 0} (f : A → B) where
-  -- what an element is taken to
-  pub has_mapped : (xs : List A) (x : A) → Has xs x → Has (map f xs) (f x)
-  has_mapped [] x h = absurd h
-  has_mapped (k ∷ xs) x (inl here) = inl (ap f here)
-  has_mapped (k ∷ xs) x (inr there) = inr (has_mapped xs x there)
-
-  -- some element is taken there
-  pub mapped_from : (xs : List A) (y : B) → Has (map f xs) y → (x : A) × Has xs x × (f x ≡ y)
-  mapped_from [] y h = absurd h
-  mapped_from (x ∷ xs) y (inl here) = (x, inl refl, here)
-  mapped_from (x ∷ xs) y (inr there) = let rest = mapped_from xs y there in (rest.0, inr rest.1, rest.2)
-
   -- joined lists
   pub map_joined : (xs ys : List A) → map f (xs ++ ys) ≡ map f xs ++ map f ys
   map_joined [] ys = refl
@@ -104,8 +76,8 @@ module _ {A B : Type 0} (f : A → B) where
   pub apart_from : (xs : List A) → IsDistinct (map f xs) → (x y : A) → Has xs x → Has xs y → f x ≡ f y → x ≡ y
   apart_from [] d x y h k e = absurd h
   apart_from (z ∷ xs) d x y (inl h) (inl k) e = sym h ∙ k
-  apart_from (z ∷ xs) d x y (inl h) (inr k) e = absurd (d.0 (subst (λ (b : B). Has (map f xs) b) (sym e ∙ sym (ap f h)) (has_mapped xs y k)))
-  apart_from (z ∷ xs) d x y (inr h) (inl k) e = absurd (d.0 (subst (λ (b : B). Has (map f xs) b) (e ∙ sym (ap f k)) (has_mapped xs x h)))
+  apart_from (z ∷ xs) d x y (inl h) (inr k) e = absurd (d.0 (subst (λ (b : B). Has (map f xs) b) (sym e ∙ sym (ap f h)) (has_mapped f xs y k)))
+  apart_from (z ∷ xs) d x y (inr h) (inl k) e = absurd (d.0 (subst (λ (b : B). Has (map f xs) b) (e ∙ sym (ap f k)) (has_mapped f xs x h)))
   apart_from (z ∷ xs) d x y (inr h) (inr k) e = apart_from xs d.1 x y h k e
 
 -- one more element, that isn't there, keeps elements apart

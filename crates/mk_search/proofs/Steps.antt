@@ -4,7 +4,8 @@ use Rattle.mk_graph.specs.Membership.{Has, IsDistinct}
 use Rattle.mk_search.specs.Ways.{end, IsWay, place, Precedes}
 use Rattle.mk_search.specs.Places.{IsRising, IsBeginning, StandsAt, HasAtMost, IsOut}
 use Rattle.mk_search.specs.Progress.{IsMet, IsUnderWay}
-use Rattle.mk_search.proofs.Lists.{has_left, has_right, has_cases, cut_at_place, head_is, join_assoc, join_none, mapped_from, has_mapped, map_joined, apart_from, apart_pushed, has_or_not, front_first}
+use Rattle.mk_graph.specs.Lists.{has_left, has_right, has_cases, mapped_from, has_mapped}
+use Rattle.mk_search.proofs.Lists.{cut_at_place, head_is, join_assoc, join_none, map_joined, apart_from, apart_pushed, has_or_not, front_first}
 use Rattle.mk_search.proofs.Order.{before_later, no_later_trans, one_step_on}
 use Rattle.mk_search.proofs.Firsts.{rising_across, rising_pushed, beginning_front}
 
