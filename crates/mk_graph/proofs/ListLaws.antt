@@ -1,5 +1,5 @@
 -- What stands in appended, mapped and joined lists.
-use Rattle.std.proofs.Common.{◌≡◌, List, map, ⊎_elim, subst}
+use Rattle.std.proofs.Common.{map, ⊎_elim, subst}
 use Rattle.mk_graph.specs.Membership.{Has, MembersOfAppended, MembersOfMapped, MembersOfJoined}
 use Rattle.mk_graph.specs.Lists.{has_left, has_right, has_cases, has_mapped, mapped_from, joined_to, joined_from}
 
