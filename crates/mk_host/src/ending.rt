@@ -16,7 +16,7 @@ use std::process::ExitCode;
 pub const FAULT: u8 = 2;
 
 /// The exit status of want of memory.
-pub const NO_MEMORY: u8 = 3;
+const NO_MEMORY: u8 = 3;
 
 /// Why a run has no outcome.
 #[derive(Clone, Copy, Debug)]

@@ -10,8 +10,8 @@ mod source;
 mod writing;
 
 pub use disk::Disk;
-pub use ending::{Ending, FAULT, NO_MEMORY, Stop, conclude, end};
+pub use ending::{Ending, FAULT, Stop, conclude, end};
 pub use outcome::Outcome;
-pub use reading::{MAX_FILE, slurp};
+pub use reading::slurp;
 pub use source::Source;
 pub use writing::{WriteFailed, emit};

@@ -10,7 +10,7 @@ use std::alloc::{AllocError, Global};
 use std::io::{ErrorKind, Read};
 
 /// The most bytes of a file that are read.
-pub const MAX_FILE: usize = 16_777_216;
+const MAX_FILE: usize = 16_777_216;
 
 const CHUNK: usize = 65_536;
 
