@@ -1,6 +1,6 @@
 -- Laws of findings: of their lists, and of what it means that there are none.
 use Rattle.std.specs.Prelude.{◌≡◌, ℕ, List, [], ◌∷◌, ◌↔◌, map, ⊤, Result, Ok}
-use Rattle.mk_graph.specs.Membership.{Has}
+use Rattle.mk_graph.specs.Membership.{Has, IsWithin}
 use Rattle.mk_graph.specs.Graph.{Graph, IsGraph}
 use Rattle.mk_graph.specs.Setting.{FileName, Setting}
 use Rattle.mk_graph.specs.World.{Disk, Idle, IsStart}
@@ -10,7 +10,7 @@ use Rattle.mk_graph.specs.Ways.{Way}
 use Rattle.mk_graph.specs.Right.{AreSound, HaveNoRace, HaveWays, IsRight, IsRightAt}
 use Rattle.mk_graph.specs.Setting as build
 use Rattle.mk_read.specs.Reading.{Makefile}
-use Rattle.mk_infer.specs.Laws.{AreAmong, IsPartOf, StaysSelected}
+use Rattle.mk_infer.specs.Laws.{IsPartOf, StaysSelected}
 use Rattle.mk_infer.specs.Selection.{Selects}
 use Rattle.mk_infer.specs.There.{Exists}
 use Rattle.mk_cert.specs.declared.fault.CertFault.{CertFault}
@@ -51,7 +51,7 @@ NothingFoundIsSound =
 -- it is one of the whole graph, but for its number.
 abbrev pub PartsStay : Makefile → Exists → List (List ℕ) → List (List ℕ) → Graph → Type 0
 PartsStay m e writes goals g =
-    (some : List (List ℕ)) → AreAmong some goals →
+    (some : List (List ℕ)) → IsWithin some goals →
     (h : Graph) × IsPartOf h g × StaysSelected m e writes some h
 
 -- Where no selection is found to change, whatever else is, the graph is the one that is selected

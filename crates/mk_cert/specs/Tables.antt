@@ -3,17 +3,12 @@ use Rattle.std.specs.Prelude.{◌≡◌, ℕ, ◌<◌, List, [], length, slice_i
 use Rattle.std.specs.Borrow.{Bor}
 use Rattle.std.specs.declared.alloc.Global.{Global}
 use Rattle.indexmap.specs.IndexMap.{IndexMap}
-use Rattle.mk_lines.specs.Names.{has_name}
 use Rattle.mk_graph.specs.Graph.{IsGraph}
 use Rattle.mk_infer.specs.Commands.{Commands}
 use Rattle.mk_cert.specs.Subject.{Subject, commands_of, reads_of}
 use Rattle.mk_cert.specs.Entry.{Entry, AreEntries, writers_of}
 use Rattle.mk_cert.specs.Known.{Known, StandAt, all_names, known_of}
 use Rattle.mk_cert.specs.Writers.{numbers_at}
-
--- a set holds the names of a list
-abbrev pub HoldsNames : List (List ℕ) → List (List ℕ) → Type 0
-HoldsNames set names = (name : List ℕ) → has_name set name ≡ has_name names name
 
 -- what is looked up is the subject's
 pub record AreTables {S : Type 0} (x : Subject) (entries : List Entry)

@@ -14,11 +14,10 @@ ghost use Rattle.mk_cert.specs.Links.{AreEnds, AreLinks};
 use crate::entry::reads_in;
 use crate::needed::Needed;
 use crate::subject::Subject;
-use crate::tables::names_among;
 use mk_foot::Setting;
 use mk_graph::laws::serial_reaches_each_once;
 use mk_graph::{Graph, NodeSet};
-use mk_lines::NameSet;
+use mk_lines::{NameSet, names_among};
 use std::alloc::{AllocError, Global};
 
 /// What is looked up where ways end: at the number of each node what is so of it.

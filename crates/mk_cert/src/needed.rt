@@ -1,6 +1,7 @@
 //! What a node needs, looked up by number.
 
 ghost use Rattle.std.specs.Prelude.{◌≡◌, ◌<◌, ◌↔◌, ℕ, true, IfOk};
+ghost use Rattle.mk_graph.specs.Graph.{max_nodes};
 ghost use Rattle.mk_graph.specs.Membership.{Has};
 
 use crate::writer_findings::has_number;
@@ -32,7 +33,7 @@ impl<'a> Model for Needed<'a> {
 
 /// The set of these numbers.
 fn set_of(numbers: &[usize]) -> NodeSet
-    requires { (n : ℕ) → Has numbers.now n → n < 4096 }
+    requires { (n : ℕ) → Has numbers.now n → n < max_nodes }
     ensures { (n : ℕ) → Has result n ↔ Has numbers.now n }
 {
     let mut set = NodeSet::new();
@@ -43,7 +44,7 @@ fn set_of(numbers: &[usize]) -> NodeSet
 impl<'a> Needed<'a> {
     /// Those of this list. The error is want of memory alone.
     pub fn new(alloc: Global, list: &'a [usize]) -> Result<Needed<'a>, AllocError>
-        requires { (n : ℕ) → Has list.now n → n < 4096 }
+        requires { (n : ℕ) → Has list.now n → n < max_nodes }
         ensures { IfOk result (λ needed. needed ≡ list.now) }
     {
         let set = if list.len() > FEW {

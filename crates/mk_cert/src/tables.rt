@@ -1,11 +1,10 @@
 //! What a subject looks up.
 
-ghost use Rattle.std.specs.Prelude.{◌≡◌, [], map, IfErr, IfOk};
-ghost use Rattle.std.specs.String.{string_bytes};
+ghost use Rattle.std.specs.Prelude.{◌≡◌, [], IfErr, IfOk};
 ghost use Rattle.mk_graph.specs.Graph.{IsGraph};
 ghost use Rattle.mk_cert.specs.Subject.{subject_of};
 ghost use Rattle.mk_cert.specs.Entry.{AreEntries, IsFaultOf};
-ghost use Rattle.mk_cert.specs.Tables.{AreTables, HoldsNames};
+ghost use Rattle.mk_cert.specs.Tables.{AreTables};
 
 use crate::entry::Entry;
 use crate::known::{ReadFiles, read_files};
@@ -30,17 +29,6 @@ pub struct Tables<'a> {
     pub names: NameSet<'a>,
     /// What is known of the files that recipes read.
     pub reads: ReadFiles,
-}
-
-/// The names of a list, to be looked up.
-pub fn names_among<'a>(alloc: Global, names: &'a [String]) -> Result<NameSet<'a>, AllocError>
-    ensures { IfOk result (λ set. HoldsNames set (map string_bytes names.now)) }
-{
-    let mut set = NameSet::new(alloc);
-    for name in names {
-        set.insert(name)?;
-    }
-    Ok(set)
 }
 
 /// What is looked up of each node, and that the graph is one.
