@@ -1,18 +1,13 @@
 -- What the fixtures are tested for makes them sound.
-use Rattle.std.proofs.Common.{◌≡◌, ℕ, zero, suc, ◌+◌, ◌<◌, List, [], ◌∷◌, ◌++◌, ◌⊎◌, length, map, take, get_or, Vec, inl, inr, ⊎_elim, refl, sym, ap, subst, ◌∙◌, arith}
+use Rattle.std.proofs.Common.{◌≡◌, ℕ, zero, suc, ◌+◌, ◌<◌, List, [], ◌∷◌, ◌⊎◌, length, map, take, get_or, Vec, inl, inr, ⊎_elim, refl, sym, ap, subst, ◌∙◌, arith}
 use Rattle.std.specs.declared.alloc.Global.{Global}
 use Rattle.std.proofs.lemmas.List.{length-map, map_more, get_or-map}
 use mathlib.Core.Path.{fun_ext}
 use Rattle.mk_graph.specs.declared.node.Node.{Node}
 use Rattle.mk_graph.specs.Membership.{Has, IsDistinct}
+use Rattle.mk_graph.specs.Lists.{has_cases}
 use Rattle.mk_graph.specs.Graph.{Graph, Reached, goal, onward, no_node, prerequisites, IsSound}
 use Rattle.mk_build_tests.specs.Rows.{items_of, row, needs, AreRows, HaveParents}
-
--- what stands in two joined lists stands in one of the two
-Has-append_cases : {A : Type 0} (xs ys : List A) (x : A) → Has (xs ++ ys) x → Has xs x ⊎ Has ys x
-Has-append_cases [] ys x h = inr h
-Has-append_cases (y ∷ xs) ys x (inl here) = inl (inl here)
-Has-append_cases (y ∷ xs) ys x (inr there) = ⊎_elim (λ h. inl (inr h)) (λ h. inr h) (Has-append_cases xs ys x there)
 
 -- the element at a place stands in the list
 pub Has-get_or : (xs : List ℕ) (i d : ℕ) → i < length xs → Has xs (get_or xs i d)
@@ -23,7 +18,7 @@ Has-get_or (x ∷ xs) (suc i) d within = inr (Has-get_or xs i d (omega arith))
 -- one more element whose image is another adds nothing
 pub not_Has-map_more : {X Y : Type 0} (f : X → Y) (xs : List X) (i : ℕ) (x : X) (y : Y) → i < length xs → x ≡ get_or xs i x → (f x ≡ y → ⊥) → ¬ (Has (map f (take i xs)) y) → ¬ (Has (map f (take (i + 1) xs)) y)
 not_Has-map_more f xs i x y within is ne out h =
-    ⊎_elim out (λ last. ⊎_elim (λ e. ne (ap f is ∙ e)) (λ none. none) last) (Has-append_cases (map f (take i xs)) (f (get_or xs i x) ∷ []) y (subst (λ l. Has l y) (map_more f xs i x within) h))
+    ⊎_elim out (λ last. ⊎_elim (λ e. ne (ap f is ∙ e)) (λ none. none) last) (has_cases (map f (take i xs)) (f (get_or xs i x) ∷ []) y (subst (λ l. Has l y) (map_more f xs i x within) h))
 
 -- what holds at each place holds of all that stands in the list
 pub Has-from_All : (P : ℕ → Type 0) (xs : List ℕ) → ((k : ℕ) → k < length xs → P (get_or xs k 0)) → (n : ℕ) → Has xs n → P n

@@ -16,7 +16,7 @@ use Rattle.mk_cert.specs.Subject.{Subject, reads_of}
 use Rattle.mk_cert.specs.Verdict.{Read}
 use Rattle.mk_find.specs.FirstPaths.{GoesFirst}
 use Rattle.mk_find.proofs.Accepted.{carried_are_recipes}
-use Rattle.mk_find.proofs.Members.{has_mapped}
+use Rattle.mk_graph.specs.Lists.{has_mapped}
 use Rattle.mk_find.proofs.ReadsOnce.{recipe_is_node}
 use Rattle.mk_find.specs.Certifying.{Needs, IsEntryFor, AreEntriesFor, nothing, entry, none, AddsEntries}
 

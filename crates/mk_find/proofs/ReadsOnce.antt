@@ -15,7 +15,8 @@ use Rattle.mk_cert.specs.Conditions.{IsRecipe}
 use Rattle.mk_cert.specs.Subject.{Subject, reads_of}
 use Rattle.mk_cert.specs.Verdict.{Read}
 use Rattle.mk_find.specs.Certifying.{reads_by, reads_once}
-use Rattle.mk_find.proofs.Members.{distinct_joined, has_mapped, mapped_from, distinct_mapped, joined_to, joined_from, kept_from, kept_to, distinct_kept}
+use Rattle.mk_graph.specs.Lists.{has_mapped, mapped_from, joined_to, joined_from}
+use Rattle.mk_find.proofs.Members.{distinct_joined, distinct_mapped, kept_from, kept_to, distinct_kept}
 
 -- a name stands in the list in which each stands once
 once_has : (names : List (List ℕ)) (f : List ℕ) → Has names f → Has (once names) f

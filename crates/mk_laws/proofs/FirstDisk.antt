@@ -14,6 +14,7 @@ use Rattle.std.proofs.lemmas.Slice.Eq.{bytes_eq-Decides}
 use Rattle.mk_graph.specs.declared.node.Node.{Node}
 use Rattle.mk_graph.specs.Graph.{Graph, node, no_node}
 use Rattle.mk_graph.specs.Membership.{Has}
+use Rattle.mk_graph.specs.Lists.{has_left, has_right, has_cases}
 use Rattle.mk_graph.specs.Setting.{FileName, Setting, is_given, name, reads, writes}
 use Rattle.mk_graph.specs.World.{AreAscending, Disk, IsFirst, IsOfWorld, numbered}
 use Rattle.mk_laws.specs.EvidenceLaws.{FirstDiskIsThere}
@@ -98,20 +99,6 @@ has_sorted (f ∷ names) g = (
 
 -- ---- lists
 
-has_left : (xs ys : List FileName) (f : FileName) → Has xs f → Has (xs ++ ys) f
-has_left [] ys f h = absurd h
-has_left (x ∷ xs) ys f (inl e) = inl e
-has_left (x ∷ xs) ys f (inr h) = inr (has_left xs ys f h)
-
-has_right : (xs ys : List FileName) (f : FileName) → Has ys f → Has (xs ++ ys) f
-has_right [] ys f h = h
-has_right (x ∷ xs) ys f h = inr (has_right xs ys f h)
-
-has_one : (xs ys : List FileName) (f : FileName) → Has (xs ++ ys) f → Has xs f ⊎ Has ys f
-has_one [] ys f h = inr h
-has_one (x ∷ xs) ys f (inl e) = inl (inl e)
-has_one (x ∷ xs) ys f (inr h) = ⊎_elim (λ k. inl (inr k)) (λ k. inr k) (has_one xs ys f h)
-
 module _ (p : FileName → Bool) where
   kept : (xs : List FileName) (f : FileName) → Has (filter p xs) f → Has xs f × (p f ≡ true)
   kept [] f h = absurd h
@@ -137,7 +124,7 @@ module _ (names : Node → List FileName) where
   at_place : (nodes : List Node) (f : FileName) → Has (flat_map names nodes) f → (n : ℕ) × ((n < length nodes) × Has (names (get_or nodes n no_node)) f)
   at_place [] f h = absurd h
   at_place (x ∷ nodes) f h =
-      ⊎_elim (λ k. (0, (omega arith, k))) (λ k. let r = at_place nodes f k in (suc r.0, (omega (arith, r.1.0), r.1.1))) (has_one (names x) (flat_map names nodes) f h)
+      ⊎_elim (λ k. (0, (omega arith, k))) (λ k. let r = at_place nodes f k in (suc r.0, (omega (arith, r.1.0), r.1.1))) (has_cases (names x) (flat_map names nodes) f h)
 
   from_place : (nodes : List Node) (n : ℕ) (f : FileName) → n < length nodes → Has (names (get_or nodes n no_node)) f → Has (flat_map names nodes) f
   from_place [] n f low h = absurd (omega arith)
@@ -158,7 +145,7 @@ module _ (g : Graph) (s : Setting) where
   in_recipe n f h = at (node g n).recipe h
     where
       at : (b : Bool) → Has (cond b (s.reads (name g n) ++ s.writes (name g n)) []) f → Has (cond b (s.reads (name g n)) []) f ⊎ Has (cond b (s.writes (name g n)) []) f
-      at true k = has_one (s.reads (name g n)) (s.writes (name g n)) f k
+      at true k = has_cases (s.reads (name g n)) (s.writes (name g n)) f k
       at false k = absurd k
 
   of_recipe : (n : ℕ) (f : FileName) → Has (reads g s n) f ⊎ Has (writes g s n) f → Has (cond (node g n).recipe (s.reads (name g n) ++ s.writes (name g n)) []) f
@@ -185,7 +172,7 @@ module _ (g : Graph) (s : Setting) where
       by_node n low (inr h) = inr (inr (n, in_recipe n f h))
 
       told : Has all_names f → IsOfWorld g s f
-      told h = ⊎_elim (λ k. inr (inl k)) (λ k. let r = at_place names_at g.nodes f k in by_node r.0 r.1.0 r.1.1) (has_one s.sources (flat_map names_at g.nodes) f h)
+      told h = ⊎_elim (λ k. inr (inl k)) (λ k. let r = at_place names_at g.nodes f k in by_node r.0 r.1.0 r.1.1) (has_cases s.sources (flat_map names_at g.nodes) f h)
 
       tells : IsOfWorld g s f → Has all_names f
       tells (inl (n, (low, is))) = has_right s.sources (flat_map names_at g.nodes) f (from_place names_at g.nodes n f low (inl is))

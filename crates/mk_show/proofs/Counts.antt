@@ -1,9 +1,10 @@
 -- How many files nodes write.
-use Rattle.std.proofs.Common.{◌≡◌, ℕ, ◌+◌, ◌<◌, ◌≤◌, List, [], ◌∷◌, ◌++◌, length, refl, sym, ap, ◌∙◌, subst, inl, inr, ◌⊎◌, arith}
+use Rattle.std.proofs.Common.{◌≡◌, ℕ, ◌+◌, ◌<◌, ◌≤◌, List, [], ◌∷◌, length, refl, sym, ap, ◌∙◌, subst, inl, inr, arith}
 use Rattle.std.specs.Prelude.{sum_by}
 use Rattle.std.specs.List.{flat_map}
 use Rattle.std.proofs.lemmas.List.Sums.{sum_by-cons}
 use Rattle.mk_graph.specs.Membership.{Has, IsDistinct}
+use Rattle.mk_graph.specs.Lists.{has_left, has_right}
 use Rattle.mk_graph.specs.Graph.{Graph, node, IsGraph}
 use Rattle.mk_graph.specs.Serial.{serial_order}
 use Rattle.mk_graph.specs.Setting.{Setting, writes, writings}
@@ -46,13 +47,9 @@ pub turns_differ : (g : Graph) (goals ns : List ℕ) → Turns g goals ns → Is
 turns_differ g goals [] h = tt
 turns_differ g goals (n ∷ ns) h = (h.0.not_done, turns_differ g goals ns h.1)
 
-has_appended : (xs ys : List ℕ) (n : ℕ) → Has xs n ⊎ Has ys n → Has (xs ++ ys) n
-has_appended [] ys n h = elim h [ inl none ↦ absurd none | inr r ↦ r ]
-has_appended (x ∷ xs) ys n h = elim h [ inl l ↦ elim l [ inl e ↦ inl e | inr more ↦ inr (has_appended xs ys n (inl more)) ] | inr r ↦ inr (has_appended xs ys n (inr r)) ]
-
 in_open : (done : List ℕ) (groups : List (List ℕ)) (n : ℕ) → InOpenGroup done groups n → Has (flat_map (λ group. group) groups) n
 in_open done [] n h = absurd h
-in_open done (group ∷ groups) n h = elim h [ inl here ↦ has_appended group _ n (inl here) | inr later ↦ has_appended group _ n (inr (in_open done groups n later.1)) ]
+in_open done (group ∷ groups) n h = elim h [ inl here ↦ has_left group _ n here | inr later ↦ has_right group _ n (in_open done groups n later.1) ]
 
 -- what is wanted is a node
 pub wanted_low : (g : Graph) (done : List ℕ) → IsGraph g → (n : ℕ) → Wanted g g.goals done n → n < length g.nodes

@@ -1,10 +1,11 @@
 -- What is known of a race or a stale read that is told.
-use Rattle.std.proofs.Common.{◌≡◌, ℕ, ◌<◌, List, [], ◌∷◌, ◌++◌, length, map, true, Option, Some, None, Result, Ok, Err, Vec, ◌⊎◌, inl, inr, refl, sym, ◌∙◌, ap, subst}
+use Rattle.std.proofs.Common.{◌≡◌, ℕ, ◌<◌, List, [], ◌∷◌, ◌++◌, length, map, true, Option, Some, None, Result, Ok, Err, Vec, inl, inr, sym, subst}
 use Rattle.std.specs.List.{flat_map}
 use Rattle.std.specs.Prelude.{IfOk, MatchOption}
 use Rattle.std.specs.declared.alloc.AllocError.{AllocError}
 use Rattle.std.specs.declared.alloc.Global.{Global}
 use Rattle.mk_graph.specs.Membership.{Has}
+use Rattle.mk_graph.specs.Lists.{mapped_from}
 use Rattle.mk_graph.specs.Graph.{IsGraph, node}
 use Rattle.mk_graph.specs.Serial.{serial_order}
 use Rattle.mk_graph.specs.Setting.{IsNumberOf}
@@ -23,12 +24,6 @@ use Rattle.mk_cert.specs.declared.finding.Finding.TheVariants as found
 use Rattle.mk_find.specs.Findings.{AreFindings}
 use Rattle.mk_show.specs.Shown.{HasStamps, IsNotShown, IsTold, Shows, ShowsRace, ShowsStaleRead}
 use Rattle.mk_show.proofs.Chains.{has_recipe, recipe_is_node}
-
--- some element is taken to what stands in a mapped list
-mapped_from : {A B : Type 0} (f : A → B) (xs : List A) (y : B) → Has (map f xs) y → (x : A) × Has xs x × (f x ≡ y)
-mapped_from f [] y h = absurd h
-mapped_from f (x ∷ xs) y (inl here) = (x, inl refl, here)
-mapped_from f (x ∷ xs) y (inr there) = let rest = mapped_from f xs y there in (rest.0, inr rest.1, rest.2)
 
 module _ {B : Type 0} (P : B → Type 0) where
   -- all that stands in the list is so
