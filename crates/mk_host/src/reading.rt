@@ -20,9 +20,9 @@ fn zeros(alloc: Global, count: usize) -> Result<Vec<u8>, AllocError>
     vec![in alloc; 0; count]
 }
 
-/// All that a reader has left, in the reads that the source has left. It is `ReadFailed` where a read
-/// fails, where over 16,777,216 bytes are left, and where the reads are not enough. A read that was
-/// interrupted is tried again.
+/// All that a reader has left, in the reads that the source has left. It is `ReadFailed` where a
+/// read fails, where over 16,777,216 bytes are left, and where the reads are not enough. A read
+/// that was interrupted is tried again.
 pub fn slurp<R: Read>(alloc: Global, source: &mut Source<R>) -> Result<Vec<u8>, FilesError>
     ensures bytes { IfOk result (λ text. IfSome (R.remaining source.old.reader)
         (λ left. text.items ≡ left)) }
