@@ -1,9 +1,11 @@
 -- Which recipes a node carries.
-use Rattle.std.proofs.Common.{◌≡◌, ℕ, ◌+◌, ◌<◌, List, get_or, take, length, refl, sym, subst, ⊎_elim, inl, inr, ◌⊎◌}
+use Rattle.std.proofs.Common.{◌≡◌, ◌∙◌, ℕ, ◌+◌, ◌<◌, List, [], get_or, map, take, length, refl, ap, sym, subst, ⊎_elim, inl, inr, ◌⊎◌}
+use Rattle.std.proofs.lemmas.List.{get_or-map}
+use Rattle.mk_graph.specs.declared.node.Node.{Node}
 use Rattle.std.specs.Prelude.{◌↔◌}
 use Rattle.mk_lines.specs.Names.{has_name}
 use Rattle.mk_graph.specs.Membership.{Has}
-use Rattle.mk_graph.specs.Graph.{IsGraph}
+use Rattle.mk_graph.specs.Graph.{IsGraph, no_node}
 use Rattle.mk_graph.specs.Laws.{SerialReachesEachOnce}
 use Rattle.mk_graph.specs.Serial.{serial_order}
 use Rattle.mk_cert.specs.Subject.{Subject, name_of, writes_of}
@@ -33,3 +35,7 @@ module _ (x : Subject) (is : IsGraph x.graph) (reaches : SerialReachesEachOnce) 
         λ (p, stands, wrote). (added o).1 (⊎_elim (λ before. inr ((so_far o).1 (p, before, wrote)))
             (λ here. inl ((listed f ns same o).1 (subst (λ (k : List ℕ). Has (writes_of x o) k) (sym named) (subst (λ (k : ℕ). Has (writes_of x o) (name_of x k)) (sym here) wrote)))) ((more p lt).0 stands)),
       )
+
+-- of the rows of all nodes the one at a number is that of the node
+pub row_of : (x : Subject) (rows : List (List ℕ)) (n : ℕ) → rows ≡ map (λ (v : Node). writers_of x v.name) x.graph.nodes → n < length x.graph.nodes → get_or rows n [] ≡ writers_of x (name_of x n)
+row_of x rows n same low = ap (λ (l : List (List ℕ)). get_or l n []) same ∙ get_or-map (λ (v : Node). writers_of x v.name) x.graph.nodes n no_node [] low

@@ -4,7 +4,7 @@ use Rattle.std.specs.Prelude.{◌↔◌}
 use Rattle.std.proofs.lemmas.Bool.{cases_lt}
 use Rattle.std.proofs.lemmas.List.{get_or_past, take_more}
 use Rattle.mk_graph.specs.Membership.{Has, IsDistinct}
-use Rattle.mk_cert.proofs.Members.{in_first, in_second}
+use Rattle.mk_graph.specs.Lists.{has_left, has_right}
 
 module _ {A : Type 0} where
   -- at each number stands what is so of it
@@ -44,7 +44,7 @@ module _ {A : Type 0} where
   pub in_take_more : (xs : List A) (i : ℕ) (d z : A) → i < length xs → Has (take (i + 1) xs) z ↔ (Has (take i xs) z ⊎ (get_or xs i d ≡ z))
   in_take_more xs i d z lt = (
     λ h. in_push (take i xs) (get_or xs i d) z (subst (λ (l : List A). Has l z) (take_more xs i d lt) h),
-    λ h. subst (λ (l : List A). Has l z) (sym (take_more xs i d lt)) (⊎_elim (λ there. in_first (take i xs) (get_or xs i d ∷ []) z there) (λ here. in_second (take i xs) (get_or xs i d ∷ []) z (inl here)) h),
+    λ h. subst (λ (l : List A). Has l z) (sym (take_more xs i d lt)) (⊎_elim (λ there. has_left (take i xs) (get_or xs i d ∷ []) z there) (λ here. has_right (take i xs) (get_or xs i d ∷ []) z (inl here)) h),
   )
 
   -- what stands at a place stands in the list

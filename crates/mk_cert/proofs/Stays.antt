@@ -15,7 +15,7 @@ use Rattle.mk_infer.specs.Laws.{with_more}
 use Rattle.mk_infer.specs.Targets.{is_target}
 use Rattle.mk_infer.specs.There.{Exists, is_there}
 use Rattle.mk_cert.proofs.Decided.{has_decides}
-use Rattle.mk_cert.proofs.Members.{in_either}
+use Rattle.mk_graph.specs.Lists.{has_cases}
 use Rattle.mk_cert.proofs.Rows.{in_push}
 
 last_is_true : (a b c : Bool) → (a || (b || (c || true))) ≡ true
@@ -63,4 +63,4 @@ module _ {A : Type 0} where
 pub in_lists : (P : List ℕ → Type 0) (of : ℕ → List (List ℕ)) (ns : List ℕ) (i d : ℕ) → i < length ns → ((f : List ℕ) → Has (of (get_or ns i d)) f → P f) → ((f : List ℕ) → Has (flat_map of (take i ns)) f → P f) → (f : List ℕ) → Has (flat_map of (take (i + 1) ns)) f → P f
 in_lists P of ns i d lt here before f h =
     let more : flat_map of (take (i + 1) ns) ≡ flat_map of (take i ns) ++ (of (get_or ns i d) ++ []) = ap (flat_map of) (take_more ns i d lt) ∙ flat_map-append of (take i ns) (get_or ns i d ∷ []) in
-    ⊎_elim (λ early. before f early) (λ now. here f (subst (λ (l : List (List ℕ)). Has l f) (append-nil (of (get_or ns i d))) now)) (in_either (flat_map of (take i ns)) (of (get_or ns i d) ++ []) f (subst (λ (l : List (List ℕ)). Has l f) more h))
+    ⊎_elim (λ early. before f early) (λ now. here f (subst (λ (l : List (List ℕ)). Has l f) (append-nil (of (get_or ns i d))) now)) (has_cases (flat_map of (take i ns)) (of (get_or ns i d) ++ []) f (subst (λ (l : List (List ℕ)). Has l f) more h))

@@ -2,7 +2,7 @@
 use Rattle.std.proofs.Common.{◌≡◌, ℕ, ◌+◌, ◌<◌, Bool, true, false, ◌||◌, cond, List, [], ◌∷◌, ◌++◌, length, get_or, map, take, refl, sym, ap, ◌∙◌, append-nil}
 use Rattle.std.specs.Prelude.{filter}
 use Rattle.std.specs.Str.{bytes_eq}
-use Rattle.std.proofs.lemmas.List.{take_more, map_push, map-append}
+use Rattle.std.proofs.lemmas.List.{take_more, map-append}
 use Rattle.std.proofs.lemmas.List.Elements.{filter_more}
 use Rattle.std.proofs.lemmas.List.Folds.{list_any-append}
 use Rattle.std.proofs.lemmas.Slice.Eq.{bytes_eq-Decides}
@@ -23,20 +23,6 @@ or_there names name other h false e = sym (or_false (has_name names other))
 or_there names name other h true e =
     let same : has_name names other ≡ true = ap (has_name names) ((bytes_eq-Decides other name).0 e) ∙ h in
     same ∙ sym (ap (λ b. b || true) same)
-
--- which names are there after one was added
-after_insert : (names : List (List ℕ)) (name other : List ℕ) (b : Bool) → has_name names name ≡ b → has_name (cond b names (names ++ name ∷ [])) other ≡ (has_name names other || bytes_eq other name)
-after_insert names name other true h = or_there names name other h (bytes_eq other name) refl
-after_insert names name other false h = has_name_push names name other
-
--- a file more is seen
-pub seen_more : {A : Type 0} (view : A → List ℕ) (seen new : List (List ℕ)) (files : List A) (i : ℕ) (d : A) (x name : List ℕ) → new ≡ cond (has_name seen x) seen (seen ++ x ∷ []) → x ≡ view (get_or files i d)
-    → has_name seen name ≡ has_name (map view (take i files)) name → i < length files → has_name new name ≡ has_name (map view (take (i + 1) files)) name
-seen_more view seen new files i d x name e is h lt =
-    let more : map view (take (i + 1) files) ≡ map view (take i files) ++ x ∷ [] =
-    ap (map view) (take_more files i d lt) ∙ (map_push view (take i files) (get_or files i d) ∙ ap (λ n. map view (take i files) ++ n ∷ []) (sym is)) in
-    ap (λ ns. has_name ns name) e ∙ (after_insert seen x name (has_name seen x) refl
-    ∙ (ap (λ b. b || bytes_eq name x) h ∙ sym (ap (λ ns. has_name ns name) more ∙ has_name_push (map view (take i files)) x name)))
 
 -- which files stand among those up to a place
 stands_more : (files : List (List ℕ)) (i : ℕ) (name : List ℕ) → i < length files → has_name (take (i + 1) files) name ≡ (has_name (take i files) name || bytes_eq name (get_or files i []))

@@ -22,4 +22,4 @@ pub mod Counts
 pub mod Checks
 pub mod Carried
 pub mod Earlier
-pub mod Needed
+pub mod Lookup

@@ -1,7 +1,6 @@
 -- The tables of a subject.
-use Rattle.std.specs.Prelude.{◌≡◌, ℕ, ◌<◌, List, [], length, slice_index_or, Ok, Vec}
+use Rattle.std.specs.Prelude.{◌≡◌, ℕ, ◌<◌, List, [], length, slice_index_or, Ok}
 use Rattle.std.specs.Borrow.{Bor}
-use Rattle.std.specs.declared.alloc.Global.{Global}
 use Rattle.indexmap.specs.IndexMap.{IndexMap}
 use Rattle.mk_graph.specs.Graph.{IsGraph}
 use Rattle.mk_infer.specs.Commands.{Commands}
@@ -12,7 +11,7 @@ use Rattle.mk_cert.specs.Writers.{numbers_at}
 
 -- what is looked up is the subject's
 pub record AreTables {S : Type 0} (x : Subject) (entries : List Entry)
-    (writers : IndexMap (Bor (List ℕ)) (Vec ℕ Global) S) (names : List (List ℕ))
+    (writers : IndexMap (Bor (List ℕ)) (List ℕ) S) (names : List (List ℕ))
     (known : List Known) (places : List (List ℕ)) : Type 0 where
   pub is_graph : IsGraph x.graph
   pub told : (n : ℕ) → n < length x.graph.nodes → (found : Commands) × (commands_of x n ≡ Ok found)

@@ -5,7 +5,7 @@ ghost use Rattle.mk_graph.specs.Graph.{prerequisites};
 ghost use Rattle.mk_graph.specs.Membership.{Has};
 ghost use Rattle.mk_graph.specs.Turns.{Before};
 
-use crate::needed::Needed;
+use crate::number_list::NumberList;
 use mk_graph::{BitRows, Graph, Order, Without};
 use std::alloc::{AllocError, Global};
 use std::marker::Model;
@@ -20,7 +20,7 @@ use std::marker::Model;
 pub(crate) struct Earlier<'a> {
     graph: &'a Graph,
     number: usize,
-    direct: Option<Needed<'a>>,
+    direct: Option<NumberList<'a>>,
     first: Option<Without<'a>>,
     rows: Option<BitRows<'a>>,
 }
@@ -61,7 +61,7 @@ impl<'a> Earlier<'a> {
         graph.nodes();
         self.number = number;
         self.direct = None;
-        self.direct = Some(Needed::new(alloc, graph.prerequisites(number))?);
+        self.direct = Some(NumberList::new(alloc, graph.prerequisites(number))?);
         Ok(())
     }
 

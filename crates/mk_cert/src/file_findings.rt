@@ -11,9 +11,9 @@ ghost use Rattle.mk_cert.specs.Target.{target_of};
 
 use crate::entry::Entry;
 use crate::finding::Finding;
+use crate::name_list::NameList;
 use crate::subject::Subject;
 use crate::target::Target;
-use crate::writer_findings::has_number;
 use mk_graph::laws::serial_reaches_each_once;
 use mk_lines::Name;
 use std::alloc::{AllocError, Global};
@@ -121,37 +121,35 @@ pub fn note_unknown_reads<'s>(
     Ok(())
 }
 
-/// Adds that a recipe reads a file that is one of those that it writes, if it is. The writers of
-/// the file are gone through: each two of them were told, so where nothing is found there is one.
+/// Adds that a recipe reads a file that is one of those that it writes, if it is.
 fn note_own(
     alloc: Global,
     subject: &Subject<'_>,
     entry: &Entry<'_>,
-    file: &Target<'_>,
+    written: &NameList<'_>,
+    file: &str,
     found: &mut Vec<Finding>,
 ) -> Result<(), AllocError>
     requires entry { IsEntry subject.now entry.now }
-    requires file { file.now ≡ target_of subject.now file.now.file }
-    requires read { Has (reads_of subject.now entry.now.number) file.now.file }
-    ensures { OnOk result (Adds subject.now (own_read entry.now.number file.now.file ∷ [])
+    requires written { written.now ≡ writes_of subject.now entry.now.number }
+    requires read { Has (reads_of subject.now entry.now.number) file.now }
+    ensures { OnOk result (Adds subject.now (own_read entry.now.number file.now ∷ [])
         found.old.items found.new.items) }
 {
-    serial_reaches_each_once();
-    let _graph = subject.graph();
-    if !has_number(file.writers, entry.number) {
+    if !written.has(file) {
         return Ok(());
     }
     let recipe = entry.shared_name(alloc, found)?;
-    let file = Name::new(alloc, file.file)?;
+    let file = Name::new(alloc, file)?;
     found.push(Finding::OwnRead { recipe, file })?;
     Ok(())
 }
 
 /// Adds which of the files that a recipe reads it writes too.
-pub fn note_own_reads<'s>(
+pub fn note_own_reads(
     alloc: Global,
-    subject: &'s Subject<'_>,
-    entry: &'s Entry<'_>,
+    subject: &Subject<'_>,
+    entry: &Entry<'_>,
     found: &mut Vec<Finding>,
 ) -> Result<(), AllocError>
     requires { IsEntry subject.now entry.now }
@@ -159,10 +157,10 @@ pub fn note_own_reads<'s>(
         (map (λ f. own_read entry.now.number f) (reads_of subject.now entry.now.number))
         found.old.items found.new.items) }
 {
-    let count = entry.reads().len();
-    for place in 0..count {
-        let file = subject.read(entry, place);
-        note_own(alloc, subject, entry, &file, found)?;
+    let written = NameList::new(alloc, entry.writes())?;
+    let files = entry.reads();
+    for file in files {
+        note_own(alloc, subject, entry, &written, file.as_str(), found)?;
     }
     Ok(())
 }

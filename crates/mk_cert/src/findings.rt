@@ -7,7 +7,7 @@ ghost use Rattle.mk_cert.specs.Listed.{Adds, TellsNoSelection};
 ghost use Rattle.mk_cert.specs.Conditions.{all_writes};
 ghost use Rattle.mk_cert.specs.Laws.{PartsStay};
 ghost use Rattle.mk_cert.specs.Subject.{name_of};
-ghost use Rattle.mk_cert.specs.Questions.{asked_each};
+ghost use Rattle.mk_cert.specs.Questions.{asked_before_pairs, asked_behind_pairs, asked_each};
 
 use crate::asking::ask_all;
 use crate::finding::Finding;
@@ -18,7 +18,7 @@ use crate::subject::Subject;
 use std::alloc::{AllocError, Global};
 
 /// Adds what is found of all nodes by these questions, one after another.
-pub fn ask_each(
+fn ask_each(
     alloc: Global,
     subject: &Subject<'_>,
     questions: &[Question],
@@ -31,6 +31,44 @@ pub fn ask_each(
         ask_all(alloc, subject, *question, found)?;
     }
     Ok(())
+}
+
+/// Adds what is found of all nodes by what is asked before two recipes that write a file are looked
+/// for.
+pub fn ask_before_pairs(
+    alloc: Global,
+    subject: &Subject<'_>,
+    found: &mut Vec<Finding>,
+) -> Result<(), AllocError>
+    ensures { OnOk result (Adds subject.now (asked_before_pairs subject.now)
+        found.old.items found.new.items) }
+{
+    let questions = [
+        Question::Record,
+        Question::Commands,
+        Question::Varying,
+        Question::Target,
+    ];
+    ask_each(alloc, subject, &questions, found)
+}
+
+/// Adds what is found of all nodes by what is asked behind them.
+pub fn ask_behind_pairs(
+    alloc: Global,
+    subject: &Subject<'_>,
+    found: &mut Vec<Finding>,
+) -> Result<(), AllocError>
+    ensures { OnOk result (Adds subject.now (asked_behind_pairs subject.now)
+        found.old.items found.new.items) }
+{
+    let questions = [
+        Question::Given,
+        Question::Own,
+        Question::Unknown,
+        Question::Loose,
+        Question::Choice,
+    ];
+    ask_each(alloc, subject, &questions, found)
 }
 
 /// All that is found without a search for ways or an order, in the order of `Finding`'s variants,
@@ -53,21 +91,8 @@ pub fn static_findings(alloc: Global, subject: &Subject<'_>) -> Result<Vec<Findi
     nothing_found_is_selected();
     let _graph = subject.graph();
     let mut found = Vec::new(alloc);
-    let first = [
-        Question::Record,
-        Question::Commands,
-        Question::Varying,
-        Question::Target,
-    ];
-    let then = [
-        Question::Given,
-        Question::Own,
-        Question::Unknown,
-        Question::Loose,
-        Question::Choice,
-    ];
-    ask_each(alloc, subject, &first, &mut found)?;
+    ask_before_pairs(alloc, subject, &mut found)?;
     note_pairs(alloc, subject, &mut found)?;
-    ask_each(alloc, subject, &then, &mut found)?;
+    ask_behind_pairs(alloc, subject, &mut found)?;
     Ok(found)
 }

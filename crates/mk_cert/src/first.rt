@@ -5,14 +5,13 @@ ghost use Rattle.mk_graph.specs.Serial.{serial_order};
 ghost use Rattle.mk_cert.specs.Candidates.{pairs_of_writers, race_candidates, static_candidates};
 ghost use Rattle.mk_cert.specs.Checks.{TellsFirst};
 ghost use Rattle.mk_cert.specs.Entry.{IsEntry};
-ghost use Rattle.mk_cert.specs.Questions.{asked_each, pairs_with};
+ghost use Rattle.mk_cert.specs.Questions.{asked_before_pairs, asked_behind_pairs, pairs_with};
 ghost use Rattle.mk_cert.specs.declared.finding.Finding.{Finding};
 
 use crate::entry::Entry;
 use crate::finding::Finding;
-use crate::findings::ask_each;
+use crate::findings::{ask_before_pairs, ask_behind_pairs};
 use crate::pairs::note_files;
-use crate::question::Question;
 use crate::race_findings::races;
 use crate::subject::Subject;
 use mk_graph::laws::serial_reaches_each_once;
@@ -30,16 +29,21 @@ fn first_of(found: Vec<Finding>) -> Option<Finding>
     Some(found.swap_remove(0))
 }
 
-/// The first that is found by these questions, one after another, each asked of all nodes.
-fn first_asked(
-    alloc: Global,
-    subject: &Subject<'_>,
-    questions: &[Question],
-) -> Result<Option<Finding>, AllocError>
-    ensures { IfOk result (TellsFirst subject.now (asked_each subject.now questions.now)) }
+/// The first that is found by what is asked before pairs are looked for.
+fn first_before_pairs(alloc: Global, subject: &Subject<'_>) -> Result<Option<Finding>, AllocError>
+    ensures { IfOk result (TellsFirst subject.now (asked_before_pairs subject.now)) }
 {
     let mut found = Vec::new(alloc);
-    ask_each(alloc, subject, questions, &mut found)?;
+    ask_before_pairs(alloc, subject, &mut found)?;
+    Ok(first_of(found))
+}
+
+/// The first that is found by what is asked behind them.
+fn first_behind_pairs(alloc: Global, subject: &Subject<'_>) -> Result<Option<Finding>, AllocError>
+    ensures { IfOk result (TellsFirst subject.now (asked_behind_pairs subject.now)) }
+{
+    let mut found = Vec::new(alloc);
+    ask_behind_pairs(alloc, subject, &mut found)?;
     Ok(first_of(found))
 }
 
@@ -79,26 +83,13 @@ fn first_pair(alloc: Global, subject: &Subject<'_>) -> Result<Option<Finding>, A
 pub fn first_static(alloc: Global, subject: &Subject<'_>) -> Result<Option<Finding>, AllocError>
     ensures { IfOk result (TellsFirst subject.now (static_candidates subject.now)) }
 {
-    let first = [
-        Question::Record,
-        Question::Commands,
-        Question::Varying,
-        Question::Target,
-    ];
-    let then = [
-        Question::Given,
-        Question::Own,
-        Question::Unknown,
-        Question::Loose,
-        Question::Choice,
-    ];
-    if let Some(finding) = first_asked(alloc, subject, &first)? {
+    if let Some(finding) = first_before_pairs(alloc, subject)? {
         return Ok(Some(finding));
     }
     if let Some(finding) = first_pair(alloc, subject)? {
         return Ok(Some(finding));
     }
-    first_asked(alloc, subject, &then)
+    first_behind_pairs(alloc, subject)
 }
 
 /// The first race. It fails for want of memory alone.

@@ -8,6 +8,7 @@ ghost use Rattle.mk_cert.specs.Known.{StandAt, known_by};
 ghost use Rattle.mk_cert.specs.Subject.{footprints};
 ghost use Rattle.mk_cert.specs.Writers.{numbers_at};
 
+use crate::file_writers::FileWriters;
 use crate::links::reads_of;
 use crate::writers::{Writers, writers_at};
 use indexmap::IndexSet;
@@ -21,7 +22,7 @@ use std::marker::Model;
 #[derive(Drop)]
 pub struct Known {
     /// The numbers of the nodes that write it, in the serial order.
-    pub writers: Vec<usize>,
+    pub writers: FileWriters,
     /// Whether it is given.
     pub given: bool,
     /// Whether it is editable.
@@ -37,7 +38,7 @@ impl Model for Known {
 
     ghost view = { λ k.
         record {
-          writers = k.writers.items;
+          writers = k.writers;
           given = k.given;
           editable = k.editable;
           number = k.number;
@@ -65,7 +66,7 @@ fn known_of(
         known_by setting.now (numbers_at writers.now) names.now file.now) }
 {
     Ok(Known {
-        writers: writers_at(writers, file).to_vec(alloc)?,
+        writers: FileWriters::of(alloc, writers_at(writers, file))?,
         given: setting.is_given(file),
         editable: setting.is_editable(file),
         number: names.number_of(file),

@@ -9,22 +9,25 @@ ghost use Rattle.mk_graph.specs.Setting.{IsAlwaysMade};
 ghost use Rattle.mk_graph.specs.Setting as build;
 ghost use Rattle.mk_graph.specs.Ways.{Carries};
 ghost use Rattle.mk_cert.specs.Subject.{footprints, name_of, reads_of};
+ghost use Rattle.mk_cert.specs.Carried.{carried};
 ghost use Rattle.mk_cert.specs.Links.{AreEnds, AreLinks};
 
 use crate::entry::reads_in;
-use crate::needed::Needed;
+use crate::laws::carried_exactly;
+use crate::name_list::NameList;
+use crate::number_list::NumberList;
 use crate::subject::Subject;
 use mk_foot::Setting;
 use mk_graph::laws::serial_reaches_each_once;
-use mk_graph::{Graph, NodeSet};
-use mk_lines::{NameSet, names_among};
+use mk_graph::{Graph, Groups};
+use mk_lines::NameSet;
 use std::alloc::{AllocError, Global};
 
 /// What is looked up where ways end: at the number of each node what is so of it.
 #[derive(Drop)]
 pub struct Ends<'a> {
     /// Its direct prerequisites.
-    pub needed: Vec<Needed<'a>>,
+    pub needed: Vec<NumberList<'a>>,
     /// Whether it is made in each make.
     pub always: Vec<bool>,
 }
@@ -35,9 +38,9 @@ pub struct Links<'a> {
     /// What is looked up where they end.
     pub ends: Ends<'a>,
     /// The files that its recipe reads.
-    pub reads: Vec<NameSet<'a>>,
+    pub reads: Vec<NameList<'a>>,
     /// The recipes that it carries.
-    pub carried: Vec<NodeSet>,
+    pub carried: Vec<NumberList<'a>>,
 }
 
 /// The names of the nodes of a graph, each at its number. It fails for want of memory alone.
@@ -71,7 +74,7 @@ fn read_sets<'a>(
     alloc: Global,
     graph: &Graph,
     setting: &'a Setting,
-) -> Result<Vec<NameSet<'a>>, AllocError>
+) -> Result<Vec<NameList<'a>>, AllocError>
     ensures { IfOk result (λ sets. (t : ℕ) (f : List ℕ) →
         (has_name (slice_index_or sets.items t []) f ≡ true) ↔
         Has (build.reads graph.now (footprints setting.now) t) f) }
@@ -79,48 +82,59 @@ fn read_sets<'a>(
     let count = graph.nodes().len();
     let mut sets = Vec::with_capacity(alloc, count)?;
     for number in 0..count {
-        sets.push(names_among(alloc, reads_of(graph, setting, number))?)?;
+        sets.push(NameList::new(alloc, reads_of(graph, setting, number))?)?;
     }
     Ok(sets)
 }
 
-/// The recipes that a node carries.
-fn carried_by(subject: &Subject<'_>, number: usize) -> NodeSet
-    ensures { (o : ℕ) → Has result o ↔
-        Carries subject.now.graph (footprints subject.now.setting) number o }
+/// The recipes that a node carries, of which the list at its number is made.
+fn carried_at<'a>(
+    alloc: Global,
+    subject: &Subject<'_>,
+    lists: &'a Groups,
+    number: usize,
+) -> Result<NumberList<'a>, AllocError>
+    requires many { length lists.now ≡ length subject.now.graph.nodes }
+    requires lists { (t : ℕ) → slice_index_or lists.now t [] ≡ carried subject.now t }
+    requires node { number < length subject.now.graph.nodes }
+    ensures { IfOk result (λ set. (o : ℕ) → Has set o ↔
+        Carries subject.now.graph (footprints subject.now.setting) number o) }
 {
+    carried_exactly();
     serial_reaches_each_once();
-    let graph = subject.graph();
-    let mut carried = NodeSet::new();
-    for prerequisite in graph.prerequisites(number) {
-        let name = graph.nodes()[*prerequisite].name.as_str();
-        carried.insert_all(subject.writers(name));
-    }
-    carried
+    let _graph = subject.graph();
+    let set = NumberList::new(alloc, lists.as_slice()[number].as_slice())?;
+    Ok(set)
 }
 
-/// The recipes that each node carries.
-fn carried_sets(alloc: Global, subject: &Subject<'_>) -> Result<Vec<NodeSet>, AllocError>
+/// The recipes that each node carries, of which these lists are made.
+fn carried_sets<'a>(
+    alloc: Global,
+    subject: &Subject<'_>,
+    lists: &'a Groups,
+) -> Result<Vec<NumberList<'a>>, AllocError>
+    requires many { length lists.now ≡ length subject.now.graph.nodes }
+    requires lists { (t : ℕ) → slice_index_or lists.now t [] ≡ carried subject.now t }
     ensures { IfOk result (λ sets. (t o : ℕ) → Has (slice_index_or sets.items t []) o ↔
         Carries subject.now.graph (footprints subject.now.setting) t o) }
 {
     let count = subject.graph().nodes().len();
     let mut sets = Vec::with_capacity(alloc, count)?;
     for number in 0..count {
-        sets.push(carried_by(subject, number))?;
+        sets.push(carried_at(alloc, subject, lists, number)?)?;
     }
     Ok(sets)
 }
 
 /// The direct prerequisites of each node.
-fn needed_by<'a>(alloc: Global, graph: &'a Graph) -> Result<Vec<Needed<'a>>, AllocError>
+fn needed_by<'a>(alloc: Global, graph: &'a Graph) -> Result<Vec<NumberList<'a>>, AllocError>
     ensures { IfOk result (λ lists. (t p : ℕ) → Has (slice_index_or lists.items t []) p ↔
         Has (prerequisites graph.now t) p) }
 {
     let count = graph.nodes().len();
     let mut lists = Vec::with_capacity(alloc, count)?;
     for number in 0..count {
-        lists.push(Needed::new(alloc, graph.prerequisites(number))?)?;
+        lists.push(NumberList::new(alloc, graph.prerequisites(number))?)?;
     }
     Ok(lists)
 }
@@ -165,9 +179,15 @@ pub fn ends_of<'a>(alloc: Global, subject: &'a Subject<'_>) -> Result<Ends<'a>, 
     })
 }
 
-/// All that is looked up along ways. It takes time linear in what is recorded, where each file has
-/// one writer.
-pub fn links_of<'a>(alloc: Global, subject: &'a Subject<'_>) -> Result<Links<'a>, AllocError>
+/// All that is looked up along ways, over the lists of the recipes that nodes carry. It takes time
+/// linear in what is recorded, where each file has one writer.
+pub fn links_of<'a>(
+    alloc: Global,
+    subject: &'a Subject<'_>,
+    carried_lists: &'a Groups,
+) -> Result<Links<'a>, AllocError>
+    requires many { length carried_lists.now ≡ length subject.now.graph.nodes }
+    requires lists { (t : ℕ) → slice_index_or carried_lists.now t [] ≡ carried subject.now t }
     ensures { IfOk result (λ l. AreLinks subject.now l.reads.items l.carried.items
         l.ends.needed.items l.ends.always.items) }
 {
@@ -175,6 +195,6 @@ pub fn links_of<'a>(alloc: Global, subject: &'a Subject<'_>) -> Result<Links<'a>
     Ok(Links {
         ends: ends_of(alloc, subject)?,
         reads: read_sets(alloc, graph, subject.setting())?,
-        carried: carried_sets(alloc, subject)?,
+        carried: carried_sets(alloc, subject, carried_lists)?,
     })
 }

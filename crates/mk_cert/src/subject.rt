@@ -48,7 +48,8 @@ impl<'a> Model for Subject<'a> {
 
 impl<'a> Subject<'a> {
     /// The subject of a makefile, whose names are looked up, the files that are there, the graph of
-    /// its goals, and a setting. The fault is the first one of the nodes' commands (11 to 17), in the serial order.
+    /// its goals, and a setting. The fault is the first one of the nodes' commands (11 to 17), in
+    /// the serial order.
     ///
     /// The caller owes that the graph is the one that selection gives for the makefile and what is
     /// there, and that sources, fixed prefixes and texts are there by the setting, with nothing
@@ -121,7 +122,7 @@ impl<'a> Subject<'a> {
     }
 
     /// The numbers of the nodes that write a file, in the serial order. It takes no memory.
-    pub(crate) fn writers(&self, file: &str) -> &[usize]
+    pub fn writers(&self, file: &str) -> &[usize]
         ensures { result.now ≡ writers_of self.now file.now }
     {
         writers_at(&self.tables.writers, file)

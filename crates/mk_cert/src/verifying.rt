@@ -10,6 +10,7 @@ ghost use Rattle.mk_cert.specs.Verdict.{Verifies};
 ghost use Rattle.mk_cert.specs.Checks.{AnswersFound, AnswersWays};
 ghost use Rattle.mk_cert.specs.declared.fault.CertFault.TheVariants.{Memory};
 
+use crate::carrying::carried_lists;
 use crate::fault::CertFault;
 use crate::first::{first_race, first_static};
 use crate::judging::{check_entries, empty_sets};
@@ -56,7 +57,8 @@ fn check_found(alloc: Global, subject: &Subject<'_>) -> Result<(), CertFault>
 fn check_ways(alloc: Global, subject: &Subject<'_>, ways: &Ways) -> Result<(), CertFault>
     ensures { (result ≡ Err Memory) ⊎ AnswersWays subject.now ways.now result }
 {
-    let links = links_of(alloc, subject)?;
+    let carried = carried_lists(alloc, subject)?;
+    let links = links_of(alloc, subject, &carried)?;
     let mut seen = empty_sets(alloc, subject.graph().nodes().len())?;
     check_entries(alloc, subject, &links, ways, &mut seen)?;
     check_reads(alloc, subject, &seen)

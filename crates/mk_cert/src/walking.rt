@@ -13,32 +13,32 @@ ghost use Rattle.mk_cert.specs.Target.{target_of};
 ghost use Rattle.mk_cert.specs.Walking.{GoesOver, Leads};
 
 use crate::links::{Ends, Links};
-use crate::needed::Needed;
+use crate::name_list::NameList;
+use crate::number_list::NumberList;
 use crate::subject::Subject;
 use crate::target::{Target, target_of};
 use crate::writer_findings::has_number;
-use mk_graph::NodeSet;
 use mk_graph::growth_laws::names_have_one_number;
 use mk_graph::laws::serial_reaches_each_once;
 use mk_lines::NameSet;
 use mk_ways::{Finish, Path, Way};
 
-/// Whether a number stands in the set at a place.
-fn has_at(sets: &[NodeSet], place: usize, number: usize) -> bool
-    ensures { (result ≡ true) ↔ Has (slice_index_or sets.now place []) number }
-{
-    match sets.get(place) {
-        Some(set) => set.has(number),
-        None => false,
-    }
-}
-
 /// Whether a number stands in the list at a place.
-fn is_needed_at(lists: &[Needed<'_>], place: usize, number: usize) -> bool
+fn has_at(lists: &[NumberList<'_>], place: usize, number: usize) -> bool
     ensures { (result ≡ true) ↔ Has (slice_index_or lists.now place []) number }
 {
     match lists.get(place) {
         Some(list) => list.has(number),
+        None => false,
+    }
+}
+
+/// Whether a name stands in the list at a place.
+fn names_at(lists: &[NameList<'_>], place: usize, name: &str) -> bool
+    ensures { result ≡ has_name (slice_index_or lists.now place []) name.now }
+{
+    match lists.get(place) {
+        Some(list) => list.has(name),
         None => false,
     }
 }
@@ -109,7 +109,7 @@ fn needs(subject: &Subject<'_>, ends: &Ends<'_>, number: usize, file: &Target<'_
 {
     names_have_one_number();
     let _graph = subject.graph();
-    is_needed_at(&ends.needed, number, file.number)
+    has_at(&ends.needed, number, file.number)
 }
 
 /// Whether a path to a file may end so at a recipe. A file has one writer where nothing was found,
@@ -143,7 +143,7 @@ fn needs_way(subject: &Subject<'_>, links: &Links<'_>, number: usize, file: &Tar
     requires file { file.now ≡ target_of subject.now file.now.file }
     ensures { (result ≡ true) ↔ NeedsWay subject.now number file.now.file }
 {
-    stands_at(&links.reads, number, file.file) && file.can_change(subject)
+    names_at(&links.reads, number, file.file) && file.can_change(subject)
 }
 
 /// Whether the path of an entry goes on from its first recipe to its file.

@@ -8,12 +8,13 @@ ghost use Rattle.mk_cert.specs.Entry.{entry_writes};
 ghost use Rattle.mk_cert.specs.Writers.{numbers_at};
 
 use crate::entry::Entry;
+use crate::file_writers::FileWriters;
 use indexmap::IndexMap;
 use mk_foot::{is_repeated, seen_of};
 use std::alloc::{AllocError, Global};
 
 /// For each file the numbers of the nodes that write it, in the serial order.
-pub type Writers<'a> = IndexMap<&'a str, Vec<usize>>;
+pub type Writers<'a> = IndexMap<&'a str, FileWriters>;
 
 /// One more writer of a file.
 fn add_writer<'a>(
@@ -26,7 +27,7 @@ fn add_writer<'a>(
         numbers_at writers.new name ≡ (if bytes_eq name file.entry.now
         then numbers_at writers.old name ++ number ∷ [] else numbers_at writers.old name)) }
 {
-    let numbers = writers.entry(file)?.or_insert(Vec::new(alloc));
+    let numbers = writers.entry(file)?.or_insert(FileWriters::new(alloc));
     numbers.push(number)?;
     Ok(())
 }

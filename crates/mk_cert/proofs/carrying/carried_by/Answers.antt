@@ -1,48 +1,25 @@
-use Rattle.std.proofs.Common.{◌≡◌, ◌+◌, ◌<◌, ◌∷◌, ◌++◌, ◌∙◌, [], ℕ, List, ap, sym, subst, get_or, length, take, append-nil, arith}
+use Rattle.std.proofs.Common.{◌≡◌, ◌+◌, ◌<◌, ◌∷◌, ◌++◌, ◌∙◌, [], ℕ, List, ap, sym, subst, get_or, length, map, take, append-nil, arith}
+use Rattle.std.specs.Borrow.{Bor}
 use Rattle.std.specs.List.{flat_map}
 use Rattle.std.proofs.lemmas.Grind.{flat_map-append}
-use Rattle.std.proofs.lemmas.List.{get_or_default, take_more}
-use Rattle.mk_graph.specs.declared.node.Node.{Node}
-use Rattle.mk_graph.specs.Graph.{Graph, node, no_node, prerequisites}
+use Rattle.std.proofs.lemmas.List.{take_more}
+use Rattle.mk_graph.specs.Graph.{Graph, prerequisites}
 use Rattle.mk_graph.specs.Membership.{Has}
 use Rattle.mk_cert.specs.Subject.{name_of}
 use Rattle.mk_cert.specs.Entry.{writers_of}
+use Rattle.mk_cert.proofs.CarriedNodes.{row_of}
 use Rattle.mk_cert.proofs.Rows.{at}
 use Rattle.mk_cert.proofs.carrying.carried_by.Goals as goal
-
-pub offset_bounds-nodes-prerequisite : goal.offset_bounds-nodes-prerequisite
-offset_bounds-nodes-prerequisite c =
-    let x = c.args.subject.now in
-    let ps = c.prerequisites-prerequisite-items.result.now in
-    let i = c.loop-prerequisite.prerequisite-index in
-    let lt : i < length ps = omega arith in
-    let same : ps ≡ prerequisites x.graph c.args.number = c.prerequisites-prerequisite-items.ensures ∙ ap (λ (g : Graph). prerequisites g c.args.number) c.graph-graph.ensures.value in
-    let low : get_or ps i 0 < length x.graph.nodes = c.graph-graph.ensures.graph.sound.edges c.args.number (get_or ps i 0) (subst (λ (l : List ℕ). Has l (get_or ps i 0)) same (at ps i 0 lt)) in
-    omega (arith, c.graph-graph.ensures.graph.few)
-
-pub bounds-nodes-prerequisite : goal.bounds-nodes-prerequisite
-bounds-nodes-prerequisite c =
-    let x = c.args.subject.now in
-    let ps = c.prerequisites-prerequisite-items.result.now in
-    let i = c.loop-prerequisite.prerequisite-index in
-    let lt : i < length ps = omega arith in
-    let same : ps ≡ prerequisites x.graph c.args.number = c.prerequisites-prerequisite-items.ensures ∙ ap (λ (g : Graph). prerequisites g c.args.number) c.graph-graph.ensures.value in
-    let nodes : c.nodes.result.now ≡ x.graph.nodes = c.nodes.ensures.value ∙ ap (λ (g : Graph). g.nodes) c.graph-graph.ensures.value in
-    let low : get_or ps i 0 < length x.graph.nodes = c.graph-graph.ensures.graph.sound.edges c.args.number (get_or ps i 0) (subst (λ (l : List ℕ). Has l (get_or ps i 0)) same (at ps i 0 lt)) in
-    omega (arith, ap (λ (l : List Node). length l) nodes)
 
 pub loop-prerequisite-preserved : goal.loop-prerequisite-preserved
 loop-prerequisite-preserved c =
     let x = c.args.subject.now in
     let ps = c.prerequisites-prerequisite-items.result.now in
     let i = c.loop-prerequisite.prerequisite-index in
+    let p = get_or ps i 0 in
     let lt : i < length ps = omega arith in
     let same : ps ≡ prerequisites x.graph c.args.number = c.prerequisites-prerequisite-items.ensures ∙ ap (λ (g : Graph). prerequisites g c.args.number) c.graph-graph.ensures.value in
-    let nodes : c.nodes.result.now ≡ x.graph.nodes = c.nodes.ensures.value ∙ ap (λ (g : Graph). g.nodes) c.graph-graph.ensures.value in
-    let low : get_or ps i 0 < length c.nodes.result.now = omega (arith, ap (λ (l : List Node). length l) nodes, c.graph-graph.ensures.graph.sound.edges c.args.number (get_or ps i 0) (subst (λ (l : List ℕ). Has l (get_or ps i 0)) same (at ps i 0 lt))) in
-    let item : get_or c.nodes.result.now (get_or ps i 0) c.index-nodes-prerequisite.result ≡ node x.graph (get_or ps i 0) = get_or_default c.nodes.result.now (get_or ps i 0) c.index-nodes-prerequisite.result no_node low ∙ ap (λ (l : List Node). get_or l (get_or ps i 0) no_node) nodes in
-    let named : c.as_str-name.result.now ≡ name_of x (get_or ps i 0) = c.as_str-name.ensures ∙ ap (λ (v : Node). v.name) item in
-    let f = λ (p : ℕ). writers_of x (name_of x p) in
-    let one : c.writers.result.now ≡ f (get_or ps i 0) = c.writers.ensures ∙ ap (writers_of x) named in
-    let more : flat_map f (take (i + 1) ps) ≡ flat_map f (take i ps) ++ f (get_or ps i 0) = ap (flat_map f) (take_more ps i 0 lt) ∙ (flat_map-append f (take i ps) (get_or ps i 0 ∷ []) ∙ ap (λ (l : List ℕ). flat_map f (take i ps) ++ l) (append-nil (f (get_or ps i 0)))) in
-    c.in_ok-extend_from_slice.ensures.items ∙ (ap (λ (l : List ℕ). l ++ c.writers.result.now) c.loop-prerequisite.invariant ∙ (ap (λ (l : List ℕ). flat_map f (take i ps) ++ l) one ∙ sym more))
+    let low : p < length x.graph.nodes = c.graph-graph.ensures.graph.sound.edges c.args.number p (subst (λ (l : List ℕ). Has l p) same (at ps i 0 lt)) in
+    let f = λ (q : ℕ). writers_of x (name_of x q) in
+    let more : flat_map f (take (i + 1) ps) ≡ flat_map f (take i ps) ++ f p = ap (flat_map f) (take_more ps i 0 lt) ∙ (flat_map-append f (take i ps) (p ∷ []) ∙ ap (λ (l : List ℕ). flat_map f (take i ps) ++ l) (append-nil (f p))) in
+    c.in_ok-extend_from_slice.ensures.items ∙ (ap (λ (l : List ℕ). l ++ c.row_at.result.now) c.loop-prerequisite.invariant ∙ (ap (λ (l : List ℕ). flat_map f (take i ps) ++ l) (c.row_at.ensures ∙ row_of x (map (λ (row : Bor (List ℕ)). row.now) c.args.writers.now) p c.requires low) ∙ sym more))

@@ -1,31 +1,30 @@
-use Rattle.std.proofs.Common.{◌≡◌, ◌++◌, ◌∷◌, [], List, sym, subst, take, drop}
+use Rattle.std.proofs.Common.{◌≡◌, ◌++◌, [], List, sym, subst, take, drop}
 use Rattle.std.proofs.lemmas.Grind.{flat_map-append}
 use Rattle.mk_graph.specs.Serial.{serial_order}
 use Rattle.mk_cert.specs.declared.finding.Finding.{Finding}
-use Rattle.mk_cert.specs.declared.question.Question.TheVariants.{Record, Commands, Varying, Target, Given, Own, Unknown, Loose, Choice}
 use Rattle.mk_graph.specs.Membership.{Has}
 use Rattle.mk_cert.specs.Subject.{name_of}
 use Rattle.mk_cert.specs.Candidates.{Candidate, by_number, pairs_of_writers, selection, static_candidates}
 use Rattle.mk_cert.specs.Listed.{Adds, TellsNoSelection, named}
-use Rattle.mk_cert.specs.Questions.{asked_each}
+use Rattle.mk_cert.specs.Questions.{asked_before_pairs, asked_behind_pairs}
 use Rattle.mk_cert.proofs.Adding.{adds_append}
-use Rattle.mk_cert.proofs.Members.{in_mapped}
+use Rattle.mk_graph.specs.Lists.{has_mapped}
 use Rattle.mk_cert.proofs.findings.static_findings.Goals as goal
 
 pub returns : goal.returns
 returns c =
     let x = c.args.subject.now in
-    let first = asked_each x (Record ∷ Commands ∷ Varying ∷ Target ∷ []) in
+    let first = asked_before_pairs x in
     let pairs = pairs_of_writers x (serial_order x.graph) in
-    let then = asked_each x (Given ∷ Own ∷ Unknown ∷ Loose ∷ Choice ∷ []) in
-    let found = c.ask_each-2.new.found.items in
+    let then = asked_behind_pairs x in
+    let found = c.ask_behind_pairs.new.found.items in
     let all : Adds x (first ++ (pairs ++ then)) c.new-found.result.items found =
-    adds_append x first (pairs ++ then) c.new-found.result.items c.ask_each.new.found.items found c.in_ok-ask_each.ensures
-    (adds_append x pairs then c.ask_each.new.found.items c.note_pairs.new.found.items found c.in_ok-note_pairs.ensures c.in_ok-ask_each-2.ensures) in
+    adds_append x first (pairs ++ then) c.new-found.result.items c.ask_before_pairs.new.found.items found c.in_ok-ask_before_pairs.ensures
+    (adds_append x pairs then c.ask_before_pairs.new.found.items c.note_pairs.new.found.items found c.in_ok-note_pairs.ensures c.in_ok-ask_behind_pairs.ensures) in
     let joined : static_candidates x ≡ first ++ (pairs ++ then) = flat_map-append (λ (part : List Candidate). part) (take 4 (by_number x)) (drop 4 (by_number x)) in
     let adds : Adds x (static_candidates x) [] found = subst (λ (l : List Candidate). Adds x l [] found) (sym joined) (subst (λ (old : List Finding). Adds x (first ++ (pairs ++ then)) old found) c.new-found.ensures.items all) in
     let stays = λ (none : TellsNoSelection found). c.nothing_found_is_selected.ensures x c.graph-graph.ensures.graph c.graph-graph.ensures.subject adds.kept adds.right
-    (λ n chosen stands. none (name_of x n) chosen (subst (λ (l : List Finding). Has l (named x (selection n chosen))) (sym adds.added) (in_mapped (named x) adds.kept (selection n chosen) stands))) in
+    (λ n chosen stands. none (name_of x n) chosen (subst (λ (l : List Finding). Has l (named x (selection n chosen))) (sym adds.added) (has_mapped (named x) adds.kept (selection n chosen) stands))) in
     record {
       found = adds;
       selected = λ none. (stays none).0;

@@ -14,11 +14,11 @@ loop-number-preserved c =
     let g = c.args.subject.now.graph in
     let s = footprints c.args.subject.now.setting in
     let rows = c.loop-number.sets.items in
-    let row = c.carried_by.result in
+    let row = c.in_ok-carried_at.field-0 in
     let pushed = c.in_ok-push.ensures.items in
     record {
       many = omega (arith, ap (λ (l : List (List ℕ)). length l) pushed, length-append rows (row ∷ []), c.loop-number.invariant.many);
-      held = rows_push (λ (t : ℕ) (set : List ℕ). (o : ℕ) → Has set o ↔ Carries g s t o) rows c.push.new.self.items row [] c.loop-number.number pushed (sym c.loop-number.invariant.many) c.loop-number.invariant.held c.carried_by.ensures;
+      held = rows_push (λ (t : ℕ) (set : List ℕ). (o : ℕ) → Has set o ↔ Carries g s t o) rows c.push.new.self.items row [] c.loop-number.number pushed (sym c.loop-number.invariant.many) c.loop-number.invariant.held c.in_ok-carried_at.ensures;
     }
 
 pub returns : goal.returns

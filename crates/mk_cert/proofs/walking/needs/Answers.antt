@@ -16,10 +16,10 @@ returns c =
     let rows : c.deref.result.now ≡ c.args.ends.now.needed.items = c.deref.ensures.value in
     let number : c.file.inside.number ≡ number_of (all_names x) f = ap (λ (v : Target). v.number) (c.file.view_is ∙ c.requires.file) in (
       λ t_yes.
-          let here : Has (prerequisites x.graph t) c.file.inside.number = (c.requires.ends.needed_held t c.file.inside.number).0 (subst (λ (l : List (List ℕ)). Has (get_or l t []) c.file.inside.number) rows (c.is_needed_at.ensures.0 t_yes)) in
+          let here : Has (prerequisites x.graph t) c.file.inside.number = (c.requires.ends.needed_held t c.file.inside.number).0 (subst (λ (l : List (List ℕ)). Has (get_or l t []) c.file.inside.number) rows (c.has_at.ensures.0 t_yes)) in
           let at : Has (prerequisites x.graph t) (number_of (all_names x) f) = subst (λ (n : ℕ). Has (prerequisites x.graph t) n) number here in
           (number_of (all_names x) f, at, number_names x f (is.sound.edges t (number_of (all_names x) f) at)),
       λ (p, needed, named).
           let same : p ≡ c.file.inside.number = sym (number ∙ number_is x is c.names_have_one_number.ensures p (is.sound.edges t p needed) f named) in
-          c.is_needed_at.ensures.1 (subst (λ (l : List (List ℕ)). Has (get_or l t []) c.file.inside.number) (sym rows) ((c.requires.ends.needed_held t c.file.inside.number).1 (subst (λ (n : ℕ). Has (prerequisites x.graph t) n) same needed))),
+          c.has_at.ensures.1 (subst (λ (l : List (List ℕ)). Has (get_or l t []) c.file.inside.number) (sym rows) ((c.requires.ends.needed_held t c.file.inside.number).1 (subst (λ (n : ℕ). Has (prerequisites x.graph t) n) same needed))),
     )

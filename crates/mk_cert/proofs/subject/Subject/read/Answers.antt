@@ -64,4 +64,4 @@ returns c =
     let known = tables.reads.known.items in
     let same : c.index-known.result.now ≡ known_of x (get_or (reads_of x e.number) c.args.place []) = c.index-known.ensures ∙ (ap (λ (k : ℕ). get_or known k c.index-known.result.now) place ∙ (get_or_from_slice_get known (get_or (get_or tables.reads.places n []) c.args.place 0) (known_of x (get_or (reads_of x n) c.args.place [])) c.index-known.result.now at.here ∙ ap (λ (k : ℕ). known_of x (get_or (reads_of x k) c.args.place [])) number)) in
     let shown = λ (ws : List ℕ). let k : Known = record { writers = ws; given = c.known.inside.given; editable = c.known.inside.editable; number = c.known.inside.number } in k in
-    target_is x (get_or (reads_of x e.number) c.args.place []) c.as_str-file.result.now c.as_slice-2.result.now c.known.inside.given c.known.inside.editable c.known.inside.number named (ap shown c.as_slice-2.ensures.value ∙ (c.known.view_is ∙ same))
+    target_is x (get_or (reads_of x e.number) c.args.place []) c.as_str-file.result.now c.as_slice-2.result.now c.known.inside.given c.known.inside.editable c.known.inside.number named (ap shown c.as_slice-2.ensures ∙ (c.known.view_is ∙ same))

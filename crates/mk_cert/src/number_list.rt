@@ -1,4 +1,4 @@
-//! What a node needs, looked up by number.
+//! Numbers of a list, looked up.
 
 ghost use Rattle.std.specs.Prelude.{◌≡◌, ◌<◌, ◌↔◌, ℕ, true, IfOk};
 ghost use Rattle.mk_graph.specs.Graph.{max_nodes};
@@ -12,17 +12,17 @@ use std::marker::Model;
 /// Of so many numbers no set is made: to go through them costs no more than to make one.
 const FEW: usize = 16;
 
-/// The direct prerequisites of a node, which are looked up: where there are few, in the list
-/// itself. A contract sees the list.
+/// The numbers of a list, which are looked up: where there are few, in the list itself. A contract
+/// sees the list.
 #[derive(Drop)]
-pub struct Needed<'a> {
+pub struct NumberList<'a> {
     list: &'a [usize],
     set: Option<Box<NodeSet>>,
 }
 
-impl<'a> Model for Needed<'a> {
+impl<'a> Model for NumberList<'a> {
     ghost use Rattle.std.specs.Prelude.{List, ℕ};
-    ghost use Rattle.mk_cert.specs.Needed.{AreSetOf};
+    ghost use Rattle.mk_cert.specs.Lookup.{AreSetOf};
 
     ghost Value = { List ℕ };
 
@@ -41,18 +41,18 @@ fn set_of(numbers: &[usize]) -> NodeSet
     set
 }
 
-impl<'a> Needed<'a> {
+impl<'a> NumberList<'a> {
     /// Those of this list. The error is want of memory alone.
-    pub fn new(alloc: Global, list: &'a [usize]) -> Result<Needed<'a>, AllocError>
+    pub fn new(alloc: Global, list: &'a [usize]) -> Result<NumberList<'a>, AllocError>
         requires { (n : ℕ) → Has list.now n → n < max_nodes }
-        ensures { IfOk result (λ needed. needed ≡ list.now) }
+        ensures { IfOk result (λ numbers. numbers ≡ list.now) }
     {
         let set = if list.len() > FEW {
             Some(Box::new(alloc, set_of(list))?)
         } else {
             None
         };
-        Ok(Needed { list, set })
+        Ok(NumberList { list, set })
     }
 
     /// Whether this is one of them.

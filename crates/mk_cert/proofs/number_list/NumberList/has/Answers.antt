@@ -2,7 +2,7 @@ use Rattle.std.proofs.Common.{◌∙◌, sym, ⊎_elim}
 use Rattle.std.proofs.lemmas.Bool.{cases_Bool}
 use Rattle.mk_graph.specs.Membership.{has}
 use Rattle.mk_cert.proofs.FileDecided.{number_in, number_out}
-use Rattle.mk_cert.proofs.needed.Needed.has.Goals as goal
+use Rattle.mk_cert.proofs.number_list.NumberList.has.Goals as goal
 
 pub returns-in-None : goal.returns-in-None
 returns-in-None c =

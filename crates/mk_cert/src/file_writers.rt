@@ -1,0 +1,78 @@
+//! The nodes that write one file.
+
+ghost use Rattle.std.specs.Prelude.{◌≡◌, ◌∷◌, ◌++◌, [], IfOk, OnOk};
+
+use std::alloc::{AllocError, Global};
+use std::marker::Model;
+
+/// The numbers of the nodes that write a file. Nearly each file has one, which stands here itself
+/// and takes no memory. A contract sees a list.
+#[derive(Drop)]
+pub struct FileWriters {
+    one: Option<[usize; 1]>,
+    more: Vec<usize>,
+}
+
+impl Model for FileWriters {
+    ghost use Rattle.std.specs.Prelude.{List, ℕ, ◌≡◌, [], IfSome};
+    ghost use Rattle.mk_cert.specs.Writers.{one_or};
+
+    ghost Value = { List ℕ };
+
+    ghost view = { λ w. one_or w.one w.more.items };
+
+    ghost invariant = { λ w. IfSome w.one (λ _. w.more.items ≡ []) };
+}
+
+impl FileWriters {
+    /// None.
+    pub fn new(alloc: Global) -> FileWriters
+        ensures { result ≡ [] }
+    {
+        FileWriters {
+            one: None,
+            more: Vec::new(alloc),
+        }
+    }
+
+    /// Those of this list. The error is want of memory alone.
+    pub fn of(alloc: Global, numbers: &[usize]) -> Result<FileWriters, AllocError>
+        ensures { IfOk result (λ writers. writers ≡ numbers.now) }
+    {
+        if let [number] = numbers {
+            return Ok(FileWriters {
+                one: Some([*number]),
+                more: Vec::new(alloc),
+            });
+        }
+        Ok(FileWriters {
+            one: None,
+            more: numbers.to_vec(alloc)?,
+        })
+    }
+
+    /// One more, behind the others. The error is want of memory alone.
+    pub fn push(&mut self, number: usize) -> Result<(), AllocError>
+        ensures { OnOk result (self.new ≡ self.old ++ number ∷ []) }
+    {
+        if let Some(one) = self.one {
+            self.more.push(one[0])?;
+            self.one = None;
+        } else if self.more.is_empty() {
+            self.one = Some([number]);
+            return Ok(());
+        }
+        self.more.push(number)?;
+        Ok(())
+    }
+
+    /// The numbers, in their order.
+    pub fn as_slice(&self) -> &[usize]
+        ensures { result.now ≡ self.now }
+    {
+        match &self.one {
+            Some(one) => one,
+            None => self.more.as_slice(),
+        }
+    }
+}
