@@ -8,6 +8,7 @@ import sys
 from collections.abc import Callable
 from pathlib import Path
 
+from generate import gather
 from run import DATA, RUNS, asked
 from spending import Measure, least, spent
 from verdicts import GROWTH_BOUND, LARGE, Build, deep, far, flat, ruled, written
@@ -28,6 +29,18 @@ def reading(count: int) -> Build:
     system = [f"/usr/include/h{number}.h" for number in range(200)]
     records = [(target, commands, [*reads, *system]) for target, commands, reads in build.records]
     return Build(build.text, build.sources, records, ["/usr/"])
+
+
+def compiled(count: int) -> Build:
+    """Targets with a command as compilers get it, of some 200 bytes, that read one of 64 sources and 20 files of the system."""
+    options = " ".join(f"-Wno-warning-{number}" for number in range(10))
+    system = [f"/usr/include/h{number}.h" for number in range(20)]
+    sources = [f"certificates/s{number}" for number in range(64)]
+    targets = {f"o{number}": sources[number % 64] for number in range(count)}
+    commands = {target: f"cc {options} -c -o {target} {source}" for target, source in targets.items()}
+    rules = [f"{target}: {source}\n\t{commands[target]}\n" for target, source in targets.items()]
+    records = [(target, [commands[target]], [source, *system]) for target, source in targets.items()]
+    return Build(gather(list(targets)) + "".join(rules), sources, records, ["/usr/"])
 
 
 def carrying(layers: int) -> Build:
@@ -67,6 +80,7 @@ def unknown(count: int) -> Build:
 VERIFIED: list[tuple[Callable[[int], Build], int, int]] = [
     (own, 1000, 2000),
     (deep, 2000, 4000),
+    (compiled, 2000, 4000),
     (reading, 1000, 2000),
     (carrying, 30, 60),
     (far, 970, 1940),
