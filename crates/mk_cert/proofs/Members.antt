@@ -1,6 +1,6 @@
 -- Where candidates stand.
-use Rattle.std.proofs.Common.{◌≡◌, ◌||◌, Bool, ℕ, List, [], ◌∷◌, map, ◌⊎◌, inl, inr, ⊎_elim, refl, sym, subst, ap, ◌∙◌}
-use Rattle.std.specs.List.{flat_map, list_any}
+use Rattle.std.proofs.Common.{◌≡◌, ℕ, List, [], ◌∷◌, map, ◌⊎◌, inl, inr, ⊎_elim, refl, sym, subst, ap, ◌∙◌}
+use Rattle.std.specs.List.{flat_map}
 use Rattle.mk_graph.specs.Lists.{has_left, has_right, has_mapped, joined_to}
 use Rattle.mk_graph.specs.Membership.{Has}
 use Rattle.mk_cert.specs.Subject.{Subject, writes_of}
@@ -21,8 +21,3 @@ pair_stands x (k ∷ later) o t f differ (inr o_there) (inl t_here) o_wrote t_wr
 pair_stands x (k ∷ later) o t f differ (inr o_there) (inr t_there) o_wrote t_wrote =
     let front = flat_map (λ (h : List ℕ). map (λ n. two_writers k n h) later) (writes_of x k) in
     ⊎_elim (λ h. inl (has_right front (pairs_of_writers x later) (two_writers o t f) h)) (λ h. inr (has_right front (pairs_of_writers x later) (two_writers t o f) h)) (pair_stands x later o t f differ o_there t_there o_wrote t_wrote)
-
--- a test over what f gives
-pub any_mapped : {A B : Type 0} (p : B → Bool) (f : A → B) (xs : List A) → list_any p (map f xs) ≡ list_any (λ x. p (f x)) xs
-any_mapped p f [] = refl
-any_mapped p f (x ∷ xs) = ap (λ b. p (f x) || b) (any_mapped p f xs)

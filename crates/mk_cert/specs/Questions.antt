@@ -24,10 +24,11 @@ asked x Choice n = map (λ c. selection n c) (choice_with_writes x n)
 abbrev pub asked_each : Subject → List Question → List Candidate
 asked_each x questions = flat_map (λ question. by_node x (asked x question)) questions
 
--- what is asked before two recipes that write a file are looked for, and what is asked then
+-- what may be found before two recipes that write a file are looked for
 abbrev pub asked_before_pairs : Subject → List Candidate
 asked_before_pairs x = asked_each x (Record ∷ Commands ∷ Varying ∷ Target ∷ [])
 
+-- what may be found behind these
 abbrev pub asked_behind_pairs : Subject → List Candidate
 asked_behind_pairs x = asked_each x (Given ∷ Own ∷ Unknown ∷ Loose ∷ Choice ∷ [])
 

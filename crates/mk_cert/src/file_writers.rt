@@ -5,21 +5,22 @@ ghost use Rattle.std.specs.Prelude.{◌≡◌, ◌∷◌, ◌++◌, [], IfOk, On
 use std::alloc::{AllocError, Global};
 use std::marker::Model;
 
-/// The numbers of the nodes that write a file. Nearly each file has one, which stands here itself
+/// The numbers of the nodes that write a file. Nearly every file has one, which stands here itself
 /// and takes no memory. A contract sees a list.
 #[derive(Drop)]
 pub struct FileWriters {
+    /// The one that there is.
     one: Option<[usize; 1]>,
+    /// Without it, all of them.
     more: Vec<usize>,
 }
 
 impl Model for FileWriters {
-    ghost use Rattle.std.specs.Prelude.{List, ℕ, ◌≡◌, [], IfSome};
-    ghost use Rattle.mk_cert.specs.Writers.{one_or};
+    ghost use Rattle.std.specs.Prelude.{List, ℕ, ◌≡◌, [], IfSome, unwrap_or};
 
     ghost Value = { List ℕ };
 
-    ghost view = { λ w. one_or w.one w.more.items };
+    ghost view = { λ w. unwrap_or w.one w.more.items };
 
     ghost invariant = { λ w. IfSome w.one (λ _. w.more.items ≡ []) };
 }

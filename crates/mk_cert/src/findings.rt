@@ -34,7 +34,7 @@ fn ask_each(
 }
 
 /// Adds what is found of all nodes by what is asked before two recipes that write a file are looked
-/// for.
+/// for. It fails for want of memory alone.
 pub fn ask_before_pairs(
     alloc: Global,
     subject: &Subject<'_>,
@@ -52,7 +52,8 @@ pub fn ask_before_pairs(
     ask_each(alloc, subject, &questions, found)
 }
 
-/// Adds what is found of all nodes by what is asked behind them.
+/// Adds what is found of all nodes by what is asked behind two recipes that write a file. It fails
+/// for want of memory alone.
 pub fn ask_behind_pairs(
     alloc: Global,
     subject: &Subject<'_>,

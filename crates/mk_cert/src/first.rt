@@ -38,7 +38,7 @@ fn first_before_pairs(alloc: Global, subject: &Subject<'_>) -> Result<Option<Fin
     Ok(first_of(found))
 }
 
-/// The first that is found by what is asked behind them.
+/// The first that is found by what is asked behind pairs.
 fn first_behind_pairs(alloc: Global, subject: &Subject<'_>) -> Result<Option<Finding>, AllocError>
     ensures { IfOk result (TellsFirst subject.now (asked_behind_pairs subject.now)) }
 {

@@ -87,7 +87,7 @@ fn read_sets<'a>(
     Ok(sets)
 }
 
-/// The recipes that a node carries, of which the list at its number is made.
+/// The recipes that a node carries: the list at its number, looked up.
 fn carried_at<'a>(
     alloc: Global,
     subject: &Subject<'_>,
@@ -107,7 +107,7 @@ fn carried_at<'a>(
     Ok(set)
 }
 
-/// The recipes that each node carries, of which these lists are made.
+/// The recipes that each node carries: these lists, looked up.
 fn carried_sets<'a>(
     alloc: Global,
     subject: &Subject<'_>,
@@ -180,7 +180,7 @@ pub fn ends_of<'a>(alloc: Global, subject: &'a Subject<'_>) -> Result<Ends<'a>, 
 }
 
 /// All that is looked up along ways, over the lists of the recipes that nodes carry. It takes time
-/// linear in what is recorded, where each file has one writer.
+/// linear in what is recorded, where each file has one writer. It fails for want of memory alone.
 pub fn links_of<'a>(
     alloc: Global,
     subject: &'a Subject<'_>,

@@ -1,9 +1,10 @@
 //! Names of a list, looked up.
 
-ghost use Rattle.std.specs.Prelude.{◌≡◌, ℕ, true, map, IfOk};
+ghost use Rattle.std.specs.Prelude.{◌≡◌, map, IfOk};
 ghost use Rattle.std.specs.String.{string_bytes};
 ghost use Rattle.mk_lines.specs.Names.{has_name};
 
+use mk_foot::has_among;
 use mk_lines::{NameSet, names_among};
 use std::alloc::{AllocError, Global};
 use std::marker::Model;
@@ -31,13 +32,6 @@ impl<'a> Model for NameList<'a> {
     ghost invariant = { λ l. AreNamesOf (map string_bytes l.list.now) l.set };
 }
 
-/// Whether a name is one of these.
-fn has_name(names: &[String], name: &str) -> bool
-    ensures { result ≡ has_name (map string_bytes names.now) name.now }
-{
-    names.iter().any(|other| name == other.as_str())
-}
-
 impl<'a> NameList<'a> {
     /// Those of this list. The error is want of memory alone.
     pub fn new(alloc: Global, list: &'a [String]) -> Result<NameList<'a>, AllocError>
@@ -57,7 +51,7 @@ impl<'a> NameList<'a> {
     {
         match &self.set {
             Some(set) => set.contains(name),
-            None => has_name(self.list, name),
+            None => has_among(self.list, name),
         }
     }
 }

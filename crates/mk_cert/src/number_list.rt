@@ -26,9 +26,9 @@ impl<'a> Model for NumberList<'a> {
 
     ghost Value = { List ℕ };
 
-    ghost view = { λ m. m.list.now };
+    ghost view = { λ n. n.list.now };
 
-    ghost invariant = { λ m. AreSetOf m.list.now m.set };
+    ghost invariant = { λ n. AreSetOf n.list.now n.set };
 }
 
 /// The set of these numbers.

@@ -34,7 +34,7 @@ fn has_at(lists: &[NumberList<'_>], place: usize, number: usize) -> bool
 }
 
 /// Whether a name stands in the list at a place.
-fn names_at(lists: &[NameList<'_>], place: usize, name: &str) -> bool
+fn has_name_at(lists: &[NameList<'_>], place: usize, name: &str) -> bool
     ensures { result ≡ has_name (slice_index_or lists.now place []) name.now }
 {
     match lists.get(place) {
@@ -143,7 +143,7 @@ fn needs_way(subject: &Subject<'_>, links: &Links<'_>, number: usize, file: &Tar
     requires file { file.now ≡ target_of subject.now file.now.file }
     ensures { (result ≡ true) ↔ NeedsWay subject.now number file.now.file }
 {
-    names_at(&links.reads, number, file.file) && file.can_change(subject)
+    has_name_at(&links.reads, number, file.file) && file.can_change(subject)
 }
 
 /// Whether the path of an entry goes on from its first recipe to its file.
