@@ -10,6 +10,7 @@ ghost use Rattle.mk_core.specs.Views.{AnswersOver};
 ghost use Rattle.mk_print.specs.declared.fault.Fault as faults;
 ghost use Rattle.mk_print.specs.declared.fault.Fault.TheVariants.{Memory, Read};
 
+use crate::leaving::end_of;
 use crate::ready::{Ready, ready_over};
 use crate::request::Request;
 use mk_infer::RuleTable;
@@ -61,7 +62,9 @@ fn answer_with<F: Files, C: Command>(
     ensures counted { Counts (F.failed files.old) (F.failed files.new) result }
 {
     let ready = ready_over(alloc, files, request, table)?;
-    command.answer(alloc, files, &ready)
+    let answer = command.answer(alloc, files, &ready);
+    end_of(ready, request.leaves_memory);
+    answer
 }
 
 /// The answer to a request over its makefile.
@@ -80,7 +83,9 @@ fn answer_over<F: Files, C: Command>(
     ensures counted { Counts (F.failed files.old) (F.failed files.new) result }
 {
     let table = RuleTable::new(alloc, makefile)?;
-    answer_with(alloc, files, request, &table, command)
+    let answer = answer_with(alloc, files, request, &table, command);
+    end_of(table, request.leaves_memory);
+    answer
 }
 
 /// The answer to a request: what the command answers to what is ready, or the first fault of the
@@ -106,5 +111,7 @@ pub(crate) fn answer_request<F: Files, C: Command>(
         request.defaults,
         request.operands.as_slice(),
     )?;
-    answer_over(alloc, files, request, &makefile, command)
+    let answer = answer_over(alloc, files, request, &makefile, command);
+    end_of(makefile, request.leaves_memory);
+    answer
 }

@@ -13,6 +13,7 @@ ghost use Rattle.mk_print.specs.declared.fault.Fault as faults;
 ghost use Rattle.mk_print.specs.declared.fault.Fault.TheVariants.{Memory, Read};
 
 use crate::command::{Command, answer_request};
+use crate::leaving::end_of;
 use crate::ready::Ready;
 use crate::request::Request;
 use crate::selecting::selected;
@@ -58,6 +59,7 @@ fn judge_graph<F: Files, J: Judge>(
     ready: &Ready<'_>,
     graph: &Graph,
     judge: &J,
+    leaves_memory: bool,
 ) -> Result<J::Answer, Fault>
     requires few { F.failed files.old < 2 ^ 64 - 1 }
     requires selected { Selects ready.now.makefile (recorded ready.now) ready.now.goals
@@ -78,7 +80,9 @@ fn judge_graph<F: Files, J: Judge>(
         ready.setting(),
     )?;
     let _graph = subject.graph();
-    judge.judge(alloc, files, &subject)
+    let answer = judge.judge(alloc, files, &subject);
+    end_of(subject, leaves_memory);
+    answer
 }
 
 /// A command over the build of the goals.
@@ -86,6 +90,8 @@ fn judge_graph<F: Files, J: Judge>(
 struct Judged<J> {
     /// What is answered to the build.
     judge: J,
+    /// Whether the memory of the build is left to the end of the process.
+    leaves_memory: bool,
 }
 
 impl<J: Judge + Drop> Command for Judged<J> {
@@ -101,7 +107,9 @@ impl<J: Judge + Drop> Command for Judged<J> {
         ready: &Ready<'_>,
     ) -> Result<J::Answer, Fault> {
         let graph = selected(alloc, ready, &ready.recorded())?;
-        judge_graph(alloc, files, ready, &graph, &self.judge)
+        let answer = judge_graph(alloc, files, ready, &graph, &self.judge, self.leaves_memory);
+        end_of(graph, self.leaves_memory);
+        answer
     }
 
     ghost not_read = { λ c told ready fault.
@@ -126,6 +134,9 @@ pub fn answer_judged<F: Files, J: Judge + Drop>(
     ensures memory { IfErr result (λ fault. is_want_of_memory fault ≡ true → fault ≡ Memory) }
     ensures counted { Counts (F.failed files.old) (F.failed files.new) result }
 {
-    let command = Judged { judge };
+    let command = Judged {
+        judge,
+        leaves_memory: request.leaves_memory,
+    };
     answer_request(alloc, files, request, &command)
 }

@@ -53,6 +53,9 @@ pub struct Request {
     pub book: Option<Name>,
     /// Whether a graph is printed with the commands of its nodes.
     pub commands: bool,
+    /// Whether the memory of what was read is left to the end of the process, as is quick where
+    /// nothing follows the answer. It changes no answer.
+    pub leaves_memory: bool,
 }
 
 /// Whether a word is a macro operand: it holds `=`.

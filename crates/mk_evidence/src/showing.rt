@@ -16,7 +16,7 @@ ghost use Rattle.mk_print.specs.declared.fault.Fault.TheVariants.{Memory};
 
 use mk_cert::{Finding, Subject};
 use mk_core::laws::yes_is_right;
-use mk_core::{Fault, Judge, Request, Verdict, answer_judged, verdict_of};
+use mk_core::{Fault, Judge, Request, Verdict, answer_judged, end_of, verdict_of};
 use mk_plans::plan_text;
 use mk_read::Files;
 use mk_show::evidence;
@@ -98,12 +98,20 @@ fn findings_in(verdict: &Verdict) -> &[Finding]
 }
 
 /// The plan that shows what is found under this number, or the verdict.
-fn evidence_of(alloc: Global, subject: &Subject<'_>, number: u64) -> Result<Evidence, AllocError>
+fn evidence_of(
+    alloc: Global,
+    subject: &Subject<'_>,
+    number: u64,
+    leaves_memory: bool,
+) -> Result<Evidence, AllocError>
     ensures { IfOk result (λ evidence. IsEvidence subject.now number evidence) }
 {
     let verdict = verdict_of(alloc, subject)?;
     match plan_of(alloc, subject, findings_in(&verdict), number)? {
-        Some(plan) => Ok(Evidence::Plan(plan)),
+        Some(plan) => {
+            end_of(verdict, leaves_memory);
+            Ok(Evidence::Plan(plan))
+        }
         None => Ok(Evidence::NoPlan(verdict)),
     }
 }
@@ -112,6 +120,7 @@ fn evidence_of(alloc: Global, subject: &Subject<'_>, number: u64) -> Result<Evid
 #[derive(Drop)]
 struct ShowFinding {
     number: u64,
+    leaves_memory: bool,
 }
 
 impl Judge for ShowFinding {
@@ -125,7 +134,7 @@ impl Judge for ShowFinding {
         _files: &mut F,
         subject: &Subject<'_>,
     ) -> Result<Evidence, Fault> {
-        let evidence = evidence_of(alloc, subject, self.number)?;
+        let evidence = evidence_of(alloc, subject, self.number, self.leaves_memory)?;
         Ok(evidence)
     }
 
@@ -154,7 +163,12 @@ pub fn evidence_or_verdict<F: Files>(
     ensures counted { Counts (F.failed files.old) (F.failed files.new) result }
 {
     yes_is_right();
-    answer_judged(alloc, files, request, ShowFinding { number })
+    let leaves_memory = request.leaves_memory;
+    let show = ShowFinding {
+        number,
+        leaves_memory,
+    };
+    answer_judged(alloc, files, request, show)
 }
 
 /// A plan that shows what `check` finds, the one under this number, counted from 1 in the order in

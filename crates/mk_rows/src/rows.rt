@@ -22,6 +22,7 @@ pub fn request(alloc: Global, makefile: Option<&str>, words: &str) -> Result<Req
         goals,
         book: None,
         commands: false,
+        leaves_memory: false,
     })
 }
 
@@ -67,6 +68,7 @@ pub fn asked_by(alloc: Global, words: &str) -> Result<Request, Fail> {
         goals,
         book,
         commands: has_word(words, "-c"),
+        leaves_memory: false,
     })
 }
 

@@ -16,7 +16,7 @@ abbrev pub faults_of : List Text → Kinds
 faults_of words = fault_of command_line words
 
 -- a request for this makefile, with macro operands and goals, the default text, no footprints and no
--- commands
+-- commands, whose memory is left to the end of the process
 abbrev pub asking : Option (List ℕ) → List Text → Request
 asking makefile words =
     record {
@@ -26,6 +26,7 @@ asking makefile words =
       goals = goals_of words;
       book = None;
       commands = false;
+      leaves_memory = true;
     }
 
 -- the option stands there, once or more

@@ -70,6 +70,7 @@ fn requested(alloc: Global, matches: &ArgMatches<'_>) -> Result<Request, AllocEr
         goals,
         book: named(alloc, matches, "book")?,
         commands: matches.get_count("commands") > 0,
+        leaves_memory: true,
     })
 }
 

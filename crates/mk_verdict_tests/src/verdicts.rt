@@ -4,7 +4,7 @@ ghost use Rattle.std.specs.Prelude.{◌≡◌, ◌<◌, ◌-◌, ◌^◌};
 ghost use Rattle.mk_parse.specs.MemFiles.{failures_of};
 
 use crate::expecting::expect_verdicts;
-use mk_core::MemFiles;
+use mk_core::{MemFiles, Request};
 use mk_rows::builds::{certificate_of, files_of_build, request_of, verdict, verdict_over};
 use std::process::Abort;
 use std::test::Fail;
@@ -108,6 +108,22 @@ fn writes_the_same_certificate_again(rt: HostRuntime) -> Result<(), Fail> {
         let first = certificate_of(alloc, build)?;
         let second = certificate_of(alloc, build)?;
         assert_eq!(rt; first.as_str(), second.as_str(), "of {build:?}");
+    }
+    Ok(())
+}
+
+/// Where memory is left to the end of the process, the verdict is the same.
+#[test]
+fn says_the_same_where_memory_is_left(rt: HostRuntime) -> Result<(), Fail> {
+    let alloc = rt.alloc();
+    for build in AGAIN.lines() {
+        let freed = verdict(alloc, build)?;
+        let request = Request {
+            leaves_memory: true,
+            ..request_of(alloc, build)?
+        };
+        let left = verdict_over(alloc, &mut files_of_build(alloc, build)?, &request)?;
+        assert_eq!(rt; left.as_str(), freed.as_str(), "of {build:?}");
     }
     Ok(())
 }
