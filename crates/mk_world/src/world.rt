@@ -1,7 +1,9 @@
 //! Worlds, in which steps are taken.
 
-ghost use Rattle.std.specs.Prelude.{◌≡◌, map, true, IfOk, None};
+ghost use Rattle.std.specs.Prelude.{◌≡◌, ◌<◌, length, map, true, IfOk, None};
+ghost use Rattle.std.specs.String.{string_bytes};
 ghost use Rattle.mk_graph.specs.Schedule as model;
+ghost use Rattle.mk_graph.specs.Setting.{reads, writes};
 ghost use Rattle.mk_graph.specs.SerialMake.{rest_of_run, whole_run};
 ghost use Rattle.mk_world.specs.NamedStep.{step_view};
 ghost use Rattle.mk_world.specs.State.{aged, disk_of, number_of, setting};
@@ -135,18 +137,17 @@ impl<'a> World<'a> {
         }
     }
 
-    /// Runs a recipe whole where each step of the run is allowed, and leaves that to the caller: it
-    /// begins, looks at all that it reads, puts these contents into what it writes, and ends. The
-    /// error is want of memory alone, behind some of the steps.
-    pub fn run_allowed(&mut self, node: &str, contents: &[u64]) -> Result<(), AllocError>
-        requires node { is_node self.old.scene.graph node.now ≡ true }
+    /// Runs the recipe of a node whole where each step of the run is allowed, and leaves that to the
+    /// caller: it begins, looks at all that it reads, puts these contents into what it writes, and
+    /// ends. The error is want of memory alone, behind some of the steps.
+    pub fn run_allowed(&mut self, number: usize, contents: &[u64]) -> Result<(), AllocError>
+        requires node { number < length self.old.scene.graph.nodes }
         requires allowed { MayTakeAll self.old (whole_run self.old.scene.graph
-            (setting self.old.scene) (number_of self.old.scene.graph node.now) contents.now) }
+            (setting self.old.scene) number contents.now) }
         ensures { TakesAllAllowed self.old self.new (whole_run self.old.scene.graph
-            (setting self.old.scene) (number_of self.old.scene.graph node.now) contents.now)
-            result }
+            (setting self.old.scene) number contents.now) result }
     {
-        match self.run_with(node, contents) {
+        match self.run_with(number, contents) {
             Ok(()) => Ok(()),
             Err(fault) => {
                 if is_memory(&fault) {
@@ -200,14 +201,25 @@ impl<'a> World<'a> {
 
     /// What a recipe is finished with where a plan leaves it open: what is known of a run that sees
     /// what is there, else the stamps that follow one another. The error is want of memory alone.
-    pub fn contents_for(&self, node: &str) -> Result<Vec<u64>, AllocError>
-        requires { is_node self.now.scene.graph node.now ≡ true }
+    pub fn contents_for(&self, number: usize) -> Result<Vec<u64>, AllocError>
+        requires { number < length self.now.scene.graph.nodes }
         ensures { IfOk result (λ contents. contents.items ≡
             contents_of self.now.scene.graph (setting self.now.scene) (disk_of self.now.disk)
-            (number_of self.now.scene.graph node.now)) }
+            number) }
     {
-        let number = self.scene.number(node);
         finishing::contents_of(self.alloc, &self.scene, &self.places, &self.disk, number)
+    }
+
+    /// The files that the recipe of a node reads, and those that it writes. It takes no memory.
+    pub fn files_of(&self, number: usize) -> (&'a [String], &'a [String])
+        requires { number < length self.now.scene.graph.nodes }
+        ensures reads { map string_bytes result.0.now ≡
+            reads self.now.scene.graph (setting self.now.scene) number }
+        ensures writes { map string_bytes result.1.now ≡
+            writes self.now.scene.graph (setting self.now.scene) number }
+    {
+        let footprint = self.scene.footprint(number);
+        (footprint.reads.as_slice(), footprint.writes.as_slice())
     }
 
     /// A source is edited.
@@ -253,10 +265,17 @@ impl<'a> World<'a> {
         ensures { Answers self.old self.new
             (model.Begin (number_of self.old.scene.graph node.now)) result }
     {
+        let number = self.scene.number(node);
+        self.begin_number(number)
+    }
+
+    /// The recipe of the node with this number begins.
+    fn begin_number(&mut self, number: usize) -> Result<(), StepFault>
+        ensures { Answers self.old self.new (model.Begin number) result }
+    {
         let Some(making) = &mut self.make else {
             return Err(StepFault::NoMake);
         };
-        let number = self.scene.number(node);
         recipes::begin(self.alloc, &self.scene, making, &self.readiness, number)
     }
 
@@ -385,16 +404,14 @@ impl<'a> World<'a> {
 
     /// A running recipe looks at all that it reads, puts these contents into what it writes, and
     /// ends.
-    fn finish_with(&mut self, node: &str, contents: &[u64]) -> Result<(), StepFault>
-        requires { is_node self.old.scene.graph node.now ≡ true }
+    fn finish_with(&mut self, number: usize, contents: &[u64]) -> Result<(), StepFault>
+        requires { number < length self.old.scene.graph.nodes }
         ensures { AnswersInTurn self.old self.new (rest_of_run self.old.scene.graph
-            (setting self.old.scene) (number_of self.old.scene.graph node.now) contents.now)
-            result }
+            (setting self.old.scene) number contents.now) result }
     {
         let Some(making) = &mut self.make else {
             return Err(StepFault::NoMake);
         };
-        let number = self.scene.number(node);
         finishing::finish_with(
             self.alloc,
             &self.scene,
@@ -410,14 +427,13 @@ impl<'a> World<'a> {
 
     /// A recipe begins, looks at all that it reads, puts these contents into what it writes, and
     /// ends.
-    fn run_with(&mut self, node: &str, contents: &[u64]) -> Result<(), StepFault>
-        requires { is_node self.old.scene.graph node.now ≡ true }
+    fn run_with(&mut self, number: usize, contents: &[u64]) -> Result<(), StepFault>
+        requires { number < length self.old.scene.graph.nodes }
         ensures { AnswersInTurn self.old self.new (whole_run self.old.scene.graph
-            (setting self.old.scene) (number_of self.old.scene.graph node.now) contents.now)
-            result }
+            (setting self.old.scene) number contents.now) result }
     {
-        self.begin(node)?;
-        self.finish_with(node, contents)
+        self.begin_number(number)?;
+        self.finish_with(number, contents)
     }
 
     /// All ready nodes without recipe are passed, if a make is in progress.

@@ -15,7 +15,7 @@ pub returns-in_default : goal.returns-in_default
 returns-in_default c =
     let scene = c.self.inside.scene in
     let disk = c.self.inside.disk in
-    let n = number_of scene.graph c.args.node.now in
+    let n = c.args.number in
     let cs = c.args.contents.now in
     rw (← c.self.view_is) (record {
       scene = refl;
@@ -24,18 +24,18 @@ returns-in_default c =
     })
 
 pub finish_with-requires-clause-node : goal.finish_with-requires-clause-node
-finish_with-requires-clause-node c = rw c.number-number.ensures (node_low c.self.inside.scene.graph c.args.node.now (rw (← c.self.view_is) at c.requires))
+finish_with-requires-clause-node c = rw (← c.self.view_is) at c.requires
 
 pub invariant_of-self-in_err-finish_with : goal.invariant_of-self-in_err-finish_with
 invariant_of-self-in_err-finish_with c =
     let scene = c.self.inside.scene in
     let k = subst (λ (o : Option MakeState). IsKeptIn scene o c.self.inside.readiness) c.in-Some.is c.self.invariant.2 in
     let cs = c.args.contents.now in
-    (c.in_err-finish_with.ensures.fits, subst (λ (ns : List FileName). AreNamesOf scene ns) (sym c.in_err-finish_with.ensures.names) c.self.invariant.1, kept_unfinished scene c.in-Some.making c.finish_with.new.making c.self.inside.disk c.finish_with.new.disk c.number-number.result cs c.self.inside.readiness k c.in_err-finish_with.field-0.0 c.in_err-finish_with.ensures.takes, subst (λ (ns : List FileName). ArePlaces scene ns c.self.inside.places) (sym c.in_err-finish_with.ensures.names) c.self.invariant.3)
+    (c.in_err-finish_with.ensures.fits, subst (λ (ns : List FileName). AreNamesOf scene ns) (sym c.in_err-finish_with.ensures.names) c.self.invariant.1, kept_unfinished scene c.in-Some.making c.finish_with.new.making c.self.inside.disk c.finish_with.new.disk c.args.number cs c.self.inside.readiness k c.in_err-finish_with.field-0.0 c.in_err-finish_with.ensures.takes, subst (λ (ns : List FileName). ArePlaces scene ns c.self.inside.places) (sym c.in_err-finish_with.ensures.names) c.self.invariant.3)
 
 pub invariant_of-self-2 : goal.invariant_of-self-2
 invariant_of-self-2 c =
     let scene = c.self.inside.scene in
     let k = subst (λ (o : Option MakeState). IsKeptIn scene o c.self.inside.readiness) c.in-Some.is c.self.invariant.2 in
     let cs = c.args.contents.now in
-    (c.in_ok-finish_with.ensures.fits, subst (λ (ns : List FileName). AreNamesOf scene ns) (sym c.in_ok-finish_with.ensures.names) c.self.invariant.1, kept_finish scene c.in-Some.making c.finish_with.new.making c.self.inside.disk c.finish_with.new.disk c.number-number.result cs c.self.inside.readiness k c.note_done.new.self c.in_ok-finish_with.ensures.takes c.note_done.ensures, subst (λ (ns : List FileName). ArePlaces scene ns c.self.inside.places) (sym c.in_ok-finish_with.ensures.names) c.self.invariant.3)
+    (c.in_ok-finish_with.ensures.fits, subst (λ (ns : List FileName). AreNamesOf scene ns) (sym c.in_ok-finish_with.ensures.names) c.self.invariant.1, kept_finish scene c.in-Some.making c.finish_with.new.making c.self.inside.disk c.finish_with.new.disk c.args.number cs c.self.inside.readiness k c.note_done.new.self c.in_ok-finish_with.ensures.takes c.note_done.ensures, subst (λ (ns : List FileName). ArePlaces scene ns c.self.inside.places) (sym c.in_ok-finish_with.ensures.names) c.self.invariant.3)

@@ -1,7 +1,7 @@
 use Rattle.std.proofs.lemmas.Bool.{false≢true}
 use Rattle.std.proofs.Common.{sym, ◌∙◌}
 use Rattle.mk_graph.specs.SerialMake.{whole_run}
-use Rattle.mk_world.specs.State.{setting, number_of, world_of}
+use Rattle.mk_world.specs.State.{setting, world_of}
 use Rattle.mk_world.proofs.InTurn.{turn_leads}
 use Rattle.mk_world.proofs.Whole.{all_leave, no_fault}
 use Rattle.mk_world.proofs.world.World.run_allowed.Goals as goal
@@ -11,7 +11,7 @@ returns-in-Ok c =
     let w = c.args.self.now in
     let g = w.scene.graph in
     let s = setting w.scene in
-    let steps = whole_run g s (number_of g c.args.node.now) c.args.contents.now in
+    let steps = whole_run g s c.args.number c.args.contents.now in
     let new = c.run_with.new.self in
     let takes = c.run_with.ensures.takes in
     record {
@@ -26,7 +26,7 @@ returns-then-is_memory c =
     let w = c.args.self.now in
     let g = w.scene.graph in
     let s = setting w.scene in
-    let steps = whole_run g s (number_of g c.args.node.now) c.args.contents.now in
+    let steps = whole_run g s c.args.number c.args.contents.now in
     let new = c.run_with.new.self in
     let takes = c.run_with.ensures.takes in
     record {
@@ -41,7 +41,7 @@ returns-else-is_memory c =
     let w = c.args.self.now in
     let g = w.scene.graph in
     let s = setting w.scene in
-    let steps = whole_run g s (number_of g c.args.node.now) c.args.contents.now in
+    let steps = whole_run g s c.args.number c.args.contents.now in
     let new = c.run_with.new.self in
     let takes = c.run_with.ensures.takes in
     absurd (no_fault g s (world_of w) (world_of new) steps c.run_with.result c.requires.allowed takes c.in-Err.fault c.in-Err.is (λ e. false≢true (sym c.if-is_memory.false ∙ c.is_memory.ensures.1 e)))
