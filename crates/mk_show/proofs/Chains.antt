@@ -5,9 +5,9 @@ use Rattle.std.proofs.Math.Nat.{eq-or-lt_of_le}
 use Rattle.std.proofs.lemmas.Bool.{false≢true, false_from_ne_true, cases_eq, cases_lt, eqb-true, eq-eqb}
 use Rattle.std.proofs.lemmas.List.{get_or_past}
 use Rattle.mk_graph.specs.declared.node.Node.{Node}
-use Rattle.mk_graph.specs.Graph.{Graph, IsGraph, no_node, node}
+use Rattle.mk_graph.specs.Graph.{Graph, no_node, node}
 use Rattle.mk_graph.specs.Membership.{Has}
-use Rattle.mk_graph.specs.Setting.{Setting, name, writes}
+use Rattle.mk_graph.specs.Setting.{Setting, name}
 use Rattle.mk_graph.specs.Stale.{Chain, here, further}
 use Rattle.mk_graph.specs.Ways.{Carries}
 use Rattle.mk_search.specs.Ways.{end, IsWay, successors}

@@ -1,5 +1,5 @@
 -- How histories go on by makes of all goals and by edits.
-use Rattle.std.proofs.Common.{◌≡◌, ℕ, ◌+◌, ◌*◌, ◌<◌, ◌≤◌, List, [], ◌∷◌, ◌++◌, length, map, Option, Some, None, true, false, ◌⊎◌, inl, inr, ◌↔◌, refl, sym, ◌∙◌, ap, subst, append_assoc, arith}
+use Rattle.std.proofs.Common.{◌≡◌, ℕ, ◌+◌, ◌*◌, ◌<◌, ◌≤◌, List, [], ◌∷◌, ◌++◌, length, map, Option, Some, None, ◌↔◌, refl, sym, ◌∙◌, ap, subst, append_assoc}
 use Rattle.std.proofs.lemmas.List.{map-append}
 use Rattle.mk_graph.specs.Membership.{Has}
 use Rattle.mk_graph.specs.Graph.{Graph, IsGraph, Reached, goal, onward}
@@ -13,9 +13,8 @@ use Rattle.mk_graph.specs.Schedule as model
 use Rattle.mk_graph.specs.Clean.{order_of}
 use Rattle.mk_graph.specs.InTurn.{MakesBut}
 use Rattle.mk_graph.specs.SerialMake.{one_make}
-use Rattle.mk_graph.specs.Stale.{Chain, IsEditOf, stale_history, MakesGoalsBut, ShowsStale, IsLaterThanAll}
-use Rattle.mk_world.specs.NamedStep.{Step}
-use Rattle.mk_world.specs.State.{Scene, DiskState, MakeState, State, setting, disk_of, world_in, world_of}
+use Rattle.mk_graph.specs.Stale.{Chain, IsEditOf, stale_history, MakesGoalsBut, ShowsStale}
+use Rattle.mk_world.specs.State.{Scene, DiskState, MakeState, setting, disk_of, world_in, world_of}
 use Rattle.mk_world.specs.Steps.{step_of, IsFirstOf}
 use Rattle.mk_cert.specs.Candidates.{static_candidates}
 use Rattle.mk_cert.specs.Conditions.{IsStale}
@@ -23,7 +22,7 @@ use Rattle.mk_cert.specs.Laws.{NothingFoundIsSound}
 use Rattle.mk_cert.specs.Listing.{Lists}
 use Rattle.mk_cert.specs.Subject.{Subject, IsSubject, footprints}
 use Rattle.mk_show.specs.Histories.{History, MayGoOn, GoesOn, MakesOn, GoesOnMaking}
-use Rattle.mk_show.specs.Makes.{IsIdle, MakesGoalsOn, MayMakeGoals, GoesOnMakingGoals, IsEditOn, MayEdit, GoesOnEditing}
+use Rattle.mk_show.specs.Makes.{IsIdle, MakesGoalsOn, MayMakeGoals, GoesOnMakingGoals, MayEdit, GoesOnEditing}
 use Rattle.mk_show.specs.Shown.{EndsStale}
 use Rattle.mk_show.proofs.Histories.{goes_further, may_further}
 use Rattle.mk_show.proofs.Steps.{makes_alike, makes_exist, legal_front, after_appended}

@@ -1,16 +1,15 @@
 -- A node's number is that of its name.
-use Rattle.std.proofs.Common.{◌≡◌, ℕ, zero, suc, ◌+◌, ◌<◌, true, false, ◌||◌, List, [], ◌∷◌, length, map, Some, refl, sym, ap, ◌∙◌, subst, arith, inl, inr, get_or, true≢false}
+use Rattle.std.proofs.Common.{◌≡◌, ℕ, zero, suc, ◌+◌, ◌<◌, true, false, List, [], ◌∷◌, length, map, Some, refl, ap, ◌∙◌, subst, arith, inl, inr, get_or}
 use Rattle.std.specs.Prelude.{unwrap_or}
 use Rattle.std.specs.Str.{bytes_eq}
 use Rattle.std.proofs.lemmas.Bool.{cases_Bool, cond-true, cond-false}
 use Rattle.std.proofs.lemmas.Slice.Eq.{bytes_eq-Decides}
-use Rattle.mk_lines.specs.Names.{has_name, place_from}
+use Rattle.mk_lines.specs.Names.{place_from}
 use Rattle.mk_graph.specs.Membership.{Has, IsDistinct}
 use Rattle.mk_graph.specs.declared.node.Node.{Node}
 use Rattle.mk_graph.specs.Graph.{Graph, IsSound, no_node}
 use Rattle.mk_graph.specs.Setting.{name}
 use Rattle.mk_world.specs.State.{number_of}
-use Rattle.mk_world.specs.Running.{is_node}
 
 name_at : List Node → ℕ → List ℕ
 name_at nodes n = (get_or nodes n no_node).name
@@ -53,22 +52,6 @@ numbers_are g (n ∷ ns) sound low =
     let first = number_is g n sound (low n (inl refl)) in
     let rest = numbers_are g ns sound (λ m h. low m (inr h)) in
     λ i. first i ∷ rest i
-
--- what stands in a list is found there
-has_found : (names : List (List ℕ)) (f : List ℕ) → Has names f → has_name names f ≡ true
-has_found [] f none = absurd none
-has_found (other ∷ names) f h = elim (cases_Bool (bytes_eq f other)) [
-  | inl e ↦ ap (λ b. b || has_name names f) e
-  | inr e ↦ elim h [
-    | inl is ↦ absurd (true≢false (sym ((bytes_eq-Decides f other).1 (sym is)) ∙ e))
-    | inr r ↦ ap (λ b. b || has_name names f) e ∙ has_found names f r
-  ]
-]
-
--- the name of a node is a node's
-pub name_is_node : (g : Graph) (n : ℕ) → n < length g.nodes → is_node g (name g n) ≡ true
-unfolding name_at
-name_is_node g n low = has_found (map (λ (k : Node). k.name) g.nodes) (name g n) (among g.nodes n low)
 
 -- what stands at a place stands in the list
 pub at_place : (xs : List ℕ) (i d : ℕ) → i < length xs → Has xs (get_or xs i d)

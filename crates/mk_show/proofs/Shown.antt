@@ -1,6 +1,5 @@
 -- What is told can be shown.
-use Rattle.std.proofs.Common.{◌≡◌, ℕ, ◌+◌, ◌*◌, ◌<◌, ◌≤◌, Bool, true, false, not, nat_eq, cond, List, [], ◌∷◌, ◌++◌, length, map, filter, reverse, ◌⊎◌, inl, inr, refl, sym, ◌∙◌, ap, subst}
-use Rattle.std.specs.Prelude.{if◌then◌else◌}
+use Rattle.std.proofs.Common.{◌≡◌, ℕ, ◌+◌, ◌*◌, ◌<◌, ◌≤◌, Bool, true, false, not, nat_eq, cond, List, [], ◌∷◌, ◌++◌, length, map, filter, reverse, inl, inr, refl, sym, ap, subst}
 use Rattle.std.proofs.lemmas.List.{reverse-reverse}
 use Rattle.mk_graph.specs.Bare.{empty_setting, empty_disk, steps_of, turn_steps, ShowsNotBefore}
 use Rattle.mk_graph.specs.BuildLaws.{FirstIsAStart, NotBeforeIsShown, StaleHistoryExists, StaleIsShown, TurnListsRun}
@@ -8,26 +7,24 @@ use Rattle.mk_graph.specs.Graph.{Graph, IsGraph, IsSound, node}
 use Rattle.mk_graph.specs.GrowthLaws.{TurnsStay}
 use Rattle.mk_graph.specs.Laws.{OrderOfAllGoals, SerialReachesEachOnce}
 use Rattle.mk_graph.specs.Membership.{Has, IsWithin}
-use Rattle.mk_graph.specs.Serial.{serial_order}
 use Rattle.mk_graph.specs.Setting.{Setting, name, writings}
-use Rattle.mk_graph.specs.World.{Disk, Making, World, Idle, Busy, IsFirst, last_stamp}
+use Rattle.mk_graph.specs.World.{Disk, World, Idle, Busy, IsFirst, last_stamp}
 use Rattle.mk_graph.specs.Schedule.{Step, Edit, Make, Begin, Look, Put, End, Pass, Stop, EndMake, Allowed, IsLegal, after, after_all, make_of}
 use Rattle.mk_graph.specs.Stale.{stale_history}
 use Rattle.mk_graph.specs.TurnLists.{until_begin, LeadsPast}
-use Rattle.mk_graph.specs.Turns.{HasAll, InOpenGroup, IsPart, MayTurn, Turns, Wanted, goal, onward}
+use Rattle.mk_graph.specs.Turns.{HasAll, MayTurn, Turns, Wanted, goal, onward}
 use Rattle.mk_world.specs.Steps.{step_of}
 use Rattle.mk_world.specs.NamedStep as by_name
 use Rattle.mk_cert.specs.Laws.{ListedExactly, NothingFoundIsSound}
 use Rattle.mk_cert.specs.Subject.{Subject, IsSubject, footprints}
 use Rattle.mk_cert.specs.declared.finding.Finding.{Finding}
 use Rattle.mk_cert.specs.declared.finding.Finding.TheVariants as found
-use Rattle.mk_show.specs.Laws.{ToldIsShown}
 use Rattle.mk_show.specs.Shown.{EndsInRace, EndsStale, HasStamps, IsOfHistories, IsTold, ShowsFrom}
 use Rattle.mk_show.proofs.Counts.{wanted_low}
 use Rattle.mk_show.proofs.Names.{number_is, numbers_are}
 use Rattle.mk_show.proofs.Races.{not_done_before, turns_run}
 use Rattle.mk_show.proofs.Steps.{legal_behind, makes_exist}
-use Rattle.mk_show.proofs.Told.{IsRaceOf, IsStaleOf, race_numbers, reader_has_recipe, stale_number, told_race, told_stale}
+use Rattle.mk_show.proofs.Told.{race_numbers, reader_has_recipe, stale_number, told_race, told_stale}
 
 -- ---- steps whose numbers are those of nodes have names
 

@@ -1,14 +1,13 @@
 -- The parts of a history that shows a stale read, where the whole of it is legal.
-use Rattle.std.proofs.Common.{◌≡◌, ℕ, ◌+◌, List, [], ◌∷◌, ◌++◌, ◌⊎◌, inl, inr, ◌↔◌, refl, sym, subst, append_assoc}
+use Rattle.std.proofs.Common.{ℕ, ◌+◌, List, [], ◌∷◌, ◌++◌, inl, inr, ◌↔◌, refl, sym, subst, append_assoc}
 use Rattle.std.proofs.lemmas.Bool.{cases_Bool}
 use Rattle.mk_graph.specs.Membership.{Has}
 use Rattle.mk_graph.specs.Graph.{Graph}
 use Rattle.mk_graph.specs.Setting.{FileName, Setting, is_editable}
-use Rattle.mk_graph.specs.World.{Disk, World, Idle, Busy}
+use Rattle.mk_graph.specs.World.{Disk, Idle, Busy}
 use Rattle.mk_graph.specs.Schedule.{Step, Edit, make_of, IsLegal, after_all, disk_after}
 use Rattle.mk_graph.specs.Clean.{order_of}
 use Rattle.mk_graph.specs.SerialMake.{one_make}
-use Rattle.mk_graph.specs.InTurn.{MakesBut, ends, passes, runs}
 use Rattle.mk_graph.specs.Stale.{Chain, IsEditOf, stale_history, MakesGoalsBut, ShowsStale, IsLaterThanAll}
 use Rattle.mk_show.proofs.Steps.{makes_alike, makes_exist, legal_front, legal_behind}
 

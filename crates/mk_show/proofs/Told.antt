@@ -6,11 +6,9 @@ use Rattle.std.specs.declared.alloc.AllocError.{AllocError}
 use Rattle.std.specs.declared.alloc.Global.{Global}
 use Rattle.mk_graph.specs.Membership.{Has}
 use Rattle.mk_graph.specs.Lists.{mapped_from}
-use Rattle.mk_graph.specs.Graph.{IsGraph, node}
+use Rattle.mk_graph.specs.Graph.{node}
 use Rattle.mk_graph.specs.Serial.{serial_order}
 use Rattle.mk_graph.specs.Setting.{IsNumberOf}
-use Rattle.mk_graph.specs.World.{Disk, IsFirst}
-use Rattle.mk_world.specs.Steps.{step_of}
 use Rattle.mk_world.specs.NamedStep.{step_view}
 use Rattle.mk_world.specs.declared.step.Step.{Step}
 use Rattle.mk_cert.specs.Candidates.{Candidate, Holds, no_record, other_commands, varying_commands, no_target, two_writers, given_written, own_read, unknown_read, loose, race, stale, selection, pairs_of_writers, choice_with_writes, static_candidates}
@@ -21,7 +19,6 @@ use Rattle.mk_cert.specs.Listing.{Lists}
 use Rattle.mk_cert.specs.Subject.{Subject, footprints, name_of, reads_of, writes_of}
 use Rattle.mk_cert.specs.declared.finding.Finding.{Finding}
 use Rattle.mk_cert.specs.declared.finding.Finding.TheVariants as found
-use Rattle.mk_find.specs.Findings.{AreFindings}
 use Rattle.mk_show.specs.Shown.{HasStamps, IsNotShown, IsTold, Shows, ShowsRace, ShowsStaleRead}
 use Rattle.mk_show.proofs.Chains.{has_recipe, recipe_is_node}
 

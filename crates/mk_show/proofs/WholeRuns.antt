@@ -1,11 +1,7 @@
 -- Recipes that are run whole.
-use Rattle.std.proofs.Common.{◌≡◌, ℕ, ◌-◌, ◌<◌, ◌≤◌, List, [], ◌∷◌, ◌++◌, length, map, take, drop, get_or, Option, Some, None, true, refl, sym, ap, ◌∙◌, subst, append_assoc, arith}
-use Rattle.std.proofs.lemmas.Bool.{cond-true}
+use Rattle.std.proofs.Common.{◌≡◌, ℕ, ◌-◌, ◌<◌, ◌≤◌, List, [], ◌∷◌, ◌++◌, length, map, take, drop, get_or, Option, Some, None, refl, sym, ap, ◌∙◌, subst, append_assoc, arith}
 use Rattle.std.proofs.lemmas.List.{take_rest}
-use Rattle.mk_foot.specs.Book.{Record}
-use Rattle.mk_foot.specs.Setting as recorded
-use Rattle.mk_graph.specs.Graph.{node}
-use Rattle.mk_graph.specs.Setting.{FileName, name, reads, writes}
+use Rattle.mk_graph.specs.Setting.{FileName, reads, writes}
 use Rattle.mk_graph.specs.World as world
 use Rattle.mk_graph.specs.World.{Disk}
 use Rattle.mk_graph.specs.Schedule.{Step, Begin, Look, Put, End}
@@ -14,7 +10,7 @@ use Rattle.mk_world.specs.Running.{contents_of}
 use Rattle.mk_world.specs.State.{Scene, State, DiskState, MakeState, setting, disk_of, world_in, world_of}
 use Rattle.mk_show.specs.Histories.{History, MayGoOn, Notes, looks_and_puts, puts_in}
 use Rattle.mk_show.proofs.Stamps.{contents_are}
-use Rattle.mk_show.proofs.Notes.{notes_nothing, notes_further}
+use Rattle.mk_show.proofs.Notes.{notes_further}
 
 -- the next put of those that are left
 pub next_put : (t : ℕ) (names more : List FileName) (f : FileName) (cs : List ℕ) → names ≡ f ∷ more → 1 ≤ length cs → puts t names cs ≡ Put t f (get_or cs 0 0) ∷ puts t more (take (length cs - 1) (drop 1 cs))
@@ -29,42 +25,11 @@ no_put t [] cs none = refl
 no_put t (f ∷ names) [] none = refl
 no_put t (f ∷ names) (c ∷ cs) none = absurd (omega arith)
 
--- what is recorded of a recipe that has a record
-read_there : (s : recorded.Setting) (f : FileName) (r : Record) → recorded.record_for s.records f ≡ Some r → recorded.reads s f ≡ r.reads
-read_there s f r at = rw at refl
-
-written_there : (s : recorded.Setting) (f : FileName) (r : Record) → recorded.record_for s.records f ≡ Some r → recorded.writes s f ≡ r.writes
-written_there s f r at = rw at refl
-
-read_nowhere : (s : recorded.Setting) (f : FileName) → recorded.record_for s.records f ≡ None → recorded.reads s f ≡ []
-read_nowhere s f at = rw at refl
-
-written_nowhere : (s : recorded.Setting) (f : FileName) → recorded.record_for s.records f ≡ None → recorded.writes s f ≡ []
-written_nowhere s f at = rw at refl
-
-module _ (h : History) (t : ℕ) (cs : List ℕ) (recipe : (node h.world.scene.graph t).recipe ≡ true) where
-  by_record : (rs ws : List FileName) → recorded.reads h.world.scene.recorded (name h.world.scene.graph t) ≡ rs → recorded.writes h.world.scene.recorded (name h.world.scene.graph t) ≡ ws → looks_and_puts h t cs ≡ map (λ f. Look t f) rs ++ puts t ws cs
-  by_record rs ws reading writing =
-      let g = h.world.scene.graph in
-      let s = h.world.scene.recorded in
-      let r : reads g (setting h.world.scene) t ≡ rs = cond-true (node g t).recipe (recorded.reads s (name g t)) [] recipe ∙ reading in
-      let w : writes g (setting h.world.scene) t ≡ ws = cond-true (node g t).recipe (recorded.writes s (name g t)) [] recipe ∙ writing in
-      λ i. map (λ f. Look t f) (r i) ++ puts t (w i) cs
-
-  -- nothing is noted without a record
-  pub nothing_noted : None ≡ recorded.record_for h.world.scene.recorded.records (name h.world.scene.graph t) → Notes h h (looks_and_puts h t cs)
-  nothing_noted none =
-      let s = h.world.scene.recorded in
-      let f = name h.world.scene.graph t in
-      subst (λ (l : List Step). Notes h h l) (sym (by_record [] [] (read_nowhere s f (sym none)) (written_nowhere s f (sym none)))) (notes_nothing h)
-
-  -- the looks and puts of a record are all that a recipe does between begin and end
-  pub both_noted : (r : Record) → Some r ≡ recorded.record_for h.world.scene.recorded.records (name h.world.scene.graph t) → (files texts : List FileName) → files ≡ r.reads → texts ≡ r.writes
-      → (looked end : History) → Notes h looked (map (λ f. Look t f) files) → Notes looked end (puts t texts cs) → Notes h end (looks_and_puts h t cs)
-  both_noted r some files texts read written looked end on more =
-      let s = h.world.scene.recorded in
-      let f = name h.world.scene.graph t in
-      subst (λ (l : List Step). Notes h end l) (sym (by_record files texts (read_there s f r (sym some) ∙ sym read) (written_there s f r (sym some) ∙ sym written))) (notes_further h looked end (map (λ f. Look t f) files) (puts t texts cs) on more)
+-- the looks at these files and the puts into these are all that a recipe does between begin and end
+pub both_noted : (h looked end : History) (t : ℕ) (cs : List ℕ) (files texts : List FileName) → files ≡ reads h.world.scene.graph (setting h.world.scene) t → texts ≡ writes h.world.scene.graph (setting h.world.scene) t
+    → Notes h looked (map (λ f. Look t f) files) → Notes looked end (puts t texts cs) → Notes h end (looks_and_puts h t cs)
+both_noted h looked end t cs files texts read written on more =
+    subst (λ (l : List Step). Notes h end l) (λ i. map (λ f. Look t f) (read i) ++ puts t (written i) cs) (notes_further h looked end (map (λ f. Look t f) files) (puts t texts cs) on more)
 
 -- begin, looks and puts, and end are a whole run
 pub run_noted : (h begun put ended : History) (t : ℕ) (cs : List ℕ) → Notes h begun (Begin t ∷ []) → Notes begun put (looks_and_puts begun t cs) → Notes put ended (End t ∷ []) → Notes h ended (whole_run h.world.scene.graph (setting h.world.scene) t cs)
@@ -87,7 +52,7 @@ puts_are h t cs are legal =
     let s = setting h.world.scene in
     are ∙ (ap (λ (d : Disk). contents_of g s d t) (sym (same_disk h.world.scene h.world.disk h.world.make)) ∙ contents_are g s (world_of h.world) t legal)
 
--- so the whole run with it is the one of the plan, by the name of its node too
+-- so the whole run with it is the one of the plan
 pub run_is : (h : History) (t : ℕ) (cs : List ℕ) → cs ≡ contents_of h.world.scene.graph (setting h.world.scene) (disk_of h.world.disk) t → MayGoOn h (whole_run h.world.scene.graph (setting h.world.scene) t (puts_in h t))
-    → (n : ℕ) → n ≡ t → whole_run h.world.scene.graph (setting h.world.scene) n cs ≡ whole_run h.world.scene.graph (setting h.world.scene) t (puts_in h t)
-run_is h t cs are legal n same = λ i. whole_run h.world.scene.graph (setting h.world.scene) (same i) (puts_are h t cs are legal i)
+    → whole_run h.world.scene.graph (setting h.world.scene) t cs ≡ whole_run h.world.scene.graph (setting h.world.scene) t (puts_in h t)
+run_is h t cs are legal = ap (whole_run h.world.scene.graph (setting h.world.scene) t) (puts_are h t cs are legal)

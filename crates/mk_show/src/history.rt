@@ -1,9 +1,7 @@
 //! Histories, step by step from the first world.
 
 ghost use Rattle.std.specs.Prelude.{◌≡◌, ◌∷◌, ◌<◌, ◌+◌, [], length, map, true, IfOk, OnOk};
-ghost use Rattle.std.specs.Option.{option_copied};
 ghost use Rattle.std.specs.String.{string_bytes};
-ghost use Rattle.mk_foot.specs.Setting.{record_for};
 ghost use Rattle.mk_graph.specs.Graph.{IsGraph, node};
 ghost use Rattle.mk_graph.specs.Schedule as model;
 ghost use Rattle.mk_graph.specs.Setting.{name};
@@ -16,7 +14,7 @@ ghost use Rattle.mk_world.specs.Steps.{IsFirstOf, step_of};
 ghost use Rattle.mk_show.specs.Histories.{GoesOn, MayGoOn, Notes, looks_and_puts, puts_in};
 ghost use Rattle.mk_show.specs.Numbers.{HasSmallNumbers, HaveSmallNumbers};
 
-use mk_foot::{Record, Setting};
+use mk_foot::Setting;
 use mk_graph::{Graph, Node};
 use mk_world::{Step, World};
 use std::alloc::{AllocError, Global};
@@ -28,7 +26,6 @@ use std::marker::Model;
 pub struct History<'a> {
     alloc: Global,
     graph: &'a Graph,
-    setting: &'a Setting,
     world: World<'a>,
     steps: Vec<Step<'a>>,
 }
@@ -44,7 +41,7 @@ impl<'a> Model for History<'a> {
     ghost view = { λ h. record { world = h.world; steps = map step_view h.steps.items } };
 
     ghost invariant = { λ h.
-        (h.world.scene ≡ record { graph = h.graph.now; recorded = h.setting.now }) ×
+        (h.world.scene.graph ≡ h.graph.now) ×
         HaveSmallNumbers (map step_view h.steps.items) };
 }
 
@@ -61,7 +58,6 @@ impl<'a> History<'a> {
         Ok(History {
             alloc,
             graph,
-            setting,
             world: World::new(alloc, graph, setting)?,
             steps: Vec::new(alloc),
         })
@@ -228,28 +224,6 @@ impl<'a> History<'a> {
         self.note(Step::End { node })
     }
 
-    /// What is recorded of a node's recipe.
-    fn record_of(&self, number: usize) -> Option<&'a Record>
-        requires { number < length self.now.world.scene.graph.nodes }
-        ensures { option_copied result ≡ record_for self.now.world.scene.recorded.records
-            (name self.now.world.scene.graph number) }
-    {
-        let node = self.node(number);
-        self.setting.record_of(node.name.as_str())
-    }
-
-    /// What a recipe is to put: what is known of a run that saw what is there, else new stamps.
-    fn contents_for(&self, number: usize) -> Result<Vec<u64>, AllocError>
-        requires { number < length self.now.world.scene.graph.nodes }
-        ensures { IfOk result (λ contents. contents.items ≡
-            contents_of self.now.world.scene.graph (setting self.now.world.scene)
-            (disk_of self.now.world.disk) number) }
-    {
-        let node = self.node(number);
-        let contents = self.world.contents_for(node.name.as_str())?;
-        Ok(contents)
-    }
-
     /// Notes the looks of a recipe at these files.
     fn note_looks(&mut self, number: usize, files: &'a [String]) -> Result<(), AllocError>
         requires { number < length self.old.world.scene.graph.nodes }
@@ -287,23 +261,19 @@ impl<'a> History<'a> {
     /// Notes that a recipe looks at all that it reads, and puts these contents into all that it
     /// writes.
     fn note_files(&mut self, number: usize, contents: &[u64]) -> Result<(), AllocError>
-        requires node { number < length self.old.world.scene.graph.nodes }
-        requires recipe { (node self.old.world.scene.graph number).recipe ≡ true }
+        requires { number < length self.old.world.scene.graph.nodes }
         ensures { OnOk result (Notes self.old self.new
             (looks_and_puts self.old number contents.now)) }
     {
-        let Some(record) = self.record_of(number) else {
-            return Ok(());
-        };
-        self.note_looks(number, &record.reads)?;
-        self.note_puts(number, &record.writes, contents)?;
+        let (reads, writes) = self.world.files_of(number);
+        self.note_looks(number, reads)?;
+        self.note_puts(number, writes, contents)?;
         Ok(())
     }
 
     /// Notes a whole run of a recipe that puts these contents.
     fn note_run(&mut self, number: usize, contents: &[u64]) -> Result<(), AllocError>
-        requires node { number < length self.old.world.scene.graph.nodes }
-        requires recipe { (node self.old.world.scene.graph number).recipe ≡ true }
+        requires { number < length self.old.world.scene.graph.nodes }
         ensures { OnOk result (Notes self.old self.new (whole_run self.old.world.scene.graph
             (setting self.old.world.scene) number contents.now)) }
     {
@@ -317,15 +287,13 @@ impl<'a> History<'a> {
     /// that saw the same, else new stamps, into all that it writes, and ends.
     pub fn run(&mut self, number: usize) -> Result<(), AllocError>
         requires node { number < length self.old.world.scene.graph.nodes }
-        requires recipe { (node self.old.world.scene.graph number).recipe ≡ true }
         requires legal { MayGoOn self.old (whole_run self.old.world.scene.graph
             (setting self.old.world.scene) number (puts_in self.old number)) }
         ensures { OnOk result (GoesOn self.old self.new (whole_run self.old.world.scene.graph
             (setting self.old.world.scene) number (puts_in self.old number))) }
     {
-        let contents = self.contents_for(number)?;
-        let node = self.node(number);
-        self.world.run_allowed(node.name.as_str(), &contents)?;
+        let contents = self.world.contents_for(number)?;
+        self.world.run_allowed(number, &contents)?;
         self.note_run(number, &contents)?;
         Ok(())
     }

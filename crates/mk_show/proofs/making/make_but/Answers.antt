@@ -19,11 +19,6 @@ run-requires-clause-node c =
     let same = c.requires.graph ∙ ap (λ (k : Scene). k.graph) (sym c.loop-number.invariant.scene) in
     subst (λ (k : Graph). get_or c.args.order.now c.loop-number.number-index 0 < length k.nodes) same (c.requires.nodes _ (at_place c.args.order.now c.loop-number.number-index 0 c.loop-number-test.true))
 
-pub run-requires-clause-recipe : goal.run-requires-clause-recipe
-run-requires-clause-recipe c =
-    let same = c.requires.graph ∙ ap (λ (k : Scene). k.graph) (sym c.loop-number.invariant.scene) in
-    subst (λ (k : Graph). (node k (get_or c.args.order.now c.loop-number.number-index 0)).recipe ≡ true) same c.if-is_to_run.ensures.0
-
 pub run-requires-clause-legal : goal.run-requires-clause-legal
 run-requires-clause-legal c =
     let n = get_or c.args.order.now c.loop-number.number-index 0 in

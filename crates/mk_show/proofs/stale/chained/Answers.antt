@@ -1,5 +1,5 @@
 -- The search visits what chains lead to, place by place.
-use Rattle.std.proofs.Common.{◌≡◌, ◌∙◌, ℕ, ap, arith}
+use Rattle.std.proofs.Common.{◌∙◌, ap, arith}
 use Rattle.mk_cert.specs.Carried.{carried}
 use Rattle.mk_cert.specs.Subject.{footprints}
 use Rattle.mk_search.specs.Places.{Task}
