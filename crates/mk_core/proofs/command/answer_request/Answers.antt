@@ -20,6 +20,6 @@ returns-clause-answer g c =
     let m = c.in_ok-makefile.makefile in
     let command = c.args.command.now in
     let answers = g.C.Command.answers command in
-    let found = c.answer_over.result in
-    let over_it = subst (λ (t : Option Told). IfSome t (λ told. AnswersOver told request m (answers told) found)) c.in_ok-makefile.ensures.map c.answer_over.ensures.answer in
+    let found = c.answer_over-answer.result in
+    let over_it = subst (λ (t : Option Told). IfSome t (λ told. AnswersOver told request m (answers told) found)) c.in_ok-makefile.ensures.map c.answer_over-answer.ensures.answer in
     some_both (g.F.Files.told c.args.files.now) c.in_ok-makefile.ensures.answer over_it (λ told h a. over told request (answers told) m (read_well told request (answers told) _ _ c.as_ref.ensures.value c.as_slice.ensures m h) (g.met.C.Command.not_read command told) found a)

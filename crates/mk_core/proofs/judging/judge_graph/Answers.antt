@@ -24,8 +24,8 @@ returns-clause-answer g c =
     let ready = c.args.ready.now in
     let graph = c.args.graph.now in
     let judges = g.J.Judge.judges c.args.judge.now in
-    let found = c.judge.result in
+    let found = c.judge-answer.result in
     let same = same_subject _ ready.makefile _ _ graph _ ready.setting c.table.ensures c.recorded.ensures c.setting.ensures in
     let is = c.in_ok-subject.ensures.value ∙ same in
-    some_with (g.F.Files.told c.args.files.now) c.judge.ensures.answer
+    some_with (g.F.Files.told c.args.files.now) c.judge-answer.ensures.answer
     (λ told a. subst (λ (x : Subject). (found ≡ Err Memory) ⊎ AnswersTold (judges told) x found) is (told_well (judges told) c.in_ok-subject.subject c.graph-graph.ensures.graph c.in_ok-subject.ensures.subject found a))

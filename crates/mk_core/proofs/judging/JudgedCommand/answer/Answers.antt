@@ -19,5 +19,5 @@ returns-clause-answer g c =
     let ready = c.args.ready.now in
     let graph = c.in_ok-graph.graph in
     let selected = subst (λ (e : Exists). Selected e ready (Ok graph)) c.recorded.ensures c.in_ok-graph.ensures in
-    some_with (g.F.Files.told c.args.files.now) c.judge_graph.ensures.answer
-    (λ told a. over_graph (g.J.Judge.judges c.args.self.now.judge told) ready graph selected c.judge_graph.result a)
+    some_with (g.F.Files.told c.args.files.now) c.judge_graph-answer.ensures.answer
+    (λ told a. over_graph (g.J.Judge.judges c.args.self.now.judge told) ready graph selected c.judge_graph-answer.result a)
