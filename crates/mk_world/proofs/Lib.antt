@@ -4,6 +4,7 @@ pub mod Disks
 pub mod Judged
 pub mod Found
 pub mod Loops
+pub mod Numbers
 pub mod Changes
 pub mod Ascending
 pub mod Seen
