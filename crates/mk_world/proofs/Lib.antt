@@ -7,7 +7,6 @@ pub mod Loops
 pub mod Numbers
 pub mod Changes
 pub mod Ascending
-pub mod Seen
 pub mod FirstDisk
 pub mod Listings
 pub mod StepTests

@@ -1,5 +1,5 @@
 -- The numbers at which names stand.
-use Rattle.std.proofs.Common.{◌≡◌, ℕ, zero, suc, ◌+◌, ◌<◌, Bool, true, false, not, cond, List, [], ◌∷◌, ◌++◌, length, map, Option, Some, refl, sym, ap, ◌∙◌, arith, inl, inr, get_or, subst, take}
+use Rattle.std.proofs.Common.{◌≡◌, ℕ, zero, suc, ◌+◌, ◌<◌, ◌≤◌, Bool, true, false, not, cond, List, [], ◌∷◌, ◌++◌, length, map, Option, Some, None, ◌⊎◌, refl, sym, ap, ◌∙◌, arith, inl, inr, get_or, subst, take}
 use Rattle.std.specs.Prelude.{unwrap_or}
 use Rattle.std.proofs.lemmas.Bool.{cases_Bool}
 use Rattle.std.proofs.lemmas.List.{get_or-map, length-map, map_push, take-map, take_more}
@@ -8,27 +8,45 @@ use Rattle.mk_lines.specs.Names.{has_name, number_of, place_from, with_name}
 use Rattle.mk_graph.specs.declared.node.Node.{Node}
 use Rattle.mk_graph.specs.Membership.{Has, IsDistinct}
 use Rattle.mk_graph.specs.Setting.{FileName}
-use Rattle.mk_world.proofs.Loops.{mapped_at}
-use Rattle.mk_world.proofs.Tables.{name_there}
+use Rattle.mk_world.specs.Tables.{look}
+use Rattle.mk_world.proofs.Tables.{Placed, name_there, placed, unplaced}
 
--- the number of a name is its place, else how many names there are
-number_from : (n : ℕ) (names : List FileName) (f : FileName) → n + number_of names f ≡ unwrap_or (place_from n names f) (n + length names)
+-- The number of a name is its place, or how many names there are where it has none
+numbered_from : (n : ℕ) (names : List FileName) (f : FileName) → ((number_of names f < length names) × (place_from n names f ≡ Some (n + number_of names f))) ⊎ ((number_of names f ≡ length names) × (place_from n names f ≡ None))
 unfolding place_from
-number_from n [] f = refl
-number_from n (h ∷ names) f = at (bytes_eq f h) (number_from (n + 1) names f)
+numbered_from n [] f = inr (refl, refl)
+numbered_from n (h ∷ names) f = at (bytes_eq f h) (numbered_from (n + 1) names f)
   where
-    at : (b : Bool) → n + 1 + number_of names f ≡ unwrap_or (place_from (n + 1) names f) (n + 1 + length names) → n + cond (not b) (1 + number_of names f) 0 ≡ unwrap_or (cond b (Some n) (place_from (n + 1) names f)) (n + suc (length names))
-    at true e = omega arith
-    at false e =
-        let same : n + 1 + length names ≡ n + suc (length names) = omega arith in
-        let is : n + (1 + number_of names f) ≡ n + 1 + number_of names f = omega arith in
-        is ∙ (e ∙ ap (unwrap_or (place_from (n + 1) names f)) same)
+    at : (b : Bool) → ((number_of names f < length names) × (place_from (n + 1) names f ≡ Some (n + 1 + number_of names f))) ⊎ ((number_of names f ≡ length names) × (place_from (n + 1) names f ≡ None))
+        → ((cond (not b) (1 + number_of names f) 0 < suc (length names)) × (cond b (Some n) (place_from (n + 1) names f) ≡ Some (n + cond (not b) (1 + number_of names f) 0))) ⊎ ((cond (not b) (1 + number_of names f) 0 ≡ suc (length names)) × (cond b (Some n) (place_from (n + 1) names f) ≡ None))
+    at true k = inl (omega arith, ap Some (omega arith))
+    at false k = elim k [
+      | inl there ↦ inl (omega (arith, there.0), there.1 ∙ ap Some (omega arith))
+      | inr out ↦ inr (omega (arith, out.0), out.1)
+    ]
+
+pub numbered : (names : List FileName) (f : FileName) → ((number_of names f < length names) × (place_from 0 names f ≡ Some (number_of names f))) ⊎ ((number_of names f ≡ length names) × (place_from 0 names f ≡ None))
+numbered names f = elim (numbered_from 0 names f) [ inl there ↦ inl (there.0, there.1 ∙ ap Some (omega arith)) | inr out ↦ inr out ]
 
 pub placed_number : (names : List FileName) (f : FileName) → number_of names f ≡ unwrap_or (place_from 0 names f) (length names)
-placed_number names f =
-    let is : number_of names f ≡ 0 + number_of names f = omega arith in
-    let many : 0 + length names ≡ length names = omega arith in
-    is ∙ (number_from 0 names f ∙ ap (unwrap_or (place_from 0 names f)) many)
+placed_number names f = elim (numbered names f) [
+  | inl there ↦ sym (ap (λ (o : Option ℕ). unwrap_or o (length names)) there.1)
+  | inr out ↦ out.0 ∙ sym (ap (λ (o : Option ℕ). unwrap_or o (length names)) out.1)
+]
+
+-- a number below that is a place
+pub placed_at : (A : Type 0) (names : List FileName) (f : FileName) (n : ℕ) → n ≡ number_of names f → n < length names → Placed A names f n
+placed_at A names f n is low = elim (numbered names f) [
+  | inl there ↦ placed A names f n (there.1 ∙ ap Some (sym is))
+  | inr out ↦ absurd (omega (arith, out.0, is))
+]
+
+-- and no other one is
+pub unplaced_at : (A : Type 0) (names : List FileName) (f : FileName) (n : ℕ) → n ≡ number_of names f → length names ≤ n → (has_name names f ≡ false) × ((xs : List (Option A)) → look names xs f ≡ None)
+unplaced_at A names f n is high = elim (numbered names f) [
+  | inl there ↦ absurd (omega (arith, there.0, is))
+  | inr out ↦ unplaced A names f out.1
+]
 
 -- of a node it is that of the graph
 pub number_is : (nodes : List Node) (f : FileName) → number_of (map (λ (n : Node). n.name) nodes) f ≡ unwrap_or (place_from 0 (map (λ (n : Node). n.name) nodes) f) (length nodes)
