@@ -1,6 +1,7 @@
 -- The first disk, in tables and as the model has it.
-use Rattle.std.proofs.Common.{◌≡◌, ℕ, suc, ◌+◌, ◌<◌, ◌≤◌, Bool, true, false, cond, List, [], ◌∷◌, ◌++◌, length, map, Option, Some, None, refl, sym, ap, ◌∙◌, arith, inl, inr, subst, ◌⊎◌, get_or, drop, true≢false, String, Global, string_bytes}
-use Rattle.std.specs.Prelude.{◌↔◌, option_map, IfOk, Result, Ok, Err}
+use Rattle.std.proofs.Common.{◌≡◌, ℕ, suc, ◌+◌, ◌<◌, ◌≤◌, Bool, true, false, cond, List, [], ◌∷◌, ◌++◌, length, map, Option, Some, None, refl, sym, ap, ◌∙◌, arith, inl, inr, subst, ◌⊎◌, get_or, drop, true≢false}
+use Rattle.std.specs.Borrow.{Bor}
+use Rattle.std.specs.Prelude.{◌↔◌, fold, option_map, IfOk, OnOk, Result, Ok, Err}
 use Rattle.std.proofs.lemmas.List.{drop_more, append_assoc}
 use Rattle.std.proofs.Math.ListN.{get_or-eq_default, drop_of_length-le}
 use Rattle.std.proofs.lemmas.Bool.{cases_Bool, cases_lt, cond-true, cond-false}
@@ -9,7 +10,7 @@ use Rattle.std.proofs.lemmas.List.Kept.{IsStrictlySortedBy-filter}
 use Rattle.std.specs.Ordering.{nat_cmp}
 use Rattle.std.specs.Cmp.Lexicographic.{slice_cmp}
 use Rattle.std.specs.Str.{bytes_eq}
-use Rattle.mk_lines.specs.Names.{place_from}
+use Rattle.mk_lines.specs.Names.{place_from, with_name}
 use Rattle.mk_foot.specs.Setting as recorded
 use Rattle.mk_graph.specs.Membership.{Has}
 use Rattle.mk_graph.specs.Graph.{Graph, node, no_node}
@@ -21,7 +22,7 @@ use Rattle.mk_world.specs.declared.file.File.{File}
 use Rattle.mk_world.specs.Tables.{look}
 use Rattle.mk_world.specs.State.{disk_of, file_of, setting_of}
 use Rattle.mk_world.specs.First.{first_files, first_disk, given_among, AreSorted, IsNameOf, reads_of, writes_of}
-use Rattle.mk_world.proofs.Ascending.{ascending}
+use Rattle.mk_world.proofs.Ascending.{all_has, ascending, one_has, spelled}
 
 -- the file with this number, as the model has it
 abbrev numbered_file : ℕ → world.File
@@ -85,8 +86,11 @@ is_first g s names sorted all =
     }
 
 -- the texts that are left
-pub rest_is : (names : List (String Global)) (i : ℕ) (d : String Global) (name : FileName) → i < length names → name ≡ string_bytes (get_or names i d) → map string_bytes (drop i names) ≡ name ∷ map string_bytes (drop (i + 1) names)
-rest_is names i d name lt is = ap (map string_bytes) (drop_more names i d lt) ∙ ap (λ n. n ∷ map string_bytes (drop (i + 1) names)) (sym is)
+pub rest_is : {A : Type 0} (text : A → FileName) (names : List A) (i : ℕ) (d : A) (name : FileName) → i < length names → name ≡ text (get_or names i d) → map text (drop i names) ≡ name ∷ map text (drop (i + 1) names)
+rest_is text names i d name lt is = ap (map text) (drop_more names i d lt) ∙ ap (λ n. n ∷ map text (drop (i + 1) names)) (sym is)
+
+pub texts_left : (texts : List (Bor FileName)) (i : ℕ) (z : Bor FileName) → i < length texts → spelled (drop i texts) ≡ (get_or texts i z).now ∷ spelled (drop (i + 1) texts)
+texts_left texts i z lt = rest_is (λ (text : Bor FileName). text.now) texts i z (get_or texts i z).now lt refl
 
 pub files_pass : (s : recorded.Setting) (n : ℕ) (name : FileName) (texts rest : List FileName) (old new all : List (Option File)) → texts ≡ name ∷ rest → recorded.is_given s name ≡ false → new ≡ old ++ None ∷ [] → old ++ first_files s n texts ≡ all → new ++ first_files s n rest ≡ all
 files_pass s n name texts rest old new all is g e so_far =
@@ -113,6 +117,17 @@ many_first s n (h ∷ names) = at (recorded.is_given s h) (many_first s (n + 1) 
     at true e k = ap suc e
     at false e k = ap suc k
 
+-- the names with those of a node
+pub node_named : (s : recorded.Setting) (n : Node) (old first second new : List FileName) (name : FileName) (reads writes : List FileName) → name ≡ n.name → reads ≡ reads_of s n → writes ≡ writes_of s n → first ≡ with_name old name → second ≡ fold with_name first reads → new ≡ fold with_name second writes
+    → (f : FileName) → Has new f ↔ (Has old f ⊎ IsNameOf s n f)
+node_named s n old first second new name reads writes is_name is_reads is_writes one two three f =
+    let to_first : Has first f ↔ (Has old f ⊎ (n.name ≡ f)) = rw (one, is_name) (one_has old n.name f) in
+    let to_second : Has second f ↔ (Has first f ⊎ Has (reads_of s n) f) = rw (two, is_reads) (all_has (reads_of s n) first f) in
+    let to_new : Has new f ↔ (Has second f ⊎ Has (writes_of s n) f) = rw (three, is_writes) (all_has (writes_of s n) second f) in (
+      λ h. elim (to_new.0 h) [ inl k ↦ elim (to_second.0 k) [ inl j ↦ elim (to_first.0 j) [ inl there ↦ inl there | inr e ↦ inr (inl e) ] | inr r ↦ inr (inr (inl r)) ] | inr w ↦ inr (inr (inr w)) ],
+      λ h. elim h [ inl there ↦ to_new.1 (inl (to_second.1 (inl (to_first.1 (inl there))))) | inr k ↦ elim k [ inl e ↦ to_new.1 (inl (to_second.1 (inl (to_first.1 (inr e))))) | inr j ↦ elim j [ inl r ↦ to_new.1 (inl (to_second.1 (inr r))) | inr w ↦ to_new.1 (inr w) ] ] ],
+    )
+
 -- one more node
 pub next_node : (P : ℕ → Type 0) (old new src : Type 0) (i : ℕ) → new ↔ (old ⊎ P i) → old ↔ (src ⊎ ((n : ℕ) × (n < i) × P n)) → new ↔ (src ⊎ ((n : ℕ) × (n < i + 1) × P n))
 next_node P old new src i step so_far = (
@@ -138,6 +153,10 @@ pub if_ok : {A E : Type 0} {P Q : A → Type 0} (r : Result A E) → ((x : A) �
 if_ok (Ok x) f h = f x h
 if_ok (Err e) f h = tt
 
+pub on_ok : {A E P Q : Type 0} (r : Result A E) → (P → Q) → OnOk r P → OnOk r Q
+on_ok (Ok x) f h = f h
+on_ok (Err e) f h = tt
+
 -- past the end nothing is left
-pub nothing_left : (names : List (String Global)) (i : ℕ) → length names ≤ i → map string_bytes (drop i names) ≡ []
-nothing_left names i le = ap (map string_bytes) (drop_of_length-le names le)
+pub nothing_left : {A : Type 0} (text : A → FileName) (names : List A) (i : ℕ) → length names ≤ i → map text (drop i names) ≡ []
+nothing_left text names i le = ap (map text) (drop_of_length-le names le)

@@ -4,9 +4,9 @@ pub mod Disks
 pub mod Judged
 pub mod Found
 pub mod Loops
+pub mod Numbers
 pub mod Changes
 pub mod Ascending
-pub mod Seen
 pub mod FirstDisk
 pub mod Listings
 pub mod StepTests

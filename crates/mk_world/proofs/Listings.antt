@@ -1,5 +1,5 @@
 -- How files are listed one after another.
-use Rattle.std.proofs.Common.{◌≡◌, List, [], ◌∷◌, ◌++◌, Option, Some, None, option_map, map, refl, subst, sym, ap, ◌∙◌}
+use Rattle.std.proofs.Common.{◌≡◌, ℕ, ◌+◌, ◌<◌, Bor, List, [], ◌∷◌, ◌++◌, Option, Some, None, option_map, map, length, get_or, drop, refl, subst, sym, ap, ◌∙◌}
 use Rattle.std.specs.declared.cmp.Ordering.TheVariants.{Less}
 use Rattle.std.specs.Ordering.{nat_cmp}
 use Rattle.std.specs.Cmp.Lexicographic.{slice_cmp}
@@ -12,6 +12,8 @@ use Rattle.mk_world.specs.declared.file.File.{File}
 use Rattle.mk_world.specs.First.{AreSorted}
 use Rattle.mk_world.specs.State.{DiskState}
 use Rattle.mk_world.specs.Tables.{look}
+use Rattle.mk_world.proofs.Ascending.{spelled}
+use Rattle.mk_world.proofs.FirstDisk.{rest_is}
 use Rattle.mk_world.specs.Listing.{before, there_among, entry, listing, listed_as}
 
 -- a name that isn't there
@@ -19,8 +21,14 @@ pub list_pass : (at : FileName → Option Listed) (f : FileName) (texts rest : L
 list_pass at f texts rest old all is none so_far = ap (λ o. old ++ before o (there_among at rest)) (sym none) ∙ (ap (λ t. old ++ there_among at t) (sym is) ∙ so_far)
 
 -- one that is
-pub list_take : (at : FileName → Option Listed) (f : FileName) (texts rest : List FileName) (old new all : List Listed) (x : Listed) → texts ≡ f ∷ rest → at f ≡ Some x → new ≡ old ++ x ∷ [] → old ++ there_among at texts ≡ all → new ++ there_among at rest ≡ all
+list_take : (at : FileName → Option Listed) (f : FileName) (texts rest : List FileName) (old new all : List Listed) (x : Listed) → texts ≡ f ∷ rest → at f ≡ Some x → new ≡ old ++ x ∷ [] → old ++ there_among at texts ≡ all → new ++ there_among at rest ≡ all
 list_take at f texts rest old new all x is found e so_far = ap (λ l. l ++ there_among at rest) e ∙ (append_assoc old (x ∷ []) (there_among at rest) ∙ (ap (λ o. old ++ before o (there_among at rest)) (sym found) ∙ (ap (λ t. old ++ there_among at t) (sym is) ∙ so_far)))
+
+pub one_listed : (d : DiskState) (names : List (Bor FileName)) (i : ℕ) (z : Bor FileName) (name copy : FileName) (values : List (Option File)) (file : File) (old new all : List Listed) → i < length names → name ≡ (get_or names i z).now → values ≡ d.files → Some file ≡ look d.names values name → copy ≡ name
+    → new ≡ old ++ listed_as copy file ∷ [] → old ++ there_among (entry d) (spelled (drop i names)) ≡ all → new ++ there_among (entry d) (spelled (drop (i + 1) names)) ≡ all
+one_listed d names i z name copy values file old new all lt is same found copied e so_far =
+    let known : entry d name ≡ Some (listed_as copy file) = ap (λ vs. option_map (listed_as name) (look d.names vs name)) (sym same) ∙ (ap (option_map (listed_as name)) (sym found) ∙ ap (λ n. Some (listed_as n file)) (sym copied)) in
+    list_take (entry d) name _ _ old new all (listed_as copy file) (rest_is (λ (t : Bor FileName). t.now) names i z name lt is) known e so_far
 
 -- each is listed by its own name
 Names : (FileName → Option Listed) → Type 0

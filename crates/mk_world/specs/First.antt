@@ -49,10 +49,6 @@ first_disk s names =
 abbrev pub AreSorted : List FileName → Type 0
 AreSorted names = IsStrictlySortedBy (slice_cmp nat_cmp) names
 
--- what was seen is among the names
-abbrev pub HoldsSeen : (names seen : List FileName) → Type 0
-HoldsSeen names seen = (f : FileName) → has_name seen f ≡ true → Has names f
-
 -- the names are those of the world, in the order of their bytes
 pub record AreNamesOf (scene : Scene) (names : List FileName) : Type 0 where
   pub sorted : AreSorted names

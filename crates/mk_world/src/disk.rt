@@ -1,7 +1,6 @@
 //! What is there, how old it is, and what recipes are known to give.
 
 ghost use Rattle.std.specs.Prelude.{◌≡◌, ◌<◌, ◌↔◌, List, length, true, map, option_map, IfOk, IfSome, OnOk, OnErr};
-ghost use Rattle.std.specs.String.{string_bytes};
 ghost use Rattle.mk_lines.specs.Names.{has_name};
 ghost use Rattle.mk_world.specs.First.{first_disk};
 ghost use Rattle.mk_world.specs.Listing.{listing};
@@ -18,20 +17,20 @@ use crate::making::Making;
 use crate::outcomes::{Outcomes, Sight};
 use crate::table::{get, set};
 use mk_foot::Setting;
-use mk_lines::{Name, NameTable};
+use mk_lines::{Name, NameSet};
 use std::alloc::{AllocError, Global};
 use std::marker::Model;
 
 /// What is there, how old it is, and what recipes are known to give.
 #[derive(Drop)]
-pub struct Disk {
-    names: NameTable,
+pub struct Disk<'a> {
+    names: NameSet<'a>,
     files: Vec<Option<File>>,
     clock: u64,
     known: Outcomes,
 }
 
-impl Model for Disk {
+impl<'a> Model for Disk<'a> {
     ghost use Rattle.std.specs.Prelude.{◌≡◌, length};
     ghost use Rattle.mk_world.specs.State as state;
 
@@ -58,15 +57,19 @@ fn content_at(files: &[Option<File>], place: usize) -> Option<u64>
     }
 }
 
-impl Disk {
+impl<'a> Disk<'a> {
     /// A first disk: just the given ones of these names are there, each with its number among them
     /// as content and stamp.
-    pub fn first(alloc: Global, setting: &Setting, names: Vec<String>) -> Result<Disk, AllocError>
-        ensures { IfOk result (λ d. d ≡ first_disk setting.now (map string_bytes names.items)) }
+    pub fn first(
+        alloc: Global,
+        setting: &Setting,
+        names: NameSet<'a>,
+    ) -> Result<Disk<'a>, AllocError>
+        ensures { IfOk result (λ d. d ≡ first_disk setting.now names.entry) }
     {
         let (files, clock) = first_files(alloc, setting, &names)?;
         Ok(Disk {
-            names: NameTable::new(alloc, names)?,
+            names,
             files,
             clock,
             known: Outcomes::new(alloc),
@@ -123,10 +126,7 @@ impl Disk {
     pub fn place(&self, file: &str) -> usize
         ensures { result ≡ place_among self.now.names file.now }
     {
-        match self.names.place(file) {
-            Some(place) => place,
-            None => self.names.as_slice().len(),
-        }
+        self.names.number_of(file)
     }
 
     /// What the files at these places hold, of each that is there.
@@ -162,11 +162,10 @@ impl Disk {
     {
         let mut files = Vec::new(alloc);
         for name in self.names.as_slice() {
-            let text = name.as_str();
-            let Some(file) = get(&self.names, &self.files, text) else {
+            let Some(file) = get(&self.names, &self.files, name) else {
                 continue;
             };
-            let copy = Name::new(alloc, text)?;
+            let copy = Name::new(alloc, name)?;
             files.push(Listed {
                 name: copy,
                 content: file.content,

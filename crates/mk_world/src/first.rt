@@ -1,16 +1,16 @@
 //! The first disk of a world.
 
-ghost use Rattle.std.specs.Prelude.{◌≡◌, ℕ, List, ◌⊎◌, ◌↔◌, map, length, IfOk, OnOk};
-ghost use Rattle.std.specs.String.{string_bytes};
+ghost use Rattle.std.specs.Prelude.{◌≡◌, ℕ, List, ◌⊎◌, ◌↔◌, length, IfOk, OnOk};
 ghost use Rattle.mk_graph.specs.Membership.{Has};
 ghost use Rattle.mk_graph.specs.World.{IsOfWorld};
 ghost use Rattle.mk_world.specs.State.{setting_of};
 ghost use Rattle.mk_world.specs.First.{AreSorted, first_files, given_among, IsNameOf};
 
 use crate::file::File;
-use crate::sorted::SortedNames;
+use crate::sorted::in_order;
 use mk_foot::Setting;
 use mk_graph::{Graph, Node};
+use mk_lines::NameSet;
 use std::alloc::{AllocError, Global};
 
 /// The files of a first disk: each given one has its number among the given ones as content and
@@ -18,17 +18,16 @@ use std::alloc::{AllocError, Global};
 pub fn first_files(
     alloc: Global,
     setting: &Setting,
-    names: &[String],
+    names: &NameSet,
 ) -> Result<(Vec<Option<File>>, u64), AllocError>
-    ensures files { IfOk result (λ r. r.0.items ≡
-        first_files setting.now 0 (map string_bytes names.now)) }
-    ensures clock { IfOk result (λ r. r.1 ≡
-        length (given_among setting.now (map string_bytes names.now))) }
+    ensures files { IfOk result (λ r. r.0.items ≡ first_files setting.now 0 names.now) }
+    ensures clock { IfOk result (λ r. r.1 ≡ length (given_among setting.now names.now)) }
 {
+    let names = names.as_slice();
     let mut files = Vec::with_capacity(alloc, names.len())?;
     let mut clock: u64 = 0;
     for name in names {
-        if !setting.is_given(name.as_str()) {
+        if !setting.is_given(name) {
             files.push(None)?;
             continue;
         }
@@ -43,7 +42,7 @@ pub fn first_files(
 
 /// Adds the name of a node, and of the files that its recipe reads and writes.
 fn add_node<'a>(
-    names: &mut SortedNames<'a>,
+    names: &mut NameSet<'a>,
     setting: &'a Setting,
     node: &'a Node,
 ) -> Result<(), AllocError>
@@ -61,16 +60,20 @@ fn add_node<'a>(
     names.insert_all(&record.writes)
 }
 
-/// The names of a world, in the order of their bytes.
-pub fn names_of(alloc: Global, graph: &Graph, setting: &Setting) -> Result<Vec<String>, AllocError>
-    ensures sorted { IfOk result (λ names. AreSorted (map string_bytes names.items)) }
-    ensures all { IfOk result (λ names. (f : List ℕ) → Has (map string_bytes names.items) f ↔
-        IsOfWorld graph.now (setting_of setting.now) f) }
+/// The names of a world, in the order of their bytes. The error is want of memory alone.
+pub fn names_of<'a>(
+    alloc: Global,
+    graph: &'a Graph,
+    setting: &'a Setting,
+) -> Result<NameSet<'a>, AllocError>
+    ensures sorted { IfOk result (λ names. AreSorted names) }
+    ensures all { IfOk result (λ names. (f : List ℕ) → Has names f ↔
+        IsOfWorld graph.entry.now (setting_of setting.entry.now) f) }
 {
-    let mut names = SortedNames::new(alloc);
+    let mut names = NameSet::new(alloc);
     names.insert_all(setting.sources().as_slice())?;
     for node in graph.nodes() {
         add_node(&mut names, setting, node)?;
     }
-    names.copied(alloc)
+    in_order(alloc, &names)
 }

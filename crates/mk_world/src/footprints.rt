@@ -1,7 +1,6 @@
 //! What recipes read and write.
 
 ghost use Rattle.std.specs.Prelude.{◌≡◌, map, IfOk};
-ghost use Rattle.std.specs.String.{string_bytes};
 ghost use Rattle.mk_graph.specs.declared.node.Node as declared;
 ghost use Rattle.mk_world.specs.Fits.{no_footprint};
 ghost use Rattle.mk_world.specs.First.{reads_of, writes_of};
@@ -16,18 +15,6 @@ use std::alloc::{AllocError, Global};
 pub struct Footprint<'a> {
     pub reads: LentNames<'a>,
     pub writes: LentNames<'a>,
-}
-
-/// The names of nodes.
-pub fn names_of_nodes(alloc: Global, nodes: &[Node]) -> Result<Vec<String>, AllocError>
-    ensures { IfOk result (λ names. map string_bytes names.items ≡
-        map (λ (n : declared.Node). n.name) nodes.now) }
-{
-    let mut names = Vec::with_capacity(alloc, nodes.len())?;
-    for node in nodes {
-        names.push(String::from_str(alloc, node.name.as_str())?)?;
-    }
-    Ok(names)
 }
 
 /// A footprint without files.

@@ -19,7 +19,7 @@ const FEW: usize = 16;
 #[derive(Drop)]
 pub struct LentNames<'a> {
     names: &'a [String],
-    table: Option<NameTable>,
+    table: Option<Box<NameTable>>,
 }
 
 impl<'a> Model for LentNames<'a> {
@@ -30,7 +30,7 @@ impl<'a> Model for LentNames<'a> {
 
     ghost view = { λ l. map string_bytes l.names.now };
 
-    ghost invariant = { λ l. IfSome l.table (λ table. table ≡ map string_bytes l.names.now) };
+    ghost invariant = { λ l. IfSome l.table (λ table. table.value ≡ map string_bytes l.names.now) };
 }
 
 /// A table of names.
@@ -65,7 +65,7 @@ impl<'a> LentNames<'a> {
         if names.len() <= FEW {
             return Ok(LentNames { names, table: None });
         }
-        let table = table_of(alloc, names)?;
+        let table = Box::new(alloc, table_of(alloc, names)?)?;
         Ok(LentNames {
             names,
             table: Some(table),

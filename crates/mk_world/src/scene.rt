@@ -1,16 +1,17 @@
 //! The graph and what is recorded, which no step changes.
 
-ghost use Rattle.std.specs.Prelude.{◌≡◌, ◌<◌, ◌≤◌, length, true, IfOk};
+ghost use Rattle.std.specs.Prelude.{◌≡◌, ◌<◌, ◌≤◌, length, map, true, IfOk};
 ghost use Rattle.mk_foot.specs.Setting as recorded;
+ghost use Rattle.mk_graph.specs.declared.node.Node as declared;
 ghost use Rattle.mk_graph.specs.Graph.{max_nodes};
 ghost use Rattle.mk_world.specs.State.{number_of, setting};
 ghost use Rattle.mk_world.specs.Fits.{footprint};
 ghost use Rattle.mk_world.specs.Running.{is_node};
 
-use crate::footprints::{Footprint, footprints_of, names_of_nodes};
+use crate::footprints::{Footprint, footprints_of};
 use mk_foot::Setting;
 use mk_graph::Graph;
-use mk_lines::NameTable;
+use mk_lines::NameSet;
 use std::alloc::{AllocError, Global};
 use std::marker::Model;
 
@@ -20,7 +21,7 @@ use std::marker::Model;
 pub struct Scene<'a> {
     graph: &'a Graph,
     recorded: &'a Setting,
-    numbers: NameTable,
+    numbers: NameSet<'a>,
     footprints: Vec<Footprint<'a>>,
 }
 
@@ -40,6 +41,19 @@ impl<'a> Model for Scene<'a> {
         AreFootprints s.graph.now (state.setting_of s.recorded.now) s.footprints.items };
 }
 
+/// The names of the nodes of a graph, each at its number. The error is want of memory alone.
+fn numbers_of<'a>(alloc: Global, graph: &'a Graph) -> Result<NameSet<'a>, AllocError>
+    ensures { IfOk result (λ names. names ≡
+        map (λ (n : declared.Node). n.name) graph.entry.now.nodes) }
+{
+    let nodes = graph.nodes();
+    let mut names = NameSet::with_capacity(alloc, nodes.len())?;
+    for node in nodes {
+        names.insert(node.name.as_str())?;
+    }
+    Ok(names)
+}
+
 impl<'a> Scene<'a> {
     /// The scene of a graph and what is recorded. The error is want of memory alone.
     pub fn new(
@@ -50,12 +64,11 @@ impl<'a> Scene<'a> {
         ensures { IfOk result (λ scene. scene ≡
             record { graph = graph.entry.now; recorded = recorded.entry.now }) }
     {
-        let nodes = graph.nodes();
         Ok(Scene {
             graph,
             recorded,
-            numbers: NameTable::new(alloc, names_of_nodes(alloc, nodes)?)?,
-            footprints: footprints_of(alloc, recorded, nodes)?,
+            numbers: numbers_of(alloc, graph)?,
+            footprints: footprints_of(alloc, recorded, graph.nodes())?,
         })
     }
 
@@ -84,10 +97,7 @@ impl<'a> Scene<'a> {
     pub fn number(&self, name: &str) -> usize
         ensures { result ≡ number_of self.now.graph name.now }
     {
-        match self.numbers.place(name) {
-            Some(number) => number,
-            None => self.graph.nodes().len(),
-        }
+        self.numbers.number_of(name)
     }
 
     /// The files that the recipe of a node reads and writes.

@@ -6,21 +6,21 @@ ghost use Rattle.mk_lines.specs.Names.{has_name};
 ghost use Rattle.mk_graph.specs.World.{changed};
 ghost use Rattle.mk_world.specs.Tables.{look};
 
-use mk_lines::NameTable;
+use mk_lines::NameSet;
 
 /// What is known of a name.
-pub fn get<T: Copy>(names: &NameTable, values: &[Option<T>], name: &str) -> Option<T>
+pub fn get<T: Copy>(names: &NameSet, values: &[Option<T>], name: &str) -> Option<T>
     requires { length values.now ≡ length names.now }
     ensures { result ≡ look names.now values.now name.now }
 {
-    match names.place(name) {
-        Some(place) => values[place],
+    match values.get(names.number_of(name)) {
+        Some(value) => *value,
         None => None,
     }
 }
 
 /// Notes what is known of a name that is there. Answers whether it is.
-pub fn set<T: Copy>(names: &NameTable, values: &mut Vec<Option<T>>, name: &str, value: T) -> bool
+pub fn set<T: Copy>(names: &NameSet, values: &mut Vec<Option<T>>, name: &str, value: T) -> bool
     requires { length values.old.items ≡ length names.now }
     ensures there { result ≡ has_name names.now name.now }
     ensures len { length values.new.items ≡ length values.old.items }
@@ -28,11 +28,10 @@ pub fn set<T: Copy>(names: &NameTable, values: &mut Vec<Option<T>>, name: &str, 
         changed (look names.now values.old.items) name.now (Some value)) }
     ensures same { OnFalse result (values.new.items ≡ values.old.items) }
 {
-    match names.place(name) {
-        Some(place) => {
-            values[place] = Some(value);
-            true
-        }
-        None => false,
+    let place = names.number_of(name);
+    if place >= values.len() {
+        return false;
     }
+    values[place] = Some(value);
+    true
 }

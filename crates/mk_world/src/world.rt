@@ -38,7 +38,7 @@ pub struct World<'a> {
     alloc: Global,
     scene: Scene<'a>,
     places: Places,
-    disk: Disk,
+    disk: Disk<'a>,
     make: Option<Making>,
     readiness: Readiness<'a>,
 }
@@ -60,10 +60,10 @@ impl<'a> Model for World<'a> {
 }
 
 /// The world of a scene and a disk, with no make in progress. The error is want of memory alone.
-fn in_scene<'a>(alloc: Global, scene: Scene<'a>, disk: Disk) -> Result<World<'a>, AllocError>
+fn in_scene<'a>(alloc: Global, scene: Scene<'a>, disk: Disk<'a>) -> Result<World<'a>, AllocError>
     requires { AreNamesOf scene disk.names }
     ensures scene { IfOk result (λ w. w.scene ≡ scene.entry) }
-    ensures disk { IfOk result (λ w. w.disk ≡ disk) }
+    ensures disk { IfOk result (λ w. w.disk ≡ disk.entry) }
     ensures idle { IfOk result (λ w. w.make ≡ None) }
 {
     let readiness = Readiness::new(alloc, scene.graph())?;

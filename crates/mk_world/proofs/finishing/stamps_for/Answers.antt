@@ -20,4 +20,4 @@ loop-file-preserved c =
 
 pub returns : goal.returns
 returns c =
-    sym (append-nil c.loop-file.stamps.items) ∙ (ap (λ l. c.loop-file.stamps.items ++ new_stamps c.loop-file.last l) (sym (nothing_left c.args.files.now c.loop-file._file-index c.loop-file-test.false)) ∙ c.loop-file.invariant)
+    sym (append-nil c.loop-file.stamps.items) ∙ (ap (λ l. c.loop-file.stamps.items ++ new_stamps c.loop-file.last l) (sym (nothing_left string_bytes c.args.files.now c.loop-file._file-index c.loop-file-test.false)) ∙ c.loop-file.invariant)

@@ -1,9 +1,14 @@
-use Rattle.std.proofs.Common.{sym}
-use Rattle.mk_world.proofs.Tables.{get_is, unplaced}
+use Rattle.std.proofs.Common.{None, sym, ◌∙◌, ltb-true, ltb-false, arith}
+use Rattle.mk_world.proofs.Numbers.{placed_at, unplaced_at}
 use Rattle.mk_world.proofs.table.get.Goals as goal
 
 pub returns-in-Some : goal.returns-in-Some
-returns-in-Some g c = get_is g.row.T.Denot c.args.names.now c.args.values.now c.args.name.now c.in-Some.place _ (sym c.in-Some.ensures.place) c.requires c.in-Some.ensures.within c.index-values-place.is
+returns-in-Some g c =
+    let low = ltb-true _ _ (sym c.in-Some.ensures.lookup.0) in
+    let is = (placed_at g.row.T.Denot c.args.names.now c.args.name.now c.number_of.result c.number_of.ensures (omega (arith, c.requires, low))).gets c.args.values.now in
+    c.in-Some.ensures.lookup.4 (omega arith) None ∙ sym is
 
 pub returns-in-None : goal.returns-in-None
-returns-in-None g c = sym ((unplaced g.row.T.Denot c.args.names.now c.args.name.now (sym c.in-None.ensures.place)).1 c.args.values.now)
+returns-in-None g c =
+    let past = ltb-false _ _ (sym c.in-None.ensures.lookup.0) in
+    sym ((unplaced_at g.row.T.Denot c.args.names.now c.args.name.now c.number_of.result c.number_of.ensures (omega (arith, c.requires, past))).1 c.args.values.now)

@@ -1,14 +1,14 @@
 use Rattle.std.proofs.Common.{sym, Some, arith}
-use Rattle.mk_world.proofs.Tables.{placed, unplaced}
+use Rattle.mk_world.proofs.Numbers.{placed_at, unplaced_at}
 use Rattle.mk_world.proofs.table.set.Goals as goal
 
-pub returns-in-Some-clause-there : goal.returns-in-Some-clause-there
-returns-in-Some-clause-there g c = sym (placed g.row.T.Denot c.args.names.now c.args.name.now c.in-Some.place (sym c.in-Some.ensures.place)).there
+pub returns-then-place-len-clause-there : goal.returns-then-place-len-clause-there
+returns-then-place-len-clause-there g c = sym (unplaced_at g.row.T.Denot c.args.names.now c.args.name.now c.number_of-place.result c.number_of-place.ensures (omega (arith, c.requires))).0
 
-pub returns-in-Some-clause-noted : goal.returns-in-Some-clause-noted
-returns-in-Some-clause-noted g c =
-    let is = placed g.row.T.Denot c.args.names.now c.args.name.now c.in-Some.place (sym c.in-Some.ensures.place) in
-    λ i q. is.sets c.args.values.now.items (Some c.args.value) (omega (arith, c.in-Some.ensures.within, c.requires)) q i
+pub returns-clause-there : goal.returns-clause-there
+returns-clause-there g c = sym (placed_at g.row.T.Denot c.args.names.now c.args.name.now c.number_of-place.result c.number_of-place.ensures (omega (arith, c.requires))).there
 
-pub returns-in-None-clause-there : goal.returns-in-None-clause-there
-returns-in-None-clause-there g c = sym (unplaced g.row.T.Denot c.args.names.now c.args.name.now (sym c.in-None.ensures.place)).0
+pub returns-clause-noted : goal.returns-clause-noted
+returns-clause-noted g c =
+    let is = placed_at g.row.T.Denot c.args.names.now c.args.name.now c.number_of-place.result c.number_of-place.ensures (omega (arith, c.requires)) in
+    λ i q. is.sets c.args.values.now.items (Some c.args.value) (omega arith) q i
