@@ -13,7 +13,7 @@ pub fn in_order<'a>(alloc: Global, names: &NameSet<'a>) -> Result<NameSet<'a>, A
     ensures all { IfOk result (λ ordered. (f : List ℕ) → Has ordered f ↔ Has names.now f) }
 {
     let mut texts = Vec::from_slice(alloc, names.as_slice())?;
-    texts.sort_unstable();
+    texts.sort()?;
     let mut ordered = NameSet::with_capacity(alloc, texts.len())?;
     for &text in texts.as_slice() {
         ordered.insert(text)?;

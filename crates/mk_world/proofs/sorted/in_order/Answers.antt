@@ -9,13 +9,13 @@ loop-text-init c = none_sorted c.as_slice-text-items.result.now c.in_ok-ordered.
 
 pub loop-text-preserved : goal.loop-text-preserved
 loop-text-preserved c =
-    let up = subst (IsSorted by_bytes) (sym c.as_slice-text-items.ensures.value) c.sort_unstable.ensures.sorted in
+    let up = subst (IsSorted by_bytes) (sym c.as_slice-text-items.ensures.value) c.in_ok-sort.ensures.sorted in
     one_sorted c.as_slice-text-items.result.now c.loop-text.text-index _ c.loop-text.ordered c.insert.new.self _ up c.loop-text-test.true refl c.in_ok-insert.ensures.ok c.loop-text.invariant
 
 pub returns : goal.returns
 returns c =
     let texts = c.as_slice-text-items.result.now in
-    let moved : IsPermutation c.as_slice.result.now texts = subst (IsPermutation c.as_slice.result.now) (sym c.as_slice-text-items.ensures.value) (subst (λ (l : List (Bor (List ℕ))). IsPermutation l c.sort_unstable.new.self.items) c.in_ok-texts.ensures.items c.sort_unstable.ensures.permutation) in
+    let moved : IsPermutation c.as_slice.result.now texts = subst (IsPermutation c.as_slice.result.now) (sym c.as_slice-text-items.ensures.value) (subst (λ (l : List (Bor (List ℕ))). IsPermutation l c.sort.new.self.items) c.in_ok-texts.ensures.items c.sort.ensures.permutation) in
     let many : c.loop-text.text-index ≡ length (spelled texts) = omega (arith, length-map texts (λ (t : Bor (List ℕ)). t.now), c.loop-text.auto.text-index-end, c.loop-text-test.false) in
     record {
       sorted = c.loop-text.invariant.sorted;
