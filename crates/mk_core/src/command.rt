@@ -63,7 +63,8 @@ fn answer_with<F: Files, C: Command>(
 {
     let ready = ready_over(alloc, files, request, table)?;
     let answer = command.answer(alloc, files, &ready);
-    end_of(ready, request.leaves_memory);
+    let leaves_memory = ready.leaves_memory();
+    end_of(ready, leaves_memory);
     answer
 }
 

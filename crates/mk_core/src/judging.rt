@@ -59,7 +59,6 @@ fn judge_graph<F: Files, J: Judge>(
     ready: &Ready<'_>,
     graph: &Graph,
     judge: &J,
-    leaves_memory: bool,
 ) -> Result<J::Answer, Fault>
     requires few { F.failed files.old < 2 ^ 64 - 1 }
     requires selected { Selects ready.now.makefile (recorded ready.now) ready.now.goals
@@ -81,7 +80,7 @@ fn judge_graph<F: Files, J: Judge>(
     )?;
     let _graph = subject.graph();
     let answer = judge.judge(alloc, files, &subject);
-    end_of(subject, leaves_memory);
+    end_of(subject, ready.leaves_memory());
     answer
 }
 
@@ -90,8 +89,6 @@ fn judge_graph<F: Files, J: Judge>(
 struct Judged<J> {
     /// What is answered to the build.
     judge: J,
-    /// Whether the memory of the build is left to the end of the process.
-    leaves_memory: bool,
 }
 
 impl<J: Judge + Drop> Command for Judged<J> {
@@ -107,8 +104,8 @@ impl<J: Judge + Drop> Command for Judged<J> {
         ready: &Ready<'_>,
     ) -> Result<J::Answer, Fault> {
         let graph = selected(alloc, ready, &ready.recorded())?;
-        let answer = judge_graph(alloc, files, ready, &graph, &self.judge, self.leaves_memory);
-        end_of(graph, self.leaves_memory);
+        let answer = judge_graph(alloc, files, ready, &graph, &self.judge);
+        end_of(graph, ready.leaves_memory());
         answer
     }
 
@@ -134,9 +131,6 @@ pub fn answer_judged<F: Files, J: Judge + Drop>(
     ensures memory { IfErr result (λ fault. is_want_of_memory fault ≡ true → fault ≡ Memory) }
     ensures counted { Counts (F.failed files.old) (F.failed files.new) result }
 {
-    let command = Judged {
-        judge,
-        leaves_memory: request.leaves_memory,
-    };
+    let command = Judged { judge };
     answer_request(alloc, files, request, &command)
 }

@@ -30,6 +30,7 @@ pub struct Ready<'m> {
     any_leaf: bool,
     /// No names, which count as there beside the others.
     more: NameTable,
+    leaves_memory: bool,
 }
 
 impl<'m> Model for Ready<'m> {
@@ -69,6 +70,11 @@ impl<'m> Ready<'m> {
         ensures { result.now ≡ self.now.setting }
     {
         &self.setting
+    }
+
+    /// Whether the memory of all this is left to the end of the process. It changes no answer.
+    pub fn leaves_memory(&self) -> bool {
+        self.leaves_memory
     }
 
     /// The files that are there before a make.
@@ -124,10 +130,24 @@ fn book_for<F: Files>(
     Ok(read_book(alloc, &footprints, goals.as_slice())?)
 }
 
+/// Memory is left where at most so many reads are recorded. That of more would be missed while an
+/// answer is written.
+const FEW_READS: usize = 65_536;
+
+/// Whether few reads are recorded.
+fn reads_few(book: &Book) -> bool {
+    let mut reads: usize = 0;
+    for record in &book.records {
+        reads = reads.saturating_add(record.reads.len());
+    }
+    reads <= FEW_READS
+}
+
 /// What a request needs, by a book.
 fn ready_by<'m>(
     alloc: Global,
     any_leaf: bool,
+    leaves_memory: bool,
     table: &'m RuleTable<'m>,
     goals: Goals,
     book: Book,
@@ -148,6 +168,7 @@ fn ready_by<'m>(
         setting,
         any_leaf,
         more,
+        leaves_memory,
     })
 }
 
@@ -168,7 +189,8 @@ fn ready_with<'m, F: Files>(
 {
     let book = book_for(alloc, files, request.book.as_ref(), &goals)?;
     let any_leaf = request.book.is_none();
-    let ready = ready_by(alloc, any_leaf, table, goals, book)?;
+    let leaves_memory = request.leaves_memory && reads_few(&book);
+    let ready = ready_by(alloc, any_leaf, leaves_memory, table, goals, book)?;
     Ok(ready)
 }
 
