@@ -55,7 +55,7 @@ fn nodes_of(
     ensures { IfOk result (λ nodes. nodes.items ≡
         map (node_with choices.now.makefile names.now) met.now) }
 {
-    let mut nodes = Vec::with_capacity(alloc, met.len())?;
+    let mut nodes = Vec::new(alloc);
     for one in met {
         nodes.push(node_of(alloc, choices, names, one)?)?;
     }
