@@ -116,7 +116,14 @@ pub(crate) fn answer_request<F: Files, C: Command>(
         request.operands.as_slice(),
     )?;
     let mut leaves_memory = false;
-    let answer = answer_over(alloc, files, request, &makefile, command, &mut leaves_memory);
+    let answer = answer_over(
+        alloc,
+        files,
+        request,
+        &makefile,
+        command,
+        &mut leaves_memory,
+    );
     end_of(makefile, leaves_memory);
     answer
 }

@@ -11,8 +11,8 @@ ghost use Rattle.mk_run.specs.declared.asked.Asked.TheVariants.{Check};
 use crate::asked::Asked;
 use crate::running::{DONE, NO, REFUSED};
 use mk_core::{
-    Fault, Files, Request, Simulation, Verdict, check, end_of, graph_text, render,
-    simulate_text, verify_text,
+    Fault, Files, Request, Simulation, Verdict, check, end_of, graph_text, render, simulate_text,
+    verify_text,
 };
 use mk_evidence::{Evidence, evidence_or_verdict};
 use mk_ways::{Certificate, certificate_text};
