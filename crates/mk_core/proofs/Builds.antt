@@ -1,35 +1,25 @@
 -- What is answered to a build that is judged.
-use Rattle.std.proofs.Common.{◌≡◌, ◌⊎◌, ◌∙◌, ℕ, true, false, List, Option, None, Some, Result, Ok, Err, Vec, map, inl, inr, refl, sym, ap, subst}
-use Rattle.std.specs.declared.alloc.Global.{Global}
-use Rattle.std.specs.Prelude.{⊤}
-use Rattle.std.specs.Option.{ok_or}
+use Rattle.std.proofs.Common.{◌≡◌, ◌⊎◌, ◌∙◌, ℕ, true, false, List, Result, Ok, Err, map, inl, inr, refl, sym, ap, subst}
 use Rattle.mk_graph.specs.Graph as value
 use Rattle.mk_graph.specs.Graph.{IsGraph}
 use Rattle.mk_cert.specs.Entry.{IsFaultOf}
 use Rattle.mk_cert.specs.Laws.{SelectedGoals}
 use Rattle.mk_cert.specs.Subject.{Subject, IsSubject, name_of, subject_of}
 use Rattle.mk_foot.specs.Setting.{Setting}
-use Rattle.mk_cert.specs.Verdict.{Verifies}
-use Rattle.mk_cert.specs.declared.fault.CertFault.{CertFault}
 use Rattle.mk_infer.specs.Selection.{Selects}
 use Rattle.mk_infer.specs.There.{Exists}
 use Rattle.mk_infer.specs.Steps as inferring
 use Rattle.mk_infer.specs.declared.fault.InferFault.{InferFault}
-use Rattle.mk_read.specs.declared.fault.ReadFault.{ReadFault}
 use Rattle.mk_read.specs.Files.{Told}
 use Rattle.mk_read.specs.Reading.{Makefile}
-use Rattle.mk_ways.specs.Certificate.{Certificate}
-use Rattle.mk_ways.specs.Reading.{certificate_from}
-use Rattle.mk_ways.specs.declared.fault.CertificateFault.{CertificateFault}
 use Rattle.mk_print.specs.declared.fault.Fault.{Fault}
-use Rattle.mk_print.specs.declared.fault.Fault.TheVariants.{Read, Infer, NoFile, Memory}
+use Rattle.mk_print.specs.declared.fault.Fault.TheVariants.{Infer, Memory}
 use Rattle.mk_core.specs.Answer.{failing_of}
-use Rattle.mk_core.specs.CheckAnswer.{GivesVerdict}
 use Rattle.mk_core.specs.FileText.{text_of}
 use Rattle.mk_core.specs.Judging.{AnswersJudged, AnswersTold, recorded, subject_over}
 use Rattle.mk_core.specs.Ready.{Ready}
 use Rattle.mk_core.specs.Steps.{of_infer, seen}
-use Rattle.mk_core.specs.VerifyAnswer.{AnswersVerify, VerifiesCertificate, VerifiesText, accepted}
+use Rattle.mk_core.specs.VerifyAnswer.{AnswersVerify, VerifiesText}
 use Rattle.mk_core.specs.Views.{Selected}
 use Rattle.mk_core.specs.Seen.{fault_same}
 use Rattle.mk_core.proofs.Faults.{by_infer}

@@ -1,5 +1,5 @@
 -- A yes is a promise.
-use Rattle.std.proofs.Common.{◌≡◌, ℕ, List, Option, None, Some, Result, Ok, Err, inl, inr, refl, sym, subst}
+use Rattle.std.proofs.Common.{◌≡◌, ℕ, List, Option, None, Some, Result, Ok, Err, inl, inr, refl, subst}
 use Rattle.std.specs.Prelude.{⊤}
 use Rattle.std.specs.Option.{ok_or}
 use Rattle.mk_graph.specs.Graph as value
@@ -9,7 +9,6 @@ use Rattle.mk_cert.specs.Laws.{PartsStay, SelectedGoals, VerifiedIsRight}
 use Rattle.mk_cert.specs.Subject.{Subject, IsSubject}
 use Rattle.mk_cert.specs.Verdict.{Verifies}
 use Rattle.mk_cert.specs.declared.fault.CertFault.{CertFault}
-use Rattle.mk_find.specs.Certifying.{IsCertificate}
 use Rattle.mk_find.specs.Laws.{CertificateIsAccepted, NoFindings}
 use Rattle.mk_infer.specs.Laws.{StaysSelected}
 use Rattle.mk_infer.specs.Selection.{Selects}
@@ -23,9 +22,8 @@ use Rattle.mk_core.specs.declared.request.Request.{Request}
 use Rattle.mk_print.specs.declared.verdict.Verdict.{Verdict}
 use Rattle.mk_print.specs.declared.verdict.Verdict.TheVariants.{Yes, No}
 use Rattle.mk_core.specs.Answer.{Draws}
-use Rattle.mk_core.specs.CheckAnswer.{AnswersCheck, GivesVerdict, IsVerdict, IsYes}
-use Rattle.mk_core.specs.FileText.{text_of}
-use Rattle.mk_core.specs.Judging.{AnswersTold, recorded, subject_over}
+use Rattle.mk_core.specs.CheckAnswer.{AnswersCheck, IsVerdict, IsYes}
+use Rattle.mk_core.specs.Judging.{recorded, subject_over}
 use Rattle.mk_core.specs.Laws.{AcceptedIsRight, YesIsRight}
 use Rattle.mk_core.specs.Ready.{Ready, ready_for}
 use Rattle.mk_core.specs.Right.{IsRightFor}

@@ -1,18 +1,11 @@
 -- What is answered where a plan is run.
-use Rattle.std.proofs.Common.{ℕ, List, Option, None, Some, Result, Ok, Err, inl, inr, refl}
-use Rattle.std.specs.Option.{ok_or}
+use Rattle.std.proofs.Common.{ℕ, List, Result, Ok, Err, inl, inr, refl}
 use Rattle.mk_graph.specs.Graph as value
 use Rattle.mk_infer.specs.declared.fault.InferFault.{InferFault}
-use Rattle.mk_read.specs.declared.fault.ReadFault.{ReadFault}
-use Rattle.mk_read.specs.Files.{Told, text_at}
-use Rattle.mk_world.specs.declared.plan.PlanFault.{PlanFault}
-use Rattle.mk_world.specs.declared.plan.PlanLine.{PlanLine}
-use Rattle.mk_world.specs.Plans.{plan_of}
+use Rattle.mk_read.specs.Files.{Told}
 use Rattle.mk_print.specs.declared.fault.Fault.{Fault}
-use Rattle.mk_print.specs.declared.fault.Fault.TheVariants.{Read, NoFile}
 use Rattle.mk_core.specs.Ready.{Ready, exists}
 use Rattle.mk_core.specs.Simulation.{Simulation}
-use Rattle.mk_core.specs.SimulationAnswer.{AnswersSimulation, RunsLines, RunsText}
 use Rattle.mk_core.specs.Steps.{of_infer}
 use Rattle.mk_core.specs.Views.{RunsTextOver, Selected, SimulatesOver}
 use Rattle.mk_core.proofs.Faults.{by_infer}

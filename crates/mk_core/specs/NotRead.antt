@@ -1,12 +1,11 @@
 -- No command answers a fault of the makefile to what is ready. These are lemmas that the laws of
 -- `Command` and `Judge` cite; a reader of the meaning may skip them.
-use Rattle.std.proofs.Common.{◌≡◌, ◌⊎◌, ℕ, Bool, List, Option, None, Some, Result, Ok, Err, inl, inr, sym, subst}
+use Rattle.std.proofs.Common.{◌≡◌, ℕ, Bool, List, Option, None, Some, Result, Ok, Err, inl, inr, sym, subst}
 use Rattle.std.specs.Prelude.{⊤}
 use Rattle.std.specs.Option.{ok_or}
 use Rattle.mk_cert.specs.Subject.{Subject}
 use Rattle.mk_cert.specs.declared.fault.CertFault.{CertFault}
 use Rattle.mk_graph.specs.Graph.{Graph}
-use Rattle.mk_infer.specs.declared.fault.InferFault.{InferFault}
 use Rattle.mk_read.specs.declared.fault.ReadFault.{ReadFault}
 use Rattle.mk_read.specs.Files.{Told, text_at}
 use Rattle.mk_ways.specs.Certificate as ways
@@ -22,9 +21,7 @@ use Rattle.mk_core.specs.FileText.{text_of}
 use Rattle.mk_core.specs.GraphAnswer.{AnswersGraph}
 use Rattle.mk_core.specs.Judging.{AnswersJudged, subject_over}
 use Rattle.mk_core.specs.Ready.{Ready}
-use Rattle.mk_core.specs.Simulation.{Simulation}
 use Rattle.mk_core.specs.SimulationAnswer.{AnswersSimulation, RunsLines, RunsText}
-use Rattle.mk_core.specs.Steps.{as_fault}
 use Rattle.mk_core.specs.VerifyAnswer.{VerifiesCertificate, VerifiesText, accepted}
 
 -- the answer is no fault of a makefile

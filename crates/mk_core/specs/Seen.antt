@@ -1,6 +1,6 @@
 -- What is answered, seen, is answered as it is seen. These are lemmas that proofs here and in
 -- crates above cite; a reader of the meaning may skip them.
-use Rattle.std.proofs.Common.{◌≡◌, ◌⊎◌, List, ℕ, None, Some, Result, Ok, Err, inl, inr, ap}
+use Rattle.std.proofs.Common.{◌≡◌, None, Some, Result, Ok, Err, inl, inr, ap}
 use Rattle.mk_cert.specs.Subject.{Subject}
 use Rattle.mk_read.specs.Files.{Told}
 use Rattle.mk_print.specs.declared.fault.Fault.{Fault}

@@ -46,15 +46,13 @@ pub(crate) trait Command {
         (fault : read.ReadFault) → answers command told ready (Err (Read fault)) → ⊥ };
 }
 
-/// The answer to a request over its makefile, whose names are looked up. It notes whether memory is
-/// left.
+/// The answer to a request over its makefile, whose names are looked up.
 fn answer_with<F: Files, C: Command>(
     alloc: Global,
     files: &mut F,
     request: &Request,
     table: &RuleTable<'_>,
     command: &C,
-    leaves_memory: &mut bool,
 ) -> Result<C::Answer, Fault>
     requires { F.failed files.old < 2 ^ 64 - 1 }
     ensures map { F.told files.new ≡ F.told files.old }
@@ -65,19 +63,18 @@ fn answer_with<F: Files, C: Command>(
 {
     let ready = ready_over(alloc, files, request, table)?;
     let answer = command.answer(alloc, files, &ready);
-    *leaves_memory = ready.leaves_memory();
-    end_of(ready, *leaves_memory);
+    let leaves_memory = ready.leaves_memory();
+    end_of(ready, leaves_memory);
     answer
 }
 
-/// The answer to a request over its makefile. It notes whether memory is left.
+/// The answer to a request over its makefile.
 fn answer_over<F: Files, C: Command>(
     alloc: Global,
     files: &mut F,
     request: &Request,
     makefile: &Makefile,
     command: &C,
-    leaves_memory: &mut bool,
 ) -> Result<C::Answer, Fault>
     requires { F.failed files.old < 2 ^ 64 - 1 }
     ensures map { F.told files.new ≡ F.told files.old }
@@ -87,8 +84,8 @@ fn answer_over<F: Files, C: Command>(
     ensures counted { Counts (F.failed files.old) (F.failed files.new) result }
 {
     let table = RuleTable::new(alloc, makefile)?;
-    let answer = answer_with(alloc, files, request, &table, command, leaves_memory);
-    end_of(table, *leaves_memory);
+    let answer = answer_with(alloc, files, request, &table, command);
+    end_of(table, request.leaves_memory);
     answer
 }
 
@@ -115,15 +112,7 @@ pub(crate) fn answer_request<F: Files, C: Command>(
         request.defaults,
         request.operands.as_slice(),
     )?;
-    let mut leaves_memory = false;
-    let answer = answer_over(
-        alloc,
-        files,
-        request,
-        &makefile,
-        command,
-        &mut leaves_memory,
-    );
-    end_of(makefile, leaves_memory);
+    let answer = answer_over(alloc, files, request, &makefile, command);
+    end_of(makefile, request.leaves_memory);
     answer
 }

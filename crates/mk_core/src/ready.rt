@@ -30,6 +30,7 @@ pub struct Ready<'m> {
     any_leaf: bool,
     /// No names, which count as there beside the others.
     more: NameTable,
+    /// Whether the memory of all this is left to the end of the process.
     leaves_memory: bool,
 }
 
@@ -130,8 +131,8 @@ fn book_for<F: Files>(
     Ok(read_book(alloc, &footprints, goals.as_slice())?)
 }
 
-/// Memory is left where at most so many reads are recorded. That of more would be missed while an
-/// answer is written.
+/// The memory of a build is left where at most so many reads are recorded. An answer may be as large
+/// as what was read, and is not to stand beside that of more.
 const FEW_READS: usize = 65_536;
 
 /// Whether few reads are recorded.
