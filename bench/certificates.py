@@ -6,12 +6,13 @@ import json
 import os
 import sys
 from collections.abc import Callable
+from dataclasses import dataclass
 from pathlib import Path
 
 from generate import gather
 from run import DATA, RUNS, asked
-from spending import Measure, least, spent
-from verdicts import GROWTH_BOUND, LARGE, Build, deep, far, flat, ruled, written
+from spending import Measure, in_turns, least, spent
+from verdicts import GROWTH_BOUND, LARGE, Build, deep, far, flat, ruled, silent, written
 
 # What is to be reached. The table shows it; no figure makes the run fail.
 MEMORY_BOUND = 8.0
@@ -90,55 +91,62 @@ REFUSED: list[tuple[Callable[[int], Build], int, int]] = [(logged, 2000, 4000)]
 FOUND: list[tuple[Callable[[int], Build], int, int]] = [(unrecorded, 2000, 4000), (unknown, 2000, 4000)]
 
 
-def measured(command: list[str], status: int, read: list[Path]) -> tuple[float, Measure]:
-    """What is read, in megabytes, and the least time of some runs."""
-    taken = [spent(command, {status}, Path(os.devnull)) for _ in range(RUNS)]
-    return sum(file.stat().st_size for file in read) / 2**20, least(taken)
+@dataclass(frozen=True)
+class Command:
+    """A command with the status that it ends with, and what it reads, in megabytes."""
+
+    run: Callable[[], Measure]
+    size: float
 
 
-def verified(program: str, build: Build) -> tuple[float, Measure]:
+def command_of(words: list[str], status: int, read: list[Path]) -> Command:
+    """This command, which reads these files."""
+    return Command(silent(words, status), sum(file.stat().st_size for file in read) / 2**20)
+
+
+def verified(program: str, build: Build, label: str) -> Command:
     """`verify` of the certificate that `check` gives."""
-    makefile, book = written(build, "certificates")
-    certificate = DATA / "certificates.cert"
+    makefile, book = written(build, label)
+    certificate = DATA / f"{label}.cert"
     words = ["-f", makefile.name, "-b", book.name]
     spent([program, "check", *words, "-c"], {0}, certificate)
-    return measured([program, "verify", *words, "-k", certificate.name], 0, [makefile, book, certificate])
+    return command_of([program, "verify", *words, "-k", certificate.name], 0, [makefile, book, certificate])
 
 
-def refused(program: str, build: Build) -> tuple[float, Measure]:
+def refused(program: str, build: Build, label: str) -> Command:
     """`verify` of a certificate without ways, of a build in which two recipes write one file."""
-    makefile, book = written(build, "certificates")
-    certificate, output = DATA / "certificates.cert", DATA / "output"
+    makefile, book = written(build, label)
+    certificate, output = DATA / f"{label}.cert", DATA / "output"
     certificate.write_text(json.dumps({"format": 1, "goals": ["all"], "ways": []}))
     command = [program, "verify", "-f", makefile.name, "-b", book.name, "-k", certificate.name]
     spent(command, {2}, output)
     if not output.read_text().startswith("refused 76 writers "):
         sys.exit(f"bench: {' '.join(command)}: another refusal, output in {output}")
-    return measured(command, 2, [makefile, book, certificate])
+    return command_of(command, 2, [makefile, book, certificate])
 
 
-def found(program: str, build: Build) -> tuple[float, Measure]:
+def found(program: str, build: Build, label: str) -> Command:
     """`check` of a build that is found to be wrong without a search for ways."""
-    makefile, book = written(build, "certificates")
-    return measured([program, "check", "-f", makefile.name, "-b", book.name], 1, [makefile, book])
+    makefile, book = written(build, label)
+    return command_of([program, "check", "-f", makefile.name, "-b", book.name], 1, [makefile, book])
 
 
-def show(label: str, half: tuple[float, Measure], whole: tuple[float, Measure]) -> None:
+def show(label: str, size: float, half: Measure, whole: Measure) -> None:
     """A row of the table."""
-    size, figures = whole
-    by_size = f"{figures.memory / size:>7.1f}" if size >= LARGE else ""
-    growth = figures.time / half[1].time
-    print(f"{label:<18}{size:>6.1f}{figures.time:>10.1f}{growth:>8.1f}{figures.memory:>11.0f}{by_size}", flush=True)
+    by_size = f"{whole.memory / size:>7.1f}" if size >= LARGE else ""
+    growth = whole.time / half.time
+    print(f"{label:<18}{size:>6.1f}{whole.time:>10.1f}{growth:>8.1f}{whole.memory:>11.0f}{by_size}", flush=True)
 
 
 def rows(
     program: str,
-    measure: Callable[[str, Build], tuple[float, Measure]],
+    command: Callable[[str, Build, str], Command],
     shapes: list[tuple[Callable[[int], Build], int, int]],
 ) -> None:
-    """Measures shapes with half of the targets and with all, and prints a row for each."""
+    """Measures shapes with half of the targets and with all, which take turns, and prints a row for each."""
     for shape, smaller, count in shapes:
-        show(f"{shape.__name__} {count}", measure(program, shape(smaller)), measure(program, shape(count)))
+        half, whole = command(program, shape(smaller), "half"), command(program, shape(count), "whole")
+        show(f"{shape.__name__} {count}", whole.size, *map(least, in_turns([half.run, whole.run], RUNS)))
 
 
 def main() -> None:

@@ -10,8 +10,8 @@ from pathlib import Path
 
 from certificates import unknown, unrecorded
 from run import DATA, RUNS, asked
-from spending import least, spent
-from verdicts import GROWTH_BOUND, Build, forgotten, recipe, waiting, written
+from spending import in_turns, least, spent
+from verdicts import GROWTH_BOUND, Build, forgotten, recipe, silent, waiting, written
 
 # What is to be reached. The table shows it; no figure makes the run fail.
 RATIO_BOUND = 2.0
@@ -36,17 +36,15 @@ SHAPES = [
 ]
 
 
-def measured(program: str, build: Build) -> tuple[float, float, int]:
-    """The least times of `check` and of `check -e 1` in milliseconds, which take turns, and the size of the plan."""
-    makefile, book = written(build, "evidence")
+def prepared(program: str, build: Build, label: str) -> tuple[list[str], int]:
+    """The command `check` of a build, and the size of the plan that `-e 1` gives, which is simulated."""
+    makefile, book = written(build, label)
     check = [program, "check", "-f", makefile.name, "-b", book.name]
     plan = DATA / "evidence.plan"
     spent([*check, "-e", "1"], {1}, plan)
     if plan.read_text() != NO_PLAN:
         spent([program, "simulate", *check[2:], "-p", plan.name], {0}, Path(os.devnull))
-    runs = [(spent(check, {1}, Path(os.devnull)), spent([*check, "-e", "1"], {1}, Path(os.devnull))) for _ in range(RUNS)]
-    plain, shown = (least(list(taken)).time for taken in zip(*runs))
-    return plain, shown, plan.stat().st_size
+    return check, plan.stat().st_size
 
 
 def main() -> None:
@@ -56,8 +54,11 @@ def main() -> None:
     print(f"processor time, least of {RUNS} runs; {program}")
     print(f"{'build':<18}{'check ms':>10}{'-e 1 ms':>10}{'ratio':>7}{'growth':>8}{'half KB':>10}{'plan KB':>10}{'growth':>8}")
     for shape, smaller, count in SHAPES:
-        _, half, fewer = measured(program, shape(smaller))
-        plain, shown, size = measured(program, shape(count))
+        small, fewer = prepared(program, shape(smaller), "half")
+        check, size = prepared(program, shape(count), "whole")
+        commands = [[*small, "-e", "1"], check, [*check, "-e", "1"]]
+        taken = in_turns([silent(command, 1) for command in commands], RUNS)
+        half, plain, shown = (least(runs).time for runs in taken)
         label = f"{shape.__name__} {count}"
         times = f"{label:<18}{plain:>10.1f}{shown:>10.1f}{shown / plain:>7.2f}{shown / half:>8.1f}"
         print(f"{times}{fewer / 1024:>10.1f}{size / 1024:>10.1f}{size / fewer:>8.2f}", flush=True)

@@ -3,8 +3,12 @@
 import os
 import subprocess
 import sys
+from collections.abc import Callable
 from dataclasses import dataclass
 from pathlib import Path
+from typing import TypeVar
+
+Told = TypeVar("Told")
 
 # What starts a command. The system counts the memory of a process from before its program starts, when it still shares
 # what its parent holds. So the parent is a process that holds little: it has its figures in the last line of its errors.
@@ -38,6 +42,12 @@ def spent(command: list[str], statuses: set[int], output: Path) -> Measure:
     if int(code) not in statuses:
         sys.exit(f"bench: {' '.join(command)}: status {code}, output in {output}")
     return Measure(1000 * float(taken), int(peak) / 1024)
+
+
+def in_turns(tasks: list[Callable[[], Told]], rounds: int) -> list[list[Told]]:
+    """What each of these tells in so many rounds. They take turns, so that where the machine grows slow it does for all."""
+    told = [[task() for task in tasks] for _ in range(rounds)]
+    return [list(column) for column in zip(*told)]
 
 
 def least(measures: list[Measure]) -> Measure:

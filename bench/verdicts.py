@@ -14,7 +14,7 @@ from pathlib import Path
 
 from generate import gather, recipe
 from run import DATA, RUNS, Tool, asked
-from spending import Measure, least, spent
+from spending import Measure, in_turns, least, spent
 
 # What is to be reached. The table shows it; no figure makes the run fail.
 RATIO_BOUND = 1.00
@@ -71,17 +71,17 @@ def deep(count: int) -> Build:
     return ruled(names[:1], dict(zip(names, below)), [])
 
 
-def layered(width: int) -> Build:
-    """As many layers as a layer has targets; each reads three of the next layer."""
+def layered(layers: int) -> Build:
+    """Layers of 60 targets; each reads three of the next layer."""
     def name(layer: int, column: int) -> str:
-        return f"l{layer}n{column % width}"
+        return f"l{layer}n{column % 60}"
 
     targets = {
-        name(layer, column): [name(layer + 1, column + offset) for offset in (0, 1, 2)] if layer + 1 < width else []
-        for layer in range(width)
-        for column in range(width)
+        name(layer, column): [name(layer + 1, column + offset) for offset in (0, 1, 2)] if layer + 1 < layers else []
+        for layer in range(layers)
+        for column in range(60)
     }
-    return ruled([name(0, column) for column in range(width)], targets, [])
+    return ruled([name(0, column) for column in range(60)], targets, [])
 
 
 def objects(count: int) -> tuple[list[str], list[str], list[list[str]], list[str]]:
@@ -137,7 +137,7 @@ def far(count: int) -> Build:
 SHAPES: list[tuple[Callable[[int], Build], int, int, int]] = [
     (flat, 2000, 4000, 0),
     (deep, 2000, 4000, 0),
-    (layered, 42, 60, 0),
+    (layered, 30, 60, 0),
     (inferred, 1000, 2000, 0),
     (waiting, 950, 1900, 1),
     (forgotten, 1000, 2000, 1),
@@ -161,11 +161,11 @@ class Figures:
         return self.own.time / (self.make + self.json)
 
 
-def json_time(book: Path) -> float:
-    """The processor time that Python takes to read the footprints, in milliseconds."""
+def json_spent(book: Path) -> Measure:
+    """The processor time that Python takes to read the footprints."""
     code = "import json,sys,time\nf=open(sys.argv[1]);s=time.process_time();json.load(f);print(time.process_time()-s)"
     done = subprocess.run([sys.executable, "-c", code, book], capture_output=True, text=True, check=True)
-    return 1000 * float(done.stdout)
+    return Measure(1000 * float(done.stdout), 0)
 
 
 def written(build: Build, label: str) -> tuple[Path, Path]:
@@ -193,29 +193,34 @@ def without_wait(makefile: Path) -> Path:
     return copy
 
 
-def measure(build: Build, label: str, status: int, measured: list[Tool]) -> Figures:
-    """The tools take turns; the least time of each counts."""
-    makefile, book = written(build, label)
-    check = [measured[0].path, "check", "-f", makefile.name, "-b", book.name]
+def silent(command: list[str], status: int) -> Callable[[], Measure]:
+    """What a run of this command takes, of which the output is thrown away."""
+    return lambda: spent(command, {status}, Path(os.devnull))
+
+
+def measure(half: Build, whole: Build, status: int, measured: list[Tool]) -> tuple[Measure, Figures]:
+    """The half by mkcheck, and the whole by all tools, which take turns; the least time of each counts."""
+    small, (makefile, book) = written(half, "half"), written(whole, "whole")
+    check = [measured[0].path, "check", "-f"]
     output = DATA / "output"
-    spent(check, {status}, output)
+    spent([*check, makefile.name, "-b", book.name], {status}, output)
     peers = measured[1:]
     read = makefile if all(reads(tool, makefile) for tool in peers) else without_wait(makefile)
     answer = output.stat().st_size / 2**20
     size = (makefile.stat().st_size + book.stat().st_size) / 2**20 + answer
-    own, others, loads = [], {tool.name: [] for tool in peers}, []
-    for _ in range(RUNS):
-        own.append(spent(check, {status}, Path(os.devnull)))
-        for tool in peers:
-            others[tool.name].append(spent([tool.path, *tool.arguments, read.name], {0}, Path(os.devnull)))
-        loads.append(json_time(book))
-    fastest = min((least(taken).time for taken in others.values()), default=0.0)
-    return Figures(size, answer, least(own), fastest, min(loads))
+    halves, own, loads, *others = map(least, in_turns([
+        silent([*check, small[0].name, "-b", small[1].name], status),
+        silent([*check, makefile.name, "-b", book.name], status),
+        lambda: json_spent(book),
+        *(silent([tool.path, *tool.arguments, read.name], 0) for tool in peers),
+    ], RUNS))
+    fastest = min((taken.time for taken in others), default=0.0)
+    return halves, Figures(size, answer, own, fastest, loads.time)
 
 
-def row(label: str, whole: Figures, growth: float) -> str:
+def row(label: str, half: Measure, whole: Figures) -> str:
     """A row of the table; what is held against a size stands there where that is large."""
-    own = whole.own
+    own, growth = whole.own, whole.own.time / half.time
     by_answer = f"{own.time / whole.answer:.1f}" if whole.answer >= LARGE else ""
     by_size = f"{own.memory / whole.size:.1f}" if whole.size >= LARGE else ""
     times = f"{own.time:>10.1f}{by_answer:>8}{whole.make:>9.1f}{whole.json:>9.1f}{whole.ratio():>7.2f}{growth:>8.1f}"
@@ -230,9 +235,7 @@ def main() -> None:
     times = f"{'check ms':>10}{'per MB':>8}{'make ms':>9}{'json ms':>9}{'ratio':>7}{'growth':>8}"
     print(f"{'build':<18}{'MB':>6}{times}{'memory MB':>11}{'by MB':>7}")
     for shape, smaller, count, status in SHAPES:
-        half = measure(shape(smaller), "half", status, measured)
-        whole = measure(shape(count), "whole", status, measured)
-        print(row(f"{shape.__name__} {count}", whole, whole.own.time / half.own.time), flush=True)
+        print(row(f"{shape.__name__} {count}", *measure(shape(smaller), shape(count), status, measured)), flush=True)
     print(f"{'at most':<60}{RATIO_BOUND:>7.2f}{GROWTH_BOUND:>8.1f}{MEMORY_BOUND:>18.1f}")
 
 

@@ -45,6 +45,10 @@ impl Judge for CheckBuild {
 
     ghost judges = { λ _ _ x answer. GivesVerdict x answer };
 
+    fn is_brief(&self) -> bool {
+        false
+    }
+
     fn judge<F: Files>(
         &self,
         alloc: Global,

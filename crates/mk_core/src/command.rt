@@ -27,6 +27,9 @@ pub(crate) trait Command {
     /// Over files that are told, the answers to what is ready.
     ghost answers: { Self → Told → ReadyValue → Result Self.Answer faults.Fault → Type 0 };
 
+    /// Whether the answer is a line, however much is read.
+    fn is_brief(&self) -> bool;
+
     /// The answer to what is ready. It may read files that are no makefile.
     fn answer<F: Files>(
         &self,
@@ -63,7 +66,7 @@ fn answer_with<F: Files, C: Command>(
 {
     let ready = ready_over(alloc, files, request, table)?;
     let answer = command.answer(alloc, files, &ready);
-    let leaves_memory = ready.leaves_memory();
+    let leaves_memory = ready.leaves_memory(command.is_brief());
     end_of(ready, leaves_memory);
     answer
 }

@@ -51,6 +51,10 @@ impl Command for DrawGraph {
     ghost answers = { λ c told ready answer.
         AnswersGraph c.commands ready (seen (λ text. text.items) answer) };
 
+    fn is_brief(&self) -> bool {
+        false
+    }
+
     fn answer<F: Files>(
         &self,
         alloc: Global,

@@ -32,6 +32,9 @@ pub trait Judge {
     /// Over files that are told, the answers to a build.
     ghost judges: { Self → Told → SubjectValue → Result Self.Answer faults.Fault → Type 0 };
 
+    /// Whether the answer is a line, however much is read.
+    fn is_brief(&self) -> bool;
+
     /// The answer to a build. It may read files that are no makefile.
     fn judge<F: Files>(
         &self,
@@ -80,7 +83,7 @@ fn judge_graph<F: Files, J: Judge>(
     )?;
     let _graph = subject.graph();
     let answer = judge.judge(alloc, files, &subject);
-    end_of(subject, ready.leaves_memory());
+    end_of(subject, ready.leaves_memory(judge.is_brief()));
     answer
 }
 
@@ -97,6 +100,10 @@ impl<J: Judge + Drop> Command for Judged<J> {
     ghost answers = { λ c told ready answer.
         AnswersJudged (J.judges c.judge told) ready answer };
 
+    fn is_brief(&self) -> bool {
+        self.judge.is_brief()
+    }
+
     fn answer<F: Files>(
         &self,
         alloc: Global,
@@ -105,7 +112,7 @@ impl<J: Judge + Drop> Command for Judged<J> {
     ) -> Result<J::Answer, Fault> {
         let graph = selected(alloc, ready, &ready.recorded())?;
         let answer = judge_graph(alloc, files, ready, &graph, &self.judge);
-        end_of(graph, ready.leaves_memory());
+        end_of(graph, ready.leaves_memory(self.judge.is_brief()));
         answer
     }
 

@@ -10,6 +10,7 @@ ghost use Rattle.mk_core.specs.Views.{Finds, ready_over, ready_with};
 ghost use Rattle.mk_print.specs.declared.fault.Fault.TheVariants.{Memory};
 
 use crate::file_text::file_text;
+use crate::leaving::Leaving;
 use crate::request::Request;
 use mk_foot::{Book, Setting, read_book};
 use mk_infer::{Exists, RuleTable};
@@ -30,8 +31,7 @@ pub struct Ready<'m> {
     any_leaf: bool,
     /// No names, which count as there beside the others.
     more: NameTable,
-    /// Whether the memory of all this is left to the end of the process.
-    leaves_memory: bool,
+    leaving: Leaving,
 }
 
 impl<'m> Model for Ready<'m> {
@@ -73,9 +73,10 @@ impl<'m> Ready<'m> {
         &self.setting
     }
 
-    /// Whether the memory of all this is left to the end of the process. It changes no answer.
-    pub fn leaves_memory(&self) -> bool {
-        self.leaves_memory
+    /// Whether the memory of all this is left to the end of the process, behind an answer of a line
+    /// or of many. It changes no answer.
+    pub fn leaves_memory(&self, is_brief: bool) -> bool {
+        self.leaving.behind(is_brief)
     }
 
     /// The files that are there before a make.
@@ -131,8 +132,8 @@ fn book_for<F: Files>(
     Ok(read_book(alloc, &footprints, goals.as_slice())?)
 }
 
-/// The memory of a build is left where at most so many reads are recorded. An answer may be as large
-/// as what was read, and is not to stand beside that of more.
+/// So many reads are few. An answer may be as large as what was read, and is not to stand beside the
+/// memory of more.
 const FEW_READS: usize = 65_536;
 
 /// Whether few reads are recorded.
@@ -148,7 +149,7 @@ fn reads_few(book: &Book) -> bool {
 fn ready_by<'m>(
     alloc: Global,
     any_leaf: bool,
-    leaves_memory: bool,
+    leaving: Leaving,
     table: &'m RuleTable<'m>,
     goals: Goals,
     book: Book,
@@ -169,7 +170,7 @@ fn ready_by<'m>(
         setting,
         any_leaf,
         more,
-        leaves_memory,
+        leaving,
     })
 }
 
@@ -190,8 +191,11 @@ fn ready_with<'m, F: Files>(
 {
     let book = book_for(alloc, files, request.book.as_ref(), &goals)?;
     let any_leaf = request.book.is_none();
-    let leaves_memory = request.leaves_memory && reads_few(&book);
-    let ready = ready_by(alloc, any_leaf, leaves_memory, table, goals, book)?;
+    let leaving = Leaving {
+        is_asked: request.leaves_memory,
+        reads_few: reads_few(&book),
+    };
+    let ready = ready_by(alloc, any_leaf, leaving, table, goals, book)?;
     Ok(ready)
 }
 

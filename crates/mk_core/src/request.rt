@@ -53,8 +53,8 @@ pub struct Request {
     pub book: Option<Name>,
     /// Whether a graph is printed with the commands of its nodes.
     pub commands: bool,
-    /// Whether the memory of what was read is left to the end of the process, where it is small:
-    /// that is quick where nothing follows the answer. It changes no answer.
+    /// Whether the memory of what was read is left to the end of the process, where it or the answer
+    /// is small: that is quick where nothing follows the answer. It changes no answer.
     pub leaves_memory: bool,
 }
 

@@ -140,6 +140,10 @@ impl Command for SimulatePlan<'_> {
 
     ghost answers = { λ c told ready answer. AnswersSimulation told c.plan.now ready answer };
 
+    fn is_brief(&self) -> bool {
+        false
+    }
+
     fn answer<F: Files>(
         &self,
         alloc: Global,

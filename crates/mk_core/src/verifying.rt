@@ -69,6 +69,10 @@ impl Judge for VerifyBuild<'_> {
         VerifiesText x (text_of told (failing_of answer) v.name.now)
         (seen (λ text. text.items) answer) };
 
+    fn is_brief(&self) -> bool {
+        true
+    }
+
     fn judge<F: Files>(
         &self,
         alloc: Global,

@@ -128,6 +128,10 @@ impl Judge for ShowFinding {
 
     ghost judges = { λ c _ x answer. GivesPlanOrVerdict x c.number answer };
 
+    fn is_brief(&self) -> bool {
+        false
+    }
+
     fn judge<F: Files>(
         &self,
         alloc: Global,
