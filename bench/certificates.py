@@ -12,7 +12,7 @@ from pathlib import Path
 from generate import gather
 from run import DATA, RUNS, asked
 from spending import Measure, in_turns, least, spent
-from verdicts import GROWTH_BOUND, LARGE, Build, deep, far, flat, ruled, silent, written
+from verdicts import GROWTH_BOUND, Build, chained, deep, flat, ruled, silent, written
 
 # What is to be reached. The table shows it; no figure makes the run fail.
 MEMORY_BOUND = 8.0
@@ -49,6 +49,11 @@ def carrying(layers: int) -> Build:
     names = [[f"l{layer}n{column}" for column in range(60)] for layer in range(layers)]
     below = [*names[1:], []]
     return ruled(names[0], {name: reads for layer, reads in zip(names, below) for name in layer}, [])
+
+
+def far(count: int) -> Build:
+    """A chain in which each target reads the 40 below it."""
+    return chained([f"f{number}" for number in range(count)])
 
 
 def outputs(count: int) -> Build:
@@ -133,9 +138,8 @@ def found(program: str, build: Build, label: str) -> Command:
 
 def show(label: str, size: float, half: Measure, whole: Measure) -> None:
     """A row of the table."""
-    by_size = f"{whole.memory / size:>7.1f}" if size >= LARGE else ""
-    growth = whole.time / half.time
-    print(f"{label:<18}{size:>6.1f}{whole.time:>10.1f}{growth:>8.1f}{whole.memory:>11.0f}{by_size}", flush=True)
+    growth, by_size = whole.time / half.time, whole.memory / size
+    print(f"{label:<18}{size:>6.1f}{whole.time:>10.1f}{growth:>8.1f}{whole.memory:>11.0f}{by_size:>7.1f}", flush=True)
 
 
 def rows(

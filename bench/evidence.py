@@ -9,9 +9,10 @@ import sys
 from pathlib import Path
 
 from certificates import unknown, unrecorded
+from generate import recipe
 from run import DATA, RUNS, asked
 from spending import in_turns, least, spent
-from verdicts import GROWTH_BOUND, Build, forgotten, recipe, silent, waiting, written
+from verdicts import GROWTH_BOUND, Build, forgotten, silent, waiting, written
 
 # What is to be reached. The table shows it; no figure makes the run fail.
 RATIO_BOUND = 2.0

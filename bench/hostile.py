@@ -132,6 +132,19 @@ def distinct_entries(count: int) -> Case:
     return Case("verify", makefile, 0, book=book, more=f'{{"format":1,"goals":["all"],"ways":[{",".join(ways)}]}}')
 
 
+def repeated_prerequisites(count: int) -> Case:
+    """One prerequisite again and again, and behind it one that leads to all that make what the target reads."""
+    made = [f"w{number}" for number in range(count // 500)]
+    rules = "".join(f"{name}:\n\ttouch {name}\n" for name in made)
+    makefile = lined("t:", ["x"] * count) + "t: m\n\tt\nx:\n" + lined("m:", made) + "m:\n\tm\n" + rules
+    reads = {"t": made, "m": made, **{name: [] for name in made}}
+    records = [
+        {"target": name, "commands": [name if name in ("t", "m") else f"touch {name}"], "reads": files, "writes": [name]}
+        for name, files in reads.items()
+    ]
+    return Case("check", makefile, 0, book=json.dumps({"format": 1, "fixed": [], "sources": [], "records": records}))
+
+
 def makes_and_stops(count: int) -> Case:
     """A plan of makes that are stopped at once, over 4,000 targets."""
     names = [f"f{number}" for number in range(4000)]
@@ -158,6 +171,7 @@ SHAPES: list[tuple[Callable[[int], Case], int]] = [
     (many_targets, 9_000),
     (many_entries, 300_000),
     (distinct_entries, 266_000),
+    (repeated_prerequisites, 1_000_000),
     (makes_and_stops, 32_768),
     (appended, 65_000),
 ]

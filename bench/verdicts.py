@@ -1,4 +1,7 @@
-"""Measures `mkcheck check` beside reading the makefile and the footprints with other programs, and prints a table.
+"""Measures `mkcheck check` beside reading the makefile and the footprints with other programs, and prints two tables.
+
+In the first the recipes have the shortest commands, `touch` and the target; in the second those of a compiler, which
+the makefile writes with macros.
 
 What it is held against is the processor time of the faster of `make -n -r` and `bmake -n -r` on the makefile, and
 that of Python's `json.load` on the footprints, added up.
@@ -10,9 +13,10 @@ import subprocess
 import sys
 from collections.abc import Callable
 from dataclasses import dataclass, field
+from functools import wraps
 from pathlib import Path
 
-from generate import gather, recipe
+from generate import gather
 from run import DATA, RUNS, Tool, asked
 from spending import Measure, in_turns, least, spent
 
@@ -21,7 +25,7 @@ RATIO_BOUND = 1.00
 GROWTH_BOUND = 2.3
 MEMORY_BOUND = 10.0
 
-# From this many megabytes on, what is read and written is held against the memory, and the answer against the time.
+# From this many megabytes on, the time is held against the answer.
 LARGE = 2
 
 
@@ -47,31 +51,58 @@ class Build:
         return json.dumps({"format": 1, "fixed": self.fixed, "sources": self.sources, "records": records})
 
 
-def touched(targets: dict[str, list[str]]) -> list[tuple[str, list[str], list[str]]]:
-    """The records of recipes that read their prerequisites."""
-    return [(target, [f"touch {target}"], reads) for target, reads in targets.items()]
+@dataclass(frozen=True)
+class Style:
+    """How recipes make a target from files: by the words in a makefile, and as they are recorded.
+
+    What the words in the makefile want to be assigned stands at its head.
+    """
+
+    head: str
+    written: Callable[[str, list[str]], str]
+    recorded: Callable[[str, list[str]], str]
+
+    def rule(self, target: str, reads: list[str]) -> str:
+        """The rule of a target with a command."""
+        return f"{' '.join([f'{target}:', *reads])}\n\t{self.written(target, reads)}\n"
+
+    def record(self, target: str, files: list[str], reads: list[str]) -> tuple[str, list[str], list[str]]:
+        """The record of a recipe that makes the target from these files, and reads those."""
+        return target, [self.recorded(target, files)], reads
 
 
-def ruled(top: list[str], targets: dict[str, list[str]], sources: list[str], extra: str = "") -> Build:
+# The options of a compiler, some 170 bytes.
+OPTIONS = " ".join(f"-Wno-warning-{number}" for number in range(10))
+
+TOUCH = Style("", lambda target, _: f"touch {target}", lambda target, _: f"touch {target}")
+COMPILE = Style(
+    f"CC = cc\nCFLAGS = {OPTIONS}\n",
+    lambda _, files: " ".join(["$(CC) $(CFLAGS) -c -o $@", *files]),
+    lambda target, files: " ".join([f"cc {OPTIONS} -c -o {target}", *files]),
+)
+
+
+def ruled(top: list[str], targets: dict[str, list[str]], sources: list[str], style: Style = TOUCH) -> Build:
     """A build of these targets, each from its prerequisites, which it reads; `all` gathers the top ones."""
-    rules = [recipe(target, reads) for target, reads in targets.items()]
-    return Build(extra + gather(top) + "".join(rules), sources, touched(targets))
+    rules = [style.rule(target, reads) for target, reads in targets.items()]
+    records = [style.record(target, reads, reads) for target, reads in targets.items()]
+    return Build(style.head + gather(top) + "".join(rules), sources, records)
 
 
-def flat(count: int) -> Build:
+def flat(count: int, style: Style = TOUCH) -> Build:
     """Targets without prerequisites."""
     names = [f"f{number}" for number in range(count)]
-    return ruled(names, dict.fromkeys(names, []), [])
+    return ruled(names, dict.fromkeys(names, []), [], style)
 
 
-def deep(count: int) -> Build:
+def deep(count: int, style: Style = TOUCH) -> Build:
     """A chain, each target reads the one below it."""
     names = [f"f{number}" for number in range(count)]
     below = [[name] for name in names[1:]] + [[]]
-    return ruled(names[:1], dict(zip(names, below)), [])
+    return ruled(names[:1], dict(zip(names, below)), [], style)
 
 
-def layered(layers: int) -> Build:
+def layered(layers: int, style: Style = TOUCH) -> Build:
     """Layers of 60 targets; each reads three of the next layer."""
     def name(layer: int, column: int) -> str:
         return f"l{layer}n{column % 60}"
@@ -81,7 +112,7 @@ def layered(layers: int) -> Build:
         for layer in range(layers)
         for column in range(60)
     }
-    return ruled([name(0, column) for column in range(60)], targets, [])
+    return ruled([name(0, column) for column in range(60)], targets, [], style)
 
 
 def objects(count: int) -> tuple[list[str], list[str], list[list[str]], list[str]]:
@@ -92,28 +123,28 @@ def objects(count: int) -> tuple[list[str], list[str], list[list[str]], list[str
     return [f"verdicts/x{n}.o" for n in numbers], [f"verdicts/x{n}.c" for n in numbers], needed, headers
 
 
-def inferred(count: int, told: bool = True) -> Build:
+def inferred(count: int, style: Style = TOUCH, told: bool = True) -> Build:
     """Objects by an inference rule, with ten headers each, which the makefile names or forgets."""
     names, files, needed, headers = objects(count)
     rules = [f"{name}: {' '.join(chosen)}\n" for name, chosen in zip(names, needed)] if told else []
-    text = "".join([".SUFFIXES:\n.SUFFIXES: .o .c\n.c.o:\n\ttouch $@\n", gather(names), *rules])
-    records = [(name, [f"touch {name}"], [file, *chosen]) for name, file, chosen in zip(names, files, needed)]
-    return Build(text, [*headers, *files], records)
+    suffixes = f".SUFFIXES:\n.SUFFIXES: .o .c\n.c.o:\n\t{style.written('$@', ['$<'])}\n"
+    records = [style.record(name, [file], [file, *chosen]) for name, file, chosen in zip(names, files, needed)]
+    return Build("".join([style.head, suffixes, gather(names), *rules]), [*headers, *files], records)
 
 
-def forgotten(count: int) -> Build:
+def forgotten(count: int, style: Style = TOUCH) -> Build:
     """The same with all headers forgotten."""
-    return inferred(count, told=False)
+    return inferred(count, style, told=False)
 
 
-def waiting(count: int) -> Build:
+def waiting(count: int, style: Style = TOUCH) -> Build:
     """Objects that read a header which a recipe makes before them, by `.WAIT` alone."""
     names, files = [f"verdicts/x{n}.o" for n in range(count)], [f"verdicts/x{n}.c" for n in range(count)]
     header = "verdicts/config.h"
-    rules = [recipe(name, [file]) for name, file in zip(names, files)]
-    text = "".join([f"all: {header} .WAIT\n", gather(names), recipe(header, []), *rules])
-    records = [(header, [f"touch {header}"], []), *((name, [f"touch {name}"], [file, header]) for name, file in zip(names, files))]
-    return Build(text, files, records)
+    rules = [style.rule(header, []), *(style.rule(name, [file]) for name, file in zip(names, files))]
+    text = "".join([style.head, f"all: {header} .WAIT\n", gather(names), *rules])
+    reads = [(header, [], []), *((name, [file], [file, header]) for name, file in zip(names, files))]
+    return Build(text, files, [style.record(*read) for read in reads])
 
 
 def large(count: int) -> Build:
@@ -125,25 +156,37 @@ def large(count: int) -> Build:
     return Build(gather(names) + "".join(rules), files, records)
 
 
-def far(count: int) -> Build:
-    """A chain in which each reads the 40 below it: of 1,500 targets the answer has 59,180 ways, 8,010,664 bytes."""
-    names = [f"f{number}" for number in range(count)]
-    rules = [recipe(name, below) for name, below in zip(names, [*([name] for name in names[1:]), []])]
-    records = [(name, [f"touch {name}"], names[number + 1 : number + 41]) for number, name in enumerate(names)]
+def chained(names: list[str]) -> Build:
+    """A chain of these targets in which each reads the 40 below it."""
+    rules = [TOUCH.rule(name, below) for name, below in zip(names, [*([name] for name in names[1:]), []])]
+    records = [TOUCH.record(name, [], names[number + 1 : number + 41]) for number, name in enumerate(names)]
     return Build("".join(rules), [], records)
 
 
+def far(count: int) -> Build:
+    """Such a chain in a folder: of 1,500 targets the answer has 59,180 ways, some 30 MB."""
+    return chained([f"objects/library/f{number}" for number in range(count)])
+
+
 # Each shape with a size, one of twice as many targets, and the status that `check` ends with.
-SHAPES: list[tuple[Callable[[int], Build], int, int, int]] = [
+STYLED: list[tuple[Callable[[int, Style], Build], int, int, int]] = [
     (flat, 2000, 4000, 0),
     (deep, 2000, 4000, 0),
     (layered, 30, 60, 0),
     (inferred, 1000, 2000, 0),
     (waiting, 950, 1900, 1),
     (forgotten, 1000, 2000, 1),
-    (large, 940, 1880, 0),
-    (far, 750, 1500, 0),
 ]
+OTHERS: list[tuple[Callable[[int], Build], int, int, int]] = [(large, 940, 1880, 0), (far, 750, 1500, 0)]
+
+
+def styled(shape: Callable[[int, Style], Build], style: Style) -> Callable[[int], Build]:
+    """The shape with commands of this style."""
+    @wraps(shape)
+    def built(count: int) -> Build:
+        return shape(count, style)
+
+    return built
 
 
 @dataclass(frozen=True)
@@ -219,12 +262,18 @@ def measure(half: Build, whole: Build, status: int, measured: list[Tool]) -> tup
 
 
 def row(label: str, half: Measure, whole: Figures) -> str:
-    """A row of the table; what is held against a size stands there where that is large."""
+    """A row of a table; what is held against the answer stands there where that is large."""
     own, growth = whole.own, whole.own.time / half.time
     by_answer = f"{own.time / whole.answer:.1f}" if whole.answer >= LARGE else ""
-    by_size = f"{own.memory / whole.size:.1f}" if whole.size >= LARGE else ""
     times = f"{own.time:>10.1f}{by_answer:>8}{whole.make:>9.1f}{whole.json:>9.1f}{whole.ratio():>7.2f}{growth:>8.1f}"
-    return f"{label:<18}{whole.size:>6.1f}{times}{own.memory:>11.0f}{by_size:>7}".rstrip()
+    return f"{label:<18}{whole.size:>6.1f}{times}{own.memory:>11.0f}{own.memory / whole.size:>7.1f}"
+
+
+def show(shapes: list[tuple[Callable[[int], Build], int, int, int]], measured: list[Tool]) -> None:
+    """Measures shapes with half of the targets and with all, and prints a row for each."""
+    for shape, smaller, count, status in shapes:
+        label = f"{shape.__name__} {count}"
+        print(row(label, *measure(shape(smaller), shape(count), status, measured)), flush=True)
 
 
 def main() -> None:
@@ -233,9 +282,10 @@ def main() -> None:
     os.chdir(DATA)
     print(f"processor time, least of {RUNS} runs; {', '.join(tool.path for tool in measured)}")
     times = f"{'check ms':>10}{'per MB':>8}{'make ms':>9}{'json ms':>9}{'ratio':>7}{'growth':>8}"
-    print(f"{'build':<18}{'MB':>6}{times}{'memory MB':>11}{'by MB':>7}")
-    for shape, smaller, count, status in SHAPES:
-        print(row(f"{shape.__name__} {count}", *measure(shape(smaller), shape(count), status, measured)), flush=True)
+    columns = f"{'MB':>6}{times}{'memory MB':>11}{'by MB':>7}"
+    for title, style, others in (("touch", TOUCH, OTHERS), ("compiler", COMPILE, [])):
+        print(f"{title:<18}{columns}")
+        show([*((styled(shape, style), *sizes) for shape, *sizes in STYLED), *others], measured)
     print(f"{'at most':<60}{RATIO_BOUND:>7.2f}{GROWTH_BOUND:>8.1f}{MEMORY_BOUND:>18.1f}")
 
 

@@ -22,14 +22,16 @@ WAYS = [
 ]
 BARE = ["graph"]
 GRAPH = ["graph", "-b", "B"]
-SHOWN = ["graph", "-c", "-b", "B"]
 VERIFY = ["verify", "-b", "B", "-k", "C"]
 SIMULATE = ["simulate", "-b", "B", "-p", "P"]
-# What expands commands under footprints, what reads footprints, and all; two of these leave out the default text.
+# Each with the default text, and without it.
+VERIFIES = [VERIFY, [*VERIFY, "-r"]]
+SIMULATES = [SIMULATE, [*SIMULATE, "-r"]]
+# What expands commands under footprints, what reads footprints, and all.
 CHECKS = [["check", "-b", "B"], ["check", "-c", "-b", "B"], ["check", "-b", "B", "-e", "1"], ["check", "-r", "-b", "B"]]
-JUDGING = [*CHECKS, VERIFY]
-EXPANDING = [SHOWN, *JUDGING]
-BOOKED = [GRAPH, *EXPANDING, SIMULATE]
+JUDGING = [*CHECKS, *VERIFIES]
+EXPANDING = [["graph", "-c", "-b", "B"], ["graph", "-r", "-c", "-b", "B"], *JUDGING]
+BOOKED = [GRAPH, ["graph", "-r", "-b", "B"], *EXPANDING, *SIMULATES]
 ALL = [BARE, ["graph", "-r"], ["graph", "-c"], *BOOKED]
 MOST = 16_777_216
 LONG = "n" * 256
@@ -71,6 +73,17 @@ def grouped(lists: dict[str, list[str]], shared: list[str], goals: list[str]) ->
     first, second = BOOK["records"]
     records = [{**first, "shared": shared}, {**second, "shared": []}]
     return json.dumps({"format": 2, "fixed": ["u/"], "sources": ["a.c"], "lists": lists, "groups": [{"goals": goals, "records": records}]})
+
+
+def told(records: str) -> list[dict[str, object]]:
+    """Records, with `; ` between them, each as `target: reads > writes = command`."""
+    def one(record: str) -> dict[str, object]:
+        files, command = record.split(" = ")
+        target, files = files.split(": ", 1)
+        reads, writes = files.split(">")
+        return {"target": target, "commands": [command], "reads": reads.split(), "writes": writes.split()}
+
+    return [one(record) for record in records.split("; ")]
 
 
 def certificate(ways: object = WAYS, **changed: object) -> str:
@@ -235,7 +248,7 @@ def lists() -> Iterator[Row]:
     ways = "way a.o a.c source a.o\nway p a.o written p a.o\n"
     files = {"B": grouped(shared, list(shared), ["p"])}
     yield Row(yes + ways, JUDGING[:1], files, status=0)
-    yield Row(yes, [VERIFY], files, status=0)
+    yield Row(yes, VERIFIES, files, status=0)
     yield refused("58", BOOKED, B=grouped(shared, [*shared, "l64"], ["p"]))
 
 
@@ -262,7 +275,7 @@ def commands() -> Iterator[Row]:
     ]:
         yield refused(line, [["graph", "-c"], *EXPANDING], makefile=text)
         yield Row("goals p\np recipe:\n", [BARE, GRAPH], {"makefile": text}, status=0)
-        yield Row("plan ok\n", [SIMULATE], {"makefile": text, "P": "make 1\nrun p\nend\n", "B": book(sources=[], records=[])}, status=0)
+        yield Row("plan ok\n", SIMULATES, {"makefile": text, "P": "make 1\nrun p\nend\n", "B": book(sources=[], records=[])}, status=0)
     inferred = {"makefile": "p.o:\n", "B": book(sources=["p.c"])}
     yield Row("refused 12 (default):12 CC\n", with_default(EXPANDING), inferred, ["CC=$(CC)"])
 
@@ -295,11 +308,11 @@ def certificates() -> Iterator[Row]:
         ("75 p a.o", certificate([first, second, second])),
         ("74 p a.o", certificate([first])),
     ]:
-        yield refused(line, [VERIFY], C=text)
+        yield refused(line, VERIFIES, C=text)
 
 
 def found() -> Iterator[Row]:
-    """76 is each finding but a stale read, which is a way that is missing."""
+    """76 is each finding but a stale read, which is a way that is missing; the first one where there are several."""
     for line, files in [
         ("record a.o", {"B": book(records=[])}),
         ("commands a.o", {"makefile": "a.o: a.c\n\tcc -c a.c\n", "B": recorded(commands=["cc"])}),
@@ -310,14 +323,19 @@ def found() -> Iterator[Row]:
         ("unknown a.o h.h", {"makefile": "a.o: a.c\n\tcc -c a.c\n", "B": recorded(reads=["h.h"])}),
     ]:
         goals = ["p"] if "makefile" not in files else ["a.o"]
-        yield Row(f"refused 76 {line}\n", [VERIFY], {**files, "C": certificate(goals=goals)})
-    race = "all: b .WAIT a\nx:\nb: a.c\n\tb\na: a.c\n\ta\n"
-    records = [
-        {"target": "a", "commands": ["a"], "reads": [], "writes": ["a"]},
-        {"target": "b", "commands": ["b"], "reads": ["a"], "writes": ["b"]},
-    ]
-    yield refused("76 race b a a", [VERIFY], makefile=race, B=book(records=records), C=certificate([], goals=["all"]))
-    yield refused("74 a.o h.h", [VERIFY], B=book(sources=["a.c", "h.h"], records=[BOOK["records"][0], {**RECORD, "reads": ["a.c", "h.h"]}]))
+        yield Row(f"refused 76 {line}\n", VERIFIES, {**files, "C": certificate(goals=goals)})
+    for line, text in [
+        ("race b a a", "all: b .WAIT a\nx:\nb: a.c\n\tb\na: a.c\n\ta\n| a: > a = a; b: a > b = b"),
+        ("race b a a", ".PHONY: b\nall: x y\nx: a .WAIT b\ny: b\na:\n\ta\nb:\n\tb\n| a: > a = a; b: a > = b"),
+        ("writers a b log", "all: b\nb: a\n\tb\na:\n\ta\n| a: > a log = a; b: a > b log = b"),
+        ("loose y.h y.c", "all: y.c .WAIT m\nm: a.c y.h\n\tm\ny.h:\ny.c: a.c\n\ty\n| m: a.c y.h > m = m; y.c: a.c > y.c y.h = y"),
+    ]:
+        makefile, records = text.split("| ")
+        yield refused(f"76 {line}", VERIFIES, makefile=makefile, B=book(records=told(records)), C=certificate([], goals=["all"]))
+    rules = ".SUFFIXES:\n.SUFFIXES: .o .c .s\n.c.o:\n\tcc $<\n.s.o:\n\tas $<\nall: gen .WAIT x.o\ngen:\n\tmk\n"
+    records = told("gen: > gen x.c = mk; x.o: x.s > x.o = as x.s")
+    yield refused("76 selection x.o x.c", VERIFIES, makefile=rules, B=book(sources=["x.s"], records=records), C=certificate([], goals=["all"]))
+    yield refused("74 a.o h.h", VERIFIES, B=book(sources=["a.c", "h.h"], records=[BOOK["records"][0], {**RECORD, "reads": ["a.c", "h.h"]}]))
 
 
 def plans() -> Iterator[Row]:
@@ -352,13 +370,13 @@ def plans() -> Iterator[Row]:
         (70, 1, "edit b\n"),
         (77, 1, "make 1 a\n"),
     ]:
-        yield Row(f"refused {number} line {line}\n{start}", [SIMULATE], {**copy, "P": text})
+        yield Row(f"refused {number} line {line}\n{start}", SIMULATES, {**copy, "P": text})
     for line, text in [(2, "make 1\njump\n"), (1, "make 0\n"), (1, "make 4097\n"), (65_537, "\n" * 65_536 + "end\n"), (3, "\n#\nedit a 18446744073709551616\n")]:
-        yield Row(f"refused 69 line {line}\n", [SIMULATE], {**copy, "P": text})
+        yield Row(f"refused 69 line {line}\n", SIMULATES, {**copy, "P": text})
     wrong = "make 1\nbegin b\nlook b a\nput b b 7\ndone b\nend\nmake 1\nbegin b\nlook b a\nput b b 8\ndone b\n"
-    yield Row("a 1 1\nb 7 2\nrefused 60 line 11\na 1 1\nb 8 3\n", [SIMULATE], {**copy, "P": wrong})
+    yield Row("a 1 1\nb 7 2\nrefused 60 line 11\na 1 1\nb 8 3\n", SIMULATES, {**copy, "P": wrong})
     two = {"makefile": "all: x y\nx:\n\tx\ny:\n\ty\n", "B": book(sources=[], records=[])}
-    yield Row("refused 64 line 3\n", [SIMULATE], {**two, "P": "make 1\nbegin x\nbegin y\n"})
+    yield Row("refused 64 line 3\n", SIMULATES, {**two, "P": "make 1\nbegin x\nbegin y\n"})
 
 
 def full() -> Iterator[Row]:

@@ -12,6 +12,7 @@ from itertools import chain
 from dataclasses import dataclass, field
 from pathlib import Path
 
+from builds import builds
 from faults import faults
 
 HERE = Path(__file__).resolve().parent
@@ -211,7 +212,8 @@ def differs(program: Path, run: Run) -> bool:
 def main() -> None:
     program = Path(sys.argv[1] if len(sys.argv) > 1 else PROGRAM).resolve()
     ran_of, wrong = 0, 0
-    for run in chain(ANSWERS, WORDS, PLACES, SIZES, (Run(words, status, out, files=files) for words, status, out, files in faults())):
+    tables = (Run(words, status, out, files=files) for words, status, out, files in chain(builds(), faults()))
+    for run in chain(ANSWERS, WORDS, PLACES, SIZES, tables):
         ran_of += 1
         wrong += differs(program, run)
     print(f"program: {ran_of} runs, {wrong} of them wrong")

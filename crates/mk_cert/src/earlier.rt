@@ -6,7 +6,7 @@ ghost use Rattle.mk_graph.specs.Membership.{Has};
 ghost use Rattle.mk_graph.specs.Turns.{Before};
 
 use crate::number_list::NumberList;
-use mk_graph::{BitRows, Graph, Order, Without};
+use mk_graph::{BitRows, Graph, NodeSet, Without};
 use std::alloc::{AllocError, Global};
 use std::marker::Model;
 
@@ -15,26 +15,32 @@ use std::marker::Model;
 ///
 /// Each direct prerequisite of a recipe is before it, and most recipes read what these write, or
 /// nothing. Of the first other node that is asked for it is worked out before which ones it is;
-/// and when a second one is, the order of the whole graph, in rows of bits.
+/// and when a second one is, the order of the whole graph, in rows of bits. What they tell of a
+/// node is asked for once, however many others are.
 #[derive(Drop)]
 pub(crate) struct Earlier<'a> {
     graph: &'a Graph,
     number: usize,
     direct: Option<NumberList<'a>>,
     first: Option<Without<'a>>,
+    /// Whether the first other node is before this one.
+    is_told: Option<bool>,
     rows: Option<BitRows<'a>>,
+    /// What is before this one by the rows.
+    before: Option<NodeSet>,
 }
 
 impl<'a> Model for Earlier<'a> {
     ghost use Rattle.mk_cert.specs.Earlier as value;
-    ghost use Rattle.mk_cert.specs.Earlier.{AreDirect, AreRowsOf, IsFirstOf};
+    ghost use Rattle.mk_cert.specs.Earlier.{AreBefore, AreDirect, AreRowsOf, IsFirstOf, IsToldOf};
 
     ghost Value = { value.Place };
 
     ghost view = { λ e. record { graph = e.graph.now; number = e.number } };
 
     ghost invariant = { λ e. AreDirect e.graph.now e.number e.direct ×
-        IsFirstOf e.graph.now e.first × AreRowsOf e.graph.now e.rows };
+        IsFirstOf e.graph.now e.first × IsToldOf e.number e.first e.is_told ×
+        AreRowsOf e.graph.now e.rows × AreBefore e.graph.now e.number e.before };
 }
 
 impl<'a> Earlier<'a> {
@@ -47,7 +53,9 @@ impl<'a> Earlier<'a> {
             number: 0,
             direct: None,
             first: None,
+            is_told: None,
             rows: None,
+            before: None,
         }
     }
 
@@ -60,6 +68,8 @@ impl<'a> Earlier<'a> {
         let graph = self.graph;
         graph.nodes();
         self.number = number;
+        self.is_told = None;
+        self.before = None;
         self.direct = None;
         self.direct = Some(NumberList::new(alloc, graph.prerequisites(number))?);
         Ok(())
@@ -76,14 +86,23 @@ impl<'a> Earlier<'a> {
     }
 
     /// Whether another node is before this one, where it is the first one that was asked for.
-    fn told_by_first(&self, other: usize) -> Option<bool>
-        ensures { IfSome result (λ is. (is ≡ true) ↔
-            Before self.now.graph other self.now.number) }
+    fn told_by_first(&mut self, other: usize) -> Option<bool>
+        ensures same { self.new ≡ self.old }
+        ensures before { IfSome result (λ is. (is ≡ true) ↔
+            Before self.old.graph other self.old.number) }
     {
-        match &self.first {
-            Some(first) if first.other() == other => Some(first.is_before(self.number)),
-            _ => None,
+        let Some(first) = &self.first else {
+            return None;
+        };
+        if first.other() != other {
+            return None;
         }
+        let is = match self.is_told {
+            Some(is) => is,
+            None => first.is_before(self.number),
+        };
+        self.is_told = Some(is);
+        Some(is)
     }
 
     /// Works out what the first node that is asked for is before.
@@ -101,12 +120,20 @@ impl<'a> Earlier<'a> {
         ensures before { IfOk result (λ is. (is ≡ true) ↔
             Before self.old.graph other self.old.number) }
     {
+        if let Some(before) = &self.before {
+            return Ok(before.has(other));
+        }
         let rows = match self.rows.take() {
             Some(rows) => rows,
             None => BitRows::new(alloc, self.graph)?,
         };
-        let is = rows.before(other, self.number);
+        let before = rows.predecessors(self.number);
         self.rows = Some(rows);
+        let is = match &before {
+            Some(before) => before.has(other),
+            None => true,
+        };
+        self.before = before;
         Ok(is)
     }
 

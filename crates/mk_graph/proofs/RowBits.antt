@@ -1,9 +1,9 @@
 -- Which numbers stand in rows of bits, as rows are united and intersected.
-use Rattle.std.proofs.Common.{◌≡◌, ℕ, suc, replicate, ◌+◌, ◌*◌, ◌/◌, ◌%◌, ◌^◌, ◌<◌, ◌≤◌, List, [], ◌∷◌, ◌++◌, length, get_or, take, drop, Vec, min, max, eqb, inl, inr, ⊎_elim, ◌⊎◌, refl, sym, ap, subst, ◌∙◌, arith}
+use Rattle.std.proofs.Common.{◌≡◌, ℕ, suc, replicate, ◌+◌, ◌-◌, ◌*◌, ◌/◌, ◌%◌, ◌^◌, ◌<◌, ◌≤◌, List, [], ◌∷◌, ◌++◌, length, get_or, take, drop, Vec, min, max, eqb, inl, inr, ⊎_elim, ◌⊎◌, refl, sym, ap, subst, ◌∙◌, arith}
 use Rattle.std.specs.Prelude.{bit_and, bit_or, ◌↔◌, ◌≢◌, sum}
 use Rattle.std.specs.Int.{bit_at}
 use Rattle.std.proofs.lemmas.Bool.{cases_lt, ne_eqb, eqb-false, cases_eq}
-use Rattle.std.proofs.lemmas.List.{length-take-le, length-take, length-drop, length-replicate, take_at, drop_at, drop-take, drop_more, drop_all, get_or-take, get_or-drop, get_or-replicate, get_or_past}
+use Rattle.std.proofs.lemmas.List.{length-take-le, length-take, length-drop, length-replicate, take_at, drop_at, drop-take, drop_more, drop_all, get_or-take, get_or-drop, get_or-replicate, get_or_past, get_or_append_left, get_or-append_right}
 use Rattle.std.proofs.lemmas.List.Sums.{sum_by-cons}
 use Rattle.std.specs.Simd.Lanes.{zip2}
 use Rattle.std.proofs.lemmas.Simd.{get_or-zip2}
@@ -120,6 +120,22 @@ word_of_zeros : (count stride k : ℕ) → get_or (take stride (replicate {A = �
 word_of_zeros count stride k =
     let zeros : List ℕ = replicate count 0 in
     elim (cases_lt k stride) [ inl low ↦ get_or-take stride zeros k 0 low ∙ (elim (cases_lt k count) [ inl small ↦ get_or-replicate count k 0 0 small | inr large ↦ get_or_past zeros k 0 (omega (arith, length-replicate {A = ℕ} count 0)) ]) | inr past ↦ get_or_past (take stride zeros) k 0 (omega (arith, length-take stride zeros)) ]
+
+-- zeros behind words are no other words
+pub word_before_zeros : (words : List ℕ) (count k : ℕ) → get_or (words ++ replicate count 0) k 0 ≡ get_or words k 0
+word_before_zeros words count k =
+    elim (cases_lt k (length words)) [ inl low ↦ get_or_append_left words (replicate count 0) 0 k low | inr past ↦ get_or-append_right words (replicate count 0) (length words) k 0 refl past ∙ word_of_none count (k - length words) ∙ sym (get_or_past words k 0 past) ]
+  where
+    word_of_none : (count k : ℕ) → get_or (replicate {A = ℕ} count 0) k 0 ≡ 0
+    word_of_none count k = elim (cases_lt k count) [ inl low ↦ get_or-replicate count k 0 0 low | inr past ↦ get_or_past (replicate {A = ℕ} count 0) k 0 (omega (arith, length-replicate {A = ℕ} count 0)) ]
+
+-- so they change nothing
+pub lacks_before_zeros : (words : List ℕ) (count o : ℕ) → Lacks (words ++ replicate count 0) o ↔ Lacks words o
+lacks_before_zeros words count o =
+    let same : bit_of (words ++ replicate count 0) o ≡ bit_of words o = ap (λ w. bit_at w (o % 64)) (word_before_zeros words count (o / 64)) in
+    let more = lacks_bit (words ++ replicate count 0) o in
+    let own = lacks_bit words o in
+    (λ h. own.1 (sym same ∙ more.0 h), λ h. more.1 (same ∙ own.0 h))
 
 -- they lack everything
 pub zeros_lack : (count stride o : ℕ) → Lacks (take stride (replicate count 0)) o

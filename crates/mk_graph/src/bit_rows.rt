@@ -8,14 +8,16 @@
 //! over the serial order clear bits until one round clears none.
 
 ghost use Rattle.std.specs.Prelude.{◌≡◌, ℕ, ◌+◌, ◌*◌, ◌^◌, ◌<◌, ◌≤◌, ◌↔◌, false};
-ghost use Rattle.std.specs.Prelude.{length, sum, slice_index, IfOk};
+ghost use Rattle.std.specs.Prelude.{length, replicate, sum, slice_index, IfOk, MatchOption};
 ghost use Rattle.mk_graph.specs.Membership.{Has};
+ghost use Rattle.mk_graph.specs.Turns.{Before};
 ghost use Rattle.mk_graph.specs.Graph.{IsGraph};
 ghost use Rattle.mk_graph.specs.BitRows.{Lacks, RowLacks, RowsLack, LackMore, HaveRows, IsSized};
 ghost use Rattle.mk_graph.specs.BitRows.{lists, listed, GateLacks, TargetLacks, Stays, PassesGates};
 ghost use Rattle.mk_graph.specs.BitRows.{PassesTargets, OnlyIfWanted, OnlyIfFree, AreSettled};
 
 use crate::graph::Graph;
+use crate::node_set::NodeSet;
 use crate::order::Order;
 use crate::rows::{has, insert, meet_row, meet_rows, row, some_has, unite_rows};
 use std::alloc::{AllocError, Global};
@@ -71,6 +73,31 @@ impl<'a> BitRows<'a> {
     {
         self.rounds
     }
+
+    /// The nodes that are before `t`; none where each node is, since `t` has no recipe or is no
+    /// node. So what `before` tells is told of any number of nodes in the time that one takes: it is
+    /// linear in the prerequisites of `t`, times the words of a row. It takes no memory.
+    pub fn predecessors(&self, t: usize) -> Option<NodeSet>
+        ensures { MatchOption result ((o : ℕ) → Before self.now o t)
+            (λ set. (o : ℕ) → Has set o ↔ Before self.now o t) }
+    {
+        let Some(node) = self.graph.nodes().get(t) else {
+            return None;
+        };
+        if !node.recipe {
+            return None;
+        }
+        let mut words = [0u64; 64];
+        let first = row(&self.first, self.stride, t);
+        join_rows(
+            &mut words,
+            first,
+            &self.done,
+            self.stride,
+            node.groups.as_slice(),
+        );
+        Some(NodeSet::of(words))
+    }
 }
 
 impl<'a> Order for BitRows<'a> {
@@ -114,6 +141,20 @@ fn unite_groups(gate: &mut [u64], words: &[u64], stride: usize, groups: &[Vec<us
     for group in groups {
         unite_rows(gate, words, stride, group);
     }
+}
+
+/// Puts a row into empty words, and adds what stands in the rows of all numbers of these groups.
+fn join_rows(words: &mut [u64], own: &[u64], done: &[u64], stride: usize, groups: &[Vec<usize>])
+    requires empty { words.old ≡ replicate 64 0 }
+    requires narrow { length own.now ≡ stride }
+    requires size { stride ≤ 64 }
+    requires rows { HaveRows stride done.now (listed groups.now) }
+    ensures { (o : ℕ) → Lacks words.new o
+        ↔ Lacks own.now o × RowsLack stride done.now (listed groups.now) o }
+{
+    let gate = &mut words[..stride];
+    gate.copy_from_slice(own);
+    unite_groups(gate, done, stride, groups);
 }
 
 /// Takes from the first rows of a node's prerequisites what its own first row and the done rows of

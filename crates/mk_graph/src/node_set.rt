@@ -1,6 +1,7 @@
 //! Sets of node numbers, on the stack.
 
 ghost use Rattle.std.specs.Prelude.{◌≡◌, ℕ, ◌<◌, [], List, true, ◌⊎◌, ◌↔◌, map};
+ghost use Rattle.mk_graph.specs.Bits.{is_set};
 ghost use Rattle.mk_graph.specs.Graph.{max_nodes};
 ghost use Rattle.mk_graph.specs.Membership.{Has};
 ghost use Rattle.mk_graph.specs.Turns.{HasAll};
@@ -30,6 +31,13 @@ impl NodeSet {
         ensures { (n : ℕ) → ¬ (Has result n) }
     {
         NodeSet { words: [0; 64] }
+    }
+
+    /// The set of the numbers whose bits are set.
+    pub(crate) fn of(words: [u64; 64]) -> NodeSet
+        ensures { (n : ℕ) → Has result n ↔ (is_set words n ≡ true) }
+    {
+        NodeSet { words }
     }
 
     /// Whether the number is a member.
