@@ -78,8 +78,16 @@ fn intersections_of_each_length(rt: HostRuntime) -> Result<(), Fail> {
     Ok(())
 }
 
-/// Rows, the greedy order and what is done without a node agree on whether the node is before each
-/// other one.
+/// Whether a node is among those before another one.
+fn precedes(rows: &BitRows<'_>, o: usize, t: usize) -> bool {
+    match rows.predecessors(t) {
+        Some(set) => set.has(o),
+        None => true,
+    }
+}
+
+/// Rows, what they tell of a node at once, the greedy order and what is done without a node agree
+/// on whether the node is before each other one.
 fn compare_with(
     rt: &impl Abort,
     rows: &BitRows<'_>,
@@ -91,6 +99,7 @@ fn compare_with(
     for t in 0..count {
         see_before(rt, told(rows, o, t), told(greedy, o, t), (o, t));
         see_before(rt, told(rows, o, t), without.is_before(t), (o, t));
+        see_before(rt, told(rows, o, t), precedes(rows, o, t), (o, t));
     }
 }
 

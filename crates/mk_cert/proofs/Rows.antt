@@ -4,7 +4,7 @@ use Rattle.std.specs.Prelude.{◌↔◌}
 use Rattle.std.proofs.lemmas.Bool.{cases_lt}
 use Rattle.std.proofs.lemmas.List.{get_or_past, take_more}
 use Rattle.mk_graph.specs.Membership.{Has, IsDistinct}
-use Rattle.mk_graph.specs.Lists.{has_left, has_right}
+use Rattle.mk_graph.specs.Lists.{has_left, has_right, has_cases}
 
 module _ {A : Type 0} where
   -- at each number stands what is so of it
@@ -36,10 +36,7 @@ module _ {A : Type 0} where
 
   -- what stands among one more of a list
   pub in_push : (xs : List A) (y z : A) → Has (xs ++ y ∷ []) z → Has xs z ⊎ (y ≡ z)
-  in_push [] y z (inl here) = inr here
-  in_push [] y z (inr there) = absurd there
-  in_push (x ∷ xs) y z (inl here) = inl (inl here)
-  in_push (x ∷ xs) y z (inr there) = ⊎_elim (λ h. inl (inr h)) (λ e. inr e) (in_push xs y z there)
+  in_push xs y z h = elim (has_cases xs (y ∷ []) z h) [ inl before ↦ inl before | inr (inl last) ↦ inr last | inr (inr none) ↦ absurd none ]
 
   pub in_take_more : (xs : List A) (i : ℕ) (d z : A) → i < length xs → Has (take (i + 1) xs) z ↔ (Has (take i xs) z ⊎ (get_or xs i d ≡ z))
   in_take_more xs i d z lt = (

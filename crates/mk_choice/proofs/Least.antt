@@ -6,6 +6,7 @@ use Rattle.std.specs.Str.{bytes_eq}
 use Rattle.std.proofs.lemmas.Bool.{both_ways, false_from_ne_true}
 use Rattle.std.proofs.lemmas.Slice.Eq.{bytes_eq-Decides}
 use Rattle.mk_graph.specs.Membership.{Has}
+use Rattle.mk_graph.specs.Lists.{has_cases}
 use Rattle.mk_lines.specs.Names.{place_from}
 use Rattle.mk_choice.specs.Choosing.{Chosen, IsLeast, Placed}
 use Rattle.mk_choice.proofs.Members.{find_none}
@@ -73,13 +74,7 @@ module _ (p : Name → Bool) where
 -- ---- one more is tried
 
 before_or : (tried : List Name) (name s : Name) → Has (tried ++ name ∷ []) s → Has tried s ⊎ (s ≡ name)
-before_or [] name s (inl e) = inr (sym e)
-before_or [] name s (inr h) = absurd h
-before_or (x ∷ tried) name s (inl e) = inl (inl e)
-before_or (x ∷ tried) name s (inr h) = elim (before_or tried name s h) [
-  | inl k ↦ inl (inr k)
-  | inr e ↦ inr e
-]
+before_or tried name s h = elim (has_cases tried (name ∷ []) s h) [ inl before ↦ inl before | inr (inl last) ↦ inr (sym last) | inr (inr none) ↦ absurd none ]
 
 same_place : (suffixes : List Name) (name s : Name) (k n : ℕ) → s ≡ name → place_from 0 suffixes name ≡ Some k → place_from 0 suffixes s ≡ Some n → n ≡ k
 same_place suffixes name s k n e at is =

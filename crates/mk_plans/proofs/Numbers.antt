@@ -6,6 +6,7 @@ use Rattle.std.proofs.lemmas.Slice.Eq.{bytes_eq-Decides}
 use Rattle.mk_lines.specs.Names.{has_name, place_from}
 use Rattle.mk_graph.specs.declared.node.Node.{Node}
 use Rattle.mk_graph.specs.Membership.{Has}
+use Rattle.mk_graph.specs.Lists.{has_mapped}
 use Rattle.mk_graph.specs.Graph.{Graph, IsGraph, no_node, node}
 use Rattle.mk_graph.specs.Setting.{FileName, IsNumberOf, name}
 use Rattle.mk_graph.specs.GrowthLaws.{NamesHaveOneNumber}
@@ -137,18 +138,13 @@ busy_is g t low e = at (node g (number_of g t)).recipe refl
     at true h = refl
     at false h = absurd (false≢true (sym e ∙ place_idle g.nodes t (number_of g t) low (low_number g t low).1 h))
 
--- where all goals are named, each is the number of a named one
-mapped : (g : Graph) (names : List FileName) (f : FileName) → Has names f → Has (map (number_of g) names) (number_of g f)
-mapped g [] f h = absurd h
-mapped g (h ∷ names) f (inl e) = inl (ap (number_of g) e)
-mapped g (h ∷ names) f (inr r) = inr (mapped g names f r)
-
 all_at : (p : ℕ → Bool) (ns : List ℕ) (n : ℕ) → list_all p ns ≡ true → Has ns n → p n ≡ true
 all_at p [] n e h = absurd h
 all_at p (m ∷ ns) n e (inl same) = subst (λ k. p k ≡ true) same (and_parts (p m) (list_all p ns) e).0
 all_at p (m ∷ ns) n e (inr r) = all_at p ns n (and_parts (p m) (list_all p ns) e).1 r
 
+-- where all goals are named, each is the number of a named one
 pub all_named : (one : NamesHaveOneNumber) (g : Graph) (names : List FileName) (n : ℕ) → IsGraph g → are_all_named g names ≡ true → Has g.goals n → Has (map (number_of g) names) n
 all_named one g names n is e h =
     let there = name_there names (name g n) (all_at (λ k. has_name names (name g k)) g.goals n e h) in
-    subst (Has (map (number_of g) names)) (number_is one g n is (is.sound.goals n h)) (mapped g names (name g n) there)
+    subst (Has (map (number_of g) names)) (number_is one g n is (is.sound.goals n h)) (has_mapped (number_of g) names (name g n) there)

@@ -7,6 +7,7 @@ use Rattle.std.proofs.lemmas.List.{get_or_past}
 use Rattle.mk_graph.specs.declared.node.Node.{Node}
 use Rattle.mk_graph.specs.Graph.{Graph, no_node, node}
 use Rattle.mk_graph.specs.Membership.{Has}
+use Rattle.mk_graph.specs.Lists.{has_right}
 use Rattle.mk_graph.specs.Setting.{Setting, name}
 use Rattle.mk_graph.specs.Stale.{Chain, here, further}
 use Rattle.mk_graph.specs.Ways.{Carries}
@@ -32,8 +33,7 @@ stands_or_not (m ∷ ns) n =
 
 -- the last of a list stands in it
 last_stands : (ways : List (List ℕ)) (way : List ℕ) → Has (ways ++ way ∷ []) way
-last_stands [] way = inl refl
-last_stands (w ∷ ways) way = inr (last_stands ways way)
+last_stands ways way = has_right ways (way ∷ []) way (inl refl)
 
 module _ (g : Graph) (s : Setting) (succ : ℕ → List ℕ) where
   -- In the set stands where the ways at all places before this one end; and chains lead to all that

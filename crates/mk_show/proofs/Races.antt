@@ -5,6 +5,7 @@ use Rattle.std.proofs.lemmas.List.{reverse-reverse}
 use mathlib.Core.List.{reverse-cons}
 use Rattle.std.proofs.lemmas.List.Sums.{sum_by-append, sum_by-cons}
 use Rattle.mk_graph.specs.Membership.{Has}
+use Rattle.mk_graph.specs.Lists.{has_left, has_right}
 use Rattle.mk_graph.specs.Graph.{Graph, IsGraph, node}
 use Rattle.mk_graph.specs.Serial.{serial_order}
 use Rattle.mk_graph.specs.Setting.{Setting, writes, writings}
@@ -33,8 +34,7 @@ pub all_are_part : (g : Graph) (o t : ℕ) (ns : List ℕ) → LeadsPast g o t n
 all_are_part g o t ns past = record { not_empty = some_goal g g.goals ns t past.may_turn.wanted; within = all_within g.goals g.goals (λ n h. h) }
 
 has_pushed : (xs : List ℕ) (x n : ℕ) → Has xs n ⊎ (x ≡ n) → Has (xs ++ x ∷ []) n
-has_pushed [] x n h = elim h [ inl none ↦ absurd none | inr e ↦ inl e ]
-has_pushed (y ∷ xs) x n h = elim h [ inl l ↦ elim l [ inl e ↦ inl e | inr r ↦ inr (has_pushed xs x n (inl r)) ] | inr e ↦ inr (has_pushed xs x n (inr e)) ]
+has_pushed xs x n h = elim h [ inl before ↦ has_left xs (x ∷ []) n before | inr last ↦ has_right xs (x ∷ []) n (inl last) ]
 
 has_reversed : (xs : List ℕ) (n : ℕ) → Has xs n → Has (reverse xs) n
 has_reversed [] n none = absurd none

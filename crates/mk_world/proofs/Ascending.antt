@@ -16,6 +16,7 @@ use Rattle.std.proofs.lemmas.List.{get_or-map}
 use Rattle.std.proofs.lemmas.List.Sorted.{Contains-permutation, IsPermutation-map, IsPermutation-sym, ranks_by, sorted_far}
 use Rattle.mk_lines.specs.Names.{has_name, with_name}
 use Rattle.mk_graph.specs.Membership.{Has}
+use Rattle.mk_graph.specs.Lists.{has_left, has_right, has_cases}
 use Rattle.mk_graph.specs.World.{AreAscending}
 use Rattle.mk_world.specs.First.{AreSorted}
 use Rattle.mk_world.proofs.Tables.{name_there, there_name}
@@ -37,12 +38,10 @@ ascending (f ∷ k ∷ names) h = (h.0.0, ascending (k ∷ names) h.1)
 
 -- what stands in a list with one more
 push_has : (xs : List (List ℕ)) (x f : List ℕ) → Has xs f ⊎ (x ≡ f) → Has (xs ++ x ∷ []) f
-push_has [] x f h = elim h [ inl none ↦ absurd none | inr e ↦ inl e ]
-push_has (y ∷ xs) x f h = elim h [ inl l ↦ elim l [ inl e ↦ inl e | inr r ↦ inr (push_has xs x f (inl r)) ] | inr e ↦ inr (push_has xs x f (inr e)) ]
+push_has xs x f h = elim h [ inl before ↦ has_left xs (x ∷ []) f before | inr last ↦ has_right xs (x ∷ []) f (inl last) ]
 
 has_push : (xs : List (List ℕ)) (x f : List ℕ) → Has (xs ++ x ∷ []) f → Has xs f ⊎ (x ≡ f)
-has_push [] x f h = elim h [ inl e ↦ inr e | inr none ↦ absurd none ]
-has_push (y ∷ xs) x f h = elim h [ inl e ↦ inl (inl e) | inr r ↦ elim (has_push xs x f r) [ inl there ↦ inl (inr there) | inr e ↦ inr e ] ]
+has_push xs x f h = elim (has_cases xs (x ∷ []) f h) [ inl before ↦ inl before | inr (inl last) ↦ inr last | inr (inr none) ↦ absurd none ]
 
 -- what stands among names to which one was added,
 pub one_has : (names : List (List ℕ)) (name f : List ℕ) → Has (with_name names name) f ↔ (Has names f ⊎ (name ≡ f))
