@@ -93,6 +93,7 @@ bench: all
 	@python3 bench/rows.py
 	@python3 bench/verdicts.py
 	@python3 bench/certificates.py
+	@python3 bench/judging.py
 	@python3 bench/evidence.py
 	@python3 bench/plans.py
 	@python3 bench/hostile.py

@@ -3,6 +3,7 @@
 import shutil
 import subprocess
 import sys
+from collections.abc import Sequence
 from pathlib import Path
 
 from run import DATA, HERE
@@ -22,16 +23,18 @@ def needed(libraries: str) -> dict[str, str]:
     return found
 
 
-def built(name: str, libraries: str, empty: str, task: str) -> Path:
-    """The program `name`, from `name/main.rt.in`, over copies of the crates that it needs.
+def built(name: str, libraries: str, empty: str, before: Sequence[str], behind: Sequence[str] = ()) -> Path:
+    """The program `name`, from `name/main.rt.in` with its proofs, over copies of the crates that it needs.
 
-    The run that builds it does the task on a file with the text `empty`.
+    The run that builds it has these words, and between them a file with the text `empty`.
     """
     repository = DATA / name
     shutil.rmtree(repository, ignore_errors=True)
     own = repository / "crates" / name
     (own / "src").mkdir(parents=True)
     shutil.copy(HERE / name / "main.rt.in", own / "src" / "main.rt")
+    if (HERE / name / "proofs").is_dir():
+        shutil.copytree(HERE / name / "proofs", own / "proofs")
     shutil.copy(HERE.parent / "HANDLES", repository / "HANDLES")
     crates = needed(libraries)
     for crate in crates:
@@ -40,7 +43,7 @@ def built(name: str, libraries: str, empty: str, task: str) -> Path:
     (repository / "crates.txt").write_text("\n".join([*crates.values(), f"{name}: {libraries}", ""]))
     file = DATA / f"{name}.empty"
     file.write_text(empty)
-    command = ["rt", "run", "--", task, str(file)]
+    command = ["rt", "run", "--", *before, str(file), *behind]
     done = subprocess.run(command, cwd=own, capture_output=True, text=True, check=False)
     if done.returncode != 0:
         sys.exit(f"bench: {' '.join(command)} in {own}:\n{done.stdout}{done.stderr}")

@@ -87,7 +87,7 @@ def cases(program: Path) -> list[tuple[str, Times, Times]]:
 def main() -> None:
     DATA.mkdir(exist_ok=True)
     empty = '{"format":1,"fixed":[],"sources":[],"records":[]}'
-    program = built("footprint", "mk_foot serde_json anyhow", empty, "setting")
+    program = built("footprint", "mk_foot serde_json anyhow", empty, ["setting"])
     print(f"elapsed time in milliseconds, median of {RUNS} runs")
     print(f"{'footprints':<18}{'setting':>9}{'serde_json':>12}{'ratio':>8}{'python':>9}{'ratio':>8}{'growth':>8}")
     for label, times, half in cases(program):

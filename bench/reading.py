@@ -76,7 +76,7 @@ def measure(case: Case, program: Path) -> tuple[Measure, Measure]:
 
 def main() -> None:
     DATA.mkdir(exist_ok=True)
-    program = built("reading", "mk_lines mk_macros anyhow", "", "lines")
+    program = built("reading", "mk_lines mk_macros anyhow", "", ["lines"])
     os.chdir(DATA)
     print(f"processor time, least of {RUNS} runs")
     print(f"{'text':<20}{'own ms':>9}{'peer':>8}{'peer ms':>9}{'ratio':>8}{'growth':>8}{'memory MB':>11}")

@@ -78,7 +78,7 @@ def measure(program: Path, own: Tool, makefile: Generated) -> Figures:
 def main() -> None:
     own, *_ = asked(__doc__)
     DATA.mkdir(exist_ok=True)
-    program = built("rows", "mk_lines mk_graph mk_macros mk_read mk_parse mk_infer mk_choice mk_select anyhow", "all:\n", "rows")
+    program = built("rows", "mk_lines mk_graph mk_macros mk_read mk_parse mk_infer mk_choice mk_select anyhow", "all:\n", ["rows"])
     print(f"bit rows beside mkcheck graph, in milliseconds, least of {RUNS} runs")
     print(f"{'makefile':<18}{'nodes':>6}{'rows':>8}{'graph':>8}{'ratio':>8}{'memory MB':>11}{'rounds':>8}")
     most = 0

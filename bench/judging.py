@@ -1,0 +1,77 @@
+"""Measures `static_findings` and `verify` alone, over a subject that is made from bytes once, and prints a table.
+
+The times are those of the program's own clock. The instructions are what ten calls more take, divided by ten.
+"""
+
+import os
+import subprocess
+import sys
+from dataclasses import dataclass
+from pathlib import Path
+
+from building import built
+from certificates import VERIFIED
+from instructions import counter
+from run import DATA, RUNS, asked
+from spending import in_turns, spent
+from verdicts import GROWTH_BOUND, Build, written
+
+LIBRARIES = "mk_cert mk_choice mk_foot mk_graph mk_infer mk_lines mk_parse mk_read mk_select mk_ways anyhow"
+# What the run that builds the program is given: a makefile of one target, and its footprints.
+EMPTY = "all:\n"
+NO_BOOK = '{"format":1,"fixed":[],"sources":[],"records":[]}'
+# How many calls `often` makes more than `once`.
+MORE_CALLS = 10
+
+
+@dataclass(frozen=True)
+class Call:
+    """A call over the build of these files: of `verify`, where the last one is a certificate."""
+
+    program: Path
+    files: list[str]
+
+    def words(self, often: str) -> list[str]:
+        """The words of the command line."""
+        return [str(self.program), often, *self.files]
+
+    def time(self) -> float:
+        """The least milliseconds of its calls; nothing is found of these builds."""
+        done = subprocess.run(self.words("often"), capture_output=True, text=True, check=True)
+        taken, found = done.stdout.split()
+        if found != "0":
+            sys.exit(f"bench: {' '.join(self.words('often'))}: {found} findings")
+        return int(taken) / 1_000
+
+
+def calls(program: Path, mkcheck: str, build: Build, label: str) -> list[Call]:
+    """`static_findings` of a build, and `verify` of the certificate that `check` gives."""
+    makefile, book = written(build, label)
+    certificate = DATA / f"{label}.cert"
+    spent([mkcheck, "check", "-f", makefile.name, "-b", book.name, "-c"], {0}, certificate)
+    files = [str(makefile), str(book)]
+    return [Call(program, files), Call(program, [*files, str(certificate)])]
+
+
+def main() -> None:
+    mkcheck = asked(__doc__)[0].path
+    DATA.mkdir(exist_ok=True)
+    (DATA / "certificates").mkdir(exist_ok=True)
+    (DATA / "judging.book").write_text(NO_BOOK)
+    program = built("judging", LIBRARIES, EMPTY, ["once"], [str(DATA / "judging.book")])
+    os.chdir(DATA)
+    count = counter()
+    print(f"elapsed time in milliseconds, least of {RUNS} runs with {MORE_CALLS + 1} calls each, and millions of instructions of one call")
+    print(f"{'build':<18}{'call':<17}{'ms':>8}{'growth':>8}{'million':>10}{'growth':>8}")
+    for shape, smaller, whole in VERIFIED:
+        sizes = [calls(program, mkcheck, shape(size), label) for size, label in ((smaller, "half"), (whole, "whole"))]
+        for name, half, full in zip(("static_findings", "verify"), *sizes):
+            small, great = map(min, in_turns([half.time, full.time], RUNS))
+            few, many = ((count(one.words("often"), 0) - count(one.words("once"), 0)) / MORE_CALLS / 10**6 for one in (half, full))
+            times = f"{great:>8.2f}{great / small:>8.2f}{many:>10.1f}{many / few:>8.2f}"
+            print(f"{f'{shape.__name__} {whole}':<18}{name:<17}{times}", flush=True)
+    print(f"{'at most':<35}{GROWTH_BOUND:>16.2f}{GROWTH_BOUND:>18.2f}")
+
+
+if __name__ == "__main__":
+    main()
