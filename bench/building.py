@@ -24,7 +24,9 @@ def needed(libraries: str) -> dict[str, str]:
 
 
 def built(name: str, libraries: str, empty: str, before: Sequence[str], behind: Sequence[str] = ()) -> Path:
-    """The program `name`, from `name/main.rt.in` with its proofs, over copies of the crates that it needs.
+    """The program `name`, from `name/main.rt.in`, over copies of the crates that it needs.
+
+    The answers to what is open in a function stand beside it, in a file named after the function.
 
     The run that builds it has these words, and between them a file with the text `empty`.
     """
@@ -33,8 +35,10 @@ def built(name: str, libraries: str, empty: str, before: Sequence[str], behind: 
     own = repository / "crates" / name
     (own / "src").mkdir(parents=True)
     shutil.copy(HERE / name / "main.rt.in", own / "src" / "main.rt")
-    if (HERE / name / "proofs").is_dir():
-        shutil.copytree(HERE / name / "proofs", own / "proofs")
+    for proof in (HERE / name).glob("*.antt.in"):
+        answers = own / "proofs" / proof.name.removesuffix(".antt.in") / "Answers.antt"
+        answers.parent.mkdir(parents=True)
+        shutil.copy(proof, answers)
     shutil.copy(HERE.parent / "HANDLES", repository / "HANDLES")
     crates = needed(libraries)
     for crate in crates:
