@@ -13,8 +13,8 @@ use Rattle.mk_cert.specs.Conditions.{HasNoRecord, HasOtherCommands, HasVaryingCo
 use Rattle.mk_cert.specs.Candidates.{selection, choice_with_writes}
 use Rattle.mk_cert.specs.Listed.{Adds}
 use Rattle.mk_cert.specs.declared.finding.Finding.{Finding}
-use Rattle.mk_cert.specs.Entry.{Entry, IsEntry, entry_writes}
-use Rattle.mk_cert.specs.Tests.{lacks_record, has_varying, lacks_target, lines_eq, has_others, has_other_commands}
+use Rattle.mk_cert.specs.Entry.{Entry, IsEntry, entry_writes, has_others, lines_eq}
+use Rattle.mk_cert.specs.Tests.{lacks_record, has_varying, lacks_target, has_other_commands}
 use Rattle.mk_cert.proofs.Entries.{same_writes}
 
 -- both of two tests
@@ -129,14 +129,14 @@ pub other_commands_there : (x : Subject) (e : Entry) → IsEntry x e → has_oth
 other_commands_there x e is t =
     let recipe = and_both e.node.recipe _ t in
     let varying = and_both (not e.commands.varying) _ recipe.1 in
-    let others = others_some e.recorded e.commands.lines varying.1 in
+    let others = others_some e.recorded e.commands.lines (sym is.same_others ∙ varying.1) in
     (sym (ap (λ (n : Node). n.recipe) is.same_node) ∙ recipe.0, others.0, sym is.same_record ∙ others.1, e.commands, is.same_commands, not_true e.commands.varying varying.0, others.2)
 
 pub no_other_commands : (x : Subject) (e : Entry) → IsEntry x e → has_other_commands e ≡ false → ¬ (HasOtherCommands x e.number)
 no_other_commands x e is f (recipe, r, recorded, c, told, steady, differ) =
     let same : Ok c ≡ Ok e.commands = sym told ∙ is.same_commands in
     let k : c ≡ e.commands = cc in
-    let other : has_others e.recorded e.commands.lines ≡ true = ap (λ (o : Option Record). has_others o e.commands.lines) (is.same_record ∙ recorded) ∙ others_from r e.commands.lines (λ h. differ (h ∙ ap (λ (d : Commands). d.lines) (sym k))) in
+    let other : e.others ≡ true = is.same_others ∙ (ap (λ (o : Option Record). has_others o e.commands.lines) (is.same_record ∙ recorded) ∙ others_from r e.commands.lines (λ h. differ (h ∙ ap (λ (d : Commands). d.lines) (sym k)))) in
     true≢false (sym (both_and e.node.recipe _ (ap (λ (n : Node). n.recipe) is.same_node ∙ recipe) (both_and (not e.commands.varying) _ (ap (λ (d : Commands). not d.varying) (sym k) ∙ ap (λ b. not b) steady) other)) ∙ f)
 
 -- lists of different lengths differ

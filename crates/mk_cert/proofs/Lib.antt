@@ -10,6 +10,7 @@ pub mod FileDecided
 pub mod Behind
 pub mod Walks
 pub mod Paths
+pub mod NothingFound
 pub mod Numbers
 pub mod Rows
 pub mod CarriedNodes

@@ -1,5 +1,5 @@
 -- Where candidates stand.
-use Rattle.std.proofs.Common.{◌≡◌, ℕ, List, [], ◌∷◌, map, ◌⊎◌, inl, inr, ⊎_elim, refl, sym, subst, ap, ◌∙◌}
+use Rattle.std.proofs.Common.{◌≡◌, ℕ, List, [], ◌∷◌, map, ◌⊎◌, inl, inr, ⊎_elim, sym, subst, ◌∙◌}
 use Rattle.std.specs.List.{flat_map}
 use Rattle.mk_graph.specs.Lists.{has_left, has_right, has_mapped, joined_to}
 use Rattle.mk_graph.specs.Membership.{Has}

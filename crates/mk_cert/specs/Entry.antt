@@ -1,5 +1,5 @@
 -- What is looked up of the nodes of a subject: a record for each, and who writes a file.
-use Rattle.std.specs.Prelude.{◌≡◌, ◌⊎◌, ℕ, ◌<◌, ◌==◌, List, [], ◌∷◌, All, filter, length, map, slice_index, Option, None, Some, Ok, Err, if◌then◌else◌}
+use Rattle.std.specs.Prelude.{◌≡◌, ◌⊎◌, ℕ, Bool, true, false, not, ◌&&◌, bytes_eq, ◌<◌, ◌==◌, List, [], ◌∷◌, All, filter, length, map, slice_index, Option, None, Some, Ok, Err, if◌then◌else◌}
 use Rattle.mk_lines.specs.Names.{has_name}
 use Rattle.mk_graph.specs.declared.node.Node.{Node}
 use Rattle.mk_graph.specs.Graph.{node}
@@ -13,13 +13,26 @@ use Rattle.mk_foot.specs.Book.{Record}
 use Rattle.mk_cert.specs.Subject.{Subject, name_of, writes_of, record_of, commands_of}
 use Rattle.mk_cert.specs.Conditions.{all_writes}
 
--- a node with its number, its record and its commands, and with its inferred prerequisite where no
--- recipe has written its files, and where all have
+-- the lists have the same lines
+abbrev pub lines_eq : List (List ℕ) → List (List ℕ) → Bool
+lines_eq [] [] = true
+lines_eq [] (y ∷ ys) = false
+lines_eq (x ∷ xs) [] = false
+lines_eq (x ∷ xs) (y ∷ ys) = bytes_eq x y && lines_eq xs ys
+
+-- a record, if there is one, has other commands
+abbrev pub has_others : Option Record → List (List ℕ) → Bool
+has_others None lines = false
+has_others (Some r) lines = not (lines_eq r.commands lines)
+
+-- a node with its number, its record and its commands, whether the record has others, and with its
+-- inferred prerequisite where no recipe has written its files, and where all have
 pub record Entry : Type 0 where
   pub number : ℕ
   pub node : Node
   pub recorded : Option Record
   pub commands : Commands
+  pub others : Bool
   pub chosen : Option (List ℕ)
   pub chosen_after : Option (List ℕ)
 
@@ -36,6 +49,7 @@ pub record IsEntry (x : Subject) (e : Entry) : Type 0 where
   pub same_node : e.node ≡ node x.graph e.number
   pub same_record : e.recorded ≡ record_of x e.number
   pub same_commands : commands_of x e.number ≡ Ok e.commands
+  pub same_others : e.others ≡ has_others e.recorded e.commands.lines
   pub same_choice : e.chosen ≡ choice x.makefile x.there (name_of x e.number)
   pub same_choice_after : e.chosen_after ≡ choice_after x e.number
 

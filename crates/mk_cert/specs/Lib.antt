@@ -11,6 +11,7 @@ pub mod Tables
 pub mod Tests
 pub mod FileTests
 pub mod Questions
+pub mod Seen
 pub mod Kept
 pub mod Paths
 pub mod Verdict

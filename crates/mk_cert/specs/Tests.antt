@@ -1,7 +1,6 @@
 -- What is tested of a node by what is looked up of it.
-use Rattle.std.specs.Prelude.{ℕ, Bool, true, false, not, ◌&&◌, bytes_eq, List, [], ◌∷◌, Option, None, Some, is_some, is_none}
+use Rattle.std.specs.Prelude.{Bool, not, ◌&&◌, is_some, is_none}
 use Rattle.mk_lines.specs.Names.{has_name}
-use Rattle.mk_foot.specs.Book.{Record}
 use Rattle.mk_cert.specs.Entry.{Entry, entry_writes}
 
 -- its recipe has no record
@@ -18,19 +17,7 @@ lacks_target e =
     e.node.recipe && (is_some e.recorded &&
     (not e.node.phony && not (has_name (entry_writes e) e.node.name)))
 
--- the lists have the same lines
-abbrev pub lines_eq : List (List ℕ) → List (List ℕ) → Bool
-lines_eq [] [] = true
-lines_eq [] (y ∷ ys) = false
-lines_eq (x ∷ xs) [] = false
-lines_eq (x ∷ xs) (y ∷ ys) = bytes_eq x y && lines_eq xs ys
-
--- a record, if there is one, has other commands
-abbrev pub has_others : Option Record → List (List ℕ) → Bool
-has_others None lines = false
-has_others (Some r) lines = not (lines_eq r.commands lines)
-
 -- the commands of its recipe don't vary, and its record has others
 abbrev pub has_other_commands : Entry → Bool
 has_other_commands e =
-    e.node.recipe && (not e.commands.varying && has_others e.recorded e.commands.lines)
+    e.node.recipe && (not e.commands.varying && e.others)

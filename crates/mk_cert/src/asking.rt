@@ -18,7 +18,7 @@ use crate::writer_findings::note_loose;
 use std::alloc::{AllocError, Global};
 
 /// Adds what is found of a node by a question.
-fn ask(
+pub fn ask(
     alloc: Global,
     subject: &Subject<'_>,
     question: Question,

@@ -3,7 +3,7 @@
 ghost use Rattle.std.specs.Prelude.{◌≡◌, map, IfOk};
 ghost use Rattle.std.specs.Option.{option_copied};
 ghost use Rattle.std.specs.String.{string_bytes};
-ghost use Rattle.mk_cert.specs.Entry.{reads_in, writes_in, entry_reads, entry_writes};
+ghost use Rattle.mk_cert.specs.Entry.{reads_in, writes_in, entry_reads, entry_writes, has_others, lines_eq};
 
 use crate::finding::Finding;
 use crate::shared_name::SharedName;
@@ -25,6 +25,8 @@ pub struct Entry<'a> {
     pub recorded: Option<&'a Record>,
     /// Its commands, expanded.
     pub commands: Commands,
+    /// Whether its record, if it has one, has other commands.
+    pub others: bool,
     /// Its inferred prerequisite, if it has one.
     pub chosen: Option<Name>,
     /// The one that it has once all recipes have written their files.
@@ -43,6 +45,7 @@ impl<'a> Model for Entry<'a> {
           node = e.node.now;
           recorded = option_copied e.recorded;
           commands = e.commands;
+          others = e.others;
           chosen = e.chosen;
           chosen_after = e.chosen_after;
         } };
@@ -65,6 +68,33 @@ pub fn writes_in<'a>(recorded: Option<&'a Record>) -> &'a [String]
     match recorded {
         Some(record) => record.writes.as_slice(),
         None => &[],
+    }
+}
+
+/// Whether commands are these lines.
+fn are_lines(commands: &[String], lines: &[Vec<u8>]) -> bool
+    ensures { result ≡
+        lines_eq (map string_bytes commands.now) (map (λ line. line.items) lines.now) }
+{
+    if commands.len() != lines.len() {
+        return false;
+    }
+    for (place, command) in commands.iter().enumerate() {
+        if command.as_bytes() != lines[place].as_slice() {
+            return false;
+        }
+    }
+    true
+}
+
+/// Whether a record, if there is one, has other commands than these lines.
+pub fn has_others(recorded: Option<&Record>, lines: &[Vec<u8>]) -> bool
+    ensures { result ≡
+        has_others (option_copied recorded.entry) (map (λ line. line.items) lines.now) }
+{
+    match recorded {
+        Some(recorded) => !are_lines(&recorded.commands, lines),
+        None => false,
     }
 }
 

@@ -12,8 +12,9 @@ ghost use Rattle.mk_cert.specs.Questions.{asked_before_pairs, asked_behind_pairs
 use crate::asking::ask_all;
 use crate::finding::Finding;
 use crate::laws::nothing_found_is_selected;
+use crate::nothing_found::finds_nothing;
 use crate::pairs::note_pairs;
-use crate::question::Question;
+use crate::question::{BEFORE_PAIRS, BEHIND_PAIRS, Question};
 use crate::subject::Subject;
 use std::alloc::{AllocError, Global};
 
@@ -43,13 +44,7 @@ pub fn ask_before_pairs(
     ensures { OnOk result (Adds subject.now (asked_before_pairs subject.now)
         found.old.items found.new.items) }
 {
-    let questions = [
-        Question::Record,
-        Question::Commands,
-        Question::Varying,
-        Question::Target,
-    ];
-    ask_each(alloc, subject, &questions, found)
+    ask_each(alloc, subject, &BEFORE_PAIRS, found)
 }
 
 /// Adds what is found of all nodes by what is asked behind two recipes that write a file. It fails
@@ -62,14 +57,7 @@ pub fn ask_behind_pairs(
     ensures { OnOk result (Adds subject.now (asked_behind_pairs subject.now)
         found.old.items found.new.items) }
 {
-    let questions = [
-        Question::Given,
-        Question::Own,
-        Question::Unknown,
-        Question::Loose,
-        Question::Choice,
-    ];
-    ask_each(alloc, subject, &questions, found)
+    ask_each(alloc, subject, &BEHIND_PAIRS, found)
 }
 
 /// All that is found without a search for ways or an order, in the order of `Finding`'s variants,
@@ -92,6 +80,9 @@ pub fn static_findings(alloc: Global, subject: &Subject<'_>) -> Result<Vec<Findi
     nothing_found_is_selected();
     let _graph = subject.graph();
     let mut found = Vec::new(alloc);
+    if finds_nothing(alloc, subject)? {
+        return Ok(found);
+    }
     ask_before_pairs(alloc, subject, &mut found)?;
     note_pairs(alloc, subject, &mut found)?;
     ask_behind_pairs(alloc, subject, &mut found)?;

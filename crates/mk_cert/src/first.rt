@@ -11,6 +11,7 @@ ghost use Rattle.mk_cert.specs.declared.finding.Finding.{Finding};
 use crate::entry::Entry;
 use crate::finding::Finding;
 use crate::findings::{ask_before_pairs, ask_behind_pairs};
+use crate::nothing_found::finds_nothing;
 use crate::pairs::note_files;
 use crate::race_findings::races;
 use crate::subject::Subject;
@@ -83,6 +84,9 @@ fn first_pair(alloc: Global, subject: &Subject<'_>) -> Result<Option<Finding>, A
 pub fn first_static(alloc: Global, subject: &Subject<'_>) -> Result<Option<Finding>, AllocError>
     ensures { IfOk result (TellsFirst subject.now (static_candidates subject.now)) }
 {
+    if finds_nothing(alloc, subject)? {
+        return Ok(None);
+    }
     if let Some(finding) = first_before_pairs(alloc, subject)? {
         return Ok(Some(finding));
     }

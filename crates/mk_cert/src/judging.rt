@@ -8,27 +8,33 @@ ghost use Rattle.mk_cert.specs.declared.fault.CertFault.TheVariants.{BadWay, Mem
 
 use crate::fault::CertFault;
 use crate::links::Links;
+use crate::seen_names::SeenNames;
 use crate::subject::Subject;
 use crate::walking::good_start;
 use mk_graph::growth_laws::names_have_one_number;
-use mk_lines::{Name, NameSet};
+use mk_lines::Name;
 use mk_ways::{Way, Ways};
 use std::alloc::{AllocError, Global};
 
 /// An empty set for each of so many nodes.
-pub fn empty_sets<'a>(alloc: Global, count: usize) -> Result<Vec<NameSet<'a>>, AllocError>
+pub fn empty_sets<'a>(alloc: Global, count: usize) -> Result<Vec<SeenNames<'a>>, AllocError>
     ensures many { IfOk result (λ sets. length sets.items ≡ count) }
     ensures empty { IfOk result (λ sets. (t : ℕ) → slice_index_or sets.items t [] ≡ []) }
 {
     let mut sets = Vec::with_capacity(alloc, count)?;
     for _ in 0..count {
-        sets.push(NameSet::new(alloc))?;
+        sets.push(SeenNames::new())?;
     }
     Ok(sets)
 }
 
 /// Adds a name to the set at a place. Answers whether it was new there.
-fn note_at<'a>(sets: &mut Vec<NameSet<'a>>, place: usize, name: &'a str) -> Result<bool, AllocError>
+fn note_at<'a>(
+    alloc: Global,
+    sets: &mut Vec<SeenNames<'a>>,
+    place: usize,
+    name: &'a str,
+) -> Result<bool, AllocError>
     requires { place < length sets.old.items }
     ensures new { IfOk result (λ added. added ≡
         not (has_name (slice_index_or sets.old.items place []) name.entry.now)) }
@@ -37,15 +43,16 @@ fn note_at<'a>(sets: &mut Vec<NameSet<'a>>, place: usize, name: &'a str) -> Resu
     ensures many { length sets.new.items ≡ length sets.old.items }
 {
     let set = &mut sets[place];
-    set.insert(name)
+    set.insert(alloc, name)
 }
 
 /// Whether an entry isn't bad beside those that were noted. It is noted then.
 fn note_good<'a>(
+    alloc: Global,
     subject: &Subject<'_>,
     links: &Links<'_>,
     way: &Way<'a>,
-    seen: &mut Vec<NameSet<'a>>,
+    seen: &mut Vec<SeenNames<'a>>,
 ) -> Result<bool, AllocError>
     requires links { AreLinks subject.now links.now.reads.items
         links.now.carried.items links.now.ends.needed.items links.now.ends.always.items }
@@ -59,7 +66,7 @@ fn note_good<'a>(
     let Some(start) = good_start(subject, links, way) else {
         return Ok(false);
     };
-    note_at(seen, start, way.file)
+    note_at(alloc, seen, start, way.file)
 }
 
 /// The fault of a bad entry.
@@ -77,7 +84,7 @@ pub fn check_entries<'a>(
     subject: &Subject<'_>,
     links: &Links<'_>,
     ways: &'a Ways,
-    seen: &mut Vec<NameSet<'a>>,
+    seen: &mut Vec<SeenNames<'a>>,
 ) -> Result<(), CertFault>
     requires links { AreLinks subject.now links.now.reads.items
         links.now.carried.items links.now.ends.needed.items links.now.ends.always.items }
@@ -88,7 +95,7 @@ pub fn check_entries<'a>(
 {
     for place in 0..ways.len() {
         let way = ways.at(place);
-        if !note_good(subject, links, &way, seen)? {
+        if !note_good(alloc, subject, links, &way, seen)? {
             return Err(bad_way(alloc, &way)?);
         }
     }

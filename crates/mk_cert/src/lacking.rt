@@ -13,16 +13,22 @@ ghost use Rattle.mk_cert.specs.declared.fault.CertFault.TheVariants.{Memory, NoW
 
 use crate::entry::Entry;
 use crate::fault::CertFault;
+use crate::seen_names::SeenNames;
 use crate::subject::Subject;
 use crate::target::Target;
 use crate::walking::stands_at;
 use mk_graph::laws::serial_reaches_each_once;
-use mk_lines::{Name, NameSet};
+use mk_lines::Name;
 use std::alloc::{AllocError, Global};
 
 /// Whether a file that a recipe reads can change and isn't noted for it. One that can't change isn't
 /// looked up.
-fn lacks(subject: &Subject<'_>, seen: &[NameSet<'_>], entry: &Entry<'_>, file: &Target<'_>) -> bool
+fn lacks(
+    subject: &Subject<'_>,
+    seen: &[SeenNames<'_>],
+    entry: &Entry<'_>,
+    file: &Target<'_>,
+) -> bool
     requires read { Has (reads_of subject.now entry.now.number) file.now.file }
     requires file { file.now ≡ target_of subject.now file.now.file }
     ensures { (ways : List Way) → AreSeen subject.now ways seen.now → (result ≡ true) ↔
@@ -35,7 +41,7 @@ fn lacks(subject: &Subject<'_>, seen: &[NameSet<'_>], entry: &Entry<'_>, file: &
 /// The first file that a recipe reads which can change and isn't noted for it.
 fn first_lacking<'a>(
     subject: &'a Subject<'_>,
-    seen: &[NameSet<'_>],
+    seen: &[SeenNames<'_>],
     entry: &'a Entry<'_>,
 ) -> Option<&'a str>
     requires { IsEntry subject.now entry.now }
@@ -69,7 +75,7 @@ fn no_way(alloc: Global, entry: &Entry<'_>, file: &str) -> Result<CertFault, All
 pub fn check_reads(
     alloc: Global,
     subject: &Subject<'_>,
-    seen: &[NameSet<'_>],
+    seen: &[SeenNames<'_>],
 ) -> Result<(), CertFault>
     ensures { (ways : List Way) → AreSeen subject.now ways seen.now →
         (result ≡ Err Memory) ⊎ AnswersReads subject.now ways result }

@@ -16,7 +16,7 @@ ghost use Rattle.mk_infer.specs.declared.fault.InferFault.TheVariants.{Memory};
 ghost use Rattle.mk_cert.specs.Subject.{footprints, commands_of, subject_of};
 ghost use Rattle.mk_cert.specs.Entry.{IsEntry, AreEntries, AreEntriesOf, IsFaultOf, IsFirstFault, StaysChosen, choice_after};
 
-use crate::entry::{Entry, writes_in};
+use crate::entry::{Entry, has_others, writes_in};
 use mk_choice::{Choices, Made, choice, choice_and_commands};
 use mk_foot::Setting;
 use mk_graph::Graph;
@@ -184,10 +184,12 @@ fn entry_of<'a>(
         Some(after) => copy_of(after)?,
         None => copy_of(&chosen)?,
     };
+    let recorded = setting.record_of(name);
     Ok(Entry {
         number,
         node,
-        recorded: setting.record_of(name),
+        recorded,
+        others: has_others(recorded, &commands.lines),
         commands,
         chosen,
         chosen_after,

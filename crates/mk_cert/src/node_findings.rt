@@ -1,17 +1,15 @@
 //! What is found of a node by itself.
 
 ghost use Rattle.std.specs.Prelude.{◌≡◌, ◌↔◌, ◌∷◌, [], true, Some, map, OnOk};
-ghost use Rattle.std.specs.Option.{option_copied};
-ghost use Rattle.std.specs.String.{string_bytes};
 ghost use Rattle.mk_cert.specs.Subject.{Subject};
 ghost use Rattle.mk_cert.specs.Candidates.{no_record, other_commands, varying_commands, no_target, selection, choice_with_writes};
 ghost use Rattle.mk_cert.specs.Entry.{IsEntry};
 ghost use Rattle.mk_cert.specs.Listed.{Adds};
-ghost use Rattle.mk_cert.specs.Tests.{lacks_record, has_varying, lacks_target, lines_eq, has_others, has_other_commands};
+ghost use Rattle.mk_cert.specs.Tests.{lacks_record, has_varying, lacks_target, has_other_commands};
 
 use crate::entry::Entry;
 use crate::finding::Finding;
-use mk_foot::{Record, has_among};
+use mk_foot::has_among;
 use mk_lines::Name;
 use std::alloc::AllocError;
 
@@ -78,40 +76,11 @@ pub fn note_no_target(entry: &Entry<'_>, found: &mut Vec<Finding>) -> Result<(),
     Ok(())
 }
 
-/// Whether commands are these lines.
-fn are_lines(commands: &[String], lines: &[Vec<u8>]) -> bool
-    ensures { result ≡
-        lines_eq (map string_bytes commands.now) (map (λ line. line.items) lines.now) }
-{
-    if commands.len() != lines.len() {
-        return false;
-    }
-    for (place, command) in commands.iter().enumerate() {
-        if command.as_bytes() != lines[place].as_slice() {
-            return false;
-        }
-    }
-    true
-}
-
-/// Whether a record, if there is one, has other commands than these lines.
-fn has_others(recorded: Option<&Record>, lines: &[Vec<u8>]) -> bool
-    ensures { result ≡
-        has_others (option_copied recorded.entry) (map (λ line. line.items) lines.now) }
-{
-    match recorded {
-        Some(recorded) => !are_lines(&recorded.commands, lines),
-        None => false,
-    }
-}
-
 /// Whether the commands of a recipe don't vary, and its record has others.
 fn has_other_commands(entry: &Entry<'_>) -> bool
     ensures { result ≡ has_other_commands entry.now }
 {
-    entry.node.recipe
-        && !entry.commands.varying
-        && has_others(entry.recorded, &entry.commands.lines)
+    entry.node.recipe && !entry.commands.varying && entry.others
 }
 
 /// Adds that the record of a node has other commands than its recipe, if it has.

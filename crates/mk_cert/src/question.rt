@@ -22,3 +22,20 @@ pub enum Question {
     /// Whether another inferred prerequisite is chosen once recipes have written their files.
     Choice,
 }
+
+/// What is asked before two recipes that write a file are looked for.
+pub const BEFORE_PAIRS: [Question; 4] = [
+    Question::Record,
+    Question::Commands,
+    Question::Varying,
+    Question::Target,
+];
+
+/// What is asked behind that.
+pub const BEHIND_PAIRS: [Question; 5] = [
+    Question::Given,
+    Question::Own,
+    Question::Unknown,
+    Question::Loose,
+    Question::Choice,
+];

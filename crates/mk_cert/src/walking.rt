@@ -15,12 +15,12 @@ ghost use Rattle.mk_cert.specs.Walking.{GoesOver, Leads};
 use crate::links::{Ends, Links};
 use crate::name_list::NameList;
 use crate::number_list::NumberList;
+use crate::seen_names::SeenNames;
 use crate::subject::Subject;
 use crate::target::{Target, target_of};
 use crate::writer_findings::has_number;
 use mk_graph::growth_laws::names_have_one_number;
 use mk_graph::laws::serial_reaches_each_once;
-use mk_lines::NameSet;
 use mk_ways::{Finish, Path, Way};
 
 /// Whether a number stands in the list at a place.
@@ -44,7 +44,7 @@ fn has_name_at(lists: &[NameList<'_>], place: usize, name: &str) -> bool
 }
 
 /// Whether a name stands in the set at a place.
-pub fn stands_at(sets: &[NameSet<'_>], place: usize, name: &str) -> bool
+pub fn stands_at(sets: &[SeenNames<'_>], place: usize, name: &str) -> bool
     ensures { result ≡ has_name (slice_index_or sets.now place []) name.now }
 {
     match sets.get(place) {

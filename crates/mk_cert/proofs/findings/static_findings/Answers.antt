@@ -6,10 +6,23 @@ use Rattle.mk_graph.specs.Membership.{Has}
 use Rattle.mk_cert.specs.Subject.{name_of}
 use Rattle.mk_cert.specs.Candidates.{Candidate, by_number, pairs_of_writers, selection, static_candidates}
 use Rattle.mk_cert.specs.Listed.{Adds, TellsNoSelection, named}
+use Rattle.mk_cert.specs.Listing.{Lists}
 use Rattle.mk_cert.specs.Questions.{asked_before_pairs, asked_behind_pairs}
 use Rattle.mk_cert.proofs.Adding.{adds_append}
 use Rattle.mk_graph.specs.Lists.{has_mapped}
 use Rattle.mk_cert.proofs.findings.static_findings.Goals as goal
+
+-- where nothing is found, none is told, and so no selection
+pub returns-then-branch : goal.returns-then-branch
+returns-then-branch c =
+    let x = c.args.subject.now in
+    let none : Lists x (static_candidates x) [] = c.in_ok-finds_nothing.ensures c.if-branch.true in
+    let stays = c.nothing_found_is_selected.ensures x c.graph-graph.ensures.graph c.graph-graph.ensures.subject [] none (λ n chosen stands. stands) in
+    record {
+      found = record { kept = []; right = none; added = c.new-found.ensures.items };
+      selected = λ told. stays.0;
+      parts = λ told. stays.1;
+    }
 
 pub returns : goal.returns
 returns c =

@@ -24,6 +24,9 @@ told_last : (x : Subject) (r : Result (Option Finding) AllocError) → Lists x (
 told_last x (Ok first) none apart told = subst (λ (l : List Candidate). TellsFirst x l first) (sym (joined x)) (tells_behind x (asked_before_pairs x) (pairs x ++ asked_behind_pairs x) first none (tells_behind x (pairs x) (asked_behind_pairs x) first apart told))
 told_last x (Err fault) none apart told = tt
 
+pub returns-then-branch : goal.returns-then-branch
+returns-then-branch c = c.in_ok-finds_nothing.ensures c.if-branch.true
+
 pub returns-in-Some : goal.returns-in-Some
 returns-in-Some c =
     let x = c.args.subject.now in

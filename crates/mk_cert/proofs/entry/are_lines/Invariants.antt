@@ -1,7 +1,7 @@
 use Rattle.std.proofs.Common.{◌≡◌, map, drop}
 use Rattle.std.specs.String.{string_bytes}
-use Rattle.mk_cert.specs.Tests.{lines_eq}
-use Rattle.mk_cert.proofs.node_findings.are_lines.Given as goal
+use Rattle.mk_cert.specs.Entry.{lines_eq}
+use Rattle.mk_cert.proofs.entry.are_lines.Given as goal
 
 -- the lines that are left decide
 abbrev pub invariant-loop-place : goal.invariant-loop-place

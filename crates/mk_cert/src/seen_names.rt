@@ -1,0 +1,92 @@
+//! Names that were seen.
+
+ghost use Rattle.std.specs.Prelude.{◌≡◌, [], not, IfOk, OnOk};
+ghost use Rattle.mk_lines.specs.Names.{has_name, with_name};
+ghost use Rattle.mk_cert.specs.Seen.{names_in};
+
+use mk_lines::NameSet;
+use std::alloc::{AllocError, Global};
+use std::marker::Model;
+
+/// Names that were seen, each once. Nearly always there is one at most, which stands here itself
+/// and takes no memory. A contract sees a list.
+#[derive(Drop)]
+pub struct SeenNames<'a> {
+    /// The first one.
+    first: Option<&'a str>,
+    /// Behind it, the others.
+    others: Option<Box<NameSet<'a>>>,
+}
+
+impl<'a> Model for SeenNames<'a> {
+    ghost use Rattle.std.specs.Prelude.{List, ℕ};
+    ghost use Rattle.mk_cert.specs.Seen.{names_seen};
+
+    ghost Value = { List (List ℕ) };
+
+    ghost view = { λ s. names_seen s.first s.others };
+}
+
+/// Adds a name to a set, which is made where there is none. Answers whether it was new there.
+fn insert_into<'a>(
+    alloc: Global,
+    set: &mut Option<Box<NameSet<'a>>>,
+    name: &'a str,
+) -> Result<bool, AllocError>
+    ensures new { IfOk result (λ added. added ≡
+        not (has_name (names_in set.old) name.entry.now)) }
+    ensures ok { OnOk result (names_in set.new ≡ with_name (names_in set.old) name.entry.now) }
+{
+    if let Some(set) = set {
+        return set.insert(name);
+    }
+    let mut names = NameSet::new(alloc);
+    let is_new = names.insert(name)?;
+    *set = Some(Box::new(alloc, names)?);
+    Ok(is_new)
+}
+
+impl<'a> SeenNames<'a> {
+    /// No names.
+    pub fn new() -> SeenNames<'a>
+        ensures { result ≡ [] }
+    {
+        SeenNames {
+            first: None,
+            others: None,
+        }
+    }
+
+    /// Adds a name at the end, unless it is there already. Answers whether it was new. The error is
+    /// want of memory alone.
+    pub fn insert(&mut self, alloc: Global, name: &'a str) -> Result<bool, AllocError>
+        ensures new { IfOk result (λ added. added ≡ not (has_name self.old name.entry.now)) }
+        ensures ok { OnOk result (self.new ≡ with_name self.old name.entry.now) }
+    {
+        let Some(first) = self.first else {
+            self.first = Some(name);
+            self.others = None;
+            return Ok(true);
+        };
+        if first == name {
+            return Ok(false);
+        }
+        insert_into(alloc, &mut self.others, name)
+    }
+
+    /// Whether the name is there. It takes no memory.
+    pub fn contains(&self, name: &str) -> bool
+        ensures { result ≡ has_name self.now name.now }
+    {
+        let Some(first) = self.first else {
+            return false;
+        };
+        if first == name {
+            return true;
+        }
+        match &self.others {
+            Some(others) => others.contains(name),
+            None => false,
+        }
+    }
+}
