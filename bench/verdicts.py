@@ -1,7 +1,7 @@
 """Measures `mkcheck check` beside reading the makefile and the footprints with other programs, and prints two tables.
 
-In the first the recipes have the shortest commands, `touch` and the target; in the second those of a compiler, which
-the makefile writes with macros.
+In the first the recipes have the commands of a compiler, which the makefile writes with macros; all bounds are about
+it. In the second they have the shortest commands, `touch` and the target, and no bound of memory.
 
 What it is held against is the processor time of the faster of `make -n -r` and `bmake -n -r` on the makefile, and
 that of Python's `json.load` on the footprints, added up.
@@ -283,10 +283,14 @@ def main() -> None:
     print(f"processor time, least of {RUNS} runs; {', '.join(tool.path for tool in measured)}")
     times = f"{'check ms':>10}{'per MB':>8}{'make ms':>9}{'json ms':>9}{'ratio':>7}{'growth':>8}"
     columns = f"{'MB':>6}{times}{'memory MB':>11}{'by MB':>7}"
-    for title, style, others in (("touch", TOUCH, OTHERS), ("compiler", COMPILE, [])):
+    bounds = f"{'at most':<60}{RATIO_BOUND:>7.2f}{GROWTH_BOUND:>8.1f}"
+    for title, style, others, bound in (
+        ("compiler", COMPILE, OTHERS, f"{MEMORY_BOUND:>18.1f}"),
+        ("touch", TOUCH, [], ""),
+    ):
         print(f"{title:<18}{columns}")
         show([*((styled(shape, style), *sizes) for shape, *sizes in STYLED), *others], measured)
-    print(f"{'at most':<60}{RATIO_BOUND:>7.2f}{GROWTH_BOUND:>8.1f}{MEMORY_BOUND:>18.1f}")
+        print(bounds + bound)
 
 
 if __name__ == "__main__":

@@ -1,12 +1,10 @@
--- Where nothing is found of any node, nothing is found.
+-- Nothing is found just where nothing is found of any node.
 use Rattle.std.proofs.Common.{◌≡◌, ◌∙◌, ◌<◌, ◌≤◌, ℕ, zero, suc, ◌+◌, List, [], ◌∷◌, ◌++◌, length, get_or, map, take, drop, refl, ap, sym, subst, arith}
 use Rattle.std.specs.List.{flat_map}
 use Rattle.std.proofs.lemmas.List.{drop_more}
 use Rattle.std.proofs.lemmas.Grind.{flat_map-append}
 use Rattle.mk_graph.specs.Membership.{IsDistinct}
 use Rattle.mk_graph.specs.Serial.{serial_order}
-use Rattle.mk_cert.specs.declared.question.Question.{Question}
-use Rattle.mk_cert.specs.declared.question.Question.TheVariants.{Record, Commands, Varying, Target, Given, Own, Unknown, Loose, Choice}
 use Rattle.mk_cert.specs.Subject.{Subject, writes_of}
 use Rattle.mk_cert.specs.Candidates.{Candidate, by_node, by_number, pairs_of_writers, static_candidates, two_writers}
 use Rattle.mk_cert.specs.Listing.{Lists, nothing, drops}
@@ -33,24 +31,47 @@ module _ {A : Type 0} where
   Each P [] = Unit {0}
   Each P (a ∷ xs) = P a × Each P xs
 
+  each_all : {P : A → Type 0} (xs : List A) → ((a : A) → P a) → Each P xs
+  each_all [] is = tt
+  each_all (a ∷ xs) is = (is a, each_all xs is)
+
+  each_with : {P Q R : A → Type 0} (xs : List A) → ((a : A) → P a → Q a → R a) → Each P xs → Each Q xs → Each R xs
+  each_with [] turn one other = tt
+  each_with (a ∷ xs) turn (p, one) (q, other) = (turn a p q, each_with xs turn one other)
+
   each_of : {P Q : A → Type 0} (xs : List A) → ((a : A) → P a → Q a) → Each P xs → Each Q xs
   each_of [] turn each = tt
   each_of (a ∷ xs) turn (here, each) = (turn a here, each_of xs turn each)
 
-  each_at : (P : A → Type 0) (xs : List A) (i : ℕ) (d : A) → i < length xs → Each P xs → P (get_or xs i d)
+  pub each_at : (P : A → Type 0) (xs : List A) (i : ℕ) (d : A) → i < length xs → Each P xs → P (get_or xs i d)
   each_at P [] i d low each = absurd (omega arith)
   each_at P (a ∷ xs) zero d low (here, each) = here
   each_at P (a ∷ xs) (suc i) d low (here, each) = each_at P xs i d (omega arith) each
 
-  -- nor of those of many elements, where nothing is of those of each
+  -- nothing is of those of many elements just where nothing is of those of each
   lists_each : (x : Subject) (found : A → List Candidate) (xs : List A) → Each (λ a. Lists x (found a) []) xs → Lists x (flat_map found xs) []
   lists_each x found [] each = nothing
   lists_each x found (a ∷ xs) (here, each) = lists_append x here (lists_each x found xs each)
 
-  -- nor of those of one element of some
-  part : (x : Subject) (found : A → List Candidate) (before : List A) (a : A) (xs : List A) → Lists x (flat_map found (before ++ a ∷ xs)) [] → Lists x (found a) []
-  part x found [] a xs none = front x (found a) (flat_map found xs) none
-  part x found (b ∷ before) a xs none = part x found before a xs (back x (found b) (flat_map found (before ++ a ∷ xs)) none)
+  each_lists : (x : Subject) (found : A → List Candidate) (xs : List A) → Lists x (flat_map found xs) [] → Each (λ a. Lists x (found a) []) xs
+  each_lists x found [] none = tt
+  each_lists x found (a ∷ xs) none = (front x (found a) (flat_map found xs) none, each_lists x found xs (back x (found a) (flat_map found xs) none))
+
+module _ (x : Subject) {A : Type 0} (found : A → ℕ → List Candidate) where
+  -- what each of some gives for all numbers, one after another, and what they all give for each
+  all_at_once : (xs : List A) (ns : List ℕ) → Each (λ n. Lists x (flat_map (λ a. found a n) xs) []) ns → Lists x (flat_map (λ a. flat_map (found a) ns) xs) []
+  all_at_once [] ns each = nothing
+  all_at_once (a ∷ xs) ns each =
+      let here = each_of ns (λ n none. front x (found a n) (flat_map (λ b. found b n) xs) none) each in
+      let more = each_of ns (λ n none. back x (found a n) (flat_map (λ b. found b n) xs) none) each in
+      lists_append x (lists_each x (found a) ns here) (all_at_once xs ns more)
+
+  one_by_one : (xs : List A) (ns : List ℕ) → Lists x (flat_map (λ a. flat_map (found a) ns) xs) [] → Each (λ n. Lists x (flat_map (λ a. found a n) xs) []) ns
+  one_by_one [] ns none = each_all ns (λ n. nothing)
+  one_by_one (a ∷ xs) ns none =
+      let here = each_lists x (found a) ns (front x (flat_map (found a) ns) (flat_map (λ b. flat_map (found b) ns) xs) none) in
+      let more = one_by_one xs ns (back x (flat_map (found a) ns) (flat_map (λ b. flat_map (found b) ns) xs) none) in
+      each_with ns (λ n one others. lists_append x one others) here more
 
 -- the recipes from a place on: those of the first, and of those behind it
 pub pairs_cut : (x : Subject) (i : ℕ) → IsDistinct (serial_order x.graph) → i < length (serial_order x.graph)
@@ -74,53 +95,39 @@ pairs_from x (suc left) i distinct many each =
     let next : (i + 1) + left ≡ length order = omega (arith, many) in
     subst (λ (l : List Candidate). Lists x l []) (sym (pairs_cut x i distinct low)) (lists_append x behind_it (pairs_from x left (i + 1) distinct next each))
 
--- by a question of all nodes
-module _ (x : Subject) (each : Each (FindsNothingOf x) (serial_order x.graph)) where
-  asked_first : (before : List Question) (q : Question) (after : List Question) → before ++ q ∷ after ≡ before_pairs → Lists x (by_node x (asked x q)) []
-  asked_first before q after same =
-      lists_each x (asked x q) (serial_order x.graph) (each_of (serial_order x.graph) (λ n none.
-      part x (λ question. asked x question n) before q after (subst (λ (qs : List Question). Lists x (asked_of x qs n) []) (sym same) (front x (asked_of x before_pairs n) (pairs_with x n ++ asked_of x behind_pairs n) none))) each)
+pub pairs_each : (x : Subject) (left i : ℕ) → IsDistinct (serial_order x.graph) → i + left ≡ length (serial_order x.graph) → Lists x (pairs_of_writers x (drop i (serial_order x.graph))) [] → Each (λ n. Lists x (pairs_with x n) []) (drop i (serial_order x.graph))
+pairs_each x zero i distinct many none =
+    let past : length (serial_order x.graph) ≤ i = omega (arith, many) in
+    subst (Each (λ n. Lists x (pairs_with x n) [])) (sym (drop_past (serial_order x.graph) i past)) tt
+pairs_each x (suc left) i distinct many none =
+    let order = serial_order x.graph in
+    let n = get_or order i 0 in
+    let low : i < length order = omega (arith, many) in
+    let next : (i + 1) + left ≡ length order = omega (arith, many) in
+    let both : Lists x (pairs_with x n ++ pairs_of_writers x (drop (i + 1) order)) [] = subst (λ (l : List Candidate). Lists x l []) (pairs_cut x i distinct low) none in
+    let more = pairs_each x left (i + 1) distinct next (back x (pairs_with x n) (pairs_of_writers x (drop (i + 1) order)) both) in
+    subst (Each (λ m. Lists x (pairs_with x m) [])) (sym (drop_more order i 0 low)) (front x (pairs_with x n) (pairs_of_writers x (drop (i + 1) order)) both, more)
 
-  asked_last : (before : List Question) (q : Question) (after : List Question) → before ++ q ∷ after ≡ behind_pairs → Lists x (by_node x (asked x q)) []
-  asked_last before q after same =
-      lists_each x (asked x q) (serial_order x.graph) (each_of (serial_order x.graph) (λ n none.
-      part x (λ question. asked x question n) before q after (subst (λ (qs : List Question). Lists x (asked_of x qs n) []) (sym same) (back x (pairs_with x n) (asked_of x behind_pairs n) (back x (asked_of x before_pairs n) (pairs_with x n ++ asked_of x behind_pairs n) none)))) each)
+-- of all of them nothing is found just where nothing is found of any node
+joined : (x : Subject) → static_candidates x ≡ asked_before_pairs x ++ (pairs_of_writers x (serial_order x.graph) ++ asked_behind_pairs x)
+joined x = flat_map-append (λ (part : List Candidate). part) (take 4 (by_number x)) (drop 4 (by_number x))
 
-  none_before : Lists x (asked_before_pairs x) []
-  none_before = lists_each x (λ question. by_node x (asked x question)) before_pairs (
-    asked_first [] Record (Commands ∷ Varying ∷ Target ∷ []) refl,
-    (
-      asked_first (Record ∷ []) Commands (Varying ∷ Target ∷ []) refl,
-      (
-        asked_first (Record ∷ Commands ∷ []) Varying (Target ∷ []) refl,
-        (
-          asked_first (Record ∷ Commands ∷ Varying ∷ []) Target [] refl,
-          tt,
-        ),
-      ),
-    ),
-  )
-
-  none_behind : Lists x (asked_behind_pairs x) []
-  none_behind = lists_each x (λ question. by_node x (asked x question)) behind_pairs (
-    asked_last [] Given (Own ∷ Unknown ∷ Loose ∷ Choice ∷ []) refl,
-    (
-      asked_last (Given ∷ []) Own (Unknown ∷ Loose ∷ Choice ∷ []) refl,
-      (
-        asked_last (Given ∷ Own ∷ []) Unknown (Loose ∷ Choice ∷ []) refl,
-        (
-          asked_last (Given ∷ Own ∷ Unknown ∷ []) Loose (Choice ∷ []) refl,
-          (
-            asked_last (Given ∷ Own ∷ Unknown ∷ Loose ∷ []) Choice [] refl,
-            tt,
-          ),
-        ),
-      ),
-    ),
-  )
-
--- of all of them
 pub nothing_found : (x : Subject) → IsDistinct (serial_order x.graph) → Each (FindsNothingOf x) (serial_order x.graph) → Lists x (static_candidates x) []
 nothing_found x distinct each =
-    let joined : static_candidates x ≡ asked_before_pairs x ++ (pairs_of_writers x (serial_order x.graph) ++ asked_behind_pairs x) = flat_map-append (λ (part : List Candidate). part) (take 4 (by_number x)) (drop 4 (by_number x)) in
-    subst (λ (l : List Candidate). Lists x l []) (sym joined) (lists_append x (none_before x each) (lists_append x (pairs_from x (length (serial_order x.graph)) 0 distinct (omega arith) each) (none_behind x each)))
+    let order = serial_order x.graph in
+    let before = each_of order (λ n none. front x (asked_of x before_pairs n) (pairs_with x n ++ asked_of x behind_pairs n) none) each in
+    let behind = each_of order (λ n none. back x (pairs_with x n) (asked_of x behind_pairs n) (back x (asked_of x before_pairs n) (pairs_with x n ++ asked_of x behind_pairs n) none)) each in
+    let pairs = pairs_from x (length order) 0 distinct (omega arith) each in
+    subst (λ (l : List Candidate). Lists x l []) (sym (joined x)) (lists_append x (all_at_once x (asked x) before_pairs order before) (lists_append x pairs (all_at_once x (asked x) behind_pairs order behind)))
+
+pub nothing_of_each : (x : Subject) → IsDistinct (serial_order x.graph) → Lists x (static_candidates x) [] → Each (FindsNothingOf x) (serial_order x.graph)
+nothing_of_each x distinct none =
+    let order = serial_order x.graph in
+    let pairs = pairs_of_writers x order in
+    let then = asked_behind_pairs x in
+    let all : Lists x (asked_before_pairs x ++ (pairs ++ then)) [] = subst (λ (l : List Candidate). Lists x l []) (joined x) none in
+    let rest : Lists x (pairs ++ then) [] = back x (asked_before_pairs x) (pairs ++ then) all in
+    let before = one_by_one x (asked x) before_pairs order (front x (asked_before_pairs x) (pairs ++ then) all) in
+    let between = pairs_each x (length order) 0 distinct (omega arith) (front x pairs then rest) in
+    let behind = one_by_one x (asked x) behind_pairs order (back x pairs then rest) in
+    each_with order (λ n one others. lists_append x one others) before (each_with order (λ n one others. lists_append x one others) between behind)

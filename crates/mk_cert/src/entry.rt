@@ -1,6 +1,6 @@
 //! What is looked up of a node.
 
-ghost use Rattle.std.specs.Prelude.{◌≡◌, map, IfOk};
+ghost use Rattle.std.specs.Prelude.{◌≡◌, ◌<◌, [], length, map, slice_index_or, IfOk};
 ghost use Rattle.std.specs.Option.{option_copied};
 ghost use Rattle.std.specs.String.{string_bytes};
 ghost use Rattle.mk_cert.specs.Entry.{reads_in, writes_in, entry_reads, entry_writes, has_others, lines_eq};
@@ -137,6 +137,14 @@ impl<'a> Entry<'a> {
         } else {
             &[]
         }
+    }
+
+    /// The file at a place of what its recipe reads.
+    pub fn read_at(&self, place: usize) -> &str
+        requires { place < length (entry_reads self.now) }
+        ensures { result.now ≡ slice_index_or (entry_reads self.now) place [] }
+    {
+        self.reads()[place].as_str()
     }
 
     /// The files that its recipe writes: none without a recipe or a record.

@@ -1,19 +1,17 @@
 //! What is found of the files of a recipe.
 
-ghost use Rattle.std.specs.Prelude.{◌≡◌, ◌↔◌, ◌∷◌, [], true, map, OnOk};
+ghost use Rattle.std.specs.Prelude.{◌≡◌, ◌<◌, ◌↔◌, ◌∷◌, [], true, length, map, slice_index_or, IfOk, OnOk};
 ghost use Rattle.mk_graph.specs.Membership.{Has};
 ghost use Rattle.mk_cert.specs.Subject.{reads_of, writes_of};
 ghost use Rattle.mk_cert.specs.Candidates.{given_written, own_read, unknown_read};
-ghost use Rattle.mk_cert.specs.Entry.{IsEntry};
+ghost use Rattle.mk_cert.specs.Entry.{IsEntry, entry_reads};
 ghost use Rattle.mk_cert.specs.Listed.{Adds};
 ghost use Rattle.mk_cert.specs.FileTests.{is_taken, IsUnknown};
-ghost use Rattle.mk_cert.specs.Target.{target_of};
 
 use crate::entry::Entry;
 use crate::finding::Finding;
 use crate::name_list::NameList;
 use crate::subject::Subject;
-use crate::target::Target;
 use mk_graph::laws::serial_reaches_each_once;
 use mk_lines::Name;
 use std::alloc::{AllocError, Global};
@@ -68,44 +66,47 @@ pub fn note_given_written(
     Ok(())
 }
 
-/// Whether a file is neither given nor written.
-fn is_unknown(subject: &Subject<'_>, file: &Target<'_>) -> bool
-    requires { file.now ≡ target_of subject.now file.now.file }
-    ensures { (result ≡ true) ↔ IsUnknown subject.now file.now.file }
+/// Whether the file at a place of what a recipe reads is neither given nor written.
+fn is_unknown(subject: &Subject<'_>, entry: &Entry<'_>, place: usize) -> bool
+    requires entry { IsEntry subject.now entry.now }
+    requires place { place < length (entry_reads entry.now) }
+    ensures { (result ≡ true) ↔ IsUnknown subject.now
+        (slice_index_or (reads_of subject.now entry.now.number) place []) }
 {
     serial_reaches_each_once();
     let _graph = subject.graph();
-    !file.given && file.writers.is_empty()
+    let known = subject.known(entry, place);
+    !known.given && known.writers.as_slice().is_empty()
 }
 
-/// Adds that a recipe reads a file that is neither given nor written, if it is so.
+/// Adds that the file at a place of what a recipe reads is neither given nor written, if it is so.
 fn note_unknown(
     alloc: Global,
     subject: &Subject<'_>,
     entry: &Entry<'_>,
-    file: &Target<'_>,
+    place: usize,
     found: &mut Vec<Finding>,
 ) -> Result<(), AllocError>
     requires entry { IsEntry subject.now entry.now }
-    requires file { file.now ≡ target_of subject.now file.now.file }
-    requires read { Has (reads_of subject.now entry.now.number) file.now.file }
-    ensures { OnOk result (Adds subject.now (unknown_read entry.now.number file.now.file ∷ [])
+    requires place { place < length (entry_reads entry.now) }
+    ensures { OnOk result (Adds subject.now (unknown_read entry.now.number
+        (slice_index_or (reads_of subject.now entry.now.number) place []) ∷ [])
         found.old.items found.new.items) }
 {
-    if !is_unknown(subject, file) {
+    if !is_unknown(subject, entry, place) {
         return Ok(());
     }
     let recipe = entry.shared_name(alloc, found)?;
-    let file = Name::new(alloc, file.file)?;
+    let file = Name::new(alloc, entry.read_at(place))?;
     found.push(Finding::UnknownRead { recipe, file })?;
     Ok(())
 }
 
 /// Adds which of the files that a recipe reads are neither given nor written.
-pub fn note_unknown_reads<'s>(
+pub fn note_unknown_reads(
     alloc: Global,
-    subject: &'s Subject<'_>,
-    entry: &'s Entry<'_>,
+    subject: &Subject<'_>,
+    entry: &Entry<'_>,
     found: &mut Vec<Finding>,
 ) -> Result<(), AllocError>
     requires { IsEntry subject.now entry.now }
@@ -115,32 +116,60 @@ pub fn note_unknown_reads<'s>(
 {
     let count = entry.reads().len();
     for place in 0..count {
-        let file = subject.read(entry, place);
-        note_unknown(alloc, subject, entry, &file, found)?;
+        note_unknown(alloc, subject, entry, place, found)?;
     }
     Ok(())
 }
 
-/// Adds that a recipe reads a file that is one of those that it writes, if it is.
+/// Whether a recipe writes the file at a place of what it reads. Of most files nobody is known to
+/// write them, and their names aren't looked at.
+fn is_own(
+    alloc: Global,
+    subject: &Subject<'_>,
+    entry: &Entry<'_>,
+    written: &mut NameList<'_>,
+    place: usize,
+) -> Result<bool, AllocError>
+    requires entry { IsEntry subject.now entry.now }
+    requires written { written.old ≡ writes_of subject.now entry.now.number }
+    requires place { place < length (entry_reads entry.now) }
+    ensures own { IfOk result (λ own. (own ≡ true) ↔ Has
+        (writes_of subject.now entry.now.number)
+        (slice_index_or (reads_of subject.now entry.now.number) place [])) }
+    ensures same { written.new ≡ written.old }
+{
+    serial_reaches_each_once();
+    let _graph = subject.graph();
+    let known = subject.known(entry, place);
+    if known.writers.as_slice().is_empty() {
+        return Ok(false);
+    }
+    written.note_use(alloc)?;
+    Ok(written.has(entry.read_at(place)))
+}
+
+/// Adds that a recipe writes the file at a place of what it reads, if it does.
 fn note_own(
     alloc: Global,
     subject: &Subject<'_>,
     entry: &Entry<'_>,
-    written: &NameList<'_>,
-    file: &str,
+    written: &mut NameList<'_>,
+    place: usize,
     found: &mut Vec<Finding>,
 ) -> Result<(), AllocError>
     requires entry { IsEntry subject.now entry.now }
-    requires written { written.now ≡ writes_of subject.now entry.now.number }
-    requires read { Has (reads_of subject.now entry.now.number) file.now }
-    ensures { OnOk result (Adds subject.now (own_read entry.now.number file.now ∷ [])
+    requires written { written.old ≡ writes_of subject.now entry.now.number }
+    requires place { place < length (entry_reads entry.now) }
+    ensures added { OnOk result (Adds subject.now (own_read entry.now.number
+        (slice_index_or (reads_of subject.now entry.now.number) place []) ∷ [])
         found.old.items found.new.items) }
+    ensures same { written.new ≡ written.old }
 {
-    if !written.has(file) {
+    if !is_own(alloc, subject, entry, written, place)? {
         return Ok(());
     }
     let recipe = entry.shared_name(alloc, found)?;
-    let file = Name::new(alloc, file)?;
+    let file = Name::new(alloc, entry.read_at(place))?;
     found.push(Finding::OwnRead { recipe, file })?;
     Ok(())
 }
@@ -157,10 +186,10 @@ pub fn note_own_reads(
         (map (λ f. own_read entry.now.number f) (reads_of subject.now entry.now.number))
         found.old.items found.new.items) }
 {
-    let written = NameList::new(alloc, entry.writes())?;
-    let files = entry.reads();
-    for file in files {
-        note_own(alloc, subject, entry, &written, file.as_str(), found)?;
+    let mut written = NameList::new(entry.writes());
+    let count = entry.reads().len();
+    for place in 0..count {
+        note_own(alloc, subject, entry, &mut written, place, found)?;
     }
     Ok(())
 }

@@ -8,6 +8,7 @@ ghost use Rattle.mk_cert.specs.declared.fault.CertFault.TheVariants.{BadWay, Mem
 
 use crate::fault::CertFault;
 use crate::links::Links;
+use crate::name_list::NameList;
 use crate::seen_names::SeenNames;
 use crate::subject::Subject;
 use crate::walking::good_start;
@@ -46,19 +47,36 @@ fn note_at<'a>(
     set.insert(alloc, name)
 }
 
+/// Notes that a name is looked up in the list at a place, if there is one.
+fn note_use(
+    alloc: Global,
+    lists: &mut Vec<NameList<'_>>,
+    place: usize,
+) -> Result<(), AllocError>
+    ensures { lists.new.items ≡ lists.old.items }
+{
+    if place >= lists.len() {
+        return Ok(());
+    }
+    let list = &mut lists[place];
+    list.note_use(alloc)
+}
+
 /// Whether an entry isn't bad beside those that were noted. It is noted then.
 fn note_good<'a>(
     alloc: Global,
     subject: &Subject<'_>,
-    links: &Links<'_>,
+    links: &mut Links<'_>,
     way: &Way<'a>,
     seen: &mut Vec<SeenNames<'a>>,
 ) -> Result<bool, AllocError>
-    requires links { AreLinks subject.now links.now.reads.items
-        links.now.carried.items links.now.ends.needed.items links.now.ends.always.items }
+    requires links { AreLinks subject.now links.old.reads.items
+        links.old.carried.items links.old.ends.needed.items links.old.ends.always.items }
     requires sets { HasSets subject.now seen.old.items }
     ensures judged { IfOk result (λ good.
         Judges subject.now way.now seen.old.items seen.new.items good) }
+    ensures links { OnOk result (AreLinks subject.now links.new.reads.items
+        links.new.carried.items links.new.ends.needed.items links.new.ends.always.items) }
     ensures sets { HasSets subject.now seen.new.items }
 {
     names_have_one_number();
@@ -66,6 +84,7 @@ fn note_good<'a>(
     let Some(start) = good_start(subject, links, way) else {
         return Ok(false);
     };
+    note_use(alloc, &mut links.reads, start)?;
     note_at(alloc, seen, start, way.file)
 }
 
@@ -82,12 +101,12 @@ fn bad_way(alloc: Global, way: &Way<'_>) -> Result<CertFault, AllocError>
 pub fn check_entries<'a>(
     alloc: Global,
     subject: &Subject<'_>,
-    links: &Links<'_>,
+    links: &mut Links<'_>,
     ways: &'a Ways,
     seen: &mut Vec<SeenNames<'a>>,
 ) -> Result<(), CertFault>
-    requires links { AreLinks subject.now links.now.reads.items
-        links.now.carried.items links.now.ends.needed.items links.now.ends.always.items }
+    requires links { AreLinks subject.now links.old.reads.items
+        links.old.carried.items links.old.ends.needed.items links.old.ends.always.items }
     requires sets { HasSets subject.now seen.old.items }
     requires empty { AreSeen subject.now [] seen.old.items }
     ensures answer { (result ≡ Err Memory) ⊎ AnswersEntries subject.now ways.entry.now result }

@@ -82,7 +82,7 @@ fn read_sets<'a>(
     let count = graph.nodes().len();
     let mut sets = Vec::with_capacity(alloc, count)?;
     for number in 0..count {
-        sets.push(NameList::new(alloc, reads_of(graph, setting, number))?)?;
+        sets.push(NameList::new(reads_of(graph, setting, number)))?;
     }
     Ok(sets)
 }

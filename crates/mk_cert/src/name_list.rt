@@ -1,6 +1,6 @@
 //! Names of a list, looked up.
 
-ghost use Rattle.std.specs.Prelude.{◌≡◌, map, IfOk};
+ghost use Rattle.std.specs.Prelude.{◌≡◌, map};
 ghost use Rattle.std.specs.String.{string_bytes};
 ghost use Rattle.mk_lines.specs.Names.{has_name};
 
@@ -9,14 +9,16 @@ use mk_lines::{NameSet, names_among};
 use std::alloc::{AllocError, Global};
 use std::marker::Model;
 
-/// Of so few names no set is made: to go through them costs no more than to make one.
+/// Of so few names no set is made, and none for so few uses: to go through the list costs no more
+/// than to make one.
 const FEW: usize = 4;
 
-/// The names of a list, which are looked up: where there are few, in the list itself. A contract
-/// sees the list.
+/// The names of a list, which are looked up: at first in the list itself, and where there are many
+/// of them, and many uses, in a set. A contract sees the list.
 #[derive(Drop)]
 pub struct NameList<'a> {
     list: &'a [String],
+    uses: usize,
     set: Option<Box<NameSet<'a>>>,
 }
 
@@ -33,16 +35,31 @@ impl<'a> Model for NameList<'a> {
 }
 
 impl<'a> NameList<'a> {
-    /// Those of this list. The error is want of memory alone.
-    pub fn new(alloc: Global, list: &'a [String]) -> Result<NameList<'a>, AllocError>
-        ensures { IfOk result (λ names. names ≡ map string_bytes list.now) }
+    /// Those of this list. It takes no memory.
+    pub fn new(list: &'a [String]) -> NameList<'a>
+        ensures { result ≡ map string_bytes list.now }
     {
-        let set = if list.len() > FEW {
-            Some(Box::new(alloc, names_among(alloc, list)?)?)
-        } else {
-            None
-        };
-        Ok(NameList { list, set })
+        NameList {
+            list,
+            uses: 0,
+            set: None,
+        }
+    }
+
+    /// Notes that a name is looked up: with the use behind the first few, a set is made of a list
+    /// that isn't short. The error is want of memory alone.
+    pub fn note_use(&mut self, alloc: Global) -> Result<(), AllocError>
+        ensures { self.new ≡ self.old }
+    {
+        if self.list.len() <= FEW || self.set.is_some() {
+            return Ok(());
+        }
+        if self.uses < FEW {
+            self.uses += 1;
+            return Ok(());
+        }
+        self.set = Some(Box::new(alloc, names_among(alloc, self.list)?)?);
+        Ok(())
     }
 
     /// Whether this is one of them.

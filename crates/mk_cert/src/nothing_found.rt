@@ -1,6 +1,6 @@
 //! Whether nothing is found without a search for ways or an order.
 
-ghost use Rattle.std.specs.Prelude.{◌≡◌, [], true, IfOk, OnOk};
+ghost use Rattle.std.specs.Prelude.{◌≡◌, ◌↔◌, [], true, IfOk, OnOk};
 ghost use Rattle.mk_cert.specs.Candidates.{static_candidates};
 ghost use Rattle.mk_cert.specs.Entry.{IsEntry};
 ghost use Rattle.mk_cert.specs.Listed.{Adds};
@@ -41,7 +41,7 @@ fn finds_nothing_of(
     entry: &Entry<'_>,
 ) -> Result<bool, AllocError>
     requires { IsEntry subject.now entry.now }
-    ensures { IfOk result (λ nothing. nothing ≡ true →
+    ensures { IfOk result (λ nothing. (nothing ≡ true) ↔
         Lists subject.now (found_of subject.now entry.now.number) []) }
 {
     let mut found = Vec::new(alloc);
@@ -54,7 +54,7 @@ fn finds_nothing_of(
 /// Whether nothing is found without a search for ways or an order. Where that is so one pass over
 /// the nodes tells it, while each question by itself makes one of its own.
 pub fn finds_nothing(alloc: Global, subject: &Subject<'_>) -> Result<bool, AllocError>
-    ensures { IfOk result (λ nothing. nothing ≡ true →
+    ensures { IfOk result (λ nothing. (nothing ≡ true) ↔
         Lists subject.now (static_candidates subject.now) []) }
 {
     serial_reaches_each_once();

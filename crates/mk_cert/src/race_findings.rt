@@ -1,21 +1,19 @@
 //! Recipes that read what others write, before these are done.
 
-ghost use Rattle.std.specs.Prelude.{◌≡◌, ◌∷◌, [], ℕ, map, IfOk, OnOk};
+ghost use Rattle.std.specs.Prelude.{◌≡◌, ◌<◌, ◌∷◌, [], ℕ, length, map, slice_index_or, IfOk, OnOk};
 ghost use Rattle.std.specs.List.{flat_map};
 ghost use Rattle.mk_graph.specs.Membership.{Has};
 ghost use Rattle.mk_graph.specs.Serial.{serial_order};
 ghost use Rattle.mk_cert.specs.Subject.{reads_of, writes_of};
 ghost use Rattle.mk_cert.specs.Candidates.{race, race_candidates};
-ghost use Rattle.mk_cert.specs.Entry.{IsEntry};
+ghost use Rattle.mk_cert.specs.Entry.{IsEntry, entry_reads};
 ghost use Rattle.mk_cert.specs.Listed.{Adds};
-ghost use Rattle.mk_cert.specs.Target.{target_of};
 
 use crate::earlier::Earlier;
 use crate::entry::Entry;
 use crate::finding::Finding;
 use crate::shared_name::SharedName;
 use crate::subject::Subject;
-use crate::target::Target;
 use std::alloc::{AllocError, Global};
 
 /// Adds that a recipe reads what another one writes which isn't before it, if it is so.
@@ -81,42 +79,41 @@ fn note_races_with(
     Ok(())
 }
 
-/// Adds which writers of a file that a recipe reads aren't before it.
+/// Adds which writers of the file at a place of what a recipe reads aren't before it. Of most files
+/// nobody is known to write them, and their names aren't looked at.
 fn note_file(
     alloc: Global,
     subject: &Subject<'_>,
     earlier: &mut Earlier<'_>,
     entry: &Entry<'_>,
-    file: &Target<'_>,
+    place: usize,
     found: &mut Vec<Finding>,
 ) -> Result<(), AllocError>
     requires entry { IsEntry subject.now entry.now }
-    requires file { file.now ≡ target_of subject.now file.now.file }
+    requires place { place < length (entry_reads entry.now) }
     requires graph { earlier.old.graph ≡ subject.now.graph }
     requires number { earlier.old.number ≡ entry.now.number }
-    requires read { Has (reads_of subject.now entry.now.number) file.now.file }
     ensures same { earlier.new ≡ earlier.old }
     ensures found { OnOk result (Adds subject.now
-        (map (λ o. race entry.now.number o file.now.file) (serial_order subject.now.graph))
-        found.old.items found.new.items) }
+        (map (λ o. race entry.now.number o
+        (slice_index_or (reads_of subject.now entry.now.number) place []))
+        (serial_order subject.now.graph)) found.old.items found.new.items) }
 {
-    note_races_with(
-        alloc,
-        subject,
-        earlier,
-        entry,
-        file.writers,
-        file.file,
-        found,
-    )
+    let known = subject.known(entry, place);
+    let writers = known.writers.as_slice();
+    if writers.is_empty() {
+        return Ok(());
+    }
+    let file = entry.read_at(place);
+    note_races_with(alloc, subject, earlier, entry, writers, file, found)
 }
 
 /// Adds which writers of the files that a recipe reads aren't before it.
-fn note_files<'s>(
+fn note_files(
     alloc: Global,
-    subject: &'s Subject<'_>,
+    subject: &Subject<'_>,
     earlier: &mut Earlier<'_>,
-    entry: &'s Entry<'_>,
+    entry: &Entry<'_>,
     found: &mut Vec<Finding>,
 ) -> Result<(), AllocError>
     requires entry { IsEntry subject.now entry.now }
@@ -129,8 +126,7 @@ fn note_files<'s>(
     earlier.turn_to(alloc, entry.number)?;
     let count = entry.reads().len();
     for place in 0..count {
-        let file = subject.read(entry, place);
-        note_file(alloc, subject, earlier, entry, &file, found)?;
+        note_file(alloc, subject, earlier, entry, place, found)?;
     }
     Ok(())
 }

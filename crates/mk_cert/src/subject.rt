@@ -5,12 +5,13 @@ ghost use Rattle.mk_graph.specs.Graph.{IsGraph};
 ghost use Rattle.mk_graph.specs.Setting as build;
 ghost use Rattle.mk_lines.specs.Names.{has_name};
 ghost use Rattle.mk_infer.specs.Selection.{Selects};
-ghost use Rattle.mk_cert.specs.Known.{all_names};
+ghost use Rattle.mk_cert.specs.Known.{all_names, known_of};
 ghost use Rattle.mk_cert.specs.Subject.{IsSubject, name_of, reads_of, subject_of};
 ghost use Rattle.mk_cert.specs.Target.{target_of};
 ghost use Rattle.mk_cert.specs.Entry.{AreEntries, IsEntry, IsFaultOf, entry_reads, writers_of};
 
 use crate::entry::Entry;
+use crate::known::Known;
 use crate::tables::{Tables, tables_for};
 use crate::target::Target;
 use crate::writers::writers_at;
@@ -151,6 +152,18 @@ impl<'a> Subject<'a> {
         &self.tables.names
     }
 
+    /// What is known of the file at a place of what the recipe of a node reads, without its name.
+    /// It takes no memory.
+    pub(crate) fn known<'e>(&'e self, entry: &Entry<'_>, place: usize) -> &'e Known
+        requires entry { IsEntry self.now entry.now }
+        requires place { place < length (entry_reads entry.now) }
+        ensures { result.now ≡ known_of self.entry.now
+            (slice_index_or (reads_of self.entry.now entry.now.number) place []) }
+    {
+        let at = self.tables.reads.places.as_slice()[entry.number][place];
+        &self.tables.reads.known[at]
+    }
+
     /// The file at a place of what the recipe of a node reads, with what is known of it. It takes
     /// no memory.
     pub fn read<'e>(&'e self, entry: &'e Entry<'_>, place: usize) -> Target<'e>
@@ -159,9 +172,8 @@ impl<'a> Subject<'a> {
         ensures { result ≡ target_of self.entry.now
             (slice_index_or (reads_of self.entry.now entry.entry.now.number) place []) }
     {
-        let file = entry.reads()[place].as_str();
-        let at = self.tables.reads.places.as_slice()[entry.number][place];
-        let known = &self.tables.reads.known[at];
+        let file = entry.read_at(place);
+        let known = self.known(entry, place);
         Target {
             file,
             writers: known.writers.as_slice(),

@@ -16,7 +16,7 @@ use Rattle.mk_cert.proofs.findings.static_findings.Goals as goal
 pub returns-then-branch : goal.returns-then-branch
 returns-then-branch c =
     let x = c.args.subject.now in
-    let none : Lists x (static_candidates x) [] = c.in_ok-finds_nothing.ensures c.if-branch.true in
+    let none : Lists x (static_candidates x) [] = c.in_ok-finds_nothing.ensures.0 c.if-branch.true in
     let stays = c.nothing_found_is_selected.ensures x c.graph-graph.ensures.graph c.graph-graph.ensures.subject [] none (λ n chosen stands. stands) in
     record {
       found = record { kept = []; right = none; added = c.new-found.ensures.items };

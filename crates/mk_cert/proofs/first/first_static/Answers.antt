@@ -25,7 +25,7 @@ told_last x (Ok first) none apart told = subst (λ (l : List Candidate). TellsFi
 told_last x (Err fault) none apart told = tt
 
 pub returns-then-branch : goal.returns-then-branch
-returns-then-branch c = c.in_ok-finds_nothing.ensures c.if-branch.true
+returns-then-branch c = c.in_ok-finds_nothing.ensures.0 c.if-branch.true
 
 pub returns-in-Some : goal.returns-in-Some
 returns-in-Some c =

@@ -16,7 +16,7 @@ returns-then-not-branch-clause-answer c =
     let w = c.at-way.result in
     let lt : i < length ways = omega arith in
     let rest : drop i ways ≡ get_or ways i w ∷ drop (i + 1) ways = drop_more ways i w lt in
-    let so_far : JudgedSoFar x ways (take i ways) (get_or ways i w ∷ drop (i + 1) ways) c.loop-place.seen.items = subst (λ (l : List Way). JudgedSoFar x ways (take i ways) l c.loop-place.seen.items) rest c.loop-place.invariant in
+    let so_far : JudgedSoFar x ways (take i ways) (get_or ways i w ∷ drop (i + 1) ways) c.loop-place.seen.items = subst (λ (l : List Way). JudgedSoFar x ways (take i ways) l c.loop-place.seen.items) rest c.loop-place.invariant.judged in
     let judged : Judges x (get_or ways i w) c.loop-place.seen.items c.note_good.new.seen.items false = subst (λ (v : Way). Judges x v c.loop-place.seen.items c.note_good.new.seen.items false) c.at-way.ensures (subst (λ (b : Bool). Judges x w c.loop-place.seen.items c.note_good.new.seen.items b) c.if-not-branch.true c.in_ok-note_good.ensures.judged) in
     inr (subst (λ (f : CertFault). AnswersEntries x ways (Err f)) (sym c.in_ok-bad_way.ensures) (w, subst (λ (v : Way). IsFirstBad x [] ways v) (sym c.at-way.ensures) (judged_bad x ways (take i ways) (drop (i + 1) ways) (get_or ways i w) c.loop-place.seen.items c.note_good.new.seen.items so_far judged), refl, refl))
 
@@ -28,9 +28,12 @@ loop-place-preserved c =
     let w = c.at-way.result in
     let lt : i < length ways = omega arith in
     let rest : drop i ways ≡ get_or ways i w ∷ drop (i + 1) ways = drop_more ways i w lt in
-    let so_far : JudgedSoFar x ways (take i ways) (get_or ways i w ∷ drop (i + 1) ways) c.loop-place.seen.items = subst (λ (l : List Way). JudgedSoFar x ways (take i ways) l c.loop-place.seen.items) rest c.loop-place.invariant in
+    let so_far : JudgedSoFar x ways (take i ways) (get_or ways i w ∷ drop (i + 1) ways) c.loop-place.seen.items = subst (λ (l : List Way). JudgedSoFar x ways (take i ways) l c.loop-place.seen.items) rest c.loop-place.invariant.judged in
     let judged : Judges x (get_or ways i w) c.loop-place.seen.items c.note_good.new.seen.items true = subst (λ (v : Way). Judges x v c.loop-place.seen.items c.note_good.new.seen.items true) c.at-way.ensures (subst (λ (b : Bool). Judges x w c.loop-place.seen.items c.note_good.new.seen.items b) c.if-not-branch.false c.in_ok-note_good.ensures.judged) in
-    judged_on x ways (take i ways) (take (i + 1) ways) (drop (i + 1) ways) (get_or ways i w) c.loop-place.seen.items c.note_good.new.seen.items so_far judged c.in_ok-note_good.ensures.sets (λ v. in_take_more ways i w v lt)
+    record {
+      judged = judged_on x ways (take i ways) (take (i + 1) ways) (drop (i + 1) ways) (get_or ways i w) c.loop-place.seen.items c.note_good.new.seen.items so_far judged c.in_ok-note_good.ensures.sets (λ v. in_take_more ways i w v lt);
+      links = c.in_ok-note_good.ensures.links;
+    }
 
 pub returns-clause-seen : goal.returns-clause-seen
 returns-clause-seen c =
@@ -38,4 +41,4 @@ returns-clause-seen c =
     let ways = c.args.ways.now in
     let i = c.loop-place.place in
     let past : length ways ≤ i = omega arith in
-    judged_seen x ways (take i ways) (drop i ways) c.loop-place.seen.items (take_all i ways past) c.loop-place.invariant
+    judged_seen x ways (take i ways) (drop i ways) c.loop-place.seen.items (take_all i ways past) c.loop-place.invariant.judged

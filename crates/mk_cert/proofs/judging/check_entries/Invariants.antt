@@ -1,7 +1,11 @@
 use Rattle.std.proofs.Common.{take, drop}
+use Rattle.mk_cert.specs.Links.{AreLinks}
 use Rattle.mk_cert.proofs.Judged.{JudgedSoFar}
 use Rattle.mk_cert.proofs.judging.check_entries.Given as goal
 
 -- the entries so far, and those that are left
 abbrev pub invariant-loop-place : goal.invariant-loop-place
-invariant-loop-place l = JudgedSoFar l.subject l.ways (take l.place l.ways) (drop l.place l.ways) l.seen.items
+invariant-loop-place l = record {
+  judged : JudgedSoFar l.subject l.ways (take l.place l.ways) (drop l.place l.ways) l.seen.items;
+  links : AreLinks l.subject l.links.reads.items l.links.carried.items l.links.ends.needed.items l.links.ends.always.items;
+}

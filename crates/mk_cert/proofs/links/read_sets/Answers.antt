@@ -16,11 +16,11 @@ loop-number-preserved c =
     let g = c.args.graph.now in
     let s = footprints c.args.setting.now in
     let rows = c.loop-number.sets.items in
-    let row = c.in_ok-new.field-0 in
+    let row = c.new.result in
     let pushed = c.in_ok-push.ensures.items in
     let files : map string_bytes c.reads_of.result.now ≡ build.reads g s c.loop-number.number = c.reads_of.ensures in
     let here : (f : List ℕ) → (has_name row f ≡ true) ↔ Has (build.reads g s c.loop-number.number) f =
-    λ f. let same : has_name row f ≡ has_name (build.reads g s c.loop-number.number) f = ap (λ (fs : List (List ℕ)). has_name fs f) c.in_ok-new.ensures ∙ ap (λ (fs : List (List ℕ)). has_name fs f) files in
+    λ f. let same : has_name row f ≡ has_name (build.reads g s c.loop-number.number) f = ap (λ (fs : List (List ℕ)). has_name fs f) c.new.ensures ∙ ap (λ (fs : List (List ℕ)). has_name fs f) files in
     let decides = has_decides (build.reads g s c.loop-number.number) f in
     ((λ t. decides.0 (sym same ∙ t)), (λ h. same ∙ decides.1 h)) in
     record {

@@ -1,44 +1,69 @@
-use Rattle.std.proofs.Common.{◌≡◌, ◌∙◌, ℕ, List, map, ap, sym, subst}
-use Rattle.std.proofs.lemmas.Bool.{true≢false}
+use Rattle.std.proofs.Common.{◌≡◌, ◌∙◌, ◌<◌, [], ℕ, List, map, ap, sym, subst, get_or, length, arith}
+use Rattle.std.proofs.lemmas.Bool.{true≢false, eqb-true}
+use Rattle.std.proofs.lemmas.List.{nil_from_length}
 use Rattle.std.proofs.lemmas.Result.{on_ok_weaker}
 use Rattle.mk_graph.specs.Serial.{serial_order}
 use Rattle.mk_lines.specs.Names.{has_name}
 use Rattle.mk_graph.specs.Membership.{Has}
 use Rattle.mk_cert.specs.Entry.{writers_of}
-use Rattle.mk_cert.specs.Subject.{reads_of, writes_of}
-use Rattle.mk_cert.specs.Target.{Target}
+use Rattle.mk_cert.specs.Known.{Known}
+use Rattle.mk_cert.specs.Subject.{Subject, reads_of, writes_of}
 use Rattle.mk_cert.specs.Candidates.{race}
 use Rattle.mk_cert.specs.Listed.{Adds}
-use Rattle.mk_cert.proofs.Adding.{adds_lifted}
+use Rattle.mk_cert.specs.declared.finding.Finding.{Finding}
+use Rattle.mk_cert.proofs.Adding.{adds_lifted, adds_nothing}
 use Rattle.mk_cert.proofs.Decided.{has_decides}
-use Rattle.mk_cert.proofs.FileDecided.{writers_write}
+use Rattle.mk_cert.proofs.Entries.{same_reads}
+use Rattle.mk_cert.proofs.FileDecided.{at_place, writers_write}
 use Rattle.mk_cert.proofs.race_findings.note_file.Goals as goal
+
+-- who doesn't write the file doesn't race for it
+with_writers : (x : Subject) (t : ℕ) (f : List ℕ) (ns : List ℕ) (old new : List Finding) → ns ≡ writers_of x f → Adds x (map (λ o. race t o f) ns) old new → Adds x (map (λ o. race t o f) (serial_order x.graph)) old new
+with_writers x t f ns old new same h =
+    adds_lifted x (λ o. race t o f) (λ o. has_name (writes_of x o) f) (serial_order x.graph) old new
+    (λ o out k. true≢false (sym ((has_decides (writes_of x o) f).1 k.2) ∙ out))
+    (subst (λ (l : List ℕ). Adds x (map (λ o. race t o f) l) old new) same h)
+
+pub returns-then-is_empty-clause-found : goal.returns-then-is_empty-clause-found
+returns-then-is_empty-clause-found c =
+    let x = c.args.subject.now in
+    let n = c.args.entry.now.number in
+    let f = get_or (reads_of x n) c.args.place [] in
+    let old = c.args.found.now.items in
+    let ns = c.as_slice-writers.result.now in
+    let none : ns ≡ [] = nil_from_length ns (eqb-true (length ns) 0 (sym c.is_empty.ensures ∙ c.if-is_empty.true)) in
+    let writers : ns ≡ writers_of x f = c.as_slice-writers.ensures ∙ ap (λ (k : Known). k.writers) (c.known.view_is ∙ c.known-known.ensures) in
+    with_writers x n f [] old old (sym none ∙ writers) (adds_nothing x old)
 
 pub note_races_with-requires : goal.note_races_with-requires
 note_races_with-requires c =
     let x = c.args.subject.now in
-    let target = c.file.view_is ∙ c.requires.file in
-    let file : c.file.inside.file.now ≡ c.args.file.now.file = ap (λ (v : Target). v.file) c.file.view_is in
-    let writers : c.file.inside.writers.now ≡ writers_of x c.args.file.now.file = ap (λ (v : Target). v.writers) target in
+    let e = c.args.entry.now in
+    let files = reads_of x e.number in
+    let f = get_or files c.args.place [] in
+    let same = same_reads x e c.requires.entry in
+    let low : c.args.place < length files = omega (arith, c.requires.place, ap (λ (l : List (List ℕ)). length l) same) in
+    let file : c.read_at-file.result.now ≡ f = c.read_at-file.ensures ∙ ap (λ (l : List (List ℕ)). get_or l c.args.place []) same in
+    let ns = c.as_slice-writers.result.now in
+    let writers : ns ≡ writers_of x f = c.as_slice-writers.ensures ∙ ap (λ (k : Known). k.writers) (c.known.view_is ∙ c.known-known.ensures) in
     record {
       entry = c.requires.entry;
       graph = c.requires.graph;
       number = c.requires.number;
-      read = subst (λ (f : List ℕ). Has (reads_of x c.args.entry.now.number) f) (sym file) c.requires.read;
-      written = λ o h. subst (λ (f : List ℕ). Has (writes_of x o) f) (sym file) (writers_write x c.args.file.now.file c.file.inside.writers.now writers o h);
+      read = subst (λ (g : List ℕ). Has files g) (sym file) (at_place files c.args.place [] low);
+      written = λ o h. subst (λ (g : List ℕ). Has (writes_of x o) g) (sym file) (writers_write x f ns writers o h);
     }
 
 pub returns-clause-found : goal.returns-clause-found
 returns-clause-found c =
     let x = c.args.subject.now in
     let e = c.args.entry.now in
-    let f = c.args.file.now.file in
-    let file : c.file.inside.file.now ≡ f = ap (λ (v : Target). v.file) c.file.view_is in
-    let writers : c.file.inside.writers.now ≡ writers_of x f = ap (λ (v : Target). v.writers) (c.file.view_is ∙ c.requires.file) in
+    let f = get_or (reads_of x e.number) c.args.place [] in
+    let file : c.read_at-file.result.now ≡ f = c.read_at-file.ensures ∙ ap (λ (l : List (List ℕ)). get_or l c.args.place []) (same_reads x e c.requires.entry) in
+    let ns = c.as_slice-writers.result.now in
+    let writers : ns ≡ writers_of x f = c.as_slice-writers.ensures ∙ ap (λ (k : Known). k.writers) (c.known.view_is ∙ c.known-known.ensures) in
     let old = c.args.found.now.items in
     let new = c.note_races_with.new.found.items in
     on_ok_weaker c.note_races_with.result
-    (λ h. adds_lifted x (λ o. race e.number o f) (λ o. has_name (writes_of x o) f) (serial_order x.graph) old new
-    (λ o out k. true≢false (sym ((has_decides (writes_of x o) f).1 k.2) ∙ out))
-    (subst (λ (ns : List ℕ). Adds x (map (λ o. race e.number o f) ns) old new) writers (subst (λ (g : List ℕ). Adds x (map (λ o. race e.number o g) c.file.inside.writers.now) old new) file h)))
+    (λ h. with_writers x e.number f ns old new writers (subst (λ (g : List ℕ). Adds x (map (λ o. race e.number o g) ns) old new) file h))
     c.note_races_with.ensures.found

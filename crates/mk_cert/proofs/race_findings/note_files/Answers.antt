@@ -1,15 +1,11 @@
 use Rattle.std.proofs.Common.{◌≡◌, ◌∙◌, ◌<◌, ◌≤◌, [], refl, ap, sym, subst, length, map, drop, arith}
 use Rattle.std.specs.List.{flat_map}
-use Rattle.mk_graph.specs.Membership.{Has}
 use Rattle.mk_graph.specs.Serial.{serial_order}
 use Rattle.mk_cert.specs.Subject.{reads_of}
 use Rattle.mk_cert.specs.Candidates.{race}
 use Rattle.mk_cert.specs.Earlier.{Place}
 use Rattle.mk_cert.specs.Entry.{Entry}
-use Rattle.mk_cert.specs.Listed.{Adds}
-use Rattle.mk_cert.specs.Target.{Target, target_of}
 use Rattle.mk_cert.proofs.Adding.{drop_past, leads_each, leads_done}
-use Rattle.mk_cert.proofs.FileDecided.{at_place}
 use Rattle.mk_cert.proofs.KnownFiles.{count_is, place_is}
 use Rattle.mk_cert.proofs.race_findings.note_files.Goals as goal
 
@@ -20,27 +16,15 @@ loop-place-init c = record {
   number = c.turn_to.ensures.number ∙ ap (λ (k : Entry). k.number) c.entry.view_is;
 }
 
-pub read-file-requires-clause-place : goal.read-file-requires-clause-place
-read-file-requires-clause-place c =
+pub note_file-requires-clause-place : goal.note_file-requires-clause-place
+note_file-requires-clause-place c =
     place_is c.args.entry.now c.reads-count.result.now c.loop-place.place c.reads-count.ensures c.loop-place-test.true
-
-pub note_file-requires-clause-file : goal.note_file-requires-clause-file
-note_file-requires-clause-file c =
-    subst (λ (v : Target). v ≡ target_of c.args.subject.now v.file) (sym c.read-file.ensures) refl
 
 pub note_file-requires-clause-graph : goal.note_file-requires-clause-graph
 note_file-requires-clause-graph c = c.loop-place.invariant.graph ∙ c.requires.graph
 
 pub note_file-requires-clause-number : goal.note_file-requires-clause-number
 note_file-requires-clause-number c = c.loop-place.invariant.number
-
-pub note_file-requires-clause-read : goal.note_file-requires-clause-read
-note_file-requires-clause-read c =
-    let x = c.args.subject.now in
-    let e = c.args.entry.now in
-    let i = c.loop-place.place in
-    let low : i < length (reads_of x e.number) = omega (arith, c.loop-place-test.true, count_is x e c.reads-count.result.now c.requires.entry c.reads-count.ensures) in
-    subst (λ (v : Target). Has (reads_of x e.number) v.file) (sym c.read-file.ensures) (at_place (reads_of x e.number) i [] low)
 
 pub loop-place-preserved : goal.loop-place-preserved
 loop-place-preserved c =
@@ -49,8 +33,7 @@ loop-place-preserved c =
     let i = c.loop-place.place in
     let low : i < length (reads_of x e.number) = omega (arith, c.loop-place-test.true, count_is x e c.reads-count.result.now c.requires.entry c.reads-count.ensures) in
     record {
-      leads = leads_each x (λ f. map (λ o. race e.number o f) (serial_order x.graph)) (reads_of x e.number) i [] _ c.loop-place.found.items c.note_file.new.found.items c.args.found.now.items low c.loop-place.invariant.leads
-          (subst (λ (v : Target). Adds x (map (λ o. race e.number o v.file) (serial_order x.graph)) c.loop-place.found.items c.note_file.new.found.items) c.read-file.ensures c.in_ok-note_file.ensures.found);
+      leads = leads_each x (λ f. map (λ o. race e.number o f) (serial_order x.graph)) (reads_of x e.number) i [] _ c.loop-place.found.items c.note_file.new.found.items c.args.found.now.items low c.loop-place.invariant.leads c.in_ok-note_file.ensures.found;
       graph = ap (λ (p : Place). p.graph) c.in_ok-note_file.ensures.same ∙ c.loop-place.invariant.graph;
       number = ap (λ (p : Place). p.number) c.in_ok-note_file.ensures.same ∙ c.loop-place.invariant.number;
     }

@@ -1,67 +1,16 @@
--- The place is one of what is known of the files that the recipe reads.
-use Rattle.std.proofs.Common.{◌≡◌, ◌∙◌, ◌<◌, [], ℕ, List, ap, sym, subst, get_or, length, arith}
-use Rattle.std.specs.String.{string_bytes}
-use Rattle.std.proofs.lemmas.List.{get_or-map, get_or_default, length-map}
-use Rattle.std.proofs.lemmas.Option.{slice_get_within, get_or_from_slice_get}
-use Rattle.mk_cert.specs.Entry.{Entry}
-use Rattle.mk_cert.specs.Known.{Known, StandAt, known_of}
-use Rattle.mk_cert.specs.Subject.{Subject, reads_of}
+-- What is known of the file, with its name.
+use Rattle.std.proofs.Common.{◌≡◌, ◌∙◌, [], ℕ, List, ap, get_or}
+use Rattle.mk_cert.specs.Known.{Known}
+use Rattle.mk_cert.specs.Subject.{reads_of}
 use Rattle.mk_cert.proofs.Entries.{same_reads}
-use Rattle.mk_cert.proofs.KnownFiles.{read_at, target_is}
+use Rattle.mk_cert.proofs.KnownFiles.{target_is}
 use Rattle.mk_cert.proofs.subject.Subject.read.Goals as goal
-
-pub bounds-as_slice-entry-inside : goal.bounds-as_slice-entry-inside
-bounds-as_slice-entry-inside c =
-    let tables = c.self.inside.tables in
-    let held = subst (λ (y : Subject). (t : ℕ) → StandAt (known_of y) tables.reads.known.items (get_or tables.reads.places t []) (reads_of y t)) c.self.view_is c.self.invariant.tables.reads_held in
-    let at = read_at c.args.self.now c.args.entry.now tables.reads.known.items tables.reads.places c.entry.inside.number c.args.place (ap (λ (k : Entry). k.number) c.entry.view_is) c.requires.entry c.requires.place held in
-    let many : length c.as_slice.result.now ≡ length tables.reads.places = sym (length-map c.as_slice.result.now (λ group. group.items)) ∙ ap (λ (l : List (List ℕ)). length l) c.as_slice.ensures in
-    omega (arith, at.node, many)
-
-pub index-at-requires : goal.index-at-requires
-index-at-requires c =
-    let tables = c.self.inside.tables in
-    let n = c.entry.inside.number in
-    let rows = c.as_slice.result.now in
-    let held = subst (λ (y : Subject). (t : ℕ) → StandAt (known_of y) tables.reads.known.items (get_or tables.reads.places t []) (reads_of y t)) c.self.view_is c.self.invariant.tables.reads_held in
-    let at = read_at c.args.self.now c.args.entry.now tables.reads.known.items tables.reads.places n c.args.place (ap (λ (k : Entry). k.number) c.entry.view_is) c.requires.entry c.requires.place held in
-    let many : length rows ≡ length tables.reads.places = sym (length-map rows (λ group. group.items)) ∙ ap (λ (l : List (List ℕ)). length l) c.as_slice.ensures in
-    let lt : n < length rows = omega (arith, at.node, many) in
-    let row : c.index-as_slice-entry.result.items ≡ get_or tables.reads.places n [] = ap (λ group. group.items) c.index-as_slice-entry.is ∙ (sym (get_or-map (λ group. group.items) rows n c.index-as_slice-entry.result [] lt) ∙ ap (λ (l : List (List ℕ)). get_or l n []) c.as_slice.ensures) in
-    omega (arith, at.place, ap (λ (l : List ℕ). length l) row)
-
-pub index-known-requires : goal.index-known-requires
-index-known-requires c =
-    let tables = c.self.inside.tables in
-    let n = c.entry.inside.number in
-    let rows = c.as_slice.result.now in
-    let held = subst (λ (y : Subject). (t : ℕ) → StandAt (known_of y) tables.reads.known.items (get_or tables.reads.places t []) (reads_of y t)) c.self.view_is c.self.invariant.tables.reads_held in
-    let at = read_at c.args.self.now c.args.entry.now tables.reads.known.items tables.reads.places n c.args.place (ap (λ (k : Entry). k.number) c.entry.view_is) c.requires.entry c.requires.place held in
-    let many : length rows ≡ length tables.reads.places = sym (length-map rows (λ group. group.items)) ∙ ap (λ (l : List (List ℕ)). length l) c.as_slice.ensures in
-    let lt : n < length rows = omega (arith, at.node, many) in
-    let row : c.index-as_slice-entry.result.items ≡ get_or tables.reads.places n [] = ap (λ group. group.items) c.index-as_slice-entry.is ∙ (sym (get_or-map (λ group. group.items) rows n c.index-as_slice-entry.result [] lt) ∙ ap (λ (l : List (List ℕ)). get_or l n []) c.as_slice.ensures) in
-    let place : c.index-at.result.now ≡ get_or (get_or tables.reads.places n []) c.args.place 0 = c.index-at.ensures ∙ (ap (λ (l : List ℕ). get_or l c.args.place c.index-at.result.now) row ∙ get_or_default (get_or tables.reads.places n []) c.args.place c.index-at.result.now 0 at.place) in
-    let within : get_or (get_or tables.reads.places n []) c.args.place 0 < length tables.reads.known.items = slice_get_within _ _ _ at.here in
-    omega (arith, within, place)
 
 pub returns : goal.returns
 returns c =
     let x = c.args.self.now in
     let e = c.args.entry.now in
-    let tables = c.self.inside.tables in
-    let n = c.entry.inside.number in
-    let rows = c.as_slice.result.now in
-    let number : n ≡ e.number = ap (λ (k : Entry). k.number) c.entry.view_is in
-    let held = subst (λ (y : Subject). (t : ℕ) → StandAt (known_of y) tables.reads.known.items (get_or tables.reads.places t []) (reads_of y t)) c.self.view_is c.self.invariant.tables.reads_held in
-    let at = read_at x e tables.reads.known.items tables.reads.places n c.args.place number c.requires.entry c.requires.place held in
-    let many : length rows ≡ length tables.reads.places = sym (length-map rows (λ group. group.items)) ∙ ap (λ (l : List (List ℕ)). length l) c.as_slice.ensures in
-    let lt : n < length rows = omega (arith, at.node, many) in
-    let row : c.index-as_slice-entry.result.items ≡ get_or tables.reads.places n [] = ap (λ group. group.items) c.index-as_slice-entry.is ∙ (sym (get_or-map (λ group. group.items) rows n c.index-as_slice-entry.result [] lt) ∙ ap (λ (l : List (List ℕ)). get_or l n []) c.as_slice.ensures) in
-    let place : c.index-at.result.now ≡ get_or (get_or tables.reads.places n []) c.args.place 0 = c.index-at.ensures ∙ (ap (λ (l : List ℕ). get_or l c.args.place c.index-at.result.now) row ∙ get_or_default (get_or tables.reads.places n []) c.args.place c.index-at.result.now 0 at.place) in
-    let reads = c.reads.result.now in
-    let low : c.args.place < length reads = omega (arith, c.requires.place, ap (λ (l : List (List ℕ)). length l) c.reads.ensures, length-map reads string_bytes) in
-    let named : c.as_str-file.result.now ≡ get_or (reads_of x e.number) c.args.place [] = c.as_str-file.ensures.value ∙ (ap string_bytes c.index-reads-place.is ∙ (sym (get_or-map string_bytes reads c.args.place c.index-reads-place.result [] low) ∙ ap (λ (l : List (List ℕ)). get_or l c.args.place []) (c.reads.ensures ∙ same_reads x e c.requires.entry))) in
-    let known = tables.reads.known.items in
-    let same : c.index-known.result.now ≡ known_of x (get_or (reads_of x e.number) c.args.place []) = c.index-known.ensures ∙ (ap (λ (k : ℕ). get_or known k c.index-known.result.now) place ∙ (get_or_from_slice_get known (get_or (get_or tables.reads.places n []) c.args.place 0) (known_of x (get_or (reads_of x n) c.args.place [])) c.index-known.result.now at.here ∙ ap (λ (k : ℕ). known_of x (get_or (reads_of x k) c.args.place [])) number)) in
+    let file = get_or (reads_of x e.number) c.args.place [] in
+    let named : c.read_at-file.result.now ≡ file = c.read_at-file.ensures ∙ ap (λ (l : List (List ℕ)). get_or l c.args.place []) (same_reads x e c.requires.entry) in
     let shown = λ (ws : List ℕ). let k : Known = record { writers = ws; given = c.known.inside.given; editable = c.known.inside.editable; number = c.known.inside.number } in k in
-    target_is x (get_or (reads_of x e.number) c.args.place []) c.as_str-file.result.now c.as_slice-2.result.now c.known.inside.given c.known.inside.editable c.known.inside.number named (ap shown c.as_slice-2.ensures ∙ (c.known.view_is ∙ same))
+    target_is x file c.read_at-file.result.now c.as_slice.result.now c.known.inside.given c.known.inside.editable c.known.inside.number named (ap shown c.as_slice.ensures ∙ (c.known.view_is ∙ c.known-known.ensures))
