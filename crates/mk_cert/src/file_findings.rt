@@ -11,7 +11,9 @@ ghost use Rattle.mk_cert.specs.FileTests.{is_taken, IsUnknown};
 use crate::entry::Entry;
 use crate::finding::Finding;
 use crate::name_list::NameList;
+use crate::number_list::FEW;
 use crate::subject::Subject;
+use crate::writer_findings::has_number;
 use mk_graph::laws::serial_reaches_each_once;
 use mk_lines::Name;
 use std::alloc::{AllocError, Global};
@@ -121,8 +123,8 @@ pub fn note_unknown_reads(
     Ok(())
 }
 
-/// Whether a recipe writes the file at a place of what it reads. Of most files nobody is known to
-/// write them, and their names aren't looked at.
+/// Whether a recipe writes the file at a place of what it reads: it is one of those that write the
+/// file, and where these are many, the name of the file is one of what it writes.
 fn is_own(
     alloc: Global,
     subject: &Subject<'_>,
@@ -141,8 +143,9 @@ fn is_own(
     serial_reaches_each_once();
     let _graph = subject.graph();
     let known = subject.known(entry, place);
-    if known.writers.as_slice().is_empty() {
-        return Ok(false);
+    let writers = known.writers.as_slice();
+    if writers.len() <= FEW {
+        return Ok(has_number(writers, entry.number));
     }
     written.note_use(alloc)?;
     Ok(written.has(entry.read_at(place)))

@@ -48,11 +48,7 @@ fn note_at<'a>(
 }
 
 /// Notes that a name is looked up in the list at a place, if there is one.
-fn note_use(
-    alloc: Global,
-    lists: &mut Vec<NameList<'_>>,
-    place: usize,
-) -> Result<(), AllocError>
+fn note_use(alloc: Global, lists: &mut Vec<NameList<'_>>, place: usize) -> Result<(), AllocError>
     ensures { lists.new.items ≡ lists.old.items }
 {
     if place >= lists.len() {

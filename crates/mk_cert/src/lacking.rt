@@ -1,12 +1,12 @@
 //! Which reads lack their ways.
 
-ghost use Rattle.std.specs.Prelude.{◌≡◌, ◌⊎◌, ◌↔◌, List, ℕ, true, Err, IfOk, MatchOption};
+ghost use Rattle.std.specs.Prelude.{◌≡◌, ◌<◌, ◌⊎◌, ◌↔◌, List, ℕ, [], true, length, slice_index_or, Err, IfOk, MatchOption};
 ghost use Rattle.mk_graph.specs.Membership.{Has};
+ghost use Rattle.mk_graph.specs.Ways.{CanChange};
 ghost use Rattle.mk_ways.specs.Certificate.{Way};
-ghost use Rattle.mk_cert.specs.Subject.{name_of, reads_of};
-ghost use Rattle.mk_cert.specs.Entry.{IsEntry};
+ghost use Rattle.mk_cert.specs.Subject.{footprints, name_of, reads_of};
+ghost use Rattle.mk_cert.specs.Entry.{IsEntry, entry_reads};
 ghost use Rattle.mk_cert.specs.Links.{AreSeen};
-ghost use Rattle.mk_cert.specs.Target.{target_of};
 ghost use Rattle.mk_cert.specs.Verdict.{IsFirst, Read, LacksWay};
 ghost use Rattle.mk_cert.specs.Checks.{AnswersReads, reads_by};
 ghost use Rattle.mk_cert.specs.declared.fault.CertFault.TheVariants.{Memory, NoWay};
@@ -15,32 +15,40 @@ use crate::entry::Entry;
 use crate::fault::CertFault;
 use crate::seen_names::SeenNames;
 use crate::subject::Subject;
-use crate::target::Target;
 use crate::walking::stands_at;
 use mk_graph::laws::serial_reaches_each_once;
 use mk_lines::Name;
 use std::alloc::{AllocError, Global};
 
-/// Whether a file that a recipe reads can change and isn't noted for it. One that can't change isn't
-/// looked up.
-fn lacks(
-    subject: &Subject<'_>,
-    seen: &[SeenNames<'_>],
-    entry: &Entry<'_>,
-    file: &Target<'_>,
-) -> bool
-    requires read { Has (reads_of subject.now entry.now.number) file.now.file }
-    requires file { file.now ≡ target_of subject.now file.now.file }
+/// Whether the file at a place of what a recipe reads can change.
+fn can_change(subject: &Subject<'_>, entry: &Entry<'_>, place: usize) -> bool
+    requires entry { IsEntry subject.now entry.now }
+    requires place { place < length (entry_reads entry.now) }
+    ensures { (result ≡ true) ↔ CanChange (footprints subject.now.setting)
+        (slice_index_or (reads_of subject.now entry.now.number) place []) }
+{
+    let known = subject.known(entry, place);
+    known.editable || !known.given
+}
+
+/// Whether the file at a place of what a recipe reads can change and isn't noted for the recipe.
+/// The name of one that can't change isn't looked at.
+fn lacks(subject: &Subject<'_>, seen: &[SeenNames<'_>], entry: &Entry<'_>, place: usize) -> bool
+    requires entry { IsEntry subject.now entry.now }
+    requires place { place < length (entry_reads entry.now) }
     ensures { (ways : List Way) → AreSeen subject.now ways seen.now → (result ≡ true) ↔
-        LacksWay subject.now ways (record { recipe = entry.now.number; file = file.now.file }) }
+        LacksWay subject.now ways (record {
+          recipe = entry.now.number;
+          file = slice_index_or (reads_of subject.now entry.now.number) place [];
+        }) }
 {
     let _graph = subject.graph();
-    file.can_change(subject) && !stands_at(seen, entry.number, file.file)
+    can_change(subject, entry, place) && !stands_at(seen, entry.number, entry.read_at(place))
 }
 
 /// The first file that a recipe reads which can change and isn't noted for it.
 fn first_lacking<'a>(
-    subject: &'a Subject<'_>,
+    subject: &Subject<'_>,
     seen: &[SeenNames<'_>],
     entry: &'a Entry<'_>,
 ) -> Option<&'a str>
@@ -54,9 +62,8 @@ fn first_lacking<'a>(
 {
     let count = entry.reads().len();
     for place in 0..count {
-        let file = subject.read(entry, place);
-        if lacks(subject, seen, entry, &file) {
-            return Some(file.file);
+        if lacks(subject, seen, entry, place) {
+            return Some(entry.read_at(place));
         }
     }
     None

@@ -10,7 +10,7 @@ use std::alloc::{AllocError, Global};
 use std::marker::Model;
 
 /// Of so many numbers no set is made: to go through them costs no more than to make one.
-const FEW: usize = 16;
+pub const FEW: usize = 16;
 
 /// The numbers of a list, which are looked up: where there are few, in the list itself. A contract
 /// sees the list.

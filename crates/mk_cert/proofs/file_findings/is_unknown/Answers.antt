@@ -1,5 +1,5 @@
 -- It is written just where it has writers.
-use Rattle.std.proofs.Common.{◌≡◌, ◌∙◌, [], ℕ, List, Bool, true, false, not, ap, sym, get_or}
+use Rattle.std.proofs.Common.{◌≡◌, ◌∙◌, [], Bool, true, false, not, ap, sym, get_or}
 use Rattle.std.specs.Prelude.{◌↔◌}
 use Rattle.mk_foot.specs.Setting.{is_given}
 use Rattle.mk_cert.specs.Entry.{writers_of}

@@ -1,4 +1,4 @@
-use Rattle.std.proofs.Common.{◌≡◌, ◌∙◌, ◌<◌, ◌≤◌, [], refl, ap, sym, subst, length, map, drop, arith}
+use Rattle.std.proofs.Common.{◌∙◌, ◌<◌, ◌≤◌, [], ap, length, map, drop, arith}
 use Rattle.std.specs.List.{flat_map}
 use Rattle.mk_graph.specs.Serial.{serial_order}
 use Rattle.mk_cert.specs.Subject.{reads_of}
