@@ -4,10 +4,10 @@ ghost use Rattle.std.specs.Prelude.{◌≡◌, ◌<◌, ◌-◌, ◌^◌};
 ghost use Rattle.mk_parse.specs.MemFiles.{failures_of};
 
 use crate::simulations::printed;
-use mk_core::{Fault, MemFiles, Request, fault_text, render};
+use mk_core::{Fault, MemFiles, Request, Verdict, render};
 use mk_evidence::{Evidence, evidence_or_verdict, evidence_text};
 use mk_rows::builds::{files_of_build, part, request_of};
-use mk_rows::rows::unfolded;
+use mk_rows::rows::{bytes_of, unfolded};
 use std::alloc::{AllocError, Global};
 use std::process::Abort;
 use std::test::Fail;
@@ -17,7 +17,7 @@ fn told(alloc: Global, answer: Result<Option<Vec<u8>>, Fault>) -> Result<Vec<u8>
     match answer {
         Ok(Some(plan)) => Ok(plan),
         Ok(None) => Vec::from_slice(alloc, b"none\n"),
-        Err(fault) => fault_text(alloc, &fault),
+        Err(fault) => bytes_of(alloc, Err(fault)),
     }
 }
 
@@ -119,17 +119,25 @@ fn other_findings_have_no_plan(rt: HostRuntime) -> Result<(), Fail> {
     Ok(())
 }
 
+/// What is printed of a verdict.
+fn rendered(alloc: Global, verdict: Verdict) -> Result<Vec<u8>, AllocError> {
+    render(alloc, &verdict)
+}
+
+/// The lines of a verdict behind `no plan`.
+fn no_plan(alloc: Global, lines: &[u8]) -> Result<Vec<u8>, AllocError> {
+    let mut text = Vec::from_slice(alloc, b"no plan\n")?;
+    text.extend_from_slice(lines)?;
+    Ok(text)
+}
+
 /// What is told of a plan or a verdict: the plan, the lines of the verdict behind `no plan`, or the
 /// line of the fault.
 fn told_of(alloc: Global, answer: Result<Evidence, Fault>) -> Result<Vec<u8>, AllocError> {
     match answer {
         Ok(Evidence::Plan(plan)) => Ok(plan),
-        Ok(Evidence::NoPlan(verdict)) => {
-            let mut text = Vec::from_slice(alloc, b"no plan\n")?;
-            text.extend_from_slice(&render(alloc, &verdict)?)?;
-            Ok(text)
-        }
-        Err(fault) => fault_text(alloc, &fault),
+        Ok(Evidence::NoPlan(verdict)) => no_plan(alloc, &rendered(alloc, verdict)?),
+        Err(fault) => bytes_of(alloc, Err(fault)),
     }
 }
 

@@ -3,8 +3,8 @@
 ghost use Rattle.std.specs.Prelude.{◌≡◌, ◌<◌, ◌-◌, ◌^◌};
 ghost use Rattle.mk_parse.specs.MemFiles.{failures_of};
 
-use mk_core::{Fault, MemFiles, Request, Simulation, fault_text, simulate_text};
-use mk_rows::rows::{asked_by, unfolded};
+use mk_core::{Fault, MemFiles, Request, Simulation, simulate_text};
+use mk_rows::rows::{asked_by, bytes_of, unfolded};
 use std::alloc::{AllocError, Global};
 use std::process::Abort;
 use std::test::Fail;
@@ -52,7 +52,7 @@ make 1/begin b/stop => refused 68 line 3/a 1 1/";
 fn text_of(alloc: Global, answer: Result<Simulation, Fault>) -> Result<Vec<u8>, AllocError> {
     match answer {
         Ok(run) => Ok(run.text),
-        Err(fault) => fault_text(alloc, &fault),
+        Err(fault) => bytes_of(alloc, Err(fault)),
     }
 }
 
