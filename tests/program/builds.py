@@ -2,8 +2,9 @@
 
 import json
 from collections.abc import Iterator
+from itertools import combinations
 
-from faults import told
+from faults import certificate, told
 
 YACC = "m.o: m.c y.tab.h\n\tcc -c m.c\n"
 MADE = "y.tab.c: gram.y\n\tyacc -d gram.y\n"
@@ -14,8 +15,20 @@ READ = "a: > a = touch a; b: a > = cat a"
 PARSED = "m.o: m.c y.tab.h > m.o = cc -c m.c; y.tab.c: gram.y > y.tab.c y.tab.h = yacc -d gram.y"
 SUFFIXES = ".SUFFIXES:\n.SUFFIXES: .o .c .s\n.c.o:\n\tcc -c $<\n.s.o:\n\tas -o $@ $<\n"
 
+# A recipe that reads six sources: of more than four, `verify` makes a table with the fifth entry.
+SIX = [f"s{number}" for number in range(6)]
+WIDE = f"t: {' '.join(SIX)}\n\tmk t\n"
+# Recipes that write one file, more than are gone through to tell whether its reader is one of them.
+LOGGING = [f"w{number}" for number in range(17)]
+LOGGED = f"all: {' '.join(LOGGING)} r\n" + "".join(f"{name}:\n\tdo {name}\n" for name in [*LOGGING, "r"])
+APPENDED = [f"{name}: > {name} log = do {name}" for name in LOGGING[:16]]
+
 # Makefile, goals, sources and records; the lines that are printed.
 RIGHT = [
+    (
+        WIDE, "", " ".join(SIX), f"t: {' '.join(SIX)} > t = mk t",
+        ["yes 1 recipes 6 reads", *(f"way t {name} source t" for name in SIX)],
+    ),
     (OBJECT, "", "a.c", COMPILED, ["yes 2 recipes 2 reads", "way a.o a.c source a.o", "way p a.o written p a.o"]),
     (
         OBJECT, "", "a.c", COMPILED.replace("p: a.o >", "p: a.o a.c >"),
@@ -32,6 +45,10 @@ RIGHT = [
     ),
 ]
 WRONG = [
+    (
+        LOGGED, "", "", "; ".join([*APPENDED, "w16: log > w16 log = do w16", "r: log > r = do r"]),
+        [*(f"no writers {one} {other} log" for one, other in combinations(LOGGING, 2)), "no own w16 log"],
+    ),
     (OBJECT, "", "a.c h.h", COMPILED.replace("a.o: a.c", "a.o: a.c h.h"), ["no stale a.o h.h"]),
     (OBJECT, "", "a.c", "", ["no record a.o", "no record p"]),
     (".PHONY: b\nall: x y\nx: a .WAIT b\ny: b\n" + BOTH, "", "", READ, ["no race b a a"]),
@@ -55,3 +72,9 @@ def builds() -> Iterator[tuple[list[str], int, str, dict[str, str]]]:
             book = {"format": 1, "fixed": [], "sources": sources.split(), "records": told(records) if records else []}
             files = {"makefile": makefile, "B": json.dumps(book)}
             yield ["check", "-b", "B", *goals.split()], status, "".join(f"{line}\n" for line in lines), files
+    for left in range(len(SIX) + 1):
+        ways = [{"recipe": "t", "file": name, "end": "source", "path": ["t"]} for name in SIX if name != f"s{left}"]
+        told_of = f"refused 74 t s{left}\n" if left < len(SIX) else "yes 1 recipes 6 reads\n"
+        book = {"format": 1, "fixed": [], "sources": SIX, "records": told(f"t: {' '.join(SIX)} > t = mk t")}
+        files = {"makefile": WIDE, "B": json.dumps(book), "C": certificate(ways, goals=["t"])}
+        yield ["verify", "-b", "B", "-k", "C"], 2 if left < len(SIX) else 0, told_of, files
