@@ -65,25 +65,45 @@ module _ {A : Type 0} where
   leads_map x candidate xs i d all now next first lt lead added =
       leads_on x (candidate (get_or xs i d) ∷ []) (map candidate (drop (i + 1) xs)) all now next first (subst (λ (l : List A). Leads x (map candidate l) all now first) (drop_more xs i d lt) lead) added
 
-module _ (x : Subject) (candidate : ℕ → Candidate) where
+module _ {A : Type 0} (x : Subject) (candidate : A → Candidate) where
   -- where the condition can hold of those alone that pass a test, these are enough
-  lift_step : (p : ℕ → Bool) (o : ℕ) (xs : List ℕ) (kept : List Candidate) (b : Bool) → p o ≡ b → (p o ≡ false → ¬ (Holds x (candidate o))) → ((kept : List Candidate) → Lists x (map candidate (filter p xs)) kept → Lists x (map candidate xs) kept)
+  lift_step : (p : A → Bool) (o : A) (xs : List A) (kept : List Candidate) (b : Bool) → p o ≡ b → (p o ≡ false → ¬ (Holds x (candidate o))) → ((kept : List Candidate) → Lists x (map candidate (filter p xs)) kept → Lists x (map candidate xs) kept)
       → Lists x (map candidate (cond b (o ∷ filter p xs) (filter p xs))) kept → Lists x (candidate o ∷ map candidate xs) kept
   lift_step p o xs kept true e none more (keeps {kept = rest} h m) = keeps h (more rest m)
   lift_step p o xs kept true e none more (drops h m) = drops h (more kept m)
   lift_step p o xs kept false e none more l = drops (none e) (more kept l)
 
-  lists_lifted : (p : ℕ → Bool) (xs : List ℕ) (kept : List Candidate) → ((o : ℕ) → p o ≡ false → ¬ (Holds x (candidate o))) → Lists x (map candidate (filter p xs)) kept → Lists x (map candidate xs) kept
+  pub lists_lifted : (p : A → Bool) (xs : List A) (kept : List Candidate) → ((o : A) → p o ≡ false → ¬ (Holds x (candidate o))) → Lists x (map candidate (filter p xs)) kept → Lists x (map candidate xs) kept
   lists_lifted p [] kept none l = l
   lists_lifted p (o ∷ xs) kept none l = lift_step p o xs kept (p o) refl (none o) (λ rest m. lists_lifted p xs rest none m) l
 
-  pub adds_lifted : (p : ℕ → Bool) (xs : List ℕ) (old new : List Finding) → ((o : ℕ) → p o ≡ false → ¬ (Holds x (candidate o))) → Adds x (map candidate (filter p xs)) old new → Adds x (map candidate xs) old new
+  pub adds_lifted : (p : A → Bool) (xs : List A) (old new : List Finding) → ((o : A) → p o ≡ false → ¬ (Holds x (candidate o))) → Adds x (map candidate (filter p xs)) old new → Adds x (map candidate xs) old new
   adds_lifted p xs old new none h = record { kept = h.kept; right = lists_lifted p xs h.kept none h.right; added = h.added }
 
   -- where it holds of none, nothing is added
-  lists_none : (xs : List ℕ) → ((o : ℕ) → ¬ (Holds x (candidate o))) → Lists x (map candidate xs) []
+  lists_none : (xs : List A) → ((o : A) → ¬ (Holds x (candidate o))) → Lists x (map candidate xs) []
   lists_none [] none = nothing
   lists_none (o ∷ xs) none = drops (none o) (lists_none xs none)
 
-  pub adds_none_of : (xs : List ℕ) (old : List Finding) → ((o : ℕ) → ¬ (Holds x (candidate o))) → Adds x (map candidate xs) old old
+  pub adds_none_of : (xs : List A) (old : List Finding) → ((o : A) → ¬ (Holds x (candidate o))) → Adds x (map candidate xs) old old
   adds_none_of xs old none = record { kept = []; right = lists_none xs none; added = sym (append-nil old) }
+
+-- what is listed behind the same candidates
+lists_behind : (x : Subject) (one other more kept : List Candidate) → ((rest : List Candidate) → Lists x other rest → Lists x more rest) → Lists x (one ++ other) kept → Lists x (one ++ more) kept
+lists_behind x [] other more kept lift l = lift kept l
+lists_behind x (c ∷ one) other more kept lift (keeps {kept = rest} h m) = keeps h (lists_behind x one other more rest lift m)
+lists_behind x (c ∷ one) other more kept lift (drops h m) = drops h (lists_behind x one other more kept lift m)
+
+module _ {A : Type 0} (x : Subject) (found : A → List Candidate) where
+  -- where something is listed of those alone that pass a test, these are enough
+  each_step : (p : A → Bool) (a : A) (xs : List A) (kept : List Candidate) (b : Bool) → p a ≡ b → (p a ≡ false → Lists x (found a) []) → ((kept : List Candidate) → Lists x (flat_map found (filter p xs)) kept → Lists x (flat_map found xs) kept)
+      → Lists x (flat_map found (cond b (a ∷ filter p xs) (filter p xs))) kept → Lists x (found a ++ flat_map found xs) kept
+  each_step p a xs kept true e none more l = lists_behind x (found a) (flat_map found (filter p xs)) (flat_map found xs) kept more l
+  each_step p a xs kept false e none more l = lists_append x (none e) (more kept l)
+
+  each_lifted : (p : A → Bool) (xs : List A) (kept : List Candidate) → ((a : A) → p a ≡ false → Lists x (found a) []) → Lists x (flat_map found (filter p xs)) kept → Lists x (flat_map found xs) kept
+  each_lifted p [] kept none l = l
+  each_lifted p (a ∷ xs) kept none l = each_step p a xs kept (p a) refl (none a) (λ rest m. each_lifted p xs rest none m) l
+
+  pub adds_each_lifted : (p : A → Bool) (xs : List A) (old new : List Finding) → ((a : A) → p a ≡ false → Lists x (found a) []) → Adds x (flat_map found (filter p xs)) old new → Adds x (flat_map found xs) old new
+  adds_each_lifted p xs old new none h = record { kept = h.kept; right = each_lifted p xs h.kept none h.right; added = h.added }

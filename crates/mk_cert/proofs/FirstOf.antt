@@ -1,5 +1,6 @@
 -- The first of a list of which something holds, part by part.
-use Rattle.std.proofs.Common.{List, [], ◌∷◌, ◌++◌, inl, inr, ⊎_elim, refl, subst}
+use Rattle.std.proofs.Common.{◌≡◌, List, [], ◌∷◌, ◌++◌, Bool, true, false, cond, map, inl, inr, ⊎_elim, refl, subst}
+use Rattle.std.specs.Prelude.{filter}
 use Rattle.mk_graph.specs.Membership.{Has}
 use Rattle.mk_cert.specs.Verdict.{IsFirst}
 
@@ -51,3 +52,19 @@ module _ {A : Type 0} where
 
   pub left_none : (P : A → Type 0) (all : List A) → Left P [] all → NoneOf P all
   left_none P all left = left.none (λ x h. absurd h)
+
+module _ {A B : Type 0} (P : B → Type 0) (read : A → B) where
+  -- where it can hold of those alone that pass a test, these decide
+  passing_step : (p : A → Bool) (a : A) (xs : List A) (b : Bool) → p a ≡ b → (p a ≡ false → ¬ (P (read a))) → Left P (map read (filter p xs)) (map read xs) → Left P (map read (cond b (a ∷ filter p xs) (filter p xs))) (read a ∷ map read xs)
+  passing_step p a xs true e none left = record {
+    first = λ y h. ⊎_elim (λ here. inl here) (λ later. inr (later.0, left.first y later.1)) h;
+    none = λ h y stands. ⊎_elim (λ here. h y (inl here)) (λ there. left.none (λ z more. h z (inr more)) y there) stands;
+  }
+  passing_step p a xs false e none left = record {
+    first = λ y h. inr (none e, left.first y h);
+    none = λ h y stands. ⊎_elim (λ here. subst (λ (z : B). ¬ (P z)) here (none e)) (λ there. left.none h y there) stands;
+  }
+
+  pub left_passing : (p : A → Bool) (xs : List A) → ((a : A) → p a ≡ false → ¬ (P (read a))) → Left P (map read (filter p xs)) (map read xs)
+  left_passing p [] none = left_all P []
+  left_passing p (a ∷ xs) none = passing_step p a xs (p a) refl (none a) (left_passing p xs none)

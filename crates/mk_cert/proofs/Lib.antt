@@ -24,3 +24,4 @@ pub mod Accepted
 pub mod KnownFiles
 pub mod Counted
 pub mod Stays
+pub mod SettledReads

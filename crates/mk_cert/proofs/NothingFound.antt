@@ -1,12 +1,12 @@
 -- Nothing is found just where nothing is found of any node.
-use Rattle.std.proofs.Common.{◌≡◌, ◌∙◌, ◌<◌, ◌≤◌, ℕ, zero, suc, ◌+◌, List, [], ◌∷◌, ◌++◌, length, get_or, map, take, drop, refl, ap, sym, subst, arith}
+use Rattle.std.proofs.Common.{◌≡◌, ◌∙◌, ◌<◌, ◌≤◌, ℕ, zero, suc, ◌+◌, List, [], ◌∷◌, ◌++◌, length, get_or, map, take, drop, ap, sym, subst, arith}
 use Rattle.std.specs.List.{flat_map}
 use Rattle.std.proofs.lemmas.List.{drop_more}
 use Rattle.std.proofs.lemmas.Grind.{flat_map-append}
 use Rattle.mk_graph.specs.Membership.{IsDistinct}
 use Rattle.mk_graph.specs.Serial.{serial_order}
 use Rattle.mk_cert.specs.Subject.{Subject, writes_of}
-use Rattle.mk_cert.specs.Candidates.{Candidate, by_node, by_number, pairs_of_writers, static_candidates, two_writers}
+use Rattle.mk_cert.specs.Candidates.{Candidate, by_number, pairs_of_writers, static_candidates, two_writers}
 use Rattle.mk_cert.specs.Listing.{Lists, nothing, drops}
 use Rattle.mk_cert.specs.Questions.{asked, asked_before_pairs, asked_behind_pairs, asked_of, before_pairs, behind_pairs, found_of, pairs_with}
 use Rattle.mk_cert.proofs.Adding.{drop_past, lists_append}

@@ -8,3 +8,4 @@ pub record AreTablesOf (x : Subject) (t : Tables) : Type 0 where
   pub is_subject : IsSubject x
   pub tables :
       AreTables x t.entries.items t.writers t.names t.reads.known.items t.reads.places
+      t.unsettled

@@ -18,6 +18,7 @@ pub mod Verdict
 pub mod Links
 pub mod Walking
 pub mod Known
+pub mod Settled
 pub mod Target
 pub mod Counts
 pub mod Checks

@@ -140,7 +140,7 @@ impl<'a> Entry<'a> {
     }
 
     /// The file at a place of what its recipe reads.
-    pub fn read_at(&self, place: usize) -> &str
+    pub(crate) fn read_at(&self, place: usize) -> &str
         requires { place < length (entry_reads self.now) }
         ensures { result.now ≡ slice_index_or (entry_reads self.now) place [] }
     {

@@ -116,9 +116,9 @@ pub fn note_unknown_reads(
         (map (λ f. unknown_read entry.now.number f) (reads_of subject.now entry.now.number))
         found.old.items found.new.items) }
 {
-    let count = entry.reads().len();
-    for place in 0..count {
-        note_unknown(alloc, subject, entry, place, found)?;
+    let places = subject.unsettled(entry.number);
+    for place in places {
+        note_unknown(alloc, subject, entry, *place, found)?;
     }
     Ok(())
 }
@@ -189,10 +189,12 @@ pub fn note_own_reads(
         (map (λ f. own_read entry.now.number f) (reads_of subject.now entry.now.number))
         found.old.items found.new.items) }
 {
+    serial_reaches_each_once();
+    let _graph = subject.graph();
     let mut written = NameList::new(entry.writes());
-    let count = entry.reads().len();
-    for place in 0..count {
-        note_own(alloc, subject, entry, &mut written, place, found)?;
+    let places = subject.unsettled(entry.number);
+    for place in places {
+        note_own(alloc, subject, entry, &mut written, *place, found)?;
     }
     Ok(())
 }

@@ -60,10 +60,10 @@ fn first_lacking<'a>(
         (λ file. IsFirst (LacksWay subject.now ways) (reads_by subject.now entry.now.number)
         (record { recipe = entry.now.number; file = file.now })) }
 {
-    let count = entry.reads().len();
-    for place in 0..count {
-        if lacks(subject, seen, entry, place) {
-            return Some(entry.read_at(place));
+    let places = subject.unsettled(entry.number);
+    for place in places {
+        if lacks(subject, seen, entry, *place) {
+            return Some(entry.read_at(*place));
         }
     }
     None

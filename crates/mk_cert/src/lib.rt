@@ -27,6 +27,7 @@ mod pairs;
 mod question;
 mod race_findings;
 mod seen_names;
+mod settled;
 mod shared_name;
 mod subject;
 mod tables;

@@ -124,9 +124,9 @@ fn note_files(
         (reads_of subject.now entry.now.number)) found.old.items found.new.items) }
 {
     earlier.turn_to(alloc, entry.number)?;
-    let count = entry.reads().len();
-    for place in 0..count {
-        note_file(alloc, subject, earlier, entry, place, found)?;
+    let places = subject.unsettled(entry.number);
+    for place in places {
+        note_file(alloc, subject, earlier, entry, *place, found)?;
     }
     Ok(())
 }

@@ -6,6 +6,7 @@ ghost use Rattle.mk_graph.specs.Setting as build;
 ghost use Rattle.mk_lines.specs.Names.{has_name};
 ghost use Rattle.mk_infer.specs.Selection.{Selects};
 ghost use Rattle.mk_cert.specs.Known.{all_names, known_of};
+ghost use Rattle.mk_cert.specs.Settled.{AreUnsettled};
 ghost use Rattle.mk_cert.specs.Subject.{IsSubject, name_of, reads_of, subject_of};
 ghost use Rattle.mk_cert.specs.Target.{target_of};
 ghost use Rattle.mk_cert.specs.Entry.{AreEntries, IsEntry, IsFaultOf, entry_reads, writers_of};
@@ -162,6 +163,17 @@ impl<'a> Subject<'a> {
     {
         let at = self.tables.reads.places.as_slice()[entry.number][place];
         &self.tables.reads.known[at]
+    }
+
+    /// The places of what the recipe of a node reads at which the file isn't settled, in their
+    /// order. It takes no memory.
+    pub(crate) fn unsettled(&self, number: usize) -> &[usize]
+        ensures { AreUnsettled (known_of self.now) result.now (reads_of self.now number) }
+    {
+        match self.tables.unsettled.as_slice().get(number) {
+            Some(places) => places.as_slice(),
+            None => &[],
+        }
     }
 
     /// The file at a place of what the recipe of a node reads, with what is known of it. It takes

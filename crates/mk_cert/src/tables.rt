@@ -10,10 +10,11 @@ use crate::entry::Entry;
 use crate::known::{ReadFiles, read_files};
 use crate::links::node_names;
 use crate::looking_up::entries_for;
+use crate::settled::unsettled_places;
 use crate::writers::{Writers, writers_among};
 use mk_foot::Setting;
-use mk_graph::Graph;
 use mk_graph::laws::serial_reaches_each_once;
+use mk_graph::{Graph, Groups};
 use mk_infer::{Exists, InferFault, RuleTable};
 use mk_lines::NameSet;
 use std::alloc::{AllocError, Global};
@@ -29,6 +30,9 @@ pub struct Tables<'a> {
     pub names: NameSet<'a>,
     /// What is known of the files that recipes read.
     pub reads: ReadFiles,
+    /// For each node, at its number, the places among what its recipe reads of the files that
+    /// aren't settled.
+    pub unsettled: Groups,
 }
 
 /// What is looked up of each node, and that the graph is one.
@@ -61,7 +65,7 @@ pub fn tables_for<'a>(
     requires { there.now.more ≡ [] }
     ensures tables { IfOk result (λ t. AreTables
         (subject_of table.now there.now graph.now setting.now)
-        t.entries.items t.writers t.names t.reads.known.items t.reads.places) }
+        t.entries.items t.writers t.names t.reads.known.items t.reads.places t.unsettled) }
     ensures fault { IfErr result (λ fault. IsFaultOf
         (subject_of table.now there.now graph.now setting.now) fault) }
 {
@@ -70,10 +74,12 @@ pub fn tables_for<'a>(
     let writers = writers_among(alloc, &entries)?;
     let names = node_names(alloc, graph)?;
     let reads = read_files(alloc, graph, setting, &writers, &names)?;
+    let unsettled = unsettled_places(alloc, &reads.known, &reads.places)?;
     Ok(Tables {
         entries,
         writers,
         names,
         reads,
+        unsettled,
     })
 }

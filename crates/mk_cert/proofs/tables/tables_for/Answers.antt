@@ -1,8 +1,8 @@
-use Rattle.std.proofs.Common.{◌≡◌, ◌∙◌, [], ℕ, ap, subst, refl, inl, get_or, List, map}
+use Rattle.std.proofs.Common.{◌≡◌, ◌∙◌, [], ℕ, ap, subst, refl, inl, sym, get_or, List, map}
 use Rattle.std.specs.Prelude.{filter}
 use Rattle.std.proofs.lemmas.Result.{err_from_is_err_and}
 use Rattle.mk_lines.specs.Names.{has_name}
-use Rattle.mk_cert.specs.Known.{Known, StandAt, all_names}
+use Rattle.mk_cert.specs.Known.{Known, StandAt, all_names, known_of}
 use Rattle.mk_cert.specs.Subject.{reads_of, subject_of}
 use Rattle.mk_cert.specs.Writers.{numbers_at}
 use Rattle.mk_cert.specs.Entry.{Entry, entry_writes, writers_of}
@@ -30,6 +30,11 @@ returns-in_err-reads-clause-fault c =
     let p = err_from_is_err_and c.from_residual-in_err-reads.result c.from_residual-in_err-reads.ensures.1 in
     rw (p.1, p.2) (inl refl)
 
+pub returns-in_err-unsettled-clause-fault : goal.returns-in_err-unsettled-clause-fault
+returns-in_err-unsettled-clause-fault c =
+    let p = err_from_is_err_and c.from_residual-in_err-unsettled.result c.from_residual-in_err-unsettled.ensures.1 in
+    rw (p.1, p.2) (inl refl)
+
 pub returns : goal.returns
 returns c =
     let x = subject_of c.args.table.now c.args.there.now c.args.graph.now c.args.setting.now in
@@ -38,6 +43,7 @@ returns c =
     let writers : (file : List ℕ) → numbers_at c.in_ok-writers.writers file ≡ writers_of x file = λ file. c.in_ok-writers.ensures file ∙ (ap (λ (es : List Entry). map (λ (e : Entry). e.number) (filter (λ (e : Entry). has_name (entry_writes e) file) es)) c.deref.ensures.value ∙ writers_are x file entries held) in
     let names : c.in_ok-names.names ≡ all_names x = c.in_ok-names.ensures in
     let reads = c.in_ok-reads.reads in
+    let stand = λ (t : ℕ). subst (λ (by : List ℕ → Known). StandAt by reads.known.items (get_or reads.places t []) (reads_of x t)) (known_is x (numbers_at c.in_ok-writers.writers) c.in_ok-names.names writers names) (c.in_ok-reads.ensures t) in
     record {
       tables = record {
         is_graph = c.in_ok-entries.ensures.graph;
@@ -45,7 +51,8 @@ returns c =
         entries_held = held;
         writers_held = writers;
         names_held = names;
-        reads_held = λ t. subst (λ (by : List ℕ → Known). StandAt by reads.known.items (get_or reads.places t []) (reads_of x t)) (known_is x (numbers_at c.in_ok-writers.writers) c.in_ok-names.names writers names) (c.in_ok-reads.ensures t);
+        reads_held = stand;
+        unsettled_held = λ t. c.in_ok-unsettled.ensures (known_of x) t (reads_of x t) (subst (λ (l : List Known). StandAt (known_of x) l (get_or reads.places t []) (reads_of x t)) (sym c.deref-2.ensures.value) (stand t));
       };
       fault = tt;
     }
