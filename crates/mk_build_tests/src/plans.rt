@@ -75,7 +75,7 @@ make 1/run c => refused 63 line 2/a 1 1/
 make 1 c/run b/run c/run b => refused 63 line 4/a 1 1/b 2 2/c 3 3/";
 
 /// Two recipes that read one source.
-const TWO: &str = r#"{"format":1,"fixed":[],"sources":["s"],"records":[
+pub const TWO: &str = r#"{"format":1,"fixed":[],"sources":["s"],"records":[
 {"target":"p","commands":["p"],"reads":["s"],"writes":["p"]},
 {"target":"q","commands":["q"],"reads":["s"],"writes":["q"]}]}"#;
 
@@ -127,33 +127,23 @@ fn printed(alloc: Global, run: &Run, files: &str) -> Result<String, AllocError> 
     }
 }
 
-/// The run of a plan once time has run on to a stamp, and the files behind it.
-fn run_in(
-    alloc: Global,
-    world: &mut World,
-    stamp: u64,
-    plan: &Plan,
-) -> Result<(Run, String), AllocError> {
-    world.age(stamp);
-    let run = run_plan(alloc, world, plan)?;
+/// What a run in a world prints: its text, and behind a refusal its line and the files.
+fn printed_in(alloc: Global, world: &World, run: &Run) -> Result<String, AllocError> {
     let mut files = String::new(alloc);
     print_files(alloc, world, &mut files)?;
-    Ok((run, files))
+    printed(alloc, run, files.as_str())
+}
+
+/// What the run of a plan prints once time has run on to a stamp.
+fn run_in(alloc: Global, world: &mut World, stamp: u64, plan: &Plan) -> Result<String, AllocError> {
+    world.age(stamp);
+    let run = run_plan(alloc, world, plan)?;
+    let text = printed_in(alloc, world, &run);
+    drop(run);
+    text
 }
 
 /// The same in a new world.
-pub fn run_of(
-    alloc: Global,
-    graph: &Graph,
-    setting: &Setting,
-    stamp: u64,
-    plan: &Plan,
-) -> Result<(Run, String), AllocError> {
-    let mut world = World::new(alloc, graph, setting)?;
-    run_in(alloc, &mut world, stamp, plan)
-}
-
-/// What the run of a plan prints in a world in which time has run on to a stamp.
 fn simulated(
     alloc: Global,
     graph: &Graph,
@@ -161,12 +151,14 @@ fn simulated(
     stamp: u64,
     plan: &Plan,
 ) -> Result<String, AllocError> {
-    let (run, files) = run_of(alloc, graph, setting, stamp, plan)?;
-    printed(alloc, &run, files.as_str())
+    let mut world = World::new(alloc, graph, setting)?;
+    let text = run_in(alloc, &mut world, stamp, plan);
+    drop(world);
+    text
 }
 
 /// The line at which a text is no plan.
-fn line_of(alloc: Global, fault: &PlanFault) -> Result<String, AllocError> {
+fn line_of(alloc: Global, fault: PlanFault) -> Result<String, AllocError> {
     match fault {
         PlanFault::Line(line) => format!(in alloc; "refused 69 line {line}"),
         PlanFault::Memory => Err(AllocError),
@@ -183,8 +175,12 @@ fn ran_at(
     plan: &[u8],
 ) -> Result<String, AllocError> {
     match read_plan(alloc, plan) {
-        Ok(plan) => simulated(alloc, graph, setting, stamp, &plan),
-        Err(fault) => line_of(alloc, &fault),
+        Ok(plan) => {
+            let text = simulated(alloc, graph, setting, stamp, &plan);
+            drop(plan);
+            text
+        }
+        Err(fault) => line_of(alloc, fault),
     }
 }
 
@@ -246,11 +242,13 @@ fn see_recorded(
     rows: &str,
 ) -> Result<(), AllocError> {
     let setting = Setting::new(alloc, book, &[], &[])?;
-    see_rows(rt, alloc, graph, &setting, rows)
+    let seen = see_rows(rt, alloc, graph, &setting, rows);
+    drop(setting);
+    seen
 }
 
 /// Sees that plans over a book print what their rows say.
-fn see_plans(
+pub fn see_plans(
     rt: &impl Abort,
     alloc: Global,
     graph: &Graph,
@@ -271,11 +269,24 @@ const PLANS: &[(&str, &[usize], &str, &str)] = &[
     ("all:12 p!:3 q!:3 s", &[0], TWO, TWO_ROWS),
 ];
 
+/// Sees that plans over a graph of these nodes and goals, and a book, print what their rows say.
+fn see_built(
+    rt: &impl Abort,
+    alloc: Global,
+    nodes: &str,
+    goals: &[usize],
+    plans: (&str, &str),
+) -> Result<(), Fail> {
+    let graph = built(rt, alloc, nodes_of(alloc, nodes)?, goals)?;
+    let seen = see_plans(rt, alloc, &graph, plans.0, plans.1);
+    drop(graph);
+    seen
+}
+
 #[test]
 fn plans_that_are_run(rt: HostRuntime) -> Result<(), Fail> {
     for &(nodes, goals, book, rows) in PLANS {
-        let graph = built(&rt, rt.alloc(), nodes_of(rt.alloc(), nodes)?, goals)?;
-        see_plans(&rt, rt.alloc(), &graph, book, rows)?;
+        see_built(&rt, rt.alloc(), nodes, goals, (book, rows))?;
     }
     Ok(())
 }
@@ -283,8 +294,11 @@ fn plans_that_are_run(rt: HostRuntime) -> Result<(), Fail> {
 /// The line at which a text is no plan, or none.
 fn bad_line(alloc: Global, text: &[u8]) -> Result<String, AllocError> {
     match read_plan(alloc, text) {
-        Ok(_plan) => String::from_str(alloc, "none"),
-        Err(fault) => line_of(alloc, &fault),
+        Ok(plan) => {
+            drop(plan);
+            String::from_str(alloc, "none")
+        }
+        Err(fault) => line_of(alloc, fault),
     }
 }
 

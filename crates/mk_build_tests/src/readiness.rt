@@ -112,10 +112,18 @@ fn see_makes(
     see_shown(rt, alloc, readiness, "------t")
 }
 
+/// Sees it over a graph.
+fn see_graph(rt: &impl Abort, alloc: Global, graph: &Graph) -> Result<(), AllocError> {
+    let mut readiness = Readiness::new(alloc, graph)?;
+    let seen = see_makes(rt, alloc, graph, &mut readiness);
+    drop(readiness);
+    seen
+}
+
 #[test]
 fn what_is_kept_as_nodes_are_done(rt: HostRuntime) -> Result<(), Fail> {
     let graph = graph_of(&rt, rt.alloc(), GATED)?;
-    let mut readiness = Readiness::new(rt.alloc(), &graph)?;
-    see_makes(&rt, rt.alloc(), &graph, &mut readiness)?;
-    Ok(())
+    let seen = see_graph(&rt, rt.alloc(), &graph);
+    drop(graph);
+    Ok(seen?)
 }

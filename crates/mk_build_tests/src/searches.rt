@@ -59,8 +59,9 @@ fn see_ways(
     want: &str,
 ) -> Result<(), AllocError> {
     let mut search = Search::new(alloc, rows, start)?;
-    let got = ways_of(alloc, &mut search, 10)?;
-    same(rt, got.as_str(), want, want);
+    let got = ways_of(alloc, &mut search, 10);
+    drop(search);
+    same(rt, got?.as_str(), want, want);
     Ok(())
 }
 
@@ -94,8 +95,9 @@ fn see_ends(rt: &impl Abort, search: &mut Search<'_>) -> Result<(), AllocError> 
 fn ends_by_place(rt: HostRuntime) -> Result<(), Fail> {
     let rows = rows_of(rt.alloc(), "21|3|34||0")?;
     let mut search = Search::new(rt.alloc(), &rows, 0)?;
-    see_ends(&rt, &mut search)?;
-    Ok(())
+    let seen = see_ends(&rt, &mut search);
+    drop(search);
+    Ok(seen?)
 }
 
 /// Ends, and the places of the ways there.
@@ -113,6 +115,7 @@ fn see_places(rt: &impl Abort, search: &mut Search<'_>) -> Result<(), AllocError
 fn places_by_end(rt: HostRuntime) -> Result<(), Fail> {
     let rows = rows_of(rt.alloc(), "21|3|34||0|0")?;
     let mut search = Search::new(rt.alloc(), &rows, 0)?;
-    see_places(&rt, &mut search)?;
-    Ok(())
+    let seen = see_places(&rt, &mut search);
+    drop(search);
+    Ok(seen?)
 }

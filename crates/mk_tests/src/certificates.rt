@@ -1,11 +1,13 @@
 //! Tests of mk_ways: certificates as they are written and read.
 
+use crate::fixtures::{same, see_that};
 use mk_ways::{
     Certificate, CertificateFault, Finish, PackedNames, Way, Ways, certificate_text,
     read_certificate,
 };
 use std::alloc::{AllocError, Global};
 use std::process::Abort;
+use std::str;
 use std::test::Fail;
 
 /// A certificate of three ways.
@@ -219,7 +221,7 @@ fn read(alloc: Global, bytes: &[u8]) -> Result<String, Fail> {
 /// Sees what bytes read as.
 fn see(rt: &impl Abort, alloc: Global, bytes: &[u8], want: &str) -> Result<(), Fail> {
     let got = read(alloc, bytes)?;
-    assert_eq!(rt; got.as_str(), want, "over {} bytes", bytes.len());
+    same(rt, got.as_str(), want, str::from_utf8(bytes).unwrap_or("?"));
     Ok(())
 }
 
@@ -266,7 +268,7 @@ fn three_written(alloc: Global) -> Result<String, AllocError> {
 #[test]
 fn writes_three_ways(rt: HostRuntime) -> Result<(), Fail> {
     let text = three_written(rt.alloc())?;
-    assert_eq!(rt; text.as_str(), THREE);
+    same(&rt, text.as_str(), THREE, "three ways");
     Ok(())
 }
 
@@ -276,36 +278,41 @@ fn reads_three_ways(rt: HostRuntime) -> Result<(), Fail> {
     see(&rt, rt.alloc(), SHUFFLED.as_bytes(), SHUFFLED_WAYS)
 }
 
+/// The text of a certificate of these goals without ways.
+fn goals_written(alloc: Global, words: &str) -> Result<String, AllocError> {
+    written(alloc, names(alloc, words)?, Ways::new(alloc))
+}
+
 #[test]
 fn writes_without_ways(rt: HostRuntime) -> Result<(), Fail> {
-    let alloc = rt.alloc();
-    let goals = names(alloc, "a\"b c\\d é")?;
-    let text = written(alloc, goals, Ways::new(alloc))?;
+    let text = goals_written(rt.alloc(), "a\"b c\\d é")?;
     let want = r#"{"format":1,"goals":["a\"b","c\\d","é"],"ways":[]}"#;
-    assert_eq!(rt; text.as_str(), want);
-    see(&rt, alloc, text.as_bytes(), "goals a\"b c\\d é")
+    same(&rt, text.as_str(), want, "no ways");
+    see(&rt, rt.alloc(), text.as_bytes(), "goals a\"b c\\d é")
+}
+
+/// Sees what the text of a row reads as between these texts.
+fn see_row(rt: &impl Abort, alloc: Global, front: &str, row: &str, rest: &str) -> Result<(), Fail> {
+    let (text, line) = row.split_once(" => ").unwrap_or((row, ""));
+    let text = format!(in alloc; "{front}{text}{rest}")?;
+    see(rt, alloc, text.as_bytes(), line)
 }
 
 #[test]
 fn reads_objects(rt: HostRuntime) -> Result<(), Fail> {
     for row in OBJECTS.lines() {
-        let (text, line) = row.split_once(" => ").unwrap_or((row, ""));
-        see(&rt, rt.alloc(), text.as_bytes(), line)?;
+        see_row(&rt, rt.alloc(), "", row, "")?;
     }
     Ok(())
 }
 
-/// The text of a certificate with these ways.
-fn with_ways(alloc: Global, ways: &str) -> Result<String, AllocError> {
-    format!(in alloc; "{{\"format\":1,\"goals\":[],\"ways\":{ways}}}")
-}
+/// What stands before a list of ways.
+const BEFORE_WAYS: &str = r#"{"format":1,"goals":[],"ways":"#;
 
 #[test]
 fn reads_ways(rt: HostRuntime) -> Result<(), Fail> {
-    let alloc = rt.alloc();
     for row in WAYS.lines() {
-        let (ways, line) = row.split_once(" => ").unwrap_or((row, ""));
-        see(&rt, alloc, with_ways(alloc, ways)?.as_bytes(), line)?;
+        see_row(&rt, rt.alloc(), BEFORE_WAYS, row, "}")?;
     }
     Ok(())
 }
@@ -413,9 +420,10 @@ fn refuses_fronts(rt: HostRuntime) -> Result<(), Fail> {
 
 /// Sees that a certificate is the one of three ways, also as it is written where memory suffices.
 fn see_three(rt: &impl Abort, alloc: Global, certificate: &Certificate) -> Result<(), Fail> {
-    assert_eq!(rt; shown(alloc, certificate)?.as_str(), THREE_WAYS);
+    let ways = shown(alloc, certificate)?;
+    same(rt, ways.as_str(), THREE_WAYS, "as lines");
     if let Ok(text) = certificate_text(alloc, certificate) {
-        assert_eq!(rt; text.as_str(), THREE);
+        same(rt, text.as_str(), THREE, "as it is written");
     }
     Ok(())
 }
@@ -424,8 +432,14 @@ fn see_three(rt: &impl Abort, alloc: Global, certificate: &Certificate) -> Resul
 #[test]
 fn wants_memory_or_answers(rt: HostRuntime) -> Result<(), Fail> {
     match read_certificate(rt.alloc(), THREE.as_bytes()) {
-        Ok(certificate) => see_three(&rt, rt.alloc(), &certificate)?,
-        Err(fault) => assert!(rt; matches!(fault, CertificateFault::Memory)),
+        Ok(certificate) => see_three(&rt, rt.alloc(), &certificate),
+        Err(fault) => {
+            see_that(
+                &rt,
+                matches!(fault, CertificateFault::Memory),
+                "want of memory",
+            );
+            Ok(())
+        }
     }
-    Ok(())
 }

@@ -20,7 +20,9 @@ pub fn same_bytes(rt: &impl Abort, got: &[u8], want: &[u8], row: &str) {
 }
 
 /// The same of numbers.
-pub fn same_number(rt: &impl Abort, got: usize, want: usize, row: &str) {
+pub fn same_number(rt: &impl Abort, got: usize, want: usize, row: &str)
+    ensures { got ≡ want }
+{
     assert_eq!(rt; got, want, "at {row}");
 }
 

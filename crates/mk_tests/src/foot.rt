@@ -377,7 +377,9 @@ fn told_with(
     passed_over: &[String],
 ) -> Result<String, AllocError> {
     let setting = Setting::new(alloc, book, texts, passed_over)?;
-    told(alloc, &setting)
+    let told = told(alloc, &setting);
+    drop(setting);
+    told
 }
 
 /// What it tells.

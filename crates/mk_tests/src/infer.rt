@@ -113,8 +113,12 @@ fn graph_shown(
     exists: &Exists<'_>,
 ) -> Result<Vec<u8>, AllocError> {
     match selected(alloc, table, exists) {
-        Ok(graph) => shown(alloc, &graph),
-        Err(fault) => fault_words(alloc, &fault),
+        Ok(graph) => {
+            let shown = shown(alloc, &graph);
+            drop(graph);
+            shown
+        }
+        Err(fault) => fault_words(alloc, fault),
     }
 }
 
@@ -126,7 +130,9 @@ fn selected_of(
     goals: &Goals,
 ) -> Result<Graph, InferFault> {
     let choices = Choices::new(alloc, table, exists)?;
-    select(alloc, &choices, goals)
+    let graph = select(alloc, &choices, goals);
+    drop(choices);
+    graph
 }
 
 /// The graph of a table's first goal.
@@ -136,7 +142,9 @@ fn selected(
     exists: &Exists<'_>,
 ) -> Result<Graph, InferFault> {
     let goals = goal_names(alloc, table, &[])?;
-    selected_of(alloc, table, exists, &goals)
+    let graph = selected_of(alloc, table, exists, &goals);
+    drop(goals);
+    graph
 }
 
 /// The number of a fault, with its line or its name.
@@ -154,8 +162,10 @@ fn fault_text(alloc: Global, fault: &InferFault) -> Result<String, AllocError> {
 }
 
 /// The same as bytes.
-fn fault_words(alloc: Global, fault: &InferFault) -> Result<Vec<u8>, AllocError> {
-    Ok(fault_text(alloc, fault)?.into_bytes())
+fn fault_words(alloc: Global, fault: InferFault) -> Result<Vec<u8>, AllocError> {
+    let text = fault_text(alloc, &fault);
+    drop(fault);
+    Ok(text?.into_bytes())
 }
 
 /// Commands, each behind a newline; before them `?` where they vary.
@@ -174,8 +184,12 @@ fn lines_text(alloc: Global, found: &Commands) -> Result<Vec<u8>, AllocError> {
 /// The commands of a name, or the words of the fault.
 fn told(alloc: Global, choices: &Choices<'_>, name: &str) -> Result<Vec<u8>, AllocError> {
     match commands(alloc, choices, name) {
-        Ok(found) => lines_text(alloc, &found),
-        Err(fault) => fault_words(alloc, &fault),
+        Ok(found) => {
+            let lines = lines_text(alloc, &found);
+            drop(found);
+            lines
+        }
+        Err(fault) => fault_words(alloc, fault),
     }
 }
 
@@ -197,8 +211,12 @@ fn made_text(alloc: Global, made: &Made<'_>) -> Result<Vec<u8>, AllocError> {
 /// What makes a name, or the words of the fault.
 fn told_at_once(alloc: Global, choices: &Choices<'_>, name: &str) -> Result<Vec<u8>, AllocError> {
     match choice_and_commands(alloc, choices, name) {
-        Ok(made) => made_text(alloc, &made),
-        Err(fault) => fault_words(alloc, &fault),
+        Ok(made) => {
+            let text = made_text(alloc, &made);
+            drop(made);
+            text
+        }
+        Err(fault) => fault_words(alloc, fault),
     }
 }
 
@@ -225,7 +243,9 @@ fn asked_of(
     name: &str,
 ) -> Result<Vec<u8>, AllocError> {
     let choices = Choices::new(alloc, table, exists)?;
-    asked(alloc, &choices, what, name)
+    let told = asked(alloc, &choices, what, name);
+    drop(choices);
+    told
 }
 
 /// What the fields of a row ask of a table.
@@ -249,7 +269,9 @@ fn of_makefile(
     fields: &[&str],
 ) -> Result<Vec<u8>, AllocError> {
     let table = RuleTable::new(alloc, makefile)?;
-    of_table(alloc, &table, exists, fields)
+    let told = of_table(alloc, &table, exists, fields);
+    drop(table);
+    told
 }
 
 /// A makefile whose last line defines a macro of its commands.
@@ -267,7 +289,9 @@ fn text_of(alloc: Global, fields: &[&str]) -> Result<String, AllocError> {
 fn answer_of(alloc: Global, exists: &Exists<'_>, fields: &[&str]) -> Result<Vec<u8>, Fail> {
     let text = text_of(alloc, fields)?;
     let makefile = makefile(alloc, text.as_bytes())?;
-    Ok(of_makefile(alloc, &makefile, exists, fields)?)
+    let told = of_makefile(alloc, &makefile, exists, fields);
+    drop(makefile);
+    Ok(told?)
 }
 
 /// Sees that an answer is the second field of a row.
@@ -326,10 +350,24 @@ fn expect_there(
     expect_rows(rt, alloc, &exists, rows)
 }
 
+/// The same where these sources and fixed prefixes are given.
+fn expect_given(
+    rt: &impl Abort,
+    alloc: Global,
+    sources: &str,
+    fixed: &str,
+    any_leaf: bool,
+    rows: &str,
+) -> Result<(), Fail> {
+    let tables = tables(alloc, sources, fixed)?;
+    let seen = expect_there(rt, alloc, &tables, any_leaf, rows);
+    drop(tables);
+    seen
+}
+
 /// The same where no sources or fixed prefixes are given, and any name may be a leaf.
 fn expect_anywhere(rt: &impl Abort, alloc: Global, rows: &str) -> Result<(), Fail> {
-    let tables = tables(alloc, "", "")?;
-    expect_there(rt, alloc, &tables, true, rows)
+    expect_given(rt, alloc, "", "", true, rows)
 }
 
 /// Makefiles behind the default text, and what is shown of their first goal.
@@ -371,8 +409,7 @@ p: /usr/a.o¶/usr/a.c:‖p| /usr/a.o¶/usr/a.o¶
 
 #[test]
 fn minds_what_is_given(rt: HostRuntime) -> Result<(), Fail> {
-    let tables = tables(rt.alloc(), "a.c", "/usr/")?;
-    expect_there(&rt, rt.alloc(), &tables, false, GIVEN)
+    expect_given(&rt, rt.alloc(), "a.c", "/usr/", false, GIVEN)
 }
 
 /// What is asked of a name of the one makefile, what is told, and the name.

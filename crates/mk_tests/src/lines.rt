@@ -300,6 +300,7 @@ fn see_names(rt: &impl Abort, table: &NameTable) {
 fn finds_names(rt: HostRuntime) -> Result<(), Fail> {
     let table = NameTable::new(rt.alloc(), names(rt.alloc(), "b a.c b é")?)?;
     see_names(&rt, &table);
+    drop(table);
     Ok(())
 }
 
@@ -328,6 +329,7 @@ fn see_under(rt: &impl Abort, prefixes: &Prefixes) {
 fn finds_prefixes(rt: HostRuntime) -> Result<(), Fail> {
     let prefixes = Prefixes::new(rt.alloc(), names(rt.alloc(), "/usr/ lib/ é/")?)?;
     see_under(&rt, &prefixes);
+    drop(prefixes);
     Ok(())
 }
 

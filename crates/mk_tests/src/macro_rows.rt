@@ -125,5 +125,7 @@ pub fn follow(
 /// Sees what is said of each row over a new table, outside commands.
 pub fn follow_anew(rt: &impl Abort, alloc: Global, rows: &str) -> Result<(), Fail> {
     let mut macros = MacroTable::new(alloc);
-    follow(rt, alloc, &mut macros, &Locals::Empty, rows)
+    let followed = follow(rt, alloc, &mut macros, &Locals::Empty, rows);
+    drop(macros);
+    followed
 }

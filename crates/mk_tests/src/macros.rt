@@ -20,7 +20,19 @@ P‖=‖a.c b.h‖
 H‖=‖$?$(S)‖
 1‖=‖one‖";
 
-/// Sees what rows say over these macros.
+/// Defines these macros, and sees what rows say over them.
+fn follow_both(
+    rt: &impl Abort,
+    alloc: Global,
+    macros: &mut MacroTable,
+    locals: &Locals<'_>,
+    rows: &str,
+) -> Result<(), Fail> {
+    follow(rt, alloc, macros, locals, MACROS)?;
+    follow(rt, alloc, macros, locals, rows)
+}
+
+/// The same over a new table.
 fn follow_rows(
     rt: &impl Abort,
     alloc: Global,
@@ -28,8 +40,9 @@ fn follow_rows(
     rows: &str,
 ) -> Result<(), Fail> {
     let mut macros = MacroTable::new(alloc);
-    follow(rt, alloc, &mut macros, locals, MACROS)?;
-    follow(rt, alloc, &mut macros, locals, rows)
+    let followed = follow_both(rt, alloc, &mut macros, locals, rows);
+    drop(macros);
+    followed
 }
 
 /// Texts, and what they expand to outside commands.
@@ -250,7 +263,8 @@ fn see_measured(
 }
 
 /// Sees texts of the most bytes, where `E` stands for nothing.
-fn see_longest(rt: &impl Abort, alloc: Global, macros: &MacroTable) -> Result<(), Fail> {
+fn see_longest(rt: &impl Abort, alloc: Global, macros: &mut MacroTable) -> Result<(), Fail> {
+    macros.define(b"E", Op::Delay, b"")?;
     see_measured(rt, alloc, macros, "×1048576×x×", (1_048_576, true))?;
     see_measured(rt, alloc, macros, "×1048576×x×$(E)", (1_048_576, false))
 }
@@ -258,8 +272,9 @@ fn see_longest(rt: &impl Abort, alloc: Global, macros: &MacroTable) -> Result<()
 #[test]
 fn longest_texts(rt: HostRuntime) -> Result<(), Fail> {
     let mut macros = MacroTable::new(rt.alloc());
-    macros.define(b"E", Op::Delay, b"")?;
-    see_longest(&rt, rt.alloc(), &macros)
+    let seen = see_longest(&rt, rt.alloc(), &mut macros);
+    drop(macros);
+    seen
 }
 
 /// Longer texts, where `E` stands for nothing.

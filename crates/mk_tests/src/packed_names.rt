@@ -1,5 +1,6 @@
 //! Tests of mk_ways: names in one text.
 
+use crate::fixtures::{same, same_number};
 use mk_ways::PackedNames;
 use std::alloc::{AllocError, Global};
 use std::process::Abort;
@@ -19,9 +20,9 @@ fn packed(alloc: Global, names: &[&str]) -> Result<PackedNames, AllocError> {
 
 /// Sees that they are these names, in their order.
 fn see(rt: &impl Abort, packed: &PackedNames, want: &[&str]) {
-    assert_eq!(rt; packed.len(), want.len());
+    same_number(rt, packed.len(), want.len(), "names");
     for (place, name) in want.iter().enumerate() {
-        assert_eq!(rt; packed.at(place), *name, "at {place}");
+        same(rt, packed.at(place), name, name);
     }
 }
 
@@ -42,40 +43,66 @@ fn one_name(rt: HostRuntime) -> Result<(), Fail> {
     Ok(())
 }
 
+/// The same, and one behind them.
+const EIGHT: [&str; 8] = ["a", "", "b.c", "", "é", "/ü/日本", "a", "last"];
+
 #[test]
 fn some_names_in_order(rt: HostRuntime) -> Result<(), Fail> {
     let mut names = packed(rt.alloc(), &SOME)?;
     see(&rt, &names, &SOME);
     names.push("last")?;
-    assert_eq!(&rt; names.len(), 8);
-    assert_eq!(&rt; names.at(7), "last");
-    assert_eq!(&rt; names.at(5), "/ü/日本");
+    see(&rt, &names, &EIGHT);
+    Ok(())
+}
+
+/// `x`, and the names behind it.
+const BEHIND: [&str; 8] = ["x", "a", "", "b.c", "", "é", "/ü/日本", "a"];
+
+/// Adds names behind `x`, and sees them all.
+fn see_behind(
+    rt: &impl Abort,
+    names: &mut PackedNames,
+    others: &PackedNames,
+) -> Result<(), AllocError> {
+    names.push_all(others)?;
+    see(rt, names, &BEHIND);
+    names.clear();
+    see(rt, names, &[]);
+    names.push("é")?;
+    see(rt, names, &["é"]);
     Ok(())
 }
 
 #[test]
 fn names_behind_others(rt: HostRuntime) -> Result<(), Fail> {
     let mut names = packed(rt.alloc(), &["x"])?;
-    names.push_all(&packed(rt.alloc(), &SOME)?)?;
-    see(&rt, &names, &["x", "a", "", "b.c", "", "é", "/ü/日本", "a"]);
-    names.clear();
-    see(&rt, &names, &[]);
-    names.push("é")?;
-    see(&rt, &names, &["é"]);
+    let others = packed(rt.alloc(), &SOME)?;
+    see_behind(&rt, &mut names, &others)?;
+    Ok(())
+}
+
+/// So many names of a number.
+fn numbered(alloc: Global, count: u32) -> Result<PackedNames, AllocError> {
+    let mut names = PackedNames::with_capacity(alloc, 10, 30)?;
+    for number in 0..count {
+        names.push(format!(in alloc; "n{number}")?.as_str())?;
+    }
+    Ok(names)
+}
+
+/// Sees some of 3,000 such names.
+fn see_numbered(rt: &impl Abort, alloc: Global, names: &PackedNames) -> Result<(), AllocError> {
+    same_number(rt, names.len(), 3000, "names");
+    for place in [0, 1, 9, 10, 99, 100, 1234, 2999usize] {
+        let want = format!(in alloc; "n{place}")?;
+        same(rt, names.at(place), want.as_str(), "names by number");
+    }
     Ok(())
 }
 
 #[test]
 fn many_names(rt: HostRuntime) -> Result<(), Fail> {
-    let alloc = rt.alloc();
-    let mut names = PackedNames::with_capacity(alloc, 10, 30)?;
-    for number in 0..3000u32 {
-        names.push(format!(in alloc; "n{number}")?.as_str())?;
-    }
-    assert_eq!(&rt; names.len(), 3000);
-    for place in [0, 1, 9, 10, 99, 100, 1234, 2999usize] {
-        let want = format!(in alloc; "n{place}")?;
-        assert_eq!(&rt; names.at(place), want.as_str());
-    }
+    let names = numbered(rt.alloc(), 3000)?;
+    see_numbered(&rt, rt.alloc(), &names)?;
     Ok(())
 }

@@ -175,12 +175,19 @@ const NAMES: &[(&str, &str)] = &[
 ];
 
 /// The words of a fault; want of memory ends the test.
-fn fault_words(alloc: Global, fault: &ReadFault) -> Result<Vec<u8>, Fail> {
+fn words_of(alloc: Global, fault: &ReadFault) -> Result<Vec<u8>, Fail> {
     if fault.is_want_of_memory() {
         return Err("want of memory".into());
     }
     let words = format!(in alloc; "{fault}")?;
     Ok(words.into_bytes())
+}
+
+/// The words of a fault that is let go.
+fn fault_words(alloc: Global, fault: ReadFault) -> Result<Vec<u8>, Fail> {
+    let words = words_of(alloc, &fault);
+    drop(fault);
+    words
 }
 
 /// Names in brackets.
@@ -196,7 +203,7 @@ fn in_brackets(alloc: Global, names: &[String]) -> Result<Vec<u8>, AllocError> {
 fn shown_names(alloc: Global, file: &Name, text: &[u8]) -> Result<Vec<u8>, Fail> {
     match names_of(alloc, file, 1, text) {
         Ok(names) => Ok(in_brackets(alloc, &names)?),
-        Err(fault) => fault_words(alloc, &fault),
+        Err(fault) => fault_words(alloc, fault),
     }
 }
 
@@ -218,8 +225,12 @@ fn told_of(alloc: Global, fault: &ReadFault) -> Result<String, AllocError> {
 /// What is told so of a word's fault.
 fn told_of_word(alloc: Global, file: &Name, word: &[u8]) -> Result<String, AllocError> {
     match name_of(alloc, file, 7, word) {
-        Ok(_) => Ok(String::new(alloc)),
-        Err(fault) => told_of(alloc, &fault),
+        Ok(_name) => Ok(String::new(alloc)),
+        Err(fault) => {
+            let told = told_of(alloc, &fault);
+            drop(fault);
+            told
+        }
     }
 }
 
@@ -232,12 +243,19 @@ fn knows_places(rt: HostRuntime) -> Result<(), Fail> {
     Ok(())
 }
 
+/// Sees whether a fault is want of memory.
+fn see_memory(rt: &impl Abort, fault: ReadFault, want: bool, row: &str) {
+    let is_memory = fault.is_want_of_memory();
+    drop(fault);
+    see_that(rt, is_memory == want, row);
+}
+
 #[test]
 fn knows_want_of_memory(rt: HostRuntime) -> Result<(), Fail> {
     let file = Name::new(rt.alloc(), "f1")?;
-    let fault = ReadFault::IncludeDepth(Place { file, line: 1 });
-    see_that(&rt, !fault.is_want_of_memory(), "another fault");
-    see_that(&rt, ReadFault::Memory.is_want_of_memory(), "want of memory");
+    let place = Place { file, line: 1 };
+    see_memory(&rt, ReadFault::IncludeDepth(place), false, "another fault");
+    see_memory(&rt, ReadFault::Memory, true, "want of memory");
     Ok(())
 }
 

@@ -98,7 +98,9 @@ fn see_read(
     requires { failures_of files.old ≡ 0 }
 {
     let makefile = read_makefile(alloc, files, None, defaults, operands)?;
-    see(rt, alloc, &makefile, want)
+    let seen = see(rt, alloc, &makefile, want);
+    drop(makefile);
+    seen
 }
 
 /// What is seen of both of them.
@@ -108,13 +110,22 @@ const BOTH: Seen<'static> = (
     true,
 );
 
+/// Sees it, and that no file failed.
+fn see_both(rt: &impl Abort, alloc: Global, files: &mut MemFiles) -> Result<(), Fail>
+    requires { failures_of files.old ≡ 0 }
+{
+    let operand = b"OUT=a.out".to_vec(alloc)?;
+    see_read(rt, alloc, files, false, &[operand], BOTH)?;
+    see_that(rt, files.failures() == 0, "no failures");
+    Ok(())
+}
+
 #[test]
 fn reads_makefiles(rt: HostRuntime) -> Result<(), Fail> {
-    let operand = b"OUT=a.out".to_vec(rt.alloc())?;
     let mut files = files(rt.alloc())?;
-    see_read(&rt, rt.alloc(), &mut files, false, &[operand], BOTH)?;
-    see_that(&rt, files.failures() == 0, "no failures");
-    Ok(())
+    let seen = see_both(&rt, rt.alloc(), &mut files);
+    drop(files);
+    seen
 }
 
 /// The rule lines of the default text, and one of the makefile.
@@ -135,5 +146,7 @@ const DEFAULT: Seen<'static> = (
 fn reads_the_default_text(rt: HostRuntime) -> Result<(), Fail> {
     let text = b".SUFFIXES: .x\n.c.o:\n\tcc -c $<\n";
     let mut files = file_of(rt.alloc(), "Makefile", text)?;
-    see_read(&rt, rt.alloc(), &mut files, true, &[], DEFAULT)
+    let seen = see_read(&rt, rt.alloc(), &mut files, true, &[], DEFAULT);
+    drop(files);
+    seen
 }
