@@ -1,5 +1,5 @@
 -- Reads of which nothing is found.
-use Rattle.std.specs.Prelude.{◌≡◌, ℕ, ◌<◌, ◌==◌, ◌&&◌, Bool, not, List, All, filter, length, map, slice_index_or, []}
+use Rattle.std.specs.Prelude.{◌≡◌, ℕ, ◌<◌, ◌==◌, ◌&&◌, Bool, not, List, [], All, filter, length, map, slice_index_or}
 use Rattle.mk_cert.specs.Known.{Known}
 
 -- the file is given, no edit changes it, and no recipe writes it
@@ -11,6 +11,7 @@ abbrev pub unsettled : (List ℕ → Known) → List (List ℕ) → List (List �
 unsettled known_of files = filter (λ f. not (is_settled (known_of f))) files
 
 -- these are the places of those files
-pub record AreUnsettled (known_of : List ℕ → Known) (places : List ℕ) (files : List (List ℕ)) : Type 0 where
+pub record AreUnsettled (known_of : List ℕ → Known) (places : List ℕ)
+    (files : List (List ℕ)) : Type 0 where
   pub within : All (λ p. p < length files) places
   pub stand : map (λ p. slice_index_or files p []) places ≡ unsettled known_of files
