@@ -35,13 +35,17 @@ class Call:
         """The words of the command line."""
         return [str(self.program), often, *self.files]
 
-    def time(self) -> float:
+    def time(self, often: str = "often") -> float:
         """The least milliseconds of its calls; nothing is found of these builds."""
-        done = subprocess.run(self.words("often"), capture_output=True, text=True, check=True)
+        done = subprocess.run(self.words(often), capture_output=True, text=True, check=True)
         taken, found = done.stdout.split()
         if found != "0":
-            sys.exit(f"bench: {' '.join(self.words('often'))}: {found} findings")
+            sys.exit(f"bench: {' '.join(self.words(often))}: {found} findings")
         return int(taken) / 1_000
+
+    def time_once(self) -> float:
+        """The milliseconds of one call, right behind the making of the subject."""
+        return self.time("once")
 
 
 def calls(program: Path, mkcheck: str, build: Build, label: str) -> list[Call]:
@@ -61,16 +65,17 @@ def main() -> None:
     program = built("judging", LIBRARIES, EMPTY, ["once"], [str(DATA / "judging.book")])
     os.chdir(DATA)
     count = counter()
-    print(f"elapsed time in milliseconds, least of {RUNS} runs with {MORE_CALLS + 1} calls each, and millions of instructions of one call")
-    print(f"{'build':<18}{'call':<17}{'ms':>8}{'growth':>8}{'million':>10}{'growth':>8}")
+    print(f"elapsed time in milliseconds, least of {RUNS} runs with {MORE_CALLS + 1} calls each, and with one, and millions of instructions of one call")
+    print(f"{'build':<18}{'call':<17}{'ms':>8}{'growth':>8}{'once ms':>10}{'growth':>8}{'million':>10}{'growth':>8}")
     for shape, smaller, whole in VERIFIED:
         sizes = [calls(program, mkcheck, shape(size), label) for size, label in ((smaller, "half"), (whole, "whole"))]
         for name, half, full in zip(("static_findings", "verify"), *sizes):
             small, great = map(min, in_turns([half.time, full.time], RUNS))
+            first, last = map(min, in_turns([half.time_once, full.time_once], RUNS))
             few, many = ((count(one.words("often"), 0) - count(one.words("once"), 0)) / MORE_CALLS / 10**6 for one in (half, full))
-            times = f"{great:>8.2f}{great / small:>8.2f}{many:>10.1f}{many / few:>8.2f}"
+            times = f"{great:>8.2f}{great / small:>8.2f}{last:>10.2f}{last / first:>8.2f}{many:>10.1f}{many / few:>8.2f}"
             print(f"{f'{shape.__name__} {whole}':<18}{name:<17}{times}", flush=True)
-    print(f"{'at most':<35}{GROWTH_BOUND:>16.2f}{GROWTH_BOUND:>18.2f}")
+    print(f"{'at most':<35}{GROWTH_BOUND:>16.2f}{GROWTH_BOUND:>18.2f}{GROWTH_BOUND:>18.2f}")
 
 
 if __name__ == "__main__":
