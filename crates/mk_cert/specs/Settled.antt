@@ -10,7 +10,7 @@ is_settled k = k.given && (not k.editable && length k.writers == 0)
 abbrev pub unsettled : (List ℕ → Known) → List (List ℕ) → List (List ℕ)
 unsettled known_of files = filter (λ f. not (is_settled (known_of f))) files
 
--- these are the places of those files
+-- at these places stand just those files, in their order
 pub record AreUnsettled (known_of : List ℕ → Known) (places : List ℕ)
     (files : List (List ℕ)) : Type 0 where
   pub within : All (λ p. p < length files) places

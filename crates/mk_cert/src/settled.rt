@@ -17,7 +17,8 @@ fn is_settled(known: &Known) -> bool
     known.given && !known.editable && known.writers.as_slice().is_empty()
 }
 
-/// Whether the file is settled of which this is known, at a place of what is known of files.
+/// Whether the file is settled of which this is known, at a place of what is known of files. No
+/// place past the end is asked for.
 fn is_settled_at(known: &[Known], at: usize) -> bool
     ensures { (k : value.Known) → slice_get known.now at ≡ Some k → result ≡ is_settled k }
 {
@@ -27,7 +28,7 @@ fn is_settled_at(known: &[Known], at: usize) -> bool
     }
 }
 
-/// The places among some files of those that aren't settled, by the places of what is known of
+/// Places at which those of some files stand that aren't settled, by the places of what is known of
 /// them.
 fn unsettled_among(
     alloc: Global,
@@ -47,8 +48,7 @@ fn unsettled_among(
     Ok(unsettled)
 }
 
-/// For each of these rows the places of the files that aren't settled. It takes time linear in
-/// them.
+/// The same for each row of places. It takes time linear in them.
 pub fn unsettled_places(
     alloc: Global,
     known: &[Known],

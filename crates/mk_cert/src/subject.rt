@@ -165,8 +165,8 @@ impl<'a> Subject<'a> {
         &self.tables.reads.known[at]
     }
 
-    /// The places of what the recipe of a node reads at which the file isn't settled, in their
-    /// order. It takes no memory.
+    /// Places of what the recipe of a node reads, at which the files stand that aren't settled, in
+    /// their order. It takes no memory.
     pub(crate) fn unsettled(&self, number: usize) -> &[usize]
         ensures { AreUnsettled (known_of self.now) result.now (reads_of self.now number) }
     {

@@ -43,7 +43,7 @@ fn one_name(rt: HostRuntime) -> Result<(), Fail> {
     Ok(())
 }
 
-/// The same, and one behind them.
+/// `SOME`, and one behind them.
 const EIGHT: [&str; 8] = ["a", "", "b.c", "", "é", "/ü/日本", "a", "last"];
 
 #[test]
