@@ -25,3 +25,4 @@ pub mod KnownFiles
 pub mod Counted
 pub mod Stays
 pub mod SettledReads
+pub mod NumberRows

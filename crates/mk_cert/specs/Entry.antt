@@ -1,5 +1,5 @@
 -- What is looked up of the nodes of a subject: a record for each, and who writes a file.
-use Rattle.std.specs.Prelude.{◌≡◌, ◌⊎◌, ℕ, Bool, true, false, not, ◌&&◌, bytes_eq, ◌<◌, ◌==◌, List, [], ◌∷◌, All, filter, length, map, slice_index, Option, None, Some, Ok, Err, if◌then◌else◌}
+use Rattle.std.specs.Prelude.{◌≡◌, ◌⊎◌, ℕ, Bool, true, false, not, ◌&&◌, bytes_eq, ◌<◌, ◌==◌, List, [], ◌∷◌, All, filter, length, map, slice_index, Option, None, Some, is_some, Ok, Err, if◌then◌else◌}
 use Rattle.mk_lines.specs.Names.{has_name}
 use Rattle.mk_graph.specs.declared.node.Node.{Node}
 use Rattle.mk_graph.specs.Graph.{node}
@@ -25,14 +25,31 @@ abbrev pub has_others : Option Record → List (List ℕ) → Bool
 has_others None lines = false
 has_others (Some r) lines = not (lines_eq r.commands lines)
 
--- a node with its number, its record and its commands, whether the record has others, and with its
--- inferred prerequisite where no recipe has written its files, and where all have
+-- the files of a record, if there is one
+abbrev pub reads_in : Option Record → List (List ℕ)
+reads_in None = []
+reads_in (Some r) = r.reads
+
+abbrev pub writes_in : Option Record → List (List ℕ)
+writes_in None = []
+writes_in (Some r) = r.writes
+
+-- a recipe has a record, isn't phony and doesn't write its target
+abbrev pub is_unwritten : Node → Option Record → Bool
+is_unwritten node recorded =
+    node.recipe && (is_some recorded &&
+    (not node.phony && not (has_name (writes_in recorded) node.name)))
+
+-- a node with its number, its record and its commands, whether the record has others, whether it
+-- doesn't write its target, and with its inferred prerequisite where no recipe has written its
+-- files, and where all have
 pub record Entry : Type 0 where
   pub number : ℕ
   pub node : Node
   pub recorded : Option Record
   pub commands : Commands
   pub others : Bool
+  pub unwritten : Bool
   pub chosen : Option (List ℕ)
   pub chosen_after : Option (List ℕ)
 
@@ -50,6 +67,7 @@ pub record IsEntry (x : Subject) (e : Entry) : Type 0 where
   pub same_record : e.recorded ≡ record_of x e.number
   pub same_commands : commands_of x e.number ≡ Ok e.commands
   pub same_others : e.others ≡ has_others e.recorded e.commands.lines
+  pub same_unwritten : e.unwritten ≡ is_unwritten e.node e.recorded
   pub same_choice : e.chosen ≡ choice x.makefile x.there (name_of x e.number)
   pub same_choice_after : e.chosen_after ≡ choice_after x e.number
 
@@ -61,15 +79,6 @@ pub record AreEntriesOf (x : Subject) (order : List ℕ) (entries : List Entry) 
 -- one for each node, in the serial order
 abbrev pub AreEntries : Subject → List Entry → Type 0
 AreEntries x entries = AreEntriesOf x (serial_order x.graph) entries
-
--- the files of a record, if there is one
-abbrev pub reads_in : Option Record → List (List ℕ)
-reads_in None = []
-reads_in (Some r) = r.reads
-
-abbrev pub writes_in : Option Record → List (List ℕ)
-writes_in None = []
-writes_in (Some r) = r.writes
 
 -- the files that the recipe of a node reads, and those that it writes
 abbrev pub entry_reads : Entry → List (List ℕ)

@@ -1,4 +1,5 @@
 -- What a subject keeps.
+use Rattle.std.specs.Prelude.{map}
 use Rattle.mk_cert.specs.declared.tables.Tables.{Tables}
 use Rattle.mk_cert.specs.Subject.{Subject, IsSubject}
 use Rattle.mk_cert.specs.Tables.{AreTables}
@@ -7,5 +8,5 @@ use Rattle.mk_cert.specs.Tables.{AreTables}
 pub record AreTablesOf (x : Subject) (t : Tables) : Type 0 where
   pub is_subject : IsSubject x
   pub tables :
-      AreTables x t.entries.items t.writers t.names t.reads.known.items t.reads.places
-      t.unsettled
+      AreTables x t.entries.items t.names (map (λ name. name.now) t.files.names.keys)
+      t.files.known.items t.files.nodes.items t.files.writes t.files.reads t.unsettled

@@ -25,3 +25,5 @@ pub mod Checks
 pub mod Carried
 pub mod Earlier
 pub mod Lookup
+pub mod NumberRows
+pub mod Cursor

@@ -15,14 +15,17 @@ pub record AreEnds (x : Subject) (needed : List (List ℕ)) (always : List Bool)
   pub needed_held : (t p : ℕ) → Has (slice_index_or needed t []) p ↔ Has (prerequisites x.graph t) p
   pub always_held : (t : ℕ) → (slice_index_or always t false ≡ true) ↔ IsAlwaysMade x.graph t
 
--- so do these, and the files that its recipe reads, and the recipes that it carries
-pub record AreLinks (x : Subject) (reads : List (List (List ℕ)))
-    (carried needed : List (List ℕ)) (always : List Bool) : Type 0 where
+-- so do these, and the recipes that it carries
+pub record AreLinks (x : Subject) (carried needed : List (List ℕ)) (always : List Bool) : Type 0 where
   pub ends : AreEnds x needed always
-  pub reads_held : (t : ℕ) (f : List ℕ) →
-      (has_name (slice_index_or reads t []) f ≡ true) ↔ Has (reads_of x t) f
   pub carried_held : (t o : ℕ) →
       Has (slice_index_or carried t []) o ↔ Carries x.graph (footprints x.setting) t o
+
+-- at each number stand the files that the recipe of the node with it reads
+abbrev pub HoldReads : Subject → List (List (List ℕ)) → Type 0
+HoldReads x lists =
+    (t : ℕ) (f : List ℕ) →
+    (has_name (slice_index_or lists t []) f ≡ true) ↔ Has (reads_of x t) f
 
 -- at the number of each recipe stand the files for which it has an entry among these
 abbrev pub AreSeen : Subject → List Way → List (List (List ℕ)) → Type 0

@@ -1,5 +1,5 @@
 -- Reads of which nothing is found.
-use Rattle.std.specs.Prelude.{◌≡◌, ℕ, ◌<◌, ◌==◌, ◌&&◌, Bool, not, List, [], All, filter, length, map, slice_index_or}
+use Rattle.std.specs.Prelude.{ℕ, ◌==◌, ◌&&◌, Bool, not, List, filter, length}
 use Rattle.mk_cert.specs.Known.{Known}
 
 -- the file is given, no edit changes it, and no recipe writes it
@@ -9,9 +9,3 @@ is_settled k = k.given && (not k.editable && length k.writers == 0)
 -- those of these files that aren't settled, in their order
 abbrev pub unsettled : (List ℕ → Known) → List (List ℕ) → List (List ℕ)
 unsettled known_of files = filter (λ f. not (is_settled (known_of f))) files
-
--- at these places stand just those files, in their order
-pub record AreUnsettled (known_of : List ℕ → Known) (places : List ℕ)
-    (files : List (List ℕ)) : Type 0 where
-  pub within : All (λ p. p < length files) places
-  pub stand : map (λ p. slice_index_or files p []) places ≡ unsettled known_of files

@@ -59,12 +59,15 @@ impl<'a> Earlier<'a> {
         }
     }
 
-    /// Goes on to a node. The time is linear in its prerequisites. It fails for want of memory
-    /// alone, and has gone on even then.
+    /// Goes on to a node, where it isn't there. The time is linear in its prerequisites. It fails for
+    /// want of memory alone, and has gone on even then.
     pub fn turn_to(&mut self, alloc: Global, number: usize) -> Result<(), AllocError>
         ensures graph { self.new.graph ≡ self.old.graph }
         ensures number { self.new.number ≡ number }
     {
+        if self.number == number && self.direct.is_some() {
+            return Ok(());
+        }
         let graph = self.graph;
         graph.nodes();
         self.number = number;

@@ -3,12 +3,12 @@
 ghost use Rattle.std.specs.Prelude.{◌≡◌, ◌<◌, [], length, map, slice_index_or, IfOk};
 ghost use Rattle.std.specs.Option.{option_copied};
 ghost use Rattle.std.specs.String.{string_bytes};
-ghost use Rattle.mk_cert.specs.Entry.{reads_in, writes_in, entry_reads, entry_writes, has_others, lines_eq};
+ghost use Rattle.mk_cert.specs.Entry.{reads_in, writes_in, entry_reads, entry_writes, has_others, is_unwritten, lines_eq};
 
 use crate::finding::Finding;
 use crate::shared_name::SharedName;
 use mk_choice::Commands;
-use mk_foot::Record;
+use mk_foot::{Record, has_among};
 use mk_graph::Node;
 use mk_lines::Name;
 use std::alloc::{AllocError, Global};
@@ -27,6 +27,8 @@ pub struct Entry<'a> {
     pub commands: Commands,
     /// Whether its record, if it has one, has other commands.
     pub others: bool,
+    /// Whether its recipe has a record, isn't phony, and doesn't write its target.
+    pub unwritten: bool,
     /// Its inferred prerequisite, if it has one.
     pub chosen: Option<Name>,
     /// The one that it has once all recipes have written their files.
@@ -46,6 +48,7 @@ impl<'a> Model for Entry<'a> {
           recorded = option_copied e.recorded;
           commands = e.commands;
           others = e.others;
+          unwritten = e.unwritten;
           chosen = e.chosen;
           chosen_after = e.chosen_after;
         } };
@@ -96,6 +99,16 @@ pub fn has_others(recorded: Option<&Record>, lines: &[Vec<u8>]) -> bool
         Some(recorded) => !are_lines(&recorded.commands, lines),
         None => false,
     }
+}
+
+/// Whether a recipe has a record, isn't phony, and doesn't write its target.
+pub fn is_unwritten(node: &Node, recorded: Option<&Record>) -> bool
+    ensures { result ≡ is_unwritten node.now (option_copied recorded.entry) }
+{
+    node.recipe
+        && recorded.is_some()
+        && !node.phony
+        && !has_among(writes_in(recorded), node.name.as_str())
 }
 
 impl<'a> Entry<'a> {

@@ -1,50 +1,44 @@
 //! What is found of the files of a recipe.
 
-ghost use Rattle.std.specs.Prelude.{◌≡◌, ◌<◌, ◌↔◌, ◌∷◌, [], true, length, map, slice_index_or, IfOk, OnOk};
+ghost use Rattle.std.specs.Prelude.{◌≡◌, ◌↔◌, ◌∷◌, [], true, map, IfOk, OnOk};
 ghost use Rattle.mk_graph.specs.Membership.{Has};
 ghost use Rattle.mk_cert.specs.Subject.{reads_of, writes_of};
 ghost use Rattle.mk_cert.specs.Candidates.{given_written, own_read, unknown_read};
-ghost use Rattle.mk_cert.specs.Entry.{IsEntry, entry_reads};
+ghost use Rattle.mk_cert.specs.Entry.{IsEntry};
 ghost use Rattle.mk_cert.specs.Listed.{Adds};
-ghost use Rattle.mk_cert.specs.FileTests.{is_taken, IsUnknown};
+ghost use Rattle.mk_cert.specs.FileTests.{IsUnknown};
+ghost use Rattle.mk_cert.specs.Target.{target_of};
 
 use crate::entry::Entry;
 use crate::finding::Finding;
 use crate::name_list::NameList;
 use crate::number_list::FEW;
 use crate::subject::Subject;
+use crate::target::Target;
 use crate::writer_findings::has_number;
 use mk_graph::laws::serial_reaches_each_once;
 use mk_lines::Name;
 use std::alloc::{AllocError, Global};
-
-/// Whether a file is given, phony, or passed over by the reading of the makefile.
-fn is_taken(subject: &Subject<'_>, file: &str) -> bool
-    ensures { result ≡ is_taken subject.now file.now }
-{
-    subject.setting().is_given(file)
-        || subject.is_phony(file)
-        || subject.setting().is_passed_over(file)
-}
 
 /// Adds that a recipe writes a file that is given, phony or passed over, if it is.
 fn note_taken(
     alloc: Global,
     subject: &Subject<'_>,
     entry: &Entry<'_>,
-    file: &str,
+    file: &Target<'_>,
     found: &mut Vec<Finding>,
 ) -> Result<(), AllocError>
     requires entry { IsEntry subject.now entry.now }
-    requires written { Has (writes_of subject.now entry.now.number) file.now }
-    ensures { OnOk result (Adds subject.now (given_written entry.now.number file.now ∷ [])
+    requires file { file.now ≡ target_of subject.now file.now.file }
+    requires written { Has (writes_of subject.now entry.now.number) file.now.file }
+    ensures { OnOk result (Adds subject.now (given_written entry.now.number file.now.file ∷ [])
         found.old.items found.new.items) }
 {
-    if !is_taken(subject, file) {
+    if !file.known.taken {
         return Ok(());
     }
     let recipe = entry.shared_name(alloc, found)?;
-    let file = Name::new(alloc, file)?;
+    let file = Name::new(alloc, file.file)?;
     found.push(Finding::GivenWritten { recipe, file })?;
     Ok(())
 }
@@ -61,45 +55,42 @@ pub fn note_given_written(
         (map (λ f. given_written entry.now.number f) (writes_of subject.now entry.now.number))
         found.old.items found.new.items) }
 {
-    let files = entry.writes();
-    for file in files {
-        note_taken(alloc, subject, entry, file.as_str(), found)?;
+    for place in 0..subject.count_of_written(entry.number) {
+        let file = subject.written(entry.number, place);
+        note_taken(alloc, subject, entry, &file, found)?;
     }
     Ok(())
 }
 
-/// Whether the file at a place of what a recipe reads is neither given nor written.
-fn is_unknown(subject: &Subject<'_>, entry: &Entry<'_>, place: usize) -> bool
-    requires entry { IsEntry subject.now entry.now }
-    requires place { place < length (entry_reads entry.now) }
-    ensures { (result ≡ true) ↔ IsUnknown subject.now
-        (slice_index_or (reads_of subject.now entry.now.number) place []) }
+/// Whether a file is neither given nor written.
+fn is_unknown(subject: &Subject<'_>, file: &Target<'_>) -> bool
+    requires { file.now ≡ target_of subject.now file.now.file }
+    ensures { (result ≡ true) ↔ IsUnknown subject.now file.now.file }
 {
     serial_reaches_each_once();
     let _graph = subject.graph();
-    let known = subject.known(entry, place);
-    !known.given && known.writers.as_slice().is_empty()
+    !file.known.given && file.writers().is_empty()
 }
 
-/// Adds that the file at a place of what a recipe reads is neither given nor written, if it is so.
+/// Adds that a file that a recipe reads is neither given nor written, if it is so.
 fn note_unknown(
     alloc: Global,
     subject: &Subject<'_>,
     entry: &Entry<'_>,
-    place: usize,
+    file: &Target<'_>,
     found: &mut Vec<Finding>,
 ) -> Result<(), AllocError>
     requires entry { IsEntry subject.now entry.now }
-    requires place { place < length (entry_reads entry.now) }
-    ensures { OnOk result (Adds subject.now (unknown_read entry.now.number
-        (slice_index_or (reads_of subject.now entry.now.number) place []) ∷ [])
+    requires file { file.now ≡ target_of subject.now file.now.file }
+    requires read { Has (reads_of subject.now entry.now.number) file.now.file }
+    ensures { OnOk result (Adds subject.now (unknown_read entry.now.number file.now.file ∷ [])
         found.old.items found.new.items) }
 {
-    if !is_unknown(subject, entry, place) {
+    if !is_unknown(subject, file) {
         return Ok(());
     }
     let recipe = entry.shared_name(alloc, found)?;
-    let file = Name::new(alloc, entry.read_at(place))?;
+    let file = Name::new(alloc, file.file)?;
     found.push(Finding::UnknownRead { recipe, file })?;
     Ok(())
 }
@@ -116,63 +107,61 @@ pub fn note_unknown_reads(
         (map (λ f. unknown_read entry.now.number f) (reads_of subject.now entry.now.number))
         found.old.items found.new.items) }
 {
-    let places = subject.unsettled(entry.number);
-    for place in places {
-        note_unknown(alloc, subject, entry, *place, found)?;
+    for place in 0..subject.count_of_unsettled(entry.number) {
+        let file = subject.unsettled(entry.number, place);
+        note_unknown(alloc, subject, entry, &file, found)?;
     }
     Ok(())
 }
 
-/// Whether a recipe writes the file at a place of what it reads: it is one of those that write the
-/// file, and where these are many, the name of the file is one of what it writes.
+/// Whether a recipe writes a file that it reads: it is one of those that write the file, and where
+/// these are many, the name of the file is one of what it writes.
 fn is_own(
     alloc: Global,
     subject: &Subject<'_>,
     entry: &Entry<'_>,
     written: &mut NameList<'_>,
-    place: usize,
+    file: &Target<'_>,
 ) -> Result<bool, AllocError>
     requires entry { IsEntry subject.now entry.now }
     requires written { written.old ≡ writes_of subject.now entry.now.number }
-    requires place { place < length (entry_reads entry.now) }
-    ensures own { IfOk result (λ own. (own ≡ true) ↔ Has
-        (writes_of subject.now entry.now.number)
-        (slice_index_or (reads_of subject.now entry.now.number) place [])) }
+    requires file { file.now ≡ target_of subject.now file.now.file }
+    ensures own { IfOk result (λ own. (own ≡ true) ↔
+        Has (writes_of subject.now entry.now.number) file.now.file) }
     ensures same { written.new ≡ written.old }
 {
     serial_reaches_each_once();
     let _graph = subject.graph();
-    let known = subject.known(entry, place);
-    let writers = known.writers.as_slice();
+    let writers = file.writers();
     if writers.len() <= FEW {
         return Ok(has_number(writers, entry.number));
     }
     written.note_use(alloc)?;
-    Ok(written.has(entry.read_at(place)))
+    Ok(written.has(file.file))
 }
 
-/// Adds that a recipe writes the file at a place of what it reads, if it does.
+/// Adds that a recipe writes a file that it reads, if it does.
 fn note_own(
     alloc: Global,
     subject: &Subject<'_>,
     entry: &Entry<'_>,
     written: &mut NameList<'_>,
-    place: usize,
+    file: &Target<'_>,
     found: &mut Vec<Finding>,
 ) -> Result<(), AllocError>
     requires entry { IsEntry subject.now entry.now }
     requires written { written.old ≡ writes_of subject.now entry.now.number }
-    requires place { place < length (entry_reads entry.now) }
-    ensures added { OnOk result (Adds subject.now (own_read entry.now.number
-        (slice_index_or (reads_of subject.now entry.now.number) place []) ∷ [])
+    requires file { file.now ≡ target_of subject.now file.now.file }
+    requires read { Has (reads_of subject.now entry.now.number) file.now.file }
+    ensures added { OnOk result (Adds subject.now (own_read entry.now.number file.now.file ∷ [])
         found.old.items found.new.items) }
     ensures same { written.new ≡ written.old }
 {
-    if !is_own(alloc, subject, entry, written, place)? {
+    if !is_own(alloc, subject, entry, written, file)? {
         return Ok(());
     }
     let recipe = entry.shared_name(alloc, found)?;
-    let file = Name::new(alloc, entry.read_at(place))?;
+    let file = Name::new(alloc, file.file)?;
     found.push(Finding::OwnRead { recipe, file })?;
     Ok(())
 }
@@ -192,9 +181,9 @@ pub fn note_own_reads(
     serial_reaches_each_once();
     let _graph = subject.graph();
     let mut written = NameList::new(entry.writes());
-    let places = subject.unsettled(entry.number);
-    for place in places {
-        note_own(alloc, subject, entry, &mut written, *place, found)?;
+    for place in 0..subject.count_of_unsettled(entry.number) {
+        let file = subject.unsettled(entry.number, place);
+        note_own(alloc, subject, entry, &mut written, &file, found)?;
     }
     Ok(())
 }

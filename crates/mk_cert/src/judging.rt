@@ -1,14 +1,15 @@
 //! Whether entries of a certificate are bad, one behind another.
 
-ghost use Rattle.std.specs.Prelude.{◌≡◌, ◌<◌, ◌↔◌, ◌⊎◌, ℕ, List, [], true, not, length, slice_index_or, slice_set, Err, IfOk, OnOk};
+ghost use Rattle.std.specs.Prelude.{◌≡◌, ◌<◌, ◌↔◌, ◌⊎◌, ℕ, List, [], true, not, length, slice_index_or, slice_set, Err, IfOk, IfSome, OnOk};
 ghost use Rattle.mk_lines.specs.Names.{has_name, with_name};
-ghost use Rattle.mk_cert.specs.Links.{AreLinks, AreSeen};
+ghost use Rattle.mk_cert.specs.Links.{AreLinks, AreSeen, HoldReads};
 ghost use Rattle.mk_cert.specs.Checks.{AnswersEntries, HasSets, Judges};
 ghost use Rattle.mk_cert.specs.declared.fault.CertFault.TheVariants.{BadWay, Memory};
 
+use crate::cursor::Cursor;
 use crate::fault::CertFault;
 use crate::links::Links;
-use crate::name_list::NameList;
+use crate::read_lists::ReadLists;
 use crate::seen_names::SeenNames;
 use crate::subject::Subject;
 use crate::walking::good_start;
@@ -47,40 +48,31 @@ fn note_at<'a>(
     set.insert(alloc, name)
 }
 
-/// Notes that a name is looked up in the list at a place, if there is one.
-fn note_use(alloc: Global, lists: &mut Vec<NameList<'_>>, place: usize) -> Result<(), AllocError>
-    ensures { lists.new.items ≡ lists.old.items }
-{
-    if place >= lists.len() {
-        return Ok(());
-    }
-    let list = &mut lists[place];
-    list.note_use(alloc)
-}
-
 /// Whether an entry isn't bad beside those that were noted. It is noted then.
-fn note_good<'a>(
+fn note_good<'a, 's>(
     alloc: Global,
-    subject: &Subject<'_>,
-    links: &mut Links<'_>,
+    subject: &'s Subject<'_>,
+    links: &Links<'_>,
+    lists: &mut ReadLists<'s>,
+    cursor: &mut Cursor,
     way: &Way<'a>,
     seen: &mut Vec<SeenNames<'a>>,
 ) -> Result<bool, AllocError>
-    requires links { AreLinks subject.now links.old.reads.items
-        links.old.carried.items links.old.ends.needed.items links.old.ends.always.items }
-    requires sets { HasSets subject.now seen.old.items }
+    requires links { AreLinks subject.entry.now links.now.carried.items
+        links.now.ends.needed.items links.now.ends.always.items }
+    requires lists { IfSome lists.old.lists (λ lists. HoldReads subject.entry.now lists.items) }
+    requires sets { HasSets subject.entry.now seen.old.items }
     ensures judged { IfOk result (λ good.
-        Judges subject.now way.now seen.old.items seen.new.items good) }
-    ensures links { OnOk result (AreLinks subject.now links.new.reads.items
-        links.new.carried.items links.new.ends.needed.items links.new.ends.always.items) }
-    ensures sets { HasSets subject.now seen.new.items }
+        Judges subject.entry.now way.now seen.old.items seen.new.items good) }
+    ensures lists { OnOk result
+        (IfSome lists.new.lists (λ lists. HoldReads subject.entry.now lists.items)) }
+    ensures sets { HasSets subject.entry.now seen.new.items }
 {
     names_have_one_number();
     let _graph = subject.graph();
-    let Some(start) = good_start(subject, links, way) else {
+    let Some(start) = good_start(alloc, subject, links, lists, cursor, way)? else {
         return Ok(false);
     };
-    note_use(alloc, &mut links.reads, start)?;
     note_at(alloc, seen, start, way.file)
 }
 
@@ -97,20 +89,22 @@ fn bad_way(alloc: Global, way: &Way<'_>) -> Result<CertFault, AllocError>
 pub fn check_entries<'a>(
     alloc: Global,
     subject: &Subject<'_>,
-    links: &mut Links<'_>,
+    links: &Links<'_>,
     ways: &'a Ways,
     seen: &mut Vec<SeenNames<'a>>,
 ) -> Result<(), CertFault>
-    requires links { AreLinks subject.now links.old.reads.items
-        links.old.carried.items links.old.ends.needed.items links.old.ends.always.items }
+    requires links { AreLinks subject.now links.now.carried.items links.now.ends.needed.items
+        links.now.ends.always.items }
     requires sets { HasSets subject.now seen.old.items }
     requires empty { AreSeen subject.now [] seen.old.items }
     ensures answer { (result ≡ Err Memory) ⊎ AnswersEntries subject.now ways.entry.now result }
     ensures seen { OnOk result (AreSeen subject.now ways.entry.now seen.new.items) }
 {
+    let mut lists = ReadLists::new();
+    let mut cursor = Cursor::new(alloc, subject)?;
     for place in 0..ways.len() {
         let way = ways.at(place);
-        if !note_good(alloc, subject, links, &way, seen)? {
+        if !note_good(alloc, subject, links, &mut lists, &mut cursor, &way, seen)? {
             return Err(bad_way(alloc, &way)?);
         }
     }

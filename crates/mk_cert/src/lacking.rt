@@ -1,12 +1,12 @@
 //! Which reads lack their ways.
 
-ghost use Rattle.std.specs.Prelude.{◌≡◌, ◌<◌, ◌⊎◌, ◌↔◌, List, ℕ, [], true, length, slice_index_or, Err, IfOk, MatchOption};
+ghost use Rattle.std.specs.Prelude.{◌≡◌, ◌⊎◌, ◌↔◌, List, ℕ, true, Err, IfOk, MatchOption};
 ghost use Rattle.mk_graph.specs.Membership.{Has};
-ghost use Rattle.mk_graph.specs.Ways.{CanChange};
 ghost use Rattle.mk_ways.specs.Certificate.{Way};
-ghost use Rattle.mk_cert.specs.Subject.{footprints, name_of, reads_of};
-ghost use Rattle.mk_cert.specs.Entry.{IsEntry, entry_reads};
+ghost use Rattle.mk_cert.specs.Subject.{name_of, reads_of};
+ghost use Rattle.mk_cert.specs.Entry.{IsEntry};
 ghost use Rattle.mk_cert.specs.Links.{AreSeen};
+ghost use Rattle.mk_cert.specs.Target.{target_of};
 ghost use Rattle.mk_cert.specs.Verdict.{IsFirst, Read, LacksWay};
 ghost use Rattle.mk_cert.specs.Checks.{AnswersReads, reads_by};
 ghost use Rattle.mk_cert.specs.declared.fault.CertFault.TheVariants.{Memory, NoWay};
@@ -15,55 +15,51 @@ use crate::entry::Entry;
 use crate::fault::CertFault;
 use crate::seen_names::SeenNames;
 use crate::subject::Subject;
+use crate::target::Target;
 use crate::walking::stands_at;
 use mk_graph::laws::serial_reaches_each_once;
 use mk_lines::Name;
 use std::alloc::{AllocError, Global};
 
-/// Whether the file at a place of what a recipe reads can change.
-fn can_change(subject: &Subject<'_>, entry: &Entry<'_>, place: usize) -> bool
+/// Whether a file that a recipe reads can change and isn't noted for the recipe.
+fn lacks(
+    subject: &Subject<'_>,
+    seen: &[SeenNames<'_>],
+    entry: &Entry<'_>,
+    file: &Target<'_>,
+) -> bool
     requires entry { IsEntry subject.now entry.now }
-    requires place { place < length (entry_reads entry.now) }
-    ensures { (result ≡ true) ↔ CanChange (footprints subject.now.setting)
-        (slice_index_or (reads_of subject.now entry.now.number) place []) }
-{
-    let known = subject.known(entry, place);
-    known.editable || !known.given
-}
-
-/// Whether the file at a place of what a recipe reads can change and isn't noted for the recipe.
-/// The name of one that can't change isn't looked at.
-fn lacks(subject: &Subject<'_>, seen: &[SeenNames<'_>], entry: &Entry<'_>, place: usize) -> bool
-    requires entry { IsEntry subject.now entry.now }
-    requires place { place < length (entry_reads entry.now) }
+    requires file { file.now ≡ target_of subject.now file.now.file }
+    requires read { Has (reads_of subject.now entry.now.number) file.now.file }
     ensures { (ways : List Way) → AreSeen subject.now ways seen.now → (result ≡ true) ↔
         LacksWay subject.now ways (record {
           recipe = entry.now.number;
-          file = slice_index_or (reads_of subject.now entry.now.number) place [];
+          file = file.now.file;
         }) }
 {
     let _graph = subject.graph();
-    can_change(subject, entry, place) && !stands_at(seen, entry.number, entry.read_at(place))
+    file.can_change(subject) && !stands_at(seen, entry.number, file.file)
 }
 
 /// The first file that a recipe reads which can change and isn't noted for it.
-fn first_lacking<'a>(
-    subject: &Subject<'_>,
+fn first_lacking<'s>(
+    subject: &'s Subject<'_>,
     seen: &[SeenNames<'_>],
-    entry: &'a Entry<'_>,
-) -> Option<&'a str>
+    entry: &Entry<'_>,
+) -> Option<&'s str>
     requires { IsEntry subject.now entry.now }
-    ensures { (ways : List Way) → AreSeen subject.now ways seen.now →
+    ensures { (ways : List Way) → AreSeen subject.entry.now ways seen.now →
         MatchOption result
-        ((r : Read) → Has (reads_by subject.now entry.now.number) r →
-        ¬ (LacksWay subject.now ways r))
-        (λ file. IsFirst (LacksWay subject.now ways) (reads_by subject.now entry.now.number)
+        ((r : Read) → Has (reads_by subject.entry.now entry.now.number) r →
+        ¬ (LacksWay subject.entry.now ways r))
+        (λ file. IsFirst (LacksWay subject.entry.now ways)
+        (reads_by subject.entry.now entry.now.number)
         (record { recipe = entry.now.number; file = file.now })) }
 {
-    let places = subject.unsettled(entry.number);
-    for place in places {
-        if lacks(subject, seen, entry, *place) {
-            return Some(entry.read_at(*place));
+    for place in 0..subject.count_of_unsettled(entry.number) {
+        let file = subject.unsettled(entry.number, place);
+        if lacks(subject, seen, entry, &file) {
+            return Some(file.file);
         }
     }
     None

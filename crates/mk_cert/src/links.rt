@@ -12,9 +12,8 @@ ghost use Rattle.mk_cert.specs.Subject.{footprints, name_of, reads_of};
 ghost use Rattle.mk_cert.specs.Carried.{carried};
 ghost use Rattle.mk_cert.specs.Links.{AreEnds, AreLinks};
 
-use crate::entry::reads_in;
+use crate::entry::{reads_in, writes_in};
 use crate::laws::carried_exactly;
-use crate::name_list::NameList;
 use crate::number_list::NumberList;
 use crate::subject::Subject;
 use mk_foot::Setting;
@@ -37,8 +36,6 @@ pub struct Ends<'a> {
 pub struct Links<'a> {
     /// What is looked up where they end.
     pub ends: Ends<'a>,
-    /// The files that its recipe reads.
-    pub reads: Vec<NameList<'a>>,
     /// The recipes that it carries.
     pub carried: Vec<NumberList<'a>>,
 }
@@ -69,22 +66,18 @@ pub fn reads_of<'a>(graph: &Graph, setting: &'a Setting, number: usize) -> &'a [
     }
 }
 
-/// The files that each recipe reads.
-fn read_sets<'a>(
-    alloc: Global,
-    graph: &Graph,
-    setting: &'a Setting,
-) -> Result<Vec<NameList<'a>>, AllocError>
-    ensures { IfOk result (λ sets. (t : ℕ) (f : List ℕ) →
-        (has_name (slice_index_or sets.items t []) f ≡ true) ↔
-        Has (build.reads graph.now (footprints setting.now) t) f) }
+/// The files that the recipe of a node writes.
+pub fn writes_of<'a>(graph: &Graph, setting: &'a Setting, number: usize) -> &'a [String]
+    requires { number < length graph.now.nodes }
+    ensures { map string_bytes result.now ≡
+        build.writes graph.now (footprints setting.now) number }
 {
-    let count = graph.nodes().len();
-    let mut sets = Vec::with_capacity(alloc, count)?;
-    for number in 0..count {
-        sets.push(NameList::new(reads_of(graph, setting, number)))?;
+    let node = &graph.nodes()[number];
+    if node.recipe {
+        writes_in(setting.record_of(node.name.as_str()))
+    } else {
+        &[]
     }
-    Ok(sets)
 }
 
 /// The recipes that a node carries: the list at its number, looked up.
@@ -180,7 +173,7 @@ pub fn ends_of<'a>(alloc: Global, subject: &'a Subject<'_>) -> Result<Ends<'a>, 
 }
 
 /// All that is looked up along ways, over the lists of the recipes that nodes carry. It takes time
-/// linear in what is recorded, where each file has one writer. It fails for want of memory alone.
+/// linear in these and in the graph. It fails for want of memory alone.
 pub fn links_of<'a>(
     alloc: Global,
     subject: &'a Subject<'_>,
@@ -188,13 +181,12 @@ pub fn links_of<'a>(
 ) -> Result<Links<'a>, AllocError>
     requires many { length carried_lists.now ≡ length subject.now.graph.nodes }
     requires lists { (t : ℕ) → slice_index_or carried_lists.now t [] ≡ carried subject.now t }
-    ensures { IfOk result (λ l. AreLinks subject.now l.reads.items l.carried.items
-        l.ends.needed.items l.ends.always.items) }
+    ensures { IfOk result (λ l. AreLinks subject.now l.carried.items l.ends.needed.items
+        l.ends.always.items) }
 {
-    let graph = subject.graph();
+    let _graph = subject.graph();
     Ok(Links {
         ends: ends_of(alloc, subject)?,
-        reads: read_sets(alloc, graph, subject.setting())?,
         carried: carried_sets(alloc, subject, carried_lists)?,
     })
 }

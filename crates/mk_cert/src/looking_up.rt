@@ -16,7 +16,8 @@ ghost use Rattle.mk_infer.specs.declared.fault.InferFault.TheVariants.{Memory};
 ghost use Rattle.mk_cert.specs.Subject.{footprints, commands_of, subject_of};
 ghost use Rattle.mk_cert.specs.Entry.{IsEntry, AreEntries, AreEntriesOf, IsFaultOf, IsFirstFault, StaysChosen, choice_after};
 
-use crate::entry::{Entry, has_others, writes_in};
+use crate::entry::{Entry, has_others, is_unwritten};
+use crate::links::writes_of;
 use mk_choice::{Choices, Made, choice, choice_and_commands};
 use mk_foot::Setting;
 use mk_graph::Graph;
@@ -24,20 +25,6 @@ use mk_graph::laws::serial_reaches_each_once;
 use mk_infer::{Exists, InferFault, RuleTable};
 use mk_lines::{Name, NameTable};
 use std::alloc::{AllocError, Global};
-
-/// The files that the recipe of a node writes.
-fn writes_of<'a>(graph: &Graph, setting: &'a Setting, number: usize) -> &'a [String]
-    requires { number < length graph.now.nodes }
-    ensures { map string_bytes result.now ≡
-        build.writes graph.now (footprints setting.now) number }
-{
-    let node = &graph.nodes()[number];
-    if node.recipe {
-        writes_in(setting.record_of(node.name.as_str()))
-    } else {
-        &[]
-    }
-}
 
 /// Copies of names, behind others.
 fn push_copies(copies: &mut Vec<String>, names: &[String]) -> Result<(), AllocError>
@@ -190,6 +177,7 @@ fn entry_of<'a>(
         node,
         recorded,
         others: has_others(recorded, &commands.lines),
+        unwritten: is_unwritten(node, recorded),
         commands,
         chosen,
         chosen_after,

@@ -5,11 +5,10 @@ ghost use Rattle.mk_cert.specs.Subject.{Subject};
 ghost use Rattle.mk_cert.specs.Candidates.{no_record, other_commands, varying_commands, no_target, selection, choice_with_writes};
 ghost use Rattle.mk_cert.specs.Entry.{IsEntry};
 ghost use Rattle.mk_cert.specs.Listed.{Adds};
-ghost use Rattle.mk_cert.specs.Tests.{lacks_record, has_varying, lacks_target, has_other_commands};
+ghost use Rattle.mk_cert.specs.Tests.{lacks_record, has_varying, has_other_commands};
 
 use crate::entry::Entry;
 use crate::finding::Finding;
-use mk_foot::has_among;
 use mk_lines::Name;
 use std::alloc::AllocError;
 
@@ -17,7 +16,7 @@ use std::alloc::AllocError;
 fn lacks_record(entry: &Entry<'_>) -> bool
     ensures { result ≡ lacks_record entry.now }
 {
-    entry.node.recipe && entry.recorded.is_none()
+    entry.recorded.is_none() && entry.node.recipe
 }
 
 /// Adds that the recipe of a node has no record, if it has none.
@@ -37,7 +36,7 @@ pub fn note_no_record(entry: &Entry<'_>, found: &mut Vec<Finding>) -> Result<(),
 fn has_varying(entry: &Entry<'_>) -> bool
     ensures { result ≡ has_varying entry.now }
 {
-    entry.node.recipe && entry.commands.varying
+    entry.commands.varying && entry.node.recipe
 }
 
 /// Adds that the commands of the recipe of a node vary, if they do.
@@ -53,22 +52,12 @@ pub fn note_varying(entry: &Entry<'_>, found: &mut Vec<Finding>) -> Result<(), A
     Ok(())
 }
 
-/// Whether a recipe has a record, isn't phony, and doesn't write its target.
-fn lacks_target(entry: &Entry<'_>) -> bool
-    ensures { result ≡ lacks_target entry.now }
-{
-    entry.node.recipe
-        && entry.recorded.is_some()
-        && !entry.node.phony
-        && !has_among(entry.writes(), entry.name())
-}
-
 /// Adds that the recipe of a node doesn't write its target, if it is to and doesn't.
 pub fn note_no_target(entry: &Entry<'_>, found: &mut Vec<Finding>) -> Result<(), AllocError>
     ensures { OnOk result ((x : Subject) → IsEntry x entry.now →
         Adds x (no_target entry.now.number ∷ []) found.old.items found.new.items) }
 {
-    if !lacks_target(entry) {
+    if !entry.unwritten {
         return Ok(());
     }
     let recipe = entry.copy_of_name()?;
@@ -80,7 +69,7 @@ pub fn note_no_target(entry: &Entry<'_>, found: &mut Vec<Finding>) -> Result<(),
 fn has_other_commands(entry: &Entry<'_>) -> bool
     ensures { result ≡ has_other_commands entry.now }
 {
-    entry.node.recipe && !entry.commands.varying && entry.others
+    entry.others && entry.node.recipe && !entry.commands.varying
 }
 
 /// Adds that the record of a node has other commands than its recipe, if it has.

@@ -55,6 +55,11 @@ impl<'a> NumberList<'a> {
         Ok(NumberList { list, set })
     }
 
+    /// The first of them, if there are any.
+    pub fn first(&self) -> Option<usize> {
+        self.list.first().copied()
+    }
+
     /// Whether this is one of them.
     pub fn has(&self, number: usize) -> bool
         ensures { (result ≡ true) ↔ Has self.now number }

@@ -9,11 +9,13 @@ ghost use Rattle.mk_cert.specs.Conditions.{AreTwoWriters};
 ghost use Rattle.mk_cert.specs.Entry.{IsEntry, behind};
 ghost use Rattle.mk_cert.specs.Listed.{Adds};
 ghost use Rattle.mk_cert.specs.Questions.{pairs_with};
+ghost use Rattle.mk_cert.specs.Target.{target_of};
 
 use crate::entry::Entry;
 use crate::finding::Finding;
 use crate::shared_name::SharedName;
 use crate::subject::Subject;
+use crate::target::Target;
 use mk_graph::laws::serial_reaches_each_once;
 use std::alloc::{AllocError, Global};
 
@@ -81,21 +83,22 @@ fn note_file(
     alloc: Global,
     subject: &Subject<'_>,
     entry: &Entry<'_>,
-    file: &str,
+    file: &Target<'_>,
     found: &mut Vec<Finding>,
 ) -> Result<(), AllocError>
     requires entry { IsEntry subject.now entry.now }
-    requires written { Has (writes_of subject.now entry.now.number) file.now }
+    requires file { file.now ≡ target_of subject.now file.now.file }
+    requires written { Has (writes_of subject.now entry.now.number) file.now.file }
     ensures { OnOk result (Adds subject.now
-        (map (λ t. two_writers entry.now.number t file.now)
+        (map (λ t. two_writers entry.now.number t file.now.file)
         (behind entry.now.number (serial_order subject.now.graph)))
         found.old.items found.new.items) }
 {
     serial_reaches_each_once();
     let _graph = subject.graph();
-    let writers = subject.writers(file);
+    let writers = file.writers();
     let others = behind(entry.number, writers);
-    note_pairs_with(alloc, subject, entry, others, file, found)
+    note_pairs_with(alloc, subject, entry, others, file.file, found)
 }
 
 /// Adds which files a recipe and others behind it in the serial order write.
@@ -109,9 +112,9 @@ pub fn note_files(
     ensures { OnOk result (Adds subject.now (pairs_with subject.now entry.now.number)
         found.old.items found.new.items) }
 {
-    let files = entry.writes();
-    for file in files {
-        note_file(alloc, subject, entry, file.as_str(), found)?;
+    for place in 0..subject.count_of_written(entry.number) {
+        let file = subject.written(entry.number, place);
+        note_file(alloc, subject, entry, &file, found)?;
     }
     Ok(())
 }

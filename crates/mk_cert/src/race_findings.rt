@@ -1,19 +1,21 @@
 //! Recipes that read what others write, before these are done.
 
-ghost use Rattle.std.specs.Prelude.{◌≡◌, ◌<◌, ◌∷◌, [], ℕ, length, map, slice_index_or, IfOk, OnOk};
+ghost use Rattle.std.specs.Prelude.{◌≡◌, ◌∷◌, [], ℕ, map, IfOk, OnOk};
 ghost use Rattle.std.specs.List.{flat_map};
 ghost use Rattle.mk_graph.specs.Membership.{Has};
 ghost use Rattle.mk_graph.specs.Serial.{serial_order};
 ghost use Rattle.mk_cert.specs.Subject.{reads_of, writes_of};
 ghost use Rattle.mk_cert.specs.Candidates.{race, race_candidates};
-ghost use Rattle.mk_cert.specs.Entry.{IsEntry, entry_reads};
+ghost use Rattle.mk_cert.specs.Entry.{IsEntry};
 ghost use Rattle.mk_cert.specs.Listed.{Adds};
+ghost use Rattle.mk_cert.specs.Target.{target_of};
 
 use crate::earlier::Earlier;
 use crate::entry::Entry;
 use crate::finding::Finding;
 use crate::shared_name::SharedName;
 use crate::subject::Subject;
+use crate::target::Target;
 use std::alloc::{AllocError, Global};
 
 /// Adds that a recipe reads what another one writes which isn't before it, if it is so.
@@ -79,33 +81,31 @@ fn note_races_with(
     Ok(())
 }
 
-/// Adds which writers of the file at a place of what a recipe reads aren't before it. Of most files
-/// nobody is known to write them, and their names aren't looked at.
+/// Adds which writers of a file that a recipe reads aren't before it. Of most files nobody is known
+/// to write them, and then nothing of the order is asked.
 fn note_file(
     alloc: Global,
     subject: &Subject<'_>,
     earlier: &mut Earlier<'_>,
     entry: &Entry<'_>,
-    place: usize,
+    file: &Target<'_>,
     found: &mut Vec<Finding>,
 ) -> Result<(), AllocError>
     requires entry { IsEntry subject.now entry.now }
-    requires place { place < length (entry_reads entry.now) }
+    requires file { file.now ≡ target_of subject.now file.now.file }
+    requires read { Has (reads_of subject.now entry.now.number) file.now.file }
     requires graph { earlier.old.graph ≡ subject.now.graph }
-    requires number { earlier.old.number ≡ entry.now.number }
-    ensures same { earlier.new ≡ earlier.old }
+    ensures graph { earlier.new.graph ≡ earlier.old.graph }
     ensures found { OnOk result (Adds subject.now
-        (map (λ o. race entry.now.number o
-        (slice_index_or (reads_of subject.now entry.now.number) place []))
-        (serial_order subject.now.graph)) found.old.items found.new.items) }
+        (map (λ o. race entry.now.number o file.now.file) (serial_order subject.now.graph))
+        found.old.items found.new.items) }
 {
-    let known = subject.known(entry, place);
-    let writers = known.writers.as_slice();
+    let writers = file.writers();
     if writers.is_empty() {
         return Ok(());
     }
-    let file = entry.read_at(place);
-    note_races_with(alloc, subject, earlier, entry, writers, file, found)
+    earlier.turn_to(alloc, entry.number)?;
+    note_races_with(alloc, subject, earlier, entry, writers, file.file, found)
 }
 
 /// Adds which writers of the files that a recipe reads aren't before it.
@@ -123,10 +123,9 @@ fn note_files(
         (flat_map (λ f. map (λ o. race entry.now.number o f) (serial_order subject.now.graph))
         (reads_of subject.now entry.now.number)) found.old.items found.new.items) }
 {
-    earlier.turn_to(alloc, entry.number)?;
-    let places = subject.unsettled(entry.number);
-    for place in places {
-        note_file(alloc, subject, earlier, entry, *place, found)?;
+    for place in 0..subject.count_of_unsettled(entry.number) {
+        let file = subject.unsettled(entry.number, place);
+        note_file(alloc, subject, earlier, entry, &file, found)?;
     }
     Ok(())
 }

@@ -1,12 +1,12 @@
 //! Reads of which nothing is found.
 
-ghost use Rattle.std.specs.Prelude.{◌≡◌, ℕ, List, [], slice_get, slice_index_or, Some, IfOk};
+ghost use Rattle.std.specs.Prelude.{◌≡◌, ℕ, List, [], map, slice_get, slice_index_or, Some, IfOk};
 ghost use Rattle.mk_cert.specs.Known as value;
 ghost use Rattle.mk_cert.specs.Known.{StandAt};
-ghost use Rattle.mk_cert.specs.Settled.{AreUnsettled, is_settled};
+ghost use Rattle.mk_cert.specs.Settled.{is_settled, unsettled};
 
 use crate::known::Known;
-use mk_graph::Groups;
+use crate::number_rows::NumberRows;
 use std::alloc::{AllocError, Global};
 
 /// Whether a file is given, no edit changes it, and no recipe writes it. Nothing is found of a read
@@ -28,21 +28,20 @@ fn is_settled_at(known: &[Known], at: usize) -> bool
     }
 }
 
-/// Places at which those of some files stand that aren't settled, by the places of what is known of
-/// them.
+/// Those of these places at which files stand that aren't settled.
 fn unsettled_among(
     alloc: Global,
     known: &[Known],
     places: &[usize],
 ) -> Result<Vec<usize>, AllocError>
-    ensures { IfOk result (λ unsettled.
-        (by : List ℕ → value.Known) (files : List (List ℕ)) →
-        StandAt by known.now places.now files → AreUnsettled by unsettled.items files) }
+    ensures { IfOk result (λ some.
+        (by : List ℕ → value.Known) (names files : List (List ℕ)) → known.now ≡ map by names →
+        StandAt names places.now files → StandAt names some.items (unsettled by files)) }
 {
     let mut unsettled = Vec::new(alloc);
-    for (place, at) in places.iter().enumerate() {
+    for at in places {
         if !is_settled_at(known, *at) {
-            unsettled.push(place)?;
+            unsettled.push(*at)?;
         }
     }
     Ok(unsettled)
@@ -52,16 +51,17 @@ fn unsettled_among(
 pub fn unsettled_places(
     alloc: Global,
     known: &[Known],
-    places: &Groups,
-) -> Result<Groups, AllocError>
-    ensures { IfOk result (λ unsettled.
-        (by : List ℕ → value.Known) (t : ℕ) (files : List (List ℕ)) →
-        StandAt by known.now (slice_index_or places.now t []) files →
-        AreUnsettled by (slice_index_or unsettled t []) files) }
+    places: &NumberRows,
+) -> Result<NumberRows, AllocError>
+    ensures { IfOk result (λ some.
+        (by : List ℕ → value.Known) (names : List (List ℕ)) (t : ℕ) (files : List (List ℕ)) →
+        known.now ≡ map by names → StandAt names (slice_index_or places.now t []) files →
+        StandAt names (slice_index_or some t []) (unsettled by files)) }
 {
-    let mut unsettled = Vec::with_capacity(alloc, places.as_slice().len())?;
-    for row in places.as_slice() {
-        unsettled.push(unsettled_among(alloc, known, row.as_slice())?)?;
+    let mut unsettled = NumberRows::with_capacity(alloc, places.len())?;
+    for number in 0..places.len() {
+        let row = unsettled_among(alloc, known, places.at(number))?;
+        unsettled.push(&row)?;
     }
-    Ok(Groups::new(unsettled))
+    Ok(unsettled)
 }

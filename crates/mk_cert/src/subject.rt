@@ -1,21 +1,19 @@
 //! What is judged.
 
-ghost use Rattle.std.specs.Prelude.{◌≡◌, ◌<◌, [], false, length, map, slice_index_or, Ok, IfErr, IfOk};
+ghost use Rattle.std.specs.Prelude.{◌≡◌, ◌<◌, List, ℕ, [], false, length, map, slice_get, slice_index_or, Ok, Some, IfErr, IfOk, MatchOption};
 ghost use Rattle.mk_graph.specs.Graph.{IsGraph};
+ghost use Rattle.mk_graph.specs.Membership.{Has};
 ghost use Rattle.mk_graph.specs.Setting as build;
-ghost use Rattle.mk_lines.specs.Names.{has_name};
 ghost use Rattle.mk_infer.specs.Selection.{Selects};
 ghost use Rattle.mk_cert.specs.Known.{all_names, known_of};
-ghost use Rattle.mk_cert.specs.Settled.{AreUnsettled};
-ghost use Rattle.mk_cert.specs.Subject.{IsSubject, name_of, reads_of, subject_of};
-ghost use Rattle.mk_cert.specs.Target.{target_of};
+ghost use Rattle.mk_cert.specs.Subject.{Subject as SubjectValue, IsSubject, name_of, reads_of, subject_of, writes_of};
+ghost use Rattle.mk_cert.specs.Target.{target_of, unsettled_of};
 ghost use Rattle.mk_cert.specs.Entry.{AreEntries, IsEntry, IsFaultOf, entry_reads, writers_of};
 
 use crate::entry::Entry;
-use crate::known::Known;
+use crate::files::Files;
 use crate::tables::{Tables, tables_for};
 use crate::target::Target;
-use crate::writers::writers_at;
 use mk_foot::Setting;
 use mk_graph::Graph;
 use mk_infer::{Exists, InferFault, RuleTable};
@@ -23,6 +21,25 @@ use mk_lines::{Name, NameSet};
 use mk_read::Makefile;
 use std::alloc::{AllocError, Global};
 use std::marker::Model;
+
+/// The file at a place of files, with what is known of it.
+fn target_at<'s>(files: &'s Files<'_>, at: usize) -> Target<'s>
+    requires { at < length files.now.known.items }
+    ensures { (x : SubjectValue) (f : List ℕ) →
+        files.entry.now.known.items ≡
+        map (known_of x) (map (λ name. name.now) files.entry.now.names.keys) →
+        slice_get (map (λ name. name.now) files.entry.now.names.keys) at ≡ Some f →
+        result ≡ target_of x f }
+{
+    let file = match files.names.get_index(at) {
+        Some(name) => *name,
+        None => "",
+    };
+    Target {
+        file,
+        known: &files.known[at],
+    }
+}
 
 /// What is judged: a makefile, the files that are there, the graph of the goals, and what was
 /// recorded. What is looked up of them is looked up once, in time linear in their size. A contract
@@ -123,11 +140,28 @@ impl<'a> Subject<'a> {
         self.tables.entries.as_slice()
     }
 
+    /// A file by its name, with what is known of it: none, where no recipe reads or writes it and no
+    /// node has the name. It takes no memory.
+    pub(crate) fn file(&self, name: &str) -> Option<Target<'_>>
+        ensures { MatchOption result
+            ((t : ℕ) → (¬ (Has (writes_of self.now t) name.now)) ×
+            (¬ (Has (reads_of self.now t) name.now)))
+            (λ file. file ≡ target_of self.now name.now) }
+    {
+        match self.tables.files.names.get_index_of(name) {
+            Some(at) => Some(target_at(&self.tables.files, at)),
+            None => None,
+        }
+    }
+
     /// The numbers of the nodes that write a file, in the serial order. It takes no memory.
     pub fn writers(&self, file: &str) -> &[usize]
         ensures { result.now ≡ writers_of self.now file.now }
     {
-        writers_at(&self.tables.writers, file)
+        match self.file(file) {
+            Some(file) => file.writers(),
+            None => &[],
+        }
     }
 
     /// The name of a node.
@@ -153,52 +187,61 @@ impl<'a> Subject<'a> {
         &self.tables.names
     }
 
-    /// What is known of the file at a place of what the recipe of a node reads, without its name.
+    /// The numbers of the nodes that write the file with the name of a node, in the serial order.
     /// It takes no memory.
-    pub(crate) fn known<'e>(&'e self, entry: &Entry<'_>, place: usize) -> &'e Known
-        requires entry { IsEntry self.now entry.now }
-        requires place { place < length (entry_reads entry.now) }
-        ensures { result.now ≡ known_of self.entry.now
-            (slice_index_or (reads_of self.entry.now entry.now.number) place []) }
+    pub(crate) fn writers_of_node(&self, number: usize) -> &[usize]
+        requires { number < length self.now.graph.nodes }
+        ensures { result.now ≡ writers_of self.now (name_of self.now number) }
     {
-        let at = self.tables.reads.places.as_slice()[entry.number][place];
-        &self.tables.reads.known[at]
+        let at = self.tables.files.nodes[number];
+        self.tables.files.known[at].writers.as_slice()
     }
 
-    /// Places of what the recipe of a node reads, at which the files stand that aren't settled, in
-    /// their order. It takes no memory.
-    pub(crate) fn unsettled(&self, number: usize) -> &[usize]
-        ensures { AreUnsettled (known_of self.now) result.now (reads_of self.now number) }
+    /// How many files the recipe of a node writes. It takes no memory.
+    pub(crate) fn count_of_written(&self, number: usize) -> usize
+        ensures { result ≡ length (writes_of self.now number) }
     {
-        match self.tables.unsettled.as_slice().get(number) {
-            Some(places) => places.as_slice(),
-            None => &[],
-        }
+        self.tables.files.writes.at(number).len()
+    }
+
+    /// The file at a place of what the recipe of a node writes, with what is known of it. It takes
+    /// no memory.
+    pub(crate) fn written(&self, number: usize, place: usize) -> Target<'_>
+        requires { place < length (writes_of self.now number) }
+        ensures { result ≡ target_of self.entry.now
+            (slice_index_or (writes_of self.entry.now number) place []) }
+    {
+        let at = self.tables.files.writes.at(number)[place];
+        target_at(&self.tables.files, at)
+    }
+
+    /// How many files the recipe of a node reads that aren't settled. It takes no memory.
+    pub(crate) fn count_of_unsettled(&self, number: usize) -> usize
+        ensures { result ≡ length (unsettled_of self.now number) }
+    {
+        self.tables.unsettled.at(number).len()
+    }
+
+    /// The file at a place among those that the recipe of a node reads and that aren't settled,
+    /// with what is known of it. It takes no memory.
+    pub(crate) fn unsettled(&self, number: usize, place: usize) -> Target<'_>
+        requires { place < length (unsettled_of self.now number) }
+        ensures { result ≡ target_of self.entry.now
+            (slice_index_or (unsettled_of self.entry.now number) place []) }
+    {
+        let at = self.tables.unsettled.at(number)[place];
+        target_at(&self.tables.files, at)
     }
 
     /// The file at a place of what the recipe of a node reads, with what is known of it. It takes
     /// no memory.
-    pub fn read<'e>(&'e self, entry: &'e Entry<'_>, place: usize) -> Target<'e>
+    pub fn read(&self, entry: &Entry<'_>, place: usize) -> Target<'_>
         requires entry { IsEntry self.now entry.now }
         requires place { place < length (entry_reads entry.now) }
         ensures { result ≡ target_of self.entry.now
-            (slice_index_or (reads_of self.entry.now entry.entry.now.number) place []) }
+            (slice_index_or (reads_of self.entry.now entry.now.number) place []) }
     {
-        let file = entry.read_at(place);
-        let known = self.known(entry, place);
-        Target {
-            file,
-            writers: known.writers.as_slice(),
-            given: known.given,
-            editable: known.editable,
-            number: known.number,
-        }
-    }
-
-    /// Whether `.PHONY` lists the name.
-    pub(crate) fn is_phony(&self, name: &str) -> bool
-        ensures { result ≡ has_name self.now.makefile.phony name.now }
-    {
-        self.table.is_phony(name)
+        let at = self.tables.files.reads.at(entry.number)[place];
+        target_at(&self.tables.files, at)
     }
 }

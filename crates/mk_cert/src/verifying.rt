@@ -58,9 +58,9 @@ fn check_ways(alloc: Global, subject: &Subject<'_>, ways: &Ways) -> Result<(), C
     ensures { (result ≡ Err Memory) ⊎ AnswersWays subject.now ways.now result }
 {
     let carried = carried_lists(alloc, subject)?;
-    let mut links = links_of(alloc, subject, &carried)?;
+    let links = links_of(alloc, subject, &carried)?;
     let mut seen = empty_sets(alloc, subject.graph().nodes().len())?;
-    check_entries(alloc, subject, &mut links, ways, &mut seen)?;
+    check_entries(alloc, subject, &links, ways, &mut seen)?;
     check_reads(alloc, subject, &seen)
 }
 

@@ -1,27 +1,30 @@
 //! Whether an entry of a certificate is good.
 
-ghost use Rattle.std.specs.Prelude.{◌≡◌, ◌↔◌, ℕ, [], true, drop, slice_index_or, MatchOption};
+ghost use Rattle.std.specs.Prelude.{◌≡◌, ◌↔◌, ℕ, [], true, drop, slice_index_or, IfOk, IfSome, MatchOption, OnOk};
 ghost use Rattle.mk_lines.specs.Names.{has_name};
 ghost use Rattle.mk_graph.specs.Membership.{Has};
 ghost use Rattle.mk_graph.specs.Setting.{Needs};
-ghost use Rattle.mk_cert.specs.Subject.{footprints, name_of};
+ghost use Rattle.mk_cert.specs.Subject.{footprints, name_of, reads_of};
 ghost use Rattle.mk_cert.specs.Conditions.{IsRecipe};
+ghost use Rattle.mk_cert.specs.Cursor.{IsReadOf};
 ghost use Rattle.mk_cert.specs.Paths.{EndsAt};
-ghost use Rattle.mk_cert.specs.Verdict.{IsGood, NeedsWay};
-ghost use Rattle.mk_cert.specs.Links.{AreEnds, AreLinks};
+ghost use Rattle.mk_cert.specs.Verdict.{IsGood};
+ghost use Rattle.mk_cert.specs.Links.{AreEnds, AreLinks, HoldReads};
 ghost use Rattle.mk_cert.specs.Target.{target_of};
 ghost use Rattle.mk_cert.specs.Walking.{GoesOver, Leads};
 
+use crate::cursor::{Cursor, Found};
 use crate::links::{Ends, Links};
-use crate::name_list::NameList;
 use crate::number_list::NumberList;
+use crate::read_lists::ReadLists;
 use crate::seen_names::SeenNames;
 use crate::subject::Subject;
-use crate::target::{Target, target_of};
+use crate::target::Target;
 use crate::writer_findings::has_number;
 use mk_graph::growth_laws::names_have_one_number;
 use mk_graph::laws::serial_reaches_each_once;
 use mk_ways::{Finish, Path, Way};
+use std::alloc::{AllocError, Global};
 
 /// Whether a number stands in the list at a place.
 fn has_at(lists: &[NumberList<'_>], place: usize, number: usize) -> bool
@@ -29,16 +32,6 @@ fn has_at(lists: &[NumberList<'_>], place: usize, number: usize) -> bool
 {
     match lists.get(place) {
         Some(list) => list.has(number),
-        None => false,
-    }
-}
-
-/// Whether a name stands in the list at a place.
-fn has_name_at(lists: &[NameList<'_>], place: usize, name: &str) -> bool
-    ensures { result ≡ has_name (slice_index_or lists.now place []) name.now }
-{
-    match lists.get(place) {
-        Some(list) => list.has(name),
         None => false,
     }
 }
@@ -53,14 +46,27 @@ pub fn stands_at(sets: &[SeenNames<'_>], place: usize, name: &str) -> bool
     }
 }
 
-/// The number of the recipe with a name.
-fn recipe_named(subject: &Subject<'_>, ends: &Ends<'_>, name: &str) -> Option<usize>
-    requires { AreEnds subject.now ends.now.needed.items ends.now.always.items }
+/// Whether a node is the recipe with a name.
+fn is_recipe_named(subject: &Subject<'_>, number: usize, name: &str) -> bool
+    ensures { result ≡ true → IsRecipe subject.now number × (name_of subject.now number ≡ name.now) }
+{
+    match subject.graph().nodes().get(number) {
+        Some(node) => node.recipe && node.name.as_str() == name,
+        None => false,
+    }
+}
+
+/// The number of the recipe with a name. It may be the one that is likely, which is looked at
+/// first.
+fn recipe_named(subject: &Subject<'_>, likely: usize, name: &str) -> Option<usize>
     ensures { MatchOption result ((n : ℕ) → IsRecipe subject.now n →
         ¬ (name_of subject.now n ≡ name.now))
         (λ n. IsRecipe subject.now n × (name_of subject.now n ≡ name.now)) }
 {
     names_have_one_number();
+    if is_recipe_named(subject, likely, name) {
+        return Some(likely);
+    }
     let number = subject.names().number_of(name);
     let Some(node) = subject.graph().nodes().get(number) else {
         return None;
@@ -71,25 +77,42 @@ fn recipe_named(subject: &Subject<'_>, ends: &Ends<'_>, name: &str) -> Option<us
     Some(number)
 }
 
-/// The last recipe of a path, which begins at this one and goes over recipes with these names but
-/// the first.
+/// The recipe that is likely to stand behind another one on a path to a file: at its end one that
+/// writes the file, else the first that the other one carries.
+fn likely_behind(links: &Links<'_>, last: usize, file: &Target<'_>, is_end: bool) -> usize {
+    let first = if is_end {
+        file.writers().first().copied()
+    } else {
+        match links.carried.get(last) {
+            Some(carried) => carried.first(),
+            None => None,
+        }
+    };
+    first.unwrap_or(0)
+}
+
+/// The last recipe of a path to a file, which begins at this one and goes over recipes with these
+/// names but the first.
 fn last_over(
     subject: &Subject<'_>,
     links: &Links<'_>,
     start: usize,
     path: &Path<'_>,
+    file: &Target<'_>,
 ) -> Option<usize>
-    requires { AreLinks subject.now links.now.reads.items
-        links.now.carried.items links.now.ends.needed.items links.now.ends.always.items }
+    requires { AreLinks subject.now links.now.carried.items links.now.ends.needed.items
+        links.now.ends.always.items }
     ensures { MatchOption result
         ((last : ℕ) → ¬ (GoesOver subject.now start (drop 1 path.now) last))
         (λ last. GoesOver subject.now start (drop 1 path.now) last) }
 {
     names_have_one_number();
     let _graph = subject.graph();
+    let count = path.len();
     let mut last = start;
-    for place in 1..path.len() {
-        let Some(next) = recipe_named(subject, &links.ends, path.at(place)) else {
+    for place in 1..count {
+        let likely = likely_behind(links, last, file, place + 1 == count);
+        let Some(next) = recipe_named(subject, likely, path.at(place)) else {
             return None;
         };
         if !has_at(&links.carried, last, next) {
@@ -109,7 +132,7 @@ fn needs(subject: &Subject<'_>, ends: &Ends<'_>, number: usize, file: &Target<'_
 {
     names_have_one_number();
     let _graph = subject.graph();
-    has_at(&ends.needed, number, file.number)
+    has_at(&ends.needed, number, file.known.number)
 }
 
 /// Whether a path to a file may end so at a recipe. A file has one writer where nothing was found,
@@ -130,20 +153,10 @@ pub fn ends_at(
     serial_reaches_each_once();
     let _graph = subject.graph();
     match finish {
-        Finish::Written => has_number(file.writers, number),
-        Finish::Source => file.editable && needs(subject, ends, number, file),
+        Finish::Written => has_number(file.writers(), number),
+        Finish::Source => file.known.editable && needs(subject, ends, number, file),
         Finish::Always => ends.always.get(number) == Some(&true),
     }
-}
-
-/// Whether a recipe reads a file which can change.
-fn needs_way(subject: &Subject<'_>, links: &Links<'_>, number: usize, file: &Target<'_>) -> bool
-    requires links { AreLinks subject.now links.now.reads.items
-        links.now.carried.items links.now.ends.needed.items links.now.ends.always.items }
-    requires file { file.now ≡ target_of subject.now file.now.file }
-    ensures { (result ≡ true) ↔ NeedsWay subject.now number file.now.file }
-{
-    has_name_at(&links.reads, number, file.file) && file.can_change(subject)
 }
 
 /// Whether the path of an entry goes on from its first recipe to its file.
@@ -154,14 +167,14 @@ fn leads(
     way: &Way<'_>,
     file: &Target<'_>,
 ) -> bool
-    requires links { AreLinks subject.now links.now.reads.items
-        links.now.carried.items links.now.ends.needed.items links.now.ends.always.items }
+    requires links { AreLinks subject.now links.now.carried.items links.now.ends.needed.items
+        links.now.ends.always.items }
     requires file { file.now ≡ target_of subject.now way.now.file }
     ensures { (result ≡ true) ↔ Leads subject.now start (drop 1 way.now.path) way.now }
 {
     names_have_one_number();
     let _graph = subject.graph();
-    let Some(last) = last_over(subject, links, start, &way.path) else {
+    let Some(last) = last_over(subject, links, start, &way.path, file) else {
         return false;
     };
     if way.path.len() < 2 && way.finish == Finish::Written {
@@ -170,32 +183,83 @@ fn leads(
     ends_at(subject, &links.ends, file, way.finish, last)
 }
 
-/// The number of the recipe of an entry, where the entry is good.
-pub fn good_start(subject: &Subject<'_>, links: &Links<'_>, way: &Way<'_>) -> Option<usize>
-    requires { AreLinks subject.now links.now.reads.items
-        links.now.carried.items links.now.ends.needed.items links.now.ends.always.items }
-    ensures { MatchOption result (¬ (IsGood subject.now way.now))
-        (λ n. IsGood subject.now way.now × IsRecipe subject.now n ×
-        (name_of subject.now n ≡ way.now.recipe)) }
+/// The read of a recipe and a file with these names: the one at which the cursor stands, or the one
+/// that is looked up.
+fn read_named<'s>(
+    alloc: Global,
+    subject: &'s Subject<'_>,
+    lists: &mut ReadLists<'s>,
+    cursor: &mut Cursor,
+    recipe: &str,
+    file: &str,
+) -> Result<Option<Found<'s>>, AllocError>
+    requires { IfSome lists.old.lists (λ lists. HoldReads subject.entry.now lists.items) }
+    ensures found { IfOk result (λ found. MatchOption found
+        ((t : ℕ) → IsRecipe subject.entry.now t → name_of subject.entry.now t ≡ recipe.now →
+        ¬ (Has (reads_of subject.entry.now t) file.now))
+        (λ found. IsReadOf subject.entry.now recipe.now file.now found.recipe found.file)) }
+    ensures lists { OnOk result
+        (IfSome lists.new.lists (λ lists. HoldReads subject.entry.now lists.items)) }
 {
     names_have_one_number();
     let _graph = subject.graph();
-    if way.path.is_empty() {
-        return None;
+    if let Some(found) = cursor.found(subject, recipe, file) {
+        return Ok(Some(found));
     }
-    let first = way.path.at(0);
-    if first != way.recipe {
-        return None;
-    }
-    let Some(start) = recipe_named(subject, &links.ends, first) else {
-        return None;
+    let Some(number) = recipe_named(subject, 0, recipe) else {
+        return Ok(None);
     };
-    let file = target_of(subject, way.file);
-    if !needs_way(subject, links, start, &file) {
-        return None;
+    let Some(target) = subject.file(file) else {
+        return Ok(None);
+    };
+    if !lists.has(alloc, subject, number, file)? {
+        return Ok(None);
     }
-    if !leads(subject, links, start, way, &file) {
-        return None;
+    Ok(Some(Found {
+        recipe: number,
+        file: target,
+    }))
+}
+
+/// Whether an entry, whose recipe reads its file, is good.
+fn is_good(subject: &Subject<'_>, links: &Links<'_>, way: &Way<'_>, found: &Found<'_>) -> bool
+    requires links { AreLinks subject.now links.now.carried.items links.now.ends.needed.items
+        links.now.ends.always.items }
+    requires found { IsReadOf subject.now way.now.recipe way.now.file found.now.recipe
+        found.now.file }
+    ensures { (result ≡ true) ↔ IsGood subject.now way.now }
+{
+    names_have_one_number();
+    let _graph = subject.graph();
+    if way.path.is_empty() || way.path.at(0) != way.recipe {
+        return false;
     }
-    Some(start)
+    found.file.can_change(subject) && leads(subject, links, found.recipe, way, &found.file)
+}
+
+/// The number of the recipe of an entry, where the entry is good.
+pub fn good_start<'s>(
+    alloc: Global,
+    subject: &'s Subject<'_>,
+    links: &Links<'_>,
+    lists: &mut ReadLists<'s>,
+    cursor: &mut Cursor,
+    way: &Way<'_>,
+) -> Result<Option<usize>, AllocError>
+    requires links { AreLinks subject.entry.now links.now.carried.items
+        links.now.ends.needed.items links.now.ends.always.items }
+    requires lists { IfSome lists.old.lists (λ lists. HoldReads subject.entry.now lists.items) }
+    ensures start { IfOk result (λ start. MatchOption start (¬ (IsGood subject.entry.now way.now))
+        (λ n. IsGood subject.entry.now way.now × IsRecipe subject.entry.now n ×
+        (name_of subject.entry.now n ≡ way.now.recipe))) }
+    ensures lists { OnOk result
+        (IfSome lists.new.lists (λ lists. HoldReads subject.entry.now lists.items)) }
+{
+    let Some(found) = read_named(alloc, subject, lists, cursor, way.recipe, way.file)? else {
+        return Ok(None);
+    };
+    if !is_good(subject, links, way, &found) {
+        return Ok(None);
+    }
+    Ok(Some(found.recipe))
 }

@@ -81,6 +81,6 @@ pub fn note_loose(
     if entry.node.recipe {
         return Ok(());
     }
-    let writers = subject.writers(entry.name());
+    let writers = subject.writers_of_node(entry.number);
     note_loose_writers(subject, entry, writers, found)
 }

@@ -1,0 +1,13 @@
+-- Reads that are found by the names of a recipe and of a file.
+use Rattle.std.specs.Prelude.{◌≡◌, ℕ, List}
+use Rattle.mk_graph.specs.Membership.{Has}
+use Rattle.mk_cert.specs.Conditions.{IsRecipe}
+use Rattle.mk_cert.specs.Subject.{Subject, name_of, reads_of}
+use Rattle.mk_cert.specs.Target.{Target, target_of}
+
+-- The node is the recipe with a name, it reads the file with a name, and all is known of that file.
+pub record IsReadOf (x : Subject) (recipe file : List ℕ) (t : ℕ) (target : Target) : Type 0 where
+  pub is_recipe : IsRecipe x t
+  pub named : name_of x t ≡ recipe
+  pub reads : Has (reads_of x t) file
+  pub known : target ≡ target_of x file

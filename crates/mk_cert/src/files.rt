@@ -1,0 +1,213 @@
+//! The files that recipes read or write.
+
+ghost use Rattle.std.specs.Prelude.{◌≡◌, ◌++◌, ◌∷◌, ℕ, [], List, map, slice_get, slice_index_or, Some, IfOk, OnOk};
+ghost use Rattle.std.specs.Borrow.{Bor};
+ghost use Rattle.std.specs.String.{string_bytes};
+ghost use Rattle.mk_graph.specs.declared.node.Node.{Node as NodeValue};
+ghost use Rattle.mk_graph.specs.Setting as build;
+ghost use Rattle.mk_cert.specs.Known.{AreFiles, StandAt, known_by};
+ghost use Rattle.mk_cert.specs.Subject.{footprints};
+ghost use Rattle.mk_cert.specs.Writers.{numbers_at};
+
+use crate::known::{Known, known_of};
+use crate::links::{reads_of, writes_of};
+use crate::number_rows::NumberRows;
+use crate::writers::Writers;
+use indexmap::IndexSet;
+use mk_foot::Setting;
+use mk_graph::{Graph, Node};
+use mk_infer::RuleTable;
+use mk_lines::NameSet;
+use std::alloc::{AllocError, Global};
+
+/// Files, of each once what is known of it, and where those stand that a node has to do with. The
+/// nodes' own names come first, so that what is asked of one recipe after another lies together.
+#[derive(Drop)]
+pub struct Files<'a> {
+    /// Their names.
+    pub names: IndexSet<&'a str>,
+    /// What is known of each, at its place.
+    pub known: Vec<Known>,
+    /// For each node, at its number, the place of the file with its name.
+    pub nodes: Vec<usize>,
+    /// For each node, at its number, the places of the files that its recipe writes, in their
+    /// order.
+    pub writes: NumberRows,
+    /// The same of those that it reads.
+    pub reads: NumberRows,
+}
+
+/// By what is told what is known of a file.
+#[derive(Drop)]
+struct Sources<'s, 'a> {
+    table: &'s RuleTable<'a>,
+    setting: &'s Setting,
+    writers: &'s Writers<'a>,
+    names: &'s NameSet<'a>,
+}
+
+/// What is known of a file.
+fn known_by(alloc: Global, sources: &Sources<'_, '_>, file: &str) -> Result<Known, AllocError>
+    ensures { IfOk result (λ known. known ≡ known_by sources.now.table.now
+        sources.now.setting.now (numbers_at sources.now.writers.now) sources.now.names.now
+        file.now) }
+{
+    known_of(
+        alloc,
+        sources.table,
+        sources.setting,
+        sources.writers,
+        sources.names,
+        file,
+    )
+}
+
+/// The place of a file, which is noted where it is met first.
+fn place_for<'a>(
+    alloc: Global,
+    sources: &Sources<'_, '_>,
+    files: &mut IndexSet<&'a str>,
+    known: &mut Vec<Known>,
+    file: &'a str,
+) -> Result<usize, AllocError>
+    requires { known.old.items ≡ map (λ f. known_by sources.now.table.now sources.now.setting.now
+        (numbers_at sources.now.writers.now) sources.now.names.now f.now) files.old.keys }
+    ensures all { OnOk result (known.new.items ≡ map (λ f. known_by sources.now.table.now
+        sources.now.setting.now (numbers_at sources.now.writers.now) sources.now.names.now f.now)
+        files.new.keys) }
+    ensures more { OnOk result ((rest : List (Bor (List ℕ))) ×
+        (files.new.keys ≡ files.old.keys ++ rest)) }
+    ensures here { IfOk result (λ place.
+        slice_get (map (λ f. f.now) files.new.keys) place ≡ Some file.entry.now) }
+{
+    let (place, is_new) = files.insert_full(file)?;
+    if is_new {
+        known.push(known_by(alloc, sources, file)?)?;
+    }
+    Ok(place)
+}
+
+/// The places of the names of nodes.
+fn places_of_nodes<'a>(
+    alloc: Global,
+    sources: &Sources<'_, '_>,
+    files: &mut IndexSet<&'a str>,
+    known: &mut Vec<Known>,
+    nodes: &'a [Node],
+) -> Result<Vec<usize>, AllocError>
+    requires { known.old.items ≡ map (λ f. known_by sources.now.table.now sources.now.setting.now
+        (numbers_at sources.now.writers.now) sources.now.names.now f.now) files.old.keys }
+    ensures all { OnOk result (known.new.items ≡ map (λ f. known_by sources.now.table.now
+        sources.now.setting.now (numbers_at sources.now.writers.now) sources.now.names.now f.now)
+        files.new.keys) }
+    ensures here { IfOk result (λ places. StandAt (map (λ f. f.now) files.new.keys) places.items
+        (map (λ (n : NodeValue). n.name) nodes.entry.now)) }
+{
+    let mut places = Vec::with_capacity(alloc, nodes.len())?;
+    for node in nodes {
+        let place = place_for(alloc, sources, files, known, node.name.as_str())?;
+        places.push(place)?;
+    }
+    Ok(places)
+}
+
+/// The places of the files of a record.
+fn places_for<'a>(
+    alloc: Global,
+    sources: &Sources<'_, '_>,
+    files: &mut IndexSet<&'a str>,
+    known: &mut Vec<Known>,
+    listed: &'a [String],
+) -> Result<Vec<usize>, AllocError>
+    requires { known.old.items ≡ map (λ f. known_by sources.now.table.now sources.now.setting.now
+        (numbers_at sources.now.writers.now) sources.now.names.now f.now) files.old.keys }
+    ensures all { OnOk result (known.new.items ≡ map (λ f. known_by sources.now.table.now
+        sources.now.setting.now (numbers_at sources.now.writers.now) sources.now.names.now f.now)
+        files.new.keys) }
+    ensures more { OnOk result ((rest : List (Bor (List ℕ))) ×
+        (files.new.keys ≡ files.old.keys ++ rest)) }
+    ensures here { IfOk result (λ places. StandAt (map (λ f. f.now) files.new.keys) places.items
+        (map string_bytes listed.entry.now)) }
+{
+    let mut places = Vec::with_capacity(alloc, listed.len())?;
+    for file in listed {
+        let place = place_for(alloc, sources, files, known, file.as_str())?;
+        places.push(place)?;
+    }
+    Ok(places)
+}
+
+/// Adds the row of the places of the files of a record.
+fn push_row<'a>(
+    alloc: Global,
+    sources: &Sources<'_, '_>,
+    files: &mut IndexSet<&'a str>,
+    known: &mut Vec<Known>,
+    listed: &'a [String],
+    rows: &mut NumberRows,
+) -> Result<(), AllocError>
+    requires { known.old.items ≡ map (λ f. known_by sources.now.table.now sources.now.setting.now
+        (numbers_at sources.now.writers.now) sources.now.names.now f.now) files.old.keys }
+    ensures all { OnOk result (known.new.items ≡ map (λ f. known_by sources.now.table.now
+        sources.now.setting.now (numbers_at sources.now.writers.now) sources.now.names.now f.now)
+        files.new.keys) }
+    ensures more { OnOk result ((rest : List (Bor (List ℕ))) ×
+        (files.new.keys ≡ files.old.keys ++ rest)) }
+    ensures here { OnOk result ((row : List ℕ) × (rows.new ≡ rows.old ++ row ∷ []) ×
+        StandAt (map (λ f. f.now) files.new.keys) row (map string_bytes listed.entry.now)) }
+{
+    let places = places_for(alloc, sources, files, known, listed)?;
+    rows.push(&places)
+}
+
+/// The files that the recipes of all nodes of a graph read or write. It takes time linear in the
+/// records.
+pub fn files_of<'a>(
+    alloc: Global,
+    table: &RuleTable<'_>,
+    graph: &'a Graph,
+    setting: &'a Setting,
+    writers: &Writers<'a>,
+    names: &NameSet<'a>,
+) -> Result<Files<'a>, AllocError>
+    ensures { IfOk result (λ files. AreFiles
+        (known_by table.now setting.now (numbers_at writers.now) names.now)
+        (map (λ (n : NodeValue). n.name) graph.now.nodes)
+        (build.writes graph.now (footprints setting.now))
+        (build.reads graph.now (footprints setting.now))
+        (map (λ f. f.now) files.names.keys) files.known.items files.nodes.items
+        files.writes files.reads) }
+{
+    let sources = Sources {
+        table,
+        setting,
+        writers,
+        names,
+    };
+    let count = graph.nodes().len();
+    let mut files = IndexSet::new(alloc);
+    let mut known = Vec::new(alloc);
+    let nodes = places_of_nodes(alloc, &sources, &mut files, &mut known, graph.nodes())?;
+    let mut writes = NumberRows::with_capacity(alloc, count)?;
+    let mut reads = NumberRows::with_capacity(alloc, count)?;
+    for number in 0..count {
+        let written = writes_of(graph, setting, number);
+        push_row(
+            alloc,
+            &sources,
+            &mut files,
+            &mut known,
+            written,
+            &mut writes,
+        )?;
+        let read = reads_of(graph, setting, number);
+        push_row(alloc, &sources, &mut files, &mut known, read, &mut reads)?;
+    }
+    Ok(Files {
+        names: files,
+        known,
+        nodes,
+        writes,
+        reads,
+    })
+}
