@@ -58,10 +58,10 @@ fn note_good<'a, 's>(
     way: &Way<'a>,
     seen: &mut Vec<SeenNames<'a>>,
 ) -> Result<bool, AllocError>
-    requires links { AreLinks subject.entry.now links.now.carried.items
+    requires links { AreLinks subject.now links.now.carried.items
         links.now.ends.needed.items links.now.ends.always.items }
-    requires lists { IfSome lists.old.lists (λ lists. HoldReads subject.entry.now lists.items) }
-    requires sets { HasSets subject.entry.now seen.old.items }
+    requires lists { IfSome lists.old.lists (λ lists. HoldReads subject.now lists.items) }
+    requires sets { HasSets subject.now seen.old.items }
     ensures judged { IfOk result (λ good.
         Judges subject.entry.now way.now seen.old.items seen.new.items good) }
     ensures lists { OnOk result

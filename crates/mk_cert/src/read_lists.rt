@@ -74,7 +74,7 @@ impl<'a> ReadLists<'a> {
         number: usize,
         file: &str,
     ) -> Result<bool, AllocError>
-        requires { IfSome self.old.lists (λ lists. HoldReads subject.entry.now lists.items) }
+        requires { IfSome self.old.lists (λ lists. HoldReads subject.now lists.items) }
         ensures has { IfOk result (λ has. (has ≡ true) ↔
             Has (reads_of subject.entry.now number) file.now) }
         ensures kept { OnOk result

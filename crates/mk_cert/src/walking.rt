@@ -193,7 +193,7 @@ fn read_named<'s>(
     recipe: &str,
     file: &str,
 ) -> Result<Option<Found<'s>>, AllocError>
-    requires { IfSome lists.old.lists (λ lists. HoldReads subject.entry.now lists.items) }
+    requires { IfSome lists.old.lists (λ lists. HoldReads subject.now lists.items) }
     ensures found { IfOk result (λ found. MatchOption found
         ((t : ℕ) → IsRecipe subject.entry.now t → name_of subject.entry.now t ≡ recipe.now →
         ¬ (Has (reads_of subject.entry.now t) file.now))
@@ -246,9 +246,9 @@ pub fn good_start<'s>(
     cursor: &mut Cursor,
     way: &Way<'_>,
 ) -> Result<Option<usize>, AllocError>
-    requires links { AreLinks subject.entry.now links.now.carried.items
+    requires links { AreLinks subject.now links.now.carried.items
         links.now.ends.needed.items links.now.ends.always.items }
-    requires lists { IfSome lists.old.lists (λ lists. HoldReads subject.entry.now lists.items) }
+    requires lists { IfSome lists.old.lists (λ lists. HoldReads subject.now lists.items) }
     ensures start { IfOk result (λ start. MatchOption start (¬ (IsGood subject.entry.now way.now))
         (λ n. IsGood subject.entry.now way.now × IsRecipe subject.entry.now n ×
         (name_of subject.entry.now n ≡ way.now.recipe))) }
