@@ -3,10 +3,11 @@ use Rattle.std.proofs.Common.{◌≡◌, ℕ, zero, suc, Bool, String, Global, �
 use Rattle.std.specs.Prelude.{filter, find, cond, slice_get, ◌||◌}
 use Rattle.std.specs.Borrow.{Bor}
 use Rattle.std.specs.List.{list_any}
+use Rattle.std.specs.Option.{option_map}
 use Rattle.std.specs.Str.{bytes_eq}
 use Rattle.std.proofs.lemmas.Bool.{cases_lt, true≢false}
 use Rattle.std.proofs.lemmas.List.{get_or-map, get_or_past, length-map, map_push, get_or_append_left}
-use Rattle.std.proofs.lemmas.Option.{slice_get-map, slice_get_within, slice_get-get_or}
+use Rattle.std.proofs.lemmas.Option.{slice_get-map, slice_get_within, slice_get-get_or, get_or_from_slice_get}
 use Rattle.std.proofs.lemmas.Slice.Eq.{bytes_eq-Decides}
 use Rattle.std.specs.String.{string_bytes}
 use Rattle.mk_lines.specs.Names.{has_name}
@@ -125,6 +126,11 @@ file_at by names known row files i all h lt =
       within = omega (arith, slice_get_within names (get_or row i 0) (get_or files i []) here, ap (λ (l : List Known). length l) all, length-map names by);
       here = here;
     }
+
+-- what is known of the file at a place
+pub known_at : (by : List ℕ → Known) (names : List (List ℕ)) (known : List Known) (p : ℕ) (f : List ℕ) (d : Known) → known ≡ map by names → slice_get names p ≡ Some f → get_or known p d ≡ by f
+known_at by names known p f d all at =
+    get_or_from_slice_get known p (by f) d (ap (λ (l : List Known). slice_get l p) all ∙ (slice_get-map by names p ∙ ap (λ (o : Option (List ℕ)). option_map by o) at))
 
 -- a file that no place has is written by no recipe
 pub no_writers : (x : Subject) (f : List ℕ) → ((t : ℕ) → ¬ (Has (writes_of x t) f)) → writers_of x f ≡ []
