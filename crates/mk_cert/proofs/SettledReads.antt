@@ -82,18 +82,15 @@ unsettled_read x t i low = kept_in (λ f. not (is_settled (known_of x f))) (read
 pub record OpenAt (x : Subject) (t i : ℕ) (target : Target) : Type 0 where
   pub low : i < length (unsettled_of x t)
   pub file : target.file ≡ get_or (unsettled_of x t) i []
-  pub whole : target ≡ target_of x target.file
   pub read : Has (reads_of x t) target.file
 
 pub open_at : (x : Subject) (n t i count : ℕ) (target : Target) → n ≡ t → count ≡ length (unsettled_of x n) → i < count → target ≡ target_of x (get_or (unsettled_of x n) i []) → OpenAt x t i target
 open_at x n t i count target number many lt is =
     let low : i < length (unsettled_of x t) = omega (arith, many, ap (λ (k : ℕ). length (unsettled_of x k)) number) in
-    let here = ap (λ (k : Target). k.file) is in
-    let named : target.file ≡ get_or (unsettled_of x t) i [] = here ∙ ap (λ (k : ℕ). get_or (unsettled_of x k) i []) number in
+    let named : target.file ≡ get_or (unsettled_of x t) i [] = ap (λ (k : Target). k.file) is ∙ ap (λ (k : ℕ). get_or (unsettled_of x k) i []) number in
     record {
       low = low;
       file = named;
-      whole = is ∙ ap (λ (f : List ℕ). target_of x f) (sym here);
       read = subst (λ (f : List ℕ). Has (reads_of x t) f) (sym named) (unsettled_read x t i low);
     }
 

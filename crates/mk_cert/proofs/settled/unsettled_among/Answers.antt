@@ -1,5 +1,5 @@
 -- The place is one more where the file at it isn't settled.
-use Rattle.std.proofs.Common.{length, arith}
+use Rattle.std.proofs.Common.{arith}
 use Rattle.mk_cert.proofs.SettledReads.{so_far_more, so_far_past, so_far_all}
 use Rattle.mk_cert.proofs.settled.unsettled_among.Goals as goal
 use Rattle.mk_cert.proofs.settled.unsettled_among.Goals.{then-not-is_settled_at+in_ok-push, else-not-is_settled_at}
