@@ -34,7 +34,8 @@ fn note_taken(
     ensures { OnOk result (Adds subject.now (given_written entry.now.number file.now.file ∷ [])
         found.old.items found.new.items) }
 {
-    if !file.known.taken {
+    let known = file.known;
+    if !known.taken {
         return Ok(());
     }
     let recipe = entry.shared_name(alloc, found)?;
@@ -69,7 +70,8 @@ fn is_unknown(subject: &Subject<'_>, file: &Target<'_>) -> bool
 {
     serial_reaches_each_once();
     let _graph = subject.graph();
-    !file.known.given && file.writers().is_empty()
+    let known = file.known;
+    !known.given && file.writers().is_empty()
 }
 
 /// Adds that a file that a recipe reads is neither given nor written, if it is so.
