@@ -27,3 +27,4 @@ pub mod Stays
 pub mod SettledReads
 pub mod NumberRows
 pub mod TablesOf
+pub mod ReadOf
