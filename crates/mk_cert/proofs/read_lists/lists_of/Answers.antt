@@ -9,13 +9,13 @@ use Rattle.mk_cert.specs.Subject.{footprints}
 use Rattle.mk_cert.proofs.Decided.{has_decides}
 use Rattle.mk_cert.proofs.Past.{past_reads}
 use Rattle.mk_cert.proofs.Rows.{rows_push, rows_all}
-use Rattle.mk_cert.proofs.links.read_sets.Goals as goal
+use Rattle.mk_cert.proofs.read_lists.lists_of.Goals as goal
 
 pub loop-number-preserved : goal.loop-number-preserved
 loop-number-preserved c =
     let g = c.args.graph.now in
     let s = footprints c.args.setting.now in
-    let rows = c.loop-number.sets.items in
+    let rows = c.loop-number.lists.items in
     let row = c.new.result in
     let pushed = c.in_ok-push.ensures.items in
     let files : map string_bytes c.reads_of.result.now ≡ build.reads g s c.loop-number.number = c.reads_of.ensures in
@@ -32,7 +32,7 @@ pub returns : goal.returns
 returns c =
     let g = c.args.graph.now in
     let s = footprints c.args.setting.now in
-    let rows = c.loop-number.sets.items in
+    let rows = c.loop-number.lists.items in
     rows_all (λ (t : ℕ) (set : List (List ℕ)). (f : List ℕ) → (has_name set f ≡ true) ↔ Has (build.reads g s t) f) rows [] c.loop-number.invariant.held
     (λ t high.
     let past : length g.nodes ≤ t = omega (arith, c.loop-number.invariant.many, c.loop-number-test.false, ap (λ (l : List Node). length l) c.nodes-count.ensures.value) in
