@@ -26,3 +26,4 @@ pub mod Counted
 pub mod Stays
 pub mod SettledReads
 pub mod NumberRows
+pub mod Targets

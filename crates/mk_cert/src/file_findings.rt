@@ -34,7 +34,8 @@ fn note_taken(
     ensures { OnOk result (Adds subject.now (given_written entry.now.number file.now.file ∷ [])
         found.old.items found.new.items) }
 {
-    if !file.known.taken {
+    let known = file.known;
+    if !known.taken {
         return Ok(());
     }
     let recipe = entry.shared_name(alloc, found)?;
