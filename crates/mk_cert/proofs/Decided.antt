@@ -1,5 +1,5 @@
 -- What is tested of nodes decides what is found.
-use Rattle.std.proofs.Common.{◌≡◌, ℕ, List, [], ◌∷◌, length, map, Bool, true, false, Option, None, Some, Ok, refl, sym, ap, subst, ◌∙◌, inl, inr, ⊎_elim}
+use Rattle.std.proofs.Common.{◌≡◌, ℕ, List, [], ◌∷◌, length, map, Bool, true, false, cond, Option, None, Some, Ok, refl, sym, ap, subst, ◌∙◌, inl, inr, ⊎_elim}
 use Rattle.std.specs.Prelude.{not, option_to_list, is_some, is_none, bytes_eq, ◌&&◌, ◌||◌}
 use Rattle.std.proofs.lemmas.Bool.{true≢false, cases_Bool}
 use Rattle.std.proofs.lemmas.Slice.Eq.{bytes_eq-Decides}
@@ -8,13 +8,13 @@ use Rattle.mk_graph.specs.Membership.{Has}
 use Rattle.mk_graph.specs.declared.node.Node.{Node}
 use Rattle.mk_foot.specs.Book.{Record}
 use Rattle.mk_infer.specs.Commands.{Commands}
-use Rattle.mk_cert.specs.Subject.{Subject, name_of}
+use Rattle.mk_cert.specs.Subject.{Subject, name_of, writes_of}
 use Rattle.mk_cert.specs.Conditions.{HasNoRecord, HasOtherCommands, HasVaryingCommands, LacksItsTarget, ChoosesOtherwise}
 use Rattle.mk_cert.specs.Candidates.{selection, choice_with_writes}
 use Rattle.mk_cert.specs.Listed.{Adds}
 use Rattle.mk_cert.specs.declared.finding.Finding.{Finding}
-use Rattle.mk_cert.specs.Entry.{Entry, IsEntry, entry_writes, has_others, lines_eq}
-use Rattle.mk_cert.specs.Tests.{lacks_record, has_varying, lacks_target, has_other_commands}
+use Rattle.mk_cert.specs.Entry.{Entry, IsEntry, has_others, is_unwritten, lines_eq, writes_in}
+use Rattle.mk_cert.specs.Tests.{lacks_record, has_varying, has_other_commands}
 use Rattle.mk_cert.proofs.Entries.{same_writes}
 
 -- both of two tests
@@ -80,24 +80,31 @@ some_is : {A : Type 0} (o : Option A) → is_some o ≡ true → (a : A) × (o �
 some_is None e = absurd (let f : false ≡ true = e in cc)
 some_is (Some a) e = (a, refl)
 
+-- what the record of a recipe says is written is what the recipe writes
+recorded_writes : (x : Subject) (e : Entry) → IsEntry x e → e.node.recipe ≡ true → writes_in e.recorded ≡ writes_of x e.number
+recorded_writes x e is recipe = sym (ap (λ b. cond b (writes_in e.recorded) []) recipe) ∙ same_writes x e is
+
 -- no target
-pub target_lacking : (x : Subject) (e : Entry) → IsEntry x e → lacks_target e ≡ true → LacksItsTarget x e.number
-target_lacking x e is t =
+pub target_lacking : (x : Subject) (e : Entry) → IsEntry x e → e.unwritten ≡ true → LacksItsTarget x e.number
+target_lacking x e is told =
+    let t : is_unwritten e.node e.recorded ≡ true = sym is.same_unwritten ∙ told in
     let recipe = and_both e.node.recipe _ t in
     let recorded = and_both (is_some e.recorded) _ recipe.1 in
     let phony = and_both (not e.node.phony) _ recorded.1 in
     let record_is = some_is e.recorded recorded.0 in
-    let out : has_name (entry_writes e) e.node.name ≡ false = not_true _ phony.1 in (
+    let out : has_name (writes_in e.recorded) e.node.name ≡ false = not_true _ phony.1 in (
       sym (ap (λ (n : Node). n.recipe) is.same_node) ∙ recipe.0,
       (record_is.0, sym is.same_record ∙ record_is.1),
       sym (ap (λ (n : Node). n.phony) is.same_node) ∙ not_true e.node.phony phony.0,
-      λ h. true≢false (sym (has_true (entry_writes e) e.node.name (subst (λ (n : Node). Has (entry_writes e) n.name) (sym is.same_node) (subst (λ (fs : List (List ℕ)). Has fs (name_of x e.number)) (sym (same_writes x e is)) h))) ∙ out),
+      λ h. true≢false (sym (has_true (writes_in e.recorded) e.node.name (subst (λ (n : Node). Has (writes_in e.recorded) n.name) (sym is.same_node) (subst (λ (fs : List (List ℕ)). Has fs (name_of x e.number)) (sym (recorded_writes x e is recipe.0)) h))) ∙ out),
     )
 
-pub target_there : (x : Subject) (e : Entry) → IsEntry x e → lacks_target e ≡ false → ¬ (LacksItsTarget x e.number)
-target_there x e is f (recipe, (r, recorded), phony, out) =
-    let unwritten : has_name (entry_writes e) e.node.name ≡ false = ⊎_elim (λ t. absurd (out (subst (λ (fs : List (List ℕ)). Has fs (name_of x e.number)) (same_writes x e is) (subst (λ (n : Node). Has (entry_writes e) n.name) is.same_node (true_has (entry_writes e) e.node.name t))))) (λ e. e) (cases_Bool (has_name (entry_writes e) e.node.name)) in
-    true≢false (sym (both_and e.node.recipe _ (ap (λ (n : Node). n.recipe) is.same_node ∙ recipe) (both_and (is_some e.recorded) _ (ap (λ (o : Option Record). is_some o) (is.same_record ∙ recorded)) (both_and (not e.node.phony) _ (ap (λ (n : Node). not n.phony) is.same_node ∙ ap (λ b. not b) phony) (ap (λ b. not b) unwritten)))) ∙ f)
+pub target_there : (x : Subject) (e : Entry) → IsEntry x e → e.unwritten ≡ false → ¬ (LacksItsTarget x e.number)
+target_there x e is told (recipe, (r, recorded), phony, out) =
+    let f : is_unwritten e.node e.recorded ≡ false = sym is.same_unwritten ∙ told in
+    let own : e.node.recipe ≡ true = ap (λ (n : Node). n.recipe) is.same_node ∙ recipe in
+    let unwritten : has_name (writes_in e.recorded) e.node.name ≡ false = ⊎_elim (λ t. absurd (out (subst (λ (fs : List (List ℕ)). Has fs (name_of x e.number)) (recorded_writes x e is own) (subst (λ (n : Node). Has (writes_in e.recorded) n.name) is.same_node (true_has (writes_in e.recorded) e.node.name t))))) (λ e. e) (cases_Bool (has_name (writes_in e.recorded) e.node.name)) in
+    true≢false (sym (both_and e.node.recipe _ own (both_and (is_some e.recorded) _ (ap (λ (o : Option Record). is_some o) (is.same_record ∙ recorded)) (both_and (not e.node.phony) _ (ap (λ (n : Node). not n.phony) is.same_node ∙ ap (λ b. not b) phony) (ap (λ b. not b) unwritten)))) ∙ f)
 
 -- a name that is told of a node is its name
 pub name_is : (x : Subject) (e : Entry) (name : List ℕ) → IsEntry x e → name ≡ e.node.name → name ≡ name_of x e.number

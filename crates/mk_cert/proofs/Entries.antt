@@ -18,7 +18,7 @@ use Rattle.mk_cert.specs.Entry.{Entry, IsEntry, AreEntriesOf, AreEntries, IsFirs
 use Rattle.mk_cert.proofs.Sound.{in_order}
 
 no_entry : Entry
-no_entry = record { number = 0; node = no_node; recorded = None; commands = no_commands; others = false; chosen = None; chosen_after = None }
+no_entry = record { number = 0; node = no_node; recorded = None; commands = no_commands; others = false; unwritten = false; chosen = None; chosen_after = None }
 
 -- one node more
 pub entry_more : (x : Subject) (order : List ℕ) (i : ℕ) (entries new : List Entry) (e : Entry) → new ≡ entries ++ e ∷ [] → e.number ≡ get_or order i 0 → i < length order → IsEntry x e → AreEntriesOf x (take i order) entries → AreEntriesOf x (take (i + 1) order) new

@@ -1,103 +1,148 @@
--- The places of what is known of files.
-use Rattle.std.proofs.Common.{◌≡◌, ℕ, Bool, String, Global, ◌<◌, List, [], ◌∷◌, ◌++◌, Option, None, Some, length, get_or, map, true, refl, sym, ap, ◌∙◌, ⊎_elim, arith, length-append}
-use Rattle.std.specs.Prelude.{slice_get}
+-- The places of files.
+use Rattle.std.proofs.Common.{◌≡◌, ℕ, zero, suc, Bool, String, Global, ◌<◌, List, [], ◌∷◌, ◌++◌, Option, None, Some, length, get_or, map, true, false, refl, sym, ap, subst, ◌∙◌, inl, inr, ⊎_elim, arith, length-append}
+use Rattle.std.specs.Prelude.{filter, find, cond, slice_get, ◌||◌}
 use Rattle.std.specs.Borrow.{Bor}
+use Rattle.std.specs.List.{list_any}
+use Rattle.std.specs.Option.{option_map}
 use Rattle.std.specs.Str.{bytes_eq}
-use Rattle.std.proofs.lemmas.Bool.{cases_lt}
+use Rattle.std.proofs.lemmas.Bool.{cases_lt, true≢false}
 use Rattle.std.proofs.lemmas.List.{get_or-map, get_or_past, length-map, map_push, get_or_append_left}
-use Rattle.std.proofs.lemmas.Option.{slice_get-map, slice_get_within, slice_get-get_or}
+use Rattle.std.proofs.lemmas.Option.{slice_get-map, slice_get_within, slice_get-get_or, get_or_from_slice_get}
 use Rattle.std.proofs.lemmas.Slice.Eq.{bytes_eq-Decides}
 use Rattle.std.specs.String.{string_bytes}
+use Rattle.mk_lines.specs.Names.{has_name}
+use Rattle.mk_graph.specs.Membership.{Has}
+use Rattle.mk_graph.specs.Serial.{serial_order}
 use Rattle.mk_cert.specs.Entry.{Entry, IsEntry, entry_reads, writers_of}
-use Rattle.mk_cert.specs.Known.{Known, StandAt, all_names, known_by, known_of}
-use Rattle.mk_cert.specs.Subject.{Subject, reads_of}
+use Rattle.mk_cert.specs.Known.{Known, StandAt, AreFiles, all_names, known_by, known_of}
+use Rattle.mk_cert.specs.Subject.{Subject, reads_of, writes_of}
 use Rattle.mk_cert.specs.Target.{Target, target_of}
+use Rattle.mk_cert.proofs.Decided.{has_decides}
 use Rattle.mk_cert.proofs.Entries.{same_reads}
 
--- what stands at a place stays there as more is known
-pub known_more : (known rest : List Known) (p : ℕ) (k : Known) → slice_get known p ≡ Some k → slice_get (known ++ rest) p ≡ Some k
-known_more known rest p k h =
-    let low : p < length known = slice_get_within known p k h in
-    let within : p < length (known ++ rest) = omega (arith, length-append known rest) in
-    slice_get-get_or (known ++ rest) p k within ∙ (ap (λ (v : Known). Some v) (get_or_append_left known rest k p low) ∙ (sym (slice_get-get_or known p k low) ∙ h))
+-- what the keys of a table spell
+abbrev pub spelled : List (Bor (List ℕ)) → List (List ℕ)
+spelled keys = map (λ (key : Bor (List ℕ)). key.now) keys
 
-module _ (by : List ℕ → Known) where
-  -- so do all
-  pub stand_more : (known rest : List Known) (places : List ℕ) (files : List (List ℕ)) → StandAt by known places files → StandAt by (known ++ rest) places files
-  stand_more known rest [] [] h = refl
-  stand_more known rest [] (f ∷ fs) h = absurd (cc)
-  stand_more known rest (p ∷ ps) [] h = absurd (cc)
-  stand_more known rest (p ∷ ps) (f ∷ fs) h =
-      let here : slice_get known p ≡ Some (by f) = cc in
-      let later : StandAt by known ps fs = cc in
-      let first : slice_get (known ++ rest) p ≡ Some (by f) = known_more known rest p (by f) here in
-      let others : StandAt by (known ++ rest) ps fs = stand_more known rest ps fs later in
-      cc
+-- what stands at a place stays there as more come
+pub names_more : (names rest : List (List ℕ)) (p : ℕ) (f : List ℕ) → slice_get names p ≡ Some f → slice_get (names ++ rest) p ≡ Some f
+names_more names rest p f h =
+    let low : p < length names = slice_get_within names p f h in
+    let within : p < length (names ++ rest) = omega (arith, length-append names rest) in
+    slice_get-get_or (names ++ rest) p f within ∙ (ap (λ (v : List ℕ). Some v) (get_or_append_left names rest f p low) ∙ (sym (slice_get-get_or names p f low) ∙ h))
 
-  -- a file more
-  pub stand_push : (known : List Known) (places new : List ℕ) (p : ℕ) (files all : List (List ℕ)) (f : List ℕ) → new ≡ places ++ p ∷ [] → all ≡ files ++ f ∷ [] → slice_get known p ≡ Some (by f) → StandAt by known places files → StandAt by known new all
-  stand_push known places new p files all f pushed more here h =
-      let at : ℕ → Option Known = λ (place : ℕ). slice_get known place in
-      let so : List ℕ → Option Known = λ (file : List ℕ). Some (by file) in
-      ap (map at) pushed ∙ (map_push at places p ∙ (ap (λ (l : List (Option Known)). l ++ at p ∷ []) h ∙ (ap (λ (v : Option Known). map so files ++ v ∷ []) here ∙ (sym (map_push so files f) ∙ ap (map so) (sym more)))))
+-- so do all
+pub stand_more : (names rest : List (List ℕ)) (places : List ℕ) (files : List (List ℕ)) → StandAt names places files → StandAt (names ++ rest) places files
+stand_more names rest [] [] h = refl
+stand_more names rest [] (f ∷ fs) h = absurd (cc)
+stand_more names rest (p ∷ ps) [] h = absurd (cc)
+stand_more names rest (p ∷ ps) (f ∷ fs) h =
+    let here : slice_get names p ≡ Some f = cc in
+    let later : StandAt names ps fs = cc in
+    let first : slice_get (names ++ rest) p ≡ Some f = names_more names rest p f here in
+    let others : StandAt (names ++ rest) ps fs = stand_more names rest ps fs later in
+    cc
 
-  -- as many places as files
-  pub as_many : (known : List Known) (places : List ℕ) (files : List (List ℕ)) → StandAt by known places files → length places ≡ length files
-  as_many known places files h =
-      sym (length-map places (λ (place : ℕ). slice_get known place)) ∙ (ap (λ (l : List (Option Known)). length l) h ∙ length-map files (λ (file : List ℕ). Some (by file)))
+-- a file more
+pub stand_push : (names : List (List ℕ)) (places new : List ℕ) (p : ℕ) (files all : List (List ℕ)) (f : List ℕ) → new ≡ places ++ p ∷ [] → all ≡ files ++ f ∷ [] → slice_get names p ≡ Some f → StandAt names places files → StandAt names new all
+stand_push names places new p files all f pushed more here h =
+    let at : ℕ → Option (List ℕ) = λ (place : ℕ). slice_get names place in
+    let so : List ℕ → Option (List ℕ) = λ (file : List ℕ). Some file in
+    ap (map at) pushed ∙ (map_push at places p ∙ (ap (λ (l : List (Option (List ℕ))). l ++ at p ∷ []) h ∙ (ap (λ (v : Option (List ℕ)). map so files ++ v ∷ []) here ∙ (sym (map_push so files f) ∙ ap (map so) (sym more)))))
 
-  -- what stands at the place of one of them
-  pub stands : (known : List Known) (places : List ℕ) (files : List (List ℕ)) (i : ℕ) → i < length files → StandAt by known places files → slice_get known (get_or places i 0) ≡ Some (by (get_or files i []))
-  stands known places files i lt h =
-      let low : i < length places = omega (arith, as_many known places files h) in
-      sym (get_or-map (λ (place : ℕ). slice_get known place) places i 0 None low) ∙ (ap (λ (l : List (Option Known)). get_or l i None) h ∙ get_or-map (λ (file : List ℕ). Some (by file)) files i [] None lt)
+-- the same over keys that grow
+pub keys_more : (keys rest new : List (Bor (List ℕ))) (places : List ℕ) (files : List (List ℕ)) → new ≡ keys ++ rest → StandAt (spelled keys) places files → StandAt (spelled new) places files
+keys_more keys rest new places files grown h =
+    subst (λ (names : List (List ℕ)). StandAt names places files) (sym (ap spelled grown ∙ spelled_append keys)) (stand_more (spelled keys) (spelled rest) places files h)
+  where
+    spelled_append : (ks : List (Bor (List ℕ))) → spelled (ks ++ rest) ≡ spelled ks ++ spelled rest
+    spelled_append [] = refl
+    spelled_append (k ∷ ks) = ap (λ (l : List (List ℕ)). k.now ∷ l) (spelled_append ks)
 
-  -- what is known of a file that was met
-  pub met : (known : List Known) (files : List (Bor (List ℕ))) (p : ℕ) (f : List ℕ) (k : Bor (List ℕ)) → known ≡ map (λ (g : Bor (List ℕ)). by g.now) files → slice_get files p ≡ Some k → bytes_eq f k.now ≡ true → slice_get known p ≡ Some (by f)
-  met known files p f k all at same =
-      ap (λ (l : List Known). slice_get l p) all ∙ (slice_get-map (λ (g : Bor (List ℕ)). by g.now) files p ∙ (ap (option_of) at ∙ ap (λ (g : List ℕ). Some (by g)) (sym ((bytes_eq-Decides f k.now).0 same))))
-    where
-      option_of : Option (Bor (List ℕ)) → Option Known
-      option_of None = None
-      option_of (Some g) = Some (by g.now)
+-- as many places as files
+pub as_many : (names : List (List ℕ)) (places : List ℕ) (files : List (List ℕ)) → StandAt names places files → length places ≡ length files
+as_many names places files h =
+    sym (length-map places (λ (place : ℕ). slice_get names place)) ∙ (ap (λ (l : List (Option (List ℕ))). length l) h ∙ length-map files (λ (file : List ℕ). Some file))
 
--- a list of rows reaches to a number at which a row isn't empty
-pub row_within : (rows : List (List ℕ)) (t i : ℕ) → i < length (get_or rows t []) → t < length rows
-row_within rows t i lt =
-    ⊎_elim (λ low. low) (λ past. absurd (let none : length (get_or rows t []) ≡ 0 = ap (λ (l : List ℕ). length l) (get_or_past rows t [] past) in omega arith)) (cases_lt t (length rows))
+-- what stands at the place of one of them
+pub stands : (names : List (List ℕ)) (places : List ℕ) (files : List (List ℕ)) (i : ℕ) → i < length files → StandAt names places files → slice_get names (get_or places i 0) ≡ Some (get_or files i [])
+stands names places files i lt h =
+    let low : i < length places = omega (arith, as_many names places files h) in
+    sym (get_or-map (λ (place : ℕ). slice_get names place) places i 0 None low) ∙ (ap (λ (l : List (Option (List ℕ))). get_or l i None) h ∙ get_or-map (λ (file : List ℕ). Some file) files i [] None lt)
 
--- at a place of what a node reads
-pub record ReadAt (x : Subject) (known : List Known) (places : List (List ℕ)) (n i : ℕ) : Type 0 where
-  pub node : n < length places
-  pub place : i < length (get_or places n [])
-  pub here : slice_get known (get_or (get_or places n []) i 0) ≡ Some (known_of x (get_or (reads_of x n) i []))
+-- a file that was met stands among what the keys spell
+pub met : (keys : List (Bor (List ℕ))) (p : ℕ) (f : List ℕ) (k : Bor (List ℕ)) → slice_get keys p ≡ Some k → bytes_eq f k.now ≡ true → slice_get (spelled keys) p ≡ Some f
+met keys p f k at same =
+    slice_get-map (λ (g : Bor (List ℕ)). g.now) keys p ∙ (ap (option_of) at ∙ ap (λ (g : List ℕ). Some g) (sym ((bytes_eq-Decides f k.now).0 same)))
+  where
+    option_of : Option (Bor (List ℕ)) → Option (List ℕ)
+    option_of None = None
+    option_of (Some g) = Some g.now
 
-pub read_at : (x : Subject) (e : Entry) (known : List Known) (places : List (List ℕ)) (n i : ℕ) → n ≡ e.number → IsEntry x e → i < length (entry_reads e) → ((t : ℕ) → StandAt (known_of x) known (get_or places t []) (reads_of x t)) → ReadAt x known places n i
-read_at x e known places n i same is lt held =
-    let reads : length (entry_reads e) ≡ length (reads_of x n) = ap (λ (l : List (List ℕ)). length l) (same_reads x e is) ∙ ap (λ (k : ℕ). length (reads_of x k)) (sym same) in
-    let low : i < length (reads_of x n) = omega arith in
-    let many = as_many (known_of x) known (get_or places n []) (reads_of x n) (held n) in
-    let within : i < length (get_or places n []) = omega arith in
+-- what is found passes
+pub found_passes : {A : Type 0} (p : A → Bool) (xs : List A) (x : A) → find p xs ≡ Some x → p x ≡ true
+found_passes p [] x h = absurd cc
+found_passes {A} p (y ∷ xs) x h = at (p y) refl h (found_passes p xs x)
+  where
+    at : (b : Bool) → p y ≡ b → cond b (Some y) (find p xs) ≡ Some x → (find p xs ≡ Some x → p x ≡ true) → p x ≡ true
+    at true e k ih = let same : y ≡ x = cc in ap p (sym same) ∙ e
+    at false e k ih = ih k
+
+-- what stands at a place stands among the names
+at_among : (names : List (List ℕ)) (p : ℕ) (f : List ℕ) → slice_get names p ≡ Some f → Has names f
+at_among [] p f h = absurd (cc)
+at_among (name ∷ names) zero f h = inl (cc)
+at_among (name ∷ names) (suc p) f h = inr (at_among names p f (h))
+
+-- so does each file that has a place
+pub stand_among : (names : List (List ℕ)) (places : List ℕ) (files : List (List ℕ)) → StandAt names places files → (f : List ℕ) → Has files f → Has names f
+stand_among names [] [] h f has = absurd has
+stand_among names [] (g ∷ gs) h f has = absurd (let e : [] ≡ Some g ∷ map Some gs = h in cc)
+stand_among names (p ∷ ps) [] h f has = absurd has
+stand_among names (p ∷ ps) (g ∷ gs) h f (inl here) = at_among names p f (let e : slice_get names p ≡ Some g = cc in e ∙ ap (λ (v : List ℕ). Some v) here)
+stand_among names (p ∷ ps) (g ∷ gs) h f (inr there) = stand_among names ps gs (cc) f there
+
+-- a name that no key spells
+pub not_spelled : (keys : List (Bor (List ℕ))) (f : List ℕ) → list_any (λ (key : Bor (List ℕ)). bytes_eq f key.now) keys ≡ false → ¬ (Has (spelled keys) f)
+not_spelled [] f none h = h
+not_spelled (key ∷ keys) f none h = by (bytes_eq f key.now) refl none (not_spelled keys f) h
+  where
+    by : (b : Bool) → bytes_eq f key.now ≡ b → (b || list_any (λ (k : Bor (List ℕ)). bytes_eq f k.now) keys) ≡ false → (list_any (λ (k : Bor (List ℕ)). bytes_eq f k.now) keys ≡ false → ¬ (Has (spelled keys) f)) → ¬ (Has (spelled (key ∷ keys)) f)
+    by true e k later h = true≢false k
+    by false e k later (inl here) = true≢false (sym ((bytes_eq-Decides f key.now).1 (sym here)) ∙ e)
+    by false e k later (inr there) = later k there
+
+-- at a place of some files
+pub record FileAt (names : List (List ℕ)) (known : List Known) (row : List ℕ) (files : List (List ℕ)) (i : ℕ) : Type 0 where
+  pub place : i < length row
+  pub within : get_or row i 0 < length known
+  pub here : slice_get names (get_or row i 0) ≡ Some (get_or files i [])
+
+pub file_at : (by : List ℕ → Known) (names : List (List ℕ)) (known : List Known) (row : List ℕ) (files : List (List ℕ)) (i : ℕ) → known ≡ map by names → StandAt names row files → i < length files → FileAt names known row files i
+file_at by names known row files i all h lt =
+    let here = stands names row files i lt h in
     record {
-      node = row_within places n i within;
-      place = within;
-      here = stands (known_of x) known (get_or places n []) (reads_of x n) i low (held n);
+      place = omega (arith, as_many names row files h);
+      within = omega (arith, slice_get_within names (get_or row i 0) (get_or files i []) here, ap (λ (l : List Known). length l) all, length-map names by);
+      here = here;
     }
 
--- what is known of a file, and its name, make it
-pub target_is : (x : Subject) (f file writers : List ℕ) (given editable : Bool) (number : ℕ) → file ≡ f → record { writers = writers; given = given; editable = editable; number = number } ≡ known_of x f → record { file = file; writers = writers; given = given; editable = editable; number = number } ≡ target_of x f
-target_is x f file writers given editable number named same =
-    let at : List ℕ → Known → Target = λ (g : List ℕ) (k : Known). record { file = g; writers = k.writers; given = k.given; editable = k.editable; number = k.number } in
-    ap (at file) same ∙ ap (λ (g : List ℕ). at g (known_of x f)) named
+-- what is known of the file at a place
+pub known_at : (by : List ℕ → Known) (names : List (List ℕ)) (known : List Known) (p : ℕ) (f : List ℕ) (d : Known) → known ≡ map by names → slice_get names p ≡ Some f → get_or known p d ≡ by f
+known_at by names known p f d all at =
+    get_or_from_slice_get known p (by f) d (ap (λ (l : List Known). slice_get l p) all ∙ (slice_get-map by names p ∙ ap (λ (o : Option (List ℕ)). option_map by o) at))
 
--- as many files as the recipe reads
-pub count_is : (x : Subject) (e : Entry) (files : List (String Global)) → IsEntry x e → map string_bytes files ≡ entry_reads e → length files ≡ length (reads_of x e.number)
-count_is x e files is same = sym (length-map files string_bytes) ∙ ap (λ (l : List (List ℕ)). length l) (same ∙ same_reads x e is)
-
--- a place of theirs is one of the record's files
-pub place_is : (e : Entry) (files : List (String Global)) (i : ℕ) → map string_bytes files ≡ entry_reads e → i < length files → i < length (entry_reads e)
-place_is e files i same lt = omega (arith, length-map files string_bytes, ap (λ (l : List (List ℕ)). length l) same)
+-- a file that no place has is written by no recipe
+pub no_writers : (x : Subject) (f : List ℕ) → ((t : ℕ) → ¬ (Has (writes_of x t) f)) → writers_of x f ≡ []
+no_writers x f none = none_pass (serial_order x.graph)
+  where
+    false_is : (b : Bool) → ¬ (b ≡ true) → b ≡ false
+    false_is true h = absurd (h refl)
+    false_is false h = refl
+    none_pass : (order : List ℕ) → filter (λ o. has_name (writes_of x o) f) order ≡ []
+    none_pass [] = refl
+    none_pass (o ∷ order) = rw (false_is (has_name (writes_of x o) f) (λ e. none o ((has_decides (writes_of x o) f).0 e))) (none_pass order)
 
 -- what is known by tables that are the subject's is what is known of it
-pub known_is : (x : Subject) (writers : List ℕ → List ℕ) (names : List (List ℕ)) → ((f : List ℕ) → writers f ≡ writers_of x f) → names ≡ all_names x → known_by x.setting writers names ≡ known_of x
-known_is x writers names same named i f = (ap (λ (ws : List ℕ). known_by x.setting (λ g. ws) names f) (same f) ∙ ap (λ (ns : List (List ℕ)). known_by x.setting (writers_of x) ns f) named) i
+pub known_is : (x : Subject) (writers : List ℕ → List ℕ) (names : List (List ℕ)) → ((f : List ℕ) → writers f ≡ writers_of x f) → names ≡ all_names x → known_by x.makefile x.setting writers names ≡ known_of x
+known_is x writers names same named i f = (ap (λ (ws : List ℕ). known_by x.makefile x.setting (λ g. ws) names f) (same f) ∙ ap (λ (ns : List (List ℕ)). known_by x.makefile x.setting (writers_of x) ns f) named) i

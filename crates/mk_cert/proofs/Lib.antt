@@ -27,3 +27,5 @@ pub mod Stays
 pub mod SettledReads
 pub mod NumberRows
 pub mod Targets
+pub mod TablesOf
+pub mod ReadOf

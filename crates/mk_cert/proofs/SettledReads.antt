@@ -1,24 +1,27 @@
 -- What is found of reads of settled files: nothing. And the places of those that aren't settled.
-use Rattle.std.proofs.Common.{◌≡◌, ℕ, ◌+◌, ◌<◌, ◌≤◌, List, [], ◌∷◌, ◌++◌, Bool, true, false, length, get_or, map, take, refl, sym, ap, subst, ◌∙◌, append-nil, ⊎_elim, arith}
-use Rattle.std.specs.Prelude.{All, filter, not, ◌&&◌, ◌==◌}
+use Rattle.std.proofs.Common.{◌≡◌, ℕ, ◌+◌, ◌<◌, ◌≤◌, List, [], ◌∷◌, ◌++◌, Bool, true, false, Option, None, Some, length, get_or, map, take, drop, cond, inl, inr, refl, sym, ap, subst, ◌∙◌, append-nil, ⊎_elim, arith}
+use Rattle.std.specs.Prelude.{filter, not, slice_get, ◌&&◌, ◌==◌}
 use Rattle.std.proofs.Math.Dec.{eqb-suc-zero}
 use Rattle.std.proofs.lemmas.Bool.{true≢false}
 use Rattle.std.proofs.lemmas.List.{get_or-map, length-map, map_push, take_all, take_more}
-use Rattle.std.proofs.lemmas.List.Elements.{All-from_get_or, All-get_or, All-push, filter-append}
+use Rattle.std.proofs.lemmas.List.Elements.{filter-append}
+use Rattle.std.proofs.lemmas.Option.{slice_get-map}
 use Rattle.mk_lines.specs.Names.{has_name}
 use Rattle.mk_graph.specs.Graph.{IsGraph}
 use Rattle.mk_graph.specs.Laws.{SerialReachesEachOnce}
+use Rattle.mk_graph.specs.Membership.{Has}
 use Rattle.mk_graph.specs.Serial.{serial_order}
 use Rattle.mk_graph.specs.Ways.{CanChange}
-use Rattle.mk_cert.specs.Subject.{Subject, footprints, writes_of}
+use Rattle.mk_cert.specs.Subject.{Subject, footprints, reads_of, writes_of}
 use Rattle.mk_cert.specs.Candidates.{race}
 use Rattle.mk_cert.specs.Conditions.{ReadsItsOwn, ReadsWhatIsUnknown}
 use Rattle.mk_cert.specs.Known.{Known, StandAt, known_of}
 use Rattle.mk_cert.specs.Listing.{Lists, nothing}
-use Rattle.mk_cert.specs.Settled.{AreUnsettled, is_settled, unsettled}
-use Rattle.mk_cert.proofs.Adding.{lists_lifted}
+use Rattle.mk_cert.specs.Settled.{is_settled, unsettled}
+use Rattle.mk_cert.specs.Target.{Target, target_of, unsettled_of}
+use Rattle.mk_cert.proofs.Adding.{drop_past, lists_lifted}
 use Rattle.mk_cert.proofs.Decided.{has_decides}
-use Rattle.mk_cert.proofs.FileDecided.{not_own}
+use Rattle.mk_cert.proofs.FileDecided.{at_place, not_own}
 
 parts : (given editable : Bool) (writers : List ℕ) → (given && (not editable && length writers == 0)) ≡ true → (given ≡ true) × ((editable ≡ false) × (writers ≡ []))
 parts false editable writers h = absurd (let e : false ≡ true = h in cc)
@@ -61,60 +64,115 @@ alone_kept p f e = rw e refl
 alone_dropped : (p : List ℕ → Bool) (f : List ℕ) → p f ≡ false → filter p (f ∷ []) ≡ []
 alone_dropped p f e = rw e refl
 
-module _ (by : List ℕ → Known) (files : List (List ℕ)) where
+-- what is kept of files is one of them
+kept_step : (p : List ℕ → Bool) (f : List ℕ) (files : List (List ℕ)) (g : List ℕ) (b : Bool) → (Has (filter p files) g → Has files g) → Has (cond b (f ∷ filter p files) (filter p files)) g → Has (f ∷ files) g
+kept_step p f files g true more (inl here) = inl here
+kept_step p f files g true more (inr there) = inr (more there)
+kept_step p f files g false more there = inr (more there)
+
+kept_in : (p : List ℕ → Bool) (files : List (List ℕ)) (g : List ℕ) → Has (filter p files) g → Has files g
+kept_in p [] g h = h
+kept_in p (f ∷ files) g h = kept_step p f files g (p f) (kept_in p files g) h
+
+-- what isn't settled at a place is a file that the recipe reads
+pub unsettled_read : (x : Subject) (t i : ℕ) → i < length (unsettled_of x t) → Has (reads_of x t) (get_or (unsettled_of x t) i [])
+unsettled_read x t i low = kept_in (λ f. not (is_settled (known_of x f))) (reads_of x t) (get_or (unsettled_of x t) i []) (at_place (unsettled_of x t) i [] low)
+
+-- the file at a place of what a recipe reads that isn't settled
+pub record OpenAt (x : Subject) (t i : ℕ) (target : Target) : Type 0 where
+  pub low : i < length (unsettled_of x t)
+  pub file : target.file ≡ get_or (unsettled_of x t) i []
+  pub read : Has (reads_of x t) target.file
+
+pub open_at : (x : Subject) (n t i count : ℕ) (target : Target) → n ≡ t → count ≡ length (unsettled_of x n) → i < count → target ≡ target_of x (get_or (unsettled_of x n) i []) → OpenAt x t i target
+open_at x n t i count target number many lt is =
+    let low : i < length (unsettled_of x t) = omega (arith, many, ap (λ (k : ℕ). length (unsettled_of x k)) number) in
+    let named : target.file ≡ get_or (unsettled_of x t) i [] = ap (λ (k : Target). k.file) is ∙ ap (λ (k : ℕ). get_or (unsettled_of x k) i []) number in
+    record {
+      low = low;
+      file = named;
+      read = subst (λ (f : List ℕ). Has (reads_of x t) f) (sym named) (unsettled_read x t i low);
+    }
+
+-- past the last of them nothing is left
+pub none_left : (x : Subject) (n t i count : ℕ) → n ≡ t → count ≡ length (unsettled_of x n) → count ≤ i → drop i (unsettled_of x t) ≡ []
+none_left x n t i count number many past =
+    let end : length (unsettled_of x t) ≤ i = omega (arith, many, ap (λ (k : ℕ). length (unsettled_of x k)) number) in
+    drop_past (unsettled_of x t) i end
+
+-- where files stand, there are as many places
+many_stand : (names : List (List ℕ)) (places : List ℕ) (files : List (List ℕ)) → StandAt names places files → length places ≡ length files
+many_stand names places files h = sym (length-map places (λ (p : ℕ). slice_get names p)) ∙ (ap (λ (l : List (Option (List ℕ))). length l) h ∙ length-map files (λ (f : List ℕ). Some f))
+
+-- and at the place of one of them it stands
+one_stands : (names : List (List ℕ)) (places : List ℕ) (files : List (List ℕ)) (i : ℕ) → i < length files → StandAt names places files → slice_get names (get_or places i 0) ≡ Some (get_or files i [])
+one_stands names places files i lt h =
+    let low : i < length places = omega (arith, many_stand names places files h) in
+    sym (get_or-map (λ (p : ℕ). slice_get names p) places i 0 None low) ∙ (ap (λ (l : List (Option (List ℕ))). get_or l i None) h ∙ get_or-map (λ (f : List ℕ). Some f) files i [] None lt)
+
+-- the places so far of those that aren't settled, by what is known of the files with the names
+abbrev pub SoFar : List Known → List ℕ → ℕ → List ℕ → Type 0
+SoFar known places i some = (by : List ℕ → Known) (names files : List (List ℕ)) → known ≡ map by names → StandAt names places files → StandAt names some (unsettled by (take i files))
+
+module _ (by : List ℕ → Known) (names files : List (List ℕ)) where
   abbrev tells : List ℕ → Bool
   tells f = not (is_settled (by f))
 
   abbrev at : ℕ → List ℕ
-  at p = get_or files p []
+  at i = get_or files i []
 
-  -- the places among the first files
-  pub record SoFar (i : ℕ) (places : List ℕ) : Type 0 where
-    pub within : All (λ (p : ℕ). p < length files) places
-    pub stand : map (λ (p : ℕ). get_or files p []) places ≡ unsettled by (take i files)
+  abbrev shown : ℕ → Option (List ℕ)
+  shown p = slice_get names p
 
   more_files : (i : ℕ) → i < length files → unsettled by (take (i + 1) files) ≡ unsettled by (take i files) ++ filter tells (at i ∷ [])
   more_files i lt = ap (unsettled by) (take_more files i [] lt) ∙ filter-append tells (take i files) (at i ∷ [])
 
-  pub place_more : (i : ℕ) (places new : List ℕ) → i < length files → new ≡ places ++ i ∷ [] → is_settled (by (get_or files i [])) ≡ false → SoFar i places → SoFar (i + 1) new
-  place_more i places new lt pushed free h = record {
-    within = subst (λ (l : List ℕ). All (λ (p : ℕ). p < length files) l) (sym pushed) (All-push (λ (p : ℕ). p < length files) places i h.within lt);
-    stand = ap (map at) pushed ∙ (map_push at places i ∙ (ap (λ (l : List (List ℕ)). l ++ at i ∷ []) h.stand ∙ (ap (λ (l : List (List ℕ)). unsettled by (take i files) ++ l) (sym (alone_kept tells (at i) (ap (λ b. not b) free))) ∙ sym (more_files i lt))));
-  }
+  -- what is known of the file at a place
+  known_at : (known : List Known) (places : List ℕ) (i : ℕ) → i < length places → known ≡ map by names → StandAt names places files → slice_get known (get_or places i 0) ≡ Some (by (at i))
+  known_at known places i lt all h =
+      let low : i < length files = omega (arith, many_stand names places files h) in
+      ap (λ (l : List Known). slice_get l (get_or places i 0)) all ∙ (slice_get-map by names (get_or places i 0) ∙ ap (option_of) (one_stands names places files i low h))
+    where
+      option_of : Option (List ℕ) → Option Known
+      option_of None = None
+      option_of (Some g) = Some (by g)
 
-  pub place_past : (i : ℕ) (places : List ℕ) → i < length files → is_settled (by (get_or files i [])) ≡ true → SoFar i places → SoFar (i + 1) places
-  place_past i places lt closed h = record {
-    within = h.within;
-    stand = h.stand ∙ (sym (append-nil (unsettled by (take i files))) ∙ (ap (λ (l : List (List ℕ)). unsettled by (take i files) ++ l) (sym (alone_dropped tells (at i) (ap (λ b. not b) closed))) ∙ sym (more_files i lt)));
-  }
+  -- the place of a file that isn't settled is one more
+  place_more : (places some new : List ℕ) (i : ℕ) → i < length places → new ≡ some ++ get_or places i 0 ∷ [] → is_settled (by (at i)) ≡ false → StandAt names places files → StandAt names some (unsettled by (take i files)) → StandAt names new (unsettled by (take (i + 1) files))
+  place_more places some new i lt pushed free h so_far =
+      let low : i < length files = omega (arith, many_stand names places files h) in
+      let one : unsettled by (take i files) ++ at i ∷ [] ≡ unsettled by (take (i + 1) files) = ap (λ (l : List (List ℕ)). unsettled by (take i files) ++ l) (sym (alone_kept tells (at i) (ap (λ b. not b) free))) ∙ sym (more_files i low) in
+      ap (map shown) pushed ∙ (map_push shown some (get_or places i 0) ∙ (ap (λ (l : List (Option (List ℕ))). l ++ shown (get_or places i 0) ∷ []) so_far ∙ (ap (λ (v : Option (List ℕ)). map Some (unsettled by (take i files)) ++ v ∷ []) (one_stands names places files i low h) ∙ (sym (map_push (λ (f : List ℕ). Some f) (unsettled by (take i files)) (at i)) ∙ ap (map (λ (f : List ℕ). Some f)) one))))
 
-  pub all_places : (i : ℕ) (places : List ℕ) → length files ≤ i → SoFar i places → AreUnsettled by places files
-  all_places i places past h = record {
-    within = h.within;
-    stand = h.stand ∙ ap (unsettled by) (take_all i files past);
-  }
+  -- that of a settled one isn't
+  place_past : (places some : List ℕ) (i : ℕ) → i < length places → is_settled (by (at i)) ≡ true → StandAt names places files → StandAt names some (unsettled by (take i files)) → StandAt names some (unsettled by (take (i + 1) files))
+  place_past places some i lt closed h so_far =
+      let low : i < length files = omega (arith, many_stand names places files h) in
+      let none : unsettled by (take i files) ≡ unsettled by (take (i + 1) files) = sym (append-nil (unsettled by (take i files))) ∙ (ap (λ (l : List (List ℕ)). unsettled by (take i files) ++ l) (sym (alone_dropped tells (at i) (ap (λ b. not b) closed))) ∙ sym (more_files i low)) in
+      so_far ∙ ap (map (λ (f : List ℕ). Some f)) none
 
-  -- the file at a place of them
-  pub record OpenAt (places : List ℕ) (i : ℕ) : Type 0 where
-    pub place : get_or places i 0 < length files
-    pub low : i < length (unsettled by files)
-    pub file : get_or files (get_or places i 0) [] ≡ get_or (unsettled by files) i []
+-- one place more, by what is told of what is known at it
+pub so_far_more : (known : List Known) (places some new : List ℕ) (i : ℕ) (told : Bool) → i < length places → ((k : Known) → slice_get known (get_or places i 0) ≡ Some k → told ≡ is_settled k) → told ≡ false → new ≡ some ++ get_or places i 0 ∷ [] → SoFar known places i some → SoFar known places (i + 1) new
+so_far_more known places some new i told lt tells free pushed before = λ by names files all h.
+    place_more by names files places some new i lt pushed (sym (tells (by (get_or files i [])) (known_at by names files known places i lt all h)) ∙ free) h (before by names files all h)
 
-  as_many_open : (places : List ℕ) → AreUnsettled by places files → length places ≡ length (unsettled by files)
-  as_many_open places h = sym (length-map places at) ∙ ap (λ (l : List (List ℕ)). length l) h.stand
+pub so_far_past : (known : List Known) (places some : List ℕ) (i : ℕ) (told : Bool) → i < length places → ((k : Known) → slice_get known (get_or places i 0) ≡ Some k → told ≡ is_settled k) → told ≡ true → SoFar known places i some → SoFar known places (i + 1) some
+so_far_past known places some i told lt tells closed before = λ by names files all h.
+    place_past by names files places some i lt (sym (tells (by (get_or files i [])) (known_at by names files known places i lt all h)) ∙ closed) h (before by names files all h)
 
-  pub open_at : (places : List ℕ) (i : ℕ) → i < length places → AreUnsettled by places files → OpenAt places i
-  open_at places i lt h = record {
-    place = All-get_or (λ (p : ℕ). p < length files) places i 0 lt h.within;
-    low = omega (arith, as_many_open places h);
-    file = sym (get_or-map at places i 0 [] lt) ∙ ap (λ (l : List (List ℕ)). get_or l i []) h.stand;
-  }
+-- the places at which those stand that aren't settled
+abbrev pub Unsettled : List Known → List ℕ → List ℕ → Type 0
+Unsettled known places some = (by : List ℕ → Known) (names files : List (List ℕ)) → known ≡ map by names → StandAt names places files → StandAt names some (unsettled by files)
 
-  -- past the last of them
-  pub open_past : (places : List ℕ) (i : ℕ) → length places ≤ i → AreUnsettled by places files → length (unsettled by files) ≤ i
-  open_past places i past h = omega (arith, as_many_open places h)
+pub so_far_all : (known : List Known) (places some : List ℕ) (i : ℕ) → length places ≤ i → SoFar known places i some → Unsettled known places some
+so_far_all known places some i past before = λ by names files all h.
+    let end : length files ≤ i = omega (arith, many_stand names places files h) in
+    before by names files all h ∙ ap (λ (fs : List (List ℕ)). map (λ (f : List ℕ). Some f) (unsettled by fs)) (take_all i files end)
 
--- of no files there are no places
-pub nothing_free : (by : List ℕ → Known) (known : List Known) (files : List (List ℕ)) → StandAt by known [] files → AreUnsettled by [] files
-nothing_free by known [] h = record { within = All-from_get_or (λ (p : ℕ). p < 0) [] 0 (λ i lt. absurd (omega arith)); stand = refl }
-nothing_free by known (f ∷ files) h = absurd (cc)
+-- of no places there are none
+pub nothing_free : (known : List Known) → Unsettled known [] []
+nothing_free known = λ by names files all h. free by names files h
+  where
+    free : (by : List ℕ → Known) (names files : List (List ℕ)) → StandAt names [] files → StandAt names [] (unsettled by files)
+    free by names [] h = refl
+    free by names (f ∷ files) h = absurd (cc)

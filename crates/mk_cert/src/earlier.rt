@@ -59,8 +59,8 @@ impl<'a> Earlier<'a> {
         }
     }
 
-    /// Goes on to a node, where it isn't there. The time is linear in its prerequisites. It fails for
-    /// want of memory alone, and has gone on even then.
+    /// Goes on to a node, where it isn't there. The time is linear in its prerequisites. It fails
+    /// for want of memory alone, and has gone on even then.
     pub fn turn_to(&mut self, alloc: Global, number: usize) -> Result<(), AllocError>
         ensures graph { self.new.graph ≡ self.old.graph }
         ensures number { self.new.number ≡ number }

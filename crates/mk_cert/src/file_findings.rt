@@ -70,7 +70,8 @@ fn is_unknown(subject: &Subject<'_>, file: &Target<'_>) -> bool
 {
     serial_reaches_each_once();
     let _graph = subject.graph();
-    !file.known.given && file.writers().is_empty()
+    let known = file.known;
+    !known.given && file.writers().is_empty()
 }
 
 /// Adds that a file that a recipe reads is neither given nor written, if it is so.

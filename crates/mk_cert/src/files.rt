@@ -39,15 +39,15 @@ pub struct Files<'a> {
 
 /// By what is told what is known of a file.
 #[derive(Drop)]
-struct Sources<'s, 'a> {
-    table: &'s RuleTable<'a>,
-    setting: &'s Setting,
+struct Sources<'s, 't, 'a> {
+    table: &'s RuleTable<'t>,
+    setting: &'a Setting,
     writers: &'s Writers<'a>,
     names: &'s NameSet<'a>,
 }
 
 /// What is known of a file.
-fn known_by(alloc: Global, sources: &Sources<'_, '_>, file: &str) -> Result<Known, AllocError>
+fn known_by(alloc: Global, sources: &Sources<'_, '_, '_>, file: &str) -> Result<Known, AllocError>
     ensures { IfOk result (λ known. known ≡ known_by sources.now.table.now
         sources.now.setting.now (numbers_at sources.now.writers.now) sources.now.names.now
         file.now) }
@@ -65,7 +65,7 @@ fn known_by(alloc: Global, sources: &Sources<'_, '_>, file: &str) -> Result<Know
 /// The place of a file, which is noted where it is met first.
 fn place_for<'a>(
     alloc: Global,
-    sources: &Sources<'_, '_>,
+    sources: &Sources<'_, '_, '_>,
     files: &mut IndexSet<&'a str>,
     known: &mut Vec<Known>,
     file: &'a str,
@@ -90,7 +90,7 @@ fn place_for<'a>(
 /// The places of the names of nodes.
 fn places_of_nodes<'a>(
     alloc: Global,
-    sources: &Sources<'_, '_>,
+    sources: &Sources<'_, '_, '_>,
     files: &mut IndexSet<&'a str>,
     known: &mut Vec<Known>,
     nodes: &'a [Node],
@@ -114,7 +114,7 @@ fn places_of_nodes<'a>(
 /// The places of the files of a record.
 fn places_for<'a>(
     alloc: Global,
-    sources: &Sources<'_, '_>,
+    sources: &Sources<'_, '_, '_>,
     files: &mut IndexSet<&'a str>,
     known: &mut Vec<Known>,
     listed: &'a [String],
@@ -140,7 +140,7 @@ fn places_for<'a>(
 /// Adds the row of the places of the files of a record.
 fn push_row<'a>(
     alloc: Global,
-    sources: &Sources<'_, '_>,
+    sources: &Sources<'_, '_, '_>,
     files: &mut IndexSet<&'a str>,
     known: &mut Vec<Known>,
     listed: &'a [String],
@@ -162,13 +162,13 @@ fn push_row<'a>(
 
 /// The files that the recipes of all nodes of a graph read or write. It takes time linear in the
 /// records.
-pub fn files_of<'a>(
+pub fn files_of<'a, 's>(
     alloc: Global,
-    table: &RuleTable<'_>,
+    table: &'s RuleTable<'_>,
     graph: &'a Graph,
     setting: &'a Setting,
-    writers: &Writers<'a>,
-    names: &NameSet<'a>,
+    writers: &'s Writers<'a>,
+    names: &'s NameSet<'a>,
 ) -> Result<Files<'a>, AllocError>
     ensures { IfOk result (λ files. AreFiles
         (known_by table.now setting.now (numbers_at writers.now) names.now)

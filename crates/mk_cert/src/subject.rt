@@ -148,8 +148,8 @@ impl<'a> Subject<'a> {
             (¬ (Has (reads_of self.now t) name.now)))
             (λ file. file ≡ target_of self.now name.now) }
     {
-        match self.tables.files.names.get_index_of(name) {
-            Some(at) => Some(target_at(&self.tables.files, at)),
+        match self.tables.files.names.get_full(name) {
+            Some((at, _)) => Some(target_at(&self.tables.files, at)),
             None => None,
         }
     }

@@ -32,7 +32,8 @@ impl<'a> Target<'a> {
     pub fn writers(&self) -> &'a [usize]
         ensures { result.now ≡ self.now.known.writers }
     {
-        self.known.writers.as_slice()
+        let known = self.known;
+        known.writers.as_slice()
     }
 
     /// Whether it can change.
@@ -40,6 +41,7 @@ impl<'a> Target<'a> {
         requires { self.now ≡ target_of subject.now self.now.file }
         ensures { (result ≡ true) ↔ CanChange (footprints subject.now.setting) self.now.file }
     {
-        self.known.editable || !self.known.given
+        let known = self.known;
+        known.editable || !known.given
     }
 }

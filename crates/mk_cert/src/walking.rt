@@ -132,7 +132,8 @@ fn needs(subject: &Subject<'_>, ends: &Ends<'_>, number: usize, file: &Target<'_
 {
     names_have_one_number();
     let _graph = subject.graph();
-    has_at(&ends.needed, number, file.known.number)
+    let known = file.known;
+    has_at(&ends.needed, number, known.number)
 }
 
 /// Whether a path to a file may end so at a recipe. A file has one writer where nothing was found,
@@ -152,9 +153,10 @@ pub fn ends_at(
 {
     serial_reaches_each_once();
     let _graph = subject.graph();
+    let known = file.known;
     match finish {
         Finish::Written => has_number(file.writers(), number),
-        Finish::Source => file.known.editable && needs(subject, ends, number, file),
+        Finish::Source => known.editable && needs(subject, ends, number, file),
         Finish::Always => ends.always.get(number) == Some(&true),
     }
 }

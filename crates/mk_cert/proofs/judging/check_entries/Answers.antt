@@ -32,7 +32,7 @@ loop-place-preserved c =
     let judged : Judges x (get_or ways i w) c.loop-place.seen.items c.note_good.new.seen.items true = subst (λ (v : Way). Judges x v c.loop-place.seen.items c.note_good.new.seen.items true) c.at-way.ensures (subst (λ (b : Bool). Judges x w c.loop-place.seen.items c.note_good.new.seen.items b) c.if-not-branch.false c.in_ok-note_good.ensures.judged) in
     record {
       judged = judged_on x ways (take i ways) (take (i + 1) ways) (drop (i + 1) ways) (get_or ways i w) c.loop-place.seen.items c.note_good.new.seen.items so_far judged c.in_ok-note_good.ensures.sets (λ v. in_take_more ways i w v lt);
-      links = c.in_ok-note_good.ensures.links;
+      lists = c.in_ok-note_good.ensures.lists;
     }
 
 pub returns-clause-seen : goal.returns-clause-seen

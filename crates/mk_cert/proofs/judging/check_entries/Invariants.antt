@@ -1,5 +1,6 @@
 use Rattle.std.proofs.Common.{take, drop}
-use Rattle.mk_cert.specs.Links.{AreLinks}
+use Rattle.std.specs.Prelude.{IfSome}
+use Rattle.mk_cert.specs.Links.{HoldReads}
 use Rattle.mk_cert.proofs.Judged.{JudgedSoFar}
 use Rattle.mk_cert.proofs.judging.check_entries.Given as goal
 
@@ -7,5 +8,5 @@ use Rattle.mk_cert.proofs.judging.check_entries.Given as goal
 abbrev pub invariant-loop-place : goal.invariant-loop-place
 invariant-loop-place l = record {
   judged : JudgedSoFar l.subject l.ways (take l.place l.ways) (drop l.place l.ways) l.seen.items;
-  links : AreLinks l.subject l.links.reads.items l.links.carried.items l.links.ends.needed.items l.links.ends.always.items;
+  lists : IfSome l.lists.lists (λ lists. HoldReads l.subject lists.items);
 }

@@ -1,9 +1,7 @@
 use Rattle.std.proofs.Common.{List, map, drop}
 use Rattle.mk_ways.specs.Certificate.{Way}
 use Rattle.mk_cert.specs.Links.{AreSeen}
-use Rattle.mk_cert.specs.Known.{known_of}
-use Rattle.mk_cert.specs.Settled.{unsettled}
-use Rattle.mk_cert.specs.Subject.{reads_of}
+use Rattle.mk_cert.specs.Target.{unsettled_of}
 use Rattle.mk_cert.specs.Verdict.{Read, LacksWay}
 use Rattle.mk_cert.specs.Checks.{reads_by}
 use Rattle.mk_cert.proofs.FirstOf.{Left}
@@ -11,4 +9,4 @@ use Rattle.mk_cert.proofs.lacking.first_lacking.Given as goal
 
 -- the files that are left, of those that aren't settled
 abbrev pub invariant-loop-place : goal.invariant-loop-place
-invariant-loop-place l = (ways : List Way) → AreSeen l.subject ways l.seen → Left (LacksWay l.subject ways) (map (λ f. let r : Read = record { recipe = l.entry.number; file = f } in r) (drop l.place-index (unsettled (known_of l.subject) (reads_of l.subject l.entry.number)))) (reads_by l.subject l.entry.number)
+invariant-loop-place l = (ways : List Way) → AreSeen l.subject ways l.seen → Left (LacksWay l.subject ways) (map (λ f. let r : Read = record { recipe = l.entry.number; file = f } in r) (drop l.place (unsettled_of l.subject l.entry.number))) (reads_by l.subject l.entry.number)

@@ -1,20 +1,19 @@
-use Rattle.std.proofs.Common.{◌≡◌, ◌∙◌, ◌<◌, [], ℕ, List, map, ap, sym, subst, get_or, length, arith}
+use Rattle.std.proofs.Common.{◌≡◌, ◌∙◌, [], ℕ, List, map, ap, sym, subst, length}
 use Rattle.std.proofs.lemmas.Bool.{true≢false, eqb-true}
 use Rattle.std.proofs.lemmas.List.{nil_from_length}
 use Rattle.std.proofs.lemmas.Result.{on_ok_weaker}
 use Rattle.mk_graph.specs.Serial.{serial_order}
 use Rattle.mk_lines.specs.Names.{has_name}
 use Rattle.mk_graph.specs.Membership.{Has}
-use Rattle.mk_cert.specs.Entry.{writers_of}
-use Rattle.mk_cert.specs.Known.{Known}
+use Rattle.mk_cert.specs.Entry.{Entry, writers_of}
 use Rattle.mk_cert.specs.Subject.{Subject, reads_of, writes_of}
 use Rattle.mk_cert.specs.Candidates.{race}
 use Rattle.mk_cert.specs.Listed.{Adds}
+use Rattle.mk_cert.specs.Target.{Target}
 use Rattle.mk_cert.specs.declared.finding.Finding.{Finding}
 use Rattle.mk_cert.proofs.Adding.{adds_lifted, adds_nothing}
 use Rattle.mk_cert.proofs.Decided.{has_decides}
-use Rattle.mk_cert.proofs.Entries.{same_reads}
-use Rattle.mk_cert.proofs.FileDecided.{at_place, writers_write}
+use Rattle.mk_cert.proofs.FileDecided.{writers_write}
 use Rattle.mk_cert.proofs.race_findings.note_file.Goals as goal
 
 -- who doesn't write the file doesn't race for it
@@ -27,43 +26,39 @@ with_writers x t f ns old new same h =
 pub returns-then-is_empty-clause-found : goal.returns-then-is_empty-clause-found
 returns-then-is_empty-clause-found c =
     let x = c.args.subject.now in
-    let n = c.args.entry.now.number in
-    let f = get_or (reads_of x n) c.args.place [] in
+    let f = c.args.file.now.file in
     let old = c.args.found.now.items in
-    let ns = c.as_slice-writers.result.now in
+    let ns = c.writers-writers.result.now in
     let none : ns ≡ [] = nil_from_length ns (eqb-true (length ns) 0 (sym c.is_empty.ensures ∙ c.if-is_empty.true)) in
-    let writers : ns ≡ writers_of x f = c.as_slice-writers.ensures ∙ ap (λ (k : Known). k.writers) (c.known.view_is ∙ c.known-known.ensures) in
-    with_writers x n f [] old old (sym none ∙ writers) (adds_nothing x old)
+    let writers : ns ≡ writers_of x f = c.writers-writers.ensures ∙ ap (λ (t : Target). t.known.writers) c.requires.file in
+    with_writers x c.args.entry.now.number f [] old old (sym none ∙ writers) (adds_nothing x old)
 
 pub note_races_with-requires : goal.note_races_with-requires
 note_races_with-requires c =
     let x = c.args.subject.now in
     let e = c.args.entry.now in
-    let files = reads_of x e.number in
-    let f = get_or files c.args.place [] in
-    let same = same_reads x e c.requires.entry in
-    let low : c.args.place < length files = omega (arith, c.requires.place, ap (λ (l : List (List ℕ)). length l) same) in
-    let file : c.read_at-file.result.now ≡ f = c.read_at-file.ensures ∙ ap (λ (l : List (List ℕ)). get_or l c.args.place []) same in
-    let ns = c.as_slice-writers.result.now in
-    let writers : ns ≡ writers_of x f = c.as_slice-writers.ensures ∙ ap (λ (k : Known). k.writers) (c.known.view_is ∙ c.known-known.ensures) in
+    let f = c.args.file.now.file in
+    let file : c.file.inside.file.now ≡ f = ap (λ (t : Target). t.file) c.file.view_is in
+    let ns = c.writers-writers.result.now in
+    let writers : ns ≡ writers_of x f = c.writers-writers.ensures ∙ ap (λ (t : Target). t.known.writers) c.requires.file in
     record {
       entry = c.requires.entry;
-      graph = c.requires.graph;
-      number = c.requires.number;
-      read = subst (λ (g : List ℕ). Has files g) (sym file) (at_place files c.args.place [] low);
+      graph = c.turn_to.ensures.graph ∙ c.requires.graph;
+      number = c.turn_to.ensures.number ∙ ap (λ (k : Entry). k.number) c.entry.view_is;
+      read = subst (λ (g : List ℕ). Has (reads_of x e.number) g) (sym file) c.requires.read;
       written = λ o h. subst (λ (g : List ℕ). Has (writes_of x o) g) (sym file) (writers_write x f ns writers o h);
     }
 
 pub returns-clause-found : goal.returns-clause-found
 returns-clause-found c =
     let x = c.args.subject.now in
-    let e = c.args.entry.now in
-    let f = get_or (reads_of x e.number) c.args.place [] in
-    let file : c.read_at-file.result.now ≡ f = c.read_at-file.ensures ∙ ap (λ (l : List (List ℕ)). get_or l c.args.place []) (same_reads x e c.requires.entry) in
-    let ns = c.as_slice-writers.result.now in
-    let writers : ns ≡ writers_of x f = c.as_slice-writers.ensures ∙ ap (λ (k : Known). k.writers) (c.known.view_is ∙ c.known-known.ensures) in
+    let t = c.args.entry.now.number in
+    let f = c.args.file.now.file in
+    let file : c.file.inside.file.now ≡ f = ap (λ (k : Target). k.file) c.file.view_is in
+    let ns = c.writers-writers.result.now in
+    let writers : ns ≡ writers_of x f = c.writers-writers.ensures ∙ ap (λ (k : Target). k.known.writers) c.requires.file in
     let old = c.args.found.now.items in
     let new = c.note_races_with.new.found.items in
     on_ok_weaker c.note_races_with.result
-    (λ h. with_writers x e.number f ns old new writers (subst (λ (g : List ℕ). Adds x (map (λ o. race e.number o g) ns) old new) file h))
+    (λ h. with_writers x t f ns old new writers (subst (λ (g : List ℕ). Adds x (map (λ o. race t o g) ns) old new) file h))
     c.note_races_with.ensures.found

@@ -2,12 +2,12 @@ use Rattle.std.proofs.Common.{◌≡◌, ◌∙◌, [], ℕ, ap, subst, refl, in
 use Rattle.std.specs.Prelude.{filter}
 use Rattle.std.proofs.lemmas.Result.{err_from_is_err_and}
 use Rattle.mk_lines.specs.Names.{has_name}
-use Rattle.mk_cert.specs.Known.{Known, StandAt, all_names, known_of}
-use Rattle.mk_cert.specs.Subject.{reads_of, subject_of}
+use Rattle.mk_cert.specs.Known.{Known, AreFiles, all_names, known_of}
+use Rattle.mk_cert.specs.Subject.{reads_of, subject_of, writes_of}
 use Rattle.mk_cert.specs.Writers.{numbers_at}
 use Rattle.mk_cert.specs.Entry.{Entry, entry_writes, writers_of}
 use Rattle.mk_cert.proofs.Entries.{all_told, writers_are}
-use Rattle.mk_cert.proofs.KnownFiles.{known_is}
+use Rattle.mk_cert.proofs.KnownFiles.{known_is, spelled}
 use Rattle.mk_cert.proofs.tables.tables_for.Goals as goal
 
 pub returns-in_err-entries-clause-fault : goal.returns-in_err-entries-clause-fault
@@ -25,9 +25,9 @@ returns-in_err-names-clause-fault c =
     let p = err_from_is_err_and c.from_residual-in_err-names.result c.from_residual-in_err-names.ensures.1 in
     rw (p.1, p.2) (inl refl)
 
-pub returns-in_err-reads-clause-fault : goal.returns-in_err-reads-clause-fault
-returns-in_err-reads-clause-fault c =
-    let p = err_from_is_err_and c.from_residual-in_err-reads.result c.from_residual-in_err-reads.ensures.1 in
+pub returns-in_err-files-clause-fault : goal.returns-in_err-files-clause-fault
+returns-in_err-files-clause-fault c =
+    let p = err_from_is_err_and c.from_residual-in_err-files.result c.from_residual-in_err-files.ensures.1 in
     rw (p.1, p.2) (inl refl)
 
 pub returns-in_err-unsettled-clause-fault : goal.returns-in_err-unsettled-clause-fault
@@ -42,17 +42,17 @@ returns c =
     let held = c.in_ok-entries.ensures.entries in
     let writers : (file : List ℕ) → numbers_at c.in_ok-writers.writers file ≡ writers_of x file = λ file. c.in_ok-writers.ensures file ∙ (ap (λ (es : List Entry). map (λ (e : Entry). e.number) (filter (λ (e : Entry). has_name (entry_writes e) file) es)) c.deref.ensures.value ∙ writers_are x file entries held) in
     let names : c.in_ok-names.names ≡ all_names x = c.in_ok-names.ensures in
-    let reads = c.in_ok-reads.reads in
-    let stand = λ (t : ℕ). subst (λ (by : List ℕ → Known). StandAt by reads.known.items (get_or reads.places t []) (reads_of x t)) (known_is x (numbers_at c.in_ok-writers.writers) c.in_ok-names.names writers names) (c.in_ok-reads.ensures t) in
+    let files = c.in_ok-files.files in
+    let texts = spelled files.names.keys in
+    let kept : AreFiles (known_of x) (all_names x) (writes_of x) (reads_of x) texts files.known.items files.nodes.items files.writes files.reads = subst (λ (by : List ℕ → Known). AreFiles by (all_names x) (writes_of x) (reads_of x) texts files.known.items files.nodes.items files.writes files.reads) (known_is x (numbers_at c.in_ok-writers.writers) c.in_ok-names.names writers names) c.in_ok-files.ensures in
     record {
       tables = record {
         is_graph = c.in_ok-entries.ensures.graph;
         told = all_told x entries c.in_ok-entries.ensures.graph c.serial_reaches_each_once.ensures held;
         entries_held = held;
-        writers_held = writers;
         names_held = names;
-        reads_held = stand;
-        unsettled_held = λ t. c.in_ok-unsettled.ensures (known_of x) t (reads_of x t) (subst (λ (l : List Known). StandAt (known_of x) l (get_or reads.places t []) (reads_of x t)) (sym c.deref-2.ensures.value) (stand t));
+        files_held = kept;
+        unsettled_held = λ t. c.in_ok-unsettled.ensures (known_of x) texts t (reads_of x t) (c.deref-2.ensures.value ∙ kept.known_held) (kept.reads_held t);
       };
       fault = tt;
     }

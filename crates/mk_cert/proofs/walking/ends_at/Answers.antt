@@ -18,8 +18,8 @@ returns-in-Written c =
     let x = c.args.subject.now in
     let f = c.args.file.now.file in
     let n = c.args.number in
-    let ns = c.file.inside.writers.now in
-    let writers : ns ≡ writers_of x f = ap (λ (v : Target). v.writers) (c.file.view_is ∙ c.requires.file) in (
+    let ns = c.writers.result.now in
+    let writers : ns ≡ writers_of x f = c.writers.ensures ∙ ap (λ (v : Target). v.known.writers) c.requires.file in (
       λ t. subst (λ (finish : Finish). EndsAt x.graph (footprints x.setting) f finish n) (sym c.in-Written.is) (writers_write x f ns writers n (number_in ns n (sym c.has_number.ensures ∙ t))),
       λ ends.
           let wrote : Has (writes_of x n) f = subst (λ (finish : Finish). EndsAt x.graph (footprints x.setting) f finish n) c.in-Written.is ends in

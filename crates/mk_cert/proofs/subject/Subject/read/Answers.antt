@@ -1,16 +1,56 @@
--- What is known of the file, with its name.
-use Rattle.std.proofs.Common.{◌≡◌, ◌∙◌, [], ℕ, List, ap, get_or}
-use Rattle.mk_cert.specs.Known.{Known}
+-- The file at the place of a read.
+use Rattle.std.proofs.Common.{◌≡◌, ◌∙◌, ◌<◌, [], ℕ, List, ap, sym, subst, get_or, length, arith}
+use Rattle.std.specs.Prelude.{slice_get}
+use Rattle.mk_cert.specs.Entry.{Entry}
+use Rattle.mk_cert.specs.Known.{known_of}
 use Rattle.mk_cert.specs.Subject.{reads_of}
+use Rattle.mk_cert.specs.Target.{target_of}
 use Rattle.mk_cert.proofs.Entries.{same_reads}
-use Rattle.mk_cert.proofs.KnownFiles.{target_is}
+use Rattle.mk_cert.proofs.KnownFiles.{FileAt, file_at, spelled}
+use Rattle.mk_cert.proofs.TablesOf.{files_held}
 use Rattle.mk_cert.proofs.subject.Subject.read.Goals as goal
+
+pub bounds-at-place : goal.bounds-at-place
+bounds-at-place c =
+    let x = c.args.self.now in
+    let e = c.args.entry.now in
+    let t = c.self.inside.tables in
+    let n = c.entry.inside.number in
+    let number : n ≡ e.number = ap (λ (k : Entry). k.number) c.entry.view_is in
+    let held = files_held _ x t c.self.view_is c.self.invariant in
+    let names = spelled t.files.names.keys in
+    let row = get_or t.files.reads n [] in
+    let files = reads_of x n in
+    let low : c.args.place < length files = omega (arith, c.requires.place, ap (λ (l : List (List ℕ)). length l) (same_reads x e c.requires.entry), ap (λ (k : ℕ). length (reads_of x k)) number) in
+    let at : FileAt names t.files.known.items row files c.args.place = file_at (known_of x) names t.files.known.items row files c.args.place held.known_held (held.reads_held n) low in
+    omega (arith, at.place, ap (λ (l : List ℕ). length l) c.at.ensures)
+
+pub target_at-requires : goal.target_at-requires
+target_at-requires c =
+    let x = c.args.self.now in
+    let e = c.args.entry.now in
+    let t = c.self.inside.tables in
+    let n = c.entry.inside.number in
+    let number : n ≡ e.number = ap (λ (k : Entry). k.number) c.entry.view_is in
+    let held = files_held _ x t c.self.view_is c.self.invariant in
+    let names = spelled t.files.names.keys in
+    let row = get_or t.files.reads n [] in
+    let files = reads_of x n in
+    let low : c.args.place < length files = omega (arith, c.requires.place, ap (λ (l : List (List ℕ)). length l) (same_reads x e c.requires.entry), ap (λ (k : ℕ). length (reads_of x k)) number) in
+    let at : FileAt names t.files.known.items row files c.args.place = file_at (known_of x) names t.files.known.items row files c.args.place held.known_held (held.reads_held n) low in
+    omega (arith, at.within, ap (λ (l : List ℕ). get_or l c.args.place 0) c.at.ensures)
 
 pub returns : goal.returns
 returns c =
     let x = c.args.self.now in
     let e = c.args.entry.now in
-    let file = get_or (reads_of x e.number) c.args.place [] in
-    let named : c.read_at-file.result.now ≡ file = c.read_at-file.ensures ∙ ap (λ (l : List (List ℕ)). get_or l c.args.place []) (same_reads x e c.requires.entry) in
-    let shown = λ (ws : List ℕ). let k : Known = record { writers = ws; given = c.known.inside.given; editable = c.known.inside.editable; number = c.known.inside.number } in k in
-    target_is x file c.read_at-file.result.now c.as_slice.result.now c.known.inside.given c.known.inside.editable c.known.inside.number named (ap shown c.as_slice.ensures ∙ (c.known.view_is ∙ c.known-known.ensures))
+    let t = c.self.inside.tables in
+    let n = c.entry.inside.number in
+    let number : n ≡ e.number = ap (λ (k : Entry). k.number) c.entry.view_is in
+    let held = files_held _ x t c.self.view_is c.self.invariant in
+    let names = spelled t.files.names.keys in
+    let row = get_or t.files.reads n [] in
+    let files = reads_of x n in
+    let low : c.args.place < length files = omega (arith, c.requires.place, ap (λ (l : List (List ℕ)). length l) (same_reads x e c.requires.entry), ap (λ (k : ℕ). length (reads_of x k)) number) in
+    let at : FileAt names t.files.known.items row files c.args.place = file_at (known_of x) names t.files.known.items row files c.args.place held.known_held (held.reads_held n) low in
+    c.target_at.ensures x (get_or files c.args.place []) held.known_held (ap (λ (l : List ℕ). slice_get names (get_or l c.args.place 0)) c.at.ensures ∙ at.here) ∙ ap (λ (k : ℕ). target_of x (get_or (reads_of x k) c.args.place [])) number

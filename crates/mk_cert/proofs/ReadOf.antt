@@ -1,0 +1,49 @@
+-- Reads that are found at a place among those that aren't settled.
+use Rattle.std.proofs.Common.{◌≡◌, ℕ, ◌<◌, List, [], ◌∷◌, Bool, true, false, cond, length, get_or, inl, inr, refl, sym, ap, subst, ◌∙◌}
+use Rattle.std.specs.Prelude.{filter, not, bytes_eq, if◌then◌else◌}
+use Rattle.std.proofs.lemmas.Bool.{not-false}
+use Rattle.std.proofs.lemmas.Slice.Eq.{bytes_eq-Decides}
+use Rattle.mk_graph.specs.Membership.{Has}
+use Rattle.mk_graph.specs.Graph.{node}
+use Rattle.mk_cert.specs.Subject.{Subject, footprints, name_of, reads_of}
+use Rattle.mk_cert.specs.Conditions.{IsRecipe}
+use Rattle.mk_cert.specs.Cursor.{IsReadOf}
+use Rattle.mk_cert.specs.Known.{known_of}
+use Rattle.mk_cert.specs.Settled.{is_settled}
+use Rattle.mk_cert.specs.Target.{Target, target_of, unsettled_of}
+use Rattle.mk_cert.proofs.FileDecided.{at_place}
+
+-- what is kept of a list of names stands in it
+kept_step : (p : List ℕ → Bool) (g : List ℕ) (fs : List (List ℕ)) (f : List ℕ) (b : Bool) → (Has (filter p fs) f → Has fs f) → Has (cond b (g ∷ filter p fs) (filter p fs)) f → Has (g ∷ fs) f
+kept_step p g fs f true more (inl here) = inl here
+kept_step p g fs f true more (inr there) = inr (more there)
+kept_step p g fs f false more there = inr (more there)
+
+pub kept_in : (p : List ℕ → Bool) (fs : List (List ℕ)) (f : List ℕ) → Has (filter p fs) f → Has fs f
+kept_in p [] f h = absurd h
+kept_in p (g ∷ fs) f h = kept_step p g fs f (p g) (kept_in p fs f) h
+
+-- a node whose recipe reads a file has a recipe
+none_read : (b : Bool) (fs : List (List ℕ)) (f : List ℕ) → Has (if b then fs else []) f → b ≡ true
+none_read true fs f h = refl
+none_read false fs f h = absurd h
+
+pub reader_is_recipe : (x : Subject) (t : ℕ) (f : List ℕ) → Has (reads_of x t) f → IsRecipe x t
+reader_is_recipe x t f h = none_read (node x.graph t).recipe ((footprints x.setting).reads (name_of x t)) f h
+
+-- names that are told to be no others are the same
+pub same_names : (a b : List ℕ) (differ : Bool) → differ ≡ not (bytes_eq a b) → differ ≡ false → a ≡ b
+same_names a b differ told same = (bytes_eq-Decides a b).0 (not-false (bytes_eq a b) (sym told ∙ same))
+
+-- what stands at such a place is a read of the recipe
+pub found_there : (x : Subject) (recipe file : List ℕ) (t place : ℕ) (target : Target) → place < length (unsettled_of x t) → target ≡ target_of x (get_or (unsettled_of x t) place []) → name_of x t ≡ recipe → target.file ≡ file → IsReadOf x recipe file t target
+found_there x recipe file t place target within is named same =
+    let f = get_or (unsettled_of x t) place [] in
+    let it : f ≡ file = sym (ap (λ (v : Target). v.file) is) ∙ same in
+    let reads : Has (reads_of x t) file = subst (λ (g : List ℕ). Has (reads_of x t) g) it (kept_in (λ g. not (is_settled (known_of x g))) (reads_of x t) f (at_place (unsettled_of x t) place [] within)) in
+    record {
+      is_recipe = reader_is_recipe x t file reads;
+      named = named;
+      reads = reads;
+      known = is ∙ ap (target_of x) it;
+    }

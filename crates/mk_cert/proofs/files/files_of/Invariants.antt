@@ -1,0 +1,20 @@
+use Rattle.std.proofs.Common.{◌≡◌, ℕ, List, [], length, map}
+use Rattle.mk_graph.specs.declared.node.Node.{Node}
+use Rattle.mk_graph.specs.Setting as build
+use Rattle.mk_cert.specs.Known.{StandAt, known_by}
+use Rattle.mk_cert.specs.Subject.{footprints}
+use Rattle.mk_cert.specs.Writers.{numbers_at}
+use Rattle.mk_cert.proofs.KnownFiles.{spelled}
+use Rattle.mk_cert.proofs.Rows.{RowsHold}
+use Rattle.mk_cert.proofs.files.files_of.Given as goal
+
+-- the nodes so far have the places of what they write and read
+abbrev pub invariant-loop-number : goal.invariant-loop-number
+invariant-loop-number l = record {
+  all : l.known.items ≡ map (λ f. known_by l.table l.setting (numbers_at l.writers) l.names f.now) l.files.keys;
+  nodes : StandAt (spelled l.files.keys) l.nodes.items (map (λ (n : Node). n.name) l.graph.nodes);
+  many_written : length l.writes ≡ l.number;
+  many_read : length l.reads ≡ l.number;
+  written : RowsHold (λ (t : ℕ) (row : List ℕ). StandAt (spelled l.files.keys) row (build.writes l.graph (footprints l.setting) t)) l.writes [];
+  read : RowsHold (λ (t : ℕ) (row : List ℕ). StandAt (spelled l.files.keys) row (build.reads l.graph (footprints l.setting) t)) l.reads [];
+}
