@@ -26,5 +26,6 @@ pub mod Counted
 pub mod Stays
 pub mod SettledReads
 pub mod NumberRows
+pub mod Targets
 pub mod TablesOf
 pub mod ReadOf

@@ -5,7 +5,7 @@ ghost use Rattle.mk_graph.specs.Membership.{Has, has};
 ghost use Rattle.mk_graph.specs.Serial.{serial_order};
 ghost use Rattle.mk_cert.specs.Subject.{name_of, writes_of};
 ghost use Rattle.mk_cert.specs.Candidates.{loose};
-ghost use Rattle.mk_cert.specs.Entry.{IsEntry};
+ghost use Rattle.mk_cert.specs.Entry.{IsEntry, writers_of};
 ghost use Rattle.mk_cert.specs.Listed.{Adds};
 
 use crate::entry::Entry;
@@ -67,6 +67,18 @@ fn note_loose_writers(
     Ok(())
 }
 
+/// The numbers of the nodes that write the file with the name of a node, in the serial order. What
+/// is known of an entry doesn't tell that its number is a node's, so this is looked at first.
+fn writers_for<'s>(subject: &'s Subject<'_>, entry: &Entry<'_>) -> &'s [usize]
+    requires { IsEntry subject.now entry.now }
+    ensures { result.now ≡ writers_of subject.now (name_of subject.now entry.now.number) }
+{
+    if entry.number < subject.graph().nodes().len() {
+        return subject.writers_of_node(entry.number);
+    }
+    subject.writers(entry.name())
+}
+
 /// Adds which writers of a name without a recipe are no direct prerequisites of it.
 pub fn note_loose(
     subject: &Subject<'_>,
@@ -81,6 +93,6 @@ pub fn note_loose(
     if entry.node.recipe {
         return Ok(());
     }
-    let writers = subject.writers_of_node(entry.number);
+    let writers = writers_for(subject, entry);
     note_loose_writers(subject, entry, writers, found)
 }

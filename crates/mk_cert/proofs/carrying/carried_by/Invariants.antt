@@ -6,4 +6,4 @@ use Rattle.mk_cert.proofs.carrying.carried_by.Given as goal
 
 -- the prerequisites so far
 abbrev pub invariant-loop-prerequisite : goal.invariant-loop-prerequisite
-invariant-loop-prerequisite l = l.carried.items ≡ flat_map (λ p. writers_of l.subject (name_of l.subject p)) (take l.prerequisite-index l.prerequisite-items)
+invariant-loop-prerequisite l = l.carried.items ≡ flat_map (λ p. writers_of l.subject (name_of l.subject p)) (take l.prerequisite-index l.prerequisites)

@@ -1,52 +1,45 @@
-use Rattle.std.proofs.Common.{◌≡◌, ◌∙◌, ◌<◌, ◌≤◌, ◌∷◌, [], ℕ, List, ap, sym, subst, length, get_or, map, drop, arith}
-use Rattle.std.specs.String.{string_bytes}
-use Rattle.std.proofs.lemmas.List.{get_or-map, length-map}
-use Rattle.mk_graph.specs.Membership.{Has}
+use Rattle.std.proofs.Common.{◌≡◌, ◌<◌, ◌≤◌, ◌∷◌, [], ℕ, List, ap, sym, subst, length, map, drop, arith}
 use Rattle.mk_cert.specs.Subject.{writes_of}
 use Rattle.mk_cert.specs.Candidates.{given_written}
+use Rattle.mk_cert.specs.Entry.{Entry}
 use Rattle.mk_cert.specs.Listed.{Adds}
 use Rattle.mk_cert.proofs.Adding.{drop_past, leads_map, leads_done}
-use Rattle.mk_cert.proofs.Entries.{same_writes}
-use Rattle.mk_cert.proofs.FileDecided.{at_place}
+use Rattle.mk_cert.proofs.Targets.{by_name, is_written, written_at}
 use Rattle.mk_cert.proofs.file_findings.note_given_written.Goals as goal
 
-pub loop-file-init : goal.loop-file-init
-loop-file-init c =
-    let x = c.args.subject.now in
-    let e = c.args.entry.now in
-    let files = c.writes-files.result.now in
-    let all : map string_bytes files ≡ writes_of x e.number = c.writes-files.ensures ∙ same_writes x e c.requires in
-    λ last h. subst (λ (fs : List (List ℕ)). Adds x (map (λ f. given_written e.number f) fs) c.args.found.now.items last) all h
+pub loop-place-init : goal.loop-place-init
+loop-place-init c = λ last h. h
 
-pub note_taken-requires-clause-written : goal.note_taken-requires-clause-written
-note_taken-requires-clause-written c =
+pub note_taken-requires : goal.note_taken-requires
+note_taken-requires c =
     let x = c.args.subject.now in
     let e = c.args.entry.now in
-    let files = c.writes-files.result.now in
-    let i = c.loop-file.file-index in
-    let all : map string_bytes files ≡ writes_of x e.number = c.writes-files.ensures ∙ same_writes x e c.requires in
-    let lt : i < length files = omega arith in
-    let low : i < length (map string_bytes files) = omega (arith, length-map files string_bytes) in
-    let is : get_or (map string_bytes files) i [] ≡ c.as_str.result.now = get_or-map string_bytes files i c.file-item.result [] lt ∙ (ap string_bytes (sym c.file-item.is) ∙ sym c.as_str.ensures.value) in
-    subst (λ (f : List ℕ). Has (writes_of x e.number) f) is (subst (λ (fs : List (List ℕ)). Has fs (get_or (map string_bytes files) i [])) all (at_place (map string_bytes files) i [] low))
+    let i = c.loop-place.place in
+    let number : c.entry.inside.number ≡ e.number = ap (λ (k : Entry). k.number) c.entry.view_is in
+    let low : i < length (writes_of x e.number) = omega (arith, c.loop-place-test.true, c.count_of_written-place-end.ensures, ap (λ n. length (writes_of x n)) number) in
+    record {
+      entry = c.requires;
+      file = by_name x c.written-file.result _ c.written-file.ensures;
+      written = is_written x c.written-file.result c.entry.inside.number e.number i number c.written-file.ensures low;
+    }
 
-pub loop-file-preserved : goal.loop-file-preserved
-loop-file-preserved c =
+pub loop-place-preserved : goal.loop-place-preserved
+loop-place-preserved c =
     let x = c.args.subject.now in
     let e = c.args.entry.now in
-    let files = c.writes-files.result.now in
-    let i = c.loop-file.file-index in
-    let lt : i < length files = omega arith in
-    let low : i < length (map string_bytes files) = omega (arith, length-map files string_bytes) in
-    let is : get_or (map string_bytes files) i [] ≡ c.as_str.result.now = get_or-map string_bytes files i c.file-item.result [] lt ∙ (ap string_bytes (sym c.file-item.is) ∙ sym c.as_str.ensures.value) in
-    leads_map x (λ f. given_written e.number f) (map string_bytes files) i [] _ c.loop-file.found.items c.note_taken.new.found.items c.args.found.now.items low c.loop-file.invariant
-    (subst (λ (f : List ℕ). Adds x (given_written e.number f ∷ []) c.loop-file.found.items c.note_taken.new.found.items) (sym is) c.in_ok-note_taken.ensures)
+    let i = c.loop-place.place in
+    let number : c.entry.inside.number ≡ e.number = ap (λ (k : Entry). k.number) c.entry.view_is in
+    let low : i < length (writes_of x e.number) = omega (arith, c.loop-place-test.true, c.count_of_written-place-end.ensures, ap (λ n. length (writes_of x n)) number) in
+    let is = written_at x c.written-file.result c.entry.inside.number e.number i number c.written-file.ensures in
+    leads_map x (λ f. given_written e.number f) (writes_of x e.number) i [] _ c.loop-place.found.items c.note_taken.new.found.items c.args.found.now.items low c.loop-place.invariant
+    (subst (λ (f : List ℕ). Adds x (given_written e.number f ∷ []) c.loop-place.found.items c.note_taken.new.found.items) (sym is) c.in_ok-note_taken.ensures)
 
 pub returns : goal.returns
 returns c =
     let x = c.args.subject.now in
     let e = c.args.entry.now in
-    let files = c.writes-files.result.now in
-    let i = c.loop-file.file-index in
-    let past : length (map string_bytes files) ≤ i = omega (arith, length-map files string_bytes) in
-    leads_done x (map (λ f. given_written e.number f) (drop i (map string_bytes files))) _ c.loop-file.found.items c.args.found.now.items (ap (map (λ f. given_written e.number f)) (drop_past (map string_bytes files) i past)) c.loop-file.invariant
+    let i = c.loop-place.place in
+    let files = writes_of x e.number in
+    let number : c.entry.inside.number ≡ e.number = ap (λ (k : Entry). k.number) c.entry.view_is in
+    let past : length files ≤ i = omega (arith, c.loop-place-test.false, c.count_of_written-place-end.ensures, ap (λ n. length (writes_of x n)) number) in
+    leads_done x (map (λ f. given_written e.number f) (drop i files)) _ c.loop-place.found.items c.args.found.now.items (ap (map (λ f. given_written e.number f)) (drop_past files i past)) c.loop-place.invariant

@@ -1,20 +1,31 @@
-use Rattle.std.proofs.Common.{◌∙◌, ◌∷◌, ◌++◌, [], ℕ, List, ap, sym}
+use Rattle.std.proofs.Common.{◌≡◌, ◌∙◌, ◌∷◌, ◌++◌, [], ℕ, List, ap, sym}
 use Rattle.mk_cert.specs.declared.finding.Finding.TheVariants.{GivenWritten}
 use Rattle.mk_cert.specs.Subject.{name_of}
 use Rattle.mk_cert.specs.Candidates.{given_written}
+use Rattle.mk_cert.specs.FileTests.{is_taken}
+use Rattle.mk_cert.specs.Known.{Known}
+use Rattle.mk_cert.specs.Target.{Target}
 use Rattle.mk_cert.proofs.Adding.{adds_one, adds_none}
 use Rattle.mk_cert.proofs.Decided.{name_is}
 use Rattle.mk_cert.proofs.FileDecided.{taken_there, not_taken}
 use Rattle.mk_cert.proofs.file_findings.note_taken.Goals as goal
 
-pub returns-then-not-is_taken : goal.returns-then-not-is_taken
-returns-then-not-is_taken c = adds_none c.args.subject.now (given_written c.args.entry.now.number c.args.file.now) c.args.found.now.items (not_taken c.args.subject.now c.args.entry.now.number c.args.file.now (sym c.if-not-is_taken.ensures))
+pub returns-then-not-known : goal.returns-then-not-known
+returns-then-not-known c =
+    let x = c.args.subject.now in
+    let n = c.args.entry.now.number in
+    let f = c.args.file.now.file in
+    let taken : c.known.inside.taken ≡ is_taken x f = ap (λ (k : Known). k.taken) c.known.view_is ∙ ap (λ (t : Target). t.known.taken) (c.file.view_is ∙ c.requires.file) in
+    adds_none x (given_written n f) c.args.found.now.items (not_taken x n f (sym taken ∙ c.if-not-known.true))
 
 pub returns : goal.returns
 returns c =
     let x = c.args.subject.now in
     let e = c.args.entry.now in
+    let f = c.args.file.now.file in
     let old = c.args.found.now.items in
+    let taken : c.known.inside.taken ≡ is_taken x f = ap (λ (k : Known). k.taken) c.known.view_is ∙ ap (λ (t : Target). t.known.taken) (c.file.view_is ∙ c.requires.file) in
     let recipe = ap (λ (k : List ℕ). old ++ GivenWritten k c.in_ok-file.file ∷ []) (name_is x e c.in_ok-recipe.recipe c.requires.entry c.in_ok-recipe.ensures) in
-    adds_one x (given_written e.number c.args.file.now) old c.push.new.self.items (taken_there x e.number c.args.file.now c.requires.written (sym c.if-not-is_taken.ensures))
-    (c.in_ok-push.ensures.items ∙ (recipe ∙ ap (λ (k : List ℕ). old ++ GivenWritten (name_of x e.number) k ∷ []) c.in_ok-file.ensures))
+    let file : c.in_ok-file.file ≡ f = c.in_ok-file.ensures ∙ ap (λ (t : Target). t.file) c.file.view_is in
+    adds_one x (given_written e.number f) old c.push.new.self.items (taken_there x e.number f c.requires.written (sym taken ∙ c.if-not-known.false))
+    (c.in_ok-push.ensures.items ∙ (recipe ∙ ap (λ (k : List ℕ). old ++ GivenWritten (name_of x e.number) k ∷ []) file))

@@ -1,6 +1,5 @@
 use Rattle.std.proofs.Common.{map, drop}
 use Rattle.std.specs.List.{flat_map}
-use Rattle.std.specs.String.{string_bytes}
 use Rattle.mk_graph.specs.Serial.{serial_order}
 use Rattle.mk_cert.specs.Subject.{writes_of}
 use Rattle.mk_cert.specs.Candidates.{two_writers}
@@ -9,6 +8,6 @@ use Rattle.mk_cert.proofs.Adding.{Leads}
 use Rattle.mk_cert.proofs.pairs.note_files.Given as goal
 
 -- the files that are left
-abbrev pub invariant-loop-file : goal.invariant-loop-file
-invariant-loop-file l = Leads l.subject (flat_map (λ f. map (λ t. two_writers l.entry.number t f) (behind l.entry.number (serial_order l.subject.graph))) (drop l.file-index (map string_bytes l.files)))
+abbrev pub invariant-loop-place : goal.invariant-loop-place
+invariant-loop-place l = Leads l.subject (flat_map (λ f. map (λ t. two_writers l.entry.number t f) (behind l.entry.number (serial_order l.subject.graph))) (drop l.place (writes_of l.subject l.entry.number)))
     (flat_map (λ f. map (λ t. two_writers l.entry.number t f) (behind l.entry.number (serial_order l.subject.graph))) (writes_of l.subject l.entry.number)) l.found.items l.initial.found.items

@@ -10,7 +10,7 @@ use Rattle.mk_cert.specs.Candidates.{loose}
 use Rattle.mk_cert.specs.Listed.{Adds}
 use Rattle.mk_cert.specs.Entry.{Entry, writers_of}
 use Rattle.mk_cert.proofs.Adding.{adds_lifted, adds_none_of}
-use Rattle.mk_cert.proofs.Decided.{name_is, has_decides}
+use Rattle.mk_cert.proofs.Decided.{has_decides}
 use Rattle.mk_cert.proofs.FileDecided.{writers_write}
 use Rattle.mk_cert.proofs.writer_findings.note_loose.Goals as goal
 
@@ -25,11 +25,11 @@ pub note_loose_writers-requires : goal.note_loose_writers-requires
 note_loose_writers-requires c =
     let x = c.args.subject.now in
     let e = c.args.entry.now in
-    let same : c.writers-writers.result.now ≡ writers_of x (name_of x e.number) = c.writers-writers.ensures ∙ ap (writers_of x) (name_is x e c.name.result.now c.requires c.name.ensures) in
+    let same : c.writers_for-writers.result.now ≡ writers_of x (name_of x e.number) = c.writers_for-writers.ensures in
     record {
       entry = c.requires;
       bare = sym (ap (λ (k : Entry). k.node.recipe) c.entry.view_is) ∙ c.if-entry.false;
-      written = λ o h. writers_write x (name_of x e.number) c.writers-writers.result.now same o h;
+      written = λ o h. writers_write x (name_of x e.number) c.writers_for-writers.result.now same o h;
     }
 
 pub returns : goal.returns
@@ -38,7 +38,7 @@ returns c =
     let e = c.args.entry.now in
     let old = c.args.found.now.items in
     let new = c.note_loose_writers.new.found.items in
-    let same : c.writers-writers.result.now ≡ writers_of x (name_of x e.number) = c.writers-writers.ensures ∙ ap (writers_of x) (name_is x e c.name.result.now c.requires c.name.ensures) in
+    let same : c.writers_for-writers.result.now ≡ writers_of x (name_of x e.number) = c.writers_for-writers.ensures in
     on_ok_weaker c.note_loose_writers.result
     (λ h. adds_lifted x (λ o. loose e.number o) (λ o. has_name (writes_of x o) (name_of x e.number)) (serial_order x.graph) old new
     (λ o out k. true≢false (sym ((has_decides (writes_of x o) (name_of x e.number)).1 k.1) ∙ out))
