@@ -1,24 +1,21 @@
 -- The places of files.
-use Rattle.std.proofs.Common.{◌≡◌, ℕ, zero, suc, Bool, String, Global, ◌<◌, List, [], ◌∷◌, ◌++◌, Option, None, Some, length, get_or, map, true, false, refl, sym, ap, subst, ◌∙◌, inl, inr, ⊎_elim, arith, length-append}
+use Rattle.std.proofs.Common.{◌≡◌, ℕ, zero, suc, Bool, ◌<◌, List, [], ◌∷◌, ◌++◌, Option, None, Some, length, get_or, map, true, false, refl, sym, ap, subst, ◌∙◌, inl, inr, arith, length-append}
 use Rattle.std.specs.Prelude.{filter, find, cond, slice_get, ◌||◌}
 use Rattle.std.specs.Borrow.{Bor}
 use Rattle.std.specs.List.{list_any}
 use Rattle.std.specs.Option.{option_map}
 use Rattle.std.specs.Str.{bytes_eq}
-use Rattle.std.proofs.lemmas.Bool.{cases_lt, true≢false}
-use Rattle.std.proofs.lemmas.List.{get_or-map, get_or_past, length-map, map_push, get_or_append_left}
+use Rattle.std.proofs.lemmas.Bool.{true≢false}
+use Rattle.std.proofs.lemmas.List.{get_or-map, length-map, map_push, get_or_append_left}
 use Rattle.std.proofs.lemmas.Option.{slice_get-map, slice_get_within, slice_get-get_or, get_or_from_slice_get}
 use Rattle.std.proofs.lemmas.Slice.Eq.{bytes_eq-Decides}
-use Rattle.std.specs.String.{string_bytes}
 use Rattle.mk_lines.specs.Names.{has_name}
 use Rattle.mk_graph.specs.Membership.{Has}
 use Rattle.mk_graph.specs.Serial.{serial_order}
-use Rattle.mk_cert.specs.Entry.{Entry, IsEntry, entry_reads, writers_of}
-use Rattle.mk_cert.specs.Known.{Known, StandAt, AreFiles, all_names, known_by, known_of}
-use Rattle.mk_cert.specs.Subject.{Subject, reads_of, writes_of}
-use Rattle.mk_cert.specs.Target.{Target, target_of}
+use Rattle.mk_cert.specs.Entry.{writers_of}
+use Rattle.mk_cert.specs.Known.{Known, StandAt, all_names, known_by, known_of}
+use Rattle.mk_cert.specs.Subject.{Subject, writes_of}
 use Rattle.mk_cert.proofs.Decided.{has_decides}
-use Rattle.mk_cert.proofs.Entries.{same_reads}
 
 -- what the keys of a table spell
 abbrev pub spelled : List (Bor (List ℕ)) → List (List ℕ)
@@ -139,6 +136,7 @@ no_writers x f none = none_pass (serial_order x.graph)
     false_is : (b : Bool) → ¬ (b ≡ true) → b ≡ false
     false_is true h = absurd (h refl)
     false_is false h = refl
+
     none_pass : (order : List ℕ) → filter (λ o. has_name (writes_of x o) f) order ≡ []
     none_pass [] = refl
     none_pass (o ∷ order) = rw (false_is (has_name (writes_of x o) f) (λ e. none o ((has_decides (writes_of x o) f).0 e))) (none_pass order)

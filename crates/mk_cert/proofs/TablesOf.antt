@@ -1,5 +1,5 @@
 -- What a subject keeps, by what contracts see of it.
-use Rattle.std.proofs.Common.{◌≡◌, ℕ, List, [], get_or, subst}
+use Rattle.std.proofs.Common.{◌≡◌, ℕ, [], get_or, subst}
 use Rattle.mk_cert.specs.declared.tables.Tables.{Tables}
 use Rattle.mk_cert.specs.Kept.{AreTablesOf}
 use Rattle.mk_cert.specs.Known.{AreFiles, StandAt, all_names, known_of}

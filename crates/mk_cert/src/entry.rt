@@ -152,14 +152,6 @@ impl<'a> Entry<'a> {
         }
     }
 
-    /// The file at a place of what its recipe reads.
-    pub(crate) fn read_at(&self, place: usize) -> &str
-        requires { place < length (entry_reads self.now) }
-        ensures { result.now ≡ slice_index_or (entry_reads self.now) place [] }
-    {
-        self.reads()[place].as_str()
-    }
-
     /// The files that its recipe writes: none without a recipe or a record.
     pub fn writes(&self) -> &'a [String]
         ensures { map string_bytes result.now ≡ entry_writes self.now }

@@ -47,7 +47,6 @@ pub use entry::Entry;
 pub use fault::CertFault;
 pub use finding::Finding;
 pub use findings::static_findings;
-pub use known::Known;
 pub use links::{Ends, ends_of};
 pub use race_findings::races;
 pub use shared_name::SharedName;

@@ -16,7 +16,7 @@ pub struct Target<'a> {
     /// Its name.
     pub file: &'a str,
     /// What is known of it.
-    pub known: &'a Known,
+    pub(crate) known: &'a Known,
 }
 
 impl<'a> Model for Target<'a> {

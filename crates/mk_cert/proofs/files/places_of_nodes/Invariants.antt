@@ -1,5 +1,4 @@
-use Rattle.std.proofs.Common.{◌≡◌, ◌++◌, ℕ, List, map, take}
-use Rattle.std.specs.Borrow.{Bor}
+use Rattle.std.proofs.Common.{◌≡◌, map, take}
 use Rattle.mk_graph.specs.declared.node.Node.{Node}
 use Rattle.mk_cert.specs.Known.{StandAt, known_by}
 use Rattle.mk_cert.specs.Writers.{numbers_at}

@@ -1,8 +1,7 @@
 -- The cursor stands within the reads that are not settled, and the names are held against its own.
-use Rattle.std.proofs.Common.{◌≡◌, ◌<◌, ◌∙◌, ℕ, List, ap, sym, length, get_or, arith}
+use Rattle.std.proofs.Common.{◌≡◌, ◌<◌, ◌∙◌, List, ap, sym, length, get_or, arith}
 use Rattle.mk_graph.specs.declared.node.Node.{Node}
 use Rattle.mk_graph.specs.Graph.{Graph, node, no_node}
-use Rattle.mk_cert.specs.Subject.{name_of}
 use Rattle.mk_cert.specs.Target.{Target, unsettled_of}
 use Rattle.mk_cert.proofs.ReadOf.{found_there, same_names}
 use Rattle.mk_cert.proofs.cursor.Cursor.found.Goals as goal

@@ -1,5 +1,5 @@
 -- The file at the place of a read.
-use Rattle.std.proofs.Common.{◌≡◌, ◌∙◌, ◌<◌, [], ℕ, List, ap, sym, subst, get_or, length, arith}
+use Rattle.std.proofs.Common.{◌≡◌, ◌∙◌, ◌<◌, [], ℕ, List, ap, get_or, length, arith}
 use Rattle.std.specs.Prelude.{slice_get}
 use Rattle.mk_cert.specs.Entry.{Entry}
 use Rattle.mk_cert.specs.Known.{known_of}
