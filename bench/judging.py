@@ -1,4 +1,5 @@
-"""Measures `static_findings` and `verify` alone, over a subject that is made from bytes once, and prints a table.
+"""Measures `static_findings` and `verify` alone, over a subject that is made from bytes once, and the making of that
+subject, and prints a table.
 
 The times are those of the program's own clock. The instructions are what ten calls more take, divided by ten.
 """
@@ -35,17 +36,25 @@ class Call:
         """The words of the command line."""
         return [str(self.program), often, *self.files]
 
-    def time(self, often: str = "often") -> float:
-        """The least milliseconds of its calls; nothing is found of these builds."""
+    def times(self, often: str = "often") -> tuple[float, float]:
+        """The least milliseconds of its calls, and those of the making of the subject; nothing is found of these builds."""
         done = subprocess.run(self.words(often), capture_output=True, text=True, check=True)
-        taken, found = done.stdout.split()
+        taken, found, made = done.stdout.split()
         if found != "0":
             sys.exit(f"bench: {' '.join(self.words(often))}: {found} findings")
-        return int(taken) / 1_000
+        return int(taken) / 1_000, int(made) / 1_000
+
+    def time(self) -> float:
+        """The least milliseconds of its calls."""
+        return self.times()[0]
 
     def time_once(self) -> float:
         """The milliseconds of one call, right behind the making of the subject."""
-        return self.time("once")
+        return self.times("once")[0]
+
+    def time_made(self) -> float:
+        """The milliseconds of the making of the subject."""
+        return self.times("once")[1]
 
 
 def calls(program: Path, mkcheck: str, build: Build, label: str) -> list[Call]:
@@ -75,6 +84,8 @@ def main() -> None:
             few, many = ((count(one.words("often"), 0) - count(one.words("once"), 0)) / MORE_CALLS / 10**6 for one in (half, full))
             times = f"{great:>8.2f}{great / small:>8.2f}{last:>10.2f}{last / first:>8.2f}{many:>10.1f}{many / few:>8.2f}"
             print(f"{f'{shape.__name__} {whole}':<18}{name:<17}{times}", flush=True)
+        small, great = map(min, in_turns([size[0].time_made for size in sizes], RUNS))
+        print(f"{f'{shape.__name__} {whole}':<18}{'the subject':<33}{great:>10.2f}{great / small:>8.2f}", flush=True)
     print(f"{'at most':<35}{GROWTH_BOUND:>16.2f}{GROWTH_BOUND:>18.2f}{GROWTH_BOUND:>18.2f}")
 
 
