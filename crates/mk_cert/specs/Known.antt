@@ -1,5 +1,6 @@
 -- What is known of files that recipes read or write.
 use Rattle.std.specs.Prelude.{◌≡◌, ℕ, Bool, ◌||◌, List, [], map, slice_get, slice_index_or, Some}
+use Rattle.std.specs.Borrow.{Bor}
 use Rattle.mk_lines.specs.Names.{has_name, number_of}
 use Rattle.mk_graph.specs.declared.node.Node.{Node}
 use Rattle.mk_read.specs.Reading.{Makefile}
@@ -41,6 +42,10 @@ all_names x = map (λ (n : Node). n.name) x.graph.nodes
 -- what is known of a file
 abbrev pub known_of : Subject → List ℕ → Known
 known_of x = known_by x.makefile x.setting (writers_of x) (all_names x)
+
+-- this is known of the files with these names, of one after another
+abbrev pub AreKnown : (List ℕ → Known) → List (Bor (List ℕ)) → List Known → Type 0
+AreKnown known_of names known = known ≡ map (λ name. known_of name.now) names
 
 -- at these places of a list of names stand the names of these files, in their order
 abbrev pub StandAt : (names : List (List ℕ)) → List ℕ → List (List ℕ) → Type 0

@@ -16,7 +16,8 @@ pub record AreEnds (x : Subject) (needed : List (List ℕ)) (always : List Bool)
   pub always_held : (t : ℕ) → (slice_index_or always t false ≡ true) ↔ IsAlwaysMade x.graph t
 
 -- so do these, and the recipes that it carries
-pub record AreLinks (x : Subject) (carried needed : List (List ℕ)) (always : List Bool) : Type 0 where
+pub record AreLinks (x : Subject) (carried needed : List (List ℕ))
+    (always : List Bool) : Type 0 where
   pub ends : AreEnds x needed always
   pub carried_held : (t o : ℕ) →
       Has (slice_index_or carried t []) o ↔ Carries x.graph (footprints x.setting) t o

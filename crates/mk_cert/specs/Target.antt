@@ -1,4 +1,4 @@
--- A file to which paths may lead.
+-- A file, with what is known of it.
 use Rattle.std.specs.Prelude.{ℕ, List}
 use Rattle.mk_cert.specs.Known.{Known, known_of}
 use Rattle.mk_cert.specs.Subject.{Subject, reads_of}

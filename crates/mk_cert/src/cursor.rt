@@ -1,6 +1,6 @@
 //! Where the next entry of a certificate is looked for first.
 
-ghost use Rattle.std.specs.Prelude.{◌≡◌, IfSome};
+ghost use Rattle.std.specs.Prelude.{IfSome};
 ghost use Rattle.mk_cert.specs.Cursor.{IsReadOf};
 
 use crate::subject::Subject;
@@ -9,16 +9,17 @@ use std::alloc::{AllocError, Global};
 
 /// The recipe of an entry, and the file that it reads.
 #[derive(Drop)]
-pub struct Found<'s> {
+pub struct NamedRead<'s> {
     /// The number of the recipe.
     pub recipe: usize,
     /// The file.
     pub file: Target<'s>,
 }
 
-/// Where the next entry of a certificate is looked for first: behind the last one that was found
-/// so, among the reads that aren't settled. The entries that `check` writes all stand there. What
-/// is found is held against the names, so nothing rests on where this one stands.
+/// Where the next entry of a certificate is looked for first: at the read, of those that aren't
+/// settled, behind the last one that was found so. The entries that `check` writes all stand there;
+/// from the first one on that stands elsewhere the others are looked up by their names. What is
+/// found is held against the names, so nothing rests on where the cursor stands.
 #[derive(Drop)]
 pub struct Cursor {
     /// The nodes whose recipes have such reads, in the serial order.
@@ -61,7 +62,7 @@ impl Cursor {
         subject: &'s Subject<'_>,
         recipe: &str,
         file: &str,
-    ) -> Option<Found<'s>>
+    ) -> Option<NamedRead<'s>>
         ensures { IfSome result (λ found.
             IsReadOf subject.entry.now recipe.now file.now found.recipe found.file) }
     {
@@ -76,7 +77,7 @@ impl Cursor {
             return None;
         }
         self.go_on(count);
-        Some(Found {
+        Some(NamedRead {
             recipe: number,
             file: target,
         })

@@ -1,6 +1,6 @@
 //! What is looked up of a node.
 
-ghost use Rattle.std.specs.Prelude.{◌≡◌, ◌<◌, [], length, map, slice_index_or, IfOk};
+ghost use Rattle.std.specs.Prelude.{◌≡◌, map, IfOk};
 ghost use Rattle.std.specs.Option.{option_copied};
 ghost use Rattle.std.specs.String.{string_bytes};
 ghost use Rattle.mk_cert.specs.Entry.{reads_in, writes_in, entry_reads, entry_writes, has_others, is_unwritten, lines_eq};

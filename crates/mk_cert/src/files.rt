@@ -5,7 +5,7 @@ ghost use Rattle.std.specs.Borrow.{Bor};
 ghost use Rattle.std.specs.String.{string_bytes};
 ghost use Rattle.mk_graph.specs.declared.node.Node.{Node as NodeValue};
 ghost use Rattle.mk_graph.specs.Setting as build;
-ghost use Rattle.mk_cert.specs.Known.{AreFiles, StandAt, known_by};
+ghost use Rattle.mk_cert.specs.Known.{AreFiles, AreKnown, StandAt, known_by};
 ghost use Rattle.mk_cert.specs.Subject.{footprints};
 ghost use Rattle.mk_cert.specs.Writers.{numbers_at};
 
@@ -70,11 +70,11 @@ fn place_for<'a>(
     known: &mut Vec<Known>,
     file: &'a str,
 ) -> Result<usize, AllocError>
-    requires { known.old.items ≡ map (λ f. known_by sources.now.table.now sources.now.setting.now
-        (numbers_at sources.now.writers.now) sources.now.names.now f.now) files.old.keys }
-    ensures all { OnOk result (known.new.items ≡ map (λ f. known_by sources.now.table.now
-        sources.now.setting.now (numbers_at sources.now.writers.now) sources.now.names.now f.now)
-        files.new.keys) }
+    requires { AreKnown (known_by sources.now.table.now sources.now.setting.now
+        (numbers_at sources.now.writers.now) sources.now.names.now) files.old.keys known.old.items }
+    ensures all { OnOk result (AreKnown (known_by sources.now.table.now sources.now.setting.now
+        (numbers_at sources.now.writers.now) sources.now.names.now) files.new.keys
+        known.new.items) }
     ensures more { OnOk result ((rest : List (Bor (List ℕ))) ×
         (files.new.keys ≡ files.old.keys ++ rest)) }
     ensures here { IfOk result (λ place.
@@ -95,11 +95,11 @@ fn places_of_nodes<'a>(
     known: &mut Vec<Known>,
     nodes: &'a [Node],
 ) -> Result<Vec<usize>, AllocError>
-    requires { known.old.items ≡ map (λ f. known_by sources.now.table.now sources.now.setting.now
-        (numbers_at sources.now.writers.now) sources.now.names.now f.now) files.old.keys }
-    ensures all { OnOk result (known.new.items ≡ map (λ f. known_by sources.now.table.now
-        sources.now.setting.now (numbers_at sources.now.writers.now) sources.now.names.now f.now)
-        files.new.keys) }
+    requires { AreKnown (known_by sources.now.table.now sources.now.setting.now
+        (numbers_at sources.now.writers.now) sources.now.names.now) files.old.keys known.old.items }
+    ensures all { OnOk result (AreKnown (known_by sources.now.table.now sources.now.setting.now
+        (numbers_at sources.now.writers.now) sources.now.names.now) files.new.keys
+        known.new.items) }
     ensures here { IfOk result (λ places. StandAt (map (λ f. f.now) files.new.keys) places.items
         (map (λ (n : NodeValue). n.name) nodes.entry.now)) }
 {
@@ -119,11 +119,11 @@ fn places_for<'a>(
     known: &mut Vec<Known>,
     listed: &'a [String],
 ) -> Result<Vec<usize>, AllocError>
-    requires { known.old.items ≡ map (λ f. known_by sources.now.table.now sources.now.setting.now
-        (numbers_at sources.now.writers.now) sources.now.names.now f.now) files.old.keys }
-    ensures all { OnOk result (known.new.items ≡ map (λ f. known_by sources.now.table.now
-        sources.now.setting.now (numbers_at sources.now.writers.now) sources.now.names.now f.now)
-        files.new.keys) }
+    requires { AreKnown (known_by sources.now.table.now sources.now.setting.now
+        (numbers_at sources.now.writers.now) sources.now.names.now) files.old.keys known.old.items }
+    ensures all { OnOk result (AreKnown (known_by sources.now.table.now sources.now.setting.now
+        (numbers_at sources.now.writers.now) sources.now.names.now) files.new.keys
+        known.new.items) }
     ensures more { OnOk result ((rest : List (Bor (List ℕ))) ×
         (files.new.keys ≡ files.old.keys ++ rest)) }
     ensures here { IfOk result (λ places. StandAt (map (λ f. f.now) files.new.keys) places.items
@@ -146,11 +146,11 @@ fn push_row<'a>(
     listed: &'a [String],
     rows: &mut NumberRows,
 ) -> Result<(), AllocError>
-    requires { known.old.items ≡ map (λ f. known_by sources.now.table.now sources.now.setting.now
-        (numbers_at sources.now.writers.now) sources.now.names.now f.now) files.old.keys }
-    ensures all { OnOk result (known.new.items ≡ map (λ f. known_by sources.now.table.now
-        sources.now.setting.now (numbers_at sources.now.writers.now) sources.now.names.now f.now)
-        files.new.keys) }
+    requires { AreKnown (known_by sources.now.table.now sources.now.setting.now
+        (numbers_at sources.now.writers.now) sources.now.names.now) files.old.keys known.old.items }
+    ensures all { OnOk result (AreKnown (known_by sources.now.table.now sources.now.setting.now
+        (numbers_at sources.now.writers.now) sources.now.names.now) files.new.keys
+        known.new.items) }
     ensures more { OnOk result ((rest : List (Bor (List ℕ))) ×
         (files.new.keys ≡ files.old.keys ++ rest)) }
     ensures here { OnOk result ((row : List ℕ) × (rows.new ≡ rows.old ++ row ∷ []) ×

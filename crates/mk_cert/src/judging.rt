@@ -1,6 +1,6 @@
 //! Whether entries of a certificate are bad, one behind another.
 
-ghost use Rattle.std.specs.Prelude.{◌≡◌, ◌<◌, ◌↔◌, ◌⊎◌, ℕ, List, [], true, not, length, slice_index_or, slice_set, Err, IfOk, IfSome, OnOk};
+ghost use Rattle.std.specs.Prelude.{◌≡◌, ◌<◌, ◌↔◌, ◌⊎◌, ℕ, [], not, length, slice_index_or, slice_set, Err, IfOk, IfSome, OnOk};
 ghost use Rattle.mk_lines.specs.Names.{has_name, with_name};
 ghost use Rattle.mk_cert.specs.Links.{AreLinks, AreSeen, HoldReads};
 ghost use Rattle.mk_cert.specs.Checks.{AnswersEntries, HasSets, Judges};

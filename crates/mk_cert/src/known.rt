@@ -1,7 +1,7 @@
 //! What is known of a file.
 
 ghost use Rattle.std.specs.Prelude.{◌≡◌, IfOk};
-ghost use Rattle.mk_cert.specs.Known.{known_by, taken_by};
+ghost use Rattle.mk_cert.specs.Known.{known_by};
 ghost use Rattle.mk_cert.specs.Writers.{numbers_at};
 
 use crate::file_writers::FileWriters;
@@ -42,13 +42,6 @@ impl Model for Known {
         } };
 }
 
-/// Whether a file is given, phony, or passed over by the reading of the makefile.
-fn is_taken(table: &RuleTable<'_>, setting: &Setting, file: &str) -> bool
-    ensures { result ≡ taken_by table.now setting.now file.now }
-{
-    setting.is_given(file) || table.is_phony(file) || setting.is_passed_over(file)
-}
-
 /// What is known of a file.
 pub fn known_of(
     alloc: Global,
@@ -61,11 +54,12 @@ pub fn known_of(
     ensures { IfOk result (λ known. known ≡
         known_by table.now setting.now (numbers_at writers.now) names.now file.now) }
 {
+    let given = setting.is_given(file);
     Ok(Known {
         writers: FileWriters::of(alloc, writers_at(writers, file))?,
-        given: setting.is_given(file),
+        given,
         editable: setting.is_editable(file),
-        taken: is_taken(table, setting, file),
+        taken: given || table.is_phony(file) || setting.is_passed_over(file),
         number: names.number_of(file),
     })
 }

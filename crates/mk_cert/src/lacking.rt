@@ -1,9 +1,9 @@
 //! Which reads lack their ways.
 
-ghost use Rattle.std.specs.Prelude.{◌≡◌, ◌⊎◌, ◌↔◌, List, ℕ, true, Err, IfOk, MatchOption};
+ghost use Rattle.std.specs.Prelude.{◌≡◌, ◌⊎◌, ◌↔◌, List, true, Err, IfOk, MatchOption};
 ghost use Rattle.mk_graph.specs.Membership.{Has};
 ghost use Rattle.mk_ways.specs.Certificate.{Way};
-ghost use Rattle.mk_cert.specs.Subject.{name_of, reads_of};
+ghost use Rattle.mk_cert.specs.Subject.{reads_of};
 ghost use Rattle.mk_cert.specs.Entry.{IsEntry};
 ghost use Rattle.mk_cert.specs.Links.{AreSeen};
 ghost use Rattle.mk_cert.specs.Target.{target_of};

@@ -1,14 +1,13 @@
-//! What is looked up of ways.
+//! What is looked up of nodes: their names, what their recipes read and write, and where ways go.
 
-ghost use Rattle.std.specs.Prelude.{◌≡◌, ◌<◌, ◌↔◌, ◌⊎◌, ℕ, List, [], true, false, length, map, slice_index_or, IfOk, MatchOption, OnOk};
+ghost use Rattle.std.specs.Prelude.{◌≡◌, ◌<◌, ◌↔◌, ◌⊎◌, ℕ, [], true, false, length, map, slice_index_or, IfOk};
 ghost use Rattle.std.specs.String.{string_bytes};
-ghost use Rattle.mk_lines.specs.Names.{has_name};
-ghost use Rattle.mk_graph.specs.Graph.{IsGraph, node, prerequisites};
+ghost use Rattle.mk_graph.specs.Graph.{node, prerequisites};
 ghost use Rattle.mk_graph.specs.Membership.{Has};
 ghost use Rattle.mk_graph.specs.Setting.{IsAlwaysMade};
 ghost use Rattle.mk_graph.specs.Setting as build;
 ghost use Rattle.mk_graph.specs.Ways.{Carries};
-ghost use Rattle.mk_cert.specs.Subject.{footprints, name_of, reads_of};
+ghost use Rattle.mk_cert.specs.Subject.{footprints, reads_of};
 ghost use Rattle.mk_cert.specs.Carried.{carried};
 ghost use Rattle.mk_cert.specs.Links.{AreEnds, AreLinks};
 

@@ -16,7 +16,8 @@ pub struct NumberRows {
 
 impl Model for NumberRows {
     ghost use Rattle.std.specs.Prelude.{List, ℕ};
-    ghost use Rattle.mk_cert.specs.NumberRows.{cut_from, AreRows};
+    ghost use Rattle.mk_ways.specs.Packing.{cut_from};
+    ghost use Rattle.mk_cert.specs.NumberRows.{AreRows};
 
     ghost Value = { List (List ℕ) };
 

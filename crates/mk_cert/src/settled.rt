@@ -34,9 +34,9 @@ fn unsettled_among(
     known: &[Known],
     places: &[usize],
 ) -> Result<Vec<usize>, AllocError>
-    ensures { IfOk result (λ some.
+    ensures { IfOk result (λ left.
         (by : List ℕ → value.Known) (names files : List (List ℕ)) → known.now ≡ map by names →
-        StandAt names places.now files → StandAt names some.items (unsettled by files)) }
+        StandAt names places.now files → StandAt names left.items (unsettled by files)) }
 {
     let mut unsettled = Vec::new(alloc);
     for at in places {
@@ -53,10 +53,10 @@ pub fn unsettled_places(
     known: &[Known],
     places: &NumberRows,
 ) -> Result<NumberRows, AllocError>
-    ensures { IfOk result (λ some.
+    ensures { IfOk result (λ left.
         (by : List ℕ → value.Known) (names : List (List ℕ)) (t : ℕ) (files : List (List ℕ)) →
         known.now ≡ map by names → StandAt names (slice_index_or places.now t []) files →
-        StandAt names (slice_index_or some t []) (unsettled by files)) }
+        StandAt names (slice_index_or left t []) (unsettled by files)) }
 {
     let mut unsettled = NumberRows::with_capacity(alloc, places.len())?;
     for number in 0..places.len() {

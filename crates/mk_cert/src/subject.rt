@@ -140,8 +140,8 @@ impl<'a> Subject<'a> {
         self.tables.entries.as_slice()
     }
 
-    /// A file by its name, with what is known of it: none, where no recipe reads or writes it and no
-    /// node has the name. It takes no memory.
+    /// A file by its name, with what is known of it: none is told of a name that no recipe writes or
+    /// reads. It takes no memory.
     pub(crate) fn file(&self, name: &str) -> Option<Target<'_>>
         ensures { MatchOption result
             ((t : ℕ) → (¬ (Has (writes_of self.now t) name.now)) ×

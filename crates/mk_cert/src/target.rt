@@ -1,4 +1,4 @@
-//! A file to which paths may lead.
+//! A file, with what is known of it.
 
 ghost use Rattle.std.specs.Prelude.{◌≡◌, true, ◌↔◌};
 ghost use Rattle.mk_graph.specs.Ways.{CanChange};
@@ -9,8 +9,8 @@ use crate::known::Known;
 use crate::subject::Subject;
 use std::marker::Model;
 
-/// A file, with what is looked up of it once: whether it can change, and where paths to it end. A
-/// contract sees its name and what is known of it.
+/// A file, with what is known of it, which was looked up once. A contract sees its name and what is
+/// known.
 #[derive(Drop)]
 pub struct Target<'a> {
     /// Its name.

@@ -13,7 +13,7 @@ ghost use Rattle.mk_cert.specs.Links.{AreEnds, AreLinks, HoldReads};
 ghost use Rattle.mk_cert.specs.Target.{target_of};
 ghost use Rattle.mk_cert.specs.Walking.{GoesOver, Leads};
 
-use crate::cursor::{Cursor, Found};
+use crate::cursor::{Cursor, NamedRead};
 use crate::links::{Ends, Links};
 use crate::number_list::NumberList;
 use crate::read_lists::ReadLists;
@@ -48,7 +48,8 @@ pub fn stands_at(sets: &[SeenNames<'_>], place: usize, name: &str) -> bool
 
 /// Whether a node is the recipe with a name.
 fn is_recipe_named(subject: &Subject<'_>, number: usize, name: &str) -> bool
-    ensures { result ≡ true → IsRecipe subject.now number × (name_of subject.now number ≡ name.now) }
+    ensures { result ≡ true →
+        IsRecipe subject.now number × (name_of subject.now number ≡ name.now) }
 {
     match subject.graph().nodes().get(number) {
         Some(node) => node.recipe && node.name.as_str() == name,
@@ -194,7 +195,7 @@ fn read_named<'s>(
     cursor: &mut Cursor,
     recipe: &str,
     file: &str,
-) -> Result<Option<Found<'s>>, AllocError>
+) -> Result<Option<NamedRead<'s>>, AllocError>
     requires { IfSome lists.old.lists (λ lists. HoldReads subject.now lists.items) }
     ensures found { IfOk result (λ found. MatchOption found
         ((t : ℕ) → IsRecipe subject.entry.now t → name_of subject.entry.now t ≡ recipe.now →
@@ -217,14 +218,14 @@ fn read_named<'s>(
     if !lists.has(alloc, subject, number, file)? {
         return Ok(None);
     }
-    Ok(Some(Found {
+    Ok(Some(NamedRead {
         recipe: number,
         file: target,
     }))
 }
 
 /// Whether an entry, whose recipe reads its file, is good.
-fn is_good(subject: &Subject<'_>, links: &Links<'_>, way: &Way<'_>, found: &Found<'_>) -> bool
+fn is_good(subject: &Subject<'_>, links: &Links<'_>, way: &Way<'_>, found: &NamedRead<'_>) -> bool
     requires links { AreLinks subject.now links.now.carried.items links.now.ends.needed.items
         links.now.ends.always.items }
     requires found { IsReadOf subject.now way.now.recipe way.now.file found.now.recipe
