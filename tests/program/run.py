@@ -14,6 +14,7 @@ from pathlib import Path
 
 from builds import builds
 from faults import faults
+from orders import orders
 
 HERE = Path(__file__).resolve().parent
 PROGRAM = HERE.parent.parent / "bin" / "mkcheck"
@@ -212,7 +213,7 @@ def differs(program: Path, run: Run) -> bool:
 def main() -> None:
     program = Path(sys.argv[1] if len(sys.argv) > 1 else PROGRAM).resolve()
     ran_of, wrong = 0, 0
-    tables = (Run(words, status, out, files=files) for words, status, out, files in chain(builds(), faults()))
+    tables = (Run(words, status, out, files=files) for words, status, out, files in chain(builds(), faults(), orders()))
     for run in chain(ANSWERS, WORDS, PLACES, SIZES, tables):
         ran_of += 1
         wrong += differs(program, run)
