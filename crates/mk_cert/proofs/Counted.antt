@@ -6,8 +6,7 @@ use Rattle.std.proofs.lemmas.List.Sums.{sum_by-cons}
 use Rattle.mk_graph.specs.declared.node.Node.{Node}
 use Rattle.mk_graph.specs.Graph.{node}
 use Rattle.mk_cert.specs.Subject.{Subject, reads_of}
-use Rattle.mk_cert.specs.Entry.{Entry, IsEntry, entry_reads}
-use Rattle.mk_cert.proofs.Entries.{same_reads}
+use Rattle.mk_cert.specs.Entry.{Entry, IsEntry}
 
 one_recipe : (e : Entry) (es : List Entry) (n : ℕ) (ns : List ℕ) (b : Bool) → length es ≡ length ns → length (cond b (e ∷ es) es) ≡ length (cond b (n ∷ ns) ns)
 one_recipe e es n ns true same = ap (λ k. suc k) same
@@ -20,11 +19,9 @@ recipes_counted x (e ∷ es) h =
     ap (λ b. length (cond b (e ∷ filter (λ (k : Entry). k.node.recipe) es) (filter (λ (k : Entry). k.node.recipe) es))) same
     ∙ one_recipe e (filter (λ (k : Entry). k.node.recipe) es) e.number (filter (λ t. (node x.graph t).recipe) (map (λ (k : Entry). k.number) es)) (node x.graph e.number).recipe (recipes_counted x es (All-tail (IsEntry x) e es h))
 
-pub reads_counted : (x : Subject) (entries : List Entry) → All (IsEntry x) entries → sum_by (λ (e : Entry). length (entry_reads e)) entries ≡ sum_by (λ t. length (reads_of x t)) (map (λ (e : Entry). e.number) entries)
-reads_counted x [] h = refl
-reads_counted x (e ∷ es) h =
-    let same : length (entry_reads e) ≡ length (reads_of x e.number) = ap (λ (fs : List (List ℕ)). length fs) (same_reads x e (All-head (IsEntry x) e es h)) in
-    sum_by-cons (λ (k : Entry). length (entry_reads k)) e es
-    ∙ (ap (λ n. n + sum_by (λ (k : Entry). length (entry_reads k)) es) same
-    ∙ (ap (λ n. length (reads_of x e.number) + n) (reads_counted x es (All-tail (IsEntry x) e es h))
-    ∙ sym (sum_by-cons (λ t. length (reads_of x t)) e.number (map (λ (k : Entry). k.number) es))))
+pub reads_counted : (x : Subject) (entries : List Entry) → sum_by (λ (e : Entry). length (reads_of x e.number)) entries ≡ sum_by (λ t. length (reads_of x t)) (map (λ (e : Entry). e.number) entries)
+reads_counted x [] = refl
+reads_counted x (e ∷ es) =
+    sum_by-cons (λ (k : Entry). length (reads_of x k.number)) e es
+    ∙ (ap (λ n. length (reads_of x e.number) + n) (reads_counted x es)
+    ∙ sym (sum_by-cons (λ t. length (reads_of x t)) e.number (map (λ (k : Entry). k.number) es)))

@@ -27,3 +27,4 @@ pub mod Earlier
 pub mod Lookup
 pub mod NumberRows
 pub mod Cursor
+pub mod Records

@@ -17,7 +17,7 @@ pub fn counts(subject: &Subject<'_>) -> (usize, u128)
         if entry.node.recipe {
             recipes += 1;
         }
-        reads += entry.reads().len() as u128;
+        reads += subject.count_of_reads(entry.number) as u128;
     }
     (recipes, reads)
 }

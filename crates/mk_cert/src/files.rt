@@ -10,12 +10,12 @@ ghost use Rattle.mk_cert.specs.Subject.{footprints};
 ghost use Rattle.mk_cert.specs.Writers.{numbers_at};
 
 use crate::known::{Known, known_of};
-use crate::links::{reads_of, writes_of};
 use crate::number_rows::NumberRows;
+use crate::records::Records;
 use crate::writers::Writers;
 use indexmap::IndexSet;
 use mk_foot::Setting;
-use mk_graph::{Graph, Node};
+use mk_graph::Node;
 use mk_infer::RuleTable;
 use mk_lines::NameSet;
 use std::alloc::{AllocError, Global};
@@ -165,25 +165,25 @@ fn push_row<'a>(
 pub fn files_of<'a, 's>(
     alloc: Global,
     table: &'s RuleTable<'_>,
-    graph: &'a Graph,
-    setting: &'a Setting,
+    records: &Records<'a>,
     writers: &'s Writers<'a>,
     names: &'s NameSet<'a>,
 ) -> Result<Files<'a>, AllocError>
     ensures { IfOk result (λ files. AreFiles
-        (known_by table.now setting.now (numbers_at writers.now) names.now)
-        (map (λ (n : NodeValue). n.name) graph.now.nodes)
-        (build.writes graph.now (footprints setting.now))
-        (build.reads graph.now (footprints setting.now))
+        (known_by table.now records.now.setting (numbers_at writers.now) names.now)
+        (map (λ (n : NodeValue). n.name) records.now.graph.nodes)
+        (build.writes records.now.graph (footprints records.now.setting))
+        (build.reads records.now.graph (footprints records.now.setting))
         (map (λ f. f.now) files.names.keys) files.known.items files.nodes.items
         files.writes files.reads) }
 {
     let sources = Sources {
         table,
-        setting,
+        setting: records.setting(),
         writers,
         names,
     };
+    let graph = records.graph();
     let count = graph.nodes().len();
     let mut files = IndexSet::new(alloc);
     let mut known = Vec::new(alloc);
@@ -191,7 +191,7 @@ pub fn files_of<'a, 's>(
     let mut writes = NumberRows::with_capacity(alloc, count)?;
     let mut reads = NumberRows::with_capacity(alloc, count)?;
     for number in 0..count {
-        let written = writes_of(graph, setting, number);
+        let written = records.writes_of(number);
         push_row(
             alloc,
             &sources,
@@ -200,7 +200,7 @@ pub fn files_of<'a, 's>(
             written,
             &mut writes,
         )?;
-        let read = reads_of(graph, setting, number);
+        let read = records.reads_of(number);
         push_row(alloc, &sources, &mut files, &mut known, read, &mut reads)?;
     }
     Ok(Files {

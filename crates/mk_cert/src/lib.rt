@@ -30,6 +30,7 @@ mod pairs;
 mod question;
 mod race_findings;
 mod read_lists;
+mod records;
 mod seen_names;
 mod settled;
 mod shared_name;

@@ -1,21 +1,17 @@
-//! What is looked up of nodes: their names, what their recipes read and write, and where ways go.
+//! What is looked up of nodes: their names, and where ways go.
 
 ghost use Rattle.std.specs.Prelude.{◌≡◌, ◌<◌, ◌↔◌, ◌⊎◌, ℕ, [], true, false, length, map, slice_index_or, IfOk};
-ghost use Rattle.std.specs.String.{string_bytes};
 ghost use Rattle.mk_graph.specs.Graph.{node, prerequisites};
 ghost use Rattle.mk_graph.specs.Membership.{Has};
 ghost use Rattle.mk_graph.specs.Setting.{IsAlwaysMade};
-ghost use Rattle.mk_graph.specs.Setting as build;
 ghost use Rattle.mk_graph.specs.Ways.{Carries};
-ghost use Rattle.mk_cert.specs.Subject.{footprints, reads_of};
+ghost use Rattle.mk_cert.specs.Subject.{footprints};
 ghost use Rattle.mk_cert.specs.Carried.{carried};
 ghost use Rattle.mk_cert.specs.Links.{AreEnds, AreLinks};
 
-use crate::entry::{reads_in, writes_in};
 use crate::laws::carried_exactly;
 use crate::number_list::NumberList;
 use crate::subject::Subject;
-use mk_foot::Setting;
 use mk_graph::laws::serial_reaches_each_once;
 use mk_graph::{Graph, Groups};
 use mk_lines::NameSet;
@@ -49,34 +45,6 @@ pub fn node_names<'a>(alloc: Global, graph: &'a Graph) -> Result<NameSet<'a>, Al
         names.insert(node.name.as_str())?;
     }
     Ok(names)
-}
-
-/// The files that the recipe of a node reads.
-pub fn reads_of<'a>(graph: &Graph, setting: &'a Setting, number: usize) -> &'a [String]
-    requires { number < length graph.now.nodes }
-    ensures { map string_bytes result.now ≡
-        build.reads graph.now (footprints setting.now) number }
-{
-    let node = &graph.nodes()[number];
-    if node.recipe {
-        reads_in(setting.record_of(node.name.as_str()))
-    } else {
-        &[]
-    }
-}
-
-/// The files that the recipe of a node writes.
-pub fn writes_of<'a>(graph: &Graph, setting: &'a Setting, number: usize) -> &'a [String]
-    requires { number < length graph.now.nodes }
-    ensures { map string_bytes result.now ≡
-        build.writes graph.now (footprints setting.now) number }
-{
-    let node = &graph.nodes()[number];
-    if node.recipe {
-        writes_in(setting.record_of(node.name.as_str()))
-    } else {
-        &[]
-    }
 }
 
 /// The recipes that a node carries: the list at its number, looked up.

@@ -17,9 +17,8 @@ ghost use Rattle.mk_cert.specs.Subject.{footprints, commands_of, subject_of};
 ghost use Rattle.mk_cert.specs.Entry.{IsEntry, AreEntries, AreEntriesOf, IsFaultOf, IsFirstFault, StaysChosen, choice_after};
 
 use crate::entry::{Entry, has_others, is_unwritten};
-use crate::links::writes_of;
+use crate::records::Records;
 use mk_choice::{Choices, Made, choice, choice_and_commands};
-use mk_foot::Setting;
 use mk_graph::Graph;
 use mk_graph::laws::serial_reaches_each_once;
 use mk_infer::{Exists, InferFault, RuleTable};
@@ -40,17 +39,16 @@ fn push_copies(copies: &mut Vec<String>, names: &[String]) -> Result<(), AllocEr
 /// All files that the recipes of these nodes write.
 fn writes_among(
     alloc: Global,
-    graph: &Graph,
-    setting: &Setting,
+    records: &Records<'_>,
     order: &[usize],
 ) -> Result<Vec<String>, AllocError>
-    requires { All (λ n. n < length graph.now.nodes) order.now }
+    requires { All (λ n. n < length records.now.graph.nodes) order.now }
     ensures { IfOk result (λ names. map string_bytes names.items ≡
-        flat_map (build.writes graph.now (footprints setting.now)) order.now) }
+        flat_map (build.writes records.now.graph (footprints records.now.setting)) order.now) }
 {
     let mut names = Vec::new(alloc);
     for number in order {
-        push_copies(&mut names, writes_of(graph, setting, *number))?;
+        push_copies(&mut names, records.writes_of(*number))?;
     }
     Ok(names)
 }
@@ -146,24 +144,27 @@ fn told_at<'c>(told: Option<&'c [Option<Name>]>, place: usize) -> Option<&'c Opt
 fn entry_of<'a>(
     alloc: Global,
     choices: &Choices<'_>,
-    graph: &'a Graph,
-    setting: &'a Setting,
+    records: &Records<'a>,
     number: usize,
     after: Option<&Option<Name>>,
 ) -> Result<Entry<'a>, InferFault>
-    requires node { number < length graph.now.nodes }
+    requires node { number < length records.now.graph.nodes }
     requires after { MatchOption after
-        (StaysChosen (subject_of choices.now.makefile choices.now.exists graph.now setting.now)
+        (StaysChosen (subject_of choices.now.makefile choices.now.exists
+        records.now.graph records.now.setting)
         number)
         (λ after. after.now ≡ choice_after
-        (subject_of choices.now.makefile choices.now.exists graph.now setting.now) number) }
+        (subject_of choices.now.makefile choices.now.exists
+        records.now.graph records.now.setting) number) }
     ensures entry { IfOk result (λ entry. (entry.number ≡ number) ×
-        IsEntry (subject_of choices.now.makefile choices.now.exists graph.now setting.now) entry) }
+        IsEntry (subject_of choices.now.makefile choices.now.exists
+        records.now.graph records.now.setting) entry) }
     ensures fault { IfErr result (λ fault. (fault ≡ Memory) ⊎ (commands_of
-        (subject_of choices.now.makefile choices.now.exists graph.now setting.now) number
+        (subject_of choices.now.makefile choices.now.exists
+        records.now.graph records.now.setting) number
         ≡ Err fault)) }
 {
-    let node = &graph.nodes()[number];
+    let node = &records.graph().nodes()[number];
     let name = node.name.as_str();
     let Made { choice, commands } = choice_and_commands(alloc, choices, name)?;
     let chosen = owned(alloc, choice)?;
@@ -171,7 +172,7 @@ fn entry_of<'a>(
         Some(after) => copy_of(after)?,
         None => copy_of(&chosen)?,
     };
-    let recorded = setting.record_of(name);
+    let recorded = records.at(number);
     Ok(Entry {
         number,
         node,
@@ -189,28 +190,31 @@ fn entry_of<'a>(
 fn entries_of<'a>(
     alloc: Global,
     choices: &Choices<'_>,
-    graph: &'a Graph,
-    setting: &'a Setting,
+    records: &Records<'a>,
     order: &[usize],
     after: Option<&[Option<Name>]>,
 ) -> Result<Vec<Entry<'a>>, InferFault>
-    requires nodes { All (λ n. n < length graph.now.nodes) order.now }
+    requires nodes { All (λ n. n < length records.now.graph.nodes) order.now }
     requires after { MatchOption after
         ((n : ℕ) → StaysChosen
-        (subject_of choices.now.makefile choices.now.exists graph.now setting.now) n)
+        (subject_of choices.now.makefile choices.now.exists
+        records.now.graph records.now.setting) n)
         (λ after. after.now ≡ map (choice_after
-        (subject_of choices.now.makefile choices.now.exists graph.now setting.now)) order.now) }
+        (subject_of choices.now.makefile choices.now.exists
+        records.now.graph records.now.setting)) order.now) }
     ensures entries { IfOk result (λ entries. AreEntriesOf
-        (subject_of choices.now.makefile choices.now.exists graph.now setting.now) order.now
+        (subject_of choices.now.makefile choices.now.exists
+        records.now.graph records.now.setting) order.now
         entries.items) }
     ensures fault { IfErr result (λ fault. (fault ≡ Memory) ⊎ IsFirstFault
-        (subject_of choices.now.makefile choices.now.exists graph.now setting.now) order.now
+        (subject_of choices.now.makefile choices.now.exists
+        records.now.graph records.now.setting) order.now
         fault) }
 {
     let mut entries = Vec::with_capacity(alloc, order.len())?;
     for (place, number) in order.iter().enumerate() {
         let here = told_at(after, place);
-        entries.push(entry_of(alloc, choices, graph, setting, *number, here)?)?;
+        entries.push(entry_of(alloc, choices, records, *number, here)?)?;
     }
     Ok(entries)
 }
@@ -243,17 +247,16 @@ fn are_there(table: &RuleTable<'_>, there: &Exists<'_>, files: &[String]) -> boo
 fn writes_are_there(
     table: &RuleTable<'_>,
     there: &Exists<'_>,
-    graph: &Graph,
-    setting: &Setting,
+    records: &Records<'_>,
     order: &[usize],
 ) -> bool
-    requires { All (λ n. n < length graph.now.nodes) order.now }
+    requires { All (λ n. n < length records.now.graph.nodes) order.now }
     ensures { result ≡ true → (f : List ℕ) →
-        Has (flat_map (build.writes graph.now (footprints setting.now)) order.now) f →
+        Has (flat_map (build.writes records.now.graph (footprints records.now.setting)) order.now) f →
         is_there table.now there.now f ≡ true }
 {
     for number in order {
-        if !are_there(table, there, writes_of(graph, setting, *number)) {
+        if !are_there(table, there, records.writes_of(*number)) {
             return false;
         }
     }
@@ -265,18 +268,18 @@ fn choices_after(
     alloc: Global,
     table: &RuleTable<'_>,
     there: &Exists<'_>,
-    graph: &Graph,
-    setting: &Setting,
+    records: &Records<'_>,
     order: &[usize],
 ) -> Result<Vec<Option<Name>>, AllocError>
-    requires nodes { All (λ n. n < length graph.now.nodes) order.now }
-    requires order { order.now ≡ serial_order graph.now }
+    requires nodes { All (λ n. n < length records.now.graph.nodes) order.now }
+    requires order { order.now ≡ serial_order records.now.graph }
     ensures { IfOk result (λ chosen. chosen.items ≡ map (choice_after
-        (subject_of table.now there.now graph.now setting.now)) order.now) }
+        (subject_of table.now there.now
+        records.now.graph records.now.setting)) order.now) }
 {
-    let writes = writes_among(alloc, graph, setting, order)?;
+    let writes = writes_among(alloc, records, order)?;
     let names = NameTable::new(alloc, writes)?;
-    choices_with(alloc, table, there, &names, graph, order)
+    choices_with(alloc, table, there, &names, records.graph(), order)
 }
 
 /// The numbers of the nodes of a graph, in the serial order.
@@ -296,20 +299,21 @@ pub fn entries_for<'a>(
     alloc: Global,
     table: &RuleTable<'_>,
     there: &Exists<'_>,
-    graph: &'a Graph,
-    setting: &'a Setting,
+    records: &Records<'a>,
 ) -> Result<Vec<Entry<'a>>, InferFault>
     requires { there.now.more ≡ [] }
     ensures entries { IfOk result (λ entries. AreEntries
-        (subject_of table.now there.now graph.now setting.now) entries.items) }
+        (subject_of table.now there.now
+        records.now.graph records.now.setting) entries.items) }
     ensures fault { IfErr result (λ fault. IsFaultOf
-        (subject_of table.now there.now graph.now setting.now) fault) }
+        (subject_of table.now there.now
+        records.now.graph records.now.setting) fault) }
 {
-    let order = order_of(graph)?;
+    let order = order_of(records.graph())?;
     let choices = Choices::new(alloc, table, there)?;
-    if writes_are_there(table, there, graph, setting, &order) {
-        return entries_of(alloc, &choices, graph, setting, &order, None);
+    if writes_are_there(table, there, records, &order) {
+        return entries_of(alloc, &choices, records, &order, None);
     }
-    let after = choices_after(alloc, table, there, graph, setting, &order)?;
-    entries_of(alloc, &choices, graph, setting, &order, Some(&after))
+    let after = choices_after(alloc, table, there, records, &order)?;
+    entries_of(alloc, &choices, records, &order, Some(&after))
 }

@@ -7,8 +7,8 @@ ghost use Rattle.mk_graph.specs.Setting as build;
 ghost use Rattle.mk_cert.specs.Links.{HoldReads};
 ghost use Rattle.mk_cert.specs.Subject.{footprints, reads_of};
 
-use crate::links::reads_of;
 use crate::name_list::NameList;
+use crate::records::Records;
 use crate::subject::Subject;
 use mk_foot::Setting;
 use mk_graph::Graph;
@@ -24,17 +24,18 @@ pub struct ReadLists<'a> {
 /// The files that each recipe reads.
 fn lists_of<'a>(
     alloc: Global,
-    graph: &Graph,
+    graph: &'a Graph,
     setting: &'a Setting,
 ) -> Result<Vec<NameList<'a>>, AllocError>
     ensures { IfOk result (λ lists. (t : ℕ) (f : List ℕ) →
         (has_name (slice_index_or lists.items t []) f ≡ true) ↔
         Has (build.reads graph.now (footprints setting.now) t) f) }
 {
+    let records = Records::new(alloc, graph, setting)?;
     let count = graph.nodes().len();
     let mut lists = Vec::with_capacity(alloc, count)?;
     for number in 0..count {
-        lists.push(NameList::new(reads_of(graph, setting, number)))?;
+        lists.push(NameList::new(records.reads_of(number)))?;
     }
     Ok(lists)
 }

@@ -215,6 +215,13 @@ impl<'a> Subject<'a> {
         target_at(&self.tables.files, at)
     }
 
+    /// How many files the recipe of a node reads. It takes no memory.
+    pub fn count_of_reads(&self, number: usize) -> usize
+        ensures { result ≡ length (reads_of self.now number) }
+    {
+        self.tables.files.reads.at(number).len()
+    }
+
     /// How many files the recipe of a node reads that aren't settled. It takes no memory.
     pub(crate) fn count_of_unsettled(&self, number: usize) -> usize
         ensures { result ≡ length (unsettled_of self.now number) }

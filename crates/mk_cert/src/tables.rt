@@ -11,6 +11,7 @@ use crate::files::{Files, files_of};
 use crate::links::node_names;
 use crate::looking_up::entries_for;
 use crate::number_rows::NumberRows;
+use crate::records::Records;
 use crate::settled::unsettled_places;
 use crate::writers::writers_among;
 use mk_foot::Setting;
@@ -39,18 +40,19 @@ fn entries_in<'a>(
     alloc: Global,
     table: &RuleTable<'_>,
     there: &Exists<'_>,
-    graph: &'a Graph,
-    setting: &'a Setting,
+    records: &Records<'a>,
 ) -> Result<Vec<Entry<'a>>, InferFault>
     requires { there.now.more ≡ [] }
-    ensures graph { IsGraph graph.now }
+    ensures graph { IsGraph records.now.graph }
     ensures entries { IfOk result (λ entries. AreEntries
-        (subject_of table.now there.now graph.now setting.now) entries.items) }
+        (subject_of table.now there.now
+        records.now.graph records.now.setting) entries.items) }
     ensures fault { IfErr result (λ fault. IsFaultOf
-        (subject_of table.now there.now graph.now setting.now) fault) }
+        (subject_of table.now there.now
+        records.now.graph records.now.setting) fault) }
 {
-    let _nodes = graph.nodes();
-    entries_for(alloc, table, there, graph, setting)
+    let _nodes = records.graph().nodes();
+    entries_for(alloc, table, there, records)
 }
 
 /// All that is looked up. The fault is the first one of the nodes' commands.
@@ -70,10 +72,11 @@ pub fn tables_for<'a>(
         (subject_of table.now there.now graph.now setting.now) fault) }
 {
     serial_reaches_each_once();
-    let entries = entries_in(alloc, table, there, graph, setting)?;
+    let records = Records::new(alloc, graph, setting)?;
+    let entries = entries_in(alloc, table, there, &records)?;
     let writers = writers_among(alloc, &entries)?;
     let names = node_names(alloc, graph)?;
-    let files = files_of(alloc, table, graph, setting, &writers, &names)?;
+    let files = files_of(alloc, table, &records, &writers, &names)?;
     let unsettled = unsettled_places(alloc, &files.known, &files.reads)?;
     Ok(Tables {
         entries,

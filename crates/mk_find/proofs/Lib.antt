@@ -9,3 +9,4 @@ pub mod Accepted
 pub mod Trying
 pub mod Noting
 pub mod AddingEntries
+pub mod Repeats

@@ -1,7 +1,7 @@
 -- The certificate of a build of which nothing is found.
-use Rattle.std.specs.Prelude.{◌≡◌, ℕ, List, [], ◌∷◌, ◌++◌, map}
+use Rattle.std.specs.Prelude.{◌≡◌, ◌⊎◌, ℕ, List, [], ◌∷◌, ◌++◌, map, take, slice_index_or, true, false}
 use Rattle.std.specs.List.{flat_map}
-use Rattle.mk_lines.specs.Names.{once}
+use Rattle.mk_lines.specs.Names.{has_name, once}
 use Rattle.mk_graph.specs.Serial.{serial_order}
 use Rattle.mk_ways.specs.Certificate.{Way, Certificate}
 use Rattle.mk_cert.specs.Subject.{Subject, name_of, reads_of}
@@ -41,6 +41,16 @@ pub record AddsEntries (x : Subject) (reads : List Read) (old new : List Way) : 
   pub more : List Way
   pub right : AreEntriesFor x reads more
   pub added : new ≡ old ++ more
+
+-- The same for the read at a place of what a recipe reads, where its file doesn't stand before that
+-- place too; else nothing is added.
+abbrev pub AddsOnce : Subject → ℕ → ℕ → List Way → List Way → Type 0
+AddsOnce x t place old new =
+    ((has_name (take place (reads_of x t)) (slice_index_or (reads_of x t) place []) ≡ true) ×
+    (new ≡ old)) ⊎
+    ((has_name (take place (reads_of x t)) (slice_index_or (reads_of x t) place []) ≡ false) ×
+    AddsEntries x
+    (record { recipe = t; file = slice_index_or (reads_of x t) place [] } ∷ []) old new)
 
 -- The certificate has the goals of the graph in their order, and an entry for each read that needs
 -- a way.

@@ -1,28 +1,30 @@
 //! The reads of all recipes, each judged once.
 
-ghost use Rattle.std.specs.Prelude.{◌≡◌, ◌∷◌, [], ℕ, map, IfOk, MatchOption, OnOk};
+ghost use Rattle.std.specs.Prelude.{◌≡◌, ◌<◌, ◌∷◌, [], ℕ, length, map, take, slice_index_or, IfOk, MatchOption, OnOk};
+ghost use Rattle.mk_lines.specs.Names.{has_name, with_name};
 ghost use Rattle.mk_graph.specs.Membership.{Has};
 ghost use Rattle.mk_search.specs.Ways.{successors};
 ghost use Rattle.mk_cert.specs.Candidates.{stale, stale_candidates, static_candidates};
 ghost use Rattle.mk_cert.specs.Carried.{carried};
-ghost use Rattle.mk_cert.specs.Entry.{IsEntry};
+ghost use Rattle.mk_cert.specs.Entry.{IsEntry, entry_reads};
 ghost use Rattle.mk_cert.specs.Links.{AreEnds};
 ghost use Rattle.mk_cert.specs.Listed.{Adds};
 ghost use Rattle.mk_cert.specs.Listing.{Lists};
 ghost use Rattle.mk_cert.specs.Subject.{reads_of};
-ghost use Rattle.mk_find.specs.Certifying.{AddsEntries, AreEntriesFor, Needs, reads_by, reads_once};
+ghost use Rattle.mk_find.specs.Certifying.{AddsEntries, AddsOnce, AreEntriesFor, Needs, reads_by, reads_once};
 ghost use Rattle.mk_find.specs.FirstPaths.{GoesFirst};
 ghost use Rattle.mk_cert.specs.Target.{target_of};
 
 use crate::certifying::Entries;
 use crate::first_path::FirstPath;
+use crate::repeats::is_read_before;
 use crate::stale::note_stale;
 use crate::standing::{Standing, standing_of};
 use mk_cert::laws::{listed_exactly, paths_are_ways};
 use mk_cert::{Ends, Entry, Finding, Subject, Target, carried_lists, ends_of};
 use mk_foot::laws::once_keeps_first;
-use mk_foot::{is_repeated, seen_of};
 use mk_graph::Groups;
+use mk_lines::NameSet;
 use mk_search::Search;
 use mk_ways::Ways;
 use std::alloc::{AllocError, Global};
@@ -52,7 +54,8 @@ fn judge_read(
     ensures path { IfOk result (λ path. MatchOption path
         (found.new.items ≡ [] →
         ¬ (Needs subject.now (record { recipe = entry.now.number; file = file.now.file })))
-        (λ path. Needs subject.now (record { recipe = entry.now.number; file = file.now.file }) ×
+        (λ path. (found.new.items ≡ []) ×
+        Needs subject.now (record { recipe = entry.now.number; file = file.now.file }) ×
         GoesFirst subject.now file.now.file entry.now.number path.nodes.items path.finish)) }
 {
     listed_exactly();
@@ -68,13 +71,48 @@ fn judge_read(
     }
 }
 
-/// Adds which reads of a recipe are stale, and while nothing is found the entries for its reads.
-fn judge_reads<'s>(
-    alloc: Global,
+/// Adds the entry for a read that needs one, to whose file this path leads first, unless the recipe
+/// reads that file before that place too. `seen` knows whether it does, where there are many reads.
+fn push_once<'s>(
     subject: &'s Subject<'_>,
+    entry: &Entry<'_>,
+    place: usize,
+    path: &FirstPath,
+    seen: &mut NameSet<'s>,
+    ways: &mut Entries,
+) -> Result<(), AllocError>
+    requires entry { IsEntry subject.now entry.now }
+    requires place { place < length (entry_reads entry.now) }
+    requires seen { 4 < length (reads_of subject.now entry.now.number) →
+        has_name seen.old (slice_index_or (reads_of subject.now entry.now.number) place []) ≡
+        has_name (take place (reads_of subject.now entry.now.number))
+        (slice_index_or (reads_of subject.now entry.now.number) place []) }
+    requires needs { Needs subject.now (record {
+      recipe = entry.now.number;
+      file = slice_index_or (reads_of subject.now entry.now.number) place [];
+    }) }
+    requires first { GoesFirst subject.now
+        (slice_index_or (reads_of subject.now entry.now.number) place []) entry.now.number
+        path.now.nodes.items path.now.finish }
+    ensures ways { OnOk result (AddsOnce subject.now entry.now.number place ways.old ways.new) }
+    ensures seen { OnOk result (4 < length (reads_of subject.now entry.now.number) →
+        seen.new ≡ with_name seen.old
+        (slice_index_or (reads_of subject.now entry.now.number) place [])) }
+{
+    if is_read_before(subject, entry, place, seen)? {
+        return Ok(());
+    }
+    let file = subject.read(entry, place).file;
+    ways.push(subject, entry, file, path)
+}
+
+/// Adds which reads of a recipe are stale, and while nothing is found the entries for its reads.
+fn judge_reads(
+    alloc: Global,
+    subject: &Subject<'_>,
     ends: &Ends<'_>,
     search: &mut Search<'_>,
-    entry: &'s Entry<'_>,
+    entry: &Entry<'_>,
     found: &mut Vec<Finding>,
     ways: &mut Entries,
 ) -> Result<(), AllocError>
@@ -92,16 +130,12 @@ fn judge_reads<'s>(
         (reads_by subject.now entry.now.number) ways.old ways.new) }
 {
     once_keeps_first();
-    let reads = entry.reads();
-    let mut seen = seen_of(alloc, reads.len())?;
-    for place in 0..reads.len() {
+    let mut seen = NameSet::new(alloc);
+    for place in 0..subject.count_of_reads(entry.number) {
         let file = subject.read(entry, place);
         let path = judge_read(alloc, subject, ends, search, entry, &file, found)?;
-        if is_repeated(reads, place, &mut seen)? {
-            continue;
-        }
         if let Some(path) = path {
-            ways.push(subject, entry, file.file, &path)?;
+            push_once(subject, entry, place, &path, &mut seen, ways)?;
         }
     }
     Ok(())
@@ -129,7 +163,7 @@ fn judge_recipe(
     ensures ways { OnOk result (found.new.items ≡ [] → AddsEntries subject.now
         (reads_by subject.now entry.now.number) ways.old ways.new) }
 {
-    if entry.reads().is_empty() {
+    if subject.count_of_reads(entry.number) == 0 {
         return Ok(());
     }
     let mut search = Search::new(alloc, rows, entry.number)?;

@@ -6,6 +6,7 @@ mod first_path;
 mod found;
 mod judging;
 pub mod laws;
+mod repeats;
 mod stale;
 mod standing;
 

@@ -4,6 +4,7 @@
 
 mod disk;
 mod ending;
+mod heap;
 mod outcome;
 mod reading;
 mod source;
@@ -11,6 +12,7 @@ mod writing;
 
 pub use disk::Disk;
 pub use ending::{Ending, FAULT, Stop, conclude, end};
+pub use heap::keep_pages;
 pub use outcome::Outcome;
 pub use reading::slurp;
 pub use source::Source;

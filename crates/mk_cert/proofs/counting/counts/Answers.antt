@@ -2,7 +2,7 @@ use Rattle.std.proofs.Common.{◌≡◌, ◌∙◌, ℕ, List, ap, length, take,
 use Rattle.std.specs.Prelude.{filter, sum_by}
 use Rattle.std.proofs.lemmas.List.{take_all}
 use Rattle.mk_graph.specs.Graph.{node}
-use Rattle.mk_cert.specs.Entry.{Entry, entry_reads}
+use Rattle.mk_cert.specs.Entry.{Entry}
 use Rattle.mk_cert.specs.Subject.{reads_of}
 use Rattle.mk_cert.proofs.Counted.{recipes_counted, reads_counted}
 use Rattle.mk_cert.proofs.counting.counts.Goals as goal
@@ -19,4 +19,4 @@ returns-clause-reads c =
     let x = c.args.subject.now in
     let entries = c.entries-entry-items.result.now in
     let all : take c.loop-entry.entry-index entries ≡ entries = take_all c.loop-entry.entry-index entries (omega arith) in
-    c.loop-entry.invariant.reads ∙ (ap (λ (es : List Entry). sum_by (λ (e : Entry). length (entry_reads e)) es) all ∙ (reads_counted x entries c.entries-entry-items.ensures.right ∙ ap (λ (ns : List ℕ). sum_by (λ t. length (reads_of x t)) ns) c.entries-entry-items.ensures.in_order))
+    c.loop-entry.invariant.reads ∙ (ap (λ (es : List Entry). sum_by (λ (e : Entry). length (reads_of x e.number)) es) all ∙ (reads_counted x entries ∙ ap (λ (ns : List ℕ). sum_by (λ t. length (reads_of x t)) ns) c.entries-entry-items.ensures.in_order))

@@ -1,6 +1,7 @@
 use Rattle.std.proofs.Common.{◌≡◌, ◌*◌, ◌^◌, ◌≤◌, take, length}
 use Rattle.std.specs.Prelude.{filter, sum_by}
-use Rattle.mk_cert.specs.Entry.{Entry, entry_reads}
+use Rattle.mk_cert.specs.Entry.{Entry}
+use Rattle.mk_cert.specs.Subject.{reads_of}
 use Rattle.mk_cert.proofs.counting.counts.Given as goal
 
 -- the entries so far
@@ -8,6 +9,6 @@ abbrev pub invariant-loop-entry : goal.invariant-loop-entry
 invariant-loop-entry l = record {
   recipes : l.recipes ≡ length (filter (λ (e : Entry). e.node.recipe) (take l.entry-index l.entry-items));
   few : l.recipes ≤ l.entry-index;
-  reads : l.reads ≡ sum_by (λ (e : Entry). length (entry_reads e)) (take l.entry-index l.entry-items);
+  reads : l.reads ≡ sum_by (λ (e : Entry). length (reads_of l.subject e.number)) (take l.entry-index l.entry-items);
   small : l.reads ≤ l.entry-index * 2 ^ 64;
 }

@@ -3,8 +3,11 @@
 use Rattle.std.proofs.Common.{◌≡◌, ◌∙◌, ◌+◌, ◌≤◌, ◌++◌, ◌∷◌, [], ℕ, List, refl, ap, sym, subst, get_or, length, map, length-append, arith}
 use Rattle.std.specs.Borrow.{Bor}
 use Rattle.mk_graph.specs.declared.node.Node.{Node}
+use Rattle.mk_graph.specs.Graph.{Graph}
 use Rattle.mk_graph.specs.Setting as build
-use Rattle.mk_cert.specs.Known.{Known, StandAt, known_by}
+use Rattle.mk_foot.specs.Setting as foot
+use Rattle.mk_read.specs.Reading.{Makefile}
+use Rattle.mk_cert.specs.Known.{AreKnown, Known, StandAt, known_by}
 use Rattle.mk_cert.specs.Subject.{footprints}
 use Rattle.mk_cert.specs.Writers.{numbers_at}
 use Rattle.mk_cert.proofs.KnownFiles.{keys_more, spelled}
@@ -23,10 +26,31 @@ one_more names files rows new row listed n pushed many same here held = rows_pus
 longer : (rows new : List (List ℕ)) (row : List ℕ) (n m : ℕ) → new ≡ rows ++ row ∷ [] → length rows ≡ n → m ≡ n + 1 → length new ≡ m
 longer rows new row n m pushed many next = omega (arith, ap (λ (l : List (List ℕ)). length l) pushed, length-append rows (row ∷ []))
 
+-- what is known by a setting is known by one that is the same
+turned : (makefile : Makefile) (writers : List ℕ → List ℕ) (names : List (List ℕ)) (s other : foot.Setting) (keys : List (Bor (List ℕ))) (known : List Known) → s ≡ other → AreKnown (known_by makefile s writers names) keys known → AreKnown (known_by makefile other writers names) keys known
+turned makefile writers names s other keys known same h =
+    subst (λ (k : foot.Setting). AreKnown (known_by makefile k writers names) keys known) same h
+
+pub loop-number-init : goal.loop-number-init
+loop-number-init c =
+    let keys = c.places_of_nodes.new.files.keys in
+    record {
+      all = turned c.args.table.now (numbers_at c.args.writers.now) c.args.names.now c.setting.result.now c.args.records.now.setting keys c.places_of_nodes.new.known.items c.setting.ensures c.in_ok-nodes.ensures.all;
+      nodes = subst (λ (ns : List Node). StandAt (spelled keys) c.in_ok-nodes.nodes.items (map (λ (k : Node). k.name) ns)) (c.nodes.ensures.value ∙ ap (λ (h : Graph). h.nodes) c.graph-graph.ensures) c.in_ok-nodes.ensures.here;
+      many_written = ap (λ (l : List (List ℕ)). length l) c.in_ok-writes.ensures;
+      many_read = ap (λ (l : List (List ℕ)). length l) c.in_ok-reads.ensures;
+      written = λ t low. absurd (omega (arith, low, ap (λ (l : List (List ℕ)). length l) c.in_ok-writes.ensures));
+      read = λ t low. absurd (omega (arith, low, ap (λ (l : List (List ℕ)). length l) c.in_ok-reads.ensures));
+    }
+
+pub push_row-requires : goal.push_row-requires
+push_row-requires c =
+    turned c.args.table.now (numbers_at c.args.writers.now) c.args.names.now c.args.records.now.setting c.setting.result.now c.loop-number.files.keys c.loop-number.known.items (sym c.setting.ensures) c.loop-number.invariant.all
+
 pub loop-number-preserved : goal.loop-number-preserved
 loop-number-preserved c =
-    let g = c.args.graph.now in
-    let s = footprints c.args.setting.now in
+    let g = c.args.records.now.graph in
+    let s = footprints c.args.records.now.setting in
     let inv = c.loop-number.invariant in
     let n = c.loop-number.number in
     let keys = c.loop-number.files.keys in
@@ -39,7 +63,7 @@ loop-number-preserved c =
     let wrote = one_more (spelled middle) (build.writes g s) c.loop-number.writes c.push_row.new.rows row _ n pushed inv.many_written c.writes_of-written.ensures here (grown_rows keys rest middle (build.writes g s) c.loop-number.writes grown inv.written) in
     let read = grown_rows middle other last (build.reads g s) c.loop-number.reads further (grown_rows keys rest middle (build.reads g s) c.loop-number.reads grown inv.read) in
     record {
-      all = c.in_ok-push_row-2.ensures.all;
+      all = turned c.args.table.now (numbers_at c.args.writers.now) c.args.names.now c.setting.result.now c.args.records.now.setting last c.push_row-in-loop-number.new.known.items c.setting.ensures c.in_ok-push_row-2.ensures.all;
       nodes = keys_more middle other last c.in_ok-nodes.nodes.items (map (λ (k : Node). k.name) g.nodes) further (keys_more keys rest middle c.in_ok-nodes.nodes.items (map (λ (k : Node). k.name) g.nodes) grown inv.nodes);
       many_written = longer c.loop-number.writes c.push_row.new.rows row n _ pushed inv.many_written (omega arith);
       many_read = longer c.loop-number.reads c.push_row-in-loop-number.new.rows second n _ appended inv.many_read (omega arith);
@@ -49,12 +73,12 @@ loop-number-preserved c =
 
 pub returns : goal.returns
 returns c =
-    let g = c.args.graph.now in
-    let s = footprints c.args.setting.now in
+    let g = c.args.records.now.graph in
+    let s = footprints c.args.records.now.setting in
     let inv = c.loop-number.invariant in
     let keys = c.loop-number.files.keys in
-    let by : List ℕ → Known = known_by c.args.table.now c.args.setting.now (numbers_at c.args.writers.now) c.args.names.now in
-    let many : length g.nodes ≤ c.loop-number.number = omega (arith, c.loop-number-test.false, ap (λ (l : List Node). length l) c.nodes-count.ensures.value) in
+    let by : List ℕ → Known = known_by c.args.table.now c.args.records.now.setting (numbers_at c.args.writers.now) c.args.names.now in
+    let many : length g.nodes ≤ c.loop-number.number = omega (arith, c.loop-number-test.false, ap (λ (l : List Node). length l) c.nodes-count.ensures.value, ap (λ (h : Graph). length h.nodes) c.graph-graph.ensures) in
     record {
       known_held = inv.all ∙ spelled_map by keys;
       nodes_held = inv.nodes;

@@ -11,10 +11,10 @@ use Rattle.mk_cert.proofs.files.files_of.Given as goal
 -- the nodes so far have the places of what they write and read
 abbrev pub invariant-loop-number : goal.invariant-loop-number
 invariant-loop-number l = record {
-  all : l.known.items ≡ map (λ f. known_by l.table l.setting (numbers_at l.writers) l.names f.now) l.files.keys;
-  nodes : StandAt (spelled l.files.keys) l.nodes.items (map (λ (n : Node). n.name) l.graph.nodes);
+  all : l.known.items ≡ map (λ f. known_by l.table l.records.setting (numbers_at l.writers) l.names f.now) l.files.keys;
+  nodes : StandAt (spelled l.files.keys) l.nodes.items (map (λ (n : Node). n.name) l.records.graph.nodes);
   many_written : length l.writes ≡ l.number;
   many_read : length l.reads ≡ l.number;
-  written : RowsHold (λ (t : ℕ) (row : List ℕ). StandAt (spelled l.files.keys) row (build.writes l.graph (footprints l.setting) t)) l.writes [];
-  read : RowsHold (λ (t : ℕ) (row : List ℕ). StandAt (spelled l.files.keys) row (build.reads l.graph (footprints l.setting) t)) l.reads [];
+  written : RowsHold (λ (t : ℕ) (row : List ℕ). StandAt (spelled l.files.keys) row (build.writes l.records.graph (footprints l.records.setting) t)) l.writes [];
+  read : RowsHold (λ (t : ℕ) (row : List ℕ). StandAt (spelled l.files.keys) row (build.reads l.records.graph (footprints l.records.setting) t)) l.reads [];
 }

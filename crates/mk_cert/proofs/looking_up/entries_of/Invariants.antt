@@ -5,4 +5,4 @@ use Rattle.mk_cert.proofs.looking_up.entries_of.Given as goal
 
 -- the nodes so far
 abbrev pub invariant-loop-place : goal.invariant-loop-place
-invariant-loop-place l = AreEntriesOf (subject_of l.choices.makefile l.choices.exists l.graph l.setting) (take l.place l.order) l.entries.items
+invariant-loop-place l = AreEntriesOf (subject_of l.choices.makefile l.choices.exists l.records.graph l.records.setting) (take l.place l.order) l.entries.items

@@ -7,4 +7,4 @@ use Rattle.mk_cert.proofs.looking_up.writes_among.Given as goal
 
 -- what the nodes so far write
 abbrev pub invariant-loop-number : goal.invariant-loop-number
-invariant-loop-number l = map string_bytes l.names.items ≡ flat_map (build.writes l.graph (footprints l.setting)) (take l.number-index l.order)
+invariant-loop-number l = map string_bytes l.names.items ≡ flat_map (build.writes l.records.graph (footprints l.records.setting)) (take l.number-index l.order)

@@ -11,12 +11,12 @@ use Rattle.mk_cert.proofs.looking_up.writes_are_there.Goals as goal
 pub loop-number-preserved : goal.loop-number-preserved
 loop-number-preserved c =
     let order = c.args.order.now in
-    let writes = build.writes c.args.graph.now (footprints c.args.setting.now) in
+    let writes = build.writes c.args.records.now.graph (footprints c.args.records.now.setting) in
     in_lists (λ (f : List ℕ). is_there c.args.table.now c.args.there.now f ≡ true) writes order c.loop-number.number-index 0 c.loop-number-test.true
     (λ f h. c.are_there.ensures c.if-not-are_there.false f (subst (λ (l : List (List ℕ)). Has l f) (sym c.writes_of.ensures) h))
     c.loop-number.invariant
 
 pub returns : goal.returns
 returns c = λ t f h.
-    let writes = build.writes c.args.graph.now (footprints c.args.setting.now) in
+    let writes = build.writes c.args.records.now.graph (footprints c.args.records.now.setting) in
     c.loop-number.invariant f (subst (λ (ns : List ℕ). Has (flat_map writes ns) f) (sym (take_all c.loop-number.number-index c.args.order.now c.loop-number-test.false)) h)

@@ -8,4 +8,4 @@ use Rattle.mk_cert.proofs.looking_up.writes_are_there.Given as goal
 
 -- what the nodes so far write is there
 abbrev pub invariant-loop-number : goal.invariant-loop-number
-invariant-loop-number l = (f : List ℕ) → Has (flat_map (build.writes l.graph (footprints l.setting)) (take l.number-index l.order)) f → is_there l.table l.there f ≡ true
+invariant-loop-number l = (f : List ℕ) → Has (flat_map (build.writes l.records.graph (footprints l.records.setting)) (take l.number-index l.order)) f → is_there l.table l.there f ≡ true

@@ -5,6 +5,7 @@ use Rattle.mk_lines.specs.Names.{has_name}
 use Rattle.mk_graph.specs.declared.node.Node.{Node}
 use Rattle.mk_graph.specs.Membership.{Has}
 use Rattle.mk_graph.specs.Setting as build
+use Rattle.mk_cert.specs.Records.{Recorded}
 use Rattle.mk_cert.specs.Subject.{footprints}
 use Rattle.mk_cert.proofs.Decided.{has_decides}
 use Rattle.mk_cert.proofs.Past.{past_reads}
@@ -16,11 +17,11 @@ loop-number-preserved c =
     let g = c.args.graph.now in
     let s = footprints c.args.setting.now in
     let rows = c.loop-number.lists.items in
-    let row = c.new.result in
+    let row = c.new-in-loop-number.result in
     let pushed = c.in_ok-push.ensures.items in
-    let files : map string_bytes c.reads_of.result.now ≡ build.reads g s c.loop-number.number = c.reads_of.ensures in
+    let files : map string_bytes c.reads_of.result.now ≡ build.reads g s c.loop-number.number = c.reads_of.ensures ∙ ap (λ (r : Recorded). build.reads r.graph (footprints r.setting) c.loop-number.number) c.in_ok-records.ensures in
     let here : (f : List ℕ) → (has_name row f ≡ true) ↔ Has (build.reads g s c.loop-number.number) f =
-    λ f. let same : has_name row f ≡ has_name (build.reads g s c.loop-number.number) f = ap (λ (fs : List (List ℕ)). has_name fs f) c.new.ensures ∙ ap (λ (fs : List (List ℕ)). has_name fs f) files in
+    λ f. let same : has_name row f ≡ has_name (build.reads g s c.loop-number.number) f = ap (λ (fs : List (List ℕ)). has_name fs f) c.new-in-loop-number.ensures ∙ ap (λ (fs : List (List ℕ)). has_name fs f) files in
     let decides = has_decides (build.reads g s c.loop-number.number) f in
     ((λ t. decides.0 (sym same ∙ t)), (λ h. same ∙ decides.1 h)) in
     record {

@@ -67,10 +67,10 @@ loop-place-preserved-then-branch c =
     let after : take (i + 1) files ≡ before ++ f ∷ [] = take_more files i [] low ∙ ap (λ (g : List ℕ). before ++ g ∷ []) is in
     let inv = c.loop-place.invariant in
     let added = c.in_ok-path.ensures.found in
-    let has = stands x t i f (map string_bytes c.reads-reads.result.now) true _ (c.reads-reads.ensures ∙ same_reads x e c.requires.entry) is c.in_ok-is_repeated.ensures.repeated c.if-branch.true in (
+    let has = stands x t i f (map string_bytes c.reads-reads.result.now) true _ (c.reads-reads.ensures ∙ same_reads x e c.requires.entry) is c.in_ok-is_read_before.ensures.repeated c.if-branch.true in (
       c.in_ok-path.ensures.same ∙ inv.0,
       leads_map x (λ g. stale t g) files i [] _ c.loop-place.found.items c.judge_read.new.found.items c.args.found.now.items low inv.1 (subst (λ (g : List ℕ). Adds x (stale t g ∷ []) c.loop-place.found.items c.judge_read.new.found.items) (sym is) added),
-      c.in_ok-is_repeated.ensures.seen,
+      c.in_ok-is_read_before.ensures.seen,
       λ none. subst (λ (l : List (List ℕ)). AddsEntries x (reads_of_files t l) c.args.ways.now c.loop-place.ways) (sym (once_same c.once_keeps_first.ensures before f (once before) refl ((c.once_keeps_first.ensures before).same f ∙ has)) ∙ ap once (sym after)) (inv.3 (nothing_before x (stale t f ∷ []) c.loop-place.found.items c.judge_read.new.found.items added none)),
     )
 
@@ -88,7 +88,7 @@ loop-place-preserved c =
     let after : take (i + 1) files ≡ before ++ f ∷ [] = take_more files i [] low ∙ ap (λ (g : List ℕ). before ++ g ∷ []) is in
     let inv = c.loop-place.invariant in
     let added = c.in_ok-path.ensures.found in
-    let lacks = stands x t i f (map string_bytes c.reads-reads.result.now) false _ (c.reads-reads.ensures ∙ same_reads x e c.requires.entry) is c.in_ok-is_repeated.ensures.repeated c.if-branch.false in
+    let lacks = stands x t i f (map string_bytes c.reads-reads.result.now) false _ (c.reads-reads.ensures ∙ same_reads x e c.requires.entry) is c.in_ok-is_read_before.ensures.repeated c.if-branch.false in
     let old = c.loop-place.ways in
     let r : Read = record { recipe = t; file = f } in
     let told = λ (o : Option FirstPath). MatchOption o (c.judge_read.new.found.items ≡ [] → ¬ (Needs x r)) (λ path. Needs x r × GoesFirst x f t path.nodes.items path.finish) in
@@ -100,7 +100,7 @@ loop-place-preserved c =
     let reads : reads_of_files t (once before) ++ record { recipe = t; file = f } ∷ [] ≡ reads_of_files t (once (take (i + 1) files)) = sym (map_push (λ g. record { recipe = t; file = g }) (once before) f) ∙ ap (reads_of_files t) (sym (once_new c.once_keeps_first.ensures before f (once before) refl ((c.once_keeps_first.ensures before).same f ∙ lacks)) ∙ ap once (sym after)) in (
       c.in_ok-path.ensures.same ∙ inv.0,
       leads_map x (λ g. stale t g) files i [] _ c.loop-place.found.items c.judge_read.new.found.items c.args.found.now.items low inv.1 (subst (λ (g : List ℕ). Adds x (stale t g ∷ []) c.loop-place.found.items c.judge_read.new.found.items) (sym is) added),
-      c.in_ok-is_repeated.ensures.seen,
+      c.in_ok-is_read_before.ensures.seen,
       λ none. subst (λ (l : List Read). AddsEntries x l c.args.ways.now c.match-path-3.ways) reads (adds_more_entries x (reads_of_files t (once before)) (record { recipe = t; file = f } ∷ []) c.args.ways.now old c.match-path-3.ways (inv.3 (nothing_before x (stale t f ∷ []) c.loop-place.found.items c.judge_read.new.found.items added none)) (step none)),
     )
 

@@ -1,0 +1,18 @@
+-- The records of the nodes of a graph.
+use Rattle.std.specs.Prelude.{List, map, Option}
+use Rattle.mk_graph.specs.declared.node.Node.{Node}
+use Rattle.mk_graph.specs.Graph.{Graph}
+use Rattle.mk_foot.specs.Book.{Record}
+use Rattle.mk_foot.specs.Setting as foot
+
+-- a graph, and what was recorded
+pub record Recorded : Type 0 where
+  pub graph : Graph
+  pub setting : foot.Setting
+
+abbrev pub recorded_of : Graph → foot.Setting → Recorded
+recorded_of g s = record { graph = g; setting = s }
+
+-- the record of each node, at its number
+abbrev pub records_for : Graph → foot.Setting → List (Option Record)
+records_for g s = map (λ (n : Node). foot.record_for s.records n.name) g.nodes
