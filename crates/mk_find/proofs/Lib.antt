@@ -9,4 +9,4 @@ pub mod Accepted
 pub mod Trying
 pub mod Noting
 pub mod AddingEntries
-pub mod Repeats
+pub mod ReadBefore

@@ -1,6 +1,5 @@
 -- The search is the one that begins at the recipe.
-use Rattle.std.proofs.Common.{◌≡◌, ◌∙◌, ℕ, List, [], ap, sym, subst, length, map}
-use Rattle.std.proofs.lemmas.Bool.{eqb-true}
+use Rattle.std.proofs.Common.{arith, ◌≡◌, ◌∙◌, ℕ, List, [], ap, sym, subst, length, map}
 use Rattle.std.proofs.lemmas.List.{nil_from_length}
 use Rattle.mk_lines.specs.Names.{once}
 use Rattle.mk_search.specs.Places.{Task}
@@ -13,7 +12,6 @@ use Rattle.mk_cert.specs.Subject.{reads_of}
 use Rattle.mk_find.specs.Certifying.{AddsEntries}
 use Rattle.mk_find.proofs.Adding.{adds_nothing}
 use Rattle.mk_find.proofs.AddingEntries.{adds_no_entries, reads_of_files}
-use Rattle.mk_find.proofs.Noting.{count_is}
 use Rattle.mk_find.proofs.judging.judge_recipe.Goals as goal
 
 pub judge_reads-requires-clause-rows : goal.judge_reads-requires-clause-rows
@@ -24,18 +22,18 @@ pub judge_reads-requires-clause-start : goal.judge_reads-requires-clause-start
 judge_reads-requires-clause-start c =
     ap (λ (task : Task). task.start) c.in_ok-search.ensures ∙ ap (λ (k : Entry). k.number) c.entry.view_is
 
-pub returns-then-is_empty-clause-found : goal.returns-then-is_empty-clause-found
-returns-then-is_empty-clause-found c =
+pub returns-then-count_of_reads-eq0-clause-found : goal.returns-then-count_of_reads-eq0-clause-found
+returns-then-count_of_reads-eq0-clause-found c =
     let x = c.args.subject.now in
     let t = c.args.entry.now.number in
-    let few : length c.reads.result.now ≡ 0 = eqb-true (length c.reads.result.now) 0 (sym c.if-is_empty.ensures) in
-    let none : reads_of x t ≡ [] = nil_from_length (reads_of x t) (sym (count_is x c.args.entry.now c.reads.result.now c.requires.entry c.reads.ensures) ∙ few) in
+    let few : length (reads_of x c.entry.inside.number) ≡ 0 = omega (arith, c.count_of_reads.ensures, c.if-count_of_reads-eq0.true) in
+    let none : reads_of x t ≡ [] = nil_from_length (reads_of x t) (ap (λ (k : Entry). length (reads_of x k.number)) (sym c.entry.view_is) ∙ few) in
     subst (λ (fs : List (List ℕ)). Adds x (map (λ f. stale t f) fs) c.args.found.now.items c.args.found.now.items) (sym none) (adds_nothing x c.args.found.now.items)
 
-pub returns-then-is_empty-clause-ways : goal.returns-then-is_empty-clause-ways
-returns-then-is_empty-clause-ways c = λ nothing.
+pub returns-then-count_of_reads-eq0-clause-ways : goal.returns-then-count_of_reads-eq0-clause-ways
+returns-then-count_of_reads-eq0-clause-ways c = λ nothing.
     let x = c.args.subject.now in
     let t = c.args.entry.now.number in
-    let few : length c.reads.result.now ≡ 0 = eqb-true (length c.reads.result.now) 0 (sym c.if-is_empty.ensures) in
-    let none : reads_of x t ≡ [] = nil_from_length (reads_of x t) (sym (count_is x c.args.entry.now c.reads.result.now c.requires.entry c.reads.ensures) ∙ few) in
+    let few : length (reads_of x c.entry.inside.number) ≡ 0 = omega (arith, c.count_of_reads.ensures, c.if-count_of_reads-eq0.true) in
+    let none : reads_of x t ≡ [] = nil_from_length (reads_of x t) (ap (λ (k : Entry). length (reads_of x k.number)) (sym c.entry.view_is) ∙ few) in
     subst (λ (fs : List (List ℕ)). AddsEntries x (reads_of_files t (once fs)) c.args.ways.now c.args.ways.now) (sym none) (adds_no_entries x c.args.ways.now)
