@@ -17,13 +17,17 @@ from functools import wraps
 from pathlib import Path
 
 from generate import gather
-from run import DATA, RUNS, Tool, asked
+from run import DATA, Tool, asked
 from spending import Measure, in_turns, least, spent
 
 # What is to be reached. The table shows it; no figure makes the run fail.
 RATIO_BOUND = 1.00
 GROWTH_BOUND = 2.3
 MEMORY_BOUND = 10.0
+
+# How often each tool runs. Where a machine shares its processors, a longer run is less often left alone than a shorter
+# one, so that with few runs every growth looks larger than it is.
+RUNS = 31
 
 # From this many megabytes on, the time is held against the answer.
 LARGE = 2

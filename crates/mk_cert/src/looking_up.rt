@@ -252,7 +252,8 @@ fn writes_are_there(
 ) -> bool
     requires { All (λ n. n < length records.now.graph.nodes) order.now }
     ensures { result ≡ true → (f : List ℕ) →
-        Has (flat_map (build.writes records.now.graph (footprints records.now.setting)) order.now) f →
+        Has (flat_map (build.writes records.now.graph (footprints records.now.setting))
+        order.now) f →
         is_there table.now there.now f ≡ true }
 {
     for number in order {
