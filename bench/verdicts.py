@@ -25,8 +25,8 @@ RATIO_BOUND = 1.00
 GROWTH_BOUND = 2.3
 MEMORY_BOUND = 10.0
 
-# How often each tool runs. Where a machine shares its processors, a longer run is less often left alone than a shorter
-# one, so that with few runs every growth looks larger than it is.
+# How often each tool runs. Where a machine shares its processors, a longer run may be left alone less often than a
+# shorter one, so that growths of few runs look larger than they are.
 RUNS = 31
 
 # From this many megabytes on, the time is held against the answer.
