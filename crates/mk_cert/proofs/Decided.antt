@@ -1,6 +1,7 @@
 -- What is tested of nodes decides what is found.
 use Rattle.std.proofs.Common.{◌≡◌, ℕ, List, [], ◌∷◌, length, map, Bool, true, false, cond, Option, None, Some, Ok, refl, sym, ap, subst, ◌∙◌, inl, inr, ⊎_elim}
 use Rattle.std.specs.Prelude.{not, option_to_list, is_some, is_none, bytes_eq, ◌&&◌, ◌||◌}
+use Rattle.std.specs.Option.{option_map}
 use Rattle.std.proofs.lemmas.Bool.{true≢false, cases_Bool}
 use Rattle.std.proofs.lemmas.Slice.Eq.{bytes_eq-Decides}
 use Rattle.mk_lines.specs.Names.{has_name}
@@ -13,7 +14,7 @@ use Rattle.mk_cert.specs.Conditions.{HasNoRecord, HasOtherCommands, HasVaryingCo
 use Rattle.mk_cert.specs.Candidates.{selection, choice_with_writes}
 use Rattle.mk_cert.specs.Listed.{Adds}
 use Rattle.mk_cert.specs.declared.finding.Finding.{Finding}
-use Rattle.mk_cert.specs.Entry.{Entry, IsEntry, has_others, is_unwritten, lines_eq, writes_in}
+use Rattle.mk_cert.specs.Entry.{Entry, IsEntry, has_others, is_unwritten, lines_eq, lines_with, writes_in}
 use Rattle.mk_cert.specs.Tests.{lacks_record, has_varying, has_other_commands}
 use Rattle.mk_cert.proofs.Entries.{same_writes}
 
@@ -145,6 +146,23 @@ no_other_commands x e is f (recipe, r, recorded, c, told, steady, differ) =
     let k : c ≡ e.commands = cc in
     let other : e.others ≡ true = is.same_others ∙ (ap (λ (o : Option Record). has_others o e.commands.lines) (is.same_record ∙ recorded) ∙ others_from r e.commands.lines (λ h. differ (h ∙ ap (λ (d : Commands). d.lines) (sym k)))) in
     true≢false (sym (both_and e.node.recipe _ (ap (λ (n : Node). n.recipe) is.same_node ∙ recipe) (both_and (not e.commands.varying) _ (ap (λ (d : Commands). not d.varying) (sym k) ∙ ap (λ b. not b) steady) other)) ∙ f)
+
+not_false : (b : Bool) → not b ≡ false → b ≡ true
+not_false true e = refl
+not_false false e = absurd (let f : true ≡ false = e in cc)
+
+-- where a record has no others, its lines are these
+recorded_lines : (recorded : Option Record) (lines own : List (List ℕ)) → is_some recorded ≡ true → has_others recorded lines ≡ false → lines_with recorded false own ≡ lines
+recorded_lines None lines own some same = absurd (let f : false ≡ true = some in cc)
+recorded_lines (Some r) lines own some same = lines_same r.commands lines (not_false (lines_eq r.commands lines) same)
+
+pub some_mapped : {A B : Type 0} (f : A → B) (o : Option A) → is_some o ≡ true → is_some (option_map f o) ≡ true
+some_mapped f None e = absurd (let g : false ≡ true = e in cc)
+some_mapped f (Some a) e = refl
+
+pub lines_recorded : (recorded : Option Record) (others : Bool) (lines own : List (List ℕ)) → is_some recorded ≡ true → others ≡ false → others ≡ has_others recorded lines → lines_with recorded others own ≡ lines
+lines_recorded recorded others lines own some none same =
+    ap (λ (b : Bool). lines_with recorded b own) none ∙ recorded_lines recorded lines own some (sym same ∙ none)
 
 -- lists of different lengths differ
 pub lines_differ : (xs ys : List (List ℕ)) → ¬ (length xs ≡ length ys) → false ≡ lines_eq xs ys

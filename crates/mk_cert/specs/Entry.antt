@@ -25,6 +25,11 @@ abbrev pub has_others : Option Record → List (List ℕ) → Bool
 has_others None lines = false
 has_others (Some r) lines = not (lines_eq r.commands lines)
 
+-- the lines of a record, if there is one that has no others than a node's, else these
+abbrev pub lines_with : Option Record → Bool → List (List ℕ) → List (List ℕ)
+lines_with None others own = own
+lines_with (Some r) others own = if others then own else r.commands
+
 -- the files of a record, if there is one
 abbrev pub reads_in : Option Record → List (List ℕ)
 reads_in None = []

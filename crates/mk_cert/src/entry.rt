@@ -3,11 +3,10 @@
 ghost use Rattle.std.specs.Prelude.{◌≡◌, map, IfOk};
 ghost use Rattle.std.specs.Option.{option_copied};
 ghost use Rattle.std.specs.String.{string_bytes};
-ghost use Rattle.mk_cert.specs.Entry.{reads_in, writes_in, entry_reads, entry_writes, has_others, is_unwritten, lines_eq};
+ghost use Rattle.mk_cert.specs.Entry.{reads_in, writes_in, entry_reads, entry_writes, has_others, is_unwritten, lines_eq, lines_with};
 
 use crate::finding::Finding;
 use crate::shared_name::SharedName;
-use mk_choice::Commands;
 use mk_foot::{Record, has_among};
 use mk_graph::Node;
 use mk_lines::Name;
@@ -23,8 +22,10 @@ pub struct Entry<'a> {
     pub node: &'a Node,
     /// Its record, if it has one.
     pub recorded: Option<&'a Record>,
-    /// Its commands, expanded.
-    pub commands: Commands,
+    /// Its commands, expanded, unless its record has the same ones.
+    pub own: Vec<Vec<u8>>,
+    /// Whether its commands vary from make to make.
+    pub varying: bool,
     /// Whether its record, if it has one, has other commands.
     pub others: bool,
     /// Whether its recipe has a record, isn't phony, and doesn't write its target.
@@ -36,6 +37,7 @@ pub struct Entry<'a> {
 }
 
 impl<'a> Model for Entry<'a> {
+    ghost use Rattle.std.specs.Prelude.{map};
     ghost use Rattle.std.specs.Option.{option_copied};
     ghost use Rattle.mk_cert.specs.Entry as value;
 
@@ -46,7 +48,11 @@ impl<'a> Model for Entry<'a> {
           number = e.number;
           node = e.node.now;
           recorded = option_copied e.recorded;
-          commands = e.commands;
+          commands = record {
+            lines = value.lines_with (option_copied e.recorded) e.others
+                (map (λ line. line.items) e.own.items);
+            varying = e.varying;
+          };
           others = e.others;
           unwritten = e.unwritten;
           chosen = e.chosen;
@@ -99,6 +105,24 @@ pub fn has_others(recorded: Option<&Record>, lines: &[Vec<u8>]) -> bool
         Some(recorded) => !are_lines(&recorded.commands, lines),
         None => false,
     }
+}
+
+/// The lines that a node keeps of its commands: none where its record has the same ones.
+pub fn kept_lines(
+    alloc: Global,
+    recorded: Option<&Record>,
+    others: bool,
+    lines: Vec<Vec<u8>>,
+) -> Vec<Vec<u8>>
+    requires { others ≡
+        has_others (option_copied recorded) (map (λ line. line.items) lines.items) }
+    ensures { lines_with (option_copied recorded.entry) others
+        (map (λ line. line.items) result.items) ≡ map (λ line. line.items) lines.items }
+{
+    if recorded.is_some() && !others {
+        return Vec::new(alloc);
+    }
+    lines
 }
 
 /// Whether a recipe has a record, isn't phony, and doesn't write its target.

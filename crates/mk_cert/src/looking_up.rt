@@ -16,7 +16,7 @@ ghost use Rattle.mk_infer.specs.declared.fault.InferFault.TheVariants.{Memory};
 ghost use Rattle.mk_cert.specs.Subject.{footprints, commands_of, subject_of};
 ghost use Rattle.mk_cert.specs.Entry.{IsEntry, AreEntries, AreEntriesOf, IsFaultOf, IsFirstFault, StaysChosen, choice_after};
 
-use crate::entry::{Entry, has_others, is_unwritten};
+use crate::entry::{Entry, has_others, is_unwritten, kept_lines};
 use crate::records::Records;
 use mk_choice::{Choices, Made, choice, choice_and_commands};
 use mk_graph::Graph;
@@ -173,13 +173,15 @@ fn entry_of<'a>(
         None => copy_of(&chosen)?,
     };
     let recorded = records.at(number);
+    let others = has_others(recorded, &commands.lines);
     Ok(Entry {
         number,
         node,
         recorded,
-        others: has_others(recorded, &commands.lines),
+        own: kept_lines(alloc, recorded, others, commands.lines),
+        varying: commands.varying,
+        others,
         unwritten: is_unwritten(node, recorded),
-        commands,
         chosen,
         chosen_after,
     })

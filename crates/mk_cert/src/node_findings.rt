@@ -36,7 +36,7 @@ pub fn note_no_record(entry: &Entry<'_>, found: &mut Vec<Finding>) -> Result<(),
 fn has_varying(entry: &Entry<'_>) -> bool
     ensures { result ≡ has_varying entry.now }
 {
-    entry.commands.varying && entry.node.recipe
+    entry.varying && entry.node.recipe
 }
 
 /// Adds that the commands of the recipe of a node vary, if they do.
@@ -69,7 +69,7 @@ pub fn note_no_target(entry: &Entry<'_>, found: &mut Vec<Finding>) -> Result<(),
 fn has_other_commands(entry: &Entry<'_>) -> bool
     ensures { result ≡ has_other_commands entry.now }
 {
-    entry.others && entry.node.recipe && !entry.commands.varying
+    entry.others && entry.node.recipe && !entry.varying
 }
 
 /// Adds that the record of a node has other commands than its recipe, if it has.

@@ -223,7 +223,7 @@ impl<'a> Subject<'a> {
     }
 
     /// How many files the recipe of a node reads that aren't settled. It takes no memory.
-    pub(crate) fn count_of_unsettled(&self, number: usize) -> usize
+    pub fn count_of_unsettled(&self, number: usize) -> usize
         ensures { result ≡ length (unsettled_of self.now number) }
     {
         self.tables.unsettled.at(number).len()

@@ -79,14 +79,14 @@ fn name_all(
 }
 
 impl Entries {
-    /// No entries.
-    pub fn new(alloc: Global) -> Entries
-        ensures { result ≡ [] }
+    /// No entries, with room for so many.
+    pub fn with_capacity(alloc: Global, entries: usize) -> Result<Entries, AllocError>
+        ensures { IfOk result (λ entries. entries ≡ []) }
     {
-        Entries {
-            ways: Ways::new(alloc),
+        Ok(Entries {
+            ways: Ways::with_capacity(alloc, entries)?,
             path: PackedNames::new(alloc),
-        }
+        })
     }
 
     /// The entries.

@@ -170,6 +170,15 @@ fn judge_recipe(
     judge_reads(alloc, subject, ends, &mut search, entry, found, ways)
 }
 
+/// How many reads recipes have of files that aren't settled: there are no more entries.
+fn count_of_unsettled(subject: &Subject<'_>) -> usize {
+    let mut reads = 0usize;
+    for entry in subject.entries() {
+        reads = reads.saturating_add(subject.count_of_unsettled(entry.number));
+    }
+    reads
+}
+
 /// Adds which reads are stale, where nothing is found without a search. What it gives are the
 /// entries for all reads, if nothing is found even then. Each recipe is searched from once.
 pub(crate) fn judge_all(
@@ -186,7 +195,7 @@ pub(crate) fn judge_all(
     let ends = ends_of(alloc, subject)?;
     let rows = carried_lists(alloc, subject)?;
     let entries = subject.entries();
-    let mut ways = Entries::new(alloc);
+    let mut ways = Entries::with_capacity(alloc, count_of_unsettled(subject))?;
     for entry in entries {
         judge_recipe(alloc, subject, &ends, &rows, entry, found, &mut ways)?;
     }

@@ -297,30 +297,26 @@ fn counts(suffixes: &SuffixList, rule: &Rule) -> bool
     !rule.default || has_inference_name(suffixes.as_slice(), &rule.targets)
 }
 
-/// The rule lines that count.
-fn counted(alloc: Global, suffixes: &SuffixList, rules: Vec<Rule>) -> Result<Vec<Rule>, AllocError>
-    ensures { IfOk result (λ kept. kept.items ≡ filter (counts suffixes.now) rules.items) }
+/// The rule lines that count, in the place of all.
+fn counted(suffixes: &SuffixList, rules: Vec<Rule>) -> Vec<Rule>
+    ensures { result.items ≡ filter (counts suffixes.now) rules.items }
 {
-    let mut kept = Vec::new(alloc);
-    for rule in rules {
-        if counts(suffixes, &rule) {
-            kept.push(rule)?;
-        }
-    }
-    Ok(kept)
+    let mut kept = rules;
+    kept.retain(|rule| counts(suffixes, rule));
+    kept
 }
 
 /// The rule lines that were read and count.
-fn rules_of(alloc: Global, suffixes: &SuffixList, lines: RuleLines) -> Result<Vec<Rule>, AllocError>
+fn rules_of(suffixes: &SuffixList, lines: RuleLines) -> Result<Vec<Rule>, AllocError>
     ensures { IfOk result (λ kept. kept.items ≡ filter (counts suffixes.now) (rules_of lines)) }
 {
     let RuleLines { earlier, owner, .. } = lines;
     let all = with_last(earlier, owner)?;
-    counted(alloc, suffixes, all)
+    Ok(counted(suffixes, all))
 }
 
 /// What the makefile says, once all is read.
-fn makefile_of(alloc: Global, state: State) -> Result<Makefile, AllocError>
+fn makefile_of(state: State) -> Result<Makefile, AllocError>
     ensures { IfOk result (λ makefile. makefile ≡ makefile_of state) }
 {
     let State {
@@ -332,7 +328,7 @@ fn makefile_of(alloc: Global, state: State) -> Result<Makefile, AllocError>
         texts,
         missing,
     } = state;
-    let rules = rules_of(alloc, &suffixes, lines)?;
+    let rules = rules_of(&suffixes, lines)?;
     Ok(Makefile::new(rules, suffixes, phony, not_parallel, macros, texts, missing))
 }
 
@@ -403,7 +399,7 @@ pub fn read_makefile<F: Files>(
 {
     let mut state = State::new(alloc);
     match read_all(alloc, files, name, defaults, operands, &mut state) {
-        Ok(()) => Ok(makefile_of(alloc, state)?),
+        Ok(()) => Ok(makefile_of(state)?),
         Err(fault) => Err(answered(fault)),
     }
 }

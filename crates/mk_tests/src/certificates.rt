@@ -260,7 +260,7 @@ fn written(alloc: Global, goals: PackedNames, ways: Ways) -> Result<String, Allo
 
 /// That of the certificate of three ways.
 fn three_written(alloc: Global) -> Result<String, AllocError> {
-    let mut ways = Ways::new(alloc);
+    let mut ways = Ways::with_capacity(alloc, 3)?;
     add_three(alloc, &mut ways)?;
     written(alloc, names(alloc, "p")?, ways)
 }

@@ -1,6 +1,6 @@
 //! Lists of ways.
 
-ghost use Rattle.std.specs.Prelude.{◌≡◌, ◌==◌, ◌<◌, ◌∷◌, ◌++◌, [], List, ℕ, length, slice_index_or, OnErr, OnOk};
+ghost use Rattle.std.specs.Prelude.{◌≡◌, ◌==◌, ◌<◌, ◌∷◌, ◌++◌, [], List, ℕ, length, slice_index_or, IfOk, OnErr, OnOk};
 
 use crate::certificate::{Finish, Way};
 use crate::packed_names::PackedNames;
@@ -63,6 +63,18 @@ impl Ways {
             names: PackedNames::new(alloc),
             places: Vec::new(alloc),
         }
+    }
+
+    /// No ways, with room for so many whose paths have two recipes, by names of eight bytes. The
+    /// error is want of memory alone.
+    pub fn with_capacity(alloc: Global, ways: usize) -> Result<Ways, AllocError>
+        ensures { IfOk result (λ ways. ways ≡ []) }
+    {
+        let names = ways.saturating_mul(4);
+        Ok(Ways {
+            names: PackedNames::with_capacity(alloc, names, names.saturating_mul(8))?,
+            places: Vec::with_capacity(alloc, ways)?,
+        })
     }
 
     /// Adds a way at the end. The error is want of memory alone.
