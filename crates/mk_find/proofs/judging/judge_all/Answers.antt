@@ -19,7 +19,7 @@ use Rattle.mk_find.proofs.judging.judge_all.Goals as goal
 pub loop-entry-init : goal.loop-entry-init
 loop-entry-init c =
     let x = c.args.subject.now in
-    (λ last h. subst (λ (ns : List ℕ). Adds x (flat_map (λ t. map (λ f. stale t f) (reads_of x t)) ns) c.args.found.now.items last) c.entries-entries.ensures.in_order h, λ none. subst (λ (l : List Way). AddsEntries x [] [] l) (sym c.new-ways.ensures) (adds_no_entries x []))
+    (λ last h. subst (λ (ns : List ℕ). Adds x (flat_map (λ t. map (λ f. stale t f) (reads_of x t)) ns) c.args.found.now.items last) c.entries-entries.ensures.in_order h, λ none. subst (λ (l : List Way). AddsEntries x [] [] l) (sym c.in_ok-ways.ensures) (adds_no_entries x []))
 
 pub judge_recipe-requires-clause-entry : goal.judge_recipe-requires-clause-entry
 judge_recipe-requires-clause-entry c =
