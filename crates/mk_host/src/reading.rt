@@ -14,6 +14,10 @@ const MAX_FILE: usize = 16_777_216;
 
 const CHUNK: usize = 65_536;
 
+/// The room that a text begins with. What isn't filled costs no page, and most texts never grow, so
+/// that they are copied once.
+const ROOM: usize = 4_194_304;
+
 fn zeros(alloc: Global, count: usize) -> Result<Vec<u8>, AllocError>
     ensures { IfOk result (λ zeros. vec_len zeros ≡ count) }
 {
@@ -39,7 +43,7 @@ pub fn slurp<R: Read>(alloc: Global, source: &mut Source<R>) -> Result<Vec<u8>, 
     ensures failed { IsErrOf result FilesError.ReadFailed
         → GaveUp R.remaining source.old source.new }
 {
-    let mut text = Vec::new(alloc);
+    let mut text = Vec::with_capacity(alloc, ROOM)?;
     let mut chunk = zeros(alloc, CHUNK)?;
     let window = chunk.as_mut_slice();
     while !source.is_spent() {
