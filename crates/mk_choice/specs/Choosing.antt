@@ -9,10 +9,11 @@ use Rattle.mk_read.specs.Names.{has_name}
 use Rattle.mk_read.specs.Reading.{Makefile}
 use Rattle.mk_read.specs.Rules.{has_some}
 use Rattle.mk_read.specs.Needs.{commands_of}
-use Rattle.mk_read.specs.State.{Command}
+use Rattle.mk_read.specs.State.{Command, RuleRead}
 use Rattle.mk_infer.specs.Inference.{choice, chosen_commands, ending}
 use Rattle.mk_infer.specs.There.{Exists, is_there}
-use Rattle.mk_infer.specs.Table.{texts_at}
+use Rattle.mk_infer.specs.Table.{lines_of, texts_at}
+use Rattle.mk_infer.specs.Targets.{rules_for}
 
 -- the table has the suffixes of each name that is there
 abbrev pub HasThere : {S : Type 0} → Makefile → Exists →
@@ -63,11 +64,16 @@ IsLeast p gives suffixes tried (Some placed) =
     ((s : List ℕ) → Has tried s → p s ≡ true → (n : ℕ) → place_from 0 suffixes s ≡ Some n →
     placed.place ≤ n)
 
--- what makes a name: its inferred prerequisite, where there is one, and its commands, where there
--- are any
+-- what makes a name: its inferred prerequisite, where there is one, its commands, where there are
+-- any, and the rule lines of the name
 pub record Making : Type 0 where
   pub choice : Option (List ℕ)
   pub commands : Option (List Command)
+  pub rules : List RuleRead
 
 abbrev pub making_of : Makefile → Exists → List ℕ → Making
-making_of m e name = record { choice = choice m e name; commands = chosen_commands m e name }
+making_of m e name = record {
+  choice = choice m e name;
+  commands = chosen_commands m e name;
+  rules = lines_of (rules_for m name) name;
+}

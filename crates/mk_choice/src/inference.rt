@@ -9,7 +9,7 @@ ghost use Rattle.mk_infer.specs.Targets.{own_commands};
 ghost use Rattle.mk_infer.specs.There.{is_there};
 
 use crate::choices::Choices;
-use mk_infer::{Backs, Exists, RuleTable, backs_of};
+use mk_infer::{Backs, Exists, NameRules, RuleTable, backs_of};
 use mk_read::Command;
 use std::alloc::{AllocError, Global};
 use std::marker::Model;
@@ -263,6 +263,8 @@ pub struct Maker<'m> {
     /// The commands of the inference rule that was chosen, else those of the name's own rule lines,
     /// where there are any.
     pub commands: Option<&'m [Command]>,
+    /// The name's rule lines.
+    pub rules: NameRules<'m>,
 }
 
 impl<'m> Model for Maker<'m> {
@@ -275,6 +277,7 @@ impl<'m> Model for Maker<'m> {
         record {
           choice = option_map (λ name. name.now) m.choice;
           commands = option_map (λ commands. commands.now) m.commands;
+          rules = m.rules;
         } };
 }
 
@@ -289,15 +292,18 @@ fn making<'m>(
     requires { HasThere table.now exists.now backs.now }
     ensures { IfOk result (λ making. making ≡ making_of table.now exists.now name.now) }
 {
-    let own = table.own_commands(name);
+    let rules = table.rules_of(name);
+    let own = rules.commands();
     match inferred(alloc, table, exists, backs, own, name)? {
         Some(chosen) => Ok(Maker {
             choice: Some(chosen.name),
             commands: Some(chosen.commands),
+            rules,
         }),
         None => Ok(Maker {
             choice: None,
             commands: own,
+            rules,
         }),
     }
 }

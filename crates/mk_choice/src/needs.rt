@@ -2,26 +2,25 @@
 
 ghost use Rattle.std.specs.Prelude.{◌≡◌, ◌++◌, map, option_to_list, IfOk};
 ghost use Rattle.std.specs.Option.{option_map};
-ghost use Rattle.mk_infer.specs.Targets.{prerequisites_of};
+ghost use Rattle.mk_infer.specs.Table.{prerequisites_in};
 
-use mk_infer::RuleTable;
+use mk_infer::NameRules;
 use std::alloc::{AllocError, Global};
 
-/// The prerequisites of a name, behind an inferred one, where there is one.
+/// The prerequisites of the rule lines of a name, behind an inferred one, where there is one.
 pub fn needs_with<'m>(
     alloc: Global,
-    table: &'m RuleTable<'_>,
+    rules: &NameRules<'m>,
     choice: Option<&'m str>,
-    name: &str,
 ) -> Result<Vec<&'m str>, AllocError>
     ensures { IfOk result (λ names. map (λ word. word.now) names.items ≡
         option_to_list (option_map (λ name. name.now) choice.entry) ++
-        prerequisites_of table.now name.now) }
+        prerequisites_in rules.now) }
 {
     let mut names = Vec::new(alloc);
     if let Some(inferred) = choice {
         names.push(inferred)?;
     }
-    table.push_prerequisites(&mut names, name)?;
+    rules.push_prerequisites(&mut names)?;
     Ok(names)
 }

@@ -34,7 +34,7 @@ fn expanded_by<'m>(
         });
     };
     let table = choices.table();
-    let needs = needs_with(alloc, table, maker.choice, name)?;
+    let needs = needs_with(alloc, &maker.rules, maker.choice)?;
     let (stem, _ending) = parted(table, name);
     let locals = Locals::Recipe {
         target: name,

@@ -9,6 +9,7 @@ use Rattle.indexmap.specs.IndexMap.{IndexMap, get_by}
 use Rattle.mk_lines.specs.Bytes.{is_byte}
 use Rattle.mk_lines.specs.Names.{HoldsNames}
 use Rattle.mk_read.specs.Names.{has_name}
+use Rattle.mk_read.specs.Needs.{is_wait}
 use Rattle.mk_read.specs.Reading.{Makefile}
 use Rattle.mk_read.specs.Special.{is_suffix}
 use Rattle.mk_read.specs.Rules.{has_some}
@@ -46,6 +47,10 @@ HoldsTargets names table = (name : List ℕ) → has_target table name ≡ has_n
 -- the words of these rule lines
 abbrev pub words_in : List RuleRead → List (List ℕ)
 words_in lines = flat_map (λ (rule : RuleRead). rule.words) lines
+
+-- their prerequisites
+abbrev pub prerequisites_in : List RuleRead → List (List ℕ)
+prerequisites_in lines = filter (λ word. not (is_wait word)) (words_in lines)
 
 -- The rule line has commands. Where only the makefile's own count, it isn't of the default text.
 abbrev pub counts_for : Bool → RuleRead → Bool

@@ -5,6 +5,7 @@
 mod backs;
 mod exists;
 mod fault;
+mod name_rules;
 mod rule_table;
 mod source_suffixes;
 mod suffix_set;
@@ -12,4 +13,5 @@ mod suffix_set;
 pub use backs::{Backs, add_backs, backs_of};
 pub use exists::Exists;
 pub use fault::InferFault;
+pub use name_rules::NameRules;
 pub use rule_table::RuleTable;

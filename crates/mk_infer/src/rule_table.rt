@@ -11,9 +11,10 @@ ghost use Rattle.mk_read.specs.Names.{has_name};
 ghost use Rattle.mk_read.specs.Needs.{commands_in, commands_of, is_wait};
 ghost use Rattle.mk_read.specs.Special.{is_inference_name, is_suffix};
 ghost use Rattle.mk_infer.specs.Inference.{but_last, ending, ends_in};
-ghost use Rattle.mk_infer.specs.Targets.{is_target, own_commands, prerequisites_of, rules_for, words_for};
+ghost use Rattle.mk_infer.specs.Targets.{is_target, rules_for};
 ghost use Rattle.mk_infer.specs.Table.{AreSources, HasLines, HasSources, HoldsTargets, counts_for, has_target, lines_at, lines_of, places_at, targets_in, words_in};
 
+use crate::name_rules::NameRules;
 use crate::source_suffixes::{Sources, is_dotted, sources_among};
 use crate::suffix_set::{SuffixSet, suffixes_among};
 use indexmap::IndexMap;
@@ -121,7 +122,7 @@ fn push_words<'m>(words: &mut Vec<&'m str>, more: &'m [String]) -> Result<(), Al
 }
 
 /// The words of the rule lines at these places.
-fn words_at<'m>(
+pub(crate) fn words_at<'m>(
     alloc: Global,
     rules: &'m [Rule],
     places: &[usize],
@@ -177,7 +178,7 @@ fn push_needs<'m>(names: &mut Vec<&'m str>, words: &'m [String]) -> Result<(), A
 }
 
 /// The words but `.WAIT` of the rule lines at these places, behind other names.
-fn push_needs_at<'m>(
+pub(crate) fn push_needs_at<'m>(
     names: &mut Vec<&'m str>,
     rules: &'m [Rule],
     places: &[usize],
@@ -208,7 +209,7 @@ fn commands_in<'m>(rule: Option<&'m Rule>, other: Option<&'m Rule>) -> Option<&'
 
 /// The commands at these places: those of the makefile's own rule line before those of the default
 /// text's.
-fn commands_at<'m>(rules: &'m [Rule], places: &[usize]) -> Option<&'m [Command]>
+pub(crate) fn commands_at<'m>(rules: &'m [Rule], places: &[usize]) -> Option<&'m [Command]>
     ensures { option_map (λ commands. commands.now) result ≡
         commands_in (find (counts_for true) (lines_at rules.now places.now))
         (find (counts_for false) (lines_at rules.now places.now)) }
@@ -427,53 +428,13 @@ impl<'m> RuleTable<'m> {
         self.places_of(name)
     }
 
-    /// The words of a name's rule lines, `.WAIT` among them.
-    pub fn words_for<'t>(&'t self, alloc: Global, name: &str) -> Result<Vec<&'t str>, AllocError>
+    /// The rule lines of a name. An inference name has none, since it is no target.
+    pub fn rules_of<'t>(&'t self, name: &str) -> NameRules<'t>
     where
         'm: 't,
-        ensures { IfOk result (λ words. map (λ word. word.now) words.items ≡
-            words_for self.now name.now) }
+        ensures { result ≡ lines_of (rules_for self.now name.now) name.now }
     {
-        words_at(alloc, self.rules(), self.lines_for(name))
-    }
-
-    /// The prerequisites of a name, in their order, behind other names.
-    pub fn push_prerequisites<'t>(
-        &'t self,
-        names: &mut Vec<&'t str>,
-        name: &str,
-    ) -> Result<(), AllocError>
-    where
-        'm: 't,
-        ensures { OnOk result (map (λ name. name.now) names.new.items ≡
-            map (λ name. name.now) names.old.items ++ prerequisites_of self.now name.now) }
-    {
-        push_needs_at(names, self.rules(), self.lines_for(name))
-    }
-
-    /// The prerequisites of a name, in their order.
-    pub fn prerequisites_of<'t>(
-        &'t self,
-        alloc: Global,
-        name: &str,
-    ) -> Result<Vec<&'t str>, AllocError>
-    where
-        'm: 't,
-        ensures { IfOk result (λ words. map (λ word. word.now) words.items ≡
-            prerequisites_of self.now name.now) }
-    {
-        let mut names = Vec::new(alloc);
-        self.push_prerequisites(&mut names, name)?;
-        Ok(names)
-    }
-
-    /// The commands of a name's own rule lines.
-    pub fn own_commands<'t>(&'t self, name: &str) -> Option<&'t [Command]>
-    where
-        'm: 't,
-        ensures { option_map (λ commands. commands.now) result ≡ own_commands self.now name.now }
-    {
-        commands_at(self.rules(), self.lines_for(name))
+        NameRules::new(self.rules(), self.lines_for(name))
     }
 
     /// The commands of a rule line for a name, be it an inference name or not.

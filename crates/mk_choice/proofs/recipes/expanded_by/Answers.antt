@@ -9,7 +9,7 @@ use Rattle.mk_infer.specs.Inference.{stem}
 use Rattle.mk_infer.specs.Selection.{needs}
 use Rattle.mk_infer.specs.Steps.{Gives}
 use Rattle.mk_choice.specs.Choosing.{Making}
-use Rattle.mk_infer.specs.Targets.{prerequisites_of}
+use Rattle.mk_infer.specs.Table.{prerequisites_in}
 use Rattle.mk_choice.proofs.NameLists.{texts}
 use Rattle.mk_choice.proofs.CommandRecipes.{commands_are, first_text, no_commands_are}
 use Rattle.mk_choice.proofs.recipes.expanded_by.Goals as goal
@@ -30,7 +30,7 @@ returns c =
     let table : c.table-table.result.now ≡ m = c.table-table.ensures in
     let found = sym (ap (option_map (λ commands. commands.now)) c.in-Some.is) ∙ ap (λ (x : Making). x.commands) made in
     let all : texts c.in_ok-needs.needs.items ≡ needs m e name = c.in_ok-needs.ensures
-    ∙ (ap (λ (x : Makefile). option_to_list (option_map (λ (n : Bor (List ℕ)). n.now) c.maker.inside.choice) ++ prerequisites_of x name) table ∙ ap (λ (x : Making). option_to_list x.choice ++ prerequisites_of m name) made) in
+    ∙ ap (λ (x : Making). option_to_list x.choice ++ prerequisites_in x.rules) made in
     let lent : texts c.deref-2.result.now ≡ needs m e name = ap texts c.deref-2.ensures.value ∙ all in
     let front : texts c.deref.result.now ≡ texts c.deref-2.result.now = ap texts (c.deref.ensures.value ∙ sym c.deref-2.ensures.value) in
     let first = ap (option_map (λ (n : Bor (List ℕ)). n.now)) (c.copied.ensures ∙ c.first.ensures.value) ∙ (first_text c.deref.result.now ∙ ap (λ ns. slice_get ns 0) front) in
