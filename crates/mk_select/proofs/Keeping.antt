@@ -1,18 +1,24 @@
 -- What a walk keeps that stops where a graph is full.
-use Rattle.std.proofs.Common.{◌≡◌, ℕ, zero, suc, ◌+◌, ◌<◌, ◌≤◌, Bool, true, false, cond, List, [], ◌∷◌, ◌++◌, Some, map, take, length, reverse, refl, sym, ap, subst, ◌∙◌, append_assoc, arith}
+use Rattle.std.proofs.Common.{◌≡◌, ℕ, zero, suc, ◌+◌, ◌<◌, ◌≤◌, Bool, true, false, not, ◌&&◌, ◌||◌, cond, List, [], ◌∷◌, ◌++◌, Option, Some, None, map, take, length, reverse, refl, sym, ap, subst, ◌∙◌, append_assoc, arith}
 use Rattle.std.specs.Borrow.{Bor}
 use Rattle.std.specs.Option.{option_map}
 use Rattle.std.specs.Prelude.{find}
+use Rattle.std.specs.List.{list_any}
 use Rattle.std.proofs.Math.Seq.{take-append_seam}
 use Rattle.std.proofs.lemmas.List.{length-append, take_all}
 use Rattle.mk_graph.specs.declared.node.Node.{Node}
 use Rattle.mk_lines.specs.Names.{has_name}
+use Rattle.mk_read.specs.Needs.{commands_in, commands_of, has_commands}
 use Rattle.mk_read.specs.Reading.{Makefile}
+use Rattle.mk_read.specs.Rules.{gives_commands, has_some}
+use Rattle.mk_read.specs.State.{RuleRead}
+use Rattle.mk_infer.specs.Inference.{choice, chosen_commands, chosen_suffix, commands_by, stem}
+use Rattle.mk_infer.specs.Targets.{is_target, rules_for}
 use Rattle.mk_infer.specs.Laws.{WalkGoesOn}
 use Rattle.mk_infer.specs.Walk.{Meets}
 use Rattle.mk_infer.specs.Selection.{is_lacking, lacking, needs, node_of}
 use Rattle.mk_select.specs.Walked.{IsWalked, Met, lacks, met_of, node_with}
-use Rattle.mk_infer.specs.There.{Exists}
+use Rattle.mk_infer.specs.There.{Exists, is_given}
 use Rattle.mk_select.proofs.NameLists.{texts}
 use Rattle.mk_select.proofs.Walking.{Continues, goes_deeper, reverse_last, stays_front, unmet, walk_end}
 
@@ -61,10 +67,74 @@ module _ (m : Makefile) (e : Exists) (goals : List (Bor Name)) (met : List Name)
 
 -- ---- what is made of it
 
+and_false : (b : Bool) → (b && false) ≡ false
+and_false true = refl
+and_false false = refl
+
+and_assoc : (a b c : Bool) → (a && (b && c)) ≡ ((a && b) && c)
+and_assoc true b c = refl
+and_assoc false b c = refl
+
+or_true : (b : Bool) → (b || true) ≡ true
+or_true true = refl
+or_true false = refl
+
+among : (a b c d : Bool) → (b || c) ≡ true → (a || (b || (c || d))) ≡ true
+among true b c d h = refl
+among false true c d h = refl
+among false false true d h = refl
+among false false false d h = absurd cc
+
+module _ (rules : List RuleRead) (name : Name) where
+  abbrev named : RuleRead → Bool
+  named rule = has_name rule.targets name
+
+  -- where no rule line names it, none gives it commands
+  none_gives : (q p : RuleRead → Bool) → ((rule : RuleRead) → p rule ≡ (q rule && named rule)) → (rs : List RuleRead) → list_any named rs ≡ false → find p rs ≡ None
+  none_gives q p is [] none = refl
+  none_gives q p is (rule ∷ rs) none = at (named rule) (is rule) none (none_gives q p is rs)
+    where
+      at : (b : Bool) → p rule ≡ (q rule && b) → (b || list_any named rs) ≡ false → (list_any named rs ≡ false → find p rs ≡ None) → cond (p rule) (Some rule) (find p rs) ≡ None
+      at true h k ih = absurd cc
+      at false h k ih = ap (λ b. cond b (Some rule) (find p rs)) (h ∙ and_false (q rule)) ∙ ih k
+
+  -- a name with commands is a target
+  commanded : has_some (commands_of rules name) ≡ true → list_any named rules ≡ true
+  commanded some = at (list_any named rules) refl
+    where
+      at : (b : Bool) → list_any named rules ≡ b → b ≡ true
+      at true h = refl
+      at false h =
+          let own = none_gives (λ rule. not rule.default && has_some rule.commands) (gives_commands name) (λ rule. and_assoc (not rule.default) (has_some rule.commands) (named rule)) rules h in
+          let any = none_gives (λ rule. has_some rule.commands) (has_commands name) (λ rule. refl) rules h in
+          let none : commands_of rules name ≡ None = ap (λ (r : Option RuleRead). commands_in r (find (has_commands name) rules)) own ∙ ap (commands_in None) any in
+          sym (ap has_some none) ∙ some
+
+module _ (m : Makefile) (e : Exists) (name : Name) where
+  -- a name that gets commands is a target or has an inference rule
+  made_somehow : has_some (chosen_commands m e name) ≡ true → (is_target m name || has_some (choice m e name)) ≡ true
+  unfolding chosen_commands choice
+  made_somehow some = by (chosen_suffix m e name) some
+    where
+      by : (suffix : Option Name) → has_some (commands_by m name suffix) ≡ true → (is_target m name || has_some (option_map (λ s. stem m name ++ s) suffix)) ≡ true
+      by None h = ap (λ b. b || false) (commanded (rules_for m name) name h)
+      by (Some s) h = or_true (is_target m name)
+
+  -- so it lacks nothing
+  lacks_nothing_more : lacks m e (met_of m e name) ≡ is_lacking m e name
+  lacks_nothing_more = at (has_some (chosen_commands m e name)) refl
+    where
+      rest : Bool
+      rest = has_name m.phony name || is_given e name
+
+      at : (b : Bool) → has_some (chosen_commands m e name) ≡ b → not (b || (e.any_leaf || (is_target m name || (has_some (choice m e name) || rest)))) ≡ is_lacking m e name
+      at false h = refl
+      at true h = sym (ap not (among e.any_leaf (is_target m name) (has_some (choice m e name)) rest (made_somehow h)))
+
 module _ (m : Makefile) (e : Exists) where
   lacking_met : (names : List Name) → option_map (λ (x : Met). x.name) (find (lacks m e) (map (met_of m e) names)) ≡ find (is_lacking m e) names
   lacking_met [] = refl
-  lacking_met (name ∷ names) = at (is_lacking m e name) (lacking_met names)
+  lacking_met (name ∷ names) = ap (λ b. option_map (λ (x : Met). x.name) (cond b (Some (met_of m e name)) (find (lacks m e) (map (met_of m e) names)))) (lacks_nothing_more m e name) ∙ at (is_lacking m e name) (lacking_met names)
     where
       at : (b : Bool) → option_map (λ (x : Met). x.name) (find (lacks m e) (map (met_of m e) names)) ≡ find (is_lacking m e) names
           → option_map (λ (x : Met). x.name) (cond b (Some (met_of m e name)) (find (lacks m e) (map (met_of m e) names))) ≡ cond b (Some name) (find (is_lacking m e) names)

@@ -7,7 +7,8 @@ use Rattle.mk_read.specs.Reading.{Makefile}
 use Rattle.mk_read.specs.Rules.{has_some}
 use Rattle.mk_read.specs.Needs.{groups}
 use Rattle.mk_infer.specs.Selection.{needs, numbered, with_choice}
-use Rattle.mk_infer.specs.Targets.{have_text, is_target, words_for}
+use Rattle.mk_infer.specs.Table.{words_in}
+use Rattle.mk_infer.specs.Targets.{have_text, is_target}
 use Rattle.mk_infer.specs.There.{Exists, is_given}
 use Rattle.mk_infer.specs.Walk.{Meets}
 use Rattle.mk_choice.specs.Choosing.{Making, making_of}
@@ -44,12 +45,13 @@ pub record IsWalked (m : Makefile) (e : Exists) (goals : List (List ℕ))
   pub front : walked.names ≡ take (max_nodes + 1) all
   pub made : walked.met ≡ map (met_of m e) (take max_nodes all)
 
--- nothing makes a name that was met
+-- nothing makes a name that was met: it has no commands, and so on
 abbrev pub lacks : Makefile → Exists → Met → Bool
 lacks m e met =
-    not (e.any_leaf ||
+    not (has_some met.making.commands ||
+    (e.any_leaf ||
     (is_target m met.name ||
-    (has_some met.making.choice || (has_name m.phony met.name || is_given e met.name))))
+    (has_some met.making.choice || (has_name m.phony met.name || is_given e met.name)))))
 
 -- the node of a name that was met
 abbrev pub node_with : Makefile → List (List ℕ) → Met → Node
@@ -57,7 +59,7 @@ node_with m all met = record {
   name = met.name;
   groups =
       numbered all (with_choice m.not_parallel met.making.choice
-      (groups m.not_parallel (words_for m met.name)));
+      (groups m.not_parallel (words_in met.making.rules)));
   recipe = have_text met.making.commands;
   phony = has_name m.phony met.name;
 }

@@ -6,10 +6,10 @@ ghost use Rattle.mk_read.specs.Needs.{groups};
 ghost use Rattle.mk_lines.specs.Names.{number_of};
 ghost use Rattle.mk_infer.specs.Selection.{numbered, with_choice};
 ghost use Rattle.mk_select.specs.Walked.{has_numbers, with_number};
-ghost use Rattle.mk_infer.specs.Targets.{words_for};
+ghost use Rattle.mk_infer.specs.Table.{words_in};
 
 use mk_graph::Groups;
-use mk_infer::RuleTable;
+use mk_infer::NameRules;
 use mk_lines::NameSet;
 use std::alloc::{AllocError, Global};
 use std::mem;
@@ -99,40 +99,41 @@ fn with_number(
     Ok(groups)
 }
 
-/// The prerequisites of a name's rule lines, in groups.
+/// The prerequisites of a name's rule lines, in groups, or each in a group of its own.
 fn rule_groups(
     alloc: Global,
-    table: &RuleTable<'_>,
+    apart: bool,
     met: &NameSet<'_>,
-    name: &str,
+    rules: &NameRules<'_>,
 ) -> Result<Vec<Vec<usize>>, AllocError>
     ensures { IfOk result (λ found. map (λ group. group.items) found.items ≡
-        numbered met.now (groups table.now.not_parallel (words_for table.now name.now))) }
+        numbered met.now (groups apart (words_in rules.now))) }
 {
-    if table.not_parallel() {
-        let names = table.prerequisites_of(alloc, name)?;
+    if apart {
+        let mut names = Vec::new(alloc);
+        rules.push_prerequisites(&mut names)?;
         return single_groups(alloc, met, &names);
     }
-    let words = table.words_for(alloc, name)?;
+    let words = rules.words(alloc)?;
     cut_groups(alloc, met, &words)
 }
 
-/// The prerequisites of a name, in groups, an inferred one before the others.
+/// The prerequisites of a name with these rule lines, in groups, an inferred one before the others.
 pub fn groups_with(
     alloc: Global,
-    table: &RuleTable<'_>,
+    apart: bool,
     met: &NameSet<'_>,
     choice: Option<&str>,
-    name: &str,
+    rules: &NameRules<'_>,
 ) -> Result<Groups, AllocError>
     ensures { IfOk result (λ found. found ≡
-        numbered met.now (with_choice table.now.not_parallel (option_map (λ name.
-        name.now) choice.entry) (groups table.now.not_parallel (words_for table.now name.now)))) }
+        numbered met.now (with_choice apart (option_map (λ name. name.now) choice.entry)
+        (groups apart (words_in rules.now)))) }
 {
-    let groups = rule_groups(alloc, table, met, name)?;
+    let groups = rule_groups(alloc, apart, met, rules)?;
     let Some(inferred) = choice else {
         return Ok(Groups::new(groups));
     };
     let number = met.number_of(inferred);
-    Ok(Groups::new(with_number(alloc, groups, table.not_parallel(), number)?))
+    Ok(Groups::new(with_number(alloc, groups, apart, number)?))
 }

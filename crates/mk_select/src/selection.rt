@@ -36,11 +36,17 @@ fn node_of(
 ) -> Result<Node, AllocError>
     ensures { IfOk result (λ node. node ≡ node_with choices.now.makefile names.now met.now) }
 {
-    let table = choices.table();
+    let (table, maker) = (choices.table(), &met.maker);
     Ok(Node {
         name: Name::new(alloc, met.name)?,
-        groups: groups_with(alloc, table, names, met.maker.choice, met.name)?,
-        recipe: have_text(met.maker.commands),
+        groups: groups_with(
+            alloc,
+            table.not_parallel(),
+            names,
+            maker.choice,
+            &maker.rules,
+        )?,
+        recipe: have_text(maker.commands),
         phony: table.is_phony(met.name),
     })
 }
@@ -55,20 +61,21 @@ fn nodes_of(
     ensures { IfOk result (λ nodes. nodes.items ≡
         map (node_with choices.now.makefile names.now) met.now) }
 {
-    let mut nodes = Vec::new(alloc);
+    let mut nodes = Vec::with_capacity(alloc, met.len())?;
     for one in met {
         nodes.push(node_of(alloc, choices, names, one)?)?;
     }
     Ok(nodes)
 }
 
-/// Whether nothing makes a name: it is no target, has no inference rule, isn't phony and isn't
-/// given.
+/// Whether nothing makes a name: it has no commands, is no target, has no inference rule, isn't
+/// phony and isn't given.
 fn is_lacking(choices: &Choices<'_>, met: &Met<'_>) -> bool
     ensures { result ≡ lacks choices.now.makefile choices.now.exists met.now }
 {
     let (table, exists) = (choices.table(), choices.exists());
-    !(exists.any_leaf
+    !(met.maker.commands.is_some()
+        || exists.any_leaf
         || table.target(met.name).is_some()
         || met.maker.choice.is_some()
         || table.is_phony(met.name)

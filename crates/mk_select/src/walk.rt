@@ -57,7 +57,8 @@ pub fn walk_from<'m>(
     walk_goes_on();
     new_names_leave_less();
     let mut names = NameSet::new(alloc);
-    let mut met = Vec::new(alloc);
+    let most = choices.table().rules().len().min(MAX_NODES);
+    let mut met = Vec::with_capacity(alloc, most)?;
     let mut todo = Vec::from_slice(alloc, goals)?;
     todo.reverse();
     while let Some(name) = todo.pop() {
@@ -68,7 +69,7 @@ pub fn walk_from<'m>(
             return Ok(Walked { names, met });
         }
         let maker = maker_of(alloc, choices, name)?;
-        let mut words = needs_with(alloc, choices.table(), maker.choice, name)?;
+        let mut words = needs_with(alloc, &maker.rules, maker.choice)?;
         met.push(Met { name, maker })?;
         words.reverse();
         todo.extend_from_slice(&words)?;

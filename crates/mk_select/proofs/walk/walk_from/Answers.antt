@@ -6,7 +6,7 @@ use Rattle.mk_read.specs.Names.{has_name}
 use Rattle.mk_infer.specs.Selection.{needs}
 use Rattle.mk_choice.specs.Choosing.{Making}
 use Rattle.mk_select.specs.Walked.{Met, met_of}
-use Rattle.mk_infer.specs.Targets.{prerequisites_of}
+use Rattle.mk_infer.specs.Table.{prerequisites_in}
 use Rattle.mk_select.proofs.Keeping.{walked_all, walked_enough}
 use Rattle.mk_select.proofs.NameLists.{texts}
 use Rattle.mk_select.proofs.Walking.{walk_start, walk_known, walk_new, less_new}
@@ -16,7 +16,7 @@ pub loop-name-init : goal.loop-name-init
 loop-name-init c = record {
   onward = walk_start _ c.new-names.result c.args.goals.now c.reverse.new.self.items c.new-names.ensures (c.reverse.ensures.items ∙ ap reverse c.in_ok-todo.ensures.items);
   few = subst (λ (names : List (List ℕ)). length names ≤ 4096) (sym c.new-names.ensures) (omega arith);
-  made = c.new-met.ensures.items ∙ ap (map (met_of c.args.choices.now.makefile c.args.choices.now.exists)) (sym c.new-names.ensures);
+  made = c.in_ok-met.ensures.items ∙ ap (map (met_of c.args.choices.now.makefile c.args.choices.now.exists)) (sym c.new-names.ensures);
 }
 
 pub loop-name-preserved : goal.loop-name-preserved
@@ -27,8 +27,7 @@ loop-name-preserved c =
     let names = c.loop-name.names in
     let unmet : has_name names name.now ≡ false = not-true _ (sym c.in_ok-insert.ensures.new ∙ c.if-not-branch.false) in
     let grown : c.insert.new.self ≡ names ++ name.now ∷ [] = c.in_ok-insert.ensures.ok ∙ ap (λ b. cond b names (names ++ name.now ∷ [])) unmet in
-    let by_table = rw c.table.ensures at c.in_ok-words.ensures in
-    let words : texts c.in_ok-words.words.items ≡ needs m e name.now = by_table ∙ ap (λ (k : Making). option_to_list k.choice ++ prerequisites_of m name.now) (c.maker.view_is ∙ c.in_ok-maker.ensures) in
+    let words : texts c.in_ok-words.words.items ≡ needs m e name.now = c.in_ok-words.ensures ∙ ap (λ (k : Making). option_to_list k.choice ++ prerequisites_in k.rules) (c.maker.view_is ∙ c.in_ok-maker.ensures) in
     let pushed : c.extend_from_slice.new.self.items ≡ c.pop.new.self.items ++ reverse c.in_ok-words.words.items =
     c.in_ok-extend_from_slice.ensures.items ∙ ap (λ ws. c.pop.new.self.items ++ ws) (c.deref.ensures.value ∙ c.reverse-in-Some.ensures.items) in
     let one : Making → Met = λ k. record { name = name.now; making = k } in
@@ -60,8 +59,7 @@ loop-name-smaller c =
     let names = c.loop-name.names in
     let unmet : has_name names name.now ≡ false = not-true _ (sym c.in_ok-insert.ensures.new ∙ c.if-not-branch.false) in
     let grown : c.insert.new.self ≡ names ++ name.now ∷ [] = c.in_ok-insert.ensures.ok ∙ ap (λ b. cond b names (names ++ name.now ∷ [])) unmet in
-    let by_table = rw c.table.ensures at c.in_ok-words.ensures in
-    let words : texts c.in_ok-words.words.items ≡ needs m e name.now = by_table ∙ ap (λ (k : Making). option_to_list k.choice ++ prerequisites_of m name.now) (c.maker.view_is ∙ c.in_ok-maker.ensures) in
+    let words : texts c.in_ok-words.words.items ≡ needs m e name.now = c.in_ok-words.ensures ∙ ap (λ (k : Making). option_to_list k.choice ++ prerequisites_in k.rules) (c.maker.view_is ∙ c.in_ok-maker.ensures) in
     let pushed : c.extend_from_slice.new.self.items ≡ c.pop.new.self.items ++ reverse c.in_ok-words.words.items =
     c.in_ok-extend_from_slice.ensures.items ∙ ap (λ ws. c.pop.new.self.items ++ ws) (c.deref.ensures.value ∙ c.reverse-in-Some.ensures.items) in
     less_new c.new_names_leave_less.ensures m e names c.insert.new.self c.loop-name.todo.items c.pop.new.self.items c.in_ok-words.words.items c.extend_from_slice.new.self.items name c.in-Some.ensures.items unmet grown words pushed
