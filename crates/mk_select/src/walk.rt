@@ -56,8 +56,8 @@ pub fn walk_from<'m>(
 {
     walk_goes_on();
     new_names_leave_less();
-    let mut names = NameSet::new(alloc);
     let most = choices.table().rules().len().min(MAX_NODES);
+    let mut names = NameSet::with_capacity(alloc, most)?;
     let mut met = Vec::with_capacity(alloc, most)?;
     let mut todo = Vec::from_slice(alloc, goals)?;
     todo.reverse();

@@ -14,9 +14,9 @@ use Rattle.mk_select.proofs.walk.walk_from.Goals as goal
 
 pub loop-name-init : goal.loop-name-init
 loop-name-init c = record {
-  onward = walk_start _ c.new-names.result c.args.goals.now c.reverse.new.self.items c.new-names.ensures (c.reverse.ensures.items ∙ ap reverse c.in_ok-todo.ensures.items);
-  few = subst (λ (names : List (List ℕ)). length names ≤ 4096) (sym c.new-names.ensures) (omega arith);
-  made = c.in_ok-met.ensures.items ∙ ap (map (met_of c.args.choices.now.makefile c.args.choices.now.exists)) (sym c.new-names.ensures);
+  onward = walk_start _ c.in_ok-names.names c.args.goals.now c.reverse.new.self.items c.in_ok-names.ensures (c.reverse.ensures.items ∙ ap reverse c.in_ok-todo.ensures.items);
+  few = subst (λ (names : List (List ℕ)). length names ≤ 4096) (sym c.in_ok-names.ensures) (omega arith);
+  made = c.in_ok-met.ensures.items ∙ ap (map (met_of c.args.choices.now.makefile c.args.choices.now.exists)) (sym c.in_ok-names.ensures);
 }
 
 pub loop-name-preserved : goal.loop-name-preserved
