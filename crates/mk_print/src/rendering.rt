@@ -10,6 +10,9 @@ use mk_cert::Finding;
 use mk_ways::{Path, Way, Ways};
 use std::alloc::{AllocError, Global};
 
+/// The room for a way's line that a text of ways begins with.
+const ROOM: usize = 48;
+
 /// The line of a yes: how many recipes were judged, and how many files they read.
 pub fn yes_line(alloc: Global, recipes: usize, reads: u128) -> Result<Vec<u8>, AllocError>
     ensures { IfOk result (λ text. text.items ≡ yes_line recipes reads) }
@@ -48,6 +51,7 @@ fn push_way(out: &mut Vec<u8>, way: &Way<'_>) -> Result<(), AllocError>
 fn push_ways(out: &mut Vec<u8>, ways: &Ways) -> Result<(), AllocError>
     ensures { OnOk result (out.new.items ≡ out.old.items ++ ways_text ways.now) }
 {
+    out.reserve(ways.len().saturating_mul(ROOM))?;
     for place in 0..ways.len() {
         push_way(out, &ways.at(place))?;
     }
