@@ -39,6 +39,19 @@ found key xs name p d e =
     let at : h.0 ≡ p = omega (arith, h.1) in
     h.2 ∙ ap (λ k. Some (get_or xs k d)) at
 
+-- the place lies within the list
+within_from : {A : Type 0} (key : A → List ℕ) (n : ℕ) (xs : List A) (name : List ℕ) (p : ℕ) → place_from n (map key xs) name ≡ Some p → p < n + length xs
+unfolding place_from
+within_from key n [] name p e = absurd cc
+within_from key n (x ∷ xs) name p e = at (bytes_eq name (key x)) (within_from key (n + 1) xs name p) e
+  where
+    at : (b : Bool) → (place_from (n + 1) (map key xs) name ≡ Some p → p < n + 1 + length xs) → cond b (Some n) (place_from (n + 1) (map key xs) name) ≡ Some p → p < n + suc (length xs)
+    at true deeper is = let here : n ≡ p = cc is in omega arith
+    at false deeper is = let low = deeper is in omega arith
+
+pub within : {A : Type 0} (key : A → List ℕ) (xs : List A) (name : List ℕ) (p : ℕ) → place_from 0 (map key xs) name ≡ Some p → p < length xs
+within key xs name p e = let low = within_from key 0 xs name p e in omega arith
+
 -- no element has it where it has no place
 pub missing : {A : Type 0} (key : A → List ℕ) (xs : List A) (name : List ℕ) → place_from 0 (map key xs) name ≡ None → find (λ x. bytes_eq name (key x)) xs ≡ None
 missing key xs name e = missing_from key 0 xs name e

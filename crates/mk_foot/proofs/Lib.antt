@@ -10,6 +10,7 @@ pub mod Same
 pub mod SharedLists
 pub mod Once
 pub mod Found
+pub mod TargetPlaces
 pub mod GivenLaws
 pub mod OnceLaws
 pub mod NoJson

@@ -1,14 +1,15 @@
 //! What a build starts from.
 
-ghost use Rattle.std.specs.Prelude.{◌≡◌, map, IfOk};
+ghost use Rattle.std.specs.Prelude.{◌≡◌, ℕ, List, map, IfOk};
 ghost use Rattle.std.specs.Option.{option_copied};
 ghost use Rattle.std.specs.String.{string_bytes};
-ghost use Rattle.mk_foot.specs.Names.{has_name};
+ghost use Rattle.mk_lines.specs.Places.{place_in};
+ghost use Rattle.mk_foot.specs.Names.{has_name, place_from};
 ghost use Rattle.mk_foot.specs.Setting.{record_for, is_given, is_editable};
 
 use crate::book::{Book, Record};
 use crate::names::clones_of;
-use mk_lines::{NameTable, Prefixes};
+use mk_lines::{NamePlaces, NameTable, Prefixes};
 use std::alloc::{AllocError, Global};
 use std::marker::Model;
 
@@ -21,12 +22,14 @@ pub struct Setting {
     sources: NameTable,
     texts: NameTable,
     passed_over: NameTable,
-    targets: NameTable,
+    targets: NamePlaces,
     records: Vec<Record>,
 }
 
 impl Model for Setting {
-    ghost use Rattle.std.specs.Prelude.{◌≡◌, map};
+    ghost use Rattle.std.specs.Prelude.{◌≡◌, List, ℕ, map};
+    ghost use Rattle.mk_lines.specs.Places.{place_in};
+    ghost use Rattle.mk_foot.specs.Names.{place_from};
     ghost use Rattle.mk_foot.specs.Setting as value;
 
     ghost Value = { value.Setting };
@@ -40,18 +43,20 @@ impl Model for Setting {
           passed_over = s.passed_over;
         } };
 
-    ghost invariant = { λ s. s.targets ≡ map (λ r. r.target) s.records.items };
+    ghost invariant = { λ s. (name : List ℕ) →
+        place_in s.targets name ≡ place_from 0 (map (λ r. r.target) s.records.items) name };
 }
 
-/// The targets of records.
-fn targets_of(alloc: Global, records: &[Record]) -> Result<NameTable, AllocError>
-    ensures { IfOk result (λ targets. targets ≡ map (λ r. r.target) records.now) }
+/// The places of the targets of records.
+fn targets_of(alloc: Global, records: &[Record]) -> Result<NamePlaces, AllocError>
+    ensures { IfOk result (λ targets. (name : List ℕ) →
+        place_in targets name ≡ place_from 0 (map (λ r. r.target) records.now) name) }
 {
-    let mut targets = Vec::with_capacity(alloc, records.len())?;
-    for record in records {
-        targets.push(record.target.clone()?)?;
+    let mut targets = NamePlaces::with_capacity(alloc, records.len())?;
+    for (i, record) in records.iter().enumerate() {
+        targets.note(alloc, record.target.as_str(), i)?;
     }
-    NameTable::new(alloc, targets)
+    Ok(targets)
 }
 
 /// A table of copies of names.

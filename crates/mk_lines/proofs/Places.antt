@@ -5,7 +5,10 @@ use Rattle.std.proofs.lemmas.Slice.Eq.{bytes_eq-Decides}
 use Rattle.std.proofs.lemmas.List.{take_more, map_push, length-map}
 use Rattle.std.specs.Prelude.{is_some, IfSome}
 use Rattle.std.specs.Str.{bytes_eq}
+use Rattle.std.specs.HashMap.{HashMap, get_by_text}
+use Rattle.std.specs.Map.{lookup}
 use Rattle.mk_lines.specs.Names.{has_name, place_from, else_last}
+use Rattle.mk_lines.specs.Places.{place_in}
 
 placed_or : (b : Bool) (n : ℕ) (o : Option ℕ) (there : Bool) → is_some o ≡ there → is_some (cond b (Some n) o) ≡ (b || there)
 placed_or true n o there e = refl
@@ -81,9 +84,9 @@ next_place before after names i d name q is noted so_far lt =
     ∙ sym (ap (λ ns. place_from 0 ns q) more ∙ (place_push 0 (map string_bytes (take i names)) (string_bytes (get_or names i d)) q ∙ ap (else_last (place_from 0 (map string_bytes (take i names)) q) (bytes_eq q (string_bytes (get_or names i d)))) count))))
 
 -- no name has a place among none
-pub none_placed : (o : Option ℕ) (q : List ℕ) → o ≡ None → o ≡ place_from 0 [] q
-unfolding place_from
-none_placed o q e = e
+pub none_in : (name : List ℕ) → place_in [] name ≡ place_from 0 [] name
+unfolding place_from place_in
+none_in name = refl
 
 -- the name stands at its place
 named_from : (n : ℕ) (names : List (List ℕ)) (name : List ℕ) (place : ℕ) (d : List ℕ) → place_from n names name ≡ Some place → (n ≤ place) × (get_or names (place - n) d ≡ name)
@@ -106,3 +109,18 @@ pub named_at : (names : List (List ℕ)) (name : List ℕ) (place : ℕ) (d : Li
 named_at names name place d h =
     let same : place - 0 ≡ place = omega arith in
     ap (λ i. get_or names i d) (sym same) ∙ (named_from 0 names name place d h).1
+
+-- what a map keeps is what is seen of it
+pub seen_in : {S : Type 0} (m : HashMap (String Global) ℕ S) (name : List ℕ) → place_in (map (λ entry. (string_bytes entry.0, entry.1)) m.entries) name ≡ get_by_text m name
+unfolding place_in
+seen_in m name = all_seen m.entries
+  where
+    all_seen : (entries : List (String Global × ℕ)) → place_in (map (λ entry. (string_bytes entry.0, entry.1)) entries) name ≡ lookup (λ key. bytes_eq name (string_bytes key)) entries
+    all_seen [] = refl
+    all_seen (entry ∷ entries) = ap (λ o. cond (bytes_eq name (string_bytes entry.0)) (Some entry.1) o) (all_seen entries)
+
+-- the same after a name was noted
+pub noted_in : {S : Type 0} (before after : HashMap (String Global) ℕ S) (seen : List (List ℕ × ℕ)) (name other : List ℕ) (place : ℕ) → map (λ entry. (string_bytes entry.0, entry.1)) before.entries ≡ seen
+    → get_by_text after other ≡ else_last (get_by_text before other) (bytes_eq other name) place → place_in (map (λ entry. (string_bytes entry.0, entry.1)) after.entries) other ≡ else_last (place_in seen other) (bytes_eq other name) place
+noted_in before after seen name other place is noted =
+    seen_in after other ∙ (noted ∙ ap (λ o. else_last o (bytes_eq other name) place) (sym (seen_in before other) ∙ ap (λ v. place_in v other) is))

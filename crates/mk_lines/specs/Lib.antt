@@ -6,6 +6,7 @@ pub mod Comments
 pub mod Lines
 pub mod Views
 pub mod Paths
+pub mod Places
 pub mod Words
 pub mod Names
 pub mod Results

@@ -1,12 +1,11 @@
 //! Names that are looked up.
 
-ghost use Rattle.std.specs.Prelude.{◌≡◌, ◌<◌, ℕ, List, true, false, length, map, IfOk, IfSome, MatchOption, OnOk};
-ghost use Rattle.std.specs.HashMap.{get_by_text};
-ghost use Rattle.std.specs.Str.{bytes_eq};
+ghost use Rattle.std.specs.Prelude.{◌≡◌, ◌<◌, ℕ, List, true, false, length, map, IfOk, IfSome, MatchOption};
 ghost use Rattle.std.specs.String.{string_bytes};
-ghost use Rattle.mk_lines.specs.Names.{has_name, place_from, else_last};
+ghost use Rattle.mk_lines.specs.Names.{has_name, place_from};
+ghost use Rattle.mk_lines.specs.Places.{place_in};
 
-use indexmap::IndexMap;
+use crate::name_places::NamePlaces;
 use std::alloc::{AllocError, Global};
 use std::marker::Model;
 use std::str;
@@ -15,21 +14,21 @@ use std::str;
 #[derive(Drop)]
 pub struct NameTable {
     names: Vec<String>,
-    places: IndexMap<String, usize>,
+    places: NamePlaces,
 }
 
 impl Model for NameTable {
     ghost use Rattle.std.specs.Prelude.{◌≡◌, List, ℕ, map};
     ghost use Rattle.std.specs.String.{string_bytes};
-    ghost use Rattle.std.specs.HashMap.{get_by_text};
     ghost use Rattle.mk_lines.specs.Names.{place_from};
+    ghost use Rattle.mk_lines.specs.Places.{place_in};
 
     ghost Value = { List (List ℕ) };
 
     ghost view = { λ t. map string_bytes t.names.items };
 
     ghost invariant = { λ t. (q : List ℕ) →
-        get_by_text t.places q ≡ place_from 0 (map string_bytes t.names.items) q };
+        place_in t.places q ≡ place_from 0 (map string_bytes t.names.items) q };
 }
 
 impl NameTable {
@@ -46,7 +45,7 @@ impl NameTable {
         ensures place { result ≡ place_from 0 self.now name.now }
         ensures within { IfSome result (λ place. place < length self.now) }
     {
-        self.places.get(name).copied()
+        self.places.place(name)
     }
 
     /// The name itself, where it is there.
@@ -64,7 +63,7 @@ impl NameTable {
     pub fn contains(&self, name: &str) -> bool
         ensures { result ≡ has_name self.now name.now }
     {
-        self.places.contains_key(name)
+        self.places.contains(name)
     }
 
     /// Whether these bytes are those of a name that is there.
@@ -73,7 +72,7 @@ impl NameTable {
     {
         let places = &self.places;
         match str::from_utf8(bytes) {
-            Ok(name) => places.contains_key(name),
+            Ok(name) => places.contains(name),
             Err(_) => false,
         }
     }
@@ -86,33 +85,14 @@ impl NameTable {
     }
 }
 
-/// Notes the place of a name, unless it has one.
-fn note_place(
-    alloc: Global,
-    places: &mut IndexMap<String, usize>,
-    name: &str,
-    place: usize,
-) -> Result<(), AllocError>
-    ensures { OnOk result ((q : List ℕ) →
-        get_by_text places.new q ≡ else_last (get_by_text places.old q) (bytes_eq q name.now)
-        place) }
-{
-    if places.contains_key(name) {
-        return Ok(());
-    }
-    let key = String::from_str(alloc, name)?;
-    places.insert(key, place)?;
-    Ok(())
-}
-
 /// The place at which each name first stands.
-fn places_of(alloc: Global, names: &[String]) -> Result<IndexMap<String, usize>, AllocError>
+fn places_of(alloc: Global, names: &[String]) -> Result<NamePlaces, AllocError>
     ensures { IfOk result (λ places. (q : List ℕ) →
-        get_by_text places q ≡ place_from 0 (map string_bytes names.now) q) }
+        place_in places q ≡ place_from 0 (map string_bytes names.now) q) }
 {
-    let mut places = IndexMap::with_capacity(alloc, names.len())?;
+    let mut places = NamePlaces::with_capacity(alloc, names.len())?;
     for (i, name) in names.iter().enumerate() {
-        note_place(alloc, &mut places, name.as_str(), i)?;
+        places.note(alloc, name.as_str(), i)?;
     }
     Ok(places)
 }

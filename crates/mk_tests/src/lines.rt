@@ -2,8 +2,8 @@
 
 use crate::fixtures::{long, names, same, same_bytes, same_number, see_that};
 use mk_lines::{
-    Line, LineFault, Name, NameTable, Prefixes, Span, first_outside, is_blank, is_plain_path,
-    is_plain_text_path, is_rule_line, logical_lines, trimmed, uncomment, words,
+    Line, LineFault, Name, NamePlaces, NameTable, Prefixes, Span, first_outside, is_blank,
+    is_plain_path, is_plain_text_path, is_rule_line, logical_lines, trimmed, uncomment, words,
 };
 use std::alloc::{AllocError, Global};
 use std::process::Abort;
@@ -301,6 +301,25 @@ fn finds_names(rt: HostRuntime) -> Result<(), Fail> {
     let table = NameTable::new(rt.alloc(), names(rt.alloc(), "b a.c b é")?)?;
     see_names(&rt, &table);
     drop(table);
+    Ok(())
+}
+
+/// Sees the place of a name.
+fn see_place(rt: &impl Abort, places: &NamePlaces, name: &str, place: Option<usize>) {
+    see_that(rt, places.place(name) == place, name);
+    see_that(rt, places.contains(name) == place.is_some(), name);
+}
+
+#[test]
+fn finds_places(rt: HostRuntime) -> Result<(), Fail> {
+    let mut places = NamePlaces::with_capacity(rt.alloc(), 3)?;
+    for (i, name) in ["b", "é", "b"].iter().enumerate() {
+        places.note(rt.alloc(), name, i)?;
+    }
+    see_place(&rt, &places, "b", Some(0));
+    see_place(&rt, &places, "é", Some(1));
+    see_place(&rt, &places, "a", None);
+    drop(places);
     Ok(())
 }
 

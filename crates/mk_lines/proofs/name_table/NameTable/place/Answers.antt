@@ -6,7 +6,7 @@ use Rattle.mk_lines.proofs.name_table.NameTable.place.Goals as goal
 
 pub returns-clause-within : goal.returns-clause-within
 returns-clause-within c =
-    let at = c.copied.ensures ∙ (c.get.ensures.value ∙ (c.self.invariant c.args.name.now ∙ ap (λ (names : List (List ℕ)). place_from 0 names c.args.name.now) c.self.view_is)) in
+    let at = c.place.ensures ∙ (c.self.invariant c.args.name.now ∙ ap (λ (names : List (List ℕ)). place_from 0 names c.args.name.now) c.self.view_is) in
     let within = place_within 0 c.args.self.now c.args.name.now in
     let exact = subst (λ (n : ℕ). IfSome (place_from 0 c.args.self.now c.args.name.now) (λ p. p < n)) (zero-add (length c.args.self.now)) within in
     subst (λ (o : Option ℕ). IfSome o (λ p. p < length c.args.self.now)) (sym at) exact
