@@ -16,4 +16,5 @@ pub mod OnceLaws
 pub mod NoJson
 pub mod Formats
 pub mod Apart
+pub mod Known
 pub mod PlainNames

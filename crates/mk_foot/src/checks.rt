@@ -28,7 +28,7 @@ fn is_prefix(text: &[u8]) -> bool
 }
 
 /// Whether texts are plain paths.
-fn are_paths(texts: &[String]) -> bool
+pub fn are_paths(texts: &[String]) -> bool
     ensures { result ≡ list_all is_plain (map string_bytes texts.now) }
 {
     texts.iter().all(|text| is_plain_text_path(text.as_str()))
@@ -63,11 +63,14 @@ fn are_prefixes(texts: &[String]) -> bool
     texts.iter().all(|text| is_prefix(text.as_bytes()))
 }
 
-/// Whether the names of a record are plain paths.
+/// Whether the names of a record are plain paths. Of most it is known since they were read.
 #[tactic(auto, unfolding(crate::specs::Checks::entry_is_plain))]
 fn entry_is_plain(entry: &Entry) -> Result<(), FootFault>
     ensures { Gives (λ done. done) result (entry_is_plain entry.now) }
 {
+    if entry.plain {
+        return Ok(());
+    }
     is_path(Key::Target, entry.target.as_str())?;
     are_plain(Key::Reads, &entry.reads)?;
     are_plain(Key::Writes, &entry.writes)

@@ -32,10 +32,13 @@ pub fn clones_of(alloc: Global, names: &[String]) -> Result<Vec<String>, AllocEr
 }
 
 /// Whether no name comes twice.
-fn are_apart(alloc: Global, names: &[String]) -> Result<bool, AllocError>
+pub fn are_apart(alloc: Global, names: &[String]) -> Result<bool, AllocError>
     ensures { IfOk result (λ apart. apart ≡ true →
         once (map string_bytes names.now) ≡ map string_bytes names.now) }
 {
+    if names.len() < 2 {
+        return Ok(true);
+    }
     let mut seen = seen_of(alloc, names.len())?;
     for place in 0..names.len() {
         if is_repeated(names, place, &mut seen)? {
@@ -50,13 +53,24 @@ pub fn once(alloc: Global, names: Vec<String>) -> Result<Vec<String>, AllocError
     ensures { IfOk result (λ kept. map string_bytes kept.items ≡
         once (map string_bytes names.items)) }
 {
-    if names.len() < 2 {
-        return Ok(names);
-    }
     if are_apart(alloc, &names)? {
         return Ok(names);
     }
     let mut set = NameSet::with_capacity(alloc, names.len())?;
     set.insert_all(&names)?;
     copied(alloc, set.as_slice())
+}
+
+/// Each name once, where it first stands. Names that are known to be apart are given back as they
+/// are.
+pub fn kept(alloc: Global, apart: bool, names: Vec<String>) -> Result<Vec<String>, AllocError>
+    requires { apart ≡ true →
+        once (map string_bytes names.items) ≡ map string_bytes names.items }
+    ensures { IfOk result (λ kept. map string_bytes kept.items ≡
+        once (map string_bytes names.items)) }
+{
+    if apart {
+        return Ok(names);
+    }
+    once(alloc, names)
 }

@@ -11,11 +11,17 @@ pub struct Entry {
     pub writes: Vec<String>,
     /// The names of shared lists, whose files are read too. None in format 1.
     pub shared: Vec<String>,
+    /// Where this is true, the target, the reads and the writes are plain paths.
+    pub plain: bool,
+    /// Where this is true, no name comes twice among the reads, and none among the writes.
+    pub apart: bool,
 }
 
 impl Model for Entry {
-    ghost use Rattle.std.specs.Prelude.{map};
+    ghost use Rattle.std.specs.Prelude.{◌≡◌, true, map, Ok};
     ghost use Rattle.std.specs.String.{string_bytes};
+    ghost use Rattle.mk_foot.specs.Checks.{entry_is_plain};
+    ghost use Rattle.mk_foot.specs.Names.{once};
     ghost use Rattle.mk_foot.specs.Parts as value;
 
     ghost Value = { value.Entry };
@@ -28,6 +34,18 @@ impl Model for Entry {
           writes = map string_bytes e.writes.items;
           shared = map string_bytes e.shared.items;
         } };
+
+    ghost invariant = { λ e.
+        (e.plain ≡ true → entry_is_plain (record {
+          target = string_bytes e.target;
+          commands = map string_bytes e.commands.items;
+          reads = map string_bytes e.reads.items;
+          writes = map string_bytes e.writes.items;
+          shared = map string_bytes e.shared.items;
+        }) ≡ Ok tt) ×
+        (e.apart ≡ true →
+        (once (map string_bytes e.reads.items) ≡ map string_bytes e.reads.items) ×
+        (once (map string_bytes e.writes.items) ≡ map string_bytes e.writes.items)) };
 }
 
 /// Records, and the goals that they were made for. A contract sees lists of bytes.

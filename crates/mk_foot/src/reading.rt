@@ -1,6 +1,6 @@
 //! The book of a file of footprints.
 
-ghost use Rattle.std.specs.Prelude.{◌≡◌, ◌++◌, map, IfOk, OnOk, fold};
+ghost use Rattle.std.specs.Prelude.{◌≡◌, true, ◌++◌, map, IfOk, OnOk, fold};
 ghost use Rattle.std.specs.List.{flat_map};
 ghost use Rattle.std.specs.String.{string_bytes};
 ghost use Rattle.mk_foot.specs.Names.{with_name, once as all_once};
@@ -11,7 +11,7 @@ ghost use Rattle.mk_foot.specs.Reading.{listed, record_of, book_from};
 use crate::book::{Book, Record};
 use crate::checks::{group_for, test_all};
 use crate::fault::FootFault;
-use crate::names::{copied, once};
+use crate::names::{copied, kept, once};
 use crate::parts::{Entry, Footprints, SharedList};
 use crate::shapes::read_footprints;
 use json::{Reader, Scratch};
@@ -72,16 +72,19 @@ fn reads_of(
     alloc: Global,
     names: &NameTable,
     lists: &[SharedList],
+    apart: bool,
     own: Vec<String>,
     shared: &[String],
 ) -> Result<Vec<String>, AllocError>
-    requires { names.now ≡ map (λ list. list.name) lists.now }
+    requires names { names.now ≡ map (λ list. list.name) lists.now }
+    requires apart { apart ≡ true →
+        all_once (map string_bytes own.items) ≡ map string_bytes own.items }
     ensures { IfOk result (λ reads. map string_bytes reads.items ≡
         all_once (map string_bytes own.items ++
         flat_map (listed lists.now) (map string_bytes shared.now))) }
 {
     if shared.is_empty() {
-        return once(alloc, own);
+        return kept(alloc, apart, own);
     }
     let mut set = NameSet::with_capacity(alloc, own.len())?;
     set.insert_all(&own)?;
@@ -105,12 +108,14 @@ fn record_of(
         reads,
         writes,
         shared,
+        plain: _,
+        apart,
     } = entry;
     Ok(Record {
         target,
         commands,
-        reads: reads_of(alloc, names, lists, reads, &shared)?,
-        writes: once(alloc, writes)?,
+        reads: reads_of(alloc, names, lists, apart, reads, &shared)?,
+        writes: kept(alloc, apart, writes)?,
     })
 }
 

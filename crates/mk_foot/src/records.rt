@@ -1,6 +1,9 @@
 //! Records, by the tokens of a file of footprints: of each only its parts are kept.
 
-ghost use Rattle.std.specs.Prelude.{◌≡◌, true, is_some, ok_or};
+ghost use Rattle.std.specs.Prelude.{◌≡◌, ◌&&◌, true, map, is_some, ok_or, IfOk};
+ghost use Rattle.std.specs.List.{list_all};
+ghost use Rattle.std.specs.String.{string_bytes};
+ghost use Rattle.mk_lines.specs.Paths.{is_plain_path as is_plain};
 ghost use Rattle.serde_json.specs.Data.{Data, object, Members, no_members, put};
 ghost use Rattle.serde_json.specs.Find.{as_object};
 ghost use Rattle.mk_json.specs.Kinds.{elements_of};
@@ -10,18 +13,22 @@ ghost use Rattle.mk_foot.specs.declared.format.Format.{Format};
 ghost use Rattle.mk_foot.specs.declared.key.Key.TheVariants as keys;
 ghost use Rattle.mk_foot.specs.Footprints.{entry_in, shared_in};
 ghost use Rattle.mk_foot.specs.Keys.{spelling};
+ghost use Rattle.mk_foot.specs.Names.{once};
 ghost use Rattle.mk_foot.specs.PartsRead.{GivesTexts, IsOfEntry, AreEach};
 ghost use Rattle.mk_foot.specs.Steps.{Gives, each};
 
+use crate::checks::are_paths;
 use crate::fault::FootFault;
 use crate::fields::{Texts, read_text, read_texts, with_next};
 use crate::format::Format;
 use crate::key::Key;
+use crate::names::are_apart;
 use crate::parts::Entry;
 use json::{Invalid, Reader};
 use mk_json::laws::{items_in_turn, last_value_counts, members_in_turn, values_take_tokens};
 use mk_json::{enter_array, enter_object, skip_value};
-use std::alloc::Global;
+use mk_lines::is_plain_text_path;
+use std::alloc::{AllocError, Global};
 
 /// What the members of a record give so far: of each key its last value, or its fault, and whether
 /// there are no other keys.
@@ -164,9 +171,29 @@ fn read_entry_parts(
     Ok(parts)
 }
 
+/// Whether the target of a record, its reads and its writes are plain paths.
+fn are_plain(target: &str, reads: &[String], writes: &[String]) -> bool
+    ensures { result ≡ (is_plain target.now && list_all is_plain (map string_bytes reads.now) &&
+        list_all is_plain (map string_bytes writes.now)) }
+{
+    is_plain_text_path(target) && are_paths(reads) && are_paths(writes)
+}
+
+/// Whether no name comes twice among the reads of a record, and none among its writes.
+fn are_both_apart(alloc: Global, reads: &[String], writes: &[String]) -> Result<bool, AllocError>
+    ensures { IfOk result (λ apart. apart ≡ true →
+        (once (map string_bytes reads.now) ≡ map string_bytes reads.now) ×
+        (once (map string_bytes writes.now) ≡ map string_bytes writes.now)) }
+{
+    if !are_apart(alloc, reads)? {
+        return Ok(false);
+    }
+    are_apart(alloc, writes)
+}
+
 /// The record that its parts give: its keys in order, then any other key.
 #[tactic(auto, unfolding(crate::specs::Footprints::entry_in))]
-fn entry_of(parts: EntryParts) -> Result<Entry, FootFault>
+fn entry_of(alloc: Global, parts: EntryParts) -> Result<Entry, FootFault>
     ensures { (format : Format) (whole : Data) → is_some (as_object whole) ≡ true →
         IsOfEntry format parts whole → Gives (λ entry. entry) result (entry_in format whole) }
 {
@@ -186,12 +213,16 @@ fn entry_of(parts: EntryParts) -> Result<Entry, FootFault>
     if !alone {
         return Err(FootFault::Shape(Key::Unknown));
     }
+    let plain = are_plain(&target, &reads, &writes);
+    let apart = are_both_apart(alloc, &reads, &writes)?;
     Ok(Entry {
         target,
         commands,
         reads,
         writes,
         shared,
+        plain,
+        apart,
     })
 }
 
@@ -209,7 +240,7 @@ fn read_entry(
         return Ok(Err(FootFault::Shape(Key::Records)));
     }
     let parts = read_entry_parts(alloc, format, reader, depth - 1)?;
-    Ok(entry_of(parts))
+    Ok(entry_of(alloc, parts))
 }
 
 /// Reads the records of a list that was entered.

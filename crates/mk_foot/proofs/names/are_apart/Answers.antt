@@ -2,8 +2,12 @@ use Rattle.std.proofs.Common.{◌≡◌, ◌<◌, ◌+◌, ◌∙◌, false, Lis
 use Rattle.std.specs.String.{string_bytes}
 use Rattle.std.proofs.lemmas.List.{length-map, take_more}
 use Rattle.mk_foot.specs.Names.{has_name, with_name, once}
+use Rattle.mk_foot.proofs.Apart.{once_short}
 use Rattle.mk_foot.proofs.Once.{once_push}
 use Rattle.mk_foot.proofs.names.are_apart.Goals as goal
+
+pub returns-then-names-lt2 : goal.returns-then-names-lt2
+returns-then-names-lt2 c = λ apart. once_short (map string_bytes c.args.names.now) (omega (arith, length-map c.args.names.now string_bytes))
 
 pub loop-place-preserved : goal.loop-place-preserved
 loop-place-preserved c =

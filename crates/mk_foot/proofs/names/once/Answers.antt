@@ -1,13 +1,8 @@
-use Rattle.std.proofs.Common.{List, [], ℕ, map, string_bytes, ap, sym, ◌≡◌, ◌∙◌, subst, arith}
+use Rattle.std.proofs.Common.{List, [], ℕ, map, string_bytes, ap, ◌≡◌, ◌∙◌, subst}
 use Rattle.std.specs.Prelude.{IfOk, fold}
-use Rattle.std.proofs.lemmas.List.{length-map}
 use Rattle.mk_foot.specs.Names.{with_name}
-use Rattle.mk_foot.proofs.Apart.{once_short}
 use Rattle.mk_foot.proofs.Once.{once_into}
 use Rattle.mk_foot.proofs.names.once.Goals as goal
-
-pub returns-then-len-lt2 : goal.returns-then-len-lt2
-returns-then-len-lt2 c = sym (once_short (map string_bytes c.args.names.items) (omega (arith, length-map c.args.names.items string_bytes)))
 
 pub returns : goal.returns
 returns c =
