@@ -10,6 +10,7 @@ ghost use Rattle.mk_cert.specs.FileTests.{IsUnknown};
 ghost use Rattle.mk_cert.specs.Target.{target_of};
 
 use crate::entry::Entry;
+use crate::file_names::FileNames;
 use crate::finding::Finding;
 use crate::name_list::NameList;
 use crate::number_list::FEW;
@@ -17,7 +18,6 @@ use crate::subject::Subject;
 use crate::target::Target;
 use crate::writer_findings::has_number;
 use mk_graph::laws::serial_reaches_each_once;
-use mk_lines::Name;
 use std::alloc::{AllocError, Global};
 
 /// Adds that a recipe writes a file that is given, phony or passed over, if it is.
@@ -26,6 +26,7 @@ fn note_taken(
     subject: &Subject<'_>,
     entry: &Entry<'_>,
     file: &Target<'_>,
+    names: &mut FileNames,
     found: &mut Vec<Finding>,
 ) -> Result<(), AllocError>
     requires entry { IsEntry subject.now entry.now }
@@ -39,7 +40,7 @@ fn note_taken(
         return Ok(());
     }
     let recipe = entry.shared_name(alloc, found)?;
-    let file = Name::new(alloc, file.file)?;
+    let file = names.name_of(alloc, file)?;
     found.push(Finding::GivenWritten { recipe, file })?;
     Ok(())
 }
@@ -49,6 +50,7 @@ pub fn note_given_written(
     alloc: Global,
     subject: &Subject<'_>,
     entry: &Entry<'_>,
+    names: &mut FileNames,
     found: &mut Vec<Finding>,
 ) -> Result<(), AllocError>
     requires { IsEntry subject.now entry.now }
@@ -58,7 +60,7 @@ pub fn note_given_written(
 {
     for place in 0..subject.count_of_written(entry.number) {
         let file = subject.written(entry.number, place);
-        note_taken(alloc, subject, entry, &file, found)?;
+        note_taken(alloc, subject, entry, &file, names, found)?;
     }
     Ok(())
 }
@@ -80,6 +82,7 @@ fn note_unknown(
     subject: &Subject<'_>,
     entry: &Entry<'_>,
     file: &Target<'_>,
+    names: &mut FileNames,
     found: &mut Vec<Finding>,
 ) -> Result<(), AllocError>
     requires entry { IsEntry subject.now entry.now }
@@ -92,7 +95,7 @@ fn note_unknown(
         return Ok(());
     }
     let recipe = entry.shared_name(alloc, found)?;
-    let file = Name::new(alloc, file.file)?;
+    let file = names.name_of(alloc, file)?;
     found.push(Finding::UnknownRead { recipe, file })?;
     Ok(())
 }
@@ -102,6 +105,7 @@ pub fn note_unknown_reads(
     alloc: Global,
     subject: &Subject<'_>,
     entry: &Entry<'_>,
+    names: &mut FileNames,
     found: &mut Vec<Finding>,
 ) -> Result<(), AllocError>
     requires { IsEntry subject.now entry.now }
@@ -111,7 +115,7 @@ pub fn note_unknown_reads(
 {
     for place in 0..subject.count_of_unsettled(entry.number) {
         let file = subject.unsettled(entry.number, place);
-        note_unknown(alloc, subject, entry, &file, found)?;
+        note_unknown(alloc, subject, entry, &file, names, found)?;
     }
     Ok(())
 }
@@ -149,6 +153,7 @@ fn note_own(
     entry: &Entry<'_>,
     written: &mut NameList<'_>,
     file: &Target<'_>,
+    names: &mut FileNames,
     found: &mut Vec<Finding>,
 ) -> Result<(), AllocError>
     requires entry { IsEntry subject.now entry.now }
@@ -163,7 +168,7 @@ fn note_own(
         return Ok(());
     }
     let recipe = entry.shared_name(alloc, found)?;
-    let file = Name::new(alloc, file.file)?;
+    let file = names.name_of(alloc, file)?;
     found.push(Finding::OwnRead { recipe, file })?;
     Ok(())
 }
@@ -173,6 +178,7 @@ pub fn note_own_reads(
     alloc: Global,
     subject: &Subject<'_>,
     entry: &Entry<'_>,
+    names: &mut FileNames,
     found: &mut Vec<Finding>,
 ) -> Result<(), AllocError>
     requires { IsEntry subject.now entry.now }
@@ -185,7 +191,7 @@ pub fn note_own_reads(
     let mut written = NameList::new(entry.writes());
     for place in 0..subject.count_of_unsettled(entry.number) {
         let file = subject.unsettled(entry.number, place);
-        note_own(alloc, subject, entry, &mut written, &file, found)?;
+        note_own(alloc, subject, entry, &mut written, &file, names, found)?;
     }
     Ok(())
 }

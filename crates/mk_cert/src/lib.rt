@@ -10,6 +10,7 @@ mod earlier;
 mod entry;
 mod fault;
 mod file_findings;
+mod file_names;
 mod file_writers;
 mod files;
 mod finding;

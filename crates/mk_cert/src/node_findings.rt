@@ -9,6 +9,7 @@ ghost use Rattle.mk_cert.specs.Tests.{lacks_record, has_varying, has_other_comma
 
 use crate::entry::Entry;
 use crate::finding::Finding;
+use crate::shared_name::SharedName;
 use mk_lines::Name;
 use std::alloc::AllocError;
 
@@ -108,8 +109,9 @@ pub fn note_selection(entry: &Entry<'_>, found: &mut Vec<Finding>) -> Result<(),
     if is_choice(&entry.chosen, after) {
         return Ok(());
     }
-    let name = entry.shared_name(*found.allocator(), found)?;
-    let chosen = after.clone()?;
+    let alloc = *found.allocator();
+    let name = entry.shared_name(alloc, found)?;
+    let chosen = SharedName::new(alloc, after.as_str())?;
     found.push(Finding::Selection { name, chosen })?;
     Ok(())
 }

@@ -17,9 +17,9 @@ use crate::target::Target;
 use mk_foot::Setting;
 use mk_graph::Graph;
 use mk_infer::{Exists, InferFault, RuleTable};
-use mk_lines::{Name, NameSet};
+use mk_lines::NameSet;
 use mk_read::Makefile;
-use std::alloc::{AllocError, Global};
+use std::alloc::Global;
 use std::marker::Model;
 
 /// The file at a place of files, with what is known of it.
@@ -37,6 +37,7 @@ fn target_at<'s>(files: &'s Files<'_>, at: usize) -> Target<'s>
     };
     Target {
         file,
+        place: at,
         known: &files.known[at],
     }
 }
@@ -170,14 +171,6 @@ impl<'a> Subject<'a> {
         ensures { result.now ≡ name_of self.now number }
     {
         self.graph().nodes()[number].name.as_str()
-    }
-
-    /// A copy of the name of a node. The error is want of memory alone.
-    pub(crate) fn copy_of_name(&self, number: usize) -> Result<Name, AllocError>
-        requires { number < length self.now.graph.nodes }
-        ensures { IfOk result (λ name. name ≡ name_of self.now number) }
-    {
-        self.graph().nodes()[number].name.clone()
     }
 
     /// The names of the nodes, each at its number.

@@ -10,6 +10,7 @@ ghost use Rattle.mk_cert.specs.Listed.{Adds};
 
 use crate::entry::Entry;
 use crate::finding::Finding;
+use crate::shared_name::SharedName;
 use crate::subject::Subject;
 use std::alloc::AllocError;
 
@@ -41,8 +42,9 @@ fn note_loose_writer(
     if has_number(subject.graph().prerequisites(entry.number), writer) {
         return Ok(());
     }
-    let name = entry.shared_name(*found.allocator(), found)?;
-    let writer = subject.copy_of_name(writer)?;
+    let alloc = *found.allocator();
+    let name = entry.shared_name(alloc, found)?;
+    let writer = SharedName::new(alloc, subject.name(writer))?;
     found.push(Finding::Loose { name, writer })?;
     Ok(())
 }

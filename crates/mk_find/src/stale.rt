@@ -7,8 +7,7 @@ ghost use Rattle.mk_cert.specs.Entry.{IsEntry};
 ghost use Rattle.mk_cert.specs.Listed.{Adds};
 ghost use Rattle.mk_cert.specs.Subject.{Subject};
 
-use mk_cert::{Entry, Finding};
-use mk_lines::Name;
+use mk_cert::{Entry, Finding, SharedName};
 use std::alloc::{AllocError, Global};
 
 /// Adds that a read is stale.
@@ -23,7 +22,7 @@ pub(crate) fn note_stale(
         Adds x (stale entry.now.number file.now ∷ []) found.old.items found.new.items) }
 {
     let recipe = entry.shared_name(alloc, found)?;
-    let file = Name::new(alloc, file)?;
+    let file = SharedName::new(alloc, file)?;
     found.push(Finding::Stale { recipe, file })?;
     Ok(())
 }

@@ -19,8 +19,8 @@ returns-then-has_number c =
     let needs : c.prerequisites.result.now ≡ prerequisites x.graph e.number = c.prerequisites.ensures ∙ (ap (λ (g : Graph). prerequisites g c.entry.inside.number) c.graph.ensures.value ∙ ap (prerequisites x.graph) number) in
     adds_none x (loose e.number c.args.writer) c.args.found.now.items (λ h. h.2 (subst (λ (l : List ℕ). Has l c.args.writer) needs (number_in c.prerequisites.result.now c.args.writer (sym c.if-has_number.ensures))))
 
-pub copy_of_name-requires : goal.copy_of_name-requires
-copy_of_name-requires c = writer_is_node c.args.subject.now c.args.writer _ c.requires.written
+pub name-requires : goal.name-requires
+name-requires c = writer_is_node c.args.subject.now c.args.writer _ c.requires.written
 
 pub returns : goal.returns
 returns c =
@@ -33,4 +33,4 @@ returns c =
     let bare : (node x.graph e.number).recipe ≡ false = sym (ap (λ (n : Node). n.recipe) is.same_node) ∙ c.requires.bare in
     let named = ap (λ (k : List ℕ). old ++ Loose k c.in_ok-writer.writer ∷ []) (name_is x e c.in_ok-name.name is c.in_ok-name.ensures) in
     adds_one x (loose e.number c.args.writer) old c.push.new.self.items (bare, c.requires.written, λ h. number_out c.prerequisites.result.now c.args.writer (sym c.if-has_number.ensures) (subst (λ (l : List ℕ). Has l c.args.writer) (sym needs) h))
-    (c.in_ok-push.ensures.items ∙ (named ∙ ap (λ (k : List ℕ). old ++ Loose (name_of x e.number) k ∷ []) c.in_ok-writer.ensures))
+    (c.in_ok-push.ensures.items ∙ (named ∙ ap (λ (k : List ℕ). old ++ Loose (name_of x e.number) k ∷ []) (c.in_ok-writer.ensures ∙ c.name.ensures)))
