@@ -39,7 +39,7 @@ pub fn ask(
         Question::Given => note_given_written(alloc, subject, entry, names, found),
         Question::Own => note_own_reads(alloc, subject, entry, names, found),
         Question::Unknown => note_unknown_reads(alloc, subject, entry, names, found),
-        Question::Loose => note_loose(subject, entry, found),
+        Question::Loose => note_loose(subject, entry, names, found),
         Question::Choice => note_selection(entry, found),
     }
 }

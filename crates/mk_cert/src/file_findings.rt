@@ -1,10 +1,11 @@
 //! What is found of the files of a recipe.
 
-ghost use Rattle.std.specs.Prelude.{◌≡◌, ◌↔◌, ◌∷◌, [], true, map, IfOk, OnOk};
+ghost use Rattle.std.specs.Prelude.{◌≡◌, ◌↔◌, ◌∷◌, [], true, map, IfOk, IfSome, OnOk};
+ghost use Rattle.mk_lines.specs.Names.{has_name};
 ghost use Rattle.mk_graph.specs.Membership.{Has};
 ghost use Rattle.mk_cert.specs.Subject.{reads_of, writes_of};
 ghost use Rattle.mk_cert.specs.Candidates.{given_written, own_read, unknown_read};
-ghost use Rattle.mk_cert.specs.Entry.{IsEntry};
+ghost use Rattle.mk_cert.specs.Entry.{IsEntry, entry_writes};
 ghost use Rattle.mk_cert.specs.Listed.{Adds};
 ghost use Rattle.mk_cert.specs.FileTests.{IsUnknown};
 ghost use Rattle.mk_cert.specs.Target.{target_of};
@@ -120,21 +121,44 @@ pub fn note_unknown_reads(
     Ok(())
 }
 
+/// Whether a name stands among what a recipe writes, which is looked at where that is asked first.
+fn writes_name<'a>(
+    alloc: Global,
+    entry: &Entry<'a>,
+    written: &mut Option<NameList<'a>>,
+    name: &str,
+) -> Result<bool, AllocError>
+    requires { IfSome written.old (λ list. list ≡ entry_writes entry.now) }
+    ensures writes { IfOk result (λ writes. writes ≡ has_name (entry_writes entry.now) name.now) }
+    ensures written { OnOk result
+        (IfSome written.new (λ list. list ≡ entry_writes entry.now)) }
+{
+    let mut list = match written.take() {
+        Some(list) => list,
+        None => NameList::new(entry.writes()),
+    };
+    list.note_use(alloc)?;
+    let writes = list.has(name);
+    *written = Some(list);
+    Ok(writes)
+}
+
 /// Whether a recipe writes a file that it reads: it is one of those that write the file, and where
 /// these are many, the name of the file is one of what it writes.
-fn is_own(
+fn is_own<'a>(
     alloc: Global,
     subject: &Subject<'_>,
-    entry: &Entry<'_>,
-    written: &mut NameList<'_>,
+    entry: &Entry<'a>,
+    written: &mut Option<NameList<'a>>,
     file: &Target<'_>,
 ) -> Result<bool, AllocError>
     requires entry { IsEntry subject.now entry.now }
-    requires written { written.old ≡ writes_of subject.now entry.now.number }
+    requires written { IfSome written.old (λ list. list ≡ entry_writes entry.now) }
     requires file { file.now ≡ target_of subject.now file.now.file }
     ensures own { IfOk result (λ own. (own ≡ true) ↔
         Has (writes_of subject.now entry.now.number) file.now.file) }
-    ensures same { written.new ≡ written.old }
+    ensures written { OnOk result
+        (IfSome written.new (λ list. list ≡ entry_writes entry.now)) }
 {
     serial_reaches_each_once();
     let _graph = subject.graph();
@@ -142,27 +166,27 @@ fn is_own(
     if writers.len() <= FEW {
         return Ok(has_number(writers, entry.number));
     }
-    written.note_use(alloc)?;
-    Ok(written.has(file.file))
+    writes_name(alloc, entry, written, file.file)
 }
 
 /// Adds that a recipe writes a file that it reads, if it does.
-fn note_own(
+fn note_own<'a>(
     alloc: Global,
     subject: &Subject<'_>,
-    entry: &Entry<'_>,
-    written: &mut NameList<'_>,
+    entry: &Entry<'a>,
+    written: &mut Option<NameList<'a>>,
     file: &Target<'_>,
     names: &mut FileNames,
     found: &mut Vec<Finding>,
 ) -> Result<(), AllocError>
     requires entry { IsEntry subject.now entry.now }
-    requires written { written.old ≡ writes_of subject.now entry.now.number }
+    requires written { IfSome written.old (λ list. list ≡ entry_writes entry.now) }
     requires file { file.now ≡ target_of subject.now file.now.file }
     requires read { Has (reads_of subject.now entry.now.number) file.now.file }
     ensures added { OnOk result (Adds subject.now (own_read entry.now.number file.now.file ∷ [])
         found.old.items found.new.items) }
-    ensures same { written.new ≡ written.old }
+    ensures written { OnOk result
+        (IfSome written.new (λ list. list ≡ entry_writes entry.now)) }
 {
     if !is_own(alloc, subject, entry, written, file)? {
         return Ok(());
@@ -188,7 +212,7 @@ pub fn note_own_reads(
 {
     serial_reaches_each_once();
     let _graph = subject.graph();
-    let mut written = NameList::new(entry.writes());
+    let mut written = None;
     for place in 0..subject.count_of_unsettled(entry.number) {
         let file = subject.unsettled(entry.number, place);
         note_own(alloc, subject, entry, &mut written, &file, names, found)?;

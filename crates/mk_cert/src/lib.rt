@@ -47,6 +47,7 @@ pub use carrying::carried_lists;
 pub use counting::counts;
 pub use entry::Entry;
 pub use fault::CertFault;
+pub use file_names::FileNames;
 pub use finding::Finding;
 pub use findings::static_findings;
 pub use links::{Ends, ends_of};

@@ -1,6 +1,6 @@
 //! What is judged.
 
-ghost use Rattle.std.specs.Prelude.{◌≡◌, ◌<◌, List, ℕ, [], false, length, map, slice_get, slice_index_or, Ok, Some, IfErr, IfOk, MatchOption};
+ghost use Rattle.std.specs.Prelude.{◌≡◌, ◌<◌, ◌≤◌, List, ℕ, [], false, length, map, slice_get, slice_index_or, Ok, Some, IfErr, IfOk, MatchOption};
 ghost use Rattle.mk_graph.specs.Graph.{IsGraph};
 ghost use Rattle.mk_graph.specs.Membership.{Has};
 ghost use Rattle.mk_graph.specs.Setting as build;
@@ -190,6 +190,15 @@ impl<'a> Subject<'a> {
         self.tables.files.known[at].writers.as_slice()
     }
 
+    /// The file with the name of a node, with what is known of it. It takes no memory.
+    pub(crate) fn file_of_node(&self, number: usize) -> Target<'_>
+        requires { number < length self.now.graph.nodes }
+        ensures { result ≡ target_of self.entry.now (name_of self.entry.now number) }
+    {
+        let place = self.tables.files.nodes[number];
+        target_at(&self.tables.files, place)
+    }
+
     /// How many files the recipe of a node writes. It takes no memory.
     pub(crate) fn count_of_written(&self, number: usize) -> usize
         ensures { result ≡ length (writes_of self.now number) }
@@ -220,6 +229,14 @@ impl<'a> Subject<'a> {
         ensures { result ≡ length (unsettled_of self.now number) }
     {
         self.tables.unsettled.at(number).len()
+    }
+
+    /// How many files all recipes read that aren't settled: no recipe reads more of them. It takes
+    /// no memory.
+    pub fn count_of_all_unsettled(&self) -> usize
+        ensures { (t : ℕ) → length (unsettled_of self.now t) ≤ result }
+    {
+        self.tables.unsettled.total()
     }
 
     /// The file at a place among those that the recipe of a node reads and that aren't settled,

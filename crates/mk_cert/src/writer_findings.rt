@@ -9,8 +9,8 @@ ghost use Rattle.mk_cert.specs.Entry.{IsEntry, writers_of};
 ghost use Rattle.mk_cert.specs.Listed.{Adds};
 
 use crate::entry::Entry;
+use crate::file_names::FileNames;
 use crate::finding::Finding;
-use crate::shared_name::SharedName;
 use crate::subject::Subject;
 use std::alloc::AllocError;
 
@@ -31,6 +31,7 @@ fn note_loose_writer(
     subject: &Subject<'_>,
     entry: &Entry<'_>,
     writer: usize,
+    names: &mut FileNames,
     found: &mut Vec<Finding>,
 ) -> Result<(), AllocError>
     requires entry { IsEntry subject.now entry.now }
@@ -44,7 +45,7 @@ fn note_loose_writer(
     }
     let alloc = *found.allocator();
     let name = entry.shared_name(alloc, found)?;
-    let writer = SharedName::new(alloc, subject.name(writer))?;
+    let writer = names.name_of(alloc, &subject.file_of_node(writer))?;
     found.push(Finding::Loose { name, writer })?;
     Ok(())
 }
@@ -54,6 +55,7 @@ fn note_loose_writers(
     subject: &Subject<'_>,
     entry: &Entry<'_>,
     writers: &[usize],
+    names: &mut FileNames,
     found: &mut Vec<Finding>,
 ) -> Result<(), AllocError>
     requires entry { IsEntry subject.now entry.now }
@@ -64,7 +66,7 @@ fn note_loose_writers(
         (map (λ o. loose entry.now.number o) writers.now) found.old.items found.new.items) }
 {
     for writer in writers {
-        note_loose_writer(subject, entry, *writer, found)?;
+        note_loose_writer(subject, entry, *writer, names, found)?;
     }
     Ok(())
 }
@@ -85,6 +87,7 @@ fn writers_for<'s>(subject: &'s Subject<'_>, entry: &Entry<'_>) -> &'s [usize]
 pub fn note_loose(
     subject: &Subject<'_>,
     entry: &Entry<'_>,
+    names: &mut FileNames,
     found: &mut Vec<Finding>,
 ) -> Result<(), AllocError>
     requires { IsEntry subject.now entry.now }
@@ -92,9 +95,9 @@ pub fn note_loose(
         (map (λ o. loose entry.now.number o) (serial_order subject.now.graph))
         found.old.items found.new.items) }
 {
-    if entry.node.recipe {
+    if entry.recipe {
         return Ok(());
     }
     let writers = writers_for(subject, entry);
-    note_loose_writers(subject, entry, writers, found)
+    note_loose_writers(subject, entry, writers, names, found)
 }

@@ -26,7 +26,7 @@ returns c = λ x is.
     let old = c.args.found.now.items in
     let after : e.chosen_after ≡ Some c.in-Some.after = ap (λ (k : Entry). k.chosen_after) (sym c.entry.view_is) ∙ c.in-Some.is in
     let differ : e.chosen ≡ Some c.in-Some.after → ⊥ = λ same. true≢false (sym (c.is_choice.ensures.1 (ap (λ (k : Entry). k.chosen) c.entry.view_is ∙ same)) ∙ c.if-is_choice.false) in
-    let chosen : c.in_ok-chosen.chosen ≡ c.in-Some.after = c.in_ok-chosen.ensures ∙ c.as_str.ensures in
+    let chosen : c.in_ok-chosen.chosen ≡ c.in-Some.after = c.in_ok-chosen.ensures.cases in
     let named = ap (λ (k : List ℕ). old ++ Selection k c.in_ok-chosen.chosen ∷ []) (name_is x e c.in_ok-name.name is c.in_ok-name.ensures) in
     selection_is x e (Some c.in-Some.after) old c.push.new.self.items is after
     (adds_one x (selection e.number c.in-Some.after) old c.push.new.self.items (other_choice x e c.in-Some.after is after differ)
