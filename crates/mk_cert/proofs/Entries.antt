@@ -2,7 +2,7 @@
 use Rattle.std.proofs.Common.{◌≡◌, ℕ, zero, suc, inl, inr, ◌+◌, ◌<◌, List, [], ◌∷◌, ◌++◌, length, get_or, map, take, false, Bool, true, cond, Option, None, Some, Ok, Err, refl, sym, ap, subst, ◌∙◌, arith}
 use Rattle.std.specs.Prelude.{All, filter}
 use Rattle.std.proofs.lemmas.List.{take_more, map_push, get_or-map, get_or-take, length-map, length-take}
-use Rattle.std.proofs.lemmas.List.Elements.{All-push, All-get_or, All-head, All-tail}
+use Rattle.std.proofs.lemmas.List.Elements.{All-push, All-head, All-tail}
 use Rattle.mk_lines.specs.Names.{has_name}
 use Rattle.mk_graph.specs.declared.node.Node.{Node}
 use Rattle.mk_graph.specs.Graph.{Graph, IsGraph, Reached, goal, onward, node, no_node}
@@ -28,18 +28,21 @@ entry_more x order i entries new e pushed same lt is h = record {
 }
 
 -- the fault of a node behind others that have none is the first
-pub first_fault : (x : Subject) (order : List ℕ) (i : ℕ) (entries : List Entry) (fault : InferFault) → i < length order → AreEntriesOf x (take i order) entries → commands_of x (get_or order i 0) ≡ Err fault → IsFirstFault x order fault
-first_fault x order i entries fault lt h failed = record {
+pub first_told : (x : Subject) (order : List ℕ) (i : ℕ) (entries : List Entry) (fault : InferFault) → i < length order → map (λ (e : Entry). e.number) entries ≡ take i order → All (λ (e : Entry). commands_of x e.number ≡ Ok e.commands) entries → commands_of x (get_or order i 0) ≡ Err fault → IsFirstFault x order fault
+first_told x order i entries fault lt in_order told failed = record {
   place = i;
   within = lt;
   here = failed;
   before = λ k low.
-      let many : length entries ≡ length (take i order) = sym (length-map entries (λ (e : Entry). e.number)) ∙ ap length h.in_order in
+      let many : length entries ≡ length (take i order) = sym (length-map entries (λ (e : Entry). e.number)) ∙ ap length in_order in
       let within : k < length entries = omega (arith, length-take i order) in
-      let is : IsEntry x (get_or entries k no_entry) = All-get_or (IsEntry x) entries k no_entry within h.right in
-      let same : get_or order k 0 ≡ (get_or entries k no_entry).number = sym (get_or-take i order k 0 low) ∙ (ap (λ ns. get_or ns k 0) (sym h.in_order) ∙ get_or-map (λ (e : Entry). e.number) entries k no_entry 0 within) in
-      ((get_or entries k no_entry).commands, ap (commands_of x) same ∙ is.same_commands);
+      let same : get_or order k 0 ≡ (get_or entries k no_entry).number = sym (get_or-take i order k 0 low) ∙ (ap (λ ns. get_or ns k 0) (sym in_order) ∙ get_or-map (λ (e : Entry). e.number) entries k no_entry 0 within) in
+      ((get_or entries k no_entry).commands, ap (commands_of x) same ∙ told k no_entry within);
 }
+
+pub first_fault : (x : Subject) (order : List ℕ) (i : ℕ) (entries : List Entry) (fault : InferFault) → i < length order → AreEntriesOf x (take i order) entries → commands_of x (get_or order i 0) ≡ Err fault → IsFirstFault x order fault
+first_fault x order i entries fault lt h failed =
+    first_told x order i entries fault lt h.in_order (λ k d low. (h.right k d low).same_commands) failed
 
 -- what is looked up of the files of a record is what the setting says
 reads_by : (s : foot.Setting) (name : List ℕ) (r : Option Record) → foot.record_for s.records name ≡ r → reads_in r ≡ foot.reads s name

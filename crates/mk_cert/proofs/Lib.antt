@@ -24,6 +24,7 @@ pub mod Accepted
 pub mod KnownFiles
 pub mod Counted
 pub mod Stays
+pub mod Staying
 pub mod SettledReads
 pub mod NumberRows
 pub mod Targets

@@ -131,3 +131,9 @@ module _ (ends numbers : List ℕ) (is : AreRows ends numbers) (i : ℕ) (low : 
 -- past the last there are no numbers
 pub past_last : (ends numbers : List ℕ) → AreRows ends numbers → (i : ℕ) → length ends ≤ i → get_or (cut_from 0 ends numbers) i [] ≡ []
 past_last ends numbers is i high = get_or_past (cut_from 0 ends numbers) i [] (omega (arith, high, counted ends numbers is))
+
+-- no row has more numbers than all have together
+pub row_within : (rows : List (List ℕ)) (i : ℕ) → length (get_or rows i []) ≤ length (concat rows)
+row_within [] i = omega arith
+row_within (row ∷ rows) zero = omega (arith, length-append row (concat rows))
+row_within (row ∷ rows) (suc i) = omega (arith, row_within rows i, length-append row (concat rows))

@@ -8,6 +8,7 @@ ghost use Rattle.mk_cert.specs.Questions.{asked};
 
 use crate::entry::Entry;
 use crate::file_findings::{note_given_written, note_own_reads, note_unknown_reads};
+use crate::file_names::FileNames;
 use crate::finding::Finding;
 use crate::node_findings::{
     note_no_record, note_no_target, note_other_commands, note_selection, note_varying,
@@ -17,12 +18,13 @@ use crate::subject::Subject;
 use crate::writer_findings::note_loose;
 use std::alloc::{AllocError, Global};
 
-/// Adds what is found of a node by a question.
+/// Adds what is found of a node by a question. What is found of files shares their names.
 pub fn ask(
     alloc: Global,
     subject: &Subject<'_>,
     question: Question,
     entry: &Entry<'_>,
+    names: &mut FileNames,
     found: &mut Vec<Finding>,
 ) -> Result<(), AllocError>
     requires { IsEntry subject.now entry.now }
@@ -34,10 +36,10 @@ pub fn ask(
         Question::Commands => note_other_commands(entry, found),
         Question::Varying => note_varying(entry, found),
         Question::Target => note_no_target(entry, found),
-        Question::Given => note_given_written(alloc, subject, entry, found),
-        Question::Own => note_own_reads(alloc, subject, entry, found),
-        Question::Unknown => note_unknown_reads(alloc, subject, entry, found),
-        Question::Loose => note_loose(subject, entry, found),
+        Question::Given => note_given_written(alloc, subject, entry, names, found),
+        Question::Own => note_own_reads(alloc, subject, entry, names, found),
+        Question::Unknown => note_unknown_reads(alloc, subject, entry, names, found),
+        Question::Loose => note_loose(subject, entry, names, found),
         Question::Choice => note_selection(entry, found),
     }
 }
@@ -52,9 +54,10 @@ pub fn ask_all(
     ensures { OnOk result (Adds subject.now (by_node subject.now (asked subject.now question))
         found.old.items found.new.items) }
 {
+    let mut names = FileNames::new(alloc);
     let entries = subject.entries();
     for entry in entries {
-        ask(alloc, subject, question, entry, found)?;
+        ask(alloc, subject, question, entry, &mut names, found)?;
     }
     Ok(())
 }

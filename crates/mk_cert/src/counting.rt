@@ -14,7 +14,7 @@ pub fn counts(subject: &Subject<'_>) -> (usize, u128)
     let mut recipes: usize = 0;
     let mut reads: u128 = 0;
     for entry in subject.entries() {
-        if entry.node.recipe {
+        if entry.recipe {
             recipes += 1;
         }
         reads += subject.count_of_reads(entry.number) as u128;

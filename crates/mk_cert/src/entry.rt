@@ -24,6 +24,8 @@ pub struct Entry<'a> {
     pub recorded: Option<&'a Record>,
     /// Its commands, expanded, unless its record has the same ones.
     pub own: Vec<Vec<u8>>,
+    /// Whether it has a recipe, as the node tells.
+    pub recipe: bool,
     /// Whether its commands vary from make to make.
     pub varying: bool,
     /// Whether its record, if it has one, has other commands.
@@ -31,13 +33,13 @@ pub struct Entry<'a> {
     /// Whether its recipe has a record, isn't phony, and doesn't write its target.
     pub unwritten: bool,
     /// Its inferred prerequisite, if it has one.
-    pub chosen: Option<Name>,
+    pub chosen: Option<SharedName>,
     /// The one that it has once all recipes have written their files.
-    pub chosen_after: Option<Name>,
+    pub chosen_after: Option<SharedName>,
 }
 
 impl<'a> Model for Entry<'a> {
-    ghost use Rattle.std.specs.Prelude.{map};
+    ghost use Rattle.std.specs.Prelude.{◌≡◌, map};
     ghost use Rattle.std.specs.Option.{option_copied};
     ghost use Rattle.mk_cert.specs.Entry as value;
 
@@ -58,6 +60,8 @@ impl<'a> Model for Entry<'a> {
           chosen = e.chosen;
           chosen_after = e.chosen_after;
         } };
+
+    ghost invariant = { λ e. e.recipe ≡ e.node.now.recipe };
 }
 
 /// The files that a record says are read, if there is one.
@@ -169,7 +173,7 @@ impl<'a> Entry<'a> {
     pub fn reads(&self) -> &[String]
         ensures { map string_bytes result.now ≡ entry_reads self.now }
     {
-        if self.node.recipe {
+        if self.recipe {
             reads_in(self.recorded)
         } else {
             &[]
@@ -180,7 +184,7 @@ impl<'a> Entry<'a> {
     pub fn writes(&self) -> &'a [String]
         ensures { map string_bytes result.now ≡ entry_writes self.now }
     {
-        if self.node.recipe {
+        if self.recipe {
             writes_in(self.recorded)
         } else {
             &[]

@@ -1,15 +1,17 @@
 //! What is found of the files of a recipe.
 
-ghost use Rattle.std.specs.Prelude.{◌≡◌, ◌↔◌, ◌∷◌, [], true, map, IfOk, OnOk};
+ghost use Rattle.std.specs.Prelude.{◌≡◌, ◌↔◌, ◌∷◌, [], true, map, IfOk, IfSome, OnOk};
+ghost use Rattle.mk_lines.specs.Names.{has_name};
 ghost use Rattle.mk_graph.specs.Membership.{Has};
 ghost use Rattle.mk_cert.specs.Subject.{reads_of, writes_of};
 ghost use Rattle.mk_cert.specs.Candidates.{given_written, own_read, unknown_read};
-ghost use Rattle.mk_cert.specs.Entry.{IsEntry};
+ghost use Rattle.mk_cert.specs.Entry.{IsEntry, entry_writes};
 ghost use Rattle.mk_cert.specs.Listed.{Adds};
 ghost use Rattle.mk_cert.specs.FileTests.{IsUnknown};
 ghost use Rattle.mk_cert.specs.Target.{target_of};
 
 use crate::entry::Entry;
+use crate::file_names::FileNames;
 use crate::finding::Finding;
 use crate::name_list::NameList;
 use crate::number_list::FEW;
@@ -17,7 +19,6 @@ use crate::subject::Subject;
 use crate::target::Target;
 use crate::writer_findings::has_number;
 use mk_graph::laws::serial_reaches_each_once;
-use mk_lines::Name;
 use std::alloc::{AllocError, Global};
 
 /// Adds that a recipe writes a file that is given, phony or passed over, if it is.
@@ -26,6 +27,7 @@ fn note_taken(
     subject: &Subject<'_>,
     entry: &Entry<'_>,
     file: &Target<'_>,
+    names: &mut FileNames,
     found: &mut Vec<Finding>,
 ) -> Result<(), AllocError>
     requires entry { IsEntry subject.now entry.now }
@@ -39,7 +41,7 @@ fn note_taken(
         return Ok(());
     }
     let recipe = entry.shared_name(alloc, found)?;
-    let file = Name::new(alloc, file.file)?;
+    let file = names.name_of(alloc, file)?;
     found.push(Finding::GivenWritten { recipe, file })?;
     Ok(())
 }
@@ -49,6 +51,7 @@ pub fn note_given_written(
     alloc: Global,
     subject: &Subject<'_>,
     entry: &Entry<'_>,
+    names: &mut FileNames,
     found: &mut Vec<Finding>,
 ) -> Result<(), AllocError>
     requires { IsEntry subject.now entry.now }
@@ -58,7 +61,7 @@ pub fn note_given_written(
 {
     for place in 0..subject.count_of_written(entry.number) {
         let file = subject.written(entry.number, place);
-        note_taken(alloc, subject, entry, &file, found)?;
+        note_taken(alloc, subject, entry, &file, names, found)?;
     }
     Ok(())
 }
@@ -80,6 +83,7 @@ fn note_unknown(
     subject: &Subject<'_>,
     entry: &Entry<'_>,
     file: &Target<'_>,
+    names: &mut FileNames,
     found: &mut Vec<Finding>,
 ) -> Result<(), AllocError>
     requires entry { IsEntry subject.now entry.now }
@@ -92,7 +96,7 @@ fn note_unknown(
         return Ok(());
     }
     let recipe = entry.shared_name(alloc, found)?;
-    let file = Name::new(alloc, file.file)?;
+    let file = names.name_of(alloc, file)?;
     found.push(Finding::UnknownRead { recipe, file })?;
     Ok(())
 }
@@ -102,6 +106,7 @@ pub fn note_unknown_reads(
     alloc: Global,
     subject: &Subject<'_>,
     entry: &Entry<'_>,
+    names: &mut FileNames,
     found: &mut Vec<Finding>,
 ) -> Result<(), AllocError>
     requires { IsEntry subject.now entry.now }
@@ -111,26 +116,49 @@ pub fn note_unknown_reads(
 {
     for place in 0..subject.count_of_unsettled(entry.number) {
         let file = subject.unsettled(entry.number, place);
-        note_unknown(alloc, subject, entry, &file, found)?;
+        note_unknown(alloc, subject, entry, &file, names, found)?;
     }
     Ok(())
 }
 
+/// Whether a name stands among what a recipe writes, which is looked at where that is asked first.
+fn writes_name<'a>(
+    alloc: Global,
+    entry: &Entry<'a>,
+    written: &mut Option<NameList<'a>>,
+    name: &str,
+) -> Result<bool, AllocError>
+    requires { IfSome written.old (λ list. list ≡ entry_writes entry.now) }
+    ensures writes { IfOk result (λ writes. writes ≡ has_name (entry_writes entry.now) name.now) }
+    ensures written { OnOk result
+        (IfSome written.new (λ list. list ≡ entry_writes entry.now)) }
+{
+    let mut list = match written.take() {
+        Some(list) => list,
+        None => NameList::new(entry.writes()),
+    };
+    list.note_use(alloc)?;
+    let writes = list.has(name);
+    *written = Some(list);
+    Ok(writes)
+}
+
 /// Whether a recipe writes a file that it reads: it is one of those that write the file, and where
 /// these are many, the name of the file is one of what it writes.
-fn is_own(
+fn is_own<'a>(
     alloc: Global,
     subject: &Subject<'_>,
-    entry: &Entry<'_>,
-    written: &mut NameList<'_>,
+    entry: &Entry<'a>,
+    written: &mut Option<NameList<'a>>,
     file: &Target<'_>,
 ) -> Result<bool, AllocError>
     requires entry { IsEntry subject.now entry.now }
-    requires written { written.old ≡ writes_of subject.now entry.now.number }
+    requires written { IfSome written.old (λ list. list ≡ entry_writes entry.now) }
     requires file { file.now ≡ target_of subject.now file.now.file }
     ensures own { IfOk result (λ own. (own ≡ true) ↔
         Has (writes_of subject.now entry.now.number) file.now.file) }
-    ensures same { written.new ≡ written.old }
+    ensures written { OnOk result
+        (IfSome written.new (λ list. list ≡ entry_writes entry.now)) }
 {
     serial_reaches_each_once();
     let _graph = subject.graph();
@@ -138,32 +166,33 @@ fn is_own(
     if writers.len() <= FEW {
         return Ok(has_number(writers, entry.number));
     }
-    written.note_use(alloc)?;
-    Ok(written.has(file.file))
+    writes_name(alloc, entry, written, file.file)
 }
 
 /// Adds that a recipe writes a file that it reads, if it does.
-fn note_own(
+fn note_own<'a>(
     alloc: Global,
     subject: &Subject<'_>,
-    entry: &Entry<'_>,
-    written: &mut NameList<'_>,
+    entry: &Entry<'a>,
+    written: &mut Option<NameList<'a>>,
     file: &Target<'_>,
+    names: &mut FileNames,
     found: &mut Vec<Finding>,
 ) -> Result<(), AllocError>
     requires entry { IsEntry subject.now entry.now }
-    requires written { written.old ≡ writes_of subject.now entry.now.number }
+    requires written { IfSome written.old (λ list. list ≡ entry_writes entry.now) }
     requires file { file.now ≡ target_of subject.now file.now.file }
     requires read { Has (reads_of subject.now entry.now.number) file.now.file }
     ensures added { OnOk result (Adds subject.now (own_read entry.now.number file.now.file ∷ [])
         found.old.items found.new.items) }
-    ensures same { written.new ≡ written.old }
+    ensures written { OnOk result
+        (IfSome written.new (λ list. list ≡ entry_writes entry.now)) }
 {
     if !is_own(alloc, subject, entry, written, file)? {
         return Ok(());
     }
     let recipe = entry.shared_name(alloc, found)?;
-    let file = Name::new(alloc, file.file)?;
+    let file = names.name_of(alloc, file)?;
     found.push(Finding::OwnRead { recipe, file })?;
     Ok(())
 }
@@ -173,6 +202,7 @@ pub fn note_own_reads(
     alloc: Global,
     subject: &Subject<'_>,
     entry: &Entry<'_>,
+    names: &mut FileNames,
     found: &mut Vec<Finding>,
 ) -> Result<(), AllocError>
     requires { IsEntry subject.now entry.now }
@@ -182,10 +212,10 @@ pub fn note_own_reads(
 {
     serial_reaches_each_once();
     let _graph = subject.graph();
-    let mut written = NameList::new(entry.writes());
+    let mut written = None;
     for place in 0..subject.count_of_unsettled(entry.number) {
         let file = subject.unsettled(entry.number, place);
-        note_own(alloc, subject, entry, &mut written, &file, found)?;
+        note_own(alloc, subject, entry, &mut written, &file, names, found)?;
     }
     Ok(())
 }

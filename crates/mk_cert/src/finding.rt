@@ -7,8 +7,8 @@ use crate::shared_name::SharedName;
 use mk_lines::Name;
 use std::fmt;
 
-/// What stands against a build, with the names that are printed of it. A recipe that is told of
-/// again and again has its name once, which its findings share.
+/// What stands against a build, with the names that are printed of it. A recipe or a file that is
+/// told of again and again has its name once, which its findings share.
 #[derive(Debug, Drop)]
 pub enum Finding {
     /// The recipe has no record.
@@ -36,22 +36,22 @@ pub enum Finding {
     /// It writes a file that is given, phony, or passed over by the reading of the makefile.
     GivenWritten {
         recipe: SharedName,
-        file: Name,
+        file: SharedName,
     },
     /// It reads a file that it writes.
     OwnRead {
         recipe: SharedName,
-        file: Name,
+        file: SharedName,
     },
     /// It reads a file that is neither given nor written by any recipe.
     UnknownRead {
         recipe: SharedName,
-        file: Name,
+        file: SharedName,
     },
     /// The name has no recipe, and the writer of its file is no direct prerequisite of it.
     Loose {
         name: SharedName,
-        writer: Name,
+        writer: SharedName,
     },
     /// It reads a file whose writer isn't always done before it begins.
     Race {
@@ -62,12 +62,12 @@ pub enum Finding {
     /// It reads a file that can change, and nothing makes it run when the file does.
     Stale {
         recipe: SharedName,
-        file: Name,
+        file: SharedName,
     },
     /// Once recipes have written their files, the name has another inferred prerequisite.
     Selection {
         name: SharedName,
-        chosen: Name,
+        chosen: SharedName,
     },
 }
 

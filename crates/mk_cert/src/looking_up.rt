@@ -18,11 +18,12 @@ ghost use Rattle.mk_cert.specs.Entry.{IsEntry, AreEntries, AreEntriesOf, IsFault
 
 use crate::entry::{Entry, has_others, is_unwritten, kept_lines};
 use crate::records::Records;
+use crate::shared_name::SharedName;
 use mk_choice::{Choices, Made, choice, choice_and_commands};
 use mk_graph::Graph;
 use mk_graph::laws::serial_reaches_each_once;
 use mk_infer::{Exists, InferFault, RuleTable};
-use mk_lines::{Name, NameTable};
+use mk_lines::NameTable;
 use std::alloc::{AllocError, Global};
 
 /// Copies of names, behind others.
@@ -53,22 +54,26 @@ fn writes_among(
     Ok(names)
 }
 
-/// A name that owns its text, where there is one.
-fn owned(alloc: Global, name: Option<&str>) -> Result<Option<Name>, AllocError>
+/// A name that is shared, where there is one.
+fn shared(alloc: Global, name: Option<&str>) -> Result<Option<SharedName>, AllocError>
     ensures { IfOk result (λ copy. copy ≡ option_map (λ name. name.now) name.entry) }
 {
     match name {
-        Some(name) => Ok(Some(Name::new(alloc, name)?)),
+        Some(name) => Ok(Some(SharedName::new(alloc, name)?)),
         None => Ok(None),
     }
 }
 
 /// The inferred prerequisite of a name, if it has one.
-fn choice_of(alloc: Global, choices: &Choices<'_>, name: &str) -> Result<Option<Name>, AllocError>
+fn choice_of(
+    alloc: Global,
+    choices: &Choices<'_>,
+    name: &str,
+) -> Result<Option<SharedName>, AllocError>
     ensures { IfOk result (λ chosen. chosen ≡
         choice choices.now.makefile choices.now.exists name.now) }
 {
-    owned(alloc, choice(alloc, choices, name)?)
+    shared(alloc, choice(alloc, choices, name)?)
 }
 
 /// The inferred prerequisites of these nodes.
@@ -77,7 +82,7 @@ fn choices_of(
     choices: &Choices<'_>,
     graph: &Graph,
     order: &[usize],
-) -> Result<Vec<Option<Name>>, AllocError>
+) -> Result<Vec<Option<SharedName>>, AllocError>
     requires { All (λ n. n < length graph.now.nodes) order.now }
     ensures { IfOk result (λ chosen. chosen.items ≡
         map (λ n. choice choices.now.makefile choices.now.exists (node graph.now n).name)
@@ -99,7 +104,7 @@ fn choices_with(
     names: &NameTable,
     graph: &Graph,
     order: &[usize],
-) -> Result<Vec<Option<Name>>, AllocError>
+) -> Result<Vec<Option<SharedName>>, AllocError>
     requires { All (λ n. n < length graph.now.nodes) order.now }
     ensures { IfOk result (λ chosen. chosen.items ≡
         map (λ n. choice table.now (with_more there.now names.now) (node graph.now n).name)
@@ -116,8 +121,8 @@ fn choices_with(
     choices_of(alloc, &choices, graph, order)
 }
 
-/// A copy of a name, where there is one.
-fn copy_of(name: &Option<Name>) -> Result<Option<Name>, AllocError>
+/// The same name, where there is one.
+fn copy_of(name: &Option<SharedName>) -> Result<Option<SharedName>, AllocError>
     ensures { IfOk result (λ copy. copy ≡ name.now) }
 {
     match name {
@@ -126,37 +131,27 @@ fn copy_of(name: &Option<Name>) -> Result<Option<Name>, AllocError>
     }
 }
 
-/// What is told of a place, where something is.
-fn told_at<'c>(told: Option<&'c [Option<Name>]>, place: usize) -> Option<&'c Option<Name>>
-    requires { IfSome told (λ told. place < length told.now) }
-    ensures { MatchOption result (told.entry ≡ None)
-        (λ here. (all : Bor (List (Option (List ℕ)))) × (told.entry ≡ Some all) ×
-        (here.now ≡ slice_index_or all.now place None)) }
-{
-    match told {
-        Some(told) => Some(&told[place]),
-        None => None,
-    }
-}
-
 /// What is looked up of a node. The fault is that of its commands. Where nothing is told of its
-/// inferred prerequisite once all recipes have written their files, it is the same then.
+/// inferred prerequisite once all recipes have written their files, it is taken to stay.
 fn entry_of<'a>(
     alloc: Global,
     choices: &Choices<'_>,
     records: &Records<'a>,
     number: usize,
-    after: Option<&Option<Name>>,
+    after: Option<&Option<SharedName>>,
 ) -> Result<Entry<'a>, InferFault>
-    requires node { number < length records.now.graph.nodes }
-    requires after { MatchOption after
+    requires { number < length records.now.graph.nodes }
+    ensures number { IfOk result (λ entry. entry.number ≡ number) }
+    ensures told { IfOk result (λ entry. commands_of
+        (subject_of choices.now.makefile choices.now.exists
+        records.now.graph records.now.setting) number ≡ Ok entry.commands) }
+    ensures entry { IfOk result (λ entry. MatchOption after.entry
         (StaysChosen (subject_of choices.now.makefile choices.now.exists
         records.now.graph records.now.setting)
         number)
         (λ after. after.now ≡ choice_after
         (subject_of choices.now.makefile choices.now.exists
-        records.now.graph records.now.setting) number) }
-    ensures entry { IfOk result (λ entry. (entry.number ≡ number) ×
+        records.now.graph records.now.setting) number) →
         IsEntry (subject_of choices.now.makefile choices.now.exists
         records.now.graph records.now.setting) entry) }
     ensures fault { IfErr result (λ fault. (fault ≡ Memory) ⊎ (commands_of
@@ -167,7 +162,7 @@ fn entry_of<'a>(
     let node = &records.graph().nodes()[number];
     let name = node.name.as_str();
     let Made { choice, commands } = choice_and_commands(alloc, choices, name)?;
-    let chosen = owned(alloc, choice)?;
+    let chosen = shared(alloc, choice)?;
     let chosen_after = match after {
         Some(after) => copy_of(after)?,
         None => copy_of(&chosen)?,
@@ -179,46 +174,13 @@ fn entry_of<'a>(
         node,
         recorded,
         own: kept_lines(alloc, recorded, others, commands.lines),
+        recipe: node.recipe,
         varying: commands.varying,
         others,
         unwritten: is_unwritten(node, recorded),
         chosen,
         chosen_after,
     })
-}
-
-/// What is looked up of these nodes. The fault is the first one of their commands. Where nothing is
-/// told of their inferred prerequisites once all recipes have written their files, these stay.
-fn entries_of<'a>(
-    alloc: Global,
-    choices: &Choices<'_>,
-    records: &Records<'a>,
-    order: &[usize],
-    after: Option<&[Option<Name>]>,
-) -> Result<Vec<Entry<'a>>, InferFault>
-    requires nodes { All (λ n. n < length records.now.graph.nodes) order.now }
-    requires after { MatchOption after
-        ((n : ℕ) → StaysChosen
-        (subject_of choices.now.makefile choices.now.exists
-        records.now.graph records.now.setting) n)
-        (λ after. after.now ≡ map (choice_after
-        (subject_of choices.now.makefile choices.now.exists
-        records.now.graph records.now.setting)) order.now) }
-    ensures entries { IfOk result (λ entries. AreEntriesOf
-        (subject_of choices.now.makefile choices.now.exists
-        records.now.graph records.now.setting) order.now
-        entries.items) }
-    ensures fault { IfErr result (λ fault. (fault ≡ Memory) ⊎ IsFirstFault
-        (subject_of choices.now.makefile choices.now.exists
-        records.now.graph records.now.setting) order.now
-        fault) }
-{
-    let mut entries = Vec::with_capacity(alloc, order.len())?;
-    for (place, number) in order.iter().enumerate() {
-        let here = told_at(after, place);
-        entries.push(entry_of(alloc, choices, records, *number, here)?)?;
-    }
-    Ok(entries)
 }
 
 /// Whether a file is a target or a source, and so there before a make.
@@ -244,26 +206,36 @@ fn are_there(table: &RuleTable<'_>, there: &Exists<'_>, files: &[String]) -> boo
     true
 }
 
-/// Whether all files that the recipes of these nodes write are there before a make, as nearly all
-/// are: they are targets.
-fn writes_are_there(
+/// What is looked up of each node of a graph, in this order, where all that recipes write is there
+/// before a make, as nearly always: then no choice changes. Else none. The fault is the first one of
+/// their commands.
+fn entries_that_stay<'a>(
+    alloc: Global,
     table: &RuleTable<'_>,
     there: &Exists<'_>,
-    records: &Records<'_>,
+    choices: &Choices<'_>,
+    records: &Records<'a>,
     order: &[usize],
-) -> bool
-    requires { All (λ n. n < length records.now.graph.nodes) order.now }
-    ensures { result ≡ true → (f : List ℕ) →
-        Has (flat_map (build.writes records.now.graph (footprints records.now.setting))
-        order.now) f →
-        is_there table.now there.now f ≡ true }
+) -> Result<Option<Vec<Entry<'a>>>, InferFault>
+    requires nodes { All (λ n. n < length records.now.graph.nodes) order.now }
+    requires order { order.now ≡ serial_order records.now.graph }
+    requires choices { choices.now ≡ record { makefile = table.now; exists = there.now } }
+    requires nothing_more { there.now.more ≡ [] }
+    ensures entries { IfOk result (λ entries. IfSome entries (λ entries. AreEntries
+        (subject_of table.now there.now
+        records.now.graph records.now.setting) entries.items)) }
+    ensures fault { IfErr result (λ fault. IsFaultOf
+        (subject_of table.now there.now
+        records.now.graph records.now.setting) fault) }
 {
+    let mut entries = Vec::with_capacity(alloc, order.len())?;
     for number in order {
         if !are_there(table, there, records.writes_of(*number)) {
-            return false;
+            return Ok(None);
         }
+        entries.push(entry_of(alloc, choices, records, *number, None)?)?;
     }
-    true
+    Ok(Some(entries))
 }
 
 /// The inferred prerequisites of the nodes of a graph where all recipes have written their files.
@@ -273,7 +245,7 @@ fn choices_after(
     there: &Exists<'_>,
     records: &Records<'_>,
     order: &[usize],
-) -> Result<Vec<Option<Name>>, AllocError>
+) -> Result<Vec<Option<SharedName>>, AllocError>
     requires nodes { All (λ n. n < length records.now.graph.nodes) order.now }
     requires order { order.now ≡ serial_order records.now.graph }
     ensures { IfOk result (λ chosen. chosen.items ≡ map (choice_after
@@ -283,6 +255,36 @@ fn choices_after(
     let writes = writes_among(alloc, records, order)?;
     let names = NameTable::new(alloc, writes)?;
     choices_with(alloc, table, there, &names, records.graph(), order)
+}
+
+/// What is looked up of these nodes, of which it is told what their inferred prerequisites are once
+/// all recipes have written their files. The fault is the first one of their commands.
+fn entries_with<'a>(
+    alloc: Global,
+    choices: &Choices<'_>,
+    records: &Records<'a>,
+    order: &[usize],
+    after: &[Option<SharedName>],
+) -> Result<Vec<Entry<'a>>, InferFault>
+    requires nodes { All (λ n. n < length records.now.graph.nodes) order.now }
+    requires after { after.now ≡ map (choice_after
+        (subject_of choices.now.makefile choices.now.exists
+        records.now.graph records.now.setting)) order.now }
+    ensures entries { IfOk result (λ entries. AreEntriesOf
+        (subject_of choices.now.makefile choices.now.exists
+        records.now.graph records.now.setting) order.now
+        entries.items) }
+    ensures fault { IfErr result (λ fault. (fault ≡ Memory) ⊎ IsFirstFault
+        (subject_of choices.now.makefile choices.now.exists
+        records.now.graph records.now.setting) order.now
+        fault) }
+{
+    let mut entries = Vec::with_capacity(alloc, order.len())?;
+    for (place, number) in order.iter().enumerate() {
+        let here = Some(&after[place]);
+        entries.push(entry_of(alloc, choices, records, *number, here)?)?;
+    }
+    Ok(entries)
 }
 
 /// The numbers of the nodes of a graph, in the serial order.
@@ -314,9 +316,9 @@ pub fn entries_for<'a>(
 {
     let order = order_of(records.graph())?;
     let choices = Choices::new(alloc, table, there)?;
-    if writes_are_there(table, there, records, &order) {
-        return entries_of(alloc, &choices, records, &order, None);
+    if let Some(entries) = entries_that_stay(alloc, table, there, &choices, records, &order)? {
+        return Ok(entries);
     }
     let after = choices_after(alloc, table, there, records, &order)?;
-    entries_of(alloc, &choices, records, &order, Some(&after))
+    entries_with(alloc, &choices, records, &order, &after)
 }

@@ -9,14 +9,14 @@ ghost use Rattle.mk_cert.specs.Tests.{lacks_record, has_varying, has_other_comma
 
 use crate::entry::Entry;
 use crate::finding::Finding;
-use mk_lines::Name;
+use crate::shared_name::SharedName;
 use std::alloc::AllocError;
 
 /// Whether the recipe of a node has no record.
 fn lacks_record(entry: &Entry<'_>) -> bool
     ensures { result ≡ lacks_record entry.now }
 {
-    entry.recorded.is_none() && entry.node.recipe
+    entry.recorded.is_none() && entry.recipe
 }
 
 /// Adds that the recipe of a node has no record, if it has none.
@@ -36,7 +36,7 @@ pub fn note_no_record(entry: &Entry<'_>, found: &mut Vec<Finding>) -> Result<(),
 fn has_varying(entry: &Entry<'_>) -> bool
     ensures { result ≡ has_varying entry.now }
 {
-    entry.varying && entry.node.recipe
+    entry.varying && entry.recipe
 }
 
 /// Adds that the commands of the recipe of a node vary, if they do.
@@ -69,7 +69,7 @@ pub fn note_no_target(entry: &Entry<'_>, found: &mut Vec<Finding>) -> Result<(),
 fn has_other_commands(entry: &Entry<'_>) -> bool
     ensures { result ≡ has_other_commands entry.now }
 {
-    entry.others && entry.node.recipe && !entry.varying
+    entry.others && entry.recipe && !entry.varying
 }
 
 /// Adds that the record of a node has other commands than its recipe, if it has.
@@ -86,7 +86,7 @@ pub fn note_other_commands(entry: &Entry<'_>, found: &mut Vec<Finding>) -> Resul
 }
 
 /// Whether the name is the one that was chosen.
-fn is_choice(chosen: &Option<Name>, name: &Name) -> bool
+fn is_choice(chosen: &Option<SharedName>, name: &SharedName) -> bool
     ensures { (result ≡ true) ↔ (chosen.now ≡ Some name.now) }
 {
     match chosen {

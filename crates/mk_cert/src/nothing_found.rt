@@ -9,6 +9,7 @@ ghost use Rattle.mk_cert.specs.Questions.{asked_of, found_of};
 
 use crate::asking::ask;
 use crate::entry::Entry;
+use crate::file_names::FileNames;
 use crate::finding::Finding;
 use crate::pairs::note_files;
 use crate::question::{BEFORE_PAIRS, BEHIND_PAIRS, Question};
@@ -28,8 +29,9 @@ fn ask_of(
     ensures { OnOk result (Adds subject.now
         (asked_of subject.now questions.now entry.now.number) found.old.items found.new.items) }
 {
+    let mut names = FileNames::new(alloc);
     for question in questions {
-        ask(alloc, subject, *question, entry, found)?;
+        ask(alloc, subject, *question, entry, &mut names, found)?;
     }
     Ok(())
 }

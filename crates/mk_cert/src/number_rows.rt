@@ -1,6 +1,7 @@
 //! Rows of numbers in one list.
 
 ghost use Rattle.std.specs.Prelude.{◌≡◌, ◌<◌, ◌∷◌, ◌++◌, [], length, slice_index_or, IfOk, OnOk};
+ghost use Rattle.std.specs.List.{concat};
 
 use std::alloc::{AllocError, Global};
 use std::marker::Model;
@@ -64,6 +65,13 @@ impl NumberRows {
         ensures { result ≡ length self.now }
     {
         self.ends.len()
+    }
+
+    /// How many numbers they have together.
+    pub fn total(&self) -> usize
+        ensures { result ≡ length (concat self.now) }
+    {
+        self.numbers.len()
     }
 
     /// The row at a place, or one without numbers, where there is none.

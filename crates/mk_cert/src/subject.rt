@@ -1,6 +1,6 @@
 //! What is judged.
 
-ghost use Rattle.std.specs.Prelude.{◌≡◌, ◌<◌, List, ℕ, [], false, length, map, slice_get, slice_index_or, Ok, Some, IfErr, IfOk, MatchOption};
+ghost use Rattle.std.specs.Prelude.{◌≡◌, ◌<◌, ◌≤◌, List, ℕ, [], false, length, map, slice_get, slice_index_or, Ok, Some, IfErr, IfOk, MatchOption};
 ghost use Rattle.mk_graph.specs.Graph.{IsGraph};
 ghost use Rattle.mk_graph.specs.Membership.{Has};
 ghost use Rattle.mk_graph.specs.Setting as build;
@@ -17,9 +17,9 @@ use crate::target::Target;
 use mk_foot::Setting;
 use mk_graph::Graph;
 use mk_infer::{Exists, InferFault, RuleTable};
-use mk_lines::{Name, NameSet};
+use mk_lines::NameSet;
 use mk_read::Makefile;
-use std::alloc::{AllocError, Global};
+use std::alloc::Global;
 use std::marker::Model;
 
 /// The file at a place of files, with what is known of it.
@@ -37,6 +37,7 @@ fn target_at<'s>(files: &'s Files<'_>, at: usize) -> Target<'s>
     };
     Target {
         file,
+        place: at,
         known: &files.known[at],
     }
 }
@@ -172,14 +173,6 @@ impl<'a> Subject<'a> {
         self.graph().nodes()[number].name.as_str()
     }
 
-    /// A copy of the name of a node. The error is want of memory alone.
-    pub(crate) fn copy_of_name(&self, number: usize) -> Result<Name, AllocError>
-        requires { number < length self.now.graph.nodes }
-        ensures { IfOk result (λ name. name ≡ name_of self.now number) }
-    {
-        self.graph().nodes()[number].name.clone()
-    }
-
     /// The names of the nodes, each at its number.
     pub fn names(&self) -> &NameSet<'a>
         ensures { result.now ≡ all_names self.now }
@@ -195,6 +188,15 @@ impl<'a> Subject<'a> {
     {
         let at = self.tables.files.nodes[number];
         self.tables.files.known[at].writers.as_slice()
+    }
+
+    /// The file with the name of a node, with what is known of it. It takes no memory.
+    pub(crate) fn file_of_node(&self, number: usize) -> Target<'_>
+        requires { number < length self.now.graph.nodes }
+        ensures { result ≡ target_of self.entry.now (name_of self.entry.now number) }
+    {
+        let place = self.tables.files.nodes[number];
+        target_at(&self.tables.files, place)
     }
 
     /// How many files the recipe of a node writes. It takes no memory.
@@ -227,6 +229,14 @@ impl<'a> Subject<'a> {
         ensures { result ≡ length (unsettled_of self.now number) }
     {
         self.tables.unsettled.at(number).len()
+    }
+
+    /// How many files all recipes read that aren't settled: no recipe reads more of them. It takes
+    /// no memory.
+    pub fn count_of_all_unsettled(&self) -> usize
+        ensures { (t : ℕ) → length (unsettled_of self.now t) ≤ result }
+    {
+        self.tables.unsettled.total()
     }
 
     /// The file at a place among those that the recipe of a node reads and that aren't settled,

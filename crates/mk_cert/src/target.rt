@@ -15,6 +15,8 @@ use std::marker::Model;
 pub struct Target<'a> {
     /// Its name.
     pub file: &'a str,
+    /// Its place among the files that recipes read or write.
+    pub(crate) place: usize,
     /// What is known of it.
     pub(crate) known: &'a Known,
 }

@@ -9,6 +9,7 @@ ghost use Rattle.mk_cert.specs.Entry.{IsEntry, writers_of};
 ghost use Rattle.mk_cert.specs.Listed.{Adds};
 
 use crate::entry::Entry;
+use crate::file_names::FileNames;
 use crate::finding::Finding;
 use crate::subject::Subject;
 use std::alloc::AllocError;
@@ -30,6 +31,7 @@ fn note_loose_writer(
     subject: &Subject<'_>,
     entry: &Entry<'_>,
     writer: usize,
+    names: &mut FileNames,
     found: &mut Vec<Finding>,
 ) -> Result<(), AllocError>
     requires entry { IsEntry subject.now entry.now }
@@ -41,8 +43,9 @@ fn note_loose_writer(
     if has_number(subject.graph().prerequisites(entry.number), writer) {
         return Ok(());
     }
-    let name = entry.shared_name(*found.allocator(), found)?;
-    let writer = subject.copy_of_name(writer)?;
+    let alloc = *found.allocator();
+    let name = entry.shared_name(alloc, found)?;
+    let writer = names.name_of(alloc, &subject.file_of_node(writer))?;
     found.push(Finding::Loose { name, writer })?;
     Ok(())
 }
@@ -52,6 +55,7 @@ fn note_loose_writers(
     subject: &Subject<'_>,
     entry: &Entry<'_>,
     writers: &[usize],
+    names: &mut FileNames,
     found: &mut Vec<Finding>,
 ) -> Result<(), AllocError>
     requires entry { IsEntry subject.now entry.now }
@@ -62,7 +66,7 @@ fn note_loose_writers(
         (map (λ o. loose entry.now.number o) writers.now) found.old.items found.new.items) }
 {
     for writer in writers {
-        note_loose_writer(subject, entry, *writer, found)?;
+        note_loose_writer(subject, entry, *writer, names, found)?;
     }
     Ok(())
 }
@@ -83,6 +87,7 @@ fn writers_for<'s>(subject: &'s Subject<'_>, entry: &Entry<'_>) -> &'s [usize]
 pub fn note_loose(
     subject: &Subject<'_>,
     entry: &Entry<'_>,
+    names: &mut FileNames,
     found: &mut Vec<Finding>,
 ) -> Result<(), AllocError>
     requires { IsEntry subject.now entry.now }
@@ -90,9 +95,9 @@ pub fn note_loose(
         (map (λ o. loose entry.now.number o) (serial_order subject.now.graph))
         found.old.items found.new.items) }
 {
-    if entry.node.recipe {
+    if entry.recipe {
         return Ok(());
     }
     let writers = writers_for(subject, entry);
-    note_loose_writers(subject, entry, writers, found)
+    note_loose_writers(subject, entry, writers, names, found)
 }

@@ -21,7 +21,7 @@ use crate::repeats::is_read_before;
 use crate::stale::note_stale;
 use crate::standing::{Standing, standing_of};
 use mk_cert::laws::{listed_exactly, paths_are_ways};
-use mk_cert::{Ends, Entry, Finding, Subject, Target, carried_lists, ends_of};
+use mk_cert::{Ends, Entry, FileNames, Finding, Subject, Target, carried_lists, ends_of};
 use mk_foot::laws::once_keeps_first;
 use mk_graph::Groups;
 use mk_lines::NameSet;
@@ -32,12 +32,12 @@ use std::alloc::{AllocError, Global};
 /// Adds that a read is stale, if it is. What it gives is the entry for the read, if one is needed
 /// and nothing is found even then.
 fn judge_read(
-    alloc: Global,
     subject: &Subject<'_>,
     ends: &Ends<'_>,
     search: &mut Search<'_>,
     entry: &Entry<'_>,
     file: &Target<'_>,
+    names: &mut FileNames,
     found: &mut Vec<Finding>,
 ) -> Result<Option<FirstPath>, AllocError>
     requires entry { IsEntry subject.now entry.now }
@@ -60,12 +60,13 @@ fn judge_read(
 {
     listed_exactly();
     paths_are_ways();
+    let alloc = *found.allocator();
     match standing_of(alloc, subject, ends, search, file)? {
         Standing::Fixed => Ok(None),
         Standing::Led(path) if found.is_empty() => Ok(Some(path)),
         Standing::Led(_) => Ok(None),
         Standing::Stale => {
-            note_stale(alloc, entry, file.file, found)?;
+            note_stale(entry, file, names, found)?;
             Ok(None)
         }
     }
@@ -108,11 +109,11 @@ fn push_once<'s>(
 
 /// Adds which reads of a recipe are stale, and while nothing is found the entries for its reads.
 fn judge_reads(
-    alloc: Global,
     subject: &Subject<'_>,
     ends: &Ends<'_>,
     search: &mut Search<'_>,
     entry: &Entry<'_>,
+    names: &mut FileNames,
     found: &mut Vec<Finding>,
     ways: &mut Entries,
 ) -> Result<(), AllocError>
@@ -130,10 +131,10 @@ fn judge_reads(
         (reads_by subject.now entry.now.number) ways.old ways.new) }
 {
     once_keeps_first();
-    let mut seen = NameSet::new(alloc);
+    let mut seen = NameSet::new(*found.allocator());
     for place in 0..subject.count_of_reads(entry.number) {
         let file = subject.read(entry, place);
-        let path = judge_read(alloc, subject, ends, search, entry, &file, found)?;
+        let path = judge_read(subject, ends, search, entry, &file, names, found)?;
         if let Some(path) = path {
             push_once(subject, entry, place, &path, &mut seen, ways)?;
         }
@@ -144,11 +145,11 @@ fn judge_reads(
 /// Adds which reads of a recipe are stale, and while nothing is found the entries for its reads.
 /// The recipe is searched from once, where it reads anything.
 fn judge_recipe(
-    alloc: Global,
     subject: &Subject<'_>,
     ends: &Ends<'_>,
     rows: &Groups,
     entry: &Entry<'_>,
+    names: &mut FileNames,
     found: &mut Vec<Finding>,
     ways: &mut Entries,
 ) -> Result<(), AllocError>
@@ -166,17 +167,8 @@ fn judge_recipe(
     if subject.count_of_reads(entry.number) == 0 {
         return Ok(());
     }
-    let mut search = Search::new(alloc, rows, entry.number)?;
-    judge_reads(alloc, subject, ends, &mut search, entry, found, ways)
-}
-
-/// How many reads recipes have of files that aren't settled: there are no more entries.
-fn count_of_unsettled(subject: &Subject<'_>) -> usize {
-    let mut reads = 0usize;
-    for entry in subject.entries() {
-        reads = reads.saturating_add(subject.count_of_unsettled(entry.number));
-    }
-    reads
+    let mut search = Search::new(*found.allocator(), rows, entry.number)?;
+    judge_reads(subject, ends, &mut search, entry, names, found, ways)
 }
 
 /// Adds which reads are stale, where nothing is found without a search. What it gives are the
@@ -195,9 +187,11 @@ pub(crate) fn judge_all(
     let ends = ends_of(alloc, subject)?;
     let rows = carried_lists(alloc, subject)?;
     let entries = subject.entries();
-    let mut ways = Entries::with_capacity(alloc, count_of_unsettled(subject))?;
+    // There are no more entries than reads of files that aren't settled.
+    let mut ways = Entries::with_capacity(alloc, subject.count_of_all_unsettled())?;
+    let mut names = FileNames::new(alloc);
     for entry in entries {
-        judge_recipe(alloc, subject, &ends, &rows, entry, found, &mut ways)?;
+        judge_recipe(subject, &ends, &rows, entry, &mut names, found, &mut ways)?;
     }
     Ok(ways.into_ways())
 }

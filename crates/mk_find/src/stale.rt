@@ -7,23 +7,23 @@ ghost use Rattle.mk_cert.specs.Entry.{IsEntry};
 ghost use Rattle.mk_cert.specs.Listed.{Adds};
 ghost use Rattle.mk_cert.specs.Subject.{Subject};
 
-use mk_cert::{Entry, Finding};
-use mk_lines::Name;
-use std::alloc::{AllocError, Global};
+use mk_cert::{Entry, FileNames, Finding, Target};
+use std::alloc::AllocError;
 
 /// Adds that a read is stale.
 pub(crate) fn note_stale(
-    alloc: Global,
     entry: &Entry<'_>,
-    file: &str,
+    file: &Target<'_>,
+    names: &mut FileNames,
     found: &mut Vec<Finding>,
 ) -> Result<(), AllocError>
     ensures { OnOk result ((x : Subject) → IsEntry x entry.now →
-        IsStale x entry.now.number file.now →
-        Adds x (stale entry.now.number file.now ∷ []) found.old.items found.new.items) }
+        IsStale x entry.now.number file.now.file →
+        Adds x (stale entry.now.number file.now.file ∷ []) found.old.items found.new.items) }
 {
+    let alloc = *found.allocator();
     let recipe = entry.shared_name(alloc, found)?;
-    let file = Name::new(alloc, file)?;
+    let file = names.name_of(alloc, file)?;
     found.push(Finding::Stale { recipe, file })?;
     Ok(())
 }

@@ -1,15 +1,17 @@
 -- The recipe writes the file just where it is one of its writers.
 use Rattle.std.proofs.Common.{◌≡◌, ◌∙◌, ℕ, List, false, ⊎_elim, ap, sym, subst}
 use Rattle.std.proofs.lemmas.Bool.{cases_Bool}
+use Rattle.std.proofs.lemmas.Result.{IfOk-weaker}
 use Rattle.mk_lines.specs.Names.{has_name}
 use Rattle.mk_graph.specs.Graph.{IsGraph}
 use Rattle.mk_graph.specs.Laws.{SerialReachesEachOnce}
 use Rattle.mk_graph.specs.Membership.{Has, has}
 use Rattle.mk_graph.specs.Serial.{serial_order}
-use Rattle.mk_cert.specs.Entry.{Entry, writers_of}
+use Rattle.mk_cert.specs.Entry.{Entry, entry_writes, writers_of}
 use Rattle.mk_cert.specs.Subject.{Subject, writes_of}
 use Rattle.mk_cert.specs.Target.{Target}
 use Rattle.mk_cert.proofs.Decided.{has_decides}
+use Rattle.mk_cert.proofs.Entries.{same_writes}
 use Rattle.mk_cert.proofs.FileDecided.{kept, number_out, own_there}
 use Rattle.mk_cert.proofs.Sound.{writer_in_order}
 use Rattle.mk_cert.proofs.file_findings.is_own.Goals as goal
@@ -34,9 +36,11 @@ returns-then-writers-le-FEW-clause-own c =
 
 pub returns-clause-own : goal.returns-clause-own
 returns-clause-own c =
-    let files = writes_of c.args.subject.now c.args.entry.now.number in
+    let x = c.args.subject.now in
+    let e = c.args.entry.now in
+    let files = writes_of x e.number in
     let f = c.args.file.now.file in
     let named : c.file.inside.file.now ≡ f = ap (λ (k : Target). k.file) c.file.view_is in
-    let told : c.has.result ≡ has_name files f = c.has.ensures ∙ (ap (λ (l : List (List ℕ)). has_name l c.file.inside.file.now) (c.in_ok-note_use.ensures ∙ c.requires.written) ∙ ap (λ (g : List ℕ). has_name files g) named) in
+    let same : has_name (entry_writes e) c.file.inside.file.now ≡ has_name files f = ap (λ (g : List ℕ). has_name (entry_writes e) g) named ∙ ap (λ (l : List (List ℕ)). has_name l f) (same_writes x e c.requires.entry) in
     let decides = has_decides files f in
-    ((λ t. decides.0 (sym told ∙ t)), (λ wrote. told ∙ decides.1 wrote))
+    IfOk-weaker c.writes_name.result _ _ (λ writes told. ((λ t. decides.0 (sym (told ∙ same) ∙ t)), (λ wrote. (told ∙ same) ∙ decides.1 wrote))) c.writes_name.ensures.writes

@@ -1,10 +1,9 @@
 -- The file is one of those that the recipe writes, or it isn't.
-use Rattle.std.proofs.Common.{◌≡◌, ◌∙◌, ◌∷◌, ◌++◌, [], ℕ, List, ap, sym}
+use Rattle.std.proofs.Common.{◌∙◌, ◌∷◌, ◌++◌, [], ℕ, List, ap, sym}
 use Rattle.std.proofs.lemmas.Bool.{true≢false}
 use Rattle.mk_cert.specs.declared.finding.Finding.TheVariants.{OwnRead}
 use Rattle.mk_cert.specs.Subject.{name_of}
 use Rattle.mk_cert.specs.Candidates.{own_read}
-use Rattle.mk_cert.specs.Target.{Target}
 use Rattle.mk_cert.proofs.Adding.{adds_one, adds_none}
 use Rattle.mk_cert.proofs.Decided.{name_is}
 use Rattle.mk_cert.proofs.file_findings.note_own.Goals as goal
@@ -20,6 +19,5 @@ returns-clause-added c =
     let f = c.args.file.now.file in
     let old = c.args.found.now.items in
     let recipe = ap (λ (k : List ℕ). old ++ OwnRead k c.in_ok-file.file ∷ []) (name_is x e c.in_ok-recipe.recipe c.requires.entry c.in_ok-recipe.ensures) in
-    let file : c.in_ok-file.file ≡ f = c.in_ok-file.ensures ∙ ap (λ (t : Target). t.file) c.file.view_is in
     adds_one x (own_read e.number f) old c.push.new.self.items (c.requires.read, c.in_ok-is_own.ensures.own.0 c.if-not-branch.false)
-    (c.in_ok-push.ensures.items ∙ (recipe ∙ ap (λ (k : List ℕ). old ++ OwnRead (name_of x e.number) k ∷ []) file))
+    (c.in_ok-push.ensures.items ∙ (recipe ∙ ap (λ (k : List ℕ). old ++ OwnRead (name_of x e.number) k ∷ []) c.in_ok-file.ensures))

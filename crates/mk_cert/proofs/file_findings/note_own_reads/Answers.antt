@@ -1,5 +1,5 @@
 -- Nothing is found of the files that are settled, so the others are enough.
-use Rattle.std.proofs.Common.{◌≡◌, ◌∙◌, ◌∷◌, [], ℕ, List, ap, subst, map, drop, arith}
+use Rattle.std.proofs.Common.{◌≡◌, ◌∷◌, [], ℕ, List, ap, subst, map, drop, arith}
 use Rattle.std.specs.Prelude.{not}
 use Rattle.mk_cert.specs.Subject.{reads_of}
 use Rattle.mk_cert.specs.Candidates.{own_read}
@@ -9,14 +9,13 @@ use Rattle.mk_cert.specs.Listed.{Adds}
 use Rattle.mk_cert.specs.Settled.{is_settled}
 use Rattle.mk_cert.specs.Target.{unsettled_of}
 use Rattle.mk_cert.proofs.Adding.{adds_lifted, leads_map, leads_done}
-use Rattle.mk_cert.proofs.Entries.{same_writes}
 use Rattle.mk_cert.proofs.SettledReads.{open_at, none_left, settled, not_own_read}
 use Rattle.mk_cert.proofs.file_findings.note_own_reads.Goals as goal
 
 pub loop-place-init : goal.loop-place-init
 loop-place-init c = record {
   leads = λ last h. h;
-  written = c.new-written.ensures ∙ (c.writes.ensures ∙ same_writes c.args.subject.now c.args.entry.now c.requires);
+  written = tt;
 }
 
 pub note_own-requires-clause-written : goal.note_own-requires-clause-written
@@ -38,7 +37,7 @@ loop-place-preserved c =
     record {
       leads = leads_map x candidate (unsettled_of x e.number) i [] _ c.loop-place.found.items c.note_own.new.found.items c.args.found.now.items at.low c.loop-place.invariant.leads
           (subst (λ (f : List ℕ). Adds x (candidate f ∷ []) c.loop-place.found.items c.note_own.new.found.items) at.file c.in_ok-note_own.ensures.added);
-      written = c.note_own.ensures.same ∙ c.loop-place.invariant.written;
+      written = c.in_ok-note_own.ensures.written;
     }
 
 pub returns : goal.returns

@@ -1,5 +1,5 @@
-use Rattle.std.proofs.Common.{◌≡◌, map, drop}
-use Rattle.mk_cert.specs.Subject.{writes_of}
+use Rattle.std.proofs.Common.{◌≡◌, IfSome, map, drop}
+use Rattle.mk_cert.specs.Entry.{entry_writes}
 use Rattle.mk_cert.specs.Candidates.{own_read}
 use Rattle.mk_cert.specs.Target.{unsettled_of}
 use Rattle.mk_cert.proofs.Adding.{Leads}
@@ -9,5 +9,5 @@ use Rattle.mk_cert.proofs.file_findings.note_own_reads.Given as goal
 abbrev pub invariant-loop-place : goal.invariant-loop-place
 invariant-loop-place l = record {
   leads : Leads l.subject (map (λ f. own_read l.entry.number f) (drop l.place (unsettled_of l.subject l.entry.number))) (map (λ f. own_read l.entry.number f) (unsettled_of l.subject l.entry.number)) l.found.items l.initial.found.items;
-  written : l.written ≡ writes_of l.subject l.entry.number;
+  written : IfSome l.written (λ list. list ≡ entry_writes l.entry);
 }

@@ -26,6 +26,5 @@ returns c =
     let old = c.args.found.now.items in
     let taken : c.known.inside.taken ≡ is_taken x f = ap (λ (k : Known). k.taken) c.known.view_is ∙ ap (λ (t : Target). t.known.taken) (c.file.view_is ∙ c.requires.file) in
     let recipe = ap (λ (k : List ℕ). old ++ GivenWritten k c.in_ok-file.file ∷ []) (name_is x e c.in_ok-recipe.recipe c.requires.entry c.in_ok-recipe.ensures) in
-    let file : c.in_ok-file.file ≡ f = c.in_ok-file.ensures ∙ ap (λ (t : Target). t.file) c.file.view_is in
     adds_one x (given_written e.number f) old c.push.new.self.items (taken_there x e.number f c.requires.written (sym taken ∙ c.if-not-known.false))
-    (c.in_ok-push.ensures.items ∙ (recipe ∙ ap (λ (k : List ℕ). old ++ GivenWritten (name_of x e.number) k ∷ []) file))
+    (c.in_ok-push.ensures.items ∙ (recipe ∙ ap (λ (k : List ℕ). old ++ GivenWritten (name_of x e.number) k ∷ []) c.in_ok-file.ensures))

@@ -1,9 +1,8 @@
-use Rattle.std.proofs.Common.{◌≡◌, ◌∙◌, ◌∷◌, ◌++◌, [], ℕ, List, ap, sym}
+use Rattle.std.proofs.Common.{◌∙◌, ◌∷◌, ◌++◌, [], ℕ, List, ap, sym}
 use Rattle.std.proofs.lemmas.Bool.{true≢false}
 use Rattle.mk_cert.specs.declared.finding.Finding.TheVariants.{UnknownRead}
 use Rattle.mk_cert.specs.Subject.{name_of}
 use Rattle.mk_cert.specs.Candidates.{unknown_read}
-use Rattle.mk_cert.specs.Target.{Target}
 use Rattle.mk_cert.proofs.Adding.{adds_one, adds_none}
 use Rattle.mk_cert.proofs.Decided.{name_is}
 use Rattle.mk_cert.proofs.file_findings.note_unknown.Goals as goal
@@ -19,7 +18,6 @@ returns c =
     let f = c.args.file.now.file in
     let old = c.args.found.now.items in
     let recipe = ap (λ (k : List ℕ). old ++ UnknownRead k c.in_ok-file.file ∷ []) (name_is x e c.in_ok-recipe.recipe c.requires.entry c.in_ok-recipe.ensures) in
-    let file : c.in_ok-file.file ≡ f = c.in_ok-file.ensures ∙ ap (λ (t : Target). t.file) c.file.view_is in
     let unknown = c.is_unknown.ensures.0 c.if-not-is_unknown.false in
     adds_one x (unknown_read e.number f) old c.push.new.self.items (c.requires.read, unknown.0, unknown.1)
-    (c.in_ok-push.ensures.items ∙ (recipe ∙ ap (λ (k : List ℕ). old ++ UnknownRead (name_of x e.number) k ∷ []) file))
+    (c.in_ok-push.ensures.items ∙ (recipe ∙ ap (λ (k : List ℕ). old ++ UnknownRead (name_of x e.number) k ∷ []) c.in_ok-file.ensures))

@@ -6,6 +6,7 @@ use Rattle.mk_cert.specs.declared.finding.Finding.TheVariants.{Loose}
 use Rattle.mk_cert.specs.Subject.{name_of}
 use Rattle.mk_cert.specs.Candidates.{loose}
 use Rattle.mk_cert.specs.Entry.{Entry}
+use Rattle.mk_cert.specs.Target.{Target}
 use Rattle.mk_cert.proofs.Adding.{adds_one, adds_none}
 use Rattle.mk_cert.proofs.Decided.{name_is}
 use Rattle.mk_cert.proofs.FileDecided.{writer_is_node, number_in, number_out}
@@ -19,8 +20,8 @@ returns-then-has_number c =
     let needs : c.prerequisites.result.now ≡ prerequisites x.graph e.number = c.prerequisites.ensures ∙ (ap (λ (g : Graph). prerequisites g c.entry.inside.number) c.graph.ensures.value ∙ ap (prerequisites x.graph) number) in
     adds_none x (loose e.number c.args.writer) c.args.found.now.items (λ h. h.2 (subst (λ (l : List ℕ). Has l c.args.writer) needs (number_in c.prerequisites.result.now c.args.writer (sym c.if-has_number.ensures))))
 
-pub copy_of_name-requires : goal.copy_of_name-requires
-copy_of_name-requires c = writer_is_node c.args.subject.now c.args.writer _ c.requires.written
+pub file_of_node-requires : goal.file_of_node-requires
+file_of_node-requires c = writer_is_node c.args.subject.now c.args.writer _ c.requires.written
 
 pub returns : goal.returns
 returns c =
@@ -33,4 +34,4 @@ returns c =
     let bare : (node x.graph e.number).recipe ≡ false = sym (ap (λ (n : Node). n.recipe) is.same_node) ∙ c.requires.bare in
     let named = ap (λ (k : List ℕ). old ++ Loose k c.in_ok-writer.writer ∷ []) (name_is x e c.in_ok-name.name is c.in_ok-name.ensures) in
     adds_one x (loose e.number c.args.writer) old c.push.new.self.items (bare, c.requires.written, λ h. number_out c.prerequisites.result.now c.args.writer (sym c.if-has_number.ensures) (subst (λ (l : List ℕ). Has l c.args.writer) (sym needs) h))
-    (c.in_ok-push.ensures.items ∙ (named ∙ ap (λ (k : List ℕ). old ++ Loose (name_of x e.number) k ∷ []) c.in_ok-writer.ensures))
+    (c.in_ok-push.ensures.items ∙ (named ∙ ap (λ (k : List ℕ). old ++ Loose (name_of x e.number) k ∷ []) (c.in_ok-writer.ensures ∙ ap (λ (t : Target). t.file) c.file_of_node.ensures)))

@@ -50,6 +50,5 @@ returns-in_ok-note_stale-in-Stale-clause-path c = λ empty needed.
     let t = c.args.entry.now.number in
     let at = subst (λ (n : ℕ). IsStanding x n f c.in_ok-standing_of.field-0) c.requires.start c.in_ok-standing_of.ensures.standing in
     let so : IsStale x t f = subst (λ (s : Standing). IsStanding x t f s) c.in-Stale.is at in
-    let same : c.file.inside.file.now ≡ f = ap (λ (v : Target). v.file) c.file.view_is in
-    let added = subst (λ (g : List ℕ). Adds x (stale t g ∷ []) c.args.found.now.items c.note_stale.new.found.items) same (c.in_ok-note_stale-in-Stale.ensures x c.requires.entry (subst (λ (g : List ℕ). IsStale x t g) (sym same) so)) in
+    let added = c.in_ok-note_stale-in-Stale.ensures x c.requires.entry so in
     (c.listed_exactly.ensures x (stale t f ∷ []) [] (nothing_kept x (stale t f ∷ []) c.args.found.now.items c.note_stale.new.found.items added empty) (stale t f)).1 (inl refl, so)

@@ -9,7 +9,7 @@ use Rattle.mk_find.proofs.stale.note_stale.Goals as goal
 
 pub returns : goal.returns
 returns c = λ x is stale_read.
-    let f = c.args.file.now in
+    let f = c.args.file.now.file in
     let t = c.args.entry.now.number in
     let old = c.args.found.now.items in
     let recipe = ap (λ (k : List ℕ). old ++ Stale k c.in_ok-file.file ∷ []) (c.in_ok-recipe.ensures ∙ ap (λ (n : Node). n.name) is.same_node) in
