@@ -9,6 +9,7 @@ ghost use Rattle.mk_cert.specs.Questions.{asked_before_pairs, asked_behind_pairs
 ghost use Rattle.mk_cert.specs.declared.finding.Finding.{Finding};
 
 use crate::entry::Entry;
+use crate::file_names::FileNames;
 use crate::finding::Finding;
 use crate::findings::{ask_before_pairs, ask_behind_pairs};
 use crate::nothing_found::finds_nothing;
@@ -58,7 +59,8 @@ fn first_pair_with(
     ensures { IfOk result (TellsFirst subject.now (pairs_with subject.now entry.now.number)) }
 {
     let mut found = Vec::new(alloc);
-    note_files(alloc, subject, entry, &mut found)?;
+    let mut names = FileNames::new(alloc);
+    note_files(alloc, subject, entry, &mut names, &mut found)?;
     Ok(first_of(found))
 }
 

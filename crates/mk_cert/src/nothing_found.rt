@@ -48,7 +48,8 @@ fn finds_nothing_of(
 {
     let mut found = Vec::new(alloc);
     ask_of(alloc, subject, &BEFORE_PAIRS, entry, &mut found)?;
-    note_files(alloc, subject, entry, &mut found)?;
+    let mut names = FileNames::new(alloc);
+    note_files(alloc, subject, entry, &mut names, &mut found)?;
     ask_of(alloc, subject, &BEHIND_PAIRS, entry, &mut found)?;
     Ok(found.is_empty())
 }

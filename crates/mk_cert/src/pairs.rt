@@ -12,8 +12,8 @@ ghost use Rattle.mk_cert.specs.Questions.{pairs_with};
 ghost use Rattle.mk_cert.specs.Target.{target_of};
 
 use crate::entry::Entry;
+use crate::file_names::FileNames;
 use crate::finding::Finding;
-use crate::shared_name::SharedName;
 use crate::subject::Subject;
 use crate::target::Target;
 use mk_graph::laws::serial_reaches_each_once;
@@ -25,17 +25,18 @@ fn note_pair(
     subject: &Subject<'_>,
     entry: &Entry<'_>,
     other: usize,
-    file: &str,
+    file: &Target<'_>,
+    names: &mut FileNames,
     found: &mut Vec<Finding>,
 ) -> Result<(), AllocError>
     requires entry { IsEntry subject.now entry.now }
-    requires written { AreTwoWriters subject.now entry.now.number other file.now }
-    ensures { OnOk result (Adds subject.now (two_writers entry.now.number other file.now ∷ [])
+    requires written { AreTwoWriters subject.now entry.now.number other file.now.file }
+    ensures { OnOk result (Adds subject.now (two_writers entry.now.number other file.now.file ∷ [])
         found.old.items found.new.items) }
 {
     let first = entry.shared_name(alloc, found)?;
-    let second = SharedName::new(alloc, subject.name(other))?;
-    let file = SharedName::new(alloc, file)?;
+    let second = names.name_of(alloc, &subject.file_of_node(other))?;
+    let file = names.name_of(alloc, file)?;
     found.push(Finding::TwoWriters {
         first,
         second,
@@ -50,18 +51,19 @@ fn note_pairs_with(
     subject: &Subject<'_>,
     entry: &Entry<'_>,
     others: &[usize],
-    file: &str,
+    file: &Target<'_>,
+    names: &mut FileNames,
     found: &mut Vec<Finding>,
 ) -> Result<(), AllocError>
     requires entry { IsEntry subject.now entry.now }
     requires written { (t : ℕ) → Has others.now t →
-        AreTwoWriters subject.now entry.now.number t file.now }
+        AreTwoWriters subject.now entry.now.number t file.now.file }
     ensures { OnOk result (Adds subject.now
-        (map (λ t. two_writers entry.now.number t file.now) others.now)
+        (map (λ t. two_writers entry.now.number t file.now.file) others.now)
         found.old.items found.new.items) }
 {
     for other in others {
-        note_pair(alloc, subject, entry, *other, file, found)?;
+        note_pair(alloc, subject, entry, *other, file, names, found)?;
     }
     Ok(())
 }
@@ -84,6 +86,7 @@ fn note_file(
     subject: &Subject<'_>,
     entry: &Entry<'_>,
     file: &Target<'_>,
+    names: &mut FileNames,
     found: &mut Vec<Finding>,
 ) -> Result<(), AllocError>
     requires entry { IsEntry subject.now entry.now }
@@ -98,7 +101,7 @@ fn note_file(
     let _graph = subject.graph();
     let writers = file.writers();
     let others = behind(entry.number, writers);
-    note_pairs_with(alloc, subject, entry, others, file.file, found)
+    note_pairs_with(alloc, subject, entry, others, file, names, found)
 }
 
 /// Adds which files a recipe and others behind it in the serial order write.
@@ -106,6 +109,7 @@ pub fn note_files(
     alloc: Global,
     subject: &Subject<'_>,
     entry: &Entry<'_>,
+    names: &mut FileNames,
     found: &mut Vec<Finding>,
 ) -> Result<(), AllocError>
     requires { IsEntry subject.now entry.now }
@@ -114,7 +118,7 @@ pub fn note_files(
 {
     for place in 0..subject.count_of_written(entry.number) {
         let file = subject.written(entry.number, place);
-        note_file(alloc, subject, entry, &file, found)?;
+        note_file(alloc, subject, entry, &file, names, found)?;
     }
     Ok(())
 }
@@ -131,9 +135,10 @@ pub fn note_pairs(
 {
     serial_reaches_each_once();
     let _graph = subject.graph();
+    let mut names = FileNames::new(alloc);
     let entries = subject.entries();
     for entry in entries {
-        note_files(alloc, subject, entry, found)?;
+        note_files(alloc, subject, entry, &mut names, found)?;
     }
     Ok(())
 }

@@ -12,41 +12,42 @@ ghost use Rattle.mk_cert.specs.Target.{target_of};
 
 use crate::earlier::Earlier;
 use crate::entry::Entry;
+use crate::file_names::FileNames;
 use crate::finding::Finding;
-use crate::shared_name::SharedName;
 use crate::subject::Subject;
 use crate::target::Target;
 use std::alloc::{AllocError, Global};
 
 /// Adds that a recipe reads what another one writes which isn't before it, if it is so.
 fn note_race(
-    alloc: Global,
     subject: &Subject<'_>,
     earlier: &mut Earlier<'_>,
     entry: &Entry<'_>,
     other: usize,
-    file: &str,
+    file: &Target<'_>,
+    names: &mut FileNames,
     found: &mut Vec<Finding>,
 ) -> Result<(), AllocError>
     requires entry { IsEntry subject.now entry.now }
     requires graph { earlier.old.graph ≡ subject.now.graph }
     requires number { earlier.old.number ≡ entry.now.number }
-    requires read { Has (reads_of subject.now entry.now.number) file.now }
-    requires written { Has (writes_of subject.now other) file.now }
+    requires read { Has (reads_of subject.now entry.now.number) file.now.file }
+    requires written { Has (writes_of subject.now other) file.now.file }
     ensures same { earlier.new ≡ earlier.old }
-    ensures found { OnOk result (Adds subject.now (race entry.now.number other file.now ∷ [])
+    ensures found { OnOk result (Adds subject.now (race entry.now.number other file.now.file ∷ [])
         found.old.items found.new.items) }
 {
     if other == entry.number {
         return Ok(());
     }
+    let alloc = *found.allocator();
     let before = earlier.has(alloc, other)?;
     if before {
         return Ok(());
     }
     let recipe = entry.shared_name(alloc, found)?;
-    let writer = SharedName::new(alloc, subject.name(other))?;
-    let file = SharedName::new(alloc, file)?;
+    let writer = names.name_of(alloc, &subject.file_of_node(other))?;
+    let file = names.name_of(alloc, file)?;
     found.push(Finding::Race {
         recipe,
         writer,
@@ -57,26 +58,26 @@ fn note_race(
 
 /// Adds which of these writers of a file that a recipe reads aren't before it.
 fn note_races_with(
-    alloc: Global,
     subject: &Subject<'_>,
     earlier: &mut Earlier<'_>,
     entry: &Entry<'_>,
     writers: &[usize],
-    file: &str,
+    file: &Target<'_>,
+    names: &mut FileNames,
     found: &mut Vec<Finding>,
 ) -> Result<(), AllocError>
     requires entry { IsEntry subject.now entry.now }
     requires graph { earlier.old.graph ≡ subject.now.graph }
     requires number { earlier.old.number ≡ entry.now.number }
-    requires read { Has (reads_of subject.now entry.now.number) file.now }
-    requires written { (o : ℕ) → Has writers.now o → Has (writes_of subject.now o) file.now }
+    requires read { Has (reads_of subject.now entry.now.number) file.now.file }
+    requires written { (o : ℕ) → Has writers.now o → Has (writes_of subject.now o) file.now.file }
     ensures same { earlier.new ≡ earlier.old }
     ensures found { OnOk result (Adds subject.now
-        (map (λ o. race entry.now.number o file.now) writers.now)
+        (map (λ o. race entry.now.number o file.now.file) writers.now)
         found.old.items found.new.items) }
 {
     for writer in writers {
-        note_race(alloc, subject, earlier, entry, *writer, file, found)?;
+        note_race(subject, earlier, entry, *writer, file, names, found)?;
     }
     Ok(())
 }
@@ -89,6 +90,7 @@ fn note_file(
     earlier: &mut Earlier<'_>,
     entry: &Entry<'_>,
     file: &Target<'_>,
+    names: &mut FileNames,
     found: &mut Vec<Finding>,
 ) -> Result<(), AllocError>
     requires entry { IsEntry subject.now entry.now }
@@ -105,7 +107,7 @@ fn note_file(
         return Ok(());
     }
     earlier.turn_to(alloc, entry.number)?;
-    note_races_with(alloc, subject, earlier, entry, writers, file.file, found)
+    note_races_with(subject, earlier, entry, writers, file, names, found)
 }
 
 /// Adds which writers of the files that a recipe reads aren't before it.
@@ -114,6 +116,7 @@ fn note_files(
     subject: &Subject<'_>,
     earlier: &mut Earlier<'_>,
     entry: &Entry<'_>,
+    names: &mut FileNames,
     found: &mut Vec<Finding>,
 ) -> Result<(), AllocError>
     requires entry { IsEntry subject.now entry.now }
@@ -125,7 +128,7 @@ fn note_files(
 {
     for place in 0..subject.count_of_unsettled(entry.number) {
         let file = subject.unsettled(entry.number, place);
-        note_file(alloc, subject, earlier, entry, &file, found)?;
+        note_file(alloc, subject, earlier, entry, &file, names, found)?;
     }
     Ok(())
 }
@@ -141,9 +144,10 @@ fn note_races(
     ensures { OnOk result (Adds subject.now (race_candidates subject.now)
         found.old.items found.new.items) }
 {
+    let mut names = FileNames::new(alloc);
     let entries = subject.entries();
     for entry in entries {
-        note_files(alloc, subject, earlier, entry, found)?;
+        note_files(alloc, subject, earlier, entry, &mut names, found)?;
     }
     Ok(())
 }

@@ -7,7 +7,6 @@ use Rattle.mk_graph.specs.Serial.{serial_order}
 use Rattle.mk_lines.specs.Names.{has_name}
 use Rattle.mk_cert.specs.Subject.{writes_of}
 use Rattle.mk_cert.specs.Candidates.{two_writers}
-use Rattle.mk_cert.specs.Conditions.{AreTwoWriters}
 use Rattle.mk_cert.specs.Listed.{Adds}
 use Rattle.mk_cert.specs.Entry.{Entry, behind, writers_of}
 use Rattle.mk_cert.specs.Target.{Target}
@@ -24,16 +23,15 @@ note_pairs_with-requires c =
     let f = c.args.file.now.file in
     let order = serial_order x.graph in
     let writes = λ (t : ℕ). has_name (writes_of x t) f in
-    let named : c.file.inside.file.now ≡ f = ap (λ (k : Target). k.file) c.file.view_is in
     let writers : c.writers-writers.result.now ≡ writers_of x f = c.writers-writers.ensures ∙ ap (λ (k : Target). k.known.writers) c.requires.file in
     let number : c.entry.inside.number ≡ e.number = ap (λ (k : Entry). k.number) c.entry.view_is in
     let same : c.behind-others.result.now ≡ filter writes (behind e.number order) = c.behind-others.ensures ∙ (ap (λ n. behind n c.writers-writers.result.now) number ∙ (ap (behind e.number) writers ∙ behind_filter writes e.number order ((has_decides (writes_of x e.number) f).1 c.requires.written))) in
     let distinct = (c.serial_reaches_each_once.ensures x.graph c.graph-graph.ensures.graph.no_cycle).0 in
     record {
       entry = c.requires.entry;
-      written = subst (λ (g : List ℕ). (t : ℕ) → Has c.behind-others.result.now t → AreTwoWriters x e.number t g) (sym named) (λ t h.
+      written = λ t h.
           let kept = subst (λ (ns : List ℕ). Has ns t) same h in
-          (behind_other e.number order t distinct (filtered_in writes (behind e.number order) t kept), c.requires.written, (has_decides (writes_of x t) f).0 (passing writes (behind e.number order) t kept)));
+          (behind_other e.number order t distinct (filtered_in writes (behind e.number order) t kept), c.requires.written, (has_decides (writes_of x t) f).0 (passing writes (behind e.number order) t kept));
     }
 
 pub returns : goal.returns
@@ -43,7 +41,6 @@ returns c =
     let f = c.args.file.now.file in
     let order = serial_order x.graph in
     let writes = λ (t : ℕ). has_name (writes_of x t) f in
-    let named : c.file.inside.file.now ≡ f = ap (λ (k : Target). k.file) c.file.view_is in
     let writers : c.writers-writers.result.now ≡ writers_of x f = c.writers-writers.ensures ∙ ap (λ (k : Target). k.known.writers) c.requires.file in
     let number : c.entry.inside.number ≡ e.number = ap (λ (k : Entry). k.number) c.entry.view_is in
     let same : c.behind-others.result.now ≡ filter writes (behind e.number order) = c.behind-others.ensures ∙ (ap (λ n. behind n c.writers-writers.result.now) number ∙ (ap (behind e.number) writers ∙ behind_filter writes e.number order ((has_decides (writes_of x e.number) f).1 c.requires.written))) in
@@ -52,6 +49,5 @@ returns c =
     on_ok_weaker c.note_pairs_with.result
     (λ h. adds_lifted x (λ t. two_writers e.number t f) writes (behind e.number order) old new
     (λ t out k. true≢false (sym ((has_decides (writes_of x t) f).1 k.2) ∙ out))
-    (subst (λ (ns : List ℕ). Adds x (map (λ t. two_writers e.number t f) ns) old new) same
-    (subst (λ (g : List ℕ). Adds x (map (λ t. two_writers e.number t g) c.behind-others.result.now) old new) named h)))
+    (subst (λ (ns : List ℕ). Adds x (map (λ t. two_writers e.number t f) ns) old new) same h))
     c.note_pairs_with.ensures

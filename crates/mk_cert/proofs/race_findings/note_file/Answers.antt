@@ -4,9 +4,8 @@ use Rattle.std.proofs.lemmas.List.{nil_from_length}
 use Rattle.std.proofs.lemmas.Result.{on_ok_weaker}
 use Rattle.mk_graph.specs.Serial.{serial_order}
 use Rattle.mk_lines.specs.Names.{has_name}
-use Rattle.mk_graph.specs.Membership.{Has}
 use Rattle.mk_cert.specs.Entry.{Entry, writers_of}
-use Rattle.mk_cert.specs.Subject.{Subject, reads_of, writes_of}
+use Rattle.mk_cert.specs.Subject.{Subject, writes_of}
 use Rattle.mk_cert.specs.Candidates.{race}
 use Rattle.mk_cert.specs.Listed.{Adds}
 use Rattle.mk_cert.specs.Target.{Target}
@@ -38,15 +37,14 @@ note_races_with-requires c =
     let x = c.args.subject.now in
     let e = c.args.entry.now in
     let f = c.args.file.now.file in
-    let file : c.file.inside.file.now ≡ f = ap (λ (t : Target). t.file) c.file.view_is in
     let ns = c.writers-writers.result.now in
     let writers : ns ≡ writers_of x f = c.writers-writers.ensures ∙ ap (λ (t : Target). t.known.writers) c.requires.file in
     record {
       entry = c.requires.entry;
       graph = c.turn_to.ensures.graph ∙ c.requires.graph;
       number = c.turn_to.ensures.number ∙ ap (λ (k : Entry). k.number) c.entry.view_is;
-      read = subst (λ (g : List ℕ). Has (reads_of x e.number) g) (sym file) c.requires.read;
-      written = λ o h. subst (λ (g : List ℕ). Has (writes_of x o) g) (sym file) (writers_write x f ns writers o h);
+      read = c.requires.read;
+      written = λ o h. writers_write x f ns writers o h;
     }
 
 pub returns-clause-found : goal.returns-clause-found
@@ -54,11 +52,10 @@ returns-clause-found c =
     let x = c.args.subject.now in
     let t = c.args.entry.now.number in
     let f = c.args.file.now.file in
-    let file : c.file.inside.file.now ≡ f = ap (λ (k : Target). k.file) c.file.view_is in
     let ns = c.writers-writers.result.now in
     let writers : ns ≡ writers_of x f = c.writers-writers.ensures ∙ ap (λ (k : Target). k.known.writers) c.requires.file in
     let old = c.args.found.now.items in
     let new = c.note_races_with.new.found.items in
     on_ok_weaker c.note_races_with.result
-    (λ h. with_writers x t f ns old new writers (subst (λ (g : List ℕ). Adds x (map (λ o. race t o g) ns) old new) file h))
+    (λ h. with_writers x t f ns old new writers h)
     c.note_races_with.ensures.found

@@ -6,6 +6,6 @@ use Rattle.mk_cert.proofs.race_findings.note_races_with.Given as goal
 -- the writers that are left
 abbrev pub invariant-loop-writer : goal.invariant-loop-writer
 invariant-loop-writer l = record {
-  leads : Leads l.subject (map (λ o. race l.entry.number o l.file) (drop l.writer-index l.writers)) (map (λ o. race l.entry.number o l.file) l.writers) l.found.items l.initial.found.items;
+  leads : Leads l.subject (map (λ o. race l.entry.number o l.file.file) (drop l.writer-index l.writers)) (map (λ o. race l.entry.number o l.file.file) l.writers) l.found.items l.initial.found.items;
   same : l.earlier ≡ l.fn.earlier;
 }
