@@ -1,7 +1,6 @@
 //! What a subject looks up of its nodes.
 
-ghost use Rattle.std.specs.Prelude.{◌≡◌, ◌<◌, ◌⊎◌, ◌++◌, ℕ, All, List, [], true, length, map, slice_index_or, Option, Err, None, Some, IfErr, IfOk, IfSome, MatchOption, OnOk};
-ghost use Rattle.std.specs.Borrow.{Bor};
+ghost use Rattle.std.specs.Prelude.{◌≡◌, ◌<◌, ◌⊎◌, ◌++◌, ℕ, All, List, [], true, length, map, Err, IfErr, IfOk, IfSome, MatchOption, OnOk};
 ghost use Rattle.std.specs.List.{flat_map};
 ghost use Rattle.std.specs.Option.{option_map};
 ghost use Rattle.std.specs.String.{string_bytes};
