@@ -45,7 +45,8 @@ pub record IsWalked (m : Makefile) (e : Exists) (goals : List (List ℕ))
   pub front : walked.names ≡ take (max_nodes + 1) all
   pub made : walked.met ≡ map (met_of m e) (take max_nodes all)
 
--- nothing makes a name that was met: it has no commands, and so on
+-- nothing makes a name that was met: it has no commands, is no target, has no inference rule, isn't
+-- phony and isn't given
 abbrev pub lacks : Makefile → Exists → Met → Bool
 lacks m e met =
     not (has_some met.making.commands ||
