@@ -24,7 +24,8 @@ AreRows rows = (n p : ℕ) → Has (row rows n) p → p < length rows
 
 -- each number of a row is a goal, or stands in a row before its own
 abbrev pub HaveParents : List (Vec ℕ Global) → List ℕ → Type 0
-HaveParents rows goals = (k : ℕ) → k < length rows → Has goals k ⊎ (n : ℕ) × (n < k) × Has (row rows n) k
+HaveParents rows goals =
+    (k : ℕ) → k < length rows → Has goals k ⊎ (n : ℕ) × (n < k) × Has (row rows n) k
 
 -- what `build` takes
 abbrev pub AreSound : List Node → List ℕ → Type 0

@@ -67,7 +67,10 @@ fn steps_are_written_as_lines(rt: HostRuntime) -> Result<(), Fail> {
     let text = plan_text(alloc, &graph, &history(alloc)?)?;
     assert_eq!(rt;
         text.as_str(),
-        "make 1\nbegin p\nlook p s\nput p p 18446744073709551615\ndone p\npass q\nend\nedit s 0\nmake 4096 p q\nstop\n"
+        concat!(
+            "make 1\nbegin p\nlook p s\nput p p 18446744073709551615\ndone p\npass q\nend\n",
+            "edit s 0\nmake 4096 p q\nstop\n",
+        )
     );
     Ok(())
 }

@@ -3,6 +3,7 @@
 use crate::graph_fixtures::{built, nodes_of, same};
 use mk_foot::{Book, Setting, read_book};
 use mk_graph::Graph;
+use mk_tables::{lines_of, rows};
 use mk_world::{Plan, PlanFault, Run, StepFault, World, print_files, read_plan, run_plan};
 use std::alloc::{AllocError, Global};
 use std::process::Abort;
@@ -14,8 +15,11 @@ const COPY: &str = r#"{"format":1,"fixed":[],"sources":["a"],"records":[
 
 /// Plans over it with a slash for each newline, and what is printed.
 const COPY_ROWS: &str =
-    "make 1/begin b/finish b/end/edit a/make 1/pass b => a 1 1/b 2 2/refused 65 line 7/a 3 3/b 2 2/
-make 2/begin b/put b b 7/look b a/done b/end/edit a 5/make 1/run b/end/edit a 1/make 1/run b/end/make 1/begin b/put b b 9/look b a/done b => a 1 1/b 7 2/a 5 3/b 4 4/a 1 5/b 7 6/refused 60 line 19/a 1 5/b 9 7/
+    "make 1/begin b/finish b/end/edit a/make 1/pass b => a 1 1/b 2 2/refused 65 line 7/a 3 3/
+    b 2 2/
+make 2/begin b/put b b 7/look b a/done b/end/edit a 5/make 1/run b/end/edit a 1/make 1/run b/end/
+    make 1/begin b/put b b 9/look b a/done b => a 1 1/b 7 2/a 5 3/b 4 4/a 1 5/b 7 6/
+    refused 60 line 19/a 1 5/b 9 7/
 begin b => refused 61 line 1/a 1 1/
 stop => refused 61 line 1/a 1 1/
 end => refused 61 line 1/a 1 1/
@@ -69,7 +73,8 @@ const COPIES: &str = r#"{"format":1,"fixed":[],"sources":["a"],"records":[
 
 /// Plans over it where `c` and `b` are goals.
 const COPIES_ROWS: &str =
-    "make 1 b/run b/end/edit a/make 1/run b/stop/make 1 c/pass b/run c/end => a 1 1/b 2 2/a 3 3/b 4 4/c 5 5/plan ok/
+    "make 1 b/run b/end/edit a/make 1/run b/stop/make 1 c/pass b/run c/end => a 1 1/b 2 2/
+    a 3 3/b 4 4/c 5 5/plan ok/
 make 1 a => refused 77 line 1/a 1 1/
 make 1/run c => refused 63 line 2/a 1 1/
 make 1 c/run b/run c/run b => refused 63 line 4/a 1 1/b 2 2/c 3 3/";
@@ -81,7 +86,8 @@ pub const TWO: &str = r#"{"format":1,"fixed":[],"sources":["s"],"records":[
 
 /// Plans over it.
 const TWO_ROWS: &str =
-    "make 2/begin p/begin q/look p s/look q s/put q q/put p p/done q/done p/end => p 3 3/q 2 2/s 1 1/plan ok/
+    "make 2/begin p/begin q/look p s/look q s/put q q/put p p/done q/done p/end => p 3 3/q 2 2/
+    s 1 1/plan ok/
 make 1/begin p/begin q => refused 64 line 3/s 1 1/
 make 1/begin p/finish p/begin q => plan ok/";
 
@@ -90,8 +96,10 @@ const LATE_ROWS: &str = "18446744073709551615 edit a => refused 59 line 1/a 1 1/
 18446744073709551615 make 1/begin b/look b a/put b b 7 => refused 59 line 4/a 1 1/
 18446744073709551615 make 1/begin b/finish b => refused 59 line 3/a 1 1/
 18446744073709551614 edit a 5/edit a 6 => refused 59 line 2/a 5 18446744073709551615/
-18446744073709551614 make 1/run b/end/edit a => a 1 1/b 18446744073709551615 18446744073709551615/refused 59 line 4/a 1 1/b 18446744073709551615 18446744073709551615/
-18446744073709551613 edit a/make 1/run b/end => a 18446744073709551614 18446744073709551614/b 18446744073709551615 18446744073709551615/plan ok/
+18446744073709551614 make 1/run b/end/edit a => a 1 1/b 18446744073709551615 18446744073709551615/
+    refused 59 line 4/a 1 1/b 18446744073709551615 18446744073709551615/
+18446744073709551613 edit a/make 1/run b/end => a 18446744073709551614 18446744073709551614/
+    b 18446744073709551615 18446744073709551615/plan ok/
 1 edit a/make 1/run b/end => a 2 2/b 3 3/plan ok/
 0 edit a/make 1/run b/end => a 2 2/b 3 3/plan ok/";
 
@@ -184,15 +192,6 @@ fn ran_at(
     }
 }
 
-/// A text with a newline for each slash.
-fn unfolded(alloc: Global, text: &str) -> Result<String, AllocError> {
-    let mut out = String::new(alloc);
-    for c in text.chars() {
-        out.push(if c == '/' { '\n' } else { c })?;
-    }
-    Ok(out)
-}
-
 /// The stamp to which time has run on before a plan, 0 where none is said, and the plan.
 fn late_of(plan: &str) -> (u64, &str) {
     let (front, rest) = plan.split_once(' ').unwrap_or((plan, ""));
@@ -212,9 +211,9 @@ fn see_row(
 ) -> Result<(), AllocError> {
     let (plan, want) = row.split_once(" => ").unwrap_or((row, ""));
     let (stamp, plan) = late_of(plan);
-    let plan = unfolded(alloc, plan)?;
+    let plan = lines_of(alloc, plan)?;
     let got = ran_at(alloc, graph, setting, stamp, plan.as_bytes())?;
-    let want = unfolded(alloc, want.trim_start())?;
+    let want = lines_of(alloc, want.trim_start())?;
     same(rt, got.as_str(), want.as_str(), row);
     Ok(())
 }
@@ -225,9 +224,9 @@ fn see_rows(
     alloc: Global,
     graph: &Graph,
     setting: &Setting,
-    rows: &str,
+    table: &str,
 ) -> Result<(), AllocError> {
-    for row in rows.lines() {
+    for row in &rows(alloc, table)? {
         see_row(rt, alloc, graph, setting, row)?;
     }
     Ok(())

@@ -1,6 +1,7 @@
-//! Tables of which each line is a row.
+//! Tables of rows.
 
-use mk_rows::rows::{field, fields_of, over_row};
+use mk_rows::rows::over_row;
+use mk_tables::{field, fields_of, rows};
 use std::alloc::Global;
 use std::process::Abort;
 use std::test::Fail;
@@ -14,9 +15,9 @@ pub fn expect_row(rt: &impl Abort, alloc: Global, row: &str) -> Result<(), Fail>
     Ok(())
 }
 
-/// Each line of the table is a row.
+/// Expects it of each row of a table.
 pub fn expect_rows(rt: &impl Abort, alloc: Global, table: &str) -> Result<(), Fail> {
-    for row in table.lines() {
+    for row in &rows(alloc, table)? {
         expect_row(rt, alloc, row)?;
     }
     Ok(())

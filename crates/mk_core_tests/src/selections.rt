@@ -10,12 +10,13 @@ use std::process::Abort;
 use std::test::Fail;
 
 /// Makefile, words, and what is printed.
-const COMMANDS: &str =
-    r"p: a.o¶→$(CC) -o $@ $^¶a.o:¶a.c:‖-c CC=cc‖goals p¶a.c:¶a.o recipe: a.c¶→cc -O1 -c a.c¶p recipe: a.o¶→cc -o p a.o¶
+const COMMANDS: &str = r"p: a.o¶→$(CC) -o $@ $^¶a.o:¶a.c:‖-c CC=cc
+    ‖goals p¶a.c:¶a.o recipe: a.c¶→cc -O1 -c a.c¶p recipe: a.o¶→cc -o p a.o¶
 p: a.o¶→$(CC) -o $@ $^¶a.o:¶a.c:‖-r -c CC=cc‖goals p¶a.o:¶p recipe: a.o¶→cc -o p a.o¶
 a: b¶→@x \¶→→y¶→ -$(E)¶b:‖-c‖goals a¶b:¶a recipe: b¶→@x \¶→y¶→-¶
 a: b¶→$(E)¶b:‖-c‖goals a¶b:¶a recipe: b¶→¶
-a: b c¶b: d¶→b $(X)¶c:¶→c¶d: ; d $@¶X = 1‖-c X=2‖goals a¶d recipe:¶→d d¶b recipe: d¶→b 2¶c recipe:¶→c¶a: b c¶
+a: b c¶b: d¶→b $(X)¶c:¶→c¶d: ; d $@¶X = 1‖-c X=2
+    ‖goals a¶d recipe:¶→d d¶b recipe: d¶→b 2¶c recipe:¶→c¶a: b c¶
 a:¶→x $(X)¶X = 1¶X = 2‖-c‖goals a¶a recipe:¶→x 2¶
 X = u;v # w¶a:;$(X)|‖-c‖goals a¶a recipe:¶→u;v |¶
 a: b c b¶→$< $^ $+ $(@D) $?¶b c:‖-c‖goals a¶b:¶c:¶a recipe: b c b¶→b b c b c b . ¶
@@ -55,14 +56,19 @@ fn chooses_inference_rules(rt: HostRuntime) -> Result<(), Fail> {
 }
 
 /// Makefile, words, what is printed, and the file of footprints with its text.
-const FOOTPRINTS: &str =
-    r#"p: a.o¶→$(CC) -o $@ $^‖-c -b B CC=cc‖goals p¶a.c:¶a.o recipe: a.c¶→cc -O1 -c a.c¶p recipe: a.o¶→cc -o p a.o¶‖B‖{"format":1,"fixed":[],"sources":["a.c"],"records":[]}
-p: a.o¶→cc -o p a.o¶a.o: a.c¶→cc -c a.c‖-b B‖refused 41 a.c‖B‖{"format":1,"fixed":[],"sources":[],"records":[]}
+const FOOTPRINTS: &str = r#"p: a.o¶→$(CC) -o $@ $^‖-c -b B CC=cc
+    ‖goals p¶a.c:¶a.o recipe: a.c¶→cc -O1 -c a.c¶p recipe: a.o¶→cc -o p a.o¶‖B
+    ‖{"format":1,"fixed":[],"sources":["a.c"],"records":[]}
+p: a.o¶→cc -o p a.o¶a.o: a.c¶→cc -c a.c‖-b B‖refused 41 a.c‖B
+    ‖{"format":1,"fixed":[],"sources":[],"records":[]}
 p: a.o¶→cc -o p a.o¶a.o: a.c¶→cc -c a.c‖-b B‖refused 38 B
 p: a.o¶→cc -o p a.o¶a.o: a.c¶→cc -c a.c‖-b B‖refused 51‖B‖{
-p: a.o¶→cc -o p a.o¶a.o: a.c¶→cc -c a.c‖-b B‖goals p¶a.c:¶a.o recipe: a.c¶p recipe: a.o¶‖B‖{"format":1,"fixed":[],"sources":["a.c"],"records":[]}
-p: /usr/x makefile q¶.PHONY: q‖-b B‖goals p¶/usr/x:¶makefile:¶q phony:¶p: /usr/x makefile q¶‖B‖{"format":1,"fixed":["/usr/"],"sources":[],"records":[]}
-p: /usr/x.o¶/usr/x.c:‖-b B‖goals p¶/usr/x.o:¶p: /usr/x.o¶‖B‖{"format":1,"fixed":["/usr/"],"sources":[],"records":[]}
+p: a.o¶→cc -o p a.o¶a.o: a.c¶→cc -c a.c‖-b B‖goals p¶a.c:¶a.o recipe: a.c¶p recipe: a.o¶‖B
+    ‖{"format":1,"fixed":[],"sources":["a.c"],"records":[]}
+p: /usr/x makefile q¶.PHONY: q‖-b B‖goals p¶/usr/x:¶makefile:¶q phony:¶p: /usr/x makefile q¶‖B
+    ‖{"format":1,"fixed":["/usr/"],"sources":[],"records":[]}
+p: /usr/x.o¶/usr/x.c:‖-b B‖goals p¶/usr/x.o:¶p: /usr/x.o¶‖B
+    ‖{"format":1,"fixed":["/usr/"],"sources":[],"records":[]}
 a: b c¶c: c‖-b B‖refused 41 b‖B‖{"format":1,"fixed":[],"sources":[],"records":[]}
 ‖-b B‖refused 44‖B‖{
 a:‖-b B (‖refused 28 goal:1‖B‖{
@@ -70,10 +76,14 @@ a:‖-b B p‖refused 57‖B‖{"format":2,"fixed":[],"sources":[],"lists":{},"g
 a:‖-b B‖refused 52 top‖B‖[]
 a:‖-b B‖refused 52 fixed‖B‖{"format":1}
 a:‖-b B‖refused 53‖B‖{"format":3}
-a:‖-b B‖refused 54 p‖B‖{"format":1,"fixed":[],"sources":[],"records":[{"target":"p","commands":[],"reads":[],"writes":[]},{"target":"p","commands":[],"reads":[],"writes":[]}]}
+a:‖-b B‖refused 54 p‖B
+    ‖{"format":1,"fixed":[],"sources":[],"records":[{"target":"p","commands":[],"reads":[],
+    "writes":[]},{"target":"p","commands":[],"reads":[],"writes":[]}]}
 a:‖-b B‖refused 55 fixed‖B‖{"format":1,"fixed":["usr"],"sources":[],"records":[]}
 a:‖-b B‖refused 56 /usr/x.h‖B‖{"format":1,"fixed":["/usr/"],"sources":["/usr/x.h"],"records":[]}
-a:‖-b B‖refused 58‖B‖{"format":2,"fixed":[],"sources":[],"lists":{},"groups":[{"goals":["a"],"records":[{"target":"a","commands":[],"reads":[],"writes":[],"shared":["x"]}]}]}"#;
+a:‖-b B‖refused 58‖B
+    ‖{"format":2,"fixed":[],"sources":[],"lists":{},"groups":[{"goals":["a"],
+    "records":[{"target":"a","commands":[],"reads":[],"writes":[],"shared":["x"]}]}]}"#;
 
 #[test]
 fn minds_footprints(rt: HostRuntime) -> Result<(), Fail> {

@@ -1,5 +1,4 @@
-//! Builds that are judged. A build is `makefile‖goals‖footprints`, in which `¶` stands for a newline
-//! and `→` for a tab.
+//! Builds that are judged. A build is `makefile‖goals‖sources‖records`, as in mk_tables.
 
 ghost use Rattle.std.specs.Prelude.{◌≡◌, [], false, map, Ok, IfOk};
 ghost use Rattle.mk_graph.specs.Setting as build;
@@ -17,27 +16,10 @@ use mk_lines::{Name, NameTable};
 use mk_parse::{MemFiles, read_makefile};
 use mk_read::Makefile;
 use mk_select::{Goals, goal_names, select};
+use mk_tables::{footprints, part, rows, unfolded};
 use std::alloc::{AllocError, Global};
 use std::process::Abort;
 use std::test::Fail;
-
-/// The part of a row with this number.
-pub fn part<'a>(row: &'a str, number: usize) -> &'a str {
-    row.split("‖").nth(number).unwrap_or("")
-}
-
-/// A text of a row with its newlines and tabs.
-pub fn unfolded(alloc: Global, text: &str) -> Result<String, AllocError> {
-    let mut out = String::new(alloc);
-    for c in text.chars() {
-        match c {
-            '¶' => out.push('\n')?,
-            '→' => out.push('\t')?,
-            other => out.push(other)?,
-        }
-    }
-    Ok(out)
-}
 
 /// A `makefile` of this text.
 fn files_of(alloc: Global, text: &str) -> Result<MemFiles, Fail>
@@ -156,7 +138,8 @@ fn over_table(
     call: &Call<'_>,
 ) -> Result<String, Fail> {
     let goals = goals_of(alloc, table, part(build, 1))?;
-    let setting = setting_of(alloc, table.makefile(), &goals, part(build, 2))?;
+    let book = footprints(alloc, build)?;
+    let setting = setting_of(alloc, table.makefile(), &goals, book.as_str())?;
     over_setting(alloc, table, &goals, &setting, call)
 }
 
@@ -181,15 +164,15 @@ pub fn expect_answer(
     Ok(())
 }
 
-/// Each line of the table is a build, `‖`, and what a call answers to it.
+/// Each row of the table is a build, `‖`, and what a call answers to it.
 pub fn expect_answers(
     rt: &impl Abort,
     alloc: Global,
     call: &Call<'_>,
     table: &str,
 ) -> Result<(), Fail> {
-    for row in table.lines() {
-        expect_answer(rt, alloc, row, call, part(row, 3))?;
+    for row in &rows(alloc, table)? {
+        expect_answer(rt, alloc, row, call, part(row, 4))?;
     }
     Ok(())
 }

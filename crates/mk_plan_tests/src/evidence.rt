@@ -6,8 +6,9 @@ ghost use Rattle.mk_parse.specs.MemFiles.{failures_of};
 use crate::simulations::printed;
 use mk_core::{Fault, MemFiles, Request, Verdict, render};
 use mk_evidence::{Evidence, evidence_or_verdict, evidence_text};
-use mk_rows::builds::{files_of_build, part, request_of};
-use mk_rows::rows::{bytes_of, unfolded};
+use mk_rows::builds::{files_of_build, request_of};
+use mk_rows::rows::bytes_of;
+use mk_tables::{part, rows, unfolded};
 use std::alloc::{AllocError, Global};
 use std::process::Abort;
 use std::test::Fail;
@@ -55,19 +56,26 @@ pub(crate) fn number_in(row: &str) -> u64 {
     }
 }
 
-/// Each line of the table is a build, `‖`, the number of a finding, `‖`, its plan, `‖`, and what is
-/// printed of the plan's run, where there is one.
+/// Expects what a row says of its build, the number of a finding, its plan, and what is printed of
+/// the plan's run, where there is one.
+fn expect_plan(rt: &impl Abort, alloc: Global, row: &str) -> Result<(), Fail> {
+    let plan = plan_for(alloc, row, number_in(row))?;
+    let text = String::from_utf8(plan.clone()?)?;
+    let want = unfolded(alloc, part(row, 5))?;
+    assert_eq!(rt; text.as_str(), want.as_str(), "the plan of {row:?}");
+    if text.as_str() != "none\n" && !text.as_str().starts_with("refused ") {
+        let run = ran(alloc, row, &plan)?;
+        let want = unfolded(alloc, part(row, 6))?;
+        assert_eq!(rt; run.as_str(), want.as_str(), "the run of {row:?}");
+    }
+    Ok(())
+}
+
+/// Each row of the table is a build, `‖`, the number of a finding, `‖`, its plan, `‖`, and what is
+/// printed of the plan's run.
 fn expect_plans(rt: &impl Abort, alloc: Global, table: &str) -> Result<(), Fail> {
-    for row in table.lines() {
-        let plan = plan_for(alloc, row, number_in(row))?;
-        let text = String::from_utf8(plan.clone()?)?;
-        let want = unfolded(alloc, part(row, 5))?;
-        assert_eq!(rt; text.as_str(), want.as_str(), "the plan of {row:?}");
-        if text.as_str() != "none\n" {
-            let run = ran(alloc, row, &plan)?;
-            let want = unfolded(alloc, part(row, 6))?;
-            assert_eq!(rt; run.as_str(), want.as_str(), "the run of {row:?}");
-        }
+    for row in &rows(alloc, table)? {
+        expect_plan(rt, alloc, row)?;
     }
     Ok(())
 }
@@ -75,12 +83,21 @@ fn expect_plans(rt: &impl Abort, alloc: Global, table: &str) -> Result<(), Fail>
 /// Races: of a phony reader behind a `.WAIT` that another path goes round; between two goals, whose
 /// order `.NOTPARALLEL` doesn't tell; of a phony reader that `.NOTPARALLEL` puts first; of a recipe
 /// behind a `.WAIT` which is a goal itself; and of a writer of several files.
-const RACES: &str =
-    r".PHONY: b¶all: x y¶x: a .WAIT b¶y: b¶a:¶→touch a¶b:¶→cat a¶‖‖‖a: > a = touch a; b: a > = cat a‖1‖make 1¶begin b¶‖plan ok¶
-.NOTPARALLEL:¶.PHONY: b¶all: a b¶a:¶→touch a¶b:¶→cat a¶‖a b‖‖a: > a = touch a; b: a > = cat a‖1‖make 1¶begin b¶‖plan ok¶
-.NOTPARALLEL:¶.PHONY: b¶all: b a¶a:¶→touch a¶b:¶→cat a¶‖‖‖a: > a = touch a; b: a > = cat a‖1‖make 1¶begin b¶‖plan ok¶
-all: p .WAIT q¶p: s¶→mk p¶q: s¶→mk q¶‖all q‖s‖p: s > p x = mk p; q: s x > q = mk q‖1‖make 1¶begin q¶‖plan ok¶
-all: g p q¶g: s¶→mk g¶p: s¶→mk p¶q: g¶→mk q¶‖‖s‖g: s > g = mk g; p: s > p x y = mk p; q: g y > q = mk q‖1‖make 1¶begin g¶look g s¶put g g 2¶done g¶begin q¶‖plan ok¶";
+const RACES: &str = r".PHONY: b¶all: x y¶x: a .WAIT b¶y: b¶a:¶→touch a¶b:¶→cat a¶‖‖
+    ‖a: > a = touch a; b: a > = cat a‖1
+    ‖make 1¶begin b¶‖plan ok¶
+.NOTPARALLEL:¶.PHONY: b¶all: a b¶a:¶→touch a¶b:¶→cat a¶‖a b‖
+    ‖a: > a = touch a; b: a > = cat a‖1
+    ‖make 1¶begin b¶‖plan ok¶
+.NOTPARALLEL:¶.PHONY: b¶all: b a¶a:¶→touch a¶b:¶→cat a¶‖‖
+    ‖a: > a = touch a; b: a > = cat a‖1
+    ‖make 1¶begin b¶‖plan ok¶
+all: p .WAIT q¶p: s¶→mk p¶q: s¶→mk q¶‖all q‖s
+    ‖p: s > p x = mk p; q: s x > q = mk q‖1
+    ‖make 1¶begin q¶‖plan ok¶
+all: g p q¶g: s¶→mk g¶p: s¶→mk p¶q: g¶→mk q¶‖‖s
+    ‖g: s > g = mk g; p: s > p x y = mk p; q: g y > q = mk q‖1
+    ‖make 1¶begin g¶look g s¶put g g 2¶done g¶begin q¶‖plan ok¶";
 
 #[test]
 fn plans_show_races(rt: HostRuntime) -> Result<(), Fail> {
@@ -90,12 +107,35 @@ fn plans_show_races(rt: HostRuntime) -> Result<(), Fail> {
 /// Stale reads: of a source that isn't named, where what reads the recipe's file is run again; of a
 /// header and of a source, by a recipe that carries another one over a name without a recipe; of a
 /// file that isn't given, with no edit; and of such a file beside a race.
-const STALE: &str =
-    r"p: a.o¶→cc -o p a.o¶a.o: a.c¶→cc -c a.c¶‖‖a.c h.h‖p: a.o > p = cc -o p a.o; a.o: a.c h.h > a.o = cc -c a.c‖1‖make 1¶begin a.o¶look a.o a.c¶look a.o h.h¶put a.o a.o 3¶done a.o¶begin p¶look p a.o¶put p p 4¶done p¶end¶edit h.h 5¶make 1¶pass a.o¶begin p¶look p a.o¶put p p 4¶done p¶end¶‖a.c 1 1¶a.o 3 3¶h.h 2 2¶p 4 4¶a.c 1 1¶a.o 3 3¶h.h 5 5¶p 4 6¶plan ok¶
-m.o: m.c y.tab.h¶→cc -c m.c¶y.tab.h: y.tab.c¶y.tab.c: gram.y¶→yacc -d gram.y¶‖‖m.c gram.y h.h‖m.o: m.c y.tab.h h.h > m.o = cc -c m.c; y.tab.c: gram.y > y.tab.c y.tab.h = yacc -d gram.y‖1‖make 1¶begin y.tab.c¶look y.tab.c gram.y¶put y.tab.c y.tab.c 4¶put y.tab.c y.tab.h 5¶done y.tab.c¶begin m.o¶look m.o m.c¶look m.o y.tab.h¶look m.o h.h¶put m.o m.o 6¶done m.o¶end¶edit h.h 7¶make 1¶pass y.tab.c¶pass m.o¶end¶‖gram.y 1 1¶h.h 2 2¶m.c 3 3¶m.o 6 6¶y.tab.c 4 4¶y.tab.h 5 5¶gram.y 1 1¶h.h 7 7¶m.c 3 3¶m.o 6 6¶y.tab.c 4 4¶y.tab.h 5 5¶plan ok¶
-m.o: y.tab.h¶→cc -c m.c¶y.tab.h: y.tab.c¶y.tab.c: gram.y¶→yacc -d gram.y¶‖‖m.c gram.y‖m.o: m.c y.tab.h > m.o = cc -c m.c; y.tab.c: gram.y > y.tab.c y.tab.h = yacc -d gram.y‖1‖make 1¶begin y.tab.c¶look y.tab.c gram.y¶put y.tab.c y.tab.c 3¶put y.tab.c y.tab.h 4¶done y.tab.c¶begin m.o¶look m.o m.c¶look m.o y.tab.h¶put m.o m.o 5¶done m.o¶end¶edit m.c 6¶make 1¶pass y.tab.c¶pass m.o¶end¶‖gram.y 1 1¶m.c 2 2¶m.o 5 5¶y.tab.c 3 3¶y.tab.h 4 4¶gram.y 1 1¶m.c 6 6¶m.o 5 5¶y.tab.c 3 3¶y.tab.h 4 4¶plan ok¶
-all: p .WAIT q¶p: s¶→mk p¶q:¶→mk q¶‖‖s‖p: s > p = mk p; q: p > q = mk q‖1‖make 1¶begin p¶look p s¶put p p 2¶done p¶begin q¶look q p¶put q q 3¶done q¶end¶make 1¶begin p¶look p s¶put p p 2¶done p¶pass q¶end¶‖p 2 2¶q 3 3¶s 1 1¶p 2 4¶q 3 3¶s 1 1¶plan ok¶
-all: p q¶p:¶→mk p¶q:¶→mk q¶‖‖‖p: > p = mk p; q: p > q = mk q‖2‖make 1¶begin p¶put p p 1¶done p¶begin q¶look q p¶put q q 2¶done q¶end¶make 1¶begin p¶put p p 1¶done p¶pass q¶end¶‖p 1 1¶q 2 2¶p 1 3¶q 2 2¶plan ok¶";
+const STALE: &str = r"p: a.o¶→cc -o p a.o¶a.o: a.c¶→cc -c a.c¶‖‖a.c h.h
+    ‖p: a.o > p = cc -o p a.o; a.o: a.c h.h > a.o = cc -c a.c‖1
+    ‖make 1¶begin a.o¶look a.o a.c¶look a.o h.h¶put a.o a.o 3¶done a.o¶begin p¶look p a.o¶
+    put p p 4¶done p¶end¶edit h.h 5¶make 1¶pass a.o¶begin p¶look p a.o¶put p p 4¶done p¶end¶
+    ‖a.c 1 1¶a.o 3 3¶h.h 2 2¶p 4 4¶a.c 1 1¶a.o 3 3¶h.h 5 5¶p 4 6¶plan ok¶
+m.o: m.c y.tab.h¶→cc -c m.c¶y.tab.h: y.tab.c¶y.tab.c: gram.y¶→yacc -d gram.y¶‖‖m.c gram.y h.h
+    ‖m.o: m.c y.tab.h h.h > m.o = cc -c m.c; y.tab.c: gram.y > y.tab.c y.tab.h = yacc -d gram.y‖1
+    ‖make 1¶begin y.tab.c¶look y.tab.c gram.y¶put y.tab.c y.tab.c 4¶put y.tab.c y.tab.h 5¶
+    done y.tab.c¶begin m.o¶look m.o m.c¶look m.o y.tab.h¶look m.o h.h¶put m.o m.o 6¶done m.o¶end¶
+    edit h.h 7¶make 1¶pass y.tab.c¶pass m.o¶end¶
+    ‖gram.y 1 1¶h.h 2 2¶m.c 3 3¶m.o 6 6¶y.tab.c 4 4¶y.tab.h 5 5¶gram.y 1 1¶h.h 7 7¶m.c 3 3¶
+    m.o 6 6¶y.tab.c 4 4¶y.tab.h 5 5¶plan ok¶
+m.o: y.tab.h¶→cc -c m.c¶y.tab.h: y.tab.c¶y.tab.c: gram.y¶→yacc -d gram.y¶‖‖m.c gram.y
+    ‖m.o: m.c y.tab.h > m.o = cc -c m.c; y.tab.c: gram.y > y.tab.c y.tab.h = yacc -d gram.y‖1
+    ‖make 1¶begin y.tab.c¶look y.tab.c gram.y¶put y.tab.c y.tab.c 3¶put y.tab.c y.tab.h 4¶
+    done y.tab.c¶begin m.o¶look m.o m.c¶look m.o y.tab.h¶put m.o m.o 5¶done m.o¶end¶edit m.c 6¶
+    make 1¶pass y.tab.c¶pass m.o¶end¶
+    ‖gram.y 1 1¶m.c 2 2¶m.o 5 5¶y.tab.c 3 3¶y.tab.h 4 4¶gram.y 1 1¶m.c 6 6¶m.o 5 5¶y.tab.c 3 3¶
+    y.tab.h 4 4¶plan ok¶
+all: p .WAIT q¶p: s¶→mk p¶q:¶→mk q¶‖‖s
+    ‖p: s > p = mk p; q: p > q = mk q‖1
+    ‖make 1¶begin p¶look p s¶put p p 2¶done p¶begin q¶look q p¶put q q 3¶done q¶end¶make 1¶
+    begin p¶look p s¶put p p 2¶done p¶pass q¶end¶
+    ‖p 2 2¶q 3 3¶s 1 1¶p 2 4¶q 3 3¶s 1 1¶plan ok¶
+all: p q¶p:¶→mk p¶q:¶→mk q¶‖‖
+    ‖p: > p = mk p; q: p > q = mk q‖2
+    ‖make 1¶begin p¶put p p 1¶done p¶begin q¶look q p¶put q q 2¶done q¶end¶make 1¶begin p¶
+    put p p 1¶done p¶pass q¶end¶
+    ‖p 1 1¶q 2 2¶p 1 3¶q 2 2¶plan ok¶";
 
 #[test]
 fn plans_show_stale_reads(rt: HostRuntime) -> Result<(), Fail> {
@@ -111,12 +151,7 @@ p: s¶→mk p¶‖‖‖p: s > p = mk p‖1‖refused 41 s";
 
 #[test]
 fn other_findings_have_no_plan(rt: HostRuntime) -> Result<(), Fail> {
-    for row in NONE.lines() {
-        let plan = String::from_utf8(plan_for(rt.alloc(), row, number_in(row))?)?;
-        let want = unfolded(rt.alloc(), part(row, 5))?;
-        assert_eq!(rt; plan.as_str(), want.as_str(), "of {row:?}");
-    }
-    Ok(())
+    expect_plans(&rt, rt.alloc(), NONE)
 }
 
 /// What is printed of a verdict.
@@ -160,19 +195,26 @@ fn evidence_for(alloc: Global, build: &str, number: u64) -> Result<Vec<u8>, Fail
 }
 
 /// A finding that a plan shows; and, behind `no plan`, the verdicts on builds of which none does.
-const PLANS_OR_VERDICTS: &str =
-    r"p: s¶→mk p¶‖‖s t‖p: s t > p = mk p‖1‖make 1¶begin p¶look p s¶look p t¶put p p 3¶done p¶end¶edit t 4¶make 1¶pass p¶end¶
+const PLANS_OR_VERDICTS: &str = r"p: s¶→mk p¶‖‖s t
+    ‖p: s t > p = mk p‖1
+    ‖make 1¶begin p¶look p s¶look p t¶put p p 3¶done p¶end¶edit t 4¶make 1¶pass p¶end¶
 p: s¶→mk p¶‖‖s t‖p: s t > p = mk p‖2‖no plan¶no stale p t¶
 b: a¶→do b¶a:¶→do a¶‖‖‖a: > a log = do a; b: a > b log = do b‖1‖no plan¶no writers a b log¶
 p: s¶→mk p¶‖‖s‖p: s > p = mk p‖1‖no plan¶yes 1 recipes 1 reads¶way p s source p¶
 p: s¶→mk p¶‖‖‖p: s > p = mk p‖1‖refused 41 s";
 
+/// Expects what a row says to be told of its build.
+fn expect_evidence(rt: &impl Abort, alloc: Global, row: &str) -> Result<(), Fail> {
+    let text = String::from_utf8(evidence_for(alloc, row, number_in(row))?)?;
+    let want = unfolded(alloc, part(row, 5))?;
+    assert_eq!(rt; text.as_str(), want.as_str(), "of {row:?}");
+    Ok(())
+}
+
 #[test]
 fn answers_plans_or_verdicts(rt: HostRuntime) -> Result<(), Fail> {
-    for row in PLANS_OR_VERDICTS.lines() {
-        let text = String::from_utf8(evidence_for(rt.alloc(), row, number_in(row))?)?;
-        let want = unfolded(rt.alloc(), part(row, 5))?;
-        assert_eq!(rt; text.as_str(), want.as_str(), "of {row:?}");
+    for row in &rows(rt.alloc(), PLANS_OR_VERDICTS)? {
+        expect_evidence(&rt, rt.alloc(), row)?;
     }
     Ok(())
 }

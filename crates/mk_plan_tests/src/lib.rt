@@ -1,5 +1,5 @@
-//! Tests of plans and their runs, by the public calls of mk_core and mk_evidence, and of growths that
-//! are refused.
+//! Tests of plans and their runs, by the public calls of mk_core and mk_evidence, and of growths
+//! that are refused.
 #![tactic(auto)]
 
 #[cfg(test)]

@@ -4,7 +4,8 @@ ghost use Rattle.std.specs.Prelude.{◌≡◌, ◌<◌, ◌-◌, ◌^◌};
 ghost use Rattle.mk_parse.specs.MemFiles.{failures_of};
 
 use mk_core::{Fault, MemFiles, Request, Simulation, simulate_text};
-use mk_rows::rows::{asked_by, bytes_of, unfolded};
+use mk_rows::rows::{asked_by, bytes_of};
+use mk_tables::{lines_of, rows, unfolded};
 use std::alloc::{AllocError, Global};
 use std::process::Abort;
 use std::test::Fail;
@@ -17,8 +18,11 @@ const COPIES: &str = r#"{"format":1,"fixed":[],"sources":["a"],"records":[
 
 /// Plans with a slash for each newline, and what is printed.
 const COPY_ROWS: &str =
-    "make 1/begin b/finish b/end/edit a/make 1/pass b => a 1 1/b 2 2/refused 65 line 7/a 3 3/b 2 2/
-make 2/begin b/put b b 7/look b a/done b/end/edit a 5/make 1/run b/end/edit a 1/make 1/run b/end/make 1/begin b/put b b 9/look b a/done b => a 1 1/b 7 2/a 5 3/b 4 4/a 1 5/b 7 6/refused 60 line 19/a 1 5/b 9 7/
+    "make 1/begin b/finish b/end/edit a/make 1/pass b => a 1 1/b 2 2/refused 65 line 7/a 3 3/
+    b 2 2/
+make 2/begin b/put b b 7/look b a/done b/end/edit a 5/make 1/run b/end/edit a 1/make 1/run b/end/
+    make 1/begin b/put b b 9/look b a/done b => a 1 1/b 7 2/a 5 3/b 4 4/a 1 5/b 7 6/
+    refused 60 line 19/a 1 5/b 9 7/
 begin b => refused 61 line 1/a 1 1/
 edit b => refused 70 line 1/a 1 1/
 make 0 => refused 69 line 1
@@ -41,7 +45,8 @@ const CHAINED: &str = r#"{"format":1,"fixed":[],"sources":["a"],"records":[
 {"target":"c","commands":["cp b c"],"reads":["b"],"writes":["c"]}]}"#;
 
 const CHAIN_ROWS: &str =
-    "make 1 b/run b/end/edit a/make 1/run b/stop/make 1 c/pass b/run c/end => a 1 1/b 2 2/a 3 3/b 4 4/c 5 5/plan ok/
+    "make 1 b/run b/end/edit a/make 1/run b/stop/make 1 c/pass b/run c/end => a 1 1/b 2 2/
+    a 3 3/b 4 4/c 5 5/plan ok/
 make 1 z => refused 69 line 1/a 1 1/
 make 1 a => refused 77 line 1/a 1 1/
 make 1/make 1 a => refused 62 line 2/a 1 1/
@@ -77,47 +82,42 @@ fn ran(alloc: Global, makefile: &str, book: &str, plan: &str, words: &str) -> Re
     printed(alloc, &mut files, &asked_by(alloc, words)?)
 }
 
-/// A text in which each slash stands for a newline.
-pub(crate) fn lines_of(alloc: Global, text: &str) -> Result<String, Fail> {
-    let mut out = String::new(alloc);
-    for c in text.chars() {
-        out.push(if c == '/' { '\n' } else { c })?;
-    }
-    Ok(out)
-}
-
 /// What is printed of a plan over the makefile that copies a source, with a slash for each newline.
 pub(crate) fn copied(alloc: Global, plan: &str) -> Result<String, Fail> {
     ran(alloc, COPY, COPIES, lines_of(alloc, plan)?.as_str(), "-b B")
 }
 
-/// Each line of the table is a plan and what is printed.
-fn expect_plans(
-    rt: &impl Abort,
-    alloc: Global,
-    makefile: &str,
-    book: &str,
-    words: &str,
-    rows: &str,
-) -> Result<(), Fail> {
-    for row in rows.lines() {
-        let (plan, out) = row.split_once(" => ").unwrap_or((row, ""));
-        let plan = lines_of(alloc, plan)?;
-        let got = ran(alloc, makefile, book, plan.as_str(), words)?;
-        let want = lines_of(alloc, out)?;
-        assert_eq!(rt; got.as_str(), want.as_str(), "of {row:?}");
+/// What is printed of a plan over the makefile of two goals, with a slash for each newline.
+fn chained(alloc: Global, plan: &str) -> Result<String, Fail> {
+    ran(
+        alloc,
+        CHAIN,
+        CHAINED,
+        lines_of(alloc, plan)?.as_str(),
+        "-b B c b",
+    )
+}
+
+#[test]
+fn runs_plans(rt: HostRuntime) -> Result<(), Fail> {
+    let alloc = rt.alloc();
+    for row in &rows(alloc, COPY_ROWS)? {
+        let (plan, want) = row.split_once(" => ").unwrap_or((row, ""));
+        let got = copied(alloc, plan)?;
+        assert_eq!(rt; got.as_str(), lines_of(alloc, want)?.as_str(), "of {row:?}");
     }
     Ok(())
 }
 
 #[test]
-fn runs_plans(rt: HostRuntime) -> Result<(), Fail> {
-    expect_plans(&rt, rt.alloc(), COPY, COPIES, "-b B", COPY_ROWS)
-}
-
-#[test]
 fn makes_some_goals(rt: HostRuntime) -> Result<(), Fail> {
-    expect_plans(&rt, rt.alloc(), CHAIN, CHAINED, "-b B c b", CHAIN_ROWS)
+    let alloc = rt.alloc();
+    for row in &rows(alloc, CHAIN_ROWS)? {
+        let (plan, want) = row.split_once(" => ").unwrap_or((row, ""));
+        let got = chained(alloc, plan)?;
+        assert_eq!(rt; got.as_str(), lines_of(alloc, want)?.as_str(), "of {row:?}");
+    }
+    Ok(())
 }
 
 /// So many comments, a line each.

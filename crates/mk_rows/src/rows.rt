@@ -4,6 +4,7 @@ ghost use Rattle.std.specs.Prelude.{◌≡◌, ◌<◌, ◌-◌, ◌^◌, IfOk};
 ghost use Rattle.mk_parse.specs.MemFiles.{failures_of};
 
 use mk_core::{Fault, MemFiles, Name, Request, fault_text, graph_text, split_words};
+use mk_tables::field;
 use std::alloc::{AllocError, Global};
 use std::test::Fail;
 
@@ -94,32 +95,6 @@ pub fn over(alloc: Global, text: &[u8], words: &str) -> Result<String, Fail> {
     let mut files = MemFiles::new(alloc);
     files.add("makefile", text)?;
     answer(alloc, &mut files, &asked)
-}
-
-/// A text of a row, in which `¶` stands for a newline and `→` for a tab.
-pub fn unfolded(alloc: Global, text: &str) -> Result<String, Fail> {
-    let mut out = String::new(alloc);
-    for c in text.chars() {
-        match c {
-            '¶' => out.push('\n')?,
-            '→' => out.push('\t')?,
-            other => out.push(other)?,
-        }
-    }
-    Ok(out)
-}
-
-/// What stands in a row, between `‖`.
-pub fn fields_of(alloc: Global, row: &str) -> Result<Vec<&str>, Fail> {
-    Ok(row.split("‖").collect(alloc)?)
-}
-
-/// A field of a row, with its newlines and tabs.
-pub fn field(alloc: Global, fields: &[&str], at: usize) -> Result<String, Fail> {
-    match fields.get(at) {
-        Some(text) => unfolded(alloc, text),
-        None => Ok(String::new(alloc)),
-    }
 }
 
 /// Adds the file whose name and text are these fields of a row.

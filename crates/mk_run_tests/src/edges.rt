@@ -1,4 +1,5 @@
-//! What no clause says of reading and writing: which failure comes where, on the disk and elsewhere.
+//! What no clause says of reading and writing: which failure comes where, on the disk and
+//! elsewhere.
 
 use mk_core::{Files, FilesError, MemFiles};
 use mk_host::{Disk, Ending, Outcome, Source, Stop, conclude, emit, end, slurp};

@@ -1,11 +1,11 @@
-//! Tables of which each line is a row: a build as in mk_rows, of which the words are the whole
-//! command line, the status, what is printed, and a further file with its text.
+//! Tables of which each row is a build as in mk_rows, of which the words are the whole command
+//! line, the status, what is printed, and a further file with its text.
 
 use mk_core::MemFiles;
 use mk_host::Outcome;
-use mk_rows::builds::{files_of_build, part};
-use mk_rows::rows::unfolded;
+use mk_rows::builds::files_of_build;
 use mk_run::run;
+use mk_tables::{part, rows, unfolded};
 use std::alloc::{AllocError, Global};
 use std::process::Abort;
 use std::test::Fail;
@@ -31,9 +31,9 @@ fn expect_row(rt: &impl Abort, alloc: Global, row: &str) -> Result<(), Fail> {
     Ok(())
 }
 
-/// Each line of the table is a row.
+/// Expects it of each row of a table.
 pub(crate) fn expect_rows(rt: &impl Abort, alloc: Global, table: &str) -> Result<(), Fail> {
-    for row in table.lines() {
+    for row in &rows(alloc, table)? {
         expect_row(rt, alloc, row)?;
     }
     Ok(())

@@ -9,10 +9,11 @@ use std::process::Abort;
 use std::test::Fail;
 
 /// Graphs of goals, over which macros are set too.
-const GRAPHS: &str =
-    r"p: a.o¶→cc -o p a.o¶a.o: a.c¶→cc -c a.c¶‖graph‖‖‖0‖goals p¶a.c:¶a.o recipe: a.c¶p recipe: a.o¶
+const GRAPHS: &str = r"p: a.o¶→cc -o p a.o¶a.o: a.c¶→cc -c a.c¶‖graph‖‖‖0
+    ‖goals p¶a.c:¶a.o recipe: a.c¶p recipe: a.o¶
 p: a.o¶→cc -o p a.o¶a.o: a.c¶→cc -c a.c¶‖graph zzz‖‖‖0‖goals zzz¶zzz:¶
-p: a.o¶→cc -o p a.o¶a.o: a.c¶→cc -c a.c¶‖graph -f makefile -- a.o‖‖‖0‖goals a.o¶a.c:¶a.o recipe: a.c¶
+p: a.o¶→cc -o p a.o¶a.o: a.c¶→cc -c a.c¶‖graph -f makefile -- a.o‖‖‖0
+    ‖goals a.o¶a.c:¶a.o recipe: a.c¶
 a: $(X)¶b:¶‖graph b X=c a‖‖‖0‖goals b a¶b:¶c:¶a: c¶";
 
 #[test]
@@ -21,8 +22,8 @@ fn prints_the_graph(rt: HostRuntime) -> Result<(), Fail> {
 }
 
 /// Graphs with commands, without the default rules, and by footprints.
-const OPTIONS: &str =
-    r"p: a.o¶→$(CC) -o $@ $^¶a.o:¶a.c:¶‖graph -c CC=cc‖‖‖0‖goals p¶a.c:¶a.o recipe: a.c¶→cc -O1 -c a.c¶p recipe: a.o¶→cc -o p a.o¶
+const OPTIONS: &str = r"p: a.o¶→$(CC) -o $@ $^¶a.o:¶a.c:¶‖graph -c CC=cc‖‖‖0
+    ‖goals p¶a.c:¶a.o recipe: a.c¶→cc -O1 -c a.c¶p recipe: a.o¶→cc -o p a.o¶
 p: a.o¶→$(CC) -o $@ $^¶a.o:¶a.c:¶‖graph -r -c CC=cc‖‖‖0‖goals p¶a.o:¶p recipe: a.o¶→cc -o p a.o¶
 p: a.o¶→$(CC) -o $@ $^¶a.o:¶a.c:¶‖graph -rr a.o‖‖‖0‖goals a.o¶a.o:¶
 p: a.o¶→$(CC) -o $@ $^¶a.o:¶a.c:¶‖graph -b C‖‖‖2‖refused 38 C¶
@@ -71,8 +72,10 @@ fn prints_what_is_not_read(rt: HostRuntime) -> Result<(), Fail> {
 }
 
 /// Runs of plans, which stand in the file `P`.
-const PLANS: &str =
-    r"b: a¶→cp a b¶‖simulate -b B -p P‖a‖b: a > b = cp a b‖2‖a 1 1¶b 2 2¶refused 65 line 7¶a 3 3¶b 2 2¶‖P‖make 1¶begin b¶finish b¶end¶edit a¶make 1¶pass b
+const PLANS: &str = r"b: a¶→cp a b¶‖simulate -b B -p P‖a
+    ‖b: a > b = cp a b‖2
+    ‖a 1 1¶b 2 2¶refused 65 line 7¶a 3 3¶b 2 2¶‖P
+    ‖make 1¶begin b¶finish b¶end¶edit a¶make 1¶pass b
 b: a¶→cp a b¶‖simulate -b B -p P‖a‖b: a > b = cp a b‖0‖a 1 1¶b 2 2¶plan ok¶‖P‖make 1¶run b¶end¶
 b: a¶→cp a b¶‖simulate -b B -p P‖a‖b: a > b = cp a b‖2‖refused 69 line 1¶‖P‖frob
 b: a¶→cp a b¶‖simulate -b B -p P‖a‖b: a > b = cp a b‖2‖refused 38 P¶";

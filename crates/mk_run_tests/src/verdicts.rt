@@ -8,12 +8,25 @@ use std::process::Abort;
 use std::test::Fail;
 
 /// Builds that are right, and a certificate of one.
-const YES: &str =
-    r#"p: a.o¶→cc -o p a.o¶a.o: a.c¶→cc -c a.c¶‖check -b B‖a.c‖p: a.o > p = cc -o p a.o; a.o: a.c > a.o = cc -c a.c‖0‖yes 2 recipes 2 reads¶way a.o a.c source a.o¶way p a.o written p a.o¶
-p: a.o¶→cc -o p a.o¶a.o: a.c¶→cc -c a.c¶‖check -f makefile -r -b B p X=1‖a.c‖p: a.o > p = cc -o p a.o; a.o: a.c > a.o = cc -c a.c‖0‖yes 2 recipes 2 reads¶way a.o a.c source a.o¶way p a.o written p a.o¶
-p: a.o¶→cc -o p a.o¶a.o: a.c¶→cc -c a.c¶‖check -b B‖a.c‖p: a.o a.c > p = cc -o p a.o; a.o: a.c > a.o = cc -c a.c‖0‖yes 2 recipes 3 reads¶way a.o a.c source a.o¶way p a.o written p a.o¶way p a.c source p a.o¶
-p: a.o¶→cc -o p a.o¶a.o: a.c¶→cc -c a.c¶‖check -b B -c‖a.c‖p: a.o a.c > p = cc -o p a.o; a.o: a.c > a.o = cc -c a.c‖0‖{"format":1,"goals":["p"],"ways":[{"end":"source","file":"a.c","path":["a.o"],"recipe":"a.o"},{"end":"written","file":"a.o","path":["p","a.o"],"recipe":"p"},{"end":"source","file":"a.c","path":["p","a.o"],"recipe":"p"}]}¶
-p: a.o¶→cc -o p a.o¶a.o: a.c¶→cc -c a.c¶‖check -cc -b B‖a.c‖p: a.o a.c > p = cc -o p a.o; a.o: a.c > a.o = cc -c a.c‖0‖{"format":1,"goals":["p"],"ways":[{"end":"source","file":"a.c","path":["a.o"],"recipe":"a.o"},{"end":"written","file":"a.o","path":["p","a.o"],"recipe":"p"},{"end":"source","file":"a.c","path":["p","a.o"],"recipe":"p"}]}¶"#;
+const YES: &str = r#"p: a.o¶→cc -o p a.o¶a.o: a.c¶→cc -c a.c¶‖check -b B‖a.c
+    ‖p: a.o > p = cc -o p a.o; a.o: a.c > a.o = cc -c a.c‖0
+    ‖yes 2 recipes 2 reads¶way a.o a.c source a.o¶way p a.o written p a.o¶
+p: a.o¶→cc -o p a.o¶a.o: a.c¶→cc -c a.c¶‖check -f makefile -r -b B p X=1‖a.c
+    ‖p: a.o > p = cc -o p a.o; a.o: a.c > a.o = cc -c a.c‖0
+    ‖yes 2 recipes 2 reads¶way a.o a.c source a.o¶way p a.o written p a.o¶
+p: a.o¶→cc -o p a.o¶a.o: a.c¶→cc -c a.c¶‖check -b B‖a.c
+    ‖p: a.o a.c > p = cc -o p a.o; a.o: a.c > a.o = cc -c a.c‖0
+    ‖yes 2 recipes 3 reads¶way a.o a.c source a.o¶way p a.o written p a.o¶way p a.c source p a.o¶
+p: a.o¶→cc -o p a.o¶a.o: a.c¶→cc -c a.c¶‖check -b B -c‖a.c
+    ‖p: a.o a.c > p = cc -o p a.o; a.o: a.c > a.o = cc -c a.c‖0
+    ‖{"format":1,"goals":["p"],"ways":[{"end":"source","file":"a.c","path":["a.o"],
+    "recipe":"a.o"},{"end":"written","file":"a.o","path":["p","a.o"],"recipe":"p"},
+    {"end":"source","file":"a.c","path":["p","a.o"],"recipe":"p"}]}¶
+p: a.o¶→cc -o p a.o¶a.o: a.c¶→cc -c a.c¶‖check -cc -b B‖a.c
+    ‖p: a.o a.c > p = cc -o p a.o; a.o: a.c > a.o = cc -c a.c‖0
+    ‖{"format":1,"goals":["p"],"ways":[{"end":"source","file":"a.c","path":["a.o"],
+    "recipe":"a.o"},{"end":"written","file":"a.o","path":["p","a.o"],"recipe":"p"},
+    {"end":"source","file":"a.c","path":["p","a.o"],"recipe":"p"}]}¶"#;
 
 #[test]
 fn says_yes(rt: HostRuntime) -> Result<(), Fail> {
@@ -21,13 +34,20 @@ fn says_yes(rt: HostRuntime) -> Result<(), Fail> {
 }
 
 /// A header of which the makefile says nothing, a race, no records, and two writers of a log.
-const NO: &str =
-    r"p: a.o¶→cc -o p a.o¶a.o: a.c¶→cc -c a.c¶‖check -b B‖a.c h.h‖p: a.o > p = cc -o p a.o; a.o: a.c h.h > a.o = cc -c a.c‖1‖no stale a.o h.h¶
-.PHONY: b¶all: x y¶x: a .WAIT b¶y: b¶a:¶→touch a¶b:¶→cat a¶‖check -b B‖‖a: > a = touch a; b: a > = cat a‖1‖no race b a a¶
+const NO: &str = r"p: a.o¶→cc -o p a.o¶a.o: a.c¶→cc -c a.c¶‖check -b B‖a.c h.h
+    ‖p: a.o > p = cc -o p a.o; a.o: a.c h.h > a.o = cc -c a.c‖1
+    ‖no stale a.o h.h¶
+.PHONY: b¶all: x y¶x: a .WAIT b¶y: b¶a:¶→touch a¶b:¶→cat a¶‖check -b B‖
+    ‖a: > a = touch a; b: a > = cat a‖1
+    ‖no race b a a¶
 p: a.o¶→cc -o p a.o¶a.o: a.c¶→cc -c a.c¶‖check -b B‖a.c‖‖1‖no record a.o¶no record p¶
 b: a¶→do b¶a:¶→do a¶‖check -b B‖‖a: > a log = do a; b: a > b log = do b‖1‖no writers a b log¶
-p: a.o¶→cc -o p a.o¶a.o: a.c¶→cc -c a.c¶‖check -b B -c‖a.c h.h‖p: a.o > p = cc -o p a.o; a.o: a.c h.h > a.o = cc -c a.c‖1‖no stale a.o h.h¶
-.PHONY: b¶all: x y¶x: a .WAIT b¶y: b¶a:¶→touch a¶b:¶→cat a¶‖check -b B -c‖‖a: > a = touch a; b: a > = cat a‖1‖no race b a a¶
+p: a.o¶→cc -o p a.o¶a.o: a.c¶→cc -c a.c¶‖check -b B -c‖a.c h.h
+    ‖p: a.o > p = cc -o p a.o; a.o: a.c h.h > a.o = cc -c a.c‖1
+    ‖no stale a.o h.h¶
+.PHONY: b¶all: x y¶x: a .WAIT b¶y: b¶a:¶→touch a¶b:¶→cat a¶‖check -b B -c‖
+    ‖a: > a = touch a; b: a > = cat a‖1
+    ‖no race b a a¶
 p: a.o¶→cc -o p a.o¶a.o: a.c¶→cc -c a.c¶‖check -b B -c‖a.c‖‖1‖no record a.o¶no record p¶
 b: a¶→do b¶a:¶→do a¶‖check -b B -c‖‖a: > a log = do a; b: a > b log = do b‖1‖no writers a b log¶";
 
@@ -38,17 +58,28 @@ fn says_no(rt: HostRuntime) -> Result<(), Fail> {
 
 /// Plans of those that one shows. In the first all is made, the header is edited, and all but the
 /// compilation is made again.
-const PLANS: &str =
-    r"p: a.o¶→cc -o p a.o¶a.o: a.c¶→cc -c a.c¶‖check -b B -e 1‖a.c h.h‖p: a.o > p = cc -o p a.o; a.o: a.c h.h > a.o = cc -c a.c‖1‖make 1¶begin a.o¶look a.o a.c¶look a.o h.h¶put a.o a.o 3¶done a.o¶begin p¶look p a.o¶put p p 4¶done p¶end¶edit h.h 5¶make 1¶pass a.o¶begin p¶look p a.o¶put p p 4¶done p¶end¶
-.PHONY: b¶all: x y¶x: a .WAIT b¶y: b¶a:¶→touch a¶b:¶→cat a¶‖check -b B -e 1‖‖a: > a = touch a; b: a > = cat a‖1‖make 1¶begin b¶
+const PLANS: &str = r"p: a.o¶→cc -o p a.o¶a.o: a.c¶→cc -c a.c¶‖check -b B -e 1‖a.c h.h
+    ‖p: a.o > p = cc -o p a.o; a.o: a.c h.h > a.o = cc -c a.c‖1
+    ‖make 1¶begin a.o¶look a.o a.c¶look a.o h.h¶put a.o a.o 3¶done a.o¶begin p¶look p a.o¶
+    put p p 4¶done p¶end¶edit h.h 5¶make 1¶pass a.o¶begin p¶look p a.o¶put p p 4¶done p¶end¶
+.PHONY: b¶all: x y¶x: a .WAIT b¶y: b¶a:¶→touch a¶b:¶→cat a¶‖check -b B -e 1‖
+    ‖a: > a = touch a; b: a > = cat a‖1
+    ‖make 1¶begin b¶
 p: a.o¶→cc -o p a.o¶a.o: a.c¶→cc -c a.c¶‖check -b B -e 1‖a.c‖‖1‖no plan¶
 b: a¶→do b¶a:¶→do a¶‖check -b B -e 1‖‖a: > a log = do a; b: a > b log = do b‖1‖no plan¶
-p: a.o¶→cc -o p a.o¶a.o: a.c¶→cc -c a.c¶‖check -c -e1 -b B‖a.c h.h‖p: a.o > p = cc -o p a.o; a.o: a.c h.h > a.o = cc -c a.c‖1‖make 1¶begin a.o¶look a.o a.c¶look a.o h.h¶put a.o a.o 3¶done a.o¶begin p¶look p a.o¶put p p 4¶done p¶end¶edit h.h 5¶make 1¶pass a.o¶begin p¶look p a.o¶put p p 4¶done p¶end¶
-.PHONY: b¶all: x y¶x: a .WAIT b¶y: b¶a:¶→touch a¶b:¶→cat a¶‖check -c -e1 -b B‖‖a: > a = touch a; b: a > = cat a‖1‖make 1¶begin b¶
+p: a.o¶→cc -o p a.o¶a.o: a.c¶→cc -c a.c¶‖check -c -e1 -b B‖a.c h.h
+    ‖p: a.o > p = cc -o p a.o; a.o: a.c h.h > a.o = cc -c a.c‖1
+    ‖make 1¶begin a.o¶look a.o a.c¶look a.o h.h¶put a.o a.o 3¶done a.o¶begin p¶look p a.o¶
+    put p p 4¶done p¶end¶edit h.h 5¶make 1¶pass a.o¶begin p¶look p a.o¶put p p 4¶done p¶end¶
+.PHONY: b¶all: x y¶x: a .WAIT b¶y: b¶a:¶→touch a¶b:¶→cat a¶‖check -c -e1 -b B‖
+    ‖a: > a = touch a; b: a > = cat a‖1
+    ‖make 1¶begin b¶
 p: a.o¶→cc -o p a.o¶a.o: a.c¶→cc -c a.c¶‖check -c -e1 -b B‖a.c‖‖1‖no plan¶
 b: a¶→do b¶a:¶→do a¶‖check -c -e1 -b B‖‖a: > a log = do a; b: a > b log = do b‖1‖no plan¶
-.PHONY: b¶all: x y¶x: a .WAIT b¶y: b¶a:¶→touch a¶b:¶→cat a¶‖check -b B -e 2‖‖a: > a = touch a; b: a > = cat a‖1‖no plan¶
-.PHONY: b¶all: x y¶x: a .WAIT b¶y: b¶a:¶→touch a¶b:¶→cat a¶‖check -b B -e 18446744073709551615‖‖a: > a = touch a; b: a > = cat a‖1‖no plan¶";
+.PHONY: b¶all: x y¶x: a .WAIT b¶y: b¶a:¶→touch a¶b:¶→cat a¶‖check -b B -e 2‖
+    ‖a: > a = touch a; b: a > = cat a‖1‖no plan¶
+.PHONY: b¶all: x y¶x: a .WAIT b¶y: b¶a:¶→touch a¶b:¶→cat a¶‖check -b B -e 18446744073709551615
+    ‖‖a: > a = touch a; b: a > = cat a‖1‖no plan¶";
 
 #[test]
 fn shows_findings(rt: HostRuntime) -> Result<(), Fail> {
@@ -56,9 +87,14 @@ fn shows_findings(rt: HostRuntime) -> Result<(), Fail> {
 }
 
 /// Answers that `-e` leaves as they are.
-const STAYING: &str =
-    r#"p: a.o¶→cc -o p a.o¶a.o: a.c¶→cc -c a.c¶‖check -b B -e 1‖a.c‖p: a.o > p = cc -o p a.o; a.o: a.c > a.o = cc -c a.c‖0‖yes 2 recipes 2 reads¶way a.o a.c source a.o¶way p a.o written p a.o¶
-p: a.o¶→cc -o p a.o¶a.o: a.c¶→cc -c a.c¶‖check -b B -e 1 -c‖a.c‖p: a.o a.c > p = cc -o p a.o; a.o: a.c > a.o = cc -c a.c‖0‖{"format":1,"goals":["p"],"ways":[{"end":"source","file":"a.c","path":["a.o"],"recipe":"a.o"},{"end":"written","file":"a.o","path":["p","a.o"],"recipe":"p"},{"end":"source","file":"a.c","path":["p","a.o"],"recipe":"p"}]}¶
+const STAYING: &str = r#"p: a.o¶→cc -o p a.o¶a.o: a.c¶→cc -c a.c¶‖check -b B -e 1‖a.c
+    ‖p: a.o > p = cc -o p a.o; a.o: a.c > a.o = cc -c a.c‖0
+    ‖yes 2 recipes 2 reads¶way a.o a.c source a.o¶way p a.o written p a.o¶
+p: a.o¶→cc -o p a.o¶a.o: a.c¶→cc -c a.c¶‖check -b B -e 1 -c‖a.c
+    ‖p: a.o a.c > p = cc -o p a.o; a.o: a.c > a.o = cc -c a.c‖0
+    ‖{"format":1,"goals":["p"],"ways":[{"end":"source","file":"a.c","path":["a.o"],
+    "recipe":"a.o"},{"end":"written","file":"a.o","path":["p","a.o"],"recipe":"p"},
+    {"end":"source","file":"a.c","path":["p","a.o"],"recipe":"p"}]}¶
 p: a.o¶→cc -o p a.o¶a.o: a.c¶→cc -c a.c¶‖check -b B -e 1‖{‖‖2‖refused 51¶"#;
 
 #[test]
@@ -93,8 +129,12 @@ fn refuses_other_words(rt: HostRuntime) -> Result<(), Fail> {
 /// Builds that aren't judged.
 const REFUSED: &str = r"p: a.o¶→cc -o p a.o¶a.o: a.c¶→cc -c a.c¶‖check -b B‖{‖‖2‖refused 51¶
 ‖check -b B‖a.c‖p: a.o > p = cc -o p a.o; a.o: a.c > a.o = cc -c a.c‖2‖refused 44¶
-p: a.o¶→cc -o p a.o¶a.o: a.c¶→cc -c a.c¶‖check -b C‖a.c‖p: a.o > p = cc -o p a.o; a.o: a.c > a.o = cc -c a.c‖2‖refused 38 C¶
-p: a.o¶→cc -o p a.o¶a.o: a.c¶→cc -c a.c¶‖verify -b B -k K‖a.c‖p: a.o > p = cc -o p a.o; a.o: a.c > a.o = cc -c a.c‖2‖refused 38 K¶";
+p: a.o¶→cc -o p a.o¶a.o: a.c¶→cc -c a.c¶‖check -b C‖a.c
+    ‖p: a.o > p = cc -o p a.o; a.o: a.c > a.o = cc -c a.c‖2
+    ‖refused 38 C¶
+p: a.o¶→cc -o p a.o¶a.o: a.c¶→cc -c a.c¶‖verify -b B -k K‖a.c
+    ‖p: a.o > p = cc -o p a.o; a.o: a.c > a.o = cc -c a.c‖2
+    ‖refused 38 K¶";
 
 #[test]
 fn refuses_to_judge(rt: HostRuntime) -> Result<(), Fail> {
@@ -102,16 +142,49 @@ fn refuses_to_judge(rt: HostRuntime) -> Result<(), Fail> {
 }
 
 /// Certificates, the second with its last path too short.
-const CERTIFICATES: &str =
-    r#"p: a.o¶→cc -o p a.o¶a.o: a.c¶→cc -c a.c¶‖verify -b B -k K‖a.c‖p: a.o a.c > p = cc -o p a.o; a.o: a.c > a.o = cc -c a.c‖0‖yes 2 recipes 3 reads¶‖K‖{"format":1,"goals":["p"],"ways":[{"end":"source","file":"a.c","path":["a.o"],"recipe":"a.o"},{"end":"written","file":"a.o","path":["p","a.o"],"recipe":"p"},{"end":"source","file":"a.c","path":["p","a.o"],"recipe":"p"}]}
-p: a.o¶→cc -o p a.o¶a.o: a.c¶→cc -c a.c¶‖verify -b B -k K‖a.c‖p: a.o a.c > p = cc -o p a.o; a.o: a.c > a.o = cc -c a.c‖2‖refused 75 p a.c¶‖K‖{"format":1,"goals":["p"],"ways":[{"end":"source","file":"a.c","path":["a.o"],"recipe":"a.o"},{"end":"written","file":"a.o","path":["p","a.o"],"recipe":"p"},{"end":"source","file":"a.c","path":["p"],"recipe":"p"}]}
-p: a.o¶→cc -o p a.o¶a.o: a.c¶→cc -c a.c¶‖verify -b B -k K‖a.c‖p: a.o a.c > p = cc -o p a.o; a.o: a.c > a.o = cc -c a.c‖0‖yes 2 recipes 3 reads¶‖K‖{"format":1,"goals":["p"],"ways":[{"end":"source","file":"a.c","path":["a.o"],"recipe":"a.o"},{"end":"written","file":"a.o","path":["p","a.o"],"recipe":"p"},{"end":"source","file":"a.c","path":["p","a.o"],"recipe":"p"}]}¶
-p: a.o¶→cc -o p a.o¶a.o: a.c¶→cc -c a.c¶‖verify -k K -f makefile -b B -r p‖a.c‖p: a.o a.c > p = cc -o p a.o; a.o: a.c > a.o = cc -c a.c‖0‖yes 2 recipes 3 reads¶‖K‖{"format":1,"goals":["p"],"ways":[{"end":"source","file":"a.c","path":["a.o"],"recipe":"a.o"},{"end":"written","file":"a.o","path":["p","a.o"],"recipe":"p"},{"end":"source","file":"a.c","path":["p","a.o"],"recipe":"p"}]}
-p: a.o¶→cc -o p a.o¶a.o: a.c¶→cc -c a.c¶‖verify -b B -k K‖a.c‖p: a.o a.c > p = cc -o p a.o; a.o: a.c > a.o = cc -c a.c‖2‖refused 71¶‖K‖
-p: a.o¶→cc -o p a.o¶a.o: a.c¶→cc -c a.c¶‖verify -b B -k K‖a.c‖p: a.o a.c > p = cc -o p a.o; a.o: a.c > a.o = cc -c a.c‖2‖refused 72 format¶‖K‖{}
-p: a.o¶→cc -o p a.o¶a.o: a.c¶→cc -c a.c¶‖verify -b B -k K a.o‖a.c‖p: a.o a.c > p = cc -o p a.o; a.o: a.c > a.o = cc -c a.c‖2‖refused 73¶‖K‖{"format":1,"goals":["p"],"ways":[{"end":"source","file":"a.c","path":["a.o"],"recipe":"a.o"},{"end":"written","file":"a.o","path":["p","a.o"],"recipe":"p"},{"end":"source","file":"a.c","path":["p","a.o"],"recipe":"p"}]}
-p: a.o¶→cc -o p a.o¶a.o: a.c¶→cc -c a.c¶‖verify -b B -k K‖a.c‖p: a.o a.c > p = cc -o p a.o; a.o: a.c > a.o = cc -c a.c‖2‖refused 74 a.o a.c¶‖K‖{"format":1,"goals":["p"],"ways":[]}
-p: a.o¶→cc -o p a.o¶a.o: a.c¶→cc -c a.c¶‖verify -b B -k K‖a.c‖‖2‖refused 76 record a.o¶‖K‖{"format":1,"goals":["p"],"ways":[{"end":"source","file":"a.c","path":["a.o"],"recipe":"a.o"},{"end":"written","file":"a.o","path":["p","a.o"],"recipe":"p"},{"end":"source","file":"a.c","path":["p","a.o"],"recipe":"p"}]}"#;
+const CERTIFICATES: &str = r#"p: a.o¶→cc -o p a.o¶a.o: a.c¶→cc -c a.c¶‖verify -b B -k K‖a.c
+    ‖p: a.o a.c > p = cc -o p a.o; a.o: a.c > a.o = cc -c a.c‖0
+    ‖yes 2 recipes 3 reads¶‖K
+    ‖{"format":1,"goals":["p"],"ways":[{"end":"source","file":"a.c","path":["a.o"],
+    "recipe":"a.o"},{"end":"written","file":"a.o","path":["p","a.o"],"recipe":"p"},
+    {"end":"source","file":"a.c","path":["p","a.o"],"recipe":"p"}]}
+p: a.o¶→cc -o p a.o¶a.o: a.c¶→cc -c a.c¶‖verify -b B -k K‖a.c
+    ‖p: a.o a.c > p = cc -o p a.o; a.o: a.c > a.o = cc -c a.c‖2
+    ‖refused 75 p a.c¶‖K
+    ‖{"format":1,"goals":["p"],"ways":[{"end":"source","file":"a.c","path":["a.o"],
+    "recipe":"a.o"},{"end":"written","file":"a.o","path":["p","a.o"],"recipe":"p"},
+    {"end":"source","file":"a.c","path":["p"],"recipe":"p"}]}
+p: a.o¶→cc -o p a.o¶a.o: a.c¶→cc -c a.c¶‖verify -b B -k K‖a.c
+    ‖p: a.o a.c > p = cc -o p a.o; a.o: a.c > a.o = cc -c a.c‖0
+    ‖yes 2 recipes 3 reads¶‖K
+    ‖{"format":1,"goals":["p"],"ways":[{"end":"source","file":"a.c","path":["a.o"],
+    "recipe":"a.o"},{"end":"written","file":"a.o","path":["p","a.o"],"recipe":"p"},
+    {"end":"source","file":"a.c","path":["p","a.o"],"recipe":"p"}]}¶
+p: a.o¶→cc -o p a.o¶a.o: a.c¶→cc -c a.c¶‖verify -k K -f makefile -b B -r p‖a.c
+    ‖p: a.o a.c > p = cc -o p a.o; a.o: a.c > a.o = cc -c a.c‖0
+    ‖yes 2 recipes 3 reads¶‖K
+    ‖{"format":1,"goals":["p"],"ways":[{"end":"source","file":"a.c","path":["a.o"],
+    "recipe":"a.o"},{"end":"written","file":"a.o","path":["p","a.o"],"recipe":"p"},
+    {"end":"source","file":"a.c","path":["p","a.o"],"recipe":"p"}]}
+p: a.o¶→cc -o p a.o¶a.o: a.c¶→cc -c a.c¶‖verify -b B -k K‖a.c
+    ‖p: a.o a.c > p = cc -o p a.o; a.o: a.c > a.o = cc -c a.c‖2‖refused 71¶‖K‖
+p: a.o¶→cc -o p a.o¶a.o: a.c¶→cc -c a.c¶‖verify -b B -k K‖a.c
+    ‖p: a.o a.c > p = cc -o p a.o; a.o: a.c > a.o = cc -c a.c‖2
+    ‖refused 72 format¶‖K‖{}
+p: a.o¶→cc -o p a.o¶a.o: a.c¶→cc -c a.c¶‖verify -b B -k K a.o‖a.c
+    ‖p: a.o a.c > p = cc -o p a.o; a.o: a.c > a.o = cc -c a.c‖2‖refused 73¶‖K
+    ‖{"format":1,"goals":["p"],"ways":[{"end":"source","file":"a.c","path":["a.o"],
+    "recipe":"a.o"},{"end":"written","file":"a.o","path":["p","a.o"],"recipe":"p"},
+    {"end":"source","file":"a.c","path":["p","a.o"],"recipe":"p"}]}
+p: a.o¶→cc -o p a.o¶a.o: a.c¶→cc -c a.c¶‖verify -b B -k K‖a.c
+    ‖p: a.o a.c > p = cc -o p a.o; a.o: a.c > a.o = cc -c a.c‖2
+    ‖refused 74 a.o a.c¶‖K
+    ‖{"format":1,"goals":["p"],"ways":[]}
+p: a.o¶→cc -o p a.o¶a.o: a.c¶→cc -c a.c¶‖verify -b B -k K‖a.c‖‖2
+    ‖refused 76 record a.o¶‖K
+    ‖{"format":1,"goals":["p"],"ways":[{"end":"source","file":"a.c","path":["a.o"],
+    "recipe":"a.o"},{"end":"written","file":"a.o","path":["p","a.o"],"recipe":"p"},
+    {"end":"source","file":"a.c","path":["p","a.o"],"recipe":"p"}]}"#;
 
 #[test]
 fn judges_certificates(rt: HostRuntime) -> Result<(), Fail> {

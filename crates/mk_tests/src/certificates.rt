@@ -1,6 +1,7 @@
 //! Tests of mk_ways: certificates as they are written and read.
 
 use crate::fixtures::{same, see_that};
+use mk_tables::rows;
 use mk_ways::{
     Certificate, CertificateFault, Finish, PackedNames, Way, Ways, certificate_text,
     read_certificate,
@@ -11,8 +12,11 @@ use std::str;
 use std::test::Fail;
 
 /// A certificate of three ways.
-const THREE: &str =
-    r#"{"format":1,"goals":["p"],"ways":[{"end":"source","file":"a.c","path":["a.o"],"recipe":"a.o"},{"end":"written","file":"a.o","path":["p","a.o"],"recipe":"p"},{"end":"source","file":"a.c","path":["p","a.o"],"recipe":"p"}]}"#;
+const THREE: &str = concat!(
+    r#"{"format":1,"goals":["p"],"ways":[{"end":"source","file":"a.c","path":["a.o"],"#,
+    r#""recipe":"a.o"},{"end":"written","file":"a.o","path":["p","a.o"],"recipe":"p"},"#,
+    r#"{"end":"source","file":"a.c","path":["p","a.o"],"recipe":"p"}]}"#,
+);
 
 /// It as lines.
 const THREE_WAYS: &str = "goals p; a.o a.c source a.o; p a.o written p a.o; p a.c source p a.o";
@@ -80,7 +84,8 @@ null => refused 72 top
 {"format":1,"goals":[],"ways":["w"]} => refused 72 ways
 {"format":1,"goals":[],"ways":[[]]} => refused 72 ways
 {"ways":[],"goals":[],"format":1} => goals
-{"ways":[{"end":"always","file":"f","path":[],"recipe":"r"}],"format":1,"goals":["p"]} => goals p; r f always
+{"ways":[{"end":"always","file":"f","path":[],"recipe":"r"}],"format":1,"goals":["p"]} => goals p
+    ; r f always
 {"\u0066ormat":1,"goals":["\u0070\/q"],"ways":[]} => goals p/q
 {"ways":[0],"format":1,"goals":[],"ways":[]} => goals
 {"ways":[],"format":1,"goals":[],"ways":[0]} => refused 72 ways
@@ -132,7 +137,8 @@ const WAYS: &str =
 [{"end":"always","file":"/f","path":["../r"],"recipe":"é"}] => goals; é /f always ../r
 [{"end":"always","file":"f","path":[],"recipe":"r"}] => goals; r f always
 [{"end":"written","end":"always","file":"f","path":[],"recipe":"r"}] => goals; r f always
-[{"end":"always","file":"f","path":[],"recipe":"r"},{"end":"always","file":"f","path":[],"recipe":"r"}] => goals; r f always; r f always
+[{"end":"always","file":"f","path":[],"recipe":"r"},
+    {"end":"always","file":"f","path":[],"recipe":"r"}] => goals; r f always; r f always
 [{}] => refused 72 end
 [{"file":"f","path":["r"],"recipe":"r"}] => refused 72 end
 [{"end":1,"file":"f","path":["r"],"recipe":"r"}] => refused 72 end
@@ -168,7 +174,8 @@ const WAYS: &str =
 [{"end":"written","file":"f","path":["r"],"recipe":"r"},0] => refused 72 ways
 [{"end":"written","file":"f","path":["r"],"recipe":"r"},{}] => refused 72 end
 [{"end":"written","file":"f","path":["r"],"recipe":0},0] => refused 72 recipe
-[{"end":"always","file":0,"file":"f","path":[0],"path":["r","s"],"recipe":0,"recipe":"r"}] => goals; r f always r s
+[{"end":"always","file":0,"file":"f","path":[0],"path":["r","s"],"recipe":0,
+    "recipe":"r"}] => goals; r f always r s
 [{"end":"always","file":"f","path":[],"recipe":"r","file":0}] => refused 72 file
 [{"end":"always","file":"f","path":[],"recipe":"r","path":[0]}] => refused 72 path
 [{"x":{"end":[0]},"end":"always","file":"f","path":[],"recipe":"r"}] => refused 72 unknown
@@ -300,7 +307,7 @@ fn see_row(rt: &impl Abort, alloc: Global, front: &str, row: &str, rest: &str) -
 
 #[test]
 fn reads_objects(rt: HostRuntime) -> Result<(), Fail> {
-    for row in OBJECTS.lines() {
+    for row in &rows(rt.alloc(), OBJECTS)? {
         see_row(&rt, rt.alloc(), "", row, "")?;
     }
     Ok(())
@@ -311,7 +318,7 @@ const BEFORE_WAYS: &str = r#"{"format":1,"goals":[],"ways":"#;
 
 #[test]
 fn reads_ways(rt: HostRuntime) -> Result<(), Fail> {
-    for row in WAYS.lines() {
+    for row in &rows(rt.alloc(), WAYS)? {
         see_row(&rt, rt.alloc(), BEFORE_WAYS, row, "}")?;
     }
     Ok(())

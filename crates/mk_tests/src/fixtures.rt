@@ -58,61 +58,6 @@ pub fn add_names(shown: &mut String, names: &[String]) -> Result<(), AllocError>
     Ok(())
 }
 
-/// Adds a text in which `¶` stands for a newline and `→` for a tab.
-fn push_unfolded(out: &mut String, text: &str) -> Result<(), AllocError> {
-    for c in text.chars() {
-        match c {
-            '¶' => out.push('\n')?,
-            '→' => out.push('\t')?,
-            other => out.push(other)?,
-        }
-    }
-    Ok(())
-}
-
-/// Adds a text so many times.
-fn push_times(out: &mut String, count: usize, text: &str) -> Result<(), AllocError> {
-    for _ in 0..count {
-        out.push_str(text)?;
-    }
-    Ok(())
-}
-
-/// Adds a text, and behind it another one so many times, where there is one.
-fn push_part(out: &mut String, part: &[&str]) -> Result<(), AllocError> {
-    match part {
-        [front] => push_unfolded(out, front),
-        [front, count, text] => {
-            push_unfolded(out, front)?;
-            push_times(out, count.parse().unwrap_or(0), text)
-        }
-        _ => Ok(()),
-    }
-}
-
-/// A text of a row, in which `¶` stands for a newline, `→` for a tab, and `×3×ab×` for `ababab`.
-pub fn unfolded(alloc: Global, text: &str) -> Result<String, AllocError> {
-    let parts: Vec<&str> = text.split("×").collect(alloc)?;
-    let mut out = String::new(alloc);
-    for part in parts.chunks(3) {
-        push_part(&mut out, part)?;
-    }
-    Ok(out)
-}
-
-/// What stands in a row, between `‖`.
-pub fn fields_of(alloc: Global, row: &str) -> Result<Vec<&str>, AllocError> {
-    Ok(row.split("‖").collect(alloc)?)
-}
-
-/// A field of a row, with its newlines and tabs.
-pub fn field(alloc: Global, fields: &[&str], at: usize) -> Result<String, AllocError> {
-    match fields.get(at) {
-        Some(text) => unfolded(alloc, text),
-        None => Ok(String::new(alloc)),
-    }
-}
-
 /// A file of this name and text.
 pub fn file_of(alloc: Global, name: &str, text: &[u8]) -> Result<MemFiles, AllocError>
     ensures { IfOk result (λ files. failures_of files ≡ 0) }

@@ -3,6 +3,7 @@
 use crate::fixtures::{add_names, long, names, same, see_that};
 use mk_foot::{Book, FootFault, Record, Setting, read_book};
 use mk_lines::Name;
+use mk_tables::rows;
 use std::alloc::{AllocError, Global};
 use std::process::Abort;
 use std::test::Fail;
@@ -81,16 +82,26 @@ const EXAMPLE_BOOK: &str =
     "fixed; sources a.c; p: a.o > p (cc -o p a.o); a.o: a.c > a.o (cc -c a.c);";
 
 /// Two recipes that share a list, in format 2.
-const SHARING: &str =
-    r#"{"format":2,"fixed":[],"sources":["a.c","h.h"],"lists":{"hd":["h.h"]},"groups":[{"goals":["p"],"records":[{"target":"p","commands":["cc -o p a.o"],"reads":["a.o"],"writes":["p"],"shared":[]},{"target":"a.o","commands":["cc -c a.c"],"reads":["a.c"],"writes":["a.o"],"shared":["hd"]}]}]}"#;
+const SHARING: &str = concat!(
+    r#"{"format":2,"fixed":[],"sources":["a.c","h.h"],"lists":{"hd":["h.h"]},"#,
+    r#""groups":[{"goals":["p"],"records":[{"target":"p","commands":["cc -o p a.o"],"#,
+    r#""reads":["a.o"],"writes":["p"],"shared":[]},"#,
+    r#"{"target":"a.o","commands":["cc -c a.c"],"reads":["a.c"],"writes":["a.o"],"#,
+    r#""shared":["hd"]}]}]}"#,
+);
 
 /// Its book for the goal `p`.
 const SHARING_BOOK: &str =
     "fixed; sources a.c h.h; p: a.o > p (cc -o p a.o); a.o: a.c h.h > a.o (cc -c a.c);";
 
 /// The same with the name of a list that isn't there.
-const LACKING: &str =
-    r#"{"format":2,"fixed":[],"sources":["a.c","h.h"],"lists":{"hd":["h.h"]},"groups":[{"goals":["p"],"records":[{"target":"p","commands":["cc -o p a.o"],"reads":["a.o"],"writes":["p"],"shared":[]},{"target":"a.o","commands":["cc -c a.c"],"reads":["a.c"],"writes":["a.o"],"shared":["x"]}]}]}"#;
+const LACKING: &str = concat!(
+    r#"{"format":2,"fixed":[],"sources":["a.c","h.h"],"lists":{"hd":["h.h"]},"#,
+    r#""groups":[{"goals":["p"],"records":[{"target":"p","commands":["cc -o p a.o"],"#,
+    r#""reads":["a.o"],"writes":["p"],"shared":[]},"#,
+    r#"{"target":"a.o","commands":["cc -c a.c"],"reads":["a.c"],"writes":["a.o"],"#,
+    r#""shared":["x"]}]}]}"#,
+);
 
 /// Values that are no file of either format, and what they read as.
 const VALUES: &str = r#"[] => refused 52 top
@@ -139,41 +150,74 @@ const FIRST: &str = r#"{"format":1,"fixed":["usr"],"sources":[],"records":[]} =>
 {"format":1,"fixed":[],"sources":[],"records":[],"groups":[]} => refused 52 unknown
 {"format":1,"fixed":[],"sources":[],"records":[{}],"x":0} => refused 52 unknown
 {"format":1,"fixed":[],"sources":[],"records":[0]} => refused 52 records
-{"format":1,"fixed":[],"sources":[],"records":[{"target":"t","commands":[],"reads":[],"writes":[]},[]]} => refused 52 records
+{"format":1,"fixed":[],"sources":[],
+    "records":[{"target":"t","commands":[],"reads":[],"writes":[]},[]]} => refused 52 records
 {"format":1,"fixed":[],"sources":[],"records":[{}]} => refused 52 target
-{"format":1,"fixed":[],"sources":[],"records":[{"target":["t"],"commands":[],"reads":[],"writes":[]}]} => refused 52 target
+{"format":1,"fixed":[],"sources":[],
+    "records":[{"target":["t"],"commands":[],"reads":[],"writes":[]}]} => refused 52 target
 {"format":1,"fixed":[],"sources":[],"records":[{"target":"t"}]} => refused 52 commands
-{"format":1,"fixed":[],"sources":[],"records":[{"target":"t","commands":"c","reads":[],"writes":[]}]} => refused 52 commands
-{"format":1,"fixed":[],"sources":[],"records":[{"target":"t","commands":[0],"reads":[],"writes":[]}]} => refused 52 commands
+{"format":1,"fixed":[],"sources":[],
+    "records":[{"target":"t","commands":"c","reads":[],"writes":[]}]} => refused 52 commands
+{"format":1,"fixed":[],"sources":[],
+    "records":[{"target":"t","commands":[0],"reads":[],"writes":[]}]} => refused 52 commands
 {"format":1,"fixed":[],"sources":[],"records":[{"target":"t","commands":[]}]} => refused 52 reads
-{"format":1,"fixed":[],"sources":[],"records":[{"target":"t","commands":[],"reads":[false],"writes":[]}]} => refused 52 reads
-{"format":1,"fixed":[],"sources":[],"records":[{"target":"t","commands":[],"reads":0,"writes":[]}]} => refused 52 reads
-{"format":1,"fixed":[],"sources":[],"records":[{"target":"t","commands":[],"reads":[],"writes":[0]}]} => refused 52 writes
-{"format":1,"fixed":[],"sources":[],"records":[{"target":"t","commands":[],"reads":[]}]} => refused 52 writes
-{"format":1,"fixed":[],"sources":[],"records":[{"target":"t","commands":[],"reads":[],"writes":{}}]} => refused 52 writes
-{"format":1,"fixed":[],"sources":[],"records":[{"target":"t","commands":[],"reads":[],"writes":[],"shared":[]}]} => refused 52 unknown
-{"format":1,"fixed":[],"sources":[],"records":[{"target":0,"commands":[],"reads":[],"writes":[],"x":0}]} => refused 52 target
-{"format":1,"fixed":[],"sources":[],"records":[{"target":"t","commands":[],"reads":[],"writes":[],"x":0},{}]} => refused 52 unknown
+{"format":1,"fixed":[],"sources":[],
+    "records":[{"target":"t","commands":[],"reads":[false],"writes":[]}]} => refused 52 reads
+{"format":1,"fixed":[],"sources":[],
+    "records":[{"target":"t","commands":[],"reads":0,"writes":[]}]} => refused 52 reads
+{"format":1,"fixed":[],"sources":[],
+    "records":[{"target":"t","commands":[],"reads":[],"writes":[0]}]} => refused 52 writes
+{"format":1,"fixed":[],"sources":[],
+    "records":[{"target":"t","commands":[],"reads":[]}]} => refused 52 writes
+{"format":1,"fixed":[],"sources":[],
+    "records":[{"target":"t","commands":[],"reads":[],"writes":{}}]} => refused 52 writes
+{"format":1,"fixed":[],"sources":[],
+    "records":[{"target":"t","commands":[],"reads":[],"writes":[],
+    "shared":[]}]} => refused 52 unknown
+{"format":1,"fixed":[],"sources":[],
+    "records":[{"target":0,"commands":[],"reads":[],"writes":[],"x":0}]} => refused 52 target
+{"format":1,"fixed":[],"sources":[],
+    "records":[{"target":"t","commands":[],"reads":[],"writes":[],"x":0},
+    {}]} => refused 52 unknown
 {"format":1,"fixed":[""],"sources":[],"records":[]} => refused 55 fixed
 {"format":1,"fixed":["//"],"sources":[],"records":[]} => refused 55 fixed
 {"format":1,"fixed":["a//"],"sources":[],"records":[]} => refused 55 fixed
 {"format":1,"fixed":["./"],"sources":[],"records":[]} => refused 55 fixed
 {"format":1,"fixed":["/"],"sources":[],"records":[]} => fixed /; sources;
-{"format":1,"fixed":["/usr/","lib/","../x/","/usr/"],"sources":[],"records":[]} => fixed /usr/ lib/ ../x/; sources;
+{"format":1,"fixed":["/usr/","lib/","../x/","/usr/"],"sources":[],
+    "records":[]} => fixed /usr/ lib/ ../x/; sources;
 {"format":1,"fixed":[],"sources":["./a"],"records":[]} => refused 55 sources
 {"format":1,"fixed":[],"sources":["a","b c"],"records":[]} => refused 55 sources
-{"format":1,"fixed":[],"sources":["a/"],"records":[{"target":"/","commands":[],"reads":[],"writes":[]}]} => refused 55 sources
-{"format":1,"fixed":[],"sources":[],"records":[{"target":"","commands":[],"reads":["//"],"writes":[]}]} => refused 55 target
-{"format":1,"fixed":[],"sources":[],"records":[{"target":"t","commands":[],"reads":["//"],"writes":["."]}]} => refused 55 reads
-{"format":1,"fixed":[],"sources":[],"records":[{"target":"t","commands":[],"reads":[],"writes":["a/.."]}]} => refused 55 writes
-{"format":1,"fixed":[],"sources":[],"records":[{"target":"t","commands":[],"reads":[],"writes":["."]},{"target":".","commands":[],"reads":[],"writes":[]}]} => refused 55 writes
-{"format":1,"fixed":[],"sources":[],"records":[{"target":"t","commands":["","a b/"],"reads":[],"writes":[]}]} => fixed; sources; t: > ( / a b/);
-{"format":1,"fixed":[],"sources":[],"records":[{"target":"a","commands":[],"reads":[],"writes":[]},{"target":"b","commands":[],"reads":[],"writes":[]},{"target":"b","commands":[],"reads":[],"writes":[]},{"target":"a","commands":[],"reads":[],"writes":[]}]} => refused 54 b
-{"format":1,"fixed":[],"sources":[],"records":[{"target":"t","commands":[],"reads":[],"writes":[]},{"target":"t","commands":[],"reads":["."],"writes":[]}]} => refused 55 reads
+{"format":1,"fixed":[],"sources":["a/"],
+    "records":[{"target":"/","commands":[],"reads":[],"writes":[]}]} => refused 55 sources
+{"format":1,"fixed":[],"sources":[],
+    "records":[{"target":"","commands":[],"reads":["//"],"writes":[]}]} => refused 55 target
+{"format":1,"fixed":[],"sources":[],
+    "records":[{"target":"t","commands":[],"reads":["//"],"writes":["."]}]} => refused 55 reads
+{"format":1,"fixed":[],"sources":[],
+    "records":[{"target":"t","commands":[],"reads":[],"writes":["a/.."]}]} => refused 55 writes
+{"format":1,"fixed":[],"sources":[],
+    "records":[{"target":"t","commands":[],"reads":[],"writes":["."]},
+    {"target":".","commands":[],"reads":[],"writes":[]}]} => refused 55 writes
+{"format":1,"fixed":[],"sources":[],
+    "records":[{"target":"t","commands":["","a b/"],"reads":[],"writes":[]}]} => fixed; sources
+    ; t: > ( / a b/);
+{"format":1,"fixed":[],"sources":[],
+    "records":[{"target":"a","commands":[],"reads":[],"writes":[]},
+    {"target":"b","commands":[],"reads":[],"writes":[]},
+    {"target":"b","commands":[],"reads":[],"writes":[]},
+    {"target":"a","commands":[],"reads":[],"writes":[]}]} => refused 54 b
+{"format":1,"fixed":[],"sources":[],
+    "records":[{"target":"t","commands":[],"reads":[],"writes":[]},
+    {"target":"t","commands":[],"reads":["."],"writes":[]}]} => refused 55 reads
 {"format":1,"fixed":["a/","/"],"sources":["b","a/c","/d"],"records":[]} => refused 56 a/c
-{"format":1,"fixed":["a/"],"sources":["a/c"],"records":[{"target":"t","commands":[],"reads":[],"writes":[]},{"target":"t","commands":[],"reads":[],"writes":[]}]} => refused 54 t
+{"format":1,"fixed":["a/"],"sources":["a/c"],
+    "records":[{"target":"t","commands":[],"reads":[],"writes":[]},
+    {"target":"t","commands":[],"reads":[],"writes":[]}]} => refused 54 t
 {"format":1,"fixed":["b/"],"sources":["a/b/c","b"],"records":[]} => fixed b/; sources a/b/c b;
-{"format":1,"fixed":[],"sources":["b","a","b","c","a"],"records":[{"target":"t","commands":["x","x"],"reads":["b","a","b"],"writes":["t","u","t"]}]} => fixed; sources b a c; t: b a > t u (x / x);
+{"format":1,"fixed":[],"sources":["b","a","b","c","a"],
+    "records":[{"target":"t","commands":["x","x"],"reads":["b","a","b"],"writes":["t","u",
+    "t"]}]} => fixed; sources b a c; t: b a > t u (x / x);
 {"format":1,"fixed":[],"sources":["x"],"sources":["y"],"records":[]} => fixed; sources y;
 "#;
 
@@ -183,12 +227,18 @@ const SECOND: &str = r#"{"format":2,"fixed":[]} => refused 52 sources
 {"format":2,"fixed":[{}]} => refused 52 fixed
 {"format":2,"fixed":[],"sources":{}} => refused 52 sources
 {"format":2,"fixed":[],"sources":[null]} => refused 52 sources
-{"format":2,"fixed":[],"sources":[],"lists":{},"groups":[{"goals":["p"],"records":[{"target":1}]}]} => refused 52 target
-{"format":2,"fixed":[],"sources":[],"lists":{},"groups":[{"goals":["p"],"records":[{"target":"t","commands":{}}]}]} => refused 52 commands
-{"format":2,"fixed":[],"sources":[],"lists":{},"groups":[{"goals":["p"],"records":[{"target":"t","commands":[true]}]}]} => refused 52 commands
-{"format":2,"fixed":[],"sources":[],"lists":{},"groups":[{"goals":["p"],"records":[{"target":"t","commands":[],"reads":"r"}]}]} => refused 52 reads
-{"format":2,"fixed":[],"sources":[],"lists":{},"groups":[{"goals":["p"],"records":[{"target":"t","commands":[],"reads":[[]]}]}]} => refused 52 reads
-{"format":2,"fixed":[],"sources":[],"lists":{},"groups":[{"goals":["p"],"records":[{"target":"t","commands":[],"reads":[],"writes":[1]}]}]} => refused 52 writes
+{"format":2,"fixed":[],"sources":[],"lists":{},"groups":[{"goals":["p"],
+    "records":[{"target":1}]}]} => refused 52 target
+{"format":2,"fixed":[],"sources":[],"lists":{},"groups":[{"goals":["p"],
+    "records":[{"target":"t","commands":{}}]}]} => refused 52 commands
+{"format":2,"fixed":[],"sources":[],"lists":{},"groups":[{"goals":["p"],
+    "records":[{"target":"t","commands":[true]}]}]} => refused 52 commands
+{"format":2,"fixed":[],"sources":[],"lists":{},"groups":[{"goals":["p"],
+    "records":[{"target":"t","commands":[],"reads":"r"}]}]} => refused 52 reads
+{"format":2,"fixed":[],"sources":[],"lists":{},"groups":[{"goals":["p"],
+    "records":[{"target":"t","commands":[],"reads":[[]]}]}]} => refused 52 reads
+{"format":2,"fixed":[],"sources":[],"lists":{},"groups":[{"goals":["p"],
+    "records":[{"target":"t","commands":[],"reads":[],"writes":[1]}]}]} => refused 52 writes
 {"format":2,"fixed":[],"sources":[]} => refused 52 lists
 {"format":2,"fixed":[],"sources":[],"lists":[],"groups":[]} => refused 52 lists
 {"format":2,"fixed":[],"sources":[],"lists":{"a":"b"},"groups":[]} => refused 52 lists
@@ -198,35 +248,77 @@ const SECOND: &str = r#"{"format":2,"fixed":[]} => refused 52 sources
 {"format":2,"fixed":[],"sources":[],"lists":{},"groups":[],"records":[]} => refused 52 unknown
 {"format":2,"fixed":[],"sources":[],"lists":{},"groups":[0],"x":0} => refused 52 unknown
 {"format":2,"fixed":[],"sources":[],"lists":{},"groups":[0]} => refused 52 groups
-{"format":2,"fixed":[],"sources":[],"lists":{},"groups":[{"goals":["p"],"records":[]},0]} => refused 52 groups
+{"format":2,"fixed":[],"sources":[],"lists":{},"groups":[{"goals":["p"],
+    "records":[]},0]} => refused 52 groups
 {"format":2,"fixed":[],"sources":[],"lists":{},"groups":[{}]} => refused 52 goals
-{"format":2,"fixed":[],"sources":[],"lists":{},"groups":[{"goals":"p","records":[]}]} => refused 52 goals
-{"format":2,"fixed":[],"sources":[],"lists":{},"groups":[{"goals":[1],"records":[]}]} => refused 52 goals
+{"format":2,"fixed":[],"sources":[],"lists":{},"groups":[{"goals":"p",
+    "records":[]}]} => refused 52 goals
+{"format":2,"fixed":[],"sources":[],"lists":{},"groups":[{"goals":[1],
+    "records":[]}]} => refused 52 goals
 {"format":2,"fixed":[],"sources":[],"lists":{},"groups":[{"goals":["p"]}]} => refused 52 records
-{"format":2,"fixed":[],"sources":[],"lists":{},"groups":[{"goals":["p"],"records":{}}]} => refused 52 records
-{"format":2,"fixed":[],"sources":[],"lists":{},"groups":[{"goals":["p"],"records":[0]}]} => refused 52 records
-{"format":2,"fixed":[],"sources":[],"lists":{},"groups":[{"goals":["p"],"records":[{}],"x":0}]} => refused 52 unknown
-{"format":2,"fixed":[],"sources":[],"lists":{},"groups":[{"goals":["p"],"records":[{"target":"t","commands":[],"reads":[],"writes":[]}]}]} => refused 52 shared
-{"format":2,"fixed":[],"sources":[],"lists":{},"groups":[{"goals":["p"],"records":[{"target":"t","commands":[],"reads":[],"writes":[],"shared":{}}]}]} => refused 52 shared
-{"format":2,"fixed":[],"sources":[],"lists":{},"groups":[{"goals":["p"],"records":[{"target":"t","commands":[],"reads":[],"writes":[],"shared":[[]]}]}]} => refused 52 shared
-{"format":2,"fixed":[],"sources":[],"lists":{},"groups":[{"goals":["p"],"records":[{"target":"t","commands":[],"reads":[],"writes":[],"shared":[],"x":0}]}]} => refused 52 unknown
-{"format":2,"fixed":[],"sources":[],"lists":{},"groups":[{"goals":["p"],"records":[{"target":"t","commands":[],"reads":[],"writes":0,"shared":0}]}]} => refused 52 writes
-{"format":2,"fixed":[],"sources":[],"lists":{},"groups":[{"goals":["p"],"records":[{}]},{}]} => refused 52 target
-{"format":2,"fixed":[],"sources":[],"lists":{"b":["./b"],"a":["a"]},"groups":[{"goals":["."],"records":[]}]} => refused 55 lists
-{"format":2,"fixed":[],"sources":[],"lists":{},"groups":[{"goals":["."],"records":[{"target":".","commands":[],"reads":[],"writes":[],"shared":[]}]}]} => refused 55 goals
-{"format":2,"fixed":[],"sources":[],"lists":{},"groups":[{"goals":["p"],"records":[{"target":"t","commands":[],"reads":["."],"writes":[],"shared":[]}]},{"goals":["."],"records":[]}]} => refused 55 reads
-{"format":2,"fixed":[],"sources":[],"lists":{"./":["a"]},"groups":[{"goals":["p"],"records":[{"target":"t","commands":[],"reads":[],"writes":[],"shared":["./"]}]}]} => fixed; sources; t: a > ();
-{"format":2,"fixed":[],"sources":[],"lists":{},"groups":[{"goals":["p"],"records":[{"target":"t","commands":[],"reads":[],"writes":[],"shared":[]}]},{"goals":["q"],"records":[{"target":"t","commands":[],"reads":[],"writes":[],"shared":[]}]}]} => fixed; sources; t: > ();
-{"format":2,"fixed":[],"sources":[],"lists":{},"groups":[{"goals":["p"],"records":[]},{"goals":["q"],"records":[{"target":"t","commands":[],"reads":[],"writes":[],"shared":["x"]},{"target":"t","commands":[],"reads":[],"writes":[],"shared":[]}]}]} => refused 54 t
-{"format":2,"fixed":["/"],"sources":["/a"],"lists":{},"groups":[{"goals":["p"],"records":[{"target":"t","commands":[],"reads":[],"writes":[],"shared":["x"]}]}]} => refused 56 /a
-{"format":2,"fixed":[],"sources":[],"lists":{},"groups":[{"goals":["p"],"records":[]},{"goals":["q"],"records":[{"target":"t","commands":[],"reads":[],"writes":[],"shared":["x"]}]}]} => refused 58
-{"format":2,"fixed":[],"sources":[],"lists":{},"groups":[{"goals":["q"],"records":[{"target":"t","commands":[],"reads":[],"writes":[],"shared":["x"]}]}]} => refused 58
+{"format":2,"fixed":[],"sources":[],"lists":{},"groups":[{"goals":["p"],
+    "records":{}}]} => refused 52 records
+{"format":2,"fixed":[],"sources":[],"lists":{},"groups":[{"goals":["p"],
+    "records":[0]}]} => refused 52 records
+{"format":2,"fixed":[],"sources":[],"lists":{},"groups":[{"goals":["p"],
+    "records":[{}],"x":0}]} => refused 52 unknown
+{"format":2,"fixed":[],"sources":[],"lists":{},"groups":[{"goals":["p"],
+    "records":[{"target":"t","commands":[],"reads":[],"writes":[]}]}]} => refused 52 shared
+{"format":2,"fixed":[],"sources":[],"lists":{},"groups":[{"goals":["p"],
+    "records":[{"target":"t","commands":[],"reads":[],"writes":[],
+    "shared":{}}]}]} => refused 52 shared
+{"format":2,"fixed":[],"sources":[],"lists":{},"groups":[{"goals":["p"],
+    "records":[{"target":"t","commands":[],"reads":[],"writes":[],
+    "shared":[[]]}]}]} => refused 52 shared
+{"format":2,"fixed":[],"sources":[],"lists":{},"groups":[{"goals":["p"],
+    "records":[{"target":"t","commands":[],"reads":[],"writes":[],"shared":[],
+    "x":0}]}]} => refused 52 unknown
+{"format":2,"fixed":[],"sources":[],"lists":{},"groups":[{"goals":["p"],
+    "records":[{"target":"t","commands":[],"reads":[],"writes":0,
+    "shared":0}]}]} => refused 52 writes
+{"format":2,"fixed":[],"sources":[],"lists":{},"groups":[{"goals":["p"],"records":[{}]},
+    {}]} => refused 52 target
+{"format":2,"fixed":[],"sources":[],"lists":{"b":["./b"],"a":["a"]},"groups":[{"goals":["."],
+    "records":[]}]} => refused 55 lists
+{"format":2,"fixed":[],"sources":[],"lists":{},"groups":[{"goals":["."],
+    "records":[{"target":".","commands":[],"reads":[],"writes":[],
+    "shared":[]}]}]} => refused 55 goals
+{"format":2,"fixed":[],"sources":[],"lists":{},"groups":[{"goals":["p"],
+    "records":[{"target":"t","commands":[],"reads":["."],"writes":[],"shared":[]}]},
+    {"goals":["."],"records":[]}]} => refused 55 reads
+{"format":2,"fixed":[],"sources":[],"lists":{"./":["a"]},"groups":[{"goals":["p"],
+    "records":[{"target":"t","commands":[],"reads":[],"writes":[],"shared":["./"]}]}]} => fixed
+    ; sources; t: a > ();
+{"format":2,"fixed":[],"sources":[],"lists":{},"groups":[{"goals":["p"],
+    "records":[{"target":"t","commands":[],"reads":[],"writes":[],"shared":[]}]},{"goals":["q"],
+    "records":[{"target":"t","commands":[],"reads":[],"writes":[],"shared":[]}]}]} => fixed
+    ; sources; t: > ();
+{"format":2,"fixed":[],"sources":[],"lists":{},"groups":[{"goals":["p"],"records":[]},
+    {"goals":["q"],"records":[{"target":"t","commands":[],"reads":[],"writes":[],"shared":["x"]},
+    {"target":"t","commands":[],"reads":[],"writes":[],"shared":[]}]}]} => refused 54 t
+{"format":2,"fixed":["/"],"sources":["/a"],"lists":{},"groups":[{"goals":["p"],
+    "records":[{"target":"t","commands":[],"reads":[],"writes":[],
+    "shared":["x"]}]}]} => refused 56 /a
+{"format":2,"fixed":[],"sources":[],"lists":{},"groups":[{"goals":["p"],"records":[]},
+    {"goals":["q"],"records":[{"target":"t","commands":[],"reads":[],"writes":[],
+    "shared":["x"]}]}]} => refused 58
+{"format":2,"fixed":[],"sources":[],"lists":{},"groups":[{"goals":["q"],
+    "records":[{"target":"t","commands":[],"reads":[],"writes":[],
+    "shared":["x"]}]}]} => refused 58
 {"format":2,"fixed":[],"sources":[],"lists":{},"groups":[]} => refused 57
-{"format":2,"fixed":[],"sources":[],"lists":{},"groups":[{"goals":["p","p"],"records":[]}]} => refused 57
+{"format":2,"fixed":[],"sources":[],"lists":{},"groups":[{"goals":["p","p"],
+    "records":[]}]} => refused 57
 {"format":2,"fixed":[],"sources":[],"lists":{},"groups":[{"goals":[],"records":[]}]} => refused 57
-{"format":2,"fixed":[],"sources":[],"lists":{},"groups":[{"goals":["p"],"records":[{"target":"a","commands":[],"reads":[],"writes":[],"shared":[]}]},{"goals":["p"],"records":[{"target":"b","commands":[],"reads":[],"writes":[],"shared":[]}]}]} => fixed; sources; a: > ();
-{"format":2,"fixed":[],"sources":[],"lists":{"a":["x","y"],"b":["z","y","w"]},"groups":[{"goals":["p"],"records":[{"target":"t","commands":[],"reads":["w","v","w"],"writes":[],"shared":["b","a","b"]}]}]} => fixed; sources; t: w v z y x > ();
-{"format":2,"fixed":[],"sources":[],"lists":{"a":["x"],"a":["y"]},"groups":[{"goals":["p"],"records":[{"target":"t","commands":[],"reads":[],"writes":[],"shared":["a"]}]}]} => fixed; sources; t: y > ();
+{"format":2,"fixed":[],"sources":[],"lists":{},"groups":[{"goals":["p"],
+    "records":[{"target":"a","commands":[],"reads":[],"writes":[],"shared":[]}]},{"goals":["p"],
+    "records":[{"target":"b","commands":[],"reads":[],"writes":[],"shared":[]}]}]} => fixed
+    ; sources; a: > ();
+{"format":2,"fixed":[],"sources":[],"lists":{"a":["x","y"],"b":["z","y","w"]},
+    "groups":[{"goals":["p"],"records":[{"target":"t","commands":[],"reads":["w","v","w"],
+    "writes":[],"shared":["b","a","b"]}]}]} => fixed; sources; t: w v z y x > ();
+{"format":2,"fixed":[],"sources":[],"lists":{"a":["x"],"a":["y"]},"groups":[{"goals":["p"],
+    "records":[{"target":"t","commands":[],"reads":[],"writes":[],"shared":["a"]}]}]} => fixed
+    ; sources; t: y > ();
 "#;
 
 /// Sees what the text of a row reads as for the goal `p`.
@@ -237,9 +329,9 @@ fn see_row(rt: &impl Abort, alloc: Global, row: &str) -> Result<(), AllocError> 
     Ok(())
 }
 
-/// Sees it of each row.
-fn see_rows(rt: &impl Abort, alloc: Global, rows: &str) -> Result<(), AllocError> {
-    for row in rows.lines() {
+/// Sees it of each row of a table.
+fn see_rows(rt: &impl Abort, alloc: Global, table: &str) -> Result<(), AllocError> {
+    for row in &rows(alloc, table)? {
         see_row(rt, alloc, row)?;
     }
     Ok(())
@@ -247,8 +339,8 @@ fn see_rows(rt: &impl Abort, alloc: Global, rows: &str) -> Result<(), AllocError
 
 #[test]
 fn reads_files(rt: HostRuntime) -> Result<(), Fail> {
-    for &rows in &[VALUES, FIRST, SECOND] {
-        see_rows(&rt, rt.alloc(), rows)?;
+    for &table in &[VALUES, FIRST, SECOND] {
+        see_rows(&rt, rt.alloc(), table)?;
     }
     Ok(())
 }
@@ -327,8 +419,11 @@ fn wants_memory_or_answers(rt: HostRuntime) -> Result<(), Fail> {
 }
 
 /// A file with prefixes, sources, and records of which one target comes in no other place.
-const BUILD: &str =
-    r#"{"format":1,"fixed":["/usr/"],"sources":["a.c","b.mk","a.c"],"records":[{"target":"p","commands":["mk p","mk p"],"reads":["a.c","q","a.c"],"writes":["p"]},{"target":"q","commands":["mk q"],"reads":[],"writes":["q","q"]}]}"#;
+const BUILD: &str = concat!(
+    r#"{"format":1,"fixed":["/usr/"],"sources":["a.c","b.mk","a.c"],"#,
+    r#""records":[{"target":"p","commands":["mk p","mk p"],"reads":["a.c","q","a.c"],"#,
+    r#""writes":["p"]},{"target":"q","commands":["mk q"],"reads":[],"writes":["q","q"]}]}"#,
+);
 
 /// Adds what a setting tells of each of these names: given, editable, passed over.
 fn push_told(out: &mut String, setting: &Setting, names: &str) -> Result<(), AllocError> {
@@ -383,8 +478,10 @@ fn told_with(
 }
 
 /// What it tells.
-const TOLD: &str =
-    "a.c given editable;b.mk given;c.mk given;gone.mk passed over;/usr/x.h given;/usr/ given;/usr;lib/usr/x;a;a.c/x;p;; a.c b.mk q: > q (mk q); p: a.c q > p (mk p / mk p); none;";
+const TOLD: &str = concat!(
+    "a.c given editable;b.mk given;c.mk given;gone.mk passed over;/usr/x.h given;/usr/ given;",
+    "/usr;lib/usr/x;a;a.c/x;p;; a.c b.mk q: > q (mk q); p: a.c q > p (mk p / mk p); none;",
+);
 
 #[test]
 fn knows_its_files(rt: HostRuntime) -> Result<(), Fail> {

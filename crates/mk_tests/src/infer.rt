@@ -1,6 +1,6 @@
 //! Rows on inference, selection, goals and commands, over makefiles in memory.
 
-use crate::fixtures::{field, fields_of, file_of, names, same_bytes, unfolded};
+use crate::fixtures::{file_of, names, same_bytes};
 use mk_choice::{Choices, Commands, Made, choice, choice_and_commands, commands};
 use mk_graph::Graph;
 use mk_infer::{Exists, InferFault, RuleTable};
@@ -8,6 +8,7 @@ use mk_lines::{NameTable, Prefixes};
 use mk_parse::read_makefile;
 use mk_read::Makefile;
 use mk_select::{Goals, goal_names, select};
+use mk_tables::{field, fields_of, unfolded};
 use std::alloc::{AllocError, Global};
 use std::process::Abort;
 use std::test::Fail;

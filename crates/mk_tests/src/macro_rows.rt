@@ -1,7 +1,8 @@
 //! Rows over a table of macros: definitions, operands, and texts that are expanded.
 
-use crate::fixtures::{fields_of, same, unfolded};
+use crate::fixtures::same;
 use mk_macros::{Locals, MacroFault, MacroTable, Op};
+use mk_tables::{fields_of, unfolded};
 use std::alloc::Global;
 use std::process::Abort;
 use std::str;
@@ -103,8 +104,8 @@ fn follow_row(
 }
 
 /// Sees what is said of each row, behind those before it. `TEXT‖WANT` expands a text,
-/// `fix‖OPERAND‖WANT` takes an operand, `NAME‖OP‖TEXT‖WANT` defines a macro: it wants the words of a
-/// fault, or nothing. A blank row begins anew.
+/// `fix‖OPERAND‖WANT` takes an operand, `NAME‖OP‖TEXT‖WANT` defines a macro: it wants the words of
+/// a fault, or nothing. A blank row begins anew.
 pub fn follow(
     rt: &impl Abort,
     alloc: Global,

@@ -1,8 +1,9 @@
 //! Rows on expansions. The expected texts were worked out by hand.
 
-use crate::fixtures::{same_bytes, same_number, see_that, unfolded};
+use crate::fixtures::{same_bytes, same_number, see_that};
 use crate::macro_rows::{follow, follow_anew};
 use mk_macros::{Locals, MacroTable, Op, without_blanks};
+use mk_tables::unfolded;
 use std::alloc::{AllocError, Global};
 use std::borrow::CowSlice;
 use std::process::Abort;

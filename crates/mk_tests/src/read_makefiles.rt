@@ -3,9 +3,10 @@
 ghost use Rattle.std.specs.Prelude.{◌≡◌, IfOk};
 ghost use Rattle.mk_parse.specs.MemFiles.{failures_of};
 
-use crate::fixtures::{add_names, file_of, same, see_that, unfolded};
+use crate::fixtures::{add_names, file_of, same, see_that};
 use mk_parse::{MemFiles, read_makefile};
 use mk_read::{Command, Files, Makefile};
+use mk_tables::unfolded;
 use std::alloc::{AllocError, Global};
 use std::process::Abort;
 use std::str;

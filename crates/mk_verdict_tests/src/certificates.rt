@@ -4,20 +4,24 @@ ghost use Rattle.std.specs.Prelude.{◌≡◌, ◌<◌, ◌-◌, ◌^◌};
 ghost use Rattle.mk_parse.specs.MemFiles.{failures_of};
 
 use crate::expecting::expect_answers;
-use mk_rows::builds::{
-    answer_over, certificate, certificate_of, files_of_build, part, request_of, verdict, verified,
-};
+use mk_rows::builds::{answer_over, certificate_of, files_of_build, request_of, verdict, verified};
+use mk_tables::{certificate, part, rows};
 use std::alloc::Global;
 use std::process::Abort;
 use std::test::Fail;
 
 /// A program of one object, and a source that both recipes read.
-const OBJECT: &str =
-    "p: a.o¶→cc -o p a.o¶a.o: a.c¶→cc -c a.c¶‖‖a.c‖p: a.o a.c > p = cc -o p a.o; a.o: a.c > a.o = cc -c a.c";
+const OBJECT: &str = concat!(
+    "p: a.o¶→cc -o p a.o¶a.o: a.c¶→cc -c a.c¶‖‖a.c",
+    "‖p: a.o a.c > p = cc -o p a.o; a.o: a.c > a.o = cc -c a.c",
+);
 
 /// The certificate of it.
-const OBJECT_LINE: &str =
-    r#"{"format":1,"goals":["p"],"ways":[{"end":"source","file":"a.c","path":["a.o"],"recipe":"a.o"},{"end":"written","file":"a.o","path":["p","a.o"],"recipe":"p"},{"end":"source","file":"a.c","path":["p","a.o"],"recipe":"p"}]}"#;
+const OBJECT_LINE: &str = concat!(
+    r#"{"format":1,"goals":["p"],"ways":[{"end":"source","file":"a.c","path":["a.o"],"#,
+    r#""recipe":"a.o"},{"end":"written","file":"a.o","path":["p","a.o"],"recipe":"p"},"#,
+    r#"{"end":"source","file":"a.c","path":["p","a.o"],"recipe":"p"}]}"#,
+);
 
 #[test]
 fn writes_the_certificate(rt: HostRuntime) -> Result<(), Fail> {
@@ -53,11 +57,14 @@ const SHAPES: &str = r#"{ => refused 71
 {"format":1,"goals":["x"],"ways":[0]} => refused 72 ways
 {"format":1,"goals":["x"],"ways":[],"y":0} => refused 72 unknown
 {"format":1,"goals":["x"],"ways":[{}]} => refused 72 end
-{"format":1,"goals":["p"],"ways":[{"end":"start","file":"a.c","path":["a.o"],"recipe":"a.o"}]} => refused 72 end
+{"format":1,"goals":["p"],"ways":[{"end":"start","file":"a.c","path":["a.o"],
+    "recipe":"a.o"}]} => refused 72 end
 {"format":1,"goals":["p"],"ways":[{"end":"source"}]} => refused 72 file
 {"format":1,"goals":["p"],"ways":[{"end":"source","file":"a.c"}]} => refused 72 path
-{"format":1,"goals":["p"],"ways":[{"end":"source","file":"a.c","path":["a.o"]}]} => refused 72 recipe
-{"format":1,"goals":["p"],"ways":[{"end":"source","file":"a.c","path":["a.o"],"recipe":"a.o","y":0}]} => refused 72 unknown"#;
+{"format":1,"goals":["p"],"ways":[{"end":"source","file":"a.c",
+    "path":["a.o"]}]} => refused 72 recipe
+{"format":1,"goals":["p"],"ways":[{"end":"source","file":"a.c","path":["a.o"],"recipe":"a.o",
+    "y":0}]} => refused 72 unknown"#;
 
 #[test]
 fn refuses_other_texts(rt: HostRuntime) -> Result<(), Fail> {
@@ -90,9 +97,12 @@ p | a.o a.c source a.o; p a.o source p => refused 75 p a.o
 p | a.o a.c always a.o => refused 75 a.o a.c
 p | a.o a.c source a.o; p p written p a.o => refused 75 p p
 p | a.o a.c source a.o; p h.h source p a.o => refused 75 p h.h
-p | a.o a.c source a.o; a.o a.c source a.o; p a.o written p a.o; p a.c source p a.o => refused 75 a.o a.c
-p | a.o a.c source a.o; p a.o written p a.o; p a.c source p a.o; p a.o written p a.o => refused 75 p a.o
-p | a.o a.c source a.o; p a.o written p a.o; p a.c source p a.o; p a.c source p a.o => refused 75 p a.c
+p | a.o a.c source a.o; a.o a.c source a.o; p a.o written p a.o
+    ; p a.c source p a.o => refused 75 a.o a.c
+p | a.o a.c source a.o; p a.o written p a.o; p a.c source p a.o
+    ; p a.o written p a.o => refused 75 p a.o
+p | a.o a.c source a.o; p a.o written p a.o; p a.c source p a.o
+    ; p a.c source p a.o => refused 75 p a.c
 p | => refused 74 a.o a.c
 p | p a.o written p a.o; p a.c source p a.o => refused 74 a.o a.c
 p | a.o a.c source a.o; p a.c source p a.o => refused 74 p a.o
@@ -108,8 +118,10 @@ fn refuses_bad_entries(rt: HostRuntime) -> Result<(), Fail> {
 }
 
 /// The program without the second read of its source, and with reads that need no way.
-const PLAIN: &str =
-    "p: a.o¶→cc -o p a.o¶a.o: a.c¶→cc -c a.c¶‖‖/usr/ a.c makefile‖p: a.o > p = cc -o p a.o; a.o: a.c /usr/h.h makefile > a.o = cc -c a.c";
+const PLAIN: &str = concat!(
+    "p: a.o¶→cc -o p a.o¶a.o: a.c¶→cc -c a.c¶‖‖/usr/ a.c makefile",
+    "‖p: a.o > p = cc -o p a.o; a.o: a.c /usr/h.h makefile > a.o = cc -c a.c",
+);
 
 const NEEDLESS: &str = r"p | a.o a.c source a.o; p a.o written p a.o => yes 2 recipes 4 reads¶
 p | a.o a.c source a.o; p a.o written p a.o; p a.c source p a.o => refused 75 p a.c
@@ -152,13 +164,16 @@ fn judges_sources_behind_names(rt: HostRuntime) -> Result<(), Fail> {
 }
 
 /// Two ways from one recipe to another.
-const DIAMOND: &str =
-    "t: b a¶→mk t¶a: z¶→mk a¶b: z¶→mk b¶z: s¶→mk z¶‖‖s‖t: z > t = mk t; a: z > a = mk a; b: z > b = mk b; z: s > z = mk z";
+const DIAMOND: &str = concat!(
+    "t: b a¶→mk t¶a: z¶→mk a¶b: z¶→mk b¶z: s¶→mk z¶‖‖s",
+    "‖t: z > t = mk t; a: z > a = mk a; b: z > b = mk b; z: s > z = mk z",
+);
 
-const DIAMOND_ROWS: &str =
-    r"t | z s source z; b z written b z; a z written a z; t z written t b z => yes 4 recipes 4 reads¶
+const DIAMOND_ROWS: &str = r"t | z s source z; b z written b z; a z written a z
+    ; t z written t b z => yes 4 recipes 4 reads¶
 t | z s source z; b z written b z; a z written a z; t z written t a z => yes 4 recipes 4 reads¶
-t | z s source z; b z written b z; a z written a z; t z written t b z; t z written t a z => refused 75 t z
+t | z s source z; b z written b z; a z written a z; t z written t b z
+    ; t z written t a z => refused 75 t z
 t | z s source z; b z written b z; a z written a z; t z written t z => refused 75 t z
 t | z s source z; b z written b z; a z written a z; t z written t b a z => refused 75 t z";
 
@@ -183,8 +198,10 @@ fn refuses_what_is_found(rt: HostRuntime) -> Result<(), Fail> {
 }
 
 /// A race.
-const RACE: &str =
-    ".PHONY: b¶all: x y¶x: a .WAIT b¶y: b¶a:¶→touch a¶b:¶→cat a¶‖‖‖a: > a = touch a; b: a > = cat a";
+const RACE: &str = concat!(
+    ".PHONY: b¶all: x y¶x: a .WAIT b¶y: b¶a:¶→touch a¶b:¶→cat a¶‖‖",
+    "‖a: > a = touch a; b: a > = cat a",
+);
 
 const RACE_ROWS: &str = r"all | b a always b => refused 76 race b a a
 all | b a written b => refused 76 race b a a
@@ -198,38 +215,53 @@ fn refuses_races(rt: HostRuntime) -> Result<(), Fail> {
 
 /// Builds, a certificate of each, and what is printed: of several findings the first, a static one
 /// before a race; a read without a way is none of them; and the faults of the build itself.
-const OTHERS: &str =
-    r"all: a t b¶a:¶→a¶b:¶→b¶t:¶→t¶‖‖‖a: > a = a; b: > b = b; t: b a > t = t‖all |‖refused 76 race t b b
+const OTHERS: &str = r"all: a t b¶a:¶→a¶b:¶→b¶t:¶→t¶‖‖
+    ‖a: > a = a; b: > b = b; t: b a > t = t‖all |
+    ‖refused 76 race t b b
 all: a t¶a:¶→a¶t:¶→t¶‖‖‖a: > a = a; t: a z > t = t‖all |‖refused 76 unknown t z
 p: s¶→mk p¶‖‖s‖‖p |‖refused 76 record p
 p: s¶→mk p¶‖‖s‖p: s > p = mk q‖p | p s source p‖refused 76 commands p
-p: a.o¶→cc -o p a.o¶a.o: a.c¶→cc -c a.c¶‖‖a.c‖p: a.o a.c > p = cc -o q a.o; a.o: a.c > a.o = cc -c a.c‖p | a.o a.c source a.o; p a.o written p a.o; p a.c source p a.o‖refused 76 commands p
-p: a.o¶→cc -o p a.o¶a.o: a.c¶→cc -c a.c¶‖‖a.c‖p: a.o > p = cc -o p a.o; a.o: a.c > a.o = cc -c a.c‖p | a.o a.c source a.o; p a.o written p a.o; p a.c source p a.o‖refused 75 p a.c
+p: a.o¶→cc -o p a.o¶a.o: a.c¶→cc -c a.c¶‖‖a.c
+    ‖p: a.o a.c > p = cc -o q a.o; a.o: a.c > a.o = cc -c a.c
+    ‖p | a.o a.c source a.o; p a.o written p a.o; p a.c source p a.o
+    ‖refused 76 commands p
+p: a.o¶→cc -o p a.o¶a.o: a.c¶→cc -c a.c¶‖‖a.c
+    ‖p: a.o > p = cc -o p a.o; a.o: a.c > a.o = cc -c a.c
+    ‖p | a.o a.c source a.o; p a.o written p a.o; p a.c source p a.o
+    ‖refused 75 p a.c
 p: s¶→mk p¶‖‖s u‖p: s u > p = mk p‖p | p s source p‖refused 74 p u
 p: s¶→mk p¶‖‖s u‖p: s u > p = mk p‖p | p s source p; p u source p‖refused 75 p u
 p: s¶→mk p¶‖‖‖‖{‖refused 41 s
 p: s¶→mk $(X¶‖‖s‖‖{‖refused 13 makefile:2
 p: s¶→mk p¶‖‖{‖‖{‖refused 51";
 
+/// Expects what a row says to be printed of its certificate for its build.
+fn expect_fault(rt: &impl Abort, alloc: Global, row: &str) -> Result<(), Fail> {
+    let told = certificate(alloc, part(row, 4))?;
+    let got = verified(alloc, row, told.as_str())?;
+    assert_eq!(rt; got.as_str(), part(row, 5), "of {row:?}");
+    Ok(())
+}
+
 #[test]
 fn tells_the_first_fault(rt: HostRuntime) -> Result<(), Fail> {
-    let alloc = rt.alloc();
-    for row in OTHERS.lines() {
-        let told = certificate(alloc, part(row, 4))?;
-        let got = verified(alloc, row, told.as_str())?;
-        assert_eq!(rt; got.as_str(), part(row, 5), "of {row:?}");
+    for row in &rows(rt.alloc(), OTHERS)? {
+        expect_fault(&rt, rt.alloc(), row)?;
     }
     Ok(())
 }
 
 /// Builds that are right.
-const RIGHT: &str =
-    r"p: a.o¶→cc -o p a.o¶a.o: a.c¶→cc -c a.c¶‖‖a.c‖p: a.o > p = cc -o p a.o; a.o: a.c > a.o = cc -c a.c
-p: a.o¶→cc -o p a.o¶a.o: a.c¶→cc -c a.c¶‖‖a.c‖p: a.o a.c > p = cc -o p a.o; a.o: a.c > a.o = cc -c a.c
+const RIGHT: &str = r"p: a.o¶→cc -o p a.o¶a.o: a.c¶→cc -c a.c¶‖‖a.c
+    ‖p: a.o > p = cc -o p a.o; a.o: a.c > a.o = cc -c a.c
+p: a.o¶→cc -o p a.o¶a.o: a.c¶→cc -c a.c¶‖‖a.c
+    ‖p: a.o a.c > p = cc -o p a.o; a.o: a.c > a.o = cc -c a.c
 .PHONY: b¶all: x¶x: a .WAIT b¶a:¶→touch a¶b:¶→cat a¶‖‖‖a: > a = touch a; b: a > = cat a
-m.o: m.c y.tab.h¶→cc -c m.c¶y.tab.h: y.tab.c¶y.tab.c: gram.y¶→yacc -d gram.y¶‖‖m.c gram.y‖m.o: m.c y.tab.h > m.o = cc -c m.c; y.tab.c: gram.y > y.tab.c y.tab.h = yacc -d gram.y
+m.o: m.c y.tab.h¶→cc -c m.c¶y.tab.h: y.tab.c¶y.tab.c: gram.y¶→yacc -d gram.y¶‖‖m.c gram.y
+    ‖m.o: m.c y.tab.h > m.o = cc -c m.c; y.tab.c: gram.y > y.tab.c y.tab.h = yacc -d gram.y
 b: a¶→cp a b¶c: b¶→cp b c¶‖c b‖a‖b: a > b = cp a b; c: b > c = cp b c
-t: b a¶→mk t¶a: z¶→mk a¶b: z¶→mk b¶z: s¶→mk z¶‖‖s‖t: b a z s > t = mk t; a: z > a = mk a; b: z > b = mk b; z: s > z = mk z
+t: b a¶→mk t¶a: z¶→mk a¶b: z¶→mk b¶z: s¶→mk z¶‖‖s
+    ‖t: b a z s > t = mk t; a: z > a = mk a; b: z > b = mk b; z: s > z = mk z
 all:¶‖‖‖";
 
 /// What is printed of the certificate that a build has, with this behind it.
@@ -246,27 +278,30 @@ fn first_line(alloc: Global, build: &str) -> Result<String, Fail> {
     Ok(format!(in alloc; "{first}\n")?)
 }
 
-/// Expects that a build's own certificate, with this behind it, is accepted.
-fn expect_accepted(rt: &impl Abort, alloc: Global, build: &str, end: &str) -> Result<(), Fail> {
+/// Expects that a build's own certificate is accepted, with and without a newline at its end.
+fn expect_accepted(rt: &impl Abort, alloc: Global, build: &str) -> Result<(), Fail> {
     let want = first_line(alloc, build)?;
     assert!(rt; want.as_str().starts_with("yes "), "of {build:?}");
-    let got = verified_again(alloc, build, end)?;
-    assert_eq!(rt; got.as_str(), want.as_str(), "of {build:?}");
+    for end in ["", "\n"] {
+        let got = verified_again(alloc, build, end)?;
+        assert_eq!(rt; got.as_str(), want.as_str(), "of {build:?}");
+    }
     Ok(())
 }
 
 #[test]
 fn accepts_its_own_certificates(rt: HostRuntime) -> Result<(), Fail> {
-    for build in RIGHT.lines() {
-        expect_accepted(&rt, rt.alloc(), build, "")?;
-        expect_accepted(&rt, rt.alloc(), build, "\n")?;
+    for build in &rows(rt.alloc(), RIGHT)? {
+        expect_accepted(&rt, rt.alloc(), build)?;
     }
     Ok(())
 }
 
 /// The program of one object, of which the object alone is asked for.
-const PART: &str =
-    "p: a.o¶→cc -o p a.o¶a.o: a.c¶→cc -c a.c¶‖a.o‖a.c‖p: a.o a.c > p = cc -o p a.o; a.o: a.c > a.o = cc -c a.c";
+const PART: &str = concat!(
+    "p: a.o¶→cc -o p a.o¶a.o: a.c¶→cc -c a.c¶‖a.o‖a.c",
+    "‖p: a.o a.c > p = cc -o p a.o; a.o: a.c > a.o = cc -c a.c",
+);
 
 /// What is printed of the certificate that a build has, for another build.
 fn verified_for(alloc: Global, build: &str, other: &str) -> Result<String, Fail> {

@@ -1,7 +1,7 @@
 //! Tables of builds, with what is answered of them.
 
-use mk_rows::builds::{certificate, certificate_of, part, verdict, verified, with_other_goals};
-use mk_rows::rows::unfolded;
+use mk_rows::builds::{certificate_of, verdict, verified, with_other_goals};
+use mk_tables::{certificate, part, rows, unfolded};
 use std::alloc::Global;
 use std::process::Abort;
 use std::test::Fail;
@@ -24,32 +24,44 @@ fn expect_own_certificate(
     Ok(())
 }
 
-/// Each line of the table is a build, `‖`, and what is printed of its verdict. The certificate of
-/// each yes is accepted, and by no other goals.
-pub fn expect_verdicts(rt: &impl Abort, alloc: Global, table: &str) -> Result<(), Fail> {
-    for row in table.lines() {
-        let got = verdict(alloc, row)?;
-        let want = unfolded(alloc, part(row, 4))?;
-        assert_eq!(rt; got.as_str(), want.as_str(), "of {row:?}");
-        if want.as_str().starts_with("yes ") {
-            expect_own_certificate(rt, alloc, row, want.as_str())?;
-        }
+/// Expects what a row says to be printed of the verdict on its build. The certificate of a yes is
+/// accepted, and by no other goals.
+fn expect_verdict(rt: &impl Abort, alloc: Global, row: &str) -> Result<(), Fail> {
+    let got = verdict(alloc, row)?;
+    let want = unfolded(alloc, part(row, 4))?;
+    assert_eq!(rt; got.as_str(), want.as_str(), "of {row:?}");
+    if want.as_str().starts_with("yes ") {
+        expect_own_certificate(rt, alloc, row, want.as_str())?;
     }
     Ok(())
 }
 
-/// Each line of the table is a certificate, ` => `, and what is printed of it for a build.
+/// Each row of the table is a build, `‖`, and what is printed of its verdict.
+pub fn expect_verdicts(rt: &impl Abort, alloc: Global, table: &str) -> Result<(), Fail> {
+    for row in &rows(alloc, table)? {
+        expect_verdict(rt, alloc, row)?;
+    }
+    Ok(())
+}
+
+/// Expects what a row says to be printed of its certificate for a build.
+fn expect_row(rt: &impl Abort, alloc: Global, build: &str, row: &str) -> Result<(), Fail> {
+    let (told, want) = row.split_once(" => ").unwrap_or((row, ""));
+    let got = verified(alloc, build, certificate(alloc, told)?.as_str())?;
+    let want = unfolded(alloc, want)?;
+    assert_eq!(rt; got.as_str(), want.as_str(), "of {row:?}");
+    Ok(())
+}
+
+/// Each row of the table is a certificate, ` => `, and what is printed of it for a build.
 pub fn expect_answers(
     rt: &impl Abort,
     alloc: Global,
     build: &str,
     table: &str,
 ) -> Result<(), Fail> {
-    for row in table.lines() {
-        let (told, want) = row.split_once(" => ").unwrap_or((row, ""));
-        let got = verified(alloc, build, certificate(alloc, told)?.as_str())?;
-        let want = unfolded(alloc, want)?;
-        assert_eq!(rt; got.as_str(), want.as_str(), "of {row:?}");
+    for row in &rows(alloc, table)? {
+        expect_row(rt, alloc, build, row)?;
     }
     Ok(())
 }

@@ -34,8 +34,9 @@ fn finds_what_records_lack(rt: HostRuntime) -> Result<(), Fail> {
 }
 
 /// Files that recipes write: of two recipes, given ones, and those of names without a recipe.
-const WRITES: &str =
-    r"all: a b c¶a:¶→a¶b:¶→b¶c:¶→c¶‖‖‖a: > a x y = a; b: > b y x = b; c: > c x = c‖no writers a b x¶no writers a c x¶no writers a b y¶no writers b c x¶
+const WRITES: &str = r"all: a b c¶a:¶→a¶b:¶→b¶c:¶→c¶‖‖
+    ‖a: > a x y = a; b: > b y x = b; c: > c x = c
+    ‖no writers a b x¶no writers a c x¶no writers a b y¶no writers b c x¶
 p: s¶→mk p¶‖‖s t‖p: s > p t = mk p‖no given p t¶
 p: s¶→mk p¶‖‖/tmp/ s‖p: s > p /tmp/x = mk p‖no given p /tmp/x¶
 p: s¶→mk p¶‖‖s‖p: s > p makefile = mk p‖no given p makefile¶
@@ -43,11 +44,15 @@ p: s¶→mk p¶‖‖s‖p: s > p makefile = mk p‖no given p makefile¶
 -include q.mk¶p: s¶→mk p¶‖‖s‖p: s > p q.mk = mk p‖no given p q.mk¶
 p: s¶→mk p¶‖‖p s‖p: s > p = mk p‖no given p p¶
 .PHONY: p¶p: s¶→mk p¶‖‖s‖p: s > p = mk p‖no given p p¶
-.PHONY: q¶r: p¶→mk r¶p: s¶→mk p¶‖‖s t u‖r: p > u r = mk r; p: s > q t p makefile = mk p‖no given p q¶no given p t¶no given p makefile¶no given r u¶
+.PHONY: q¶r: p¶→mk r¶p: s¶→mk p¶‖‖s t u
+    ‖r: p > u r = mk r; p: s > q t p makefile = mk p
+    ‖no given p q¶no given p t¶no given p makefile¶no given r u¶
 all: o n¶o:¶→mk o¶n:¶‖‖‖o: > o n = mk o‖no loose n o¶
 all: o n¶o:¶→mk o¶n: o¶‖‖‖o: > o n = mk o‖yes 1 recipes 0 reads¶
 all: n¶n: m¶m: o¶o:¶→mk o¶‖‖‖o: > o n = mk o‖no loose n o¶
-all: o u m n¶o:¶→o¶u:¶→u¶m n:¶‖‖‖o: > o n m = o; u: > u n = u‖no writers o u n¶no loose m o¶no loose n o¶no loose n u¶";
+all: o u m n¶o:¶→o¶u:¶→u¶m n:¶‖‖
+    ‖o: > o n m = o; u: > u n = u
+    ‖no writers o u n¶no loose m o¶no loose n o¶no loose n u¶";
 
 #[test]
 fn finds_wrong_writes(rt: HostRuntime) -> Result<(), Fail> {
@@ -59,8 +64,12 @@ fn finds_wrong_writes(rt: HostRuntime) -> Result<(), Fail> {
 const READS: &str = r"p: s¶→mk p¶‖‖s‖p: p s x > x p = mk p‖no own p p¶no own p x¶
 p: s¶→mk p¶‖‖s‖p: y s x > p = mk p‖no unknown p y¶no unknown p x¶
 p: s¶→mk p¶q: s¶→mk q¶‖‖s‖p: s q > p = mk p; q: s > q = mk q‖no unknown p q¶
-all: a t b¶a:¶→a¶b:¶→b¶t:¶→t¶‖‖‖a: > a = a; b: > b = b; t: b a > t = t‖no race t b b¶no race t a a¶no stale t b¶no stale t a¶
-all: t u a¶a:¶→a¶t: a¶→t¶u:¶→u¶‖‖s‖a: > a = a; t: a s > t = t; u: a > u = u‖no race u a a¶no stale t s¶no stale u a¶
+all: a t b¶a:¶→a¶b:¶→b¶t:¶→t¶‖‖
+    ‖a: > a = a; b: > b = b; t: b a > t = t
+    ‖no race t b b¶no race t a a¶no stale t b¶no stale t a¶
+all: t u a¶a:¶→a¶t: a¶→t¶u:¶→u¶‖‖s
+    ‖a: > a = a; t: a s > t = t; u: a > u = u
+    ‖no race u a a¶no stale t s¶no stale u a¶
 all: a t¶a:¶→a¶t: a¶→t¶‖‖‖a: > a = a; t: a > t = t‖yes 2 recipes 1 reads¶way t a written t a¶
 p: s¶→mk p¶‖‖s u v‖p: v s u > p = mk p‖no stale p v¶no stale p u¶
 q: p¶→mk q¶p: s¶→mk p¶‖‖s u v‖q: p u > q = mk q; p: s v > p = mk p‖no stale p v¶no stale q u¶
@@ -74,9 +83,14 @@ fn finds_wrong_reads(rt: HostRuntime) -> Result<(), Fail> {
 /// Names that get another inferred prerequisite once recipes have run; all static findings at once;
 /// and static ones that hide what would be found without them.
 const OTHERS: &str = r"all: gen .WAIT x.o¶gen:¶→mk¶‖‖x.o‖gen: > gen x.c = mk‖no selection x.o x.c¶
-all: gen y.o x.o¶gen:¶→mk¶‖‖x.o y.o‖gen: > gen x.c y.c = mk‖no selection y.o y.c¶no selection x.o x.c¶
+all: gen y.o x.o¶gen:¶→mk¶‖‖x.o y.o
+    ‖gen: > gen x.c y.c = mk
+    ‖no selection y.o y.c¶no selection x.o x.c¶
 all: gen y.o x.o¶gen:¶→mk¶‖-r‖x.o y.o‖gen: > gen x.c y.c = mk‖yes 1 recipes 0 reads¶
-all: a b c d n .WAIT x.o¶a:¶→do a¶b:¶→do b¶c:¶→do c $?¶d:¶→do d¶n:¶‖‖s x.o‖b: b n > b log = do x; c: zzz > c s n = do c ; d: > log x.c = do d‖no record a¶no commands b¶no varying c¶no target d¶no writers b d log¶no given c s¶no own b b¶no unknown c zzz¶no loose n c¶no selection x.o x.c¶
+all: a b c d n .WAIT x.o¶a:¶→do a¶b:¶→do b¶c:¶→do c $?¶d:¶→do d¶n:¶‖‖s x.o
+    ‖b: b n > b log = do x; c: zzz > c s n = do c ; d: > log x.c = do d
+    ‖no record a¶no commands b¶no varying c¶no target d¶no writers b d log¶no given c s¶
+    no own b b¶no unknown c zzz¶no loose n c¶no selection x.o x.c¶
 all: a t¶a:¶→a¶t:¶→t¶‖‖‖a: > a = a; t: a z > t = t‖no unknown t z¶";
 
 #[test]

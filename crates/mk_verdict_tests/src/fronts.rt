@@ -1,17 +1,17 @@
 //! Fronts of footprints and of certificates, which are none.
 
 use mk_core::{MemFiles, Request};
-use mk_rows::builds::{
-    answer_over, certificate_of, files_of_build, footprints, part, request_of, verdict_over,
-};
-use mk_rows::rows::unfolded;
+use mk_rows::builds::{answer_over, certificate_of, files_of_build, request_of, verdict_over};
+use mk_tables::{footprints, part, unfolded};
 use std::alloc::Global;
 use std::process::Abort;
 use std::test::Fail;
 
 /// A program of one object, and a source that both recipes read.
-const OBJECT: &str =
-    "p: a.o¶→cc -o p a.o¶a.o: a.c¶→cc -c a.c¶‖‖a.c‖p: a.o a.c > p = cc -o p a.o; a.o: a.c > a.o = cc -c a.c";
+const OBJECT: &str = concat!(
+    "p: a.o¶→cc -o p a.o¶a.o: a.c¶→cc -c a.c¶‖‖a.c",
+    "‖p: a.o a.c > p = cc -o p a.o; a.o: a.c > a.o = cc -c a.c",
+);
 
 /// What is printed of the verdict on the build with this as its footprints.
 fn judged_by(alloc: Global, asked: &Request, book: &[u8]) -> Result<String, Fail> {
