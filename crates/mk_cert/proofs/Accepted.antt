@@ -7,7 +7,7 @@ use Rattle.mk_graph.specs.Laws.{SerialReachesEachOnce}
 use Rattle.mk_graph.specs.Membership.{Has}
 use Rattle.mk_graph.specs.Right.{HaveWays}
 use Rattle.mk_graph.specs.Ways.{Way}
-use Rattle.mk_ways.specs.Certificate as value
+use Rattle.mk_cert_text.specs.Certificate as value
 use Rattle.mk_cert.specs.Subject.{Subject, footprints}
 use Rattle.mk_cert.specs.Conditions.{IsRecipe}
 use Rattle.mk_cert.specs.Verdict.{IsGood, NoneBad, NoneLacks}

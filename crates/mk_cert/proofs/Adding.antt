@@ -5,7 +5,7 @@ use Rattle.std.specs.List.{flat_map}
 use Rattle.std.proofs.lemmas.List.{map-append, drop_more, nil_from_length}
 use Rattle.mk_cert.specs.declared.finding.Finding.{Finding}
 use Rattle.mk_cert.specs.Subject.{Subject}
-use Rattle.mk_cert.specs.Candidates.{Candidate, Holds}
+use Rattle.mk_cert.specs.Candidates.{Candidate, IsFinding}
 use Rattle.mk_cert.specs.Listing.{Lists, nothing, keeps, drops}
 use Rattle.mk_cert.specs.Listed.{Adds, named}
 
@@ -28,10 +28,10 @@ adds_append x one other old mid new a b = record {
 }
 
 -- one candidate whose condition holds, and one whose condition doesn't
-pub adds_one : (x : Subject) (c : Candidate) (old new : List Finding) → Holds x c → new ≡ old ++ named x c ∷ [] → Adds x (c ∷ []) old new
+pub adds_one : (x : Subject) (c : Candidate) (old new : List Finding) → IsFinding x c → new ≡ old ++ named x c ∷ [] → Adds x (c ∷ []) old new
 adds_one x c old new h e = record { kept = c ∷ []; right = keeps h nothing; added = e }
 
-pub adds_none : (x : Subject) (c : Candidate) (old : List Finding) → ¬ (Holds x c) → Adds x (c ∷ []) old old
+pub adds_none : (x : Subject) (c : Candidate) (old : List Finding) → ¬ (IsFinding x c) → Adds x (c ∷ []) old old
 adds_none x c old h = record { kept = []; right = drops h nothing; added = sym (append-nil old) }
 
 -- past the end nothing is left of a list
@@ -56,36 +56,42 @@ leads_on x part rest all now next first lead added = λ last more. lead last (ad
 
 module _ {A : Type 0} where
   -- that of an element of a list
-  pub leads_each : (x : Subject) (found : A → List Candidate) (xs : List A) (i : ℕ) (d : A) (all : List Candidate) (now next first : List Finding) → i < length xs → Leads x (flat_map found (drop i xs)) all now first → Adds x (found (get_or xs i d)) now next → Leads x (flat_map found (drop (i + 1) xs)) all next first
+  pub leads_each : (x : Subject) (found : A → List Candidate) (xs : List A) (i : ℕ) (d : A)
+      (all : List Candidate) (now next first : List Finding) → i < length xs
+      → Leads x (flat_map found (drop i xs)) all now first → Adds x (found (get_or xs i d)) now next
+      → Leads x (flat_map found (drop (i + 1) xs)) all next first
   leads_each x found xs i d all now next first lt lead added =
       leads_on x (found (get_or xs i d)) (flat_map found (drop (i + 1) xs)) all now next first (subst (λ (l : List A). Leads x (flat_map found l) all now first) (drop_more xs i d lt) lead) added
 
   -- one candidate for each element
-  pub leads_map : (x : Subject) (candidate : A → Candidate) (xs : List A) (i : ℕ) (d : A) (all : List Candidate) (now next first : List Finding) → i < length xs → Leads x (map candidate (drop i xs)) all now first → Adds x (candidate (get_or xs i d) ∷ []) now next → Leads x (map candidate (drop (i + 1) xs)) all next first
+  pub leads_map : (x : Subject) (candidate : A → Candidate) (xs : List A) (i : ℕ) (d : A)
+      (all : List Candidate) (now next first : List Finding) → i < length xs
+      → Leads x (map candidate (drop i xs)) all now first → Adds x (candidate (get_or xs i d) ∷ []) now next
+      → Leads x (map candidate (drop (i + 1) xs)) all next first
   leads_map x candidate xs i d all now next first lt lead added =
       leads_on x (candidate (get_or xs i d) ∷ []) (map candidate (drop (i + 1) xs)) all now next first (subst (λ (l : List A). Leads x (map candidate l) all now first) (drop_more xs i d lt) lead) added
 
 module _ {A : Type 0} (x : Subject) (candidate : A → Candidate) where
   -- where the condition can hold of those alone that pass a test, these are enough
-  lift_step : (p : A → Bool) (o : A) (xs : List A) (kept : List Candidate) (b : Bool) → p o ≡ b → (p o ≡ false → ¬ (Holds x (candidate o))) → ((kept : List Candidate) → Lists x (map candidate (filter p xs)) kept → Lists x (map candidate xs) kept)
+  lift_step : (p : A → Bool) (o : A) (xs : List A) (kept : List Candidate) (b : Bool) → p o ≡ b → (p o ≡ false → ¬ (IsFinding x (candidate o))) → ((kept : List Candidate) → Lists x (map candidate (filter p xs)) kept → Lists x (map candidate xs) kept)
       → Lists x (map candidate (cond b (o ∷ filter p xs) (filter p xs))) kept → Lists x (candidate o ∷ map candidate xs) kept
   lift_step p o xs kept true e none more (keeps {kept = rest} h m) = keeps h (more rest m)
   lift_step p o xs kept true e none more (drops h m) = drops h (more kept m)
   lift_step p o xs kept false e none more l = drops (none e) (more kept l)
 
-  pub lists_lifted : (p : A → Bool) (xs : List A) (kept : List Candidate) → ((o : A) → p o ≡ false → ¬ (Holds x (candidate o))) → Lists x (map candidate (filter p xs)) kept → Lists x (map candidate xs) kept
+  pub lists_lifted : (p : A → Bool) (xs : List A) (kept : List Candidate) → ((o : A) → p o ≡ false → ¬ (IsFinding x (candidate o))) → Lists x (map candidate (filter p xs)) kept → Lists x (map candidate xs) kept
   lists_lifted p [] kept none l = l
   lists_lifted p (o ∷ xs) kept none l = lift_step p o xs kept (p o) refl (none o) (λ rest m. lists_lifted p xs rest none m) l
 
-  pub adds_lifted : (p : A → Bool) (xs : List A) (old new : List Finding) → ((o : A) → p o ≡ false → ¬ (Holds x (candidate o))) → Adds x (map candidate (filter p xs)) old new → Adds x (map candidate xs) old new
+  pub adds_lifted : (p : A → Bool) (xs : List A) (old new : List Finding) → ((o : A) → p o ≡ false → ¬ (IsFinding x (candidate o))) → Adds x (map candidate (filter p xs)) old new → Adds x (map candidate xs) old new
   adds_lifted p xs old new none h = record { kept = h.kept; right = lists_lifted p xs h.kept none h.right; added = h.added }
 
   -- where it holds of none, nothing is added
-  lists_none : (xs : List A) → ((o : A) → ¬ (Holds x (candidate o))) → Lists x (map candidate xs) []
+  lists_none : (xs : List A) → ((o : A) → ¬ (IsFinding x (candidate o))) → Lists x (map candidate xs) []
   lists_none [] none = nothing
   lists_none (o ∷ xs) none = drops (none o) (lists_none xs none)
 
-  pub adds_none_of : (xs : List A) (old : List Finding) → ((o : A) → ¬ (Holds x (candidate o))) → Adds x (map candidate xs) old old
+  pub adds_none_of : (xs : List A) (old : List Finding) → ((o : A) → ¬ (IsFinding x (candidate o))) → Adds x (map candidate xs) old old
   adds_none_of xs old none = record { kept = []; right = lists_none xs none; added = sym (append-nil old) }
 
 -- what is listed behind the same candidates

@@ -3,7 +3,7 @@ use Rattle.std.proofs.Common.{◌≡◌, ℕ, zero, suc, ◌+◌, ◌<◌, Bool,
 use Rattle.std.specs.Prelude.{filter, ◌==◌}
 use Rattle.std.proofs.lemmas.Bool.{true≢false, eqb-true, eq-eqb}
 use Rattle.mk_graph.specs.Membership.{Has, IsDistinct}
-use Rattle.mk_cert.specs.Entry.{behind}
+use Rattle.mk_cert.specs.NodeRow.{behind}
 
 -- what stands behind a number stands in the list, and is another one where none stands twice
 in_step : (o n : ℕ) (ns : List ℕ) (t : ℕ) (b : Bool) → (Has (behind o ns) t → Has ns t) → Has (cond b ns (behind o ns)) t → Has ns t

@@ -7,7 +7,7 @@ use Rattle.mk_graph.specs.Graph.{IsGraph}
 use Rattle.mk_graph.specs.Laws.{SerialReachesEachOnce}
 use Rattle.mk_graph.specs.Serial.{serial_order}
 use Rattle.mk_cert.specs.Subject.{Subject, writes_of}
-use Rattle.mk_cert.specs.Entry.{writers_of}
+use Rattle.mk_cert.specs.NodeRow.{writers_of}
 use Rattle.mk_cert.proofs.Decided.{has_decides}
 use Rattle.mk_cert.proofs.FileDecided.{writers_write, kept}
 use Rattle.mk_cert.proofs.Sound.{writer_in_order}

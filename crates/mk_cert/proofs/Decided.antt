@@ -14,7 +14,7 @@ use Rattle.mk_cert.specs.Conditions.{HasNoRecord, HasOtherCommands, HasVaryingCo
 use Rattle.mk_cert.specs.Candidates.{selection, choice_with_writes}
 use Rattle.mk_cert.specs.Listed.{Adds}
 use Rattle.mk_cert.specs.declared.finding.Finding.{Finding}
-use Rattle.mk_cert.specs.Entry.{Entry, IsEntry, has_others, is_unwritten, lines_eq, lines_with, writes_in}
+use Rattle.mk_cert.specs.NodeRow.{NodeRow, IsEntry, has_others, is_unwritten, lines_eq, lines_with, writes_in}
 use Rattle.mk_cert.specs.Tests.{lacks_record, has_varying, has_other_commands}
 use Rattle.mk_cert.proofs.Entries.{same_writes}
 
@@ -32,22 +32,22 @@ is_none_none None e = refl
 is_none_none (Some a) e = absurd (let f : false ≡ true = e in cc)
 
 -- no record
-pub record_lacking : (x : Subject) (e : Entry) → IsEntry x e → lacks_record e ≡ true → HasNoRecord x e.number
+pub record_lacking : (x : Subject) (e : NodeRow) → IsEntry x e → lacks_record e ≡ true → HasNoRecord x e.number
 record_lacking x e is t =
     let both = and_both e.node.recipe (is_none e.recorded) t in
     (sym (ap (λ (n : Node). n.recipe) is.same_node) ∙ both.0, sym is.same_record ∙ is_none_none e.recorded both.1)
 
-pub record_there : (x : Subject) (e : Entry) → IsEntry x e → lacks_record e ≡ false → ¬ (HasNoRecord x e.number)
+pub record_there : (x : Subject) (e : NodeRow) → IsEntry x e → lacks_record e ≡ false → ¬ (HasNoRecord x e.number)
 record_there x e is f (recipe, none) =
     true≢false (sym (both_and e.node.recipe (is_none e.recorded) (ap (λ (n : Node). n.recipe) is.same_node ∙ recipe) (ap (λ (o : Option Record). is_none o) (is.same_record ∙ none))) ∙ f)
 
 -- varying commands
-pub varying_commands_there : (x : Subject) (e : Entry) → IsEntry x e → has_varying e ≡ true → HasVaryingCommands x e.number
+pub varying_commands_there : (x : Subject) (e : NodeRow) → IsEntry x e → has_varying e ≡ true → HasVaryingCommands x e.number
 varying_commands_there x e is t =
     let both = and_both e.node.recipe e.commands.varying t in
     (sym (ap (λ (n : Node). n.recipe) is.same_node) ∙ both.0, e.commands, is.same_commands, both.1)
 
-pub no_varying_commands : (x : Subject) (e : Entry) → IsEntry x e → has_varying e ≡ false → ¬ (HasVaryingCommands x e.number)
+pub no_varying_commands : (x : Subject) (e : NodeRow) → IsEntry x e → has_varying e ≡ false → ¬ (HasVaryingCommands x e.number)
 no_varying_commands x e is f (recipe, c, told, varying) =
     let same : Ok c ≡ Ok e.commands = sym told ∙ is.same_commands in
     let k : c ≡ e.commands = cc in
@@ -82,11 +82,11 @@ some_is None e = absurd (let f : false ≡ true = e in cc)
 some_is (Some a) e = (a, refl)
 
 -- what the record of a recipe says is written is what the recipe writes
-recorded_writes : (x : Subject) (e : Entry) → IsEntry x e → e.node.recipe ≡ true → writes_in e.recorded ≡ writes_of x e.number
+recorded_writes : (x : Subject) (e : NodeRow) → IsEntry x e → e.node.recipe ≡ true → writes_in e.recorded ≡ writes_of x e.number
 recorded_writes x e is recipe = sym (ap (λ b. cond b (writes_in e.recorded) []) recipe) ∙ same_writes x e is
 
 -- no target
-pub target_lacking : (x : Subject) (e : Entry) → IsEntry x e → e.unwritten ≡ true → LacksItsTarget x e.number
+pub target_lacking : (x : Subject) (e : NodeRow) → IsEntry x e → e.unwritten ≡ true → LacksItsTarget x e.number
 target_lacking x e is told =
     let t : is_unwritten e.node e.recorded ≡ true = sym is.same_unwritten ∙ told in
     let recipe = and_both e.node.recipe _ t in
@@ -100,15 +100,19 @@ target_lacking x e is told =
       λ h. true≢false (sym (has_true (writes_in e.recorded) e.node.name (subst (λ (n : Node). Has (writes_in e.recorded) n.name) (sym is.same_node) (subst (λ (fs : List (List ℕ)). Has fs (name_of x e.number)) (sym (recorded_writes x e is recipe.0)) h))) ∙ out),
     )
 
-pub target_there : (x : Subject) (e : Entry) → IsEntry x e → e.unwritten ≡ false → ¬ (LacksItsTarget x e.number)
+pub target_there : (x : Subject) (e : NodeRow) → IsEntry x e → e.unwritten ≡ false → ¬ (LacksItsTarget x e.number)
 target_there x e is told (recipe, (r, recorded), phony, out) =
     let f : is_unwritten e.node e.recorded ≡ false = sym is.same_unwritten ∙ told in
     let own : e.node.recipe ≡ true = ap (λ (n : Node). n.recipe) is.same_node ∙ recipe in
-    let unwritten : has_name (writes_in e.recorded) e.node.name ≡ false = ⊎_elim (λ t. absurd (out (subst (λ (fs : List (List ℕ)). Has fs (name_of x e.number)) (recorded_writes x e is own) (subst (λ (n : Node). Has (writes_in e.recorded) n.name) is.same_node (true_has (writes_in e.recorded) e.node.name t))))) (λ e. e) (cases_Bool (has_name (writes_in e.recorded) e.node.name)) in
+    let unwritten : has_name (writes_in e.recorded) e.node.name
+    ≡ false = ⊎_elim (λ t. absurd (out (subst (λ (fs : List (List ℕ)). Has fs (name_of x e.number))
+    (recorded_writes x e is own) (subst (λ (n : Node). Has (writes_in e.recorded) n.name) is.same_node
+    (true_has (writes_in e.recorded) e.node.name t))))) (λ e. e)
+    (cases_Bool (has_name (writes_in e.recorded) e.node.name)) in
     true≢false (sym (both_and e.node.recipe _ own (both_and (is_some e.recorded) _ (ap (λ (o : Option Record). is_some o) (is.same_record ∙ recorded)) (both_and (not e.node.phony) _ (ap (λ (n : Node). not n.phony) is.same_node ∙ ap (λ b. not b) phony) (ap (λ b. not b) unwritten)))) ∙ f)
 
--- a name that is told of a node is its name
-pub name_is : (x : Subject) (e : Entry) (name : List ℕ) → IsEntry x e → name ≡ e.node.name → name ≡ name_of x e.number
+-- the name in an entry is that of its node
+pub name_is : (x : Subject) (e : NodeRow) (name : List ℕ) → IsEntry x e → name ≡ e.node.name → name ≡ name_of x e.number
 name_is x e name is same = same ∙ ap (λ (n : Node). n.name) is.same_node
 
 -- lists of lines are equal just where the test says so
@@ -133,14 +137,14 @@ others_some (Some r) lines t = (r, refl, λ same. true≢false (sym (lines_equal
 others_from : (r : Record) (lines : List (List ℕ)) → ¬ (r.commands ≡ lines) → has_others (Some r) lines ≡ true
 others_from r lines differ = ⊎_elim (λ t. absurd (differ (lines_same r.commands lines t))) (λ f. ap (λ b. not b) f) (cases_Bool (lines_eq r.commands lines))
 
-pub other_commands_there : (x : Subject) (e : Entry) → IsEntry x e → has_other_commands e ≡ true → HasOtherCommands x e.number
+pub other_commands_there : (x : Subject) (e : NodeRow) → IsEntry x e → has_other_commands e ≡ true → HasOtherCommands x e.number
 other_commands_there x e is t =
     let recipe = and_both e.node.recipe _ t in
     let varying = and_both (not e.commands.varying) _ recipe.1 in
     let others = others_some e.recorded e.commands.lines (sym is.same_others ∙ varying.1) in
     (sym (ap (λ (n : Node). n.recipe) is.same_node) ∙ recipe.0, others.0, sym is.same_record ∙ others.1, e.commands, is.same_commands, not_true e.commands.varying varying.0, others.2)
 
-pub no_other_commands : (x : Subject) (e : Entry) → IsEntry x e → has_other_commands e ≡ false → ¬ (HasOtherCommands x e.number)
+pub no_other_commands : (x : Subject) (e : NodeRow) → IsEntry x e → has_other_commands e ≡ false → ¬ (HasOtherCommands x e.number)
 no_other_commands x e is f (recipe, r, recorded, c, told, steady, differ) =
     let same : Ok c ≡ Ok e.commands = sym told ∙ is.same_commands in
     let k : c ≡ e.commands = cc in
@@ -169,12 +173,12 @@ pub lines_differ : (xs ys : List (List ℕ)) → ¬ (length xs ≡ length ys) �
 lines_differ xs ys differ = ⊎_elim (λ t. absurd (differ (ap (λ (l : List (List ℕ)). length l) (lines_same xs ys t)))) (λ f. sym f) (cases_Bool (lines_eq xs ys))
 
 -- the selection that may be found of a node is the one that is looked up
-pub selection_is : (x : Subject) (e : Entry) (o : Option (List ℕ)) (old new : List Finding) → IsEntry x e → e.chosen_after ≡ o → Adds x (map (λ c. selection e.number c) (option_to_list o)) old new → Adds x (map (λ c. selection e.number c) (choice_with_writes x e.number)) old new
+pub selection_is : (x : Subject) (e : NodeRow) (o : Option (List ℕ)) (old new : List Finding) → IsEntry x e → e.chosen_after ≡ o → Adds x (map (λ c. selection e.number c) (option_to_list o)) old new → Adds x (map (λ c. selection e.number c) (choice_with_writes x e.number)) old new
 selection_is x e o old new is same h = subst (λ (k : Option (List ℕ)). Adds x (map (λ c. selection e.number c) (option_to_list k)) old new) (sym same ∙ is.same_choice_after) h
 
 -- another choice, and the same one
-pub other_choice : (x : Subject) (e : Entry) (c : List ℕ) → IsEntry x e → e.chosen_after ≡ Some c → ¬ (e.chosen ≡ Some c) → ChoosesOtherwise x e.number c
+pub other_choice : (x : Subject) (e : NodeRow) (c : List ℕ) → IsEntry x e → e.chosen_after ≡ Some c → ¬ (e.chosen ≡ Some c) → ChoosesOtherwise x e.number c
 other_choice x e c is after differ = (sym is.same_choice_after ∙ after, λ h. differ (is.same_choice ∙ h))
 
-pub same_choice_stays : (x : Subject) (e : Entry) (c : List ℕ) → IsEntry x e → e.chosen ≡ Some c → ¬ (ChoosesOtherwise x e.number c)
+pub same_choice_stays : (x : Subject) (e : NodeRow) (c : List ℕ) → IsEntry x e → e.chosen ≡ Some c → ¬ (ChoosesOtherwise x e.number c)
 same_choice_stays x e c is same (after, differ) = differ (sym is.same_choice ∙ same)

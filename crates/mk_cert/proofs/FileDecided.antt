@@ -14,7 +14,7 @@ use Rattle.mk_foot.specs.Setting as foot
 use Rattle.mk_foot.specs.Setting.{is_given}
 use Rattle.mk_cert.specs.Subject.{Subject, writes_of}
 use Rattle.mk_cert.specs.Conditions.{WritesWhatIsGiven, ReadsItsOwn}
-use Rattle.mk_cert.specs.Entry.{writers_of}
+use Rattle.mk_cert.specs.NodeRow.{writers_of}
 use Rattle.mk_cert.specs.FileTests.{is_taken}
 use Rattle.mk_cert.proofs.Sound.{writer_in_order}
 use Rattle.mk_cert.proofs.Decided.{has_decides}

@@ -2,7 +2,7 @@
 use Rattle.std.proofs.Common.{◌≡◌, List, [], ◌∷◌, ◌++◌, Bool, true, false, cond, map, inl, inr, ⊎_elim, refl, subst}
 use Rattle.std.specs.Prelude.{filter}
 use Rattle.mk_graph.specs.Membership.{Has}
-use Rattle.mk_cert.specs.Verdict.{IsFirst}
+use Rattle.mk_cert.specs.Verdict.{IsFirstIn}
 
 module _ {A : Type 0} where
   -- it holds of none
@@ -10,12 +10,12 @@ module _ {A : Type 0} where
   NoneOf P xs = (x : A) → Has xs x → ¬ (P x)
 
   -- the first of a part, and of what stands behind a part without one
-  pub first_in : (P : A → Type 0) (part rest : List A) (x : A) → IsFirst P part x → IsFirst P (part ++ rest) x
+  pub first_in : (P : A → Type 0) (part rest : List A) (x : A) → IsFirstIn P part x → IsFirstIn P (part ++ rest) x
   first_in P [] rest x h = absurd h
   first_in P (y ∷ part) rest x (inl here) = inl here
   first_in P (y ∷ part) rest x (inr (not, more)) = inr (not, first_in P part rest x more)
 
-  pub first_behind : (P : A → Type 0) (part rest : List A) (x : A) → NoneOf P part → IsFirst P rest x → IsFirst P (part ++ rest) x
+  pub first_behind : (P : A → Type 0) (part rest : List A) (x : A) → NoneOf P part → IsFirstIn P rest x → IsFirstIn P (part ++ rest) x
   first_behind P [] rest x none h = h
   first_behind P (y ∷ part) rest x none h = inr (none y (inl refl), first_behind P part rest x (λ z stands. none z (inr stands)) h)
 
@@ -26,7 +26,7 @@ module _ {A : Type 0} where
 
   -- what is left of a list decides
   pub record Left (P : A → Type 0) (rest all : List A) : Type 0 where
-    pub first : (x : A) → IsFirst P rest x → IsFirst P all x
+    pub first : (x : A) → IsFirstIn P rest x → IsFirstIn P all x
     pub none : NoneOf P rest → NoneOf P all
 
   pub left_all : (P : A → Type 0) (all : List A) → Left P all all
@@ -38,7 +38,7 @@ module _ {A : Type 0} where
     none = λ h. left.none (λ y stands. ⊎_elim (λ here. subst (λ (z : A). ¬ (P z)) here not) (λ there. h y there) stands);
   }
 
-  pub left_here : (P : A → Type 0) (x : A) (rest all : List A) → Left P (x ∷ rest) all → P x → IsFirst P all x
+  pub left_here : (P : A → Type 0) (x : A) (rest all : List A) → Left P (x ∷ rest) all → P x → IsFirstIn P all x
   left_here P x rest all left holds = left.first x (inl (holds, refl))
 
   pub left_part : (P : A → Type 0) (part rest all : List A) → Left P (part ++ rest) all → NoneOf P part → Left P rest all
@@ -47,7 +47,7 @@ module _ {A : Type 0} where
     none = λ h. left.none (none_of_both P part rest none h);
   }
 
-  pub left_in : (P : A → Type 0) (part rest all : List A) (x : A) → Left P (part ++ rest) all → IsFirst P part x → IsFirst P all x
+  pub left_in : (P : A → Type 0) (part rest all : List A) (x : A) → Left P (part ++ rest) all → IsFirstIn P part x → IsFirstIn P all x
   left_in P part rest all x left h = left.first x (first_in P part rest x h)
 
   pub left_none : (P : A → Type 0) (all : List A) → Left P [] all → NoneOf P all

@@ -9,10 +9,10 @@ use Rattle.mk_lines.specs.Names.{has_name, with_name}
 use Rattle.mk_graph.specs.Graph.{IsGraph}
 use Rattle.mk_graph.specs.GrowthLaws.{NamesHaveOneNumber}
 use Rattle.mk_graph.specs.Membership.{Has}
-use Rattle.mk_ways.specs.Certificate.{Way}
+use Rattle.mk_cert_text.specs.Certificate.{Way}
 use Rattle.mk_cert.specs.Subject.{Subject, name_of}
 use Rattle.mk_cert.specs.Conditions.{IsRecipe}
-use Rattle.mk_cert.specs.Links.{AreSeen}
+use Rattle.mk_cert.specs.WayTables.{AreSeen}
 use Rattle.mk_cert.specs.Verdict.{IsGood, HasEntry, MayStand, NoneBad, IsFirstBad}
 use Rattle.mk_cert.specs.Checks.{Judges, HasSets}
 use Rattle.mk_cert.proofs.Walks.{recipe_is_node}

@@ -12,8 +12,8 @@ use Rattle.std.proofs.lemmas.Slice.Eq.{bytes_eq-Decides}
 use Rattle.mk_lines.specs.Names.{has_name}
 use Rattle.mk_graph.specs.Membership.{Has}
 use Rattle.mk_graph.specs.Serial.{serial_order}
-use Rattle.mk_cert.specs.Entry.{writers_of}
-use Rattle.mk_cert.specs.Known.{Known, StandAt, all_names, known_by, known_of}
+use Rattle.mk_cert.specs.NodeRow.{writers_of}
+use Rattle.mk_cert.specs.FileInfo.{FileInfo, StandAt, all_names, known_by, known_of}
 use Rattle.mk_cert.specs.Subject.{Subject, writes_of}
 use Rattle.mk_cert.proofs.Decided.{has_decides}
 
@@ -110,24 +110,24 @@ not_spelled (key ∷ keys) f none h = by (bytes_eq f key.now) refl none (not_spe
     by false e k later (inr there) = later k there
 
 -- at a place of some files
-pub record FileAt (names : List (List ℕ)) (known : List Known) (row : List ℕ) (files : List (List ℕ)) (i : ℕ) : Type 0 where
+pub record FileAt (names : List (List ℕ)) (known : List FileInfo) (row : List ℕ) (files : List (List ℕ)) (i : ℕ) : Type 0 where
   pub place : i < length row
   pub within : get_or row i 0 < length known
   pub here : slice_get names (get_or row i 0) ≡ Some (get_or files i [])
 
-pub file_at : (by : List ℕ → Known) (names : List (List ℕ)) (known : List Known) (row : List ℕ) (files : List (List ℕ)) (i : ℕ) → known ≡ map by names → StandAt names row files → i < length files → FileAt names known row files i
+pub file_at : (by : List ℕ → FileInfo) (names : List (List ℕ)) (known : List FileInfo) (row : List ℕ) (files : List (List ℕ)) (i : ℕ) → known ≡ map by names → StandAt names row files → i < length files → FileAt names known row files i
 file_at by names known row files i all h lt =
     let here = stands names row files i lt h in
     record {
       place = omega (arith, as_many names row files h);
-      within = omega (arith, slice_get_within names (get_or row i 0) (get_or files i []) here, ap (λ (l : List Known). length l) all, length-map names by);
+      within = omega (arith, slice_get_within names (get_or row i 0) (get_or files i []) here, ap (λ (l : List FileInfo). length l) all, length-map names by);
       here = here;
     }
 
 -- what is known of the file at a place
-pub known_at : (by : List ℕ → Known) (names : List (List ℕ)) (known : List Known) (p : ℕ) (f : List ℕ) (d : Known) → known ≡ map by names → slice_get names p ≡ Some f → get_or known p d ≡ by f
+pub known_at : (by : List ℕ → FileInfo) (names : List (List ℕ)) (known : List FileInfo) (p : ℕ) (f : List ℕ) (d : FileInfo) → known ≡ map by names → slice_get names p ≡ Some f → get_or known p d ≡ by f
 known_at by names known p f d all at =
-    get_or_from_slice_get known p (by f) d (ap (λ (l : List Known). slice_get l p) all ∙ (slice_get-map by names p ∙ ap (λ (o : Option (List ℕ)). option_map by o) at))
+    get_or_from_slice_get known p (by f) d (ap (λ (l : List FileInfo). slice_get l p) all ∙ (slice_get-map by names p ∙ ap (λ (o : Option (List ℕ)). option_map by o) at))
 
 -- a file that no place has is written by no recipe
 pub no_writers : (x : Subject) (f : List ℕ) → ((t : ℕ) → ¬ (Has (writes_of x t) f)) → writers_of x f ≡ []

@@ -8,7 +8,7 @@ use Rattle.mk_graph.specs.Serial.{serial_order}
 use Rattle.mk_cert.specs.Subject.{Subject, writes_of}
 use Rattle.mk_cert.specs.Candidates.{Candidate, by_number, pairs_of_writers, static_candidates, two_writers}
 use Rattle.mk_cert.specs.Listing.{Lists, nothing, drops}
-use Rattle.mk_cert.specs.Questions.{asked, asked_before_pairs, asked_behind_pairs, asked_of, before_pairs, behind_pairs, found_of, pairs_with}
+use Rattle.mk_cert.specs.NodeChecks.{candidates_of_check, candidates_before_pairs, candidates_after_pairs, candidates_of_node, before_pairs, behind_pairs, found_of, pairs_with}
 use Rattle.mk_cert.proofs.Adding.{drop_past, lists_append}
 use Rattle.mk_cert.proofs.Behind.{behind_after}
 
@@ -91,7 +91,7 @@ pairs_from x (suc left) i distinct many each =
     let n = get_or order i 0 in
     let low : i < length order = omega (arith, many) in
     let here : FindsNothingOf x n = each_at (FindsNothingOf x) order i 0 low each in
-    let behind_it : Lists x (pairs_with x n) [] = front x (pairs_with x n) (asked_of x behind_pairs n) (back x (asked_of x before_pairs n) (pairs_with x n ++ asked_of x behind_pairs n) here) in
+    let behind_it : Lists x (pairs_with x n) [] = front x (pairs_with x n) (candidates_of_node x behind_pairs n) (back x (candidates_of_node x before_pairs n) (pairs_with x n ++ candidates_of_node x behind_pairs n) here) in
     let next : (i + 1) + left ≡ length order = omega (arith, many) in
     subst (λ (l : List Candidate). Lists x l []) (sym (pairs_cut x i distinct low)) (lists_append x behind_it (pairs_from x left (i + 1) distinct next each))
 
@@ -109,25 +109,25 @@ pairs_each x (suc left) i distinct many none =
     subst (Each (λ m. Lists x (pairs_with x m) [])) (sym (drop_more order i 0 low)) (front x (pairs_with x n) (pairs_of_writers x (drop (i + 1) order)) both, more)
 
 -- of all of them nothing is found just where nothing is found of any node
-joined : (x : Subject) → static_candidates x ≡ asked_before_pairs x ++ (pairs_of_writers x (serial_order x.graph) ++ asked_behind_pairs x)
+joined : (x : Subject) → static_candidates x ≡ candidates_before_pairs x ++ (pairs_of_writers x (serial_order x.graph) ++ candidates_after_pairs x)
 joined x = flat_map-append (λ (part : List Candidate). part) (take 4 (by_number x)) (drop 4 (by_number x))
 
 pub nothing_found : (x : Subject) → IsDistinct (serial_order x.graph) → Each (FindsNothingOf x) (serial_order x.graph) → Lists x (static_candidates x) []
 nothing_found x distinct each =
     let order = serial_order x.graph in
-    let before = each_of order (λ n none. front x (asked_of x before_pairs n) (pairs_with x n ++ asked_of x behind_pairs n) none) each in
-    let behind = each_of order (λ n none. back x (pairs_with x n) (asked_of x behind_pairs n) (back x (asked_of x before_pairs n) (pairs_with x n ++ asked_of x behind_pairs n) none)) each in
+    let before = each_of order (λ n none. front x (candidates_of_node x before_pairs n) (pairs_with x n ++ candidates_of_node x behind_pairs n) none) each in
+    let behind = each_of order (λ n none. back x (pairs_with x n) (candidates_of_node x behind_pairs n) (back x (candidates_of_node x before_pairs n) (pairs_with x n ++ candidates_of_node x behind_pairs n) none)) each in
     let pairs = pairs_from x (length order) 0 distinct (omega arith) each in
-    subst (λ (l : List Candidate). Lists x l []) (sym (joined x)) (lists_append x (all_at_once x (asked x) before_pairs order before) (lists_append x pairs (all_at_once x (asked x) behind_pairs order behind)))
+    subst (λ (l : List Candidate). Lists x l []) (sym (joined x)) (lists_append x (all_at_once x (candidates_of_check x) before_pairs order before) (lists_append x pairs (all_at_once x (candidates_of_check x) behind_pairs order behind)))
 
 pub nothing_of_each : (x : Subject) → IsDistinct (serial_order x.graph) → Lists x (static_candidates x) [] → Each (FindsNothingOf x) (serial_order x.graph)
 nothing_of_each x distinct none =
     let order = serial_order x.graph in
     let pairs = pairs_of_writers x order in
-    let then = asked_behind_pairs x in
-    let all : Lists x (asked_before_pairs x ++ (pairs ++ then)) [] = subst (λ (l : List Candidate). Lists x l []) (joined x) none in
-    let rest : Lists x (pairs ++ then) [] = back x (asked_before_pairs x) (pairs ++ then) all in
-    let before = one_by_one x (asked x) before_pairs order (front x (asked_before_pairs x) (pairs ++ then) all) in
+    let then = candidates_after_pairs x in
+    let all : Lists x (candidates_before_pairs x ++ (pairs ++ then)) [] = subst (λ (l : List Candidate). Lists x l []) (joined x) none in
+    let rest : Lists x (pairs ++ then) [] = back x (candidates_before_pairs x) (pairs ++ then) all in
+    let before = one_by_one x (candidates_of_check x) before_pairs order (front x (candidates_before_pairs x) (pairs ++ then) all) in
     let between = pairs_each x (length order) 0 distinct (omega arith) (front x pairs then rest) in
-    let behind = one_by_one x (asked x) behind_pairs order (back x pairs then rest) in
+    let behind = one_by_one x (candidates_of_check x) behind_pairs order (back x pairs then rest) in
     each_with order (λ n one others. lists_append x one others) before (each_with order (λ n one others. lists_append x one others) between behind)

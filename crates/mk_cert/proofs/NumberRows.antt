@@ -3,7 +3,7 @@ use Rattle.std.proofs.Common.{◌≡◌, ℕ, zero, suc, ◌+◌, ◌-◌, ◌<�
 use Rattle.std.specs.List.{concat, slice_range}
 use Rattle.std.proofs.Math.Seq.{drop-append_seam, take-append_seam}
 use Rattle.std.proofs.lemmas.List.{drop_more, take_more, get_or_past}
-use Rattle.mk_ways.specs.Packing.{cut_from, ends_from}
+use Rattle.mk_cert_text.specs.Packing.{cut_from, ends_from}
 use Rattle.mk_cert.specs.NumberRows.{AreRows}
 
 concat-append : (xs ys : List (List ℕ)) → concat (xs ++ ys) ≡ concat xs ++ concat ys

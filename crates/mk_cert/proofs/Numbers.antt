@@ -10,7 +10,7 @@ use Rattle.mk_graph.specs.declared.node.Node.{Node}
 use Rattle.mk_graph.specs.Graph.{IsGraph, no_node}
 use Rattle.mk_graph.specs.GrowthLaws.{NamesHaveOneNumber}
 use Rattle.mk_graph.specs.Membership.{Has, IsDistinct}
-use Rattle.mk_cert.specs.Known.{all_names}
+use Rattle.mk_cert.specs.FileInfo.{all_names}
 use Rattle.mk_cert.specs.Subject.{Subject, name_of}
 use Rattle.mk_cert.proofs.Decided.{has_decides}
 use Rattle.mk_cert.proofs.Rows.{not_before}

@@ -2,20 +2,20 @@
 use Rattle.std.proofs.Common.{◌≡◌, List, [], ◌∷◌, ◌++◌, inl, inr, refl, sym, ap, subst, ◌∙◌}
 use Rattle.std.specs.Prelude.{⊤, Result, Ok, Err}
 use Rattle.mk_graph.specs.Membership.{Has}
-use Rattle.mk_ways.specs.Certificate.{Way, Certificate}
+use Rattle.mk_cert_text.specs.Certificate.{Way, Certificate}
 use Rattle.mk_cert.specs.declared.finding.Finding.{Finding}
 use Rattle.mk_cert.specs.declared.fault.CertFault.{CertFault}
 use Rattle.mk_cert.specs.declared.fault.CertFault.TheVariants.{OtherGoals, NoWay, BadWay, Static, Memory}
 use Rattle.mk_cert.specs.Subject.{Subject, name_of}
-use Rattle.mk_cert.specs.Candidates.{Candidate, Holds, static_candidates, race_candidates}
+use Rattle.mk_cert.specs.Candidates.{Candidate, IsFinding, static_candidates, race_candidates}
 use Rattle.mk_cert.specs.Listed.{named}
-use Rattle.mk_cert.specs.Verdict.{IsFirst, NothingFound, NoneBad, IsFirstBad, Read, LacksWay, NoneLacks, Verifies}
+use Rattle.mk_cert.specs.Verdict.{IsFirstIn, NothingFound, NoneBad, IsFirstBad, Read, LacksWay, NoneLacks, Verifies}
 use Rattle.mk_cert.proofs.FirstOf.{none_of_both}
 use Rattle.mk_cert.proofs.Lists.{nothing_holds}
 
 module _ {A : Type 0} where
   -- there is one first
-  one_first : (P : A → Type 0) (xs : List A) (a b : A) → IsFirst P xs a → IsFirst P xs b → a ≡ b
+  one_first : (P : A → Type 0) (xs : List A) (a b : A) → IsFirstIn P xs a → IsFirstIn P xs b → a ≡ b
   one_first P [] a b h k = absurd h
   one_first P (x ∷ xs) a b (inl h) (inl k) = sym h.1 ∙ k.1
   one_first P (x ∷ xs) a b (inl h) (inr k) = absurd (k.0 h.0)
@@ -23,7 +23,7 @@ module _ {A : Type 0} where
   one_first P (x ∷ xs) a b (inr h) (inr k) = one_first P xs a b h.1 k.1
 
   -- of which it holds
-  first_holds : (P : A → Type 0) (xs : List A) (a : A) → IsFirst P xs a → Has xs a × P a
+  first_holds : (P : A → Type 0) (xs : List A) (a : A) → IsFirstIn P xs a → Has xs a × P a
   first_holds P [] a h = absurd h
   first_holds P (x ∷ xs) a (inl h) = (inl h.1, subst P h.1 h.0)
   first_holds P (x ∷ xs) a (inr h) = let found = first_holds P xs a h.1 in (inr found.0, found.1)
@@ -41,12 +41,12 @@ bad_or_none x before [] w h none = h
 bad_or_none x before (u ∷ ways) w (inl h) none = h.0 none.0
 bad_or_none x before (u ∷ ways) w (inr h) none = bad_or_none x (u ∷ before) ways w h.1 none.1
 
-found_or_nothing : (x : Subject) (k : Candidate) → IsFirst (Holds x) (static_candidates x ++ race_candidates x) k → ¬ (NothingFound x)
+found_or_nothing : (x : Subject) (k : Candidate) → IsFirstIn (IsFinding x) (static_candidates x ++ race_candidates x) k → ¬ (NothingFound x)
 found_or_nothing x k first nothing =
-    let it = first_holds (Holds x) (static_candidates x ++ race_candidates x) k first in
-    none_of_both (Holds x) (static_candidates x) (race_candidates x) (nothing_holds x (static_candidates x) nothing.0) (nothing_holds x (race_candidates x) nothing.1) k it.0 it.1
+    let it = first_holds (IsFinding x) (static_candidates x ++ race_candidates x) k first in
+    none_of_both (IsFinding x) (static_candidates x) (race_candidates x) (nothing_holds x (static_candidates x) nothing.0) (nothing_holds x (race_candidates x) nothing.1) k it.0 it.1
 
-lacking_or_none : (x : Subject) (ways : List Way) (reads : List Read) (r : Read) → IsFirst (LacksWay x ways) reads r → ¬ (NoneLacks x ways)
+lacking_or_none : (x : Subject) (ways : List Way) (reads : List Read) (r : Read) → IsFirstIn (LacksWay x ways) reads r → ¬ (NoneLacks x ways)
 lacking_or_none x ways reads r first none = let it = first_holds (LacksWay x ways) reads r first in it.1.1 (none r it.1.0)
 
 pub one_answer : (x : Subject) (c : Certificate) (a b : Result ⊤ CertFault) → Verifies x c a → Verifies x c b → a ≡ b
@@ -66,7 +66,7 @@ one_answer x c (Err OtherGoals) (Err Memory) h k = absurd k
 one_answer x c (Err (Static f)) (Ok done) h k = absurd (found_or_nothing x h.1 h.2 k.1)
 one_answer x c (Err (Static f)) (Err OtherGoals) h k = absurd (k h.0)
 one_answer x c (Err (Static f)) (Err (Static g)) h k =
-    let same : h.1 ≡ k.1 = one_first (Holds x) (static_candidates x ++ race_candidates x) h.1 k.1 h.2 k.2 in
+    let same : h.1 ≡ k.1 = one_first (IsFinding x) (static_candidates x ++ race_candidates x) h.1 k.1 h.2 k.2 in
     ap (λ (found : Finding). Err (Static found)) (h.3 ∙ (ap (named x) same ∙ sym k.3))
 one_answer x c (Err (Static f)) (Err (BadWay r g)) h k = absurd (found_or_nothing x h.1 h.2 k.1)
 one_answer x c (Err (Static f)) (Err (NoWay r g)) h k = absurd (found_or_nothing x h.1 h.2 k.1)

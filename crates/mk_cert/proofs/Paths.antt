@@ -3,8 +3,8 @@ use Rattle.std.proofs.Common.{◌≡◌, ℕ, List, [], ◌∷◌, refl}
 use Rattle.mk_graph.specs.Graph.{Graph}
 use Rattle.mk_graph.specs.Setting.{FileName, Setting}
 use Rattle.mk_graph.specs.Ways.{Way, over, written, source, always, Carries}
-use Rattle.mk_ways.specs.declared.certificate.Finish.{Finish}
-use Rattle.mk_ways.specs.declared.certificate.Finish.TheVariants.{Written, Source, Always}
+use Rattle.mk_cert_text.specs.declared.certificate.Finish.{Finish}
+use Rattle.mk_cert_text.specs.declared.certificate.Finish.TheVariants.{Written, Source, Always}
 use Rattle.mk_cert.specs.Paths.{AreCarried, last_of, EndsAt, IsPath}
 
 -- a path with others is a way

@@ -8,7 +8,7 @@ use Rattle.mk_graph.specs.Graph.{node}
 use Rattle.mk_cert.specs.Subject.{Subject, footprints, name_of, reads_of}
 use Rattle.mk_cert.specs.Conditions.{IsRecipe}
 use Rattle.mk_cert.specs.Cursor.{IsReadOf}
-use Rattle.mk_cert.specs.Known.{known_of}
+use Rattle.mk_cert.specs.FileInfo.{known_of}
 use Rattle.mk_cert.specs.Settled.{is_settled}
 use Rattle.mk_cert.specs.Target.{Target, target_of, unsettled_of}
 use Rattle.mk_cert.proofs.FileDecided.{at_place}
@@ -31,7 +31,7 @@ none_read false fs f h = absurd h
 pub reader_is_recipe : (x : Subject) (t : ℕ) (f : List ℕ) → Has (reads_of x t) f → IsRecipe x t
 reader_is_recipe x t f h = none_read (node x.graph t).recipe ((footprints x.setting).reads (name_of x t)) f h
 
--- names that are told to be no others are the same
+-- names that aren't found to differ are the same
 pub same_names : (a b : List ℕ) (differ : Bool) → differ ≡ not (bytes_eq a b) → differ ≡ false → a ≡ b
 same_names a b differ told same = (bytes_eq-Decides a b).0 (not-false (bytes_eq a b) (sym told ∙ same))
 

@@ -56,7 +56,14 @@ module _ (x : Subject) (is : IsGraph x.graph) (subject : IsSubject x) (reaches :
     by_some None c few all =
         absurd (none n c (holding_listed x (static_candidates x) kept lists (selection n c) (stands n c low all) (all, λ e. let k : None ≡ Some c = sym few ∙ (same_without n ∙ e) in absurd cc)))
     by_some (Some d) c few all =
-        ⊎_elim (λ same. ap Some ((bytes_eq-Decides d c).0 same)) (λ differ. absurd (none n c (holding_listed x (static_candidates x) kept lists (selection n c) (stands n c low all) (all, λ e. let k : Some d ≡ Some c = sym few ∙ (same_without n ∙ e) in let s : d ≡ c = cc in true≢false (sym ((bytes_eq-Decides d c).1 s) ∙ differ))))) (cases_Bool (bytes_eq d c))
+        ⊎_elim (λ same. ap Some ((bytes_eq-Decides d c).0 same))
+        (λ differ. absurd (none n c (holding_listed x (static_candidates x) kept lists (selection n c)
+        (stands n c low all) (
+          all,
+          λ e. let k : Some d ≡ Some c = sym few
+              ∙ (same_without n ∙ e) in let s : d ≡ c = cc in true≢false
+              (sym ((bytes_eq-Decides d c).1 s) ∙ differ),
+        )))) (cases_Bool (bytes_eq d c))
 
     by_all : (o : Option (List ℕ)) → with_all n ≡ o → without n ≡ with_all n
     by_all None all = by_none (without n) refl all ∙ sym all

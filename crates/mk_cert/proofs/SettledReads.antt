@@ -15,7 +15,7 @@ use Rattle.mk_graph.specs.Ways.{CanChange}
 use Rattle.mk_cert.specs.Subject.{Subject, footprints, reads_of, writes_of}
 use Rattle.mk_cert.specs.Candidates.{race}
 use Rattle.mk_cert.specs.Conditions.{ReadsItsOwn, ReadsWhatIsUnknown}
-use Rattle.mk_cert.specs.Known.{Known, StandAt, known_of}
+use Rattle.mk_cert.specs.FileInfo.{FileInfo, StandAt, known_of}
 use Rattle.mk_cert.specs.Listing.{Lists, nothing}
 use Rattle.mk_cert.specs.Settled.{is_settled, unsettled}
 use Rattle.mk_cert.specs.Target.{Target, target_of, unsettled_of}
@@ -34,12 +34,12 @@ contrary true h = refl
 contrary false h = absurd (true≢false h)
 
 -- what is known of a settled file
-pub record IsSettled (k : Known) : Type 0 where
+pub record IsSettled (k : FileInfo) : Type 0 where
   pub given : k.given ≡ true
   pub fixed : k.editable ≡ false
   pub unwritten : k.writers ≡ []
 
-pub settled : (k : Known) → not (is_settled k) ≡ false → IsSettled k
+pub settled : (k : FileInfo) → not (is_settled k) ≡ false → IsSettled k
 settled k h = let p = parts k.given k.editable k.writers (contrary (is_settled k) h) in record { given = p.0; fixed = p.1.0; unwritten = p.1.1 }
 
 module _ (x : Subject) (f : List ℕ) (is : IsSettled (known_of x f)) where
@@ -111,10 +111,10 @@ one_stands names places files i lt h =
     sym (get_or-map (λ (p : ℕ). slice_get names p) places i 0 None low) ∙ (ap (λ (l : List (Option (List ℕ))). get_or l i None) h ∙ get_or-map (λ (f : List ℕ). Some f) files i [] None lt)
 
 -- the places so far of those that aren't settled, by what is known of the files with the names
-abbrev pub SoFar : List Known → List ℕ → ℕ → List ℕ → Type 0
-SoFar known places i some = (by : List ℕ → Known) (names files : List (List ℕ)) → known ≡ map by names → StandAt names places files → StandAt names some (unsettled by (take i files))
+abbrev pub SoFar : List FileInfo → List ℕ → ℕ → List ℕ → Type 0
+SoFar known places i some = (by : List ℕ → FileInfo) (names files : List (List ℕ)) → known ≡ map by names → StandAt names places files → StandAt names some (unsettled by (take i files))
 
-module _ (by : List ℕ → Known) (names files : List (List ℕ)) where
+module _ (by : List ℕ → FileInfo) (names files : List (List ℕ)) where
   abbrev tells : List ℕ → Bool
   tells f = not (is_settled (by f))
 
@@ -128,12 +128,12 @@ module _ (by : List ℕ → Known) (names files : List (List ℕ)) where
   more_files i lt = ap (unsettled by) (take_more files i [] lt) ∙ filter-append tells (take i files) (at i ∷ [])
 
   -- what is known of the file at a place
-  known_at : (known : List Known) (places : List ℕ) (i : ℕ) → i < length places → known ≡ map by names → StandAt names places files → slice_get known (get_or places i 0) ≡ Some (by (at i))
+  known_at : (known : List FileInfo) (places : List ℕ) (i : ℕ) → i < length places → known ≡ map by names → StandAt names places files → slice_get known (get_or places i 0) ≡ Some (by (at i))
   known_at known places i lt all h =
       let low : i < length files = omega (arith, many_stand names places files h) in
-      ap (λ (l : List Known). slice_get l (get_or places i 0)) all ∙ (slice_get-map by names (get_or places i 0) ∙ ap (option_of) (one_stands names places files i low h))
+      ap (λ (l : List FileInfo). slice_get l (get_or places i 0)) all ∙ (slice_get-map by names (get_or places i 0) ∙ ap (option_of) (one_stands names places files i low h))
     where
-      option_of : Option (List ℕ) → Option Known
+      option_of : Option (List ℕ) → Option FileInfo
       option_of None = None
       option_of (Some g) = Some (by g)
 
@@ -142,7 +142,11 @@ module _ (by : List ℕ → Known) (names files : List (List ℕ)) where
   place_more places some new i lt pushed free h so_far =
       let low : i < length files = omega (arith, many_stand names places files h) in
       let one : unsettled by (take i files) ++ at i ∷ [] ≡ unsettled by (take (i + 1) files) = ap (λ (l : List (List ℕ)). unsettled by (take i files) ++ l) (sym (alone_kept tells (at i) (ap (λ b. not b) free))) ∙ sym (more_files i low) in
-      ap (map shown) pushed ∙ (map_push shown some (get_or places i 0) ∙ (ap (λ (l : List (Option (List ℕ))). l ++ shown (get_or places i 0) ∷ []) so_far ∙ (ap (λ (v : Option (List ℕ)). map Some (unsettled by (take i files)) ++ v ∷ []) (one_stands names places files i low h) ∙ (sym (map_push (λ (f : List ℕ). Some f) (unsettled by (take i files)) (at i)) ∙ ap (map (λ (f : List ℕ). Some f)) one))))
+      ap (map shown) pushed ∙ (map_push shown some (get_or places i 0)
+      ∙ (ap (λ (l : List (Option (List ℕ))). l ++ shown (get_or places i 0) ∷ []) so_far
+      ∙ (ap (λ (v : Option (List ℕ)). map Some (unsettled by (take i files)) ++ v ∷ [])
+      (one_stands names places files i low h) ∙ (sym (map_push (λ (f : List ℕ). Some f)
+      (unsettled by (take i files)) (at i)) ∙ ap (map (λ (f : List ℕ). Some f)) one))))
 
   -- that of a settled one isn't
   place_past : (places some : List ℕ) (i : ℕ) → i < length places → is_settled (by (at i)) ≡ true → StandAt names places files → StandAt names some (unsettled by (take i files)) → StandAt names some (unsettled by (take (i + 1) files))
@@ -152,27 +156,29 @@ module _ (by : List ℕ → Known) (names files : List (List ℕ)) where
       so_far ∙ ap (map (λ (f : List ℕ). Some f)) none
 
 -- one place more, by what is told of what is known at it
-pub so_far_more : (known : List Known) (places some new : List ℕ) (i : ℕ) (told : Bool) → i < length places → ((k : Known) → slice_get known (get_or places i 0) ≡ Some k → told ≡ is_settled k) → told ≡ false → new ≡ some ++ get_or places i 0 ∷ [] → SoFar known places i some → SoFar known places (i + 1) new
+pub so_far_more : (known : List FileInfo) (places some new : List ℕ) (i : ℕ) (told : Bool) → i < length places
+    → ((k : FileInfo) → slice_get known (get_or places i 0) ≡ Some k → told ≡ is_settled k) → told ≡ false
+    → new ≡ some ++ get_or places i 0 ∷ [] → SoFar known places i some → SoFar known places (i + 1) new
 so_far_more known places some new i told lt tells free pushed before = λ by names files all h.
     place_more by names files places some new i lt pushed (sym (tells (by (get_or files i [])) (known_at by names files known places i lt all h)) ∙ free) h (before by names files all h)
 
-pub so_far_past : (known : List Known) (places some : List ℕ) (i : ℕ) (told : Bool) → i < length places → ((k : Known) → slice_get known (get_or places i 0) ≡ Some k → told ≡ is_settled k) → told ≡ true → SoFar known places i some → SoFar known places (i + 1) some
+pub so_far_past : (known : List FileInfo) (places some : List ℕ) (i : ℕ) (told : Bool) → i < length places → ((k : FileInfo) → slice_get known (get_or places i 0) ≡ Some k → told ≡ is_settled k) → told ≡ true → SoFar known places i some → SoFar known places (i + 1) some
 so_far_past known places some i told lt tells closed before = λ by names files all h.
     place_past by names files places some i lt (sym (tells (by (get_or files i [])) (known_at by names files known places i lt all h)) ∙ closed) h (before by names files all h)
 
 -- the places at which those stand that aren't settled
-abbrev pub Unsettled : List Known → List ℕ → List ℕ → Type 0
-Unsettled known places some = (by : List ℕ → Known) (names files : List (List ℕ)) → known ≡ map by names → StandAt names places files → StandAt names some (unsettled by files)
+abbrev pub Unsettled : List FileInfo → List ℕ → List ℕ → Type 0
+Unsettled known places some = (by : List ℕ → FileInfo) (names files : List (List ℕ)) → known ≡ map by names → StandAt names places files → StandAt names some (unsettled by files)
 
-pub so_far_all : (known : List Known) (places some : List ℕ) (i : ℕ) → length places ≤ i → SoFar known places i some → Unsettled known places some
+pub so_far_all : (known : List FileInfo) (places some : List ℕ) (i : ℕ) → length places ≤ i → SoFar known places i some → Unsettled known places some
 so_far_all known places some i past before = λ by names files all h.
     let end : length files ≤ i = omega (arith, many_stand names places files h) in
     before by names files all h ∙ ap (λ (fs : List (List ℕ)). map (λ (f : List ℕ). Some f) (unsettled by fs)) (take_all i files end)
 
 -- of no places there are none
-pub nothing_free : (known : List Known) → Unsettled known [] []
+pub nothing_free : (known : List FileInfo) → Unsettled known [] []
 nothing_free known = λ by names files all h. free by names files h
   where
-    free : (by : List ℕ → Known) (names files : List (List ℕ)) → StandAt names [] files → StandAt names [] (unsettled by files)
+    free : (by : List ℕ → FileInfo) (names files : List (List ℕ)) → StandAt names [] files → StandAt names [] (unsettled by files)
     free by names [] h = refl
     free by names (f ∷ files) h = absurd (cc)

@@ -17,7 +17,7 @@ use Rattle.mk_infer.specs.Selection.{BuiltUnless, lacking, graph_of, node_of}
 use Rattle.mk_foot.specs.Book.{Record}
 use Rattle.mk_foot.specs.Setting.{is_given}
 use Rattle.mk_cert.specs.Subject.{Subject, IsSubject, footprints, name_of, reads_of, writes_of, record_of}
-use Rattle.mk_cert.specs.Candidates.{Candidate, Holds, no_record, no_target, two_writers, given_written, own_read, unknown_read, loose, race, by_node, pairs_of_writers, by_number, static_candidates, race_candidates}
+use Rattle.mk_cert.specs.Candidates.{Candidate, IsFinding, no_record, no_target, two_writers, given_written, own_read, unknown_read, loose, race, by_node, pairs_of_writers, by_number, static_candidates, race_candidates}
 use Rattle.mk_cert.specs.Listing.{Lists}
 use Rattle.mk_cert.proofs.Lists.{nothing_holds}
 use Rattle.mk_graph.specs.Lists.{has_mapped, joined_to}
@@ -95,7 +95,7 @@ phony_is x is n low =
 
 module _ (x : Subject) (is : IsGraph x.graph) (subject : IsSubject x) (reaches : SerialReachesEachOnce) (none : Lists x (static_candidates x) []) where
   -- nothing that stands among the candidates holds
-  pub holds_not : (c : Candidate) → Has (static_candidates x) c → ¬ (Holds x c)
+  pub holds_not : (c : Candidate) → Has (static_candidates x) c → ¬ (IsFinding x c)
   holds_not c stands = nothing_holds x (static_candidates x) none c stands
 
   -- where the candidates of a number stand
@@ -130,12 +130,20 @@ module _ (x : Subject) (is : IsGraph x.graph) (subject : IsSubject x) (reaches :
   -- a recipe that isn't phony writes its target
   target : (t : ℕ) → (node x.graph t).recipe ≡ true → (node x.graph t).phony ≡ false → Has (writes_of x t) (name_of x t)
   target t recipe not_phony =
-      ⊎_elim (λ h. h) (λ out. absurd (holds_not (no_target t) (at_no_target (no_target t) (found_by_node x is reaches (λ k. no_target k ∷ []) t (no_target t) (in_order x is reaches t (recipe_is_node x is reaches t recipe)) (inl refl))) (recipe, has_record t recipe, not_phony, out))) (cases_among (writes_of x t) (name_of x t))
+      ⊎_elim (λ h. h) (λ out. absurd (holds_not (no_target t)
+      (at_no_target (no_target t) (found_by_node x is reaches (λ k. no_target k ∷ []) t (no_target t)
+      (in_order x is reaches t (recipe_is_node x is reaches t recipe)) (inl refl)))
+      (recipe, has_record t recipe, not_phony, out))) (cases_among (writes_of x t) (name_of x t))
 
   -- a file has one writer
   one_writer : (o t : ℕ) (f : List ℕ) → Has (writes_of x o) f → Has (writes_of x t) f → o ≡ t
   one_writer o t f o_wrote t_wrote =
-      ⊎_elim (λ same. same) (λ differ. absurd (⊎_elim (λ h. holds_not (two_writers o t f) (at_two_writers (two_writers o t f) h) (differ, o_wrote, t_wrote)) (λ h. holds_not (two_writers t o f) (at_two_writers (two_writers t o f) h) ((λ same. differ (sym same)), t_wrote, o_wrote)) (pair_stands x (serial_order x.graph) o t f differ (writer_in_order x is reaches o f o_wrote) (writer_in_order x is reaches t f t_wrote) o_wrote t_wrote))) (cases_eq o t)
+      ⊎_elim (λ same. same) (λ differ. absurd (⊎_elim (λ h. holds_not (two_writers o t f)
+      (at_two_writers (two_writers o t f) h) (differ, o_wrote, t_wrote))
+      (λ h. holds_not (two_writers t o f) (at_two_writers (two_writers t o f) h)
+      ((λ same. differ (sym same)), t_wrote, o_wrote)) (pair_stands x (serial_order x.graph) o t f differ
+      (writer_in_order x is reaches o f o_wrote) (writer_in_order x is reaches t f t_wrote) o_wrote
+      t_wrote))) (cases_eq o t)
 
   -- what is written is neither given nor phony
   given_stands : (t : ℕ) (f : List ℕ) → Has (writes_of x t) f → Has (static_candidates x) (given_written t f)
@@ -147,7 +155,11 @@ module _ (x : Subject) (is : IsGraph x.graph) (subject : IsSubject x) (reaches :
 
   not_phony : (t n : ℕ) → Has (writes_of x t) (name_of x n) → (node x.graph n).phony ≡ false
   not_phony t n wrote =
-      ⊎_elim (λ low. let is_phony = phony_is x subject n low in ⊎_elim (λ e. absurd (holds_not (given_written t (name_of x n)) (given_stands t (name_of x n) wrote) (wrote, inr (inl (sym is_phony ∙ e))))) (λ e. e) (cases_Bool (node x.graph n).phony)) (λ past. ap (λ (v : Node). v.phony) (get_or_past x.graph.nodes n no_node past)) (cases_lt n (length x.graph.nodes))
+      ⊎_elim (λ low. let is_phony = phony_is x subject n low in ⊎_elim
+      (λ e. absurd (holds_not (given_written t (name_of x n)) (given_stands t (name_of x n) wrote)
+      (wrote, inr (inl (sym is_phony ∙ e))))) (λ e. e) (cases_Bool (node x.graph n).phony))
+      (λ past. ap (λ (v : Node). v.phony) (get_or_past x.graph.nodes n no_node past))
+      (cases_lt n (length x.graph.nodes))
 
   -- no recipe reads what it writes
   not_own : (t : ℕ) (f : List ℕ) → Has (reads_of x t) f → ¬ (Has (writes_of x t) f)
@@ -163,12 +175,22 @@ module _ (x : Subject) (is : IsGraph x.graph) (subject : IsSubject x) (reaches :
   -- what is read is given or written
   known : (t : ℕ) (f : List ℕ) → Has (reads_of x t) f → (is_given x.setting f ≡ true) ⊎ ((o : ℕ) × Has (writes_of x o) f)
   known t f read =
-      ⊎_elim (λ given. inl given) (λ not. ⊎_elim (λ some. inr some) (λ no_writer. absurd (holds_not (unknown_read t f) (at_unknown (unknown_read t f) (found_by_node x is reaches (λ k. map (λ h. unknown_read k h) (reads_of x k)) t (unknown_read t f) (reader_in_order x is reaches t f read) (has_mapped (λ h. unknown_read t h) (reads_of x t) f read))) (read, not, λ o wrote. no_writer o (writer_in_order x is reaches o f wrote) wrote))) (cases_writer f (serial_order x.graph))) (cases_Bool (is_given x.setting f))
+      ⊎_elim (λ given. inl given) (λ not. ⊎_elim (λ some. inr some)
+      (λ no_writer. absurd (holds_not (unknown_read t f)
+      (at_unknown (unknown_read t f) (found_by_node x is reaches
+      (λ k. map (λ h. unknown_read k h) (reads_of x k)) t (unknown_read t f)
+      (reader_in_order x is reaches t f read) (has_mapped (λ h. unknown_read t h) (reads_of x t) f read)))
+      (read, not, λ o wrote. no_writer o (writer_in_order x is reaches o f wrote) wrote)))
+      (cases_writer f (serial_order x.graph))) (cases_Bool (is_given x.setting f))
 
   -- who writes a node without a recipe is its direct prerequisite
   not_loose : (n o : ℕ) → n < length x.graph.nodes → (node x.graph n).recipe ≡ false → Has (writes_of x o) (name_of x n) → Has (prerequisites x.graph n) o
   not_loose n o low no_recipe wrote =
-      ⊎_elim (λ h. h) (λ out. absurd (holds_not (loose n o) (at_loose (loose n o) (found_by_node x is reaches (λ k. map (λ j. loose k j) (serial_order x.graph)) n (loose n o) (in_order x is reaches n low) (has_mapped (λ j. loose n j) (serial_order x.graph) o (writer_in_order x is reaches o (name_of x n) wrote)))) (no_recipe, wrote, out))) (cases_number (prerequisites x.graph n) o)
+      ⊎_elim (λ h. h) (λ out. absurd (holds_not (loose n o)
+      (at_loose (loose n o) (found_by_node x is reaches (λ k. map (λ j. loose k j) (serial_order x.graph))
+      n (loose n o) (in_order x is reaches n low) (has_mapped (λ j. loose n j) (serial_order x.graph) o
+      (writer_in_order x is reaches o (name_of x n) wrote)))) (no_recipe, wrote, out)))
+      (cases_number (prerequisites x.graph n) o)
 
   -- all of it
   pub footprints_are_sound : AreSound x.graph (footprints x.setting)

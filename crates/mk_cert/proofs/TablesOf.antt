@@ -2,7 +2,7 @@
 use Rattle.std.proofs.Common.{◌≡◌, ℕ, [], get_or, subst}
 use Rattle.mk_cert.specs.declared.tables.Tables.{Tables}
 use Rattle.mk_cert.specs.Kept.{AreTablesOf}
-use Rattle.mk_cert.specs.Known.{AreFiles, StandAt, all_names, known_of}
+use Rattle.mk_cert.specs.FileInfo.{AreFiles, StandAt, all_names, known_of}
 use Rattle.mk_cert.specs.Subject.{Subject, reads_of, writes_of}
 use Rattle.mk_cert.specs.Target.{unsettled_of}
 use Rattle.mk_cert.proofs.KnownFiles.{spelled}

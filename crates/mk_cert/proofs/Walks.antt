@@ -8,8 +8,8 @@ use Rattle.mk_graph.specs.declared.node.Node.{Node}
 use Rattle.mk_graph.specs.Graph.{IsGraph, node, no_node}
 use Rattle.mk_graph.specs.GrowthLaws.{NamesHaveOneNumber}
 use Rattle.mk_graph.specs.Ways.{Carries}
-use Rattle.mk_ways.specs.Certificate.{Way}
-use Rattle.mk_ways.specs.declared.certificate.Finish.TheVariants.{Written}
+use Rattle.mk_cert_text.specs.Certificate.{Way}
+use Rattle.mk_cert_text.specs.declared.certificate.Finish.TheVariants.{Written}
 use Rattle.mk_cert.specs.Subject.{Subject, footprints, name_of}
 use Rattle.mk_cert.specs.Conditions.{IsRecipe}
 use Rattle.mk_cert.specs.Paths.{AreCarried, last_of, EndsAt}

@@ -1,17 +1,17 @@
--- Recipes that a node carries, as a list.
+-- The recipes that a node carries, as a list.
 use Rattle.std.specs.Prelude.{ℕ, List, ◌↔◌}
 use Rattle.std.specs.List.{flat_map}
 use Rattle.mk_graph.specs.Graph.{IsGraph, prerequisites}
 use Rattle.mk_graph.specs.Membership.{Has}
 use Rattle.mk_graph.specs.Ways.{Carries}
 use Rattle.mk_cert.specs.Subject.{Subject, footprints, name_of}
-use Rattle.mk_cert.specs.Entry.{writers_of}
+use Rattle.mk_cert.specs.NodeRow.{writers_of}
 
--- who writes the direct prerequisites of a node, in their order
+-- The writers of a node's direct prerequisites, in the order of these.
 abbrev pub carried : Subject → ℕ → List ℕ
 carried x t = flat_map (λ p. writers_of x (name_of x p)) (prerequisites x.graph t)
 
--- These are the recipes that it carries.
+-- `carried` lists exactly the recipes that a node carries.
 abbrev pub CarriedExactly : Type 0
 CarriedExactly =
     (x : Subject) → IsGraph x.graph → (t o : ℕ) →

@@ -1,10 +1,10 @@
--- What a subject keeps.
+-- The invariant of a subject.
 use Rattle.std.specs.Prelude.{map}
 use Rattle.mk_cert.specs.declared.tables.Tables.{Tables}
 use Rattle.mk_cert.specs.Subject.{Subject, IsSubject}
 use Rattle.mk_cert.specs.Tables.{AreTables}
 
--- it is one, and what is looked up is its own
+-- The value is a valid subject, and the tables are those of it.
 pub record AreTablesOf (x : Subject) (t : Tables) : Type 0 where
   pub is_subject : IsSubject x
   pub tables :

@@ -1,4 +1,4 @@
--- Findings as they are told, and lists of them that grow.
+-- Findings with their names, and lists of findings to which some are added.
 use Rattle.std.specs.Prelude.{◌≡◌, ℕ, List, ◌++◌, map}
 use Rattle.mk_graph.specs.Membership.{Has}
 use Rattle.mk_cert.specs.declared.finding.Finding.{Finding}
@@ -7,7 +7,7 @@ use Rattle.mk_cert.specs.Subject.{Subject, name_of}
 use Rattle.mk_cert.specs.Candidates.{Candidate, no_record, other_commands, varying_commands, no_target, two_writers, given_written, own_read, unknown_read, loose, race, stale, selection}
 use Rattle.mk_cert.specs.Listing.{Lists}
 
--- a candidate, with names in place of the numbers of nodes
+-- A candidate as a finding, with names in place of node numbers.
 abbrev pub named : Subject → Candidate → Finding
 named x (no_record t) = found.NoRecord (name_of x t)
 named x (other_commands t) = found.OtherCommands (name_of x t)
@@ -22,13 +22,12 @@ named x (race t o f) = found.Race (name_of x t) (name_of x o) f
 named x (stale t f) = found.Stale (name_of x t) f
 named x (selection n c) = found.Selection (name_of x n) c
 
--- The new list is the old one, and behind it those of the candidates of which the condition holds,
--- by their names.
+-- The new list is the old one followed by the findings for those candidates whose condition holds.
 pub record Adds (x : Subject) (all : List Candidate) (old new : List Finding) : Type 0 where
   pub kept : List Candidate
   pub right : Lists x all kept
   pub added : new ≡ old ++ map (named x) kept
 
--- none of these is that a selection changes
-abbrev pub TellsNoSelection : List Finding → Type 0
-TellsNoSelection told = (name chosen : List ℕ) → ¬ (Has told (found.Selection name chosen))
+-- None of these findings is a `Selection`.
+abbrev pub HasNoSelection : List Finding → Type 0
+HasNoSelection told = (name chosen : List ℕ) → ¬ (Has told (found.Selection name chosen))

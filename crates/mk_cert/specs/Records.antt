@@ -5,14 +5,15 @@ use Rattle.mk_graph.specs.Graph.{Graph}
 use Rattle.mk_foot.specs.Book.{Record}
 use Rattle.mk_foot.specs.Setting as foot
 
--- a graph, and what was recorded
+-- A graph and the footprints.
 pub record Recorded : Type 0 where
   pub graph : Graph
   pub setting : foot.Setting
 
+-- The value with this graph and these footprints.
 abbrev pub recorded_of : Graph → foot.Setting → Recorded
 recorded_of g s = record { graph = g; setting = s }
 
--- the record of each node, at its number
+-- The record of each node, at its number.
 abbrev pub records_for : Graph → foot.Setting → List (Option Record)
 records_for g s = map (λ (n : Node). foot.record_for s.records n.name) g.nodes

@@ -1,11 +1,11 @@
--- Reads of which nothing is found.
+-- Reads that can't have a finding.
 use Rattle.std.specs.Prelude.{ℕ, ◌==◌, ◌&&◌, Bool, not, List, filter, length}
-use Rattle.mk_cert.specs.Known.{Known}
+use Rattle.mk_cert.specs.FileInfo.{FileInfo}
 
--- the file is given, no edit changes it, and no recipe writes it
-abbrev pub is_settled : Known → Bool
+-- Whether the file is given, can't be edited, and no recipe writes it.
+abbrev pub is_settled : FileInfo → Bool
 is_settled k = k.given && (not k.editable && length k.writers == 0)
 
--- those of these files that aren't settled, in their order
-abbrev pub unsettled : (List ℕ → Known) → List (List ℕ) → List (List ℕ)
+-- The files that aren't settled, in their order.
+abbrev pub unsettled : (List ℕ → FileInfo) → List (List ℕ) → List (List ℕ)
 unsettled known_of files = filter (λ f. not (is_settled (known_of f))) files

@@ -3,13 +3,14 @@ use Rattle.std.specs.Prelude.{◌≡◌, ℕ, ◌<◌, List, [], length, slice_i
 use Rattle.mk_graph.specs.Graph.{IsGraph}
 use Rattle.mk_infer.specs.Commands.{Commands}
 use Rattle.mk_cert.specs.Subject.{Subject, commands_of, reads_of, writes_of}
-use Rattle.mk_cert.specs.Entry.{Entry, AreEntries}
-use Rattle.mk_cert.specs.Known.{Known, AreFiles, StandAt, all_names, known_of}
+use Rattle.mk_cert.specs.NodeRow.{NodeRow, AreEntries}
+use Rattle.mk_cert.specs.FileInfo.{FileInfo, AreFiles, StandAt, all_names, known_of}
 use Rattle.mk_cert.specs.Target.{unsettled_of}
 
--- what is looked up is the subject's
-pub record AreTables (x : Subject) (entries : List Entry) (names : List (List ℕ))
-    (files : List (List ℕ)) (known : List Known) (nodes : List ℕ)
+-- The graph is valid, the commands of each node have no fault, and each table holds what its name
+-- says of this subject.
+pub record AreTables (x : Subject) (entries : List NodeRow) (names : List (List ℕ))
+    (files : List (List ℕ)) (known : List FileInfo) (nodes : List ℕ)
     (writes reads unsettled : List (List ℕ)) : Type 0 where
   pub is_graph : IsGraph x.graph
   pub told : (n : ℕ) → n < length x.graph.nodes → (found : Commands) × (commands_of x n ≡ Ok found)

@@ -1,16 +1,16 @@
--- What is tested of a node by what is looked up of it.
+-- Tests of a node, by its entry.
 use Rattle.std.specs.Prelude.{Bool, not, ◌&&◌, is_none}
-use Rattle.mk_cert.specs.Entry.{Entry}
+use Rattle.mk_cert.specs.NodeRow.{NodeRow}
 
--- its recipe has no record
-abbrev pub lacks_record : Entry → Bool
+-- Whether it has a recipe without a record.
+abbrev pub lacks_record : NodeRow → Bool
 lacks_record e = e.node.recipe && is_none e.recorded
 
--- the commands of its recipe vary
-abbrev pub has_varying : Entry → Bool
+-- Whether it has a recipe whose commands vary.
+abbrev pub has_varying : NodeRow → Bool
 has_varying e = e.node.recipe && e.commands.varying
 
--- the commands of its recipe don't vary, and its record has others
-abbrev pub has_other_commands : Entry → Bool
+-- Whether it has a recipe whose commands don't vary and differ from those of its record.
+abbrev pub has_other_commands : NodeRow → Bool
 has_other_commands e =
     e.node.recipe && (not e.commands.varying && e.others)

@@ -1,13 +1,13 @@
--- What is printed of a finding.
+-- The printed text of a finding.
 use Rattle.std.specs.Prelude.{ℕ, List, ◌++◌, codes}
 use Rattle.mk_cert.specs.declared.finding.Finding.{Finding}
 use Rattle.mk_cert.specs.declared.finding.Finding.TheVariants.{NoRecord, OtherCommands, VaryingCommands, NoTarget, TwoWriters, GivenWritten, OwnRead, UnknownRead, Loose, Race, Stale, Selection}
 
--- two names with a space between
+-- Two names with a space between them.
 abbrev pub pair : List ℕ → List ℕ → List ℕ
 pair one other = one ++ codes " " ++ other
 
--- a word for the kind of finding, and the names, with spaces between
+-- A word for the kind of finding, then its names, separated by spaces.
 abbrev pub text : Finding → List ℕ
 text (NoRecord recipe) = codes "record " ++ recipe
 text (OtherCommands recipe) = codes "commands " ++ recipe
@@ -22,7 +22,7 @@ text (Race recipe writer file) = codes "race " ++ pair recipe (pair writer file)
 text (Stale recipe file) = codes "stale " ++ pair recipe file
 text (Selection name chosen) = codes "selection " ++ pair name chosen
 
--- the first of the names
+-- The first name in the printed text of a finding.
 abbrev pub first_name : Finding → List ℕ
 first_name (NoRecord recipe) = recipe
 first_name (OtherCommands recipe) = recipe

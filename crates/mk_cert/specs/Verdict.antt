@@ -1,38 +1,38 @@
--- What is answered to a certificate.
+-- The answer to a certificate.
 use Rattle.std.specs.Prelude.{◌≡◌, ⊤, ℕ, List, [], ◌∷◌, ◌++◌, All, map, ◌⊎◌, Result, Ok, Err}
 use Rattle.std.specs.List.{flat_map}
 use Rattle.mk_graph.specs.Membership.{Has}
 use Rattle.mk_graph.specs.Serial.{serial_order}
 use Rattle.mk_graph.specs.Ways.{CanChange}
-use Rattle.mk_ways.specs.Certificate.{Way, Certificate}
+use Rattle.mk_cert_text.specs.Certificate.{Way, Certificate}
 use Rattle.mk_cert.specs.declared.fault.CertFault.{CertFault}
 use Rattle.mk_cert.specs.declared.fault.CertFault.TheVariants.{OtherGoals, NoWay, BadWay, Static, Memory}
 use Rattle.mk_cert.specs.Subject.{Subject, footprints, name_of, reads_of}
 use Rattle.mk_cert.specs.Conditions.{IsRecipe}
-use Rattle.mk_cert.specs.Candidates.{Candidate, Holds, static_candidates, race_candidates}
+use Rattle.mk_cert.specs.Candidates.{Candidate, IsFinding, static_candidates, race_candidates}
 use Rattle.mk_cert.specs.Listing.{Lists}
 use Rattle.mk_cert.specs.Listed.{named}
 use Rattle.mk_cert.specs.Paths.{IsPath}
 
--- it is the first of a list of which something holds
-abbrev pub IsFirst : {A : Type 0} → (A → Type 0) → List A → A → Type 0
-IsFirst P [] found = ⊥
-IsFirst P (x ∷ xs) found = (P x × (x ≡ found)) ⊎ ((¬ (P x)) × IsFirst P xs found)
+-- It is the first element of the list that meets the condition.
+abbrev pub IsFirstIn : {A : Type 0} → (A → Type 0) → List A → A → Type 0
+IsFirstIn P [] found = ⊥
+IsFirstIn P (x ∷ xs) found = (P x × (x ≡ found)) ⊎ ((¬ (P x)) × IsFirstIn P xs found)
 
--- the goals are those of the graph, in their order
+-- The certificate's goals are those of the graph, in their order.
 abbrev pub HasGoals : Subject → Certificate → Type 0
 HasGoals x c = c.goals ≡ map (name_of x) x.graph.goals
 
--- there is no static finding and no race
+-- There is no static finding (1 to 9, 12) and no race (10).
 abbrev pub NothingFound : Subject → Type 0
 NothingFound x = Lists x (static_candidates x) [] × Lists x (race_candidates x) []
 
--- The recipe reads the file, which can change, so this read needs a way.
+-- The recipe reads the file, and the file can change.
 abbrev pub NeedsWay : Subject → ℕ → List ℕ → Type 0
 NeedsWay x t f = Has (reads_of x t) f × CanChange (footprints x.setting) f
 
--- An entry is good: its path has the names of recipes, the first of them its own, and is one that
--- leads to its file; and this read needs a way.
+-- An entry is good: its path names recipes, begins with the entry's recipe, and leads to its file
+-- with the end that it says; and this read needs a way.
 pub record IsGood (x : Subject) (w : Way) : Type 0 where
   pub start : ℕ
   pub others : List ℕ
@@ -42,62 +42,64 @@ pub record IsGood (x : Subject) (w : Way) : Type 0 where
   pub path : IsPath x.graph (footprints x.setting) w.file w.finish start others
   pub needed : NeedsWay x start w.file
 
--- among these there is an entry for the recipe and the file
+-- One of these entries is for this recipe and this file.
 abbrev pub HasEntry : List Way → (recipe file : List ℕ) → Type 0
 HasEntry ways recipe file = (w : Way) × Has ways w × (w.recipe ≡ recipe) × (w.file ≡ file)
 
--- Beside these an entry may stand where it is good and none of them is for its recipe and its file.
--- Else it is bad.
+-- The entry is good, and none of the others is for its recipe and file. Otherwise it is bad.
 abbrev pub MayStand : Subject → List Way → Way → Type 0
 MayStand x others w = IsGood x w × (¬ (HasEntry others w.recipe w.file))
 
--- behind these no entry is bad
+-- None of `ways` is bad, where the entries in `before` come before them.
 abbrev pub NoneBad : Subject → (before : List Way) → List Way → Type 0
 NoneBad x before [] = Unit {0}
 NoneBad x before (w ∷ ways) = MayStand x before w × NoneBad x (w ∷ before) ways
 
--- behind these it is the first bad entry
+-- It is the first bad entry of `ways`, where the entries in `before` come before them.
 abbrev pub IsFirstBad : Subject → (before : List Way) → List Way → Way → Type 0
 IsFirstBad x before [] found = ⊥
 IsFirstBad x before (w ∷ ways) found =
     ((¬ (MayStand x before w)) × (w ≡ found)) ⊎
     (MayStand x before w × IsFirstBad x (w ∷ before) ways found)
 
--- a read: the recipe, and the file
+-- A recipe and a file that it reads.
 pub record Read : Type 0 where
   pub recipe : ℕ
   pub file : List ℕ
 
--- all reads of recipes: by their place in the serial order, and by the place of the file
+-- All reads of recipes: by the position of the recipe in the serial order, then of the file in its
+-- record.
 abbrev pub all_reads : Subject → List Read
 all_reads x =
     flat_map (λ t. map (λ f. record { recipe = t; file = f }) (reads_of x t))
     (serial_order x.graph)
 
--- the read needs a way, and has no entry
+-- The read needs a way and has no entry.
 abbrev pub LacksWay : Subject → List Way → Read → Type 0
 LacksWay x ways r =
     NeedsWay x r.recipe r.file × (¬ (HasEntry ways (name_of x r.recipe) r.file))
 
--- each read that needs a way has an entry
+-- Each read that needs a way has an entry.
 abbrev pub NoneLacks : Subject → List Way → Type 0
 NoneLacks x ways =
     (r : Read) → NeedsWay x r.recipe r.file → HasEntry ways (name_of x r.recipe) r.file
 
--- The answer to a certificate. Where the goals are the graph's, nothing is found, no entry is bad
--- and no read lacks its way, it is yes; else it is the first of these that fails.
+-- The answer to a certificate: `Ok` if its goals are the graph's, nothing is found, no entry is
+-- bad, and no read lacks its way; else the error for the first of these that fails: `OtherGoals`
+-- (73), `Static` (76) with the first finding, `BadWay` (75) for the first bad entry, `NoWay` (74)
+-- for the first read that lacks its way.
 abbrev pub Verifies : Subject → Certificate → Result ⊤ CertFault → Type 0
 Verifies x c (Ok accepted) =
     HasGoals x c × NothingFound x × NoneBad x [] c.ways × NoneLacks x c.ways
 Verifies x c (Err OtherGoals) = ¬ (HasGoals x c)
 Verifies x c (Err (Static finding)) =
     HasGoals x c × (k : Candidate) ×
-    IsFirst (Holds x) (static_candidates x ++ race_candidates x) k × (finding ≡ named x k)
+    IsFirstIn (IsFinding x) (static_candidates x ++ race_candidates x) k × (finding ≡ named x k)
 Verifies x c (Err (BadWay recipe file)) =
     HasGoals x c × NothingFound x ×
     (w : Way) × IsFirstBad x [] c.ways w × (recipe ≡ w.recipe) × (file ≡ w.file)
 Verifies x c (Err (NoWay recipe file)) =
     HasGoals x c × NothingFound x × NoneBad x [] c.ways ×
-    (r : Read) × IsFirst (LacksWay x c.ways) (all_reads x) r ×
+    (r : Read) × IsFirstIn (LacksWay x c.ways) (all_reads x) r ×
     (recipe ≡ name_of x r.recipe) × (file ≡ r.file)
 Verifies x c (Err Memory) = ⊥

@@ -1,4 +1,4 @@
-//! Recipes that nodes carry.
+//! The recipes that each node carries.
 
 ghost use Rattle.std.specs.Prelude.{◌≡◌, ℕ, [], length, slice_index_or, IfOk};
 ghost use Rattle.mk_cert.specs.Carried.{carried};
@@ -7,7 +7,7 @@ use crate::subject::Subject;
 use mk_graph::Groups;
 use std::alloc::{AllocError, Global};
 
-/// Who writes the direct prerequisites of a node, in their order.
+/// The writers of a node's direct prerequisites, in the order of these.
 fn carried_by(alloc: Global, subject: &Subject<'_>, number: usize) -> Result<Vec<usize>, AllocError>
     ensures { IfOk result (λ numbers. numbers.items ≡ carried subject.now number) }
 {
@@ -19,11 +19,12 @@ fn carried_by(alloc: Global, subject: &Subject<'_>, number: usize) -> Result<Vec
     Ok(carried)
 }
 
-/// For each node, at its number, the recipes that it carries: those that write its direct
-/// prerequisites, in the order of these. A search for ways goes over them in this order.
+/// For each node, at its number, the recipes that it carries: the writers of its direct
+/// prerequisites, in the order of these, which is the order in which the search for ways follows
+/// them.
 ///
-/// The time is linear in the prerequisites of all nodes where each file has one writer. It fails
-/// for want of memory alone.
+/// Takes time linear in the prerequisites of all nodes if each file has one writer. The only error
+/// is out of memory.
 pub fn carried_lists(alloc: Global, subject: &Subject<'_>) -> Result<Groups, AllocError>
     ensures many { IfOk result (λ lists. length lists ≡ length subject.now.graph.nodes) }
     ensures lists { IfOk result (λ lists. (t : ℕ) →

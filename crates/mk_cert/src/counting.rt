@@ -1,12 +1,12 @@
-//! How much was judged.
+//! How many recipes and reads were judged.
 
 ghost use Rattle.std.specs.Prelude.{◌≡◌};
 ghost use Rattle.mk_cert.specs.Counts.{count_of_recipes, count_of_reads};
 
 use crate::subject::Subject;
 
-/// How many recipes the graph has, and how many files they read, as their records say. It takes no
-/// memory.
+/// How many recipes the graph has, and how many files they read by their records, where a file
+/// counts once for each recipe that reads it. Doesn't allocate.
 pub fn counts(subject: &Subject<'_>) -> (usize, u128)
     ensures recipes { result.0 ≡ count_of_recipes subject.now }
     ensures reads { result.1 ≡ count_of_reads subject.now }

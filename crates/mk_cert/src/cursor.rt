@@ -1,4 +1,4 @@
-//! Where the next entry of a certificate is looked for first.
+//! Guesses which read the next entry of a certificate is for.
 
 ghost use Rattle.std.specs.Prelude.{IfSome};
 ghost use Rattle.mk_cert.specs.Cursor.{IsReadOf};
@@ -7,7 +7,7 @@ use crate::subject::Subject;
 use crate::target::Target;
 use std::alloc::{AllocError, Global};
 
-/// The recipe of an entry, and the file that it reads.
+/// A recipe and a file that it reads.
 #[derive(Drop)]
 pub struct NamedRead<'s> {
     /// The number of the recipe.
@@ -16,22 +16,22 @@ pub struct NamedRead<'s> {
     pub file: Target<'s>,
 }
 
-/// Where the next entry of a certificate is looked for first: at the read, of those that aren't
-/// settled, behind the last one that was found so. The entries that `check` writes all stand there;
-/// from the first one on that stands elsewhere the others are looked up by their names. What is
-/// found is held against the names, so nothing rests on where the cursor stands.
+/// A guess at the read that the next entry is for: the unsettled read after that of the last right
+/// guess. The entries that `check` writes are in that order, so each guess is right; an entry for
+/// another read is looked up by name, and the guess stays. A guess is compared with the names in
+/// the entry, so correctness doesn't depend on it.
 #[derive(Drop)]
 pub struct Cursor {
-    /// The nodes whose recipes have such reads, in the serial order.
+    /// The nodes whose recipes have unsettled reads, in the serial order.
     readers: Vec<usize>,
-    /// The place of one of them.
+    /// An index into `readers`.
     reader: usize,
-    /// The place of one of its reads.
+    /// An index into the unsettled reads of that node.
     read: usize,
 }
 
 impl Cursor {
-    /// At the first read.
+    /// Starts at the first read. The only error is out of memory.
     pub fn new(alloc: Global, subject: &Subject<'_>) -> Result<Cursor, AllocError> {
         let mut readers = Vec::new(alloc);
         for entry in subject.entries() {
@@ -46,7 +46,7 @@ impl Cursor {
         })
     }
 
-    /// Goes on behind the read at which it stands.
+    /// Moves to the next read; `count` is how many the current node has.
     fn go_on(&mut self, count: usize) {
         self.read = self.read.saturating_add(1);
         if self.read >= count {
@@ -55,8 +55,7 @@ impl Cursor {
         }
     }
 
-    /// The read at which it stands, where that is the one of this recipe and this file. It goes on
-    /// then.
+    /// The current read, if it is that of this recipe and this file; then moves to the next one.
     pub fn found<'s>(
         &mut self,
         subject: &'s Subject<'_>,

@@ -1,4 +1,4 @@
-//! Why a certificate isn't accepted.
+//! Why a certificate is refused.
 
 ghost use Rattle.std.specs.Prelude.{◌≡◌};
 ghost use Rattle.mk_cert.specs.declared.fault.CertFault.TheVariants.{Memory};
@@ -8,26 +8,26 @@ use mk_lines::Name;
 use std::alloc::{AllocError, AllocFailed};
 use thiserror::Error;
 
-/// Why a certificate isn't accepted: the first test that fails, in the order of the goals, what is
-/// found, the entries, and the reads.
+/// Why a certificate is refused: the first test that fails, in the order `OtherGoals`, `Static`,
+/// `BadWay`, `NoWay`.
 #[derive(Debug, Drop, Error)]
 pub enum CertFault {
-    /// Its goals aren't those of the graph, in their order (fault 73).
-    #[error("the certificate is for other goals")]
+    /// Its goals aren't those of the graph, in the same order (73).
+    #[error("other goals")]
     OtherGoals,
-    /// It has no entry for this read, which needs a way (fault 74).
-    #[error("a read has no way: {recipe} {file}")]
+    /// This read needs a way and has no entry (74).
+    #[error("a read without an entry: {recipe} {file}")]
     NoWay { recipe: Name, file: Name },
-    /// An entry is bad: its path is none of recipes that begins with its own one, each of which
-    /// carries the next, has another finish, or is for a read that needs no way; or it is a second
-    /// one for its read (fault 75).
-    #[error("a way is none, or needless: {recipe} {file}")]
+    /// A bad entry (75): its path is empty, doesn't begin with its recipe, names something that
+    /// isn't a recipe, has a step that isn't carried, or has an end that doesn't hold; its read
+    /// isn't recorded or needs no way; or an earlier entry is for the same read.
+    #[error("a bad entry: {recipe} {file}")]
     BadWay { recipe: Name, file: Name },
-    /// Something is found without ways, or else a race: this is the first (fault 76).
-    #[error("there is a finding: {0}")]
+    /// There is a finding other than a stale read; this is the first one (76).
+    #[error("a finding: {0}")]
     Static(Finding),
-    /// A growth was refused, which may come in place of any answer.
-    #[error("memory ran out")]
+    /// Out of memory, which can come in place of any result.
+    #[error("out of memory")]
     Memory,
 }
 

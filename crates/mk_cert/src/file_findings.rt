@@ -1,19 +1,19 @@
-//! What is found of the files of a recipe.
+//! Checks of the files that a recipe reads and writes.
 
 ghost use Rattle.std.specs.Prelude.{◌≡◌, ◌↔◌, ◌∷◌, [], true, map, IfOk, IfSome, OnOk};
 ghost use Rattle.mk_lines.specs.Names.{has_name};
 ghost use Rattle.mk_graph.specs.Membership.{Has};
 ghost use Rattle.mk_cert.specs.Subject.{reads_of, writes_of};
 ghost use Rattle.mk_cert.specs.Candidates.{given_written, own_read, unknown_read};
-ghost use Rattle.mk_cert.specs.Entry.{IsEntry, entry_writes};
+ghost use Rattle.mk_cert.specs.NodeRow.{IsEntry, entry_writes};
 ghost use Rattle.mk_cert.specs.Listed.{Adds};
 ghost use Rattle.mk_cert.specs.FileTests.{IsUnknown};
 ghost use Rattle.mk_cert.specs.Target.{target_of};
 
-use crate::entry::Entry;
 use crate::file_names::FileNames;
 use crate::finding::Finding;
 use crate::name_list::NameList;
+use crate::node_row::NodeRow;
 use crate::number_list::FEW;
 use crate::subject::Subject;
 use crate::target::Target;
@@ -21,11 +21,11 @@ use crate::writer_findings::has_number;
 use mk_graph::laws::serial_reaches_each_once;
 use std::alloc::{AllocError, Global};
 
-/// Adds that a recipe writes a file that is given, phony or passed over, if it is.
+/// Adds the finding `GivenWritten`, if the file is given, phony, or passed over as missing.
 fn note_taken(
     alloc: Global,
     subject: &Subject<'_>,
-    entry: &Entry<'_>,
+    entry: &NodeRow<'_>,
     file: &Target<'_>,
     names: &mut FileNames,
     found: &mut Vec<Finding>,
@@ -46,11 +46,12 @@ fn note_taken(
     Ok(())
 }
 
-/// Adds which of the files that a recipe writes are given, phony or passed over.
+/// Adds the finding `GivenWritten` for each file that the recipe writes and that is given, phony,
+/// or passed over as missing. The only error is out of memory.
 pub fn note_given_written(
     alloc: Global,
     subject: &Subject<'_>,
-    entry: &Entry<'_>,
+    entry: &NodeRow<'_>,
     names: &mut FileNames,
     found: &mut Vec<Finding>,
 ) -> Result<(), AllocError>
@@ -66,7 +67,7 @@ pub fn note_given_written(
     Ok(())
 }
 
-/// Whether a file is neither given nor written.
+/// Whether the file is neither given nor written by any recipe.
 fn is_unknown(subject: &Subject<'_>, file: &Target<'_>) -> bool
     requires { file.now ≡ target_of subject.now file.now.file }
     ensures { (result ≡ true) ↔ IsUnknown subject.now file.now.file }
@@ -77,11 +78,11 @@ fn is_unknown(subject: &Subject<'_>, file: &Target<'_>) -> bool
     !known.given && file.writers().is_empty()
 }
 
-/// Adds that a file that a recipe reads is neither given nor written, if it is so.
+/// Adds the finding `UnknownRead`, if the file is neither given nor written by any recipe.
 fn note_unknown(
     alloc: Global,
     subject: &Subject<'_>,
-    entry: &Entry<'_>,
+    entry: &NodeRow<'_>,
     file: &Target<'_>,
     names: &mut FileNames,
     found: &mut Vec<Finding>,
@@ -101,11 +102,12 @@ fn note_unknown(
     Ok(())
 }
 
-/// Adds which of the files that a recipe reads are neither given nor written.
+/// Adds the finding `UnknownRead` for each file that the recipe reads and that is neither given nor
+/// written by any recipe. The only error is out of memory.
 pub fn note_unknown_reads(
     alloc: Global,
     subject: &Subject<'_>,
-    entry: &Entry<'_>,
+    entry: &NodeRow<'_>,
     names: &mut FileNames,
     found: &mut Vec<Finding>,
 ) -> Result<(), AllocError>
@@ -121,10 +123,10 @@ pub fn note_unknown_reads(
     Ok(())
 }
 
-/// Whether a name stands among what a recipe writes, which is looked at where that is asked first.
+/// Whether the recipe writes a file with this name. `written` is made on the first call.
 fn writes_name<'a>(
     alloc: Global,
-    entry: &Entry<'a>,
+    entry: &NodeRow<'a>,
     written: &mut Option<NameList<'a>>,
     name: &str,
 ) -> Result<bool, AllocError>
@@ -143,12 +145,12 @@ fn writes_name<'a>(
     Ok(writes)
 }
 
-/// Whether a recipe writes a file that it reads: it is one of those that write the file, and where
-/// these are many, the name of the file is one of what it writes.
+/// Whether the recipe writes the file. It searches the writers of the file if these are few, else
+/// the files that the recipe writes.
 fn is_own<'a>(
     alloc: Global,
     subject: &Subject<'_>,
-    entry: &Entry<'a>,
+    entry: &NodeRow<'a>,
     written: &mut Option<NameList<'a>>,
     file: &Target<'_>,
 ) -> Result<bool, AllocError>
@@ -169,11 +171,11 @@ fn is_own<'a>(
     writes_name(alloc, entry, written, file.file)
 }
 
-/// Adds that a recipe writes a file that it reads, if it does.
+/// Adds the finding `OwnRead`, if the recipe writes the file.
 fn note_own<'a>(
     alloc: Global,
     subject: &Subject<'_>,
-    entry: &Entry<'a>,
+    entry: &NodeRow<'a>,
     written: &mut Option<NameList<'a>>,
     file: &Target<'_>,
     names: &mut FileNames,
@@ -197,11 +199,12 @@ fn note_own<'a>(
     Ok(())
 }
 
-/// Adds which of the files that a recipe reads it writes too.
+/// Adds the finding `OwnRead` for each file that the recipe both reads and writes. The only error
+/// is out of memory.
 pub fn note_own_reads(
     alloc: Global,
     subject: &Subject<'_>,
-    entry: &Entry<'_>,
+    entry: &NodeRow<'_>,
     names: &mut FileNames,
     found: &mut Vec<Finding>,
 ) -> Result<(), AllocError>

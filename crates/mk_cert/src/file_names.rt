@@ -6,8 +6,8 @@ use crate::shared_name::SharedName;
 use crate::target::Target;
 use std::alloc::{AllocError, Global};
 
-/// The names that were made for files, each at the place of its file, so that the findings of a
-/// file share its name. They take no memory until one is asked for.
+/// The shared names made so far, at the indices of their files, so that all findings about a file
+/// share one copy. Allocates nothing before the first one is made.
 #[derive(Drop)]
 pub struct FileNames {
     names: Vec<Option<SharedName>>,
@@ -21,8 +21,7 @@ impl FileNames {
         }
     }
 
-    /// The name of a file, which is made where it is asked for first. The error is want of memory
-    /// alone.
+    /// The shared name of a file, made on the first call for it. The only error is out of memory.
     pub fn name_of(&mut self, alloc: Global, file: &Target<'_>) -> Result<SharedName, AllocError>
         ensures { IfOk result (λ name. name ≡ file.now.file) }
     {
@@ -36,7 +35,7 @@ impl FileNames {
         Ok(name)
     }
 
-    /// Keeps a name for a place.
+    /// Stores a name at an index.
     fn keep(&mut self, place: usize, name: SharedName) -> Result<(), AllocError> {
         if place >= self.names.len() {
             self.names.resize_with(place.saturating_add(1), || None)?;

@@ -1,17 +1,17 @@
-//! The nodes that write one file.
+//! The writers of one file.
 
 ghost use Rattle.std.specs.Prelude.{◌≡◌, ◌∷◌, ◌++◌, [], IfOk, OnOk};
 
 use std::alloc::{AllocError, Global};
 use std::marker::Model;
 
-/// The numbers of the nodes that write a file. Nearly every file has one, which stands here itself
-/// and takes no memory. A contract sees a list.
+/// The numbers of the nodes that write a file. Nearly every file has one writer, which is stored
+/// inline without an allocation. Its model is the list of numbers.
 #[derive(Drop)]
 pub struct FileWriters {
-    /// The one that there is.
+    /// The writer, if there is just one.
     one: Option<[usize; 1]>,
-    /// Without it, all of them.
+    /// Else all writers.
     more: Vec<usize>,
 }
 
@@ -26,7 +26,7 @@ impl Model for FileWriters {
 }
 
 impl FileWriters {
-    /// None.
+    /// No writers.
     pub fn new(alloc: Global) -> FileWriters
         ensures { result ≡ [] }
     {
@@ -36,7 +36,7 @@ impl FileWriters {
         }
     }
 
-    /// Those of this list. The error is want of memory alone.
+    /// Copies a list of writers. The only error is out of memory.
     pub fn of(alloc: Global, numbers: &[usize]) -> Result<FileWriters, AllocError>
         ensures { IfOk result (λ writers. writers ≡ numbers.now) }
     {
@@ -52,7 +52,7 @@ impl FileWriters {
         })
     }
 
-    /// One more, behind the others. The error is want of memory alone.
+    /// Appends a writer. The only error is out of memory.
     pub fn push(&mut self, number: usize) -> Result<(), AllocError>
         ensures { OnOk result (self.new ≡ self.old ++ number ∷ []) }
     {
@@ -67,7 +67,7 @@ impl FileWriters {
         Ok(())
     }
 
-    /// The numbers, in their order.
+    /// The writers, in their order.
     pub fn as_slice(&self) -> &[usize]
         ensures { result.now ≡ self.now }
     {

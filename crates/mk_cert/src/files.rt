@@ -1,15 +1,15 @@
-//! The files that recipes read or write.
+//! The table of the files that recipes read or write.
 
 ghost use Rattle.std.specs.Prelude.{◌≡◌, ◌++◌, ◌∷◌, ℕ, [], List, map, slice_get, slice_index_or, Some, IfOk, OnOk};
 ghost use Rattle.std.specs.Borrow.{Bor};
 ghost use Rattle.std.specs.String.{string_bytes};
 ghost use Rattle.mk_graph.specs.declared.node.Node.{Node as NodeValue};
 ghost use Rattle.mk_graph.specs.Setting as build;
-ghost use Rattle.mk_cert.specs.Known.{AreFiles, AreKnown, StandAt, known_by};
+ghost use Rattle.mk_cert.specs.FileInfo.{AreFiles, AreKnown, StandAt, known_by};
 ghost use Rattle.mk_cert.specs.Subject.{footprints};
 ghost use Rattle.mk_cert.specs.Writers.{numbers_at};
 
-use crate::known::{Known, known_of};
+use crate::file_info::{FileInfo, known_of};
 use crate::number_rows::NumberRows;
 use crate::records::Records;
 use crate::writers::Writers;
@@ -17,37 +17,42 @@ use indexmap::IndexSet;
 use mk_foot::Setting;
 use mk_graph::Node;
 use mk_infer::RuleTable;
-use mk_lines::NameSet;
+use mk_lines::BorrowedNames;
 use std::alloc::{AllocError, Global};
 
-/// Files, of each once what is known of it, and where those stand that a node has to do with. The
-/// nodes' own names come first, so that what is asked of one recipe after another lies together.
+/// The table of files: each once, with what is looked up for it, and for each node the indices of
+/// its files. The names of nodes come first, so that the rows of successive recipes lie close
+/// together.
 #[derive(Drop)]
 pub struct Files<'a> {
     /// Their names.
     pub names: IndexSet<&'a str>,
-    /// What is known of each, at its place.
-    pub known: Vec<Known>,
-    /// For each node, at its number, the place of the file with its name.
+    /// What is looked up for each, at its index.
+    pub known: Vec<FileInfo>,
+    /// For each node, at its number, the index of the file with its name.
     pub nodes: Vec<usize>,
-    /// For each node, at its number, the places of the files that its recipe writes, in their
-    /// order.
+    /// For each node, at its number, the indices of the files that its recipe writes, in the order
+    /// of its record.
     pub writes: NumberRows,
-    /// The same of those that it reads.
+    /// The same for the files that its recipe reads.
     pub reads: NumberRows,
 }
 
-/// By what is told what is known of a file.
+/// Where the facts about a file are looked up.
 #[derive(Drop)]
 struct Sources<'s, 't, 'a> {
     table: &'s RuleTable<'t>,
     setting: &'a Setting,
     writers: &'s Writers<'a>,
-    names: &'s NameSet<'a>,
+    names: &'s BorrowedNames<'a>,
 }
 
-/// What is known of a file.
-fn known_by(alloc: Global, sources: &Sources<'_, '_, '_>, file: &str) -> Result<Known, AllocError>
+/// Looks up what a `FileInfo` holds for a file.
+fn known_by(
+    alloc: Global,
+    sources: &Sources<'_, '_, '_>,
+    file: &str,
+) -> Result<FileInfo, AllocError>
     ensures { IfOk result (λ known. known ≡ known_by sources.now.table.now
         sources.now.setting.now (numbers_at sources.now.writers.now) sources.now.names.now
         file.now) }
@@ -62,12 +67,12 @@ fn known_by(alloc: Global, sources: &Sources<'_, '_, '_>, file: &str) -> Result<
     )
 }
 
-/// The place of a file, which is noted where it is met first.
+/// The index of a file, which is added with its facts if it is new.
 fn place_for<'a>(
     alloc: Global,
     sources: &Sources<'_, '_, '_>,
     files: &mut IndexSet<&'a str>,
-    known: &mut Vec<Known>,
+    known: &mut Vec<FileInfo>,
     file: &'a str,
 ) -> Result<usize, AllocError>
     requires { AreKnown (known_by sources.now.table.now sources.now.setting.now
@@ -87,12 +92,12 @@ fn place_for<'a>(
     Ok(place)
 }
 
-/// The places of the names of nodes.
+/// The indices of the names of the nodes.
 fn places_of_nodes<'a>(
     alloc: Global,
     sources: &Sources<'_, '_, '_>,
     files: &mut IndexSet<&'a str>,
-    known: &mut Vec<Known>,
+    known: &mut Vec<FileInfo>,
     nodes: &'a [Node],
 ) -> Result<Vec<usize>, AllocError>
     requires { AreKnown (known_by sources.now.table.now sources.now.setting.now
@@ -111,12 +116,12 @@ fn places_of_nodes<'a>(
     Ok(places)
 }
 
-/// The places of the files of a record.
+/// The indices of the files that a record lists.
 fn places_for<'a>(
     alloc: Global,
     sources: &Sources<'_, '_, '_>,
     files: &mut IndexSet<&'a str>,
-    known: &mut Vec<Known>,
+    known: &mut Vec<FileInfo>,
     listed: &'a [String],
 ) -> Result<Vec<usize>, AllocError>
     requires { AreKnown (known_by sources.now.table.now sources.now.setting.now
@@ -137,12 +142,12 @@ fn places_for<'a>(
     Ok(places)
 }
 
-/// Adds the row of the places of the files of a record.
+/// Appends a row with the indices of the files that a record lists.
 fn push_row<'a>(
     alloc: Global,
     sources: &Sources<'_, '_, '_>,
     files: &mut IndexSet<&'a str>,
-    known: &mut Vec<Known>,
+    known: &mut Vec<FileInfo>,
     listed: &'a [String],
     rows: &mut NumberRows,
 ) -> Result<(), AllocError>
@@ -160,14 +165,14 @@ fn push_row<'a>(
     rows.push(&places)
 }
 
-/// The files that the recipes of all nodes of a graph read or write. It takes time linear in the
-/// records.
+/// Builds the table of the files of all nodes, in time linear in the records. The only error is out
+/// of memory.
 pub fn files_of<'a, 's>(
     alloc: Global,
     table: &'s RuleTable<'_>,
     records: &Records<'a>,
     writers: &'s Writers<'a>,
-    names: &'s NameSet<'a>,
+    names: &'s BorrowedNames<'a>,
 ) -> Result<Files<'a>, AllocError>
     ensures { IfOk result (λ files. AreFiles
         (known_by table.now records.now.setting (numbers_at writers.now) names.now)

@@ -1,4 +1,4 @@
-//! What stands against a build.
+//! Findings: the reasons for a no.
 
 ghost use Rattle.std.specs.Prelude.{◌≡◌, MatchOption};
 ghost use Rattle.mk_cert.specs.Text.{first_name};
@@ -7,64 +7,69 @@ use crate::shared_name::SharedName;
 use mk_lines::Name;
 use std::fmt;
 
-/// What stands against a build, with the names that are printed of it. A recipe or a file that is
-/// told of again and again has its name once, which its findings share.
+/// A finding: one reason for a no, with the names that are printed for it. A name that occurs in
+/// many findings is shared among them.
 #[derive(Debug, Drop)]
 pub enum Finding {
-    /// The recipe has no record.
+    /// `no record` (1): the recipe has no record.
     NoRecord {
         recipe: Name,
     },
-    /// The commands of its record aren't its commands.
+    /// `no commands` (2): its record has other commands.
     OtherCommands {
         recipe: Name,
     },
-    /// Its commands vary from make to make: they use `$?`.
+    /// `no varying` (3): its commands vary from make to make, since they use `$?`.
     VaryingCommands {
         recipe: Name,
     },
-    /// It isn't phony, and its record doesn't say that it writes its target.
+    /// `no target` (4): it isn't phony, and by its record it doesn't write its target.
     NoTarget {
         recipe: Name,
     },
-    /// Two recipes write the file, the first before the second in the serial order.
+    /// `no writers` (5): both recipes write the file; `first` comes first in the serial order.
     TwoWriters {
         first: SharedName,
         second: SharedName,
         file: SharedName,
     },
-    /// It writes a file that is given, phony, or passed over by the reading of the makefile.
+    /// `no given` (6): it writes a file that is given, phony, or passed over as missing when the
+    /// makefile was read.
     GivenWritten {
         recipe: SharedName,
         file: SharedName,
     },
-    /// It reads a file that it writes.
+    /// `no own` (7): it reads a file that it writes.
     OwnRead {
         recipe: SharedName,
         file: SharedName,
     },
-    /// It reads a file that is neither given nor written by any recipe.
+    /// `no unknown` (8): it reads a file that is neither given nor written by any recipe.
     UnknownRead {
         recipe: SharedName,
         file: SharedName,
     },
-    /// The name has no recipe, and the writer of its file is no direct prerequisite of it.
+    /// `no loose` (9): the name has no recipe, and `writer`, which writes its file, isn't one of
+    /// its direct prerequisites.
     Loose {
         name: SharedName,
         writer: SharedName,
     },
-    /// It reads a file whose writer isn't always done before it begins.
+    /// `no race` (10): it reads a file that `writer` writes, and `writer` doesn't always run before
+    /// it.
     Race {
         recipe: SharedName,
         writer: SharedName,
         file: SharedName,
     },
-    /// It reads a file that can change, and nothing makes it run when the file does.
+    /// `no stale` (11): it reads a file that can change, and nothing makes it run when the file
+    /// does.
     Stale {
         recipe: SharedName,
         file: SharedName,
     },
-    /// Once recipes have written their files, the name has another inferred prerequisite.
+    /// `no selection` (12): once recipes have written their files, `chosen` becomes the inferred
+    /// prerequisite of the name.
     Selection {
         name: SharedName,
         chosen: SharedName,
@@ -72,7 +77,7 @@ pub enum Finding {
 }
 
 impl Finding {
-    /// The name that it is about, where the findings beside it may share it.
+    /// The first of its names, if that is a shared one that the next finding may reuse.
     pub(crate) fn about(&self) -> Option<&SharedName>
         ensures { MatchOption result (Unit {0}) (λ name. name.now ≡ first_name self.now) }
     {

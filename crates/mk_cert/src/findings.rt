@@ -1,79 +1,78 @@
-//! What is found in footprints alone.
+//! The findings that need neither a way nor the order.
 
 ghost use Rattle.std.specs.Prelude.{[], map, IfOk, OnOk};
 ghost use Rattle.mk_infer.specs.Laws.{StaysSelected};
 ghost use Rattle.mk_cert.specs.Candidates.{static_candidates};
-ghost use Rattle.mk_cert.specs.Listed.{Adds, TellsNoSelection};
+ghost use Rattle.mk_cert.specs.Listed.{Adds, HasNoSelection};
 ghost use Rattle.mk_cert.specs.Conditions.{all_writes};
 ghost use Rattle.mk_cert.specs.Laws.{PartsStay};
 ghost use Rattle.mk_cert.specs.Subject.{name_of};
-ghost use Rattle.mk_cert.specs.Questions.{asked_before_pairs, asked_behind_pairs, asked_each};
+ghost use Rattle.mk_cert.specs.NodeChecks.{candidates_before_pairs, candidates_after_pairs, candidates_of_checks};
 
-use crate::asking::ask_all;
+use crate::checking_nodes::run_check_on_all;
 use crate::finding::Finding;
 use crate::laws::nothing_found_is_selected;
+use crate::node_check::{AFTER_PAIRS, BEFORE_PAIRS, NodeCheck};
 use crate::nothing_found::finds_nothing;
 use crate::pairs::note_pairs;
-use crate::question::{BEFORE_PAIRS, BEHIND_PAIRS, Question};
 use crate::subject::Subject;
 use std::alloc::{AllocError, Global};
 
-/// Adds what is found of all nodes by these questions, one after another.
-fn ask_each(
+/// Adds what these checks find at all nodes, one check after another.
+fn run_checks_on_all(
     alloc: Global,
     subject: &Subject<'_>,
-    questions: &[Question],
+    questions: &[NodeCheck],
     found: &mut Vec<Finding>,
 ) -> Result<(), AllocError>
-    ensures { OnOk result (Adds subject.now (asked_each subject.now questions.now)
+    ensures { OnOk result (Adds subject.now (candidates_of_checks subject.now questions.now)
         found.old.items found.new.items) }
 {
     for question in questions {
-        ask_all(alloc, subject, *question, found)?;
+        run_check_on_all(alloc, subject, *question, found)?;
     }
     Ok(())
 }
 
-/// Adds what is found of all nodes by what is asked before two recipes that write a file are looked
-/// for. It fails for want of memory alone.
-pub fn ask_before_pairs(
+/// Adds the findings of the checks that come before pairs of writers. The only error is out of
+/// memory.
+pub fn run_checks_before_pairs(
     alloc: Global,
     subject: &Subject<'_>,
     found: &mut Vec<Finding>,
 ) -> Result<(), AllocError>
-    ensures { OnOk result (Adds subject.now (asked_before_pairs subject.now)
+    ensures { OnOk result (Adds subject.now (candidates_before_pairs subject.now)
         found.old.items found.new.items) }
 {
-    ask_each(alloc, subject, &BEFORE_PAIRS, found)
+    run_checks_on_all(alloc, subject, &BEFORE_PAIRS, found)
 }
 
-/// Adds what is found of all nodes by what is asked behind two recipes that write a file. It fails
-/// for want of memory alone.
-pub fn ask_behind_pairs(
+/// Adds the findings of the checks that come after pairs of writers. The only error is out of
+/// memory.
+pub fn run_checks_after_pairs(
     alloc: Global,
     subject: &Subject<'_>,
     found: &mut Vec<Finding>,
 ) -> Result<(), AllocError>
-    ensures { OnOk result (Adds subject.now (asked_behind_pairs subject.now)
+    ensures { OnOk result (Adds subject.now (candidates_after_pairs subject.now)
         found.old.items found.new.items) }
 {
-    ask_each(alloc, subject, &BEHIND_PAIRS, found)
+    run_checks_on_all(alloc, subject, &AFTER_PAIRS, found)
 }
 
-/// All that is found without a search for ways or an order, in the order of `Finding`'s variants,
-/// but for races and stale reads; of one kind by the first name's place in the serial order, the
-/// file's place in its record, and the other name's place. It fails for want of memory alone.
+/// All findings except races and stale reads, which need the order or ways. They come in the order
+/// of the variants of `Finding`; within a kind by the position of the first name in the serial
+/// order, then of the file in its record, then of the other name. The only error is out of memory.
 ///
-/// Where it tells of no selection, the graph, the choices and the commands are those that are
-/// selected whatever part of the files that recipes write is there, for the goals and for each part
-/// of them.
+/// Without a `Selection` finding, the same graph, inferred prerequisites and commands are selected
+/// whatever part of the files that recipes write exists, for the goals and for each subset of them.
 pub fn static_findings(alloc: Global, subject: &Subject<'_>) -> Result<Vec<Finding>, AllocError>
     ensures found { IfOk result (λ found. Adds subject.now (static_candidates subject.now) []
         found.items) }
-    ensures selected { IfOk result (λ found. TellsNoSelection found.items →
+    ensures selected { IfOk result (λ found. HasNoSelection found.items →
         StaysSelected subject.now.makefile subject.now.there (all_writes subject.now)
         (map (name_of subject.now) subject.now.graph.goals) subject.now.graph) }
-    ensures parts { IfOk result (λ found. TellsNoSelection found.items →
+    ensures parts { IfOk result (λ found. HasNoSelection found.items →
         PartsStay subject.now.makefile subject.now.there (all_writes subject.now)
         (map (name_of subject.now) subject.now.graph.goals) subject.now.graph) }
 {
@@ -83,8 +82,8 @@ pub fn static_findings(alloc: Global, subject: &Subject<'_>) -> Result<Vec<Findi
     if finds_nothing(alloc, subject)? {
         return Ok(found);
     }
-    ask_before_pairs(alloc, subject, &mut found)?;
+    run_checks_before_pairs(alloc, subject, &mut found)?;
     note_pairs(alloc, subject, &mut found)?;
-    ask_behind_pairs(alloc, subject, &mut found)?;
+    run_checks_after_pairs(alloc, subject, &mut found)?;
     Ok(found)
 }

@@ -1,17 +1,17 @@
-//! The first of what is found, without all that is found behind it.
+//! The first finding, without computing the ones after it.
 
 ghost use Rattle.std.specs.Prelude.{◌≡◌, ◌∷◌, List, [], IfOk, MatchOption};
 ghost use Rattle.mk_graph.specs.Serial.{serial_order};
 ghost use Rattle.mk_cert.specs.Candidates.{pairs_of_writers, race_candidates, static_candidates};
-ghost use Rattle.mk_cert.specs.Checks.{TellsFirst};
-ghost use Rattle.mk_cert.specs.Entry.{IsEntry};
-ghost use Rattle.mk_cert.specs.Questions.{asked_before_pairs, asked_behind_pairs, pairs_with};
+ghost use Rattle.mk_cert.specs.Checks.{IsFirstFinding};
+ghost use Rattle.mk_cert.specs.NodeRow.{IsEntry};
+ghost use Rattle.mk_cert.specs.NodeChecks.{candidates_before_pairs, candidates_after_pairs, pairs_with};
 ghost use Rattle.mk_cert.specs.declared.finding.Finding.{Finding};
 
-use crate::entry::Entry;
 use crate::file_names::FileNames;
 use crate::finding::Finding;
-use crate::findings::{ask_before_pairs, ask_behind_pairs};
+use crate::findings::{run_checks_after_pairs, run_checks_before_pairs};
+use crate::node_row::NodeRow;
 use crate::nothing_found::finds_nothing;
 use crate::pairs::note_files;
 use crate::race_findings::races;
@@ -19,7 +19,7 @@ use crate::subject::Subject;
 use mk_graph::laws::serial_reaches_each_once;
 use std::alloc::{AllocError, Global};
 
-/// The first of findings, if there are any.
+/// The first of these findings, if there are any.
 fn first_of(found: Vec<Finding>) -> Option<Finding>
     ensures { MatchOption result (found.items ≡ [])
         (λ first. (rest : List Finding) × (found.items ≡ first ∷ rest)) }
@@ -31,32 +31,32 @@ fn first_of(found: Vec<Finding>) -> Option<Finding>
     Some(found.swap_remove(0))
 }
 
-/// The first that is found by what is asked before pairs are looked for.
+/// The first finding of the checks that come before pairs of writers.
 fn first_before_pairs(alloc: Global, subject: &Subject<'_>) -> Result<Option<Finding>, AllocError>
-    ensures { IfOk result (TellsFirst subject.now (asked_before_pairs subject.now)) }
+    ensures { IfOk result (IsFirstFinding subject.now (candidates_before_pairs subject.now)) }
 {
     let mut found = Vec::new(alloc);
-    ask_before_pairs(alloc, subject, &mut found)?;
+    run_checks_before_pairs(alloc, subject, &mut found)?;
     Ok(first_of(found))
 }
 
-/// The first that is found by what is asked behind pairs.
+/// The first finding of the checks that come after pairs of writers.
 fn first_behind_pairs(alloc: Global, subject: &Subject<'_>) -> Result<Option<Finding>, AllocError>
-    ensures { IfOk result (TellsFirst subject.now (asked_behind_pairs subject.now)) }
+    ensures { IfOk result (IsFirstFinding subject.now (candidates_after_pairs subject.now)) }
 {
     let mut found = Vec::new(alloc);
-    ask_behind_pairs(alloc, subject, &mut found)?;
+    run_checks_after_pairs(alloc, subject, &mut found)?;
     Ok(first_of(found))
 }
 
-/// The first file that a recipe and one behind it in the serial order write, with that one.
+/// The first pair of this recipe and a later one in the serial order that both write some file.
 fn first_pair_with(
     alloc: Global,
     subject: &Subject<'_>,
-    entry: &Entry<'_>,
+    entry: &NodeRow<'_>,
 ) -> Result<Option<Finding>, AllocError>
     requires { IsEntry subject.now entry.now }
-    ensures { IfOk result (TellsFirst subject.now (pairs_with subject.now entry.now.number)) }
+    ensures { IfOk result (IsFirstFinding subject.now (pairs_with subject.now entry.now.number)) }
 {
     let mut found = Vec::new(alloc);
     let mut names = FileNames::new(alloc);
@@ -64,10 +64,10 @@ fn first_pair_with(
     Ok(first_of(found))
 }
 
-/// The first two recipes that write a file. Those of one recipe are looked for at a time: of all
-/// pairs there can be as many as the square of the recipes.
+/// The first pair of recipes that write a file. It searches one recipe at a time, since the number
+/// of all pairs can be quadratic.
 fn first_pair(alloc: Global, subject: &Subject<'_>) -> Result<Option<Finding>, AllocError>
-    ensures { IfOk result (TellsFirst subject.now
+    ensures { IfOk result (IsFirstFinding subject.now
         (pairs_of_writers subject.now (serial_order subject.now.graph))) }
 {
     serial_reaches_each_once();
@@ -81,10 +81,10 @@ fn first_pair(alloc: Global, subject: &Subject<'_>) -> Result<Option<Finding>, A
     Ok(None)
 }
 
-/// The first that is found without a search for ways or an order. It fails for want of memory
-/// alone.
+/// The first of the findings that need neither a way nor the order: those of `static_findings`. The
+/// only error is out of memory.
 pub fn first_static(alloc: Global, subject: &Subject<'_>) -> Result<Option<Finding>, AllocError>
-    ensures { IfOk result (TellsFirst subject.now (static_candidates subject.now)) }
+    ensures { IfOk result (IsFirstFinding subject.now (static_candidates subject.now)) }
 {
     if finds_nothing(alloc, subject)? {
         return Ok(None);
@@ -98,9 +98,9 @@ pub fn first_static(alloc: Global, subject: &Subject<'_>) -> Result<Option<Findi
     first_behind_pairs(alloc, subject)
 }
 
-/// The first race. It fails for want of memory alone.
+/// The first race. The only error is out of memory.
 pub fn first_race(alloc: Global, subject: &Subject<'_>) -> Result<Option<Finding>, AllocError>
-    ensures { IfOk result (TellsFirst subject.now (race_candidates subject.now)) }
+    ensures { IfOk result (IsFirstFinding subject.now (race_candidates subject.now)) }
 {
     let found = races(alloc, subject)?;
     Ok(first_of(found))

@@ -1,24 +1,24 @@
-//! Whether entries of a certificate are bad, one behind another.
+//! Checks the entries of a certificate, in their order.
 
 ghost use Rattle.std.specs.Prelude.{◌≡◌, ◌<◌, ◌↔◌, ◌⊎◌, ℕ, [], not, length, slice_index_or, slice_set, Err, IfOk, IfSome, OnOk};
 ghost use Rattle.mk_lines.specs.Names.{has_name, with_name};
-ghost use Rattle.mk_cert.specs.Links.{AreLinks, AreSeen, HoldReads};
+ghost use Rattle.mk_cert.specs.WayTables.{AreLinks, AreSeen, HoldReads};
 ghost use Rattle.mk_cert.specs.Checks.{AnswersEntries, HasSets, Judges};
 ghost use Rattle.mk_cert.specs.declared.fault.CertFault.TheVariants.{BadWay, Memory};
 
 use crate::cursor::Cursor;
 use crate::fault::CertFault;
-use crate::links::Links;
 use crate::read_lists::ReadLists;
 use crate::seen_names::SeenNames;
 use crate::subject::Subject;
 use crate::walking::good_start;
+use crate::way_tables::WayTables;
+use mk_cert_text::{Way, Ways};
 use mk_graph::growth_laws::names_have_one_number;
 use mk_lines::Name;
-use mk_ways::{Way, Ways};
 use std::alloc::{AllocError, Global};
 
-/// An empty set for each of so many nodes.
+/// `count` empty sets.
 pub fn empty_sets<'a>(alloc: Global, count: usize) -> Result<Vec<SeenNames<'a>>, AllocError>
     ensures many { IfOk result (λ sets. length sets.items ≡ count) }
     ensures empty { IfOk result (λ sets. (t : ℕ) → slice_index_or sets.items t [] ≡ []) }
@@ -30,7 +30,7 @@ pub fn empty_sets<'a>(alloc: Global, count: usize) -> Result<Vec<SeenNames<'a>>,
     Ok(sets)
 }
 
-/// Adds a name to the set at a place. Answers whether it was new there.
+/// Adds a name to the set at an index. Returns whether it was new.
 fn note_at<'a>(
     alloc: Global,
     sets: &mut Vec<SeenNames<'a>>,
@@ -48,11 +48,11 @@ fn note_at<'a>(
     set.insert(alloc, name)
 }
 
-/// Whether an entry isn't bad beside those that were noted. It is noted then.
+/// Whether an entry is good and the first for its recipe and file; if so, it is added to `seen`.
 fn note_good<'a, 's>(
     alloc: Global,
     subject: &'s Subject<'_>,
-    links: &Links<'_>,
+    links: &WayTables<'_>,
     lists: &mut ReadLists<'s>,
     cursor: &mut Cursor,
     way: &Way<'a>,
@@ -76,7 +76,7 @@ fn note_good<'a, 's>(
     note_at(alloc, seen, start, way.file)
 }
 
-/// The fault of a bad entry.
+/// The fault for a bad entry.
 fn bad_way(alloc: Global, way: &Way<'_>) -> Result<CertFault, AllocError>
     ensures { IfOk result (λ fault. fault ≡ BadWay way.now.recipe way.now.file) }
 {
@@ -85,11 +85,12 @@ fn bad_way(alloc: Global, way: &Way<'_>) -> Result<CertFault, AllocError>
     Ok(CertFault::BadWay { recipe, file })
 }
 
-/// Notes the entries of a list, or answers the first bad one (75).
+/// Adds all entries to `seen`. The errors are `BadWay` (75) for the first bad entry, and out of
+/// memory.
 pub fn check_entries<'a>(
     alloc: Global,
     subject: &Subject<'_>,
-    links: &Links<'_>,
+    links: &WayTables<'_>,
     ways: &'a Ways,
     seen: &mut Vec<SeenNames<'a>>,
 ) -> Result<(), CertFault>

@@ -1,18 +1,18 @@
-//! Which reads lack their ways.
+//! Checks that each read that needs a way has an entry.
 
 ghost use Rattle.std.specs.Prelude.{◌≡◌, ◌⊎◌, ◌↔◌, List, true, Err, IfOk, MatchOption};
 ghost use Rattle.mk_graph.specs.Membership.{Has};
-ghost use Rattle.mk_ways.specs.Certificate.{Way};
+ghost use Rattle.mk_cert_text.specs.Certificate.{Way};
 ghost use Rattle.mk_cert.specs.Subject.{reads_of};
-ghost use Rattle.mk_cert.specs.Entry.{IsEntry};
-ghost use Rattle.mk_cert.specs.Links.{AreSeen};
+ghost use Rattle.mk_cert.specs.NodeRow.{IsEntry};
+ghost use Rattle.mk_cert.specs.WayTables.{AreSeen};
 ghost use Rattle.mk_cert.specs.Target.{target_of};
-ghost use Rattle.mk_cert.specs.Verdict.{IsFirst, Read, LacksWay};
+ghost use Rattle.mk_cert.specs.Verdict.{IsFirstIn, Read, LacksWay};
 ghost use Rattle.mk_cert.specs.Checks.{AnswersReads, reads_by};
 ghost use Rattle.mk_cert.specs.declared.fault.CertFault.TheVariants.{Memory, NoWay};
 
-use crate::entry::Entry;
 use crate::fault::CertFault;
+use crate::node_row::NodeRow;
 use crate::seen_names::SeenNames;
 use crate::subject::Subject;
 use crate::target::Target;
@@ -21,11 +21,11 @@ use mk_graph::laws::serial_reaches_each_once;
 use mk_lines::Name;
 use std::alloc::{AllocError, Global};
 
-/// Whether a file that a recipe reads can change and isn't noted for the recipe.
+/// Whether the file can change and isn't in the recipe's set of `seen`.
 fn lacks(
     subject: &Subject<'_>,
     seen: &[SeenNames<'_>],
-    entry: &Entry<'_>,
+    entry: &NodeRow<'_>,
     file: &Target<'_>,
 ) -> bool
     requires entry { IsEntry subject.now entry.now }
@@ -41,18 +41,19 @@ fn lacks(
     file.can_change(subject) && !stands_at(seen, entry.number, file.file)
 }
 
-/// The first file that a recipe reads which can change and isn't noted for it.
+/// The first file that the recipe reads and that can change but isn't in the recipe's set of
+/// `seen`.
 fn first_lacking<'s>(
     subject: &'s Subject<'_>,
     seen: &[SeenNames<'_>],
-    entry: &Entry<'_>,
+    entry: &NodeRow<'_>,
 ) -> Option<&'s str>
     requires { IsEntry subject.now entry.now }
     ensures { (ways : List Way) → AreSeen subject.entry.now ways seen.now →
         MatchOption result
         ((r : Read) → Has (reads_by subject.entry.now entry.now.number) r →
         ¬ (LacksWay subject.entry.now ways r))
-        (λ file. IsFirst (LacksWay subject.entry.now ways)
+        (λ file. IsFirstIn (LacksWay subject.entry.now ways)
         (reads_by subject.entry.now entry.now.number)
         (record { recipe = entry.now.number; file = file.now })) }
 {
@@ -65,8 +66,8 @@ fn first_lacking<'s>(
     None
 }
 
-/// The fault of a read that lacks its way.
-fn no_way(alloc: Global, entry: &Entry<'_>, file: &str) -> Result<CertFault, AllocError>
+/// The fault for a read without an entry.
+fn no_way(alloc: Global, entry: &NodeRow<'_>, file: &str) -> Result<CertFault, AllocError>
     ensures { IfOk result (λ fault. fault ≡ NoWay entry.now.node.name file.now) }
 {
     let recipe = entry.copy_of_name()?;
@@ -74,7 +75,8 @@ fn no_way(alloc: Global, entry: &Entry<'_>, file: &str) -> Result<CertFault, All
     Ok(CertFault::NoWay { recipe, file })
 }
 
-/// That each read that needs a way is noted, or the first that isn't (74).
+/// Checks that each read that needs a way is in `seen`. The errors are `NoWay` (74) with the first
+/// that isn't, and out of memory.
 pub fn check_reads(
     alloc: Global,
     subject: &Subject<'_>,

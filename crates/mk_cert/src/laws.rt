@@ -1,5 +1,5 @@
-//! Laws of findings. Each is the contract of a function that calls laws alone: who calls it has the
-//! law.
+//! Laws about findings. Each function exists for its contract alone: a caller has the law as a
+//! fact.
 
 ghost use Rattle.mk_cert.specs.Carried.{CarriedExactly};
 ghost use Rattle.mk_cert.specs.Laws.{ListIsOne, ListedExactly, AllWritesExactly, NothingFoundIsSound, NothingFoundIsSelected, NoRaceFoundIsNone, NothingFoundIsRight};
@@ -12,12 +12,12 @@ use mk_infer_laws::laws::{
     graph_stays_selected, meets_what_is_reached, more_takes_no_choice_away, parts_stay_selected,
 };
 
-/// There is one list of those candidates of which the condition holds.
+/// Only one list has just those candidates whose condition holds, in their order.
 pub fn list_is_one()
     ensures { ListIsOne }
 {}
 
-/// Where no race is found, there is none.
+/// If no race is found, there is none.
 pub fn no_race_found_is_none()
     ensures { NoRaceFoundIsNone }
 {
@@ -25,27 +25,27 @@ pub fn no_race_found_is_none()
     serial_reaches_each_once();
 }
 
-/// What is listed are the candidates of which the condition holds.
+/// A list of findings has just the candidates whose condition holds.
 pub fn listed_exactly()
     ensures { ListedExactly }
 {}
 
-/// What is written is each file that a recipe of the graph writes, and nothing else.
+/// `all_writes` has each file that a recipe of the graph writes, and no other.
 pub fn all_writes_exactly()
     ensures { AllWritesExactly }
 {
     serial_reaches_each_once();
 }
 
-/// Where nothing is found in footprints alone, they are sound.
+/// Footprints without a static finding are sound.
 pub fn nothing_found_is_sound()
     ensures { NothingFoundIsSound }
 {
     serial_reaches_each_once();
 }
 
-/// Where no selection is found to change, the graph is the one that is selected whatever part of
-/// the files that recipes write is there; and so it is for each part of the goals.
+/// Without a `Selection` finding, the same graph is selected whatever part of the files that
+/// recipes write exists, for the goals and for each subset of them.
 pub fn nothing_found_is_selected()
     ensures { NothingFoundIsSelected }
 {
@@ -55,8 +55,8 @@ pub fn nothing_found_is_selected()
     parts_stay_selected();
 }
 
-/// Where nothing is found in footprints alone and no race is, and each read of a file that can
-/// change has a way, every legal history is right.
+/// If there is no static finding and no race, and each read of a file that can change has a way,
+/// every legal history is right.
 pub fn nothing_found_is_right()
     ensures { NothingFoundIsRight }
 {
@@ -65,33 +65,33 @@ pub fn nothing_found_is_right()
     accepted_is_right();
 }
 
-/// A recipe has a way to a file just where there is a path from it to the file.
+/// A recipe has a way to a file exactly if there is a path from it to the file.
 pub fn paths_are_ways()
     ensures { PathsAreWays }
 {}
 
-/// The graph that is selected has the goals by their names, in their order.
+/// The selected graph has the goals that were asked for, in their order.
 pub fn selected_goals()
     ensures { SelectedGoals }
 {
     meets_what_is_reached();
 }
 
-/// A certificate has one answer.
+/// At most one answer to a certificate meets `Verifies`.
 pub fn answer_is_one()
     ensures { AnswerIsOne }
 {}
 
-/// What is listed as carried are the recipes that a node carries.
+/// `carried` lists exactly the recipes that a node carries.
 pub fn carried_exactly()
     ensures { CarriedExactly }
 {
     serial_reaches_each_once();
 }
 
-/// Where a certificate is accepted, every legal history is right, one make from a start is, and the
-/// graph stays selected whatever part of the files that recipes write is there, for the goals and
-/// for each part of them.
+/// If a certificate is accepted, every legal history is right, a single make from a start is right,
+/// and the same graph is selected whatever part of the files that recipes write exists, for the
+/// goals and for each subset of them.
 pub fn verified_is_right()
     ensures { VerifiedIsRight }
 {

@@ -1,4 +1,4 @@
-//! What a subject looks up of its nodes.
+//! Looks up what a `NodeRow` holds, for all nodes.
 
 ghost use Rattle.std.specs.Prelude.{◌≡◌, ◌<◌, ◌⊎◌, ◌++◌, ℕ, All, List, [], true, length, map, Err, IfErr, IfOk, IfSome, MatchOption, OnOk};
 ghost use Rattle.std.specs.List.{flat_map};
@@ -13,19 +13,20 @@ ghost use Rattle.mk_infer.specs.Laws.{with_more};
 ghost use Rattle.mk_infer.specs.There.{is_there};
 ghost use Rattle.mk_infer.specs.declared.fault.InferFault.TheVariants.{Memory};
 ghost use Rattle.mk_cert.specs.Subject.{footprints, commands_of, subject_of};
-ghost use Rattle.mk_cert.specs.Entry.{IsEntry, AreEntries, AreEntriesOf, IsFaultOf, IsFirstFault, StaysChosen, choice_after};
+ghost use Rattle.mk_cert.specs.NodeRow.{IsEntry, AreEntries, AreEntriesOf, IsFaultOf, IsFirstFault, StaysChosen, choice_after};
 
-use crate::entry::{Entry, has_others, is_unwritten, kept_lines};
+use crate::node_row::{NodeRow, has_others, is_unwritten, kept_lines};
 use crate::records::Records;
 use crate::shared_name::SharedName;
-use mk_choice::{Choices, Made, choice, choice_and_commands};
 use mk_graph::Graph;
 use mk_graph::laws::serial_reaches_each_once;
-use mk_infer::{Exists, InferFault, RuleTable};
+use mk_infer::{
+    ChoiceAndCommands, Choices, Exists, InferFault, RuleTable, choice, choice_and_commands,
+};
 use mk_lines::NameTable;
 use std::alloc::{AllocError, Global};
 
-/// Copies of names, behind others.
+/// Appends copies of names.
 fn push_copies(copies: &mut Vec<String>, names: &[String]) -> Result<(), AllocError>
     ensures { OnOk result (map string_bytes copies.new.items ≡
         map string_bytes copies.old.items ++ map string_bytes names.now) }
@@ -36,7 +37,7 @@ fn push_copies(copies: &mut Vec<String>, names: &[String]) -> Result<(), AllocEr
     Ok(())
 }
 
-/// All files that the recipes of these nodes write.
+/// All files that the recipes of these nodes write, with repeats.
 fn writes_among(
     alloc: Global,
     records: &Records<'_>,
@@ -53,7 +54,7 @@ fn writes_among(
     Ok(names)
 }
 
-/// A name that is shared, where there is one.
+/// Makes a shared copy of a name, if there is one.
 fn shared(alloc: Global, name: Option<&str>) -> Result<Option<SharedName>, AllocError>
     ensures { IfOk result (λ copy. copy ≡ option_map (λ name. name.now) name.entry) }
 {
@@ -75,7 +76,7 @@ fn choice_of(
     shared(alloc, choice(alloc, choices, name)?)
 }
 
-/// The inferred prerequisites of these nodes.
+/// The inferred prerequisite of each of these nodes.
 fn choices_of(
     alloc: Global,
     choices: &Choices<'_>,
@@ -95,7 +96,7 @@ fn choices_of(
     Ok(chosen)
 }
 
-/// The inferred prerequisites of these nodes with these names there too.
+/// The inferred prerequisite of each of these nodes if the files `names` exist too.
 fn choices_with(
     alloc: Global,
     table: &RuleTable<'_>,
@@ -120,7 +121,7 @@ fn choices_with(
     choices_of(alloc, &choices, graph, order)
 }
 
-/// The same name, where there is one.
+/// Shares the name, if there is one.
 fn copy_of(name: &Option<SharedName>) -> Result<Option<SharedName>, AllocError>
     ensures { IfOk result (λ copy. copy ≡ name.now) }
 {
@@ -130,15 +131,16 @@ fn copy_of(name: &Option<SharedName>) -> Result<Option<SharedName>, AllocError>
     }
 }
 
-/// What is looked up of a node. The fault is that of its commands. Where nothing is told of its
-/// inferred prerequisite once all recipes have written their files, it is taken to stay.
+/// Looks up what a `NodeRow` holds for a node. `after` is its inferred prerequisite after all
+/// recipes have written their files; with `None` it is taken to be the same as before. The error is
+/// the fault of the node's commands, or out of memory.
 fn entry_of<'a>(
     alloc: Global,
     choices: &Choices<'_>,
     records: &Records<'a>,
     number: usize,
     after: Option<&Option<SharedName>>,
-) -> Result<Entry<'a>, InferFault>
+) -> Result<NodeRow<'a>, InferFault>
     requires { number < length records.now.graph.nodes }
     ensures number { IfOk result (λ entry. entry.number ≡ number) }
     ensures told { IfOk result (λ entry. commands_of
@@ -160,7 +162,7 @@ fn entry_of<'a>(
 {
     let node = &records.graph().nodes()[number];
     let name = node.name.as_str();
-    let Made { choice, commands } = choice_and_commands(alloc, choices, name)?;
+    let ChoiceAndCommands { choice, commands } = choice_and_commands(alloc, choices, name)?;
     let chosen = shared(alloc, choice)?;
     let chosen_after = match after {
         Some(after) => copy_of(after)?,
@@ -168,7 +170,7 @@ fn entry_of<'a>(
     };
     let recorded = records.at(number);
     let others = has_others(recorded, &commands.lines);
-    Ok(Entry {
+    Ok(NodeRow {
         number,
         node,
         recorded,
@@ -182,7 +184,8 @@ fn entry_of<'a>(
     })
 }
 
-/// Whether a file is a target or a source, and so there before a make.
+/// Whether inference rules take a file to exist before any recipe has written it: it is a target or
+/// a source.
 fn is_there(table: &RuleTable<'_>, there: &Exists<'_>, name: &str) -> bool
     ensures { result ≡ true → is_there table.now there.now name.now ≡ true }
 {
@@ -192,7 +195,7 @@ fn is_there(table: &RuleTable<'_>, there: &Exists<'_>, name: &str) -> bool
     }
 }
 
-/// Whether these files are there before a make.
+/// Whether inference rules take all these files to exist before any recipe has written them.
 fn are_there(table: &RuleTable<'_>, there: &Exists<'_>, files: &[String]) -> bool
     ensures { result ≡ true → (f : List ℕ) → Has (map string_bytes files.now) f →
         is_there table.now there.now f ≡ true }
@@ -205,9 +208,9 @@ fn are_there(table: &RuleTable<'_>, there: &Exists<'_>, files: &[String]) -> boo
     true
 }
 
-/// What is looked up of each node of a graph, in this order, where all that recipes write is there
-/// before a make, as nearly always: then no choice changes. Else none. The fault is the first one of
-/// their commands.
+/// The entry of each node, in this order, if inference rules take all files that recipes write to
+/// exist from the start, as they nearly always do: then no inferred prerequisite changes. Else
+/// `None`. The error is the first fault of the nodes' commands, or out of memory.
 fn entries_that_stay<'a>(
     alloc: Global,
     table: &RuleTable<'_>,
@@ -215,7 +218,7 @@ fn entries_that_stay<'a>(
     choices: &Choices<'_>,
     records: &Records<'a>,
     order: &[usize],
-) -> Result<Option<Vec<Entry<'a>>>, InferFault>
+) -> Result<Option<Vec<NodeRow<'a>>>, InferFault>
     requires nodes { All (λ n. n < length records.now.graph.nodes) order.now }
     requires order { order.now ≡ serial_order records.now.graph }
     requires choices { choices.now ≡ record { makefile = table.now; exists = there.now } }
@@ -237,7 +240,7 @@ fn entries_that_stay<'a>(
     Ok(Some(entries))
 }
 
-/// The inferred prerequisites of the nodes of a graph where all recipes have written their files.
+/// The inferred prerequisite of each node after all recipes have written their files.
 fn choices_after(
     alloc: Global,
     table: &RuleTable<'_>,
@@ -256,15 +259,15 @@ fn choices_after(
     choices_with(alloc, table, there, &names, records.graph(), order)
 }
 
-/// What is looked up of these nodes, of which it is told what their inferred prerequisites are once
-/// all recipes have written their files. The fault is the first one of their commands.
+/// The entry of each of these nodes, given their inferred prerequisites after all recipes have
+/// written their files. The error is the first fault of the nodes' commands, or out of memory.
 fn entries_with<'a>(
     alloc: Global,
     choices: &Choices<'_>,
     records: &Records<'a>,
     order: &[usize],
     after: &[Option<SharedName>],
-) -> Result<Vec<Entry<'a>>, InferFault>
+) -> Result<Vec<NodeRow<'a>>, InferFault>
     requires nodes { All (λ n. n < length records.now.graph.nodes) order.now }
     requires after { after.now ≡ map (choice_after
         (subject_of choices.now.makefile choices.now.exists
@@ -286,8 +289,8 @@ fn entries_with<'a>(
     Ok(entries)
 }
 
-/// The numbers of the nodes of a graph, in the serial order.
-fn order_of(graph: &Graph) -> Result<Vec<usize>, AllocError>
+/// The numbers of the nodes, in the serial order.
+fn numbers_in_order(graph: &Graph) -> Result<Vec<usize>, AllocError>
     ensures order { IfOk result (λ order. order.items ≡ serial_order graph.now) }
     ensures nodes { IfOk result (λ order. All (λ n. n < length graph.now.nodes) order.items) }
     ensures graph { IsGraph graph.now }
@@ -297,14 +300,14 @@ fn order_of(graph: &Graph) -> Result<Vec<usize>, AllocError>
     graph.serial()
 }
 
-/// What is looked up of each node of a graph, in the serial order. The fault is the first one of
-/// their commands. No choice changes where all that recipes write is there before a make.
+/// The entry of each node, in the serial order. The error is the first fault of the nodes'
+/// commands, or out of memory.
 pub fn entries_for<'a>(
     alloc: Global,
     table: &RuleTable<'_>,
     there: &Exists<'_>,
     records: &Records<'a>,
-) -> Result<Vec<Entry<'a>>, InferFault>
+) -> Result<Vec<NodeRow<'a>>, InferFault>
     requires { there.now.more ≡ [] }
     ensures entries { IfOk result (λ entries. AreEntries
         (subject_of table.now there.now
@@ -313,7 +316,7 @@ pub fn entries_for<'a>(
         (subject_of table.now there.now
         records.now.graph records.now.setting) fault) }
 {
-    let order = order_of(records.graph())?;
+    let order = numbers_in_order(records.graph())?;
     let choices = Choices::new(alloc, table, there)?;
     if let Some(entries) = entries_that_stay(alloc, table, there, &choices, records, &order)? {
         return Ok(entries);

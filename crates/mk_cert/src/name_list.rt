@@ -1,25 +1,25 @@
-//! Names of a list, looked up.
+//! A list of names with a fast lookup.
 
 ghost use Rattle.std.specs.Prelude.{◌≡◌, map};
 ghost use Rattle.std.specs.String.{string_bytes};
 ghost use Rattle.mk_lines.specs.Names.{has_name};
 
-use mk_foot::has_among;
-use mk_lines::{NameSet, names_among};
+use mk_foot::contains_by_scan;
+use mk_lines::{BorrowedNames, borrowed_set_of};
 use std::alloc::{AllocError, Global};
 use std::marker::Model;
 
-/// Of so few names no set is made, and none for so few uses: to go through the list costs no more
-/// than to make one.
+/// A list of at most this many names is always searched linearly, and a longer one for its first
+/// lookups up to this number: that costs no more than to make a set.
 const FEW: usize = 4;
 
-/// The names of a list, which are looked up: at first in the list itself, and where there are many
-/// of them, and many uses, in a set. A contract sees the list.
+/// A list of names in which names are looked up: first by linear search, and after several lookups
+/// in a long list through a set. Its model is the list.
 #[derive(Drop)]
 pub struct NameList<'a> {
     list: &'a [String],
     uses: usize,
-    set: Option<Box<NameSet<'a>>>,
+    set: Option<Box<BorrowedNames<'a>>>,
 }
 
 impl<'a> Model for NameList<'a> {
@@ -35,7 +35,7 @@ impl<'a> Model for NameList<'a> {
 }
 
 impl<'a> NameList<'a> {
-    /// Those of this list. It takes no memory.
+    /// Wraps a list. Doesn't allocate.
     pub fn new(list: &'a [String]) -> NameList<'a>
         ensures { result ≡ map string_bytes list.now }
     {
@@ -46,8 +46,8 @@ impl<'a> NameList<'a> {
         }
     }
 
-    /// Notes that a name is looked up: with the use behind the first few, a set is made of a list
-    /// that isn't short. The error is want of memory alone.
+    /// Counts a lookup; once a long list has had more than a few, makes the set. Call it before
+    /// `has`. The only error is out of memory.
     pub fn note_use(&mut self, alloc: Global) -> Result<(), AllocError>
         ensures { self.new ≡ self.old }
     {
@@ -58,17 +58,17 @@ impl<'a> NameList<'a> {
             self.uses += 1;
             return Ok(());
         }
-        self.set = Some(Box::new(alloc, names_among(alloc, self.list)?)?);
+        self.set = Some(Box::new(alloc, borrowed_set_of(alloc, self.list)?)?);
         Ok(())
     }
 
-    /// Whether this is one of them.
+    /// Whether the name is in the list.
     pub fn has(&self, name: &str) -> bool
         ensures { result ≡ has_name self.now name.now }
     {
         match &self.set {
             Some(set) => set.contains(name),
-            None => has_among(self.list, name),
+            None => contains_by_scan(self.list, name),
         }
     }
 }

@@ -1,26 +1,27 @@
-//! What is found of a node by itself.
+//! Checks of a node that need no files.
 
 ghost use Rattle.std.specs.Prelude.{◌≡◌, ◌↔◌, ◌∷◌, [], true, Some, map, OnOk};
 ghost use Rattle.mk_cert.specs.Subject.{Subject};
 ghost use Rattle.mk_cert.specs.Candidates.{no_record, other_commands, varying_commands, no_target, selection, choice_with_writes};
-ghost use Rattle.mk_cert.specs.Entry.{IsEntry};
+ghost use Rattle.mk_cert.specs.NodeRow.{IsEntry};
 ghost use Rattle.mk_cert.specs.Listed.{Adds};
 ghost use Rattle.mk_cert.specs.Tests.{lacks_record, has_varying, has_other_commands};
 
-use crate::entry::Entry;
 use crate::finding::Finding;
+use crate::node_row::NodeRow;
 use crate::shared_name::SharedName;
 use std::alloc::AllocError;
 
-/// Whether the recipe of a node has no record.
-fn lacks_record(entry: &Entry<'_>) -> bool
+/// Whether the node has a recipe without a record.
+fn lacks_record(entry: &NodeRow<'_>) -> bool
     ensures { result ≡ lacks_record entry.now }
 {
     entry.recorded.is_none() && entry.recipe
 }
 
-/// Adds that the recipe of a node has no record, if it has none.
-pub fn note_no_record(entry: &Entry<'_>, found: &mut Vec<Finding>) -> Result<(), AllocError>
+/// Adds the finding `NoRecord`, if the node's recipe has no record. The only error is out of
+/// memory.
+pub fn note_no_record(entry: &NodeRow<'_>, found: &mut Vec<Finding>) -> Result<(), AllocError>
     ensures { OnOk result ((x : Subject) → IsEntry x entry.now →
         Adds x (no_record entry.now.number ∷ []) found.old.items found.new.items) }
 {
@@ -32,15 +33,15 @@ pub fn note_no_record(entry: &Entry<'_>, found: &mut Vec<Finding>) -> Result<(),
     Ok(())
 }
 
-/// Whether the commands of the recipe of a node vary.
-fn has_varying(entry: &Entry<'_>) -> bool
+/// Whether the node has a recipe whose commands vary.
+fn has_varying(entry: &NodeRow<'_>) -> bool
     ensures { result ≡ has_varying entry.now }
 {
     entry.varying && entry.recipe
 }
 
-/// Adds that the commands of the recipe of a node vary, if they do.
-pub fn note_varying(entry: &Entry<'_>, found: &mut Vec<Finding>) -> Result<(), AllocError>
+/// Adds the finding `VaryingCommands`, if the commands vary. The only error is out of memory.
+pub fn note_varying(entry: &NodeRow<'_>, found: &mut Vec<Finding>) -> Result<(), AllocError>
     ensures { OnOk result ((x : Subject) → IsEntry x entry.now →
         Adds x (varying_commands entry.now.number ∷ []) found.old.items found.new.items) }
 {
@@ -52,8 +53,9 @@ pub fn note_varying(entry: &Entry<'_>, found: &mut Vec<Finding>) -> Result<(), A
     Ok(())
 }
 
-/// Adds that the recipe of a node doesn't write its target, if it is to and doesn't.
-pub fn note_no_target(entry: &Entry<'_>, found: &mut Vec<Finding>) -> Result<(), AllocError>
+/// Adds the finding `NoTarget`, if the recipe doesn't write the target that it should. The only
+/// error is out of memory.
+pub fn note_no_target(entry: &NodeRow<'_>, found: &mut Vec<Finding>) -> Result<(), AllocError>
     ensures { OnOk result ((x : Subject) → IsEntry x entry.now →
         Adds x (no_target entry.now.number ∷ []) found.old.items found.new.items) }
 {
@@ -65,15 +67,16 @@ pub fn note_no_target(entry: &Entry<'_>, found: &mut Vec<Finding>) -> Result<(),
     Ok(())
 }
 
-/// Whether the commands of a recipe don't vary, and its record has others.
-fn has_other_commands(entry: &Entry<'_>) -> bool
+/// Whether the recipe's commands don't vary and differ from those of its record.
+fn has_other_commands(entry: &NodeRow<'_>) -> bool
     ensures { result ≡ has_other_commands entry.now }
 {
     entry.others && entry.recipe && !entry.varying
 }
 
-/// Adds that the record of a node has other commands than its recipe, if it has.
-pub fn note_other_commands(entry: &Entry<'_>, found: &mut Vec<Finding>) -> Result<(), AllocError>
+/// Adds the finding `OtherCommands`, if the record has other commands than the recipe. The only
+/// error is out of memory.
+pub fn note_other_commands(entry: &NodeRow<'_>, found: &mut Vec<Finding>) -> Result<(), AllocError>
     ensures { OnOk result ((x : Subject) → IsEntry x entry.now →
         Adds x (other_commands entry.now.number ∷ []) found.old.items found.new.items) }
 {
@@ -85,7 +88,7 @@ pub fn note_other_commands(entry: &Entry<'_>, found: &mut Vec<Finding>) -> Resul
     Ok(())
 }
 
-/// Whether the name is the one that was chosen.
+/// Whether `chosen` is this name.
 fn is_choice(chosen: &Option<SharedName>, name: &SharedName) -> bool
     ensures { (result ≡ true) ↔ (chosen.now ≡ Some name.now) }
 {
@@ -95,9 +98,9 @@ fn is_choice(chosen: &Option<SharedName>, name: &SharedName) -> bool
     }
 }
 
-/// Adds that a node has another inferred prerequisite once all recipes have written their files, if
-/// it has.
-pub fn note_selection(entry: &Entry<'_>, found: &mut Vec<Finding>) -> Result<(), AllocError>
+/// Adds the finding `Selection`, if the node gets another inferred prerequisite once all recipes
+/// have written their files. The only error is out of memory.
+pub fn note_selection(entry: &NodeRow<'_>, found: &mut Vec<Finding>) -> Result<(), AllocError>
     ensures { OnOk result ((x : Subject) → IsEntry x entry.now →
         Adds x (map (λ c. selection entry.now.number c) (choice_with_writes x entry.now.number))
         found.old.items found.new.items) }

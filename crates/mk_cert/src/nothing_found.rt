@@ -1,61 +1,62 @@
-//! Whether nothing is found without a search for ways or an order.
+//! Whether there is no static finding.
 
 ghost use Rattle.std.specs.Prelude.{◌≡◌, ◌↔◌, [], true, IfOk, OnOk};
 ghost use Rattle.mk_cert.specs.Candidates.{static_candidates};
-ghost use Rattle.mk_cert.specs.Entry.{IsEntry};
+ghost use Rattle.mk_cert.specs.NodeRow.{IsEntry};
 ghost use Rattle.mk_cert.specs.Listed.{Adds};
 ghost use Rattle.mk_cert.specs.Listing.{Lists};
-ghost use Rattle.mk_cert.specs.Questions.{asked_of, found_of};
+ghost use Rattle.mk_cert.specs.NodeChecks.{candidates_of_node, found_of};
 
-use crate::asking::ask;
-use crate::entry::Entry;
+use crate::checking_nodes::run_check;
 use crate::file_names::FileNames;
 use crate::finding::Finding;
+use crate::node_check::{AFTER_PAIRS, BEFORE_PAIRS, NodeCheck};
+use crate::node_row::NodeRow;
 use crate::pairs::note_files;
-use crate::question::{BEFORE_PAIRS, BEHIND_PAIRS, Question};
 use crate::subject::Subject;
 use mk_graph::laws::serial_reaches_each_once;
 use std::alloc::{AllocError, Global};
 
-/// Adds what is found of a node by these questions.
-fn ask_of(
+/// Adds what these checks find at a node.
+fn run_checks_on(
     alloc: Global,
     subject: &Subject<'_>,
-    questions: &[Question],
-    entry: &Entry<'_>,
+    questions: &[NodeCheck],
+    entry: &NodeRow<'_>,
     found: &mut Vec<Finding>,
 ) -> Result<(), AllocError>
     requires { IsEntry subject.now entry.now }
     ensures { OnOk result (Adds subject.now
-        (asked_of subject.now questions.now entry.now.number) found.old.items found.new.items) }
+        (candidates_of_node subject.now questions.now entry.now.number) found.old.items
+        found.new.items) }
 {
     let mut names = FileNames::new(alloc);
     for question in questions {
-        ask(alloc, subject, *question, entry, &mut names, found)?;
+        run_check(alloc, subject, *question, entry, &mut names, found)?;
     }
     Ok(())
 }
 
-/// Whether nothing is found of a node.
+/// Whether no check finds anything at a node.
 fn finds_nothing_of(
     alloc: Global,
     subject: &Subject<'_>,
-    entry: &Entry<'_>,
+    entry: &NodeRow<'_>,
 ) -> Result<bool, AllocError>
     requires { IsEntry subject.now entry.now }
     ensures { IfOk result (λ nothing. (nothing ≡ true) ↔
         Lists subject.now (found_of subject.now entry.now.number) []) }
 {
     let mut found = Vec::new(alloc);
-    ask_of(alloc, subject, &BEFORE_PAIRS, entry, &mut found)?;
+    run_checks_on(alloc, subject, &BEFORE_PAIRS, entry, &mut found)?;
     let mut names = FileNames::new(alloc);
     note_files(alloc, subject, entry, &mut names, &mut found)?;
-    ask_of(alloc, subject, &BEHIND_PAIRS, entry, &mut found)?;
+    run_checks_on(alloc, subject, &AFTER_PAIRS, entry, &mut found)?;
     Ok(found.is_empty())
 }
 
-/// Whether nothing is found without a search for ways or an order. Where that is so one pass over
-/// the nodes tells it, while each question by itself makes one of its own.
+/// Whether there is no finding of `static_findings`. One pass over the nodes decides it, where
+/// `static_findings` makes a pass for each check. The only error is out of memory.
 pub fn finds_nothing(alloc: Global, subject: &Subject<'_>) -> Result<bool, AllocError>
     ensures { IfOk result (λ nothing. (nothing ≡ true) ↔
         Lists subject.now (static_candidates subject.now) []) }

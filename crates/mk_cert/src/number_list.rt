@@ -1,4 +1,4 @@
-//! Numbers of a list, looked up.
+//! A list of numbers with a fast lookup.
 
 ghost use Rattle.std.specs.Prelude.{◌≡◌, ◌<◌, ◌↔◌, ℕ, true, IfOk};
 ghost use Rattle.mk_graph.specs.Graph.{max_nodes};
@@ -9,11 +9,11 @@ use mk_graph::NodeSet;
 use std::alloc::{AllocError, Global};
 use std::marker::Model;
 
-/// Of so many numbers no set is made: to go through them costs no more than to make one.
+/// A list of at most this many numbers is searched linearly: that costs no more than to make a set.
 pub const FEW: usize = 16;
 
-/// The numbers of a list, which are looked up: where there are few, in the list itself. A contract
-/// sees the list.
+/// A list of numbers in which numbers are looked up: by linear search if it is short, else through
+/// a set. Its model is the list.
 #[derive(Drop)]
 pub struct NumberList<'a> {
     list: &'a [usize],
@@ -42,7 +42,7 @@ fn set_of(numbers: &[usize]) -> NodeSet
 }
 
 impl<'a> NumberList<'a> {
-    /// Those of this list. The error is want of memory alone.
+    /// Wraps a list, and makes the set if it is long. The only error is out of memory.
     pub fn new(alloc: Global, list: &'a [usize]) -> Result<NumberList<'a>, AllocError>
         requires { (n : ℕ) → Has list.now n → n < max_nodes }
         ensures { IfOk result (λ numbers. numbers ≡ list.now) }
@@ -55,12 +55,12 @@ impl<'a> NumberList<'a> {
         Ok(NumberList { list, set })
     }
 
-    /// The first of them, if there are any.
+    /// The first number, if there are any.
     pub fn first(&self) -> Option<usize> {
         self.list.first().copied()
     }
 
-    /// Whether this is one of them.
+    /// Whether the number is in the list.
     pub fn has(&self, number: usize) -> bool
         ensures { (result ≡ true) ↔ Has self.now number }
     {

@@ -1,4 +1,4 @@
-//! Rows of numbers in one list.
+//! Rows of numbers in one vector.
 
 ghost use Rattle.std.specs.Prelude.{◌≡◌, ◌<◌, ◌∷◌, ◌++◌, [], length, slice_index_or, IfOk, OnOk};
 ghost use Rattle.std.specs.List.{concat};
@@ -6,9 +6,9 @@ ghost use Rattle.std.specs.List.{concat};
 use std::alloc::{AllocError, Global};
 use std::marker::Model;
 
-/// Rows of numbers, which stand one behind another in one list. A contract sees lists.
+/// Rows of numbers, stored one after another in one vector. Its model is a list of lists.
 ///
-/// A row takes its numbers and the place where it ends.
+/// A row takes the room of its numbers and of its end index.
 #[derive(Drop)]
 pub struct NumberRows {
     numbers: Vec<usize>,
@@ -17,7 +17,7 @@ pub struct NumberRows {
 
 impl Model for NumberRows {
     ghost use Rattle.std.specs.Prelude.{List, ℕ};
-    ghost use Rattle.mk_ways.specs.Packing.{cut_from};
+    ghost use Rattle.mk_cert_text.specs.Packing.{cut_from};
     ghost use Rattle.mk_cert.specs.NumberRows.{AreRows};
 
     ghost Value = { List (List ℕ) };
@@ -27,7 +27,7 @@ impl Model for NumberRows {
     ghost invariant = { λ r. AreRows r.ends.items r.numbers.items };
 }
 
-/// Where the row at a place begins: where the one before ends.
+/// The index at which a row begins: the end of the row before.
 fn start_of(ends: &[usize], place: usize) -> usize
     requires { place < length ends.now }
     ensures { result ≡ slice_index_or (0 ∷ ends.now) place 0 }
@@ -39,7 +39,7 @@ fn start_of(ends: &[usize], place: usize) -> usize
 }
 
 impl NumberRows {
-    /// No rows, with room for so many. The error is want of memory alone.
+    /// No rows, with capacity for `rows` of them. The only error is out of memory.
     pub fn with_capacity(alloc: Global, rows: usize) -> Result<NumberRows, AllocError>
         ensures { IfOk result (λ rows. rows ≡ []) }
     {
@@ -49,11 +49,11 @@ impl NumberRows {
         })
     }
 
-    /// Adds a row at the end. The error is want of memory alone.
+    /// Appends a row. The only error is out of memory.
     pub fn push(&mut self, row: &[usize]) -> Result<(), AllocError>
         ensures { OnOk result (self.new ≡ self.old ++ row.now ∷ []) }
     {
-        // Room for its end comes first, so that no numbers are left without one.
+        // Reserve room for the end index first, so that a failure leaves no numbers without one.
         self.ends.reserve(1)?;
         self.numbers.extend_from_slice(row)?;
         self.ends.push(self.numbers.len())?;
@@ -67,14 +67,14 @@ impl NumberRows {
         self.ends.len()
     }
 
-    /// How many numbers they have together.
+    /// How many numbers all rows have together.
     pub fn total(&self) -> usize
         ensures { result ≡ length (concat self.now) }
     {
         self.numbers.len()
     }
 
-    /// The row at a place, or one without numbers, where there is none.
+    /// The row at an index; empty where there is none.
     pub fn at(&self, place: usize) -> &[usize]
         ensures { result.now ≡ slice_index_or self.now place [] }
     {

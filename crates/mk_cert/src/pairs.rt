@@ -1,4 +1,4 @@
-//! Two recipes that write a file.
+//! Pairs of recipes that write the same file.
 
 ghost use Rattle.std.specs.Prelude.{◌≡◌, ◌∷◌, [], ℕ, map, OnOk};
 ghost use Rattle.mk_graph.specs.Membership.{Has};
@@ -6,24 +6,24 @@ ghost use Rattle.mk_graph.specs.Serial.{serial_order};
 ghost use Rattle.mk_cert.specs.Subject.{writes_of};
 ghost use Rattle.mk_cert.specs.Candidates.{pairs_of_writers, two_writers};
 ghost use Rattle.mk_cert.specs.Conditions.{AreTwoWriters};
-ghost use Rattle.mk_cert.specs.Entry.{IsEntry, behind};
+ghost use Rattle.mk_cert.specs.NodeRow.{IsEntry, behind};
 ghost use Rattle.mk_cert.specs.Listed.{Adds};
-ghost use Rattle.mk_cert.specs.Questions.{pairs_with};
+ghost use Rattle.mk_cert.specs.NodeChecks.{pairs_with};
 ghost use Rattle.mk_cert.specs.Target.{target_of};
 
-use crate::entry::Entry;
 use crate::file_names::FileNames;
 use crate::finding::Finding;
+use crate::node_row::NodeRow;
 use crate::subject::Subject;
 use crate::target::Target;
 use mk_graph::laws::serial_reaches_each_once;
 use std::alloc::{AllocError, Global};
 
-/// Adds that two recipes write a file.
+/// Adds the finding `TwoWriters` of this recipe and `other`.
 fn note_pair(
     alloc: Global,
     subject: &Subject<'_>,
-    entry: &Entry<'_>,
+    entry: &NodeRow<'_>,
     other: usize,
     file: &Target<'_>,
     names: &mut FileNames,
@@ -45,11 +45,11 @@ fn note_pair(
     Ok(())
 }
 
-/// Adds that a recipe and each of these others write a file.
+/// Adds the finding `TwoWriters` of this recipe with each of `others`.
 fn note_pairs_with(
     alloc: Global,
     subject: &Subject<'_>,
-    entry: &Entry<'_>,
+    entry: &NodeRow<'_>,
     others: &[usize],
     file: &Target<'_>,
     names: &mut FileNames,
@@ -68,7 +68,7 @@ fn note_pairs_with(
     Ok(())
 }
 
-/// The numbers behind the first place of one.
+/// The numbers after the first occurrence of `number`.
 fn behind(number: usize, numbers: &[usize]) -> &[usize]
     ensures { result.now ≡ behind number numbers.now }
 {
@@ -80,11 +80,12 @@ fn behind(number: usize, numbers: &[usize]) -> &[usize]
     &[]
 }
 
-/// Adds that a recipe and others behind it in the serial order write a file.
+/// Adds the finding `TwoWriters` of this recipe with each later one in the serial order that writes
+/// the file.
 fn note_file(
     alloc: Global,
     subject: &Subject<'_>,
-    entry: &Entry<'_>,
+    entry: &NodeRow<'_>,
     file: &Target<'_>,
     names: &mut FileNames,
     found: &mut Vec<Finding>,
@@ -104,11 +105,12 @@ fn note_file(
     note_pairs_with(alloc, subject, entry, others, file, names, found)
 }
 
-/// Adds which files a recipe and others behind it in the serial order write.
+/// Adds the finding `TwoWriters` for each file of this recipe and each later recipe in the serial
+/// order that writes it too. The only error is out of memory.
 pub fn note_files(
     alloc: Global,
     subject: &Subject<'_>,
-    entry: &Entry<'_>,
+    entry: &NodeRow<'_>,
     names: &mut FileNames,
     found: &mut Vec<Finding>,
 ) -> Result<(), AllocError>
@@ -123,7 +125,7 @@ pub fn note_files(
     Ok(())
 }
 
-/// Adds each two recipes that write a file.
+/// Adds the finding `TwoWriters` for all pairs of recipes. The only error is out of memory.
 pub fn note_pairs(
     alloc: Global,
     subject: &Subject<'_>,

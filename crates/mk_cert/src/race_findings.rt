@@ -1,4 +1,5 @@
-//! Recipes that read what others write, before these are done.
+//! Races: recipes that read a file which another recipe writes, where the writer doesn't always run
+//! before the reader.
 
 ghost use Rattle.std.specs.Prelude.{◌≡◌, ◌∷◌, [], ℕ, map, IfOk, OnOk};
 ghost use Rattle.std.specs.List.{flat_map};
@@ -6,23 +7,23 @@ ghost use Rattle.mk_graph.specs.Membership.{Has};
 ghost use Rattle.mk_graph.specs.Serial.{serial_order};
 ghost use Rattle.mk_cert.specs.Subject.{reads_of, writes_of};
 ghost use Rattle.mk_cert.specs.Candidates.{race, race_candidates};
-ghost use Rattle.mk_cert.specs.Entry.{IsEntry};
+ghost use Rattle.mk_cert.specs.NodeRow.{IsEntry};
 ghost use Rattle.mk_cert.specs.Listed.{Adds};
 ghost use Rattle.mk_cert.specs.Target.{target_of};
 
-use crate::earlier::Earlier;
-use crate::entry::Entry;
 use crate::file_names::FileNames;
 use crate::finding::Finding;
+use crate::happens_before::HappensBefore;
+use crate::node_row::NodeRow;
 use crate::subject::Subject;
 use crate::target::Target;
 use std::alloc::{AllocError, Global};
 
-/// Adds that a recipe reads what another one writes which isn't before it, if it is so.
+/// Adds the finding `Race`, if the writer `other` doesn't happen before this recipe.
 fn note_race(
     subject: &Subject<'_>,
-    earlier: &mut Earlier<'_>,
-    entry: &Entry<'_>,
+    earlier: &mut HappensBefore<'_>,
+    entry: &NodeRow<'_>,
     other: usize,
     file: &Target<'_>,
     names: &mut FileNames,
@@ -56,11 +57,12 @@ fn note_race(
     Ok(())
 }
 
-/// Adds which of these writers of a file that a recipe reads aren't before it.
+/// Adds the finding `Race` for each of these writers of the file that doesn't happen before this
+/// recipe.
 fn note_races_with(
     subject: &Subject<'_>,
-    earlier: &mut Earlier<'_>,
-    entry: &Entry<'_>,
+    earlier: &mut HappensBefore<'_>,
+    entry: &NodeRow<'_>,
     writers: &[usize],
     file: &Target<'_>,
     names: &mut FileNames,
@@ -82,13 +84,13 @@ fn note_races_with(
     Ok(())
 }
 
-/// Adds which writers of a file that a recipe reads aren't before it. Of most files nobody is known
-/// to write them, and then nothing of the order is asked.
+/// Adds the finding `Race` for each writer of the file that doesn't happen before this recipe. Most
+/// files have no writers, and then the order isn't queried.
 fn note_file(
     alloc: Global,
     subject: &Subject<'_>,
-    earlier: &mut Earlier<'_>,
-    entry: &Entry<'_>,
+    earlier: &mut HappensBefore<'_>,
+    entry: &NodeRow<'_>,
     file: &Target<'_>,
     names: &mut FileNames,
     found: &mut Vec<Finding>,
@@ -110,12 +112,13 @@ fn note_file(
     note_races_with(subject, earlier, entry, writers, file, names, found)
 }
 
-/// Adds which writers of the files that a recipe reads aren't before it.
+/// Adds the finding `Race` for each file that this recipe reads and each writer of it that doesn't
+/// happen before this recipe.
 fn note_files(
     alloc: Global,
     subject: &Subject<'_>,
-    earlier: &mut Earlier<'_>,
-    entry: &Entry<'_>,
+    earlier: &mut HappensBefore<'_>,
+    entry: &NodeRow<'_>,
     names: &mut FileNames,
     found: &mut Vec<Finding>,
 ) -> Result<(), AllocError>
@@ -133,11 +136,11 @@ fn note_files(
     Ok(())
 }
 
-/// Adds which recipes read what others write that aren't before them.
+/// Adds all races.
 fn note_races(
     alloc: Global,
     subject: &Subject<'_>,
-    earlier: &mut Earlier<'_>,
+    earlier: &mut HappensBefore<'_>,
     found: &mut Vec<Finding>,
 ) -> Result<(), AllocError>
     requires { earlier.old.graph ≡ subject.now.graph }
@@ -152,16 +155,16 @@ fn note_races(
     Ok(())
 }
 
-/// Which recipes read files whose writers aren't always done before they begin: by the reader's
-/// place in the serial order, the file's place among its reads, and the writer's place in the
-/// serial order. The order of the graph is worked out, in rows of bits, where a writer isn't a
-/// direct prerequisite of the reader, and then once. It fails for want of memory alone.
+/// All races: by the reader's position in the serial order, the file's position among its reads,
+/// and the writer's position in the serial order. The order of the whole graph is computed at most
+/// once, and only if some writer isn't a direct prerequisite of its reader. The only error is out
+/// of memory.
 pub fn races(alloc: Global, subject: &Subject<'_>) -> Result<Vec<Finding>, AllocError>
     ensures { IfOk result (λ found. Adds subject.now (race_candidates subject.now) []
         found.items) }
 {
     let mut found = Vec::new(alloc);
-    let mut earlier = Earlier::new(subject.graph());
+    let mut earlier = HappensBefore::new(subject.graph());
     note_races(alloc, subject, &mut earlier, &mut found)?;
     Ok(found)
 }

@@ -1,10 +1,10 @@
-//! The files that recipes read, looked up by name.
+//! The files that each recipe reads, looked up by name.
 
 ghost use Rattle.std.specs.Prelude.{◌≡◌, ◌↔◌, ℕ, List, [], None, true, slice_index_or, IfOk, IfSome, OnOk};
 ghost use Rattle.mk_lines.specs.Names.{has_name};
 ghost use Rattle.mk_graph.specs.Membership.{Has};
 ghost use Rattle.mk_graph.specs.Setting as build;
-ghost use Rattle.mk_cert.specs.Links.{HoldReads};
+ghost use Rattle.mk_cert.specs.WayTables.{HoldReads};
 ghost use Rattle.mk_cert.specs.Subject.{footprints, reads_of};
 
 use crate::name_list::NameList;
@@ -14,14 +14,14 @@ use mk_foot::Setting;
 use mk_graph::Graph;
 use std::alloc::{AllocError, Global};
 
-/// For each node, at its number, the files that its recipe reads. They are made when one is first
-/// asked for: where the entries of a certificate come in the order of the reads, none is.
+/// For each node, at its number, the files that its recipe reads. They are built on the first
+/// lookup; if the entries of a certificate come in the order of the reads, there is none.
 #[derive(Drop)]
 pub struct ReadLists<'a> {
     lists: Option<Vec<NameList<'a>>>,
 }
 
-/// The files that each recipe reads.
+/// Builds the list of each node.
 fn lists_of<'a>(
     alloc: Global,
     graph: &'a Graph,
@@ -40,7 +40,7 @@ fn lists_of<'a>(
     Ok(lists)
 }
 
-/// Whether a name stands in the list at a place, which is used once more.
+/// Whether the name is in the list at an index; counts as a lookup in that list.
 fn has_at(
     alloc: Global,
     lists: &mut Vec<NameList<'_>>,
@@ -60,14 +60,14 @@ fn has_at(
 }
 
 impl<'a> ReadLists<'a> {
-    /// None yet.
+    /// Nothing built yet. Doesn't allocate.
     pub fn new() -> ReadLists<'a>
         ensures { result.lists ≡ None }
     {
         ReadLists { lists: None }
     }
 
-    /// Whether the recipe of a node reads a file. The error is want of memory alone.
+    /// Whether the recipe of a node reads a file. The only error is out of memory.
     pub fn has(
         &mut self,
         alloc: Global,

@@ -9,14 +9,13 @@ ghost use Rattle.mk_graph.specs.Setting as build;
 ghost use Rattle.mk_cert.specs.Records.{recorded_of, records_for};
 ghost use Rattle.mk_cert.specs.Subject.{footprints};
 
-use crate::entry::{reads_in, writes_in};
+use crate::node_row::{reads_in, writes_in};
 use mk_foot::{Record, Setting};
 use mk_graph::Graph;
 use std::alloc::{AllocError, Global};
 use std::marker::Model;
 
-/// The records of the nodes of a graph, each looked up once. A contract sees the graph and what was
-/// recorded.
+/// The record of each node of a graph, looked up once. Its model is the graph and the footprints.
 #[derive(Drop)]
 pub struct Records<'a> {
     graph: &'a Graph,
@@ -37,7 +36,7 @@ impl<'a> Model for Records<'a> {
         value.records_for r.graph.now r.setting.now };
 }
 
-/// The record of each of the nodes of a graph, at its number.
+/// The record of each node, at its number.
 fn found_for<'a>(
     alloc: Global,
     graph: &Graph,
@@ -55,8 +54,7 @@ fn found_for<'a>(
 }
 
 impl<'a> Records<'a> {
-    /// The records of the nodes of a graph. It takes time linear in it. The error is want of memory
-    /// alone.
+    /// Looks up the record of each node, in linear time. The only error is out of memory.
     pub fn new(
         alloc: Global,
         graph: &'a Graph,
@@ -79,7 +77,7 @@ impl<'a> Records<'a> {
         self.graph
     }
 
-    /// What was recorded.
+    /// The footprints and build inputs.
     pub fn setting(&self) -> &'a Setting
         ensures { result.now ≡ self.now.setting }
     {

@@ -1,21 +1,21 @@
-//! Names that were seen.
+//! A small set of names.
 
 ghost use Rattle.std.specs.Prelude.{◌≡◌, [], not, IfOk, OnOk};
 ghost use Rattle.mk_lines.specs.Names.{has_name, with_name};
 ghost use Rattle.mk_cert.specs.Seen.{names_in};
 
-use mk_lines::NameSet;
+use mk_lines::BorrowedNames;
 use std::alloc::{AllocError, Global};
 use std::marker::Model;
 
-/// Names that were seen, each once. Nearly always there is one at most, which stands here itself
-/// and takes no memory. A contract sees a list.
+/// A set of names, in the order of insertion. Most sets have at most one name, which is stored
+/// inline without an allocation. Its model is the list of names.
 #[derive(Drop)]
 pub struct SeenNames<'a> {
-    /// The first one.
+    /// The first name.
     first: Option<&'a str>,
-    /// Behind it, the others.
-    others: Option<Box<NameSet<'a>>>,
+    /// All later ones.
+    others: Option<Box<BorrowedNames<'a>>>,
 }
 
 impl<'a> Model for SeenNames<'a> {
@@ -27,10 +27,10 @@ impl<'a> Model for SeenNames<'a> {
     ghost view = { λ s. names_seen s.first s.others };
 }
 
-/// Adds a name to a set, which is made where there is none. Answers whether it was new there.
+/// Adds a name to a set, which is made if there is none yet. Returns whether it was new.
 fn insert_into<'a>(
     alloc: Global,
-    set: &mut Option<Box<NameSet<'a>>>,
+    set: &mut Option<Box<BorrowedNames<'a>>>,
     name: &'a str,
 ) -> Result<bool, AllocError>
     ensures new { IfOk result (λ added. added ≡
@@ -40,14 +40,14 @@ fn insert_into<'a>(
     if let Some(set) = set {
         return set.insert(name);
     }
-    let mut names = NameSet::new(alloc);
+    let mut names = BorrowedNames::new(alloc);
     let is_new = names.insert(name)?;
     *set = Some(Box::new(alloc, names)?);
     Ok(is_new)
 }
 
 impl<'a> SeenNames<'a> {
-    /// No names.
+    /// The empty set. Doesn't allocate.
     pub fn new() -> SeenNames<'a>
         ensures { result ≡ [] }
     {
@@ -57,8 +57,8 @@ impl<'a> SeenNames<'a> {
         }
     }
 
-    /// Adds a name at the end, unless it is there already. Answers whether it was new. The error is
-    /// want of memory alone.
+    /// Appends a name, unless it is in the set already. Returns whether it was new. The only error
+    /// is out of memory.
     pub fn insert(&mut self, alloc: Global, name: &'a str) -> Result<bool, AllocError>
         ensures new { IfOk result (λ added. added ≡ not (has_name self.old name.entry.now)) }
         ensures ok { OnOk result (self.new ≡ with_name self.old name.entry.now) }
@@ -74,7 +74,7 @@ impl<'a> SeenNames<'a> {
         insert_into(alloc, &mut self.others, name)
     }
 
-    /// Whether the name is there. It takes no memory.
+    /// Whether the name is in the set. Doesn't allocate.
     pub fn contains(&self, name: &str) -> bool
         ensures { result ≡ has_name self.now name.now }
     {

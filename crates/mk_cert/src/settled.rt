@@ -1,26 +1,25 @@
-//! Reads of which nothing is found.
+//! Reads that can't have a finding.
 
 ghost use Rattle.std.specs.Prelude.{◌≡◌, ℕ, List, [], map, slice_get, slice_index_or, Some, IfOk};
-ghost use Rattle.mk_cert.specs.Known as value;
-ghost use Rattle.mk_cert.specs.Known.{StandAt};
+ghost use Rattle.mk_cert.specs.FileInfo as value;
+ghost use Rattle.mk_cert.specs.FileInfo.{StandAt};
 ghost use Rattle.mk_cert.specs.Settled.{is_settled, unsettled};
 
-use crate::known::Known;
+use crate::file_info::FileInfo;
 use crate::number_rows::NumberRows;
 use std::alloc::{AllocError, Global};
 
-/// Whether a file is given, no edit changes it, and no recipe writes it. Nothing is found of a read
-/// of such a file.
-fn is_settled(known: &Known) -> bool
+/// Whether the file is given, can't be edited, and no recipe writes it. A read of such a file is
+/// never part of a finding.
+fn is_settled(known: &FileInfo) -> bool
     ensures { result ≡ is_settled known.now }
 {
     known.given && !known.editable && known.writers.as_slice().is_empty()
 }
 
-/// Whether the file is settled of which this is known, at a place of what is known of files. No
-/// place past the end is asked for.
-fn is_settled_at(known: &[Known], at: usize) -> bool
-    ensures { (k : value.Known) → slice_get known.now at ≡ Some k → result ≡ is_settled k }
+/// Whether the file at index `at` is settled; `true` where `at` is past the end.
+fn is_settled_at(known: &[FileInfo], at: usize) -> bool
+    ensures { (k : value.FileInfo) → slice_get known.now at ≡ Some k → result ≡ is_settled k }
 {
     match known.get(at) {
         Some(known) => is_settled(known),
@@ -28,14 +27,14 @@ fn is_settled_at(known: &[Known], at: usize) -> bool
     }
 }
 
-/// Those of these places at which files stand that aren't settled.
+/// Those of the indices in `places` whose files aren't settled, in their order.
 fn unsettled_among(
     alloc: Global,
-    known: &[Known],
+    known: &[FileInfo],
     places: &[usize],
 ) -> Result<Vec<usize>, AllocError>
     ensures { IfOk result (λ left.
-        (by : List ℕ → value.Known) (names files : List (List ℕ)) → known.now ≡ map by names →
+        (by : List ℕ → value.FileInfo) (names files : List (List ℕ)) → known.now ≡ map by names →
         StandAt names places.now files → StandAt names left.items (unsettled by files)) }
 {
     let mut unsettled = Vec::new(alloc);
@@ -47,14 +46,15 @@ fn unsettled_among(
     Ok(unsettled)
 }
 
-/// The same for each row of places. It takes time linear in them.
+/// Keeps in each row the indices of files that aren't settled. Takes linear time. The only error is
+/// out of memory.
 pub fn unsettled_places(
     alloc: Global,
-    known: &[Known],
+    known: &[FileInfo],
     places: &NumberRows,
 ) -> Result<NumberRows, AllocError>
     ensures { IfOk result (λ left.
-        (by : List ℕ → value.Known) (names : List (List ℕ)) (t : ℕ) (files : List (List ℕ)) →
+        (by : List ℕ → value.FileInfo) (names : List (List ℕ)) (t : ℕ) (files : List (List ℕ)) →
         known.now ≡ map by names → StandAt names (slice_index_or places.now t []) files →
         StandAt names (slice_index_or left t []) (unsettled by files)) }
 {

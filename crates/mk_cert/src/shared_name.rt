@@ -7,7 +7,7 @@ use std::fmt;
 use std::marker::Model;
 use std::rc::RcStr;
 
-/// A name that may stand in several findings, and is kept once. A contract sees its bytes.
+/// A reference-counted name that several findings can share. Its model is the bytes.
 #[derive(Debug, Drop)]
 pub struct SharedName {
     text: RcStr,
@@ -23,7 +23,7 @@ impl Model for SharedName {
 }
 
 impl SharedName {
-    /// A name with a copy of the text. The error is want of memory alone.
+    /// Copies the text. The only error is out of memory.
     pub fn new(alloc: Global, text: &str) -> Result<SharedName, AllocError>
         ensures { IfOk result (λ name. name ≡ text.now) }
     {
@@ -53,7 +53,7 @@ impl fmt::Display for SharedName {
 impl Clone for SharedName {
     ghost is_clone = { λ name copy. copy ≡ name };
 
-    /// The same name, which takes no memory more.
+    /// Shares the name without copying its text.
     fn clone(&self) -> Result<SharedName, AllocError> {
         Ok(SharedName {
             text: self.text.clone()?,

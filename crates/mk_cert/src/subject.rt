@@ -1,28 +1,28 @@
-//! What is judged.
+//! The input of all checks, with its tables.
 
 ghost use Rattle.std.specs.Prelude.{◌≡◌, ◌<◌, ◌≤◌, List, ℕ, [], false, length, map, slice_get, slice_index_or, Ok, Some, IfErr, IfOk, MatchOption};
 ghost use Rattle.mk_graph.specs.Graph.{IsGraph};
 ghost use Rattle.mk_graph.specs.Membership.{Has};
 ghost use Rattle.mk_graph.specs.Setting as build;
 ghost use Rattle.mk_infer.specs.Selection.{Selects};
-ghost use Rattle.mk_cert.specs.Known.{all_names, known_of};
+ghost use Rattle.mk_cert.specs.FileInfo.{all_names, known_of};
 ghost use Rattle.mk_cert.specs.Subject.{Subject as SubjectValue, IsSubject, name_of, reads_of, subject_of, writes_of};
 ghost use Rattle.mk_cert.specs.Target.{target_of, unsettled_of};
-ghost use Rattle.mk_cert.specs.Entry.{AreEntries, IsEntry, IsFaultOf, entry_reads, writers_of};
+ghost use Rattle.mk_cert.specs.NodeRow.{AreEntries, IsEntry, IsFaultOf, entry_reads, writers_of};
 
-use crate::entry::Entry;
 use crate::files::Files;
+use crate::node_row::NodeRow;
 use crate::tables::{Tables, tables_for};
 use crate::target::Target;
 use mk_foot::Setting;
 use mk_graph::Graph;
 use mk_infer::{Exists, InferFault, RuleTable};
-use mk_lines::NameSet;
+use mk_lines::BorrowedNames;
 use mk_read::Makefile;
 use std::alloc::Global;
 use std::marker::Model;
 
-/// The file at a place of files, with what is known of it.
+/// The file at an index of the table.
 fn target_at<'s>(files: &'s Files<'_>, at: usize) -> Target<'s>
     requires { at < length files.now.known.items }
     ensures { (x : SubjectValue) (f : List ℕ) →
@@ -42,9 +42,8 @@ fn target_at<'s>(files: &'s Files<'_>, at: usize) -> Target<'s>
     }
 }
 
-/// What is judged: a makefile, the files that are there, the graph of the goals, and what was
-/// recorded. What is looked up of them is looked up once, in time linear in their size. A contract
-/// sees these four.
+/// What is judged: a makefile, the files that exist, the graph of the goals, and the footprints.
+/// The tables over them are built once, in time linear in their size. Its model is these four.
 #[derive(Drop)]
 pub struct Subject<'a> {
     table: &'a RuleTable<'a>,
@@ -67,13 +66,11 @@ impl<'a> Model for Subject<'a> {
 }
 
 impl<'a> Subject<'a> {
-    /// The subject of a makefile, whose names are looked up, the files that are there, the graph of
-    /// its goals, and a setting. The fault is the first one of the nodes' commands (11 to 17), in
-    /// the serial order.
+    /// Builds the subject. Takes time linear in the makefile, the graph and the records. The error
+    /// is the first fault of the nodes' commands (11 to 17), in the serial order, or out of memory.
     ///
-    /// The caller owes that the graph is the one that selection gives for the makefile and what is
-    /// there, and that sources, fixed prefixes and texts are there by the setting, with nothing
-    /// more. It takes time linear in the makefile, the graph and the records.
+    /// The caller must show that the graph is the one selected for the makefile and the existing
+    /// files, and that these are exactly the sources, fixed prefixes and texts of the setting.
     pub fn new(
         alloc: Global,
         table: &'a RuleTable<'a>,
@@ -111,7 +108,7 @@ impl<'a> Subject<'a> {
         self.table.makefile()
     }
 
-    /// The files that are there.
+    /// The files that exist before any recipe runs.
     pub fn there(&self) -> &Exists<'a>
         ensures { result.now ≡ self.now.there }
     {
@@ -127,22 +124,22 @@ impl<'a> Subject<'a> {
         self.graph
     }
 
-    /// What was recorded.
+    /// The footprints and build inputs.
     pub fn setting(&self) -> &Setting
         ensures { result.now ≡ self.now.setting }
     {
         self.setting
     }
 
-    /// Each node with what is looked up of it, in the serial order.
-    pub fn entries(&self) -> &[Entry<'a>]
+    /// The entry of each node, in the serial order.
+    pub fn entries(&self) -> &[NodeRow<'a>]
         ensures { AreEntries self.now result.now }
     {
         self.tables.entries.as_slice()
     }
 
-    /// A file by its name, with what is known of it: none is told of a name that no recipe writes or
-    /// reads. It takes no memory.
+    /// The file with this name; `None` if no recipe reads or writes it and no node has its name.
+    /// Doesn't allocate.
     pub(crate) fn file(&self, name: &str) -> Option<Target<'_>>
         ensures { MatchOption result
             ((t : ℕ) → (¬ (Has (writes_of self.now t) name.now)) ×
@@ -155,7 +152,7 @@ impl<'a> Subject<'a> {
         }
     }
 
-    /// The numbers of the nodes that write a file, in the serial order. It takes no memory.
+    /// The numbers of the nodes that write a file, in the serial order. Doesn't allocate.
     pub fn writers(&self, file: &str) -> &[usize]
         ensures { result.now ≡ writers_of self.now file.now }
     {
@@ -174,14 +171,14 @@ impl<'a> Subject<'a> {
     }
 
     /// The names of the nodes, each at its number.
-    pub fn names(&self) -> &NameSet<'a>
+    pub fn names(&self) -> &BorrowedNames<'a>
         ensures { result.now ≡ all_names self.now }
     {
         &self.tables.names
     }
 
     /// The numbers of the nodes that write the file with the name of a node, in the serial order.
-    /// It takes no memory.
+    /// Doesn't allocate.
     pub(crate) fn writers_of_node(&self, number: usize) -> &[usize]
         requires { number < length self.now.graph.nodes }
         ensures { result.now ≡ writers_of self.now (name_of self.now number) }
@@ -190,7 +187,7 @@ impl<'a> Subject<'a> {
         self.tables.files.known[at].writers.as_slice()
     }
 
-    /// The file with the name of a node, with what is known of it. It takes no memory.
+    /// The file with the name of a node. Doesn't allocate.
     pub(crate) fn file_of_node(&self, number: usize) -> Target<'_>
         requires { number < length self.now.graph.nodes }
         ensures { result ≡ target_of self.entry.now (name_of self.entry.now number) }
@@ -199,15 +196,14 @@ impl<'a> Subject<'a> {
         target_at(&self.tables.files, place)
     }
 
-    /// How many files the recipe of a node writes. It takes no memory.
+    /// How many files the recipe of a node writes. Doesn't allocate.
     pub(crate) fn count_of_written(&self, number: usize) -> usize
         ensures { result ≡ length (writes_of self.now number) }
     {
         self.tables.files.writes.at(number).len()
     }
 
-    /// The file at a place of what the recipe of a node writes, with what is known of it. It takes
-    /// no memory.
+    /// The file at `place` among those that the recipe of a node writes. Doesn't allocate.
     pub(crate) fn written(&self, number: usize, place: usize) -> Target<'_>
         requires { place < length (writes_of self.now number) }
         ensures { result ≡ target_of self.entry.now
@@ -217,30 +213,30 @@ impl<'a> Subject<'a> {
         target_at(&self.tables.files, at)
     }
 
-    /// How many files the recipe of a node reads. It takes no memory.
+    /// How many files the recipe of a node reads. Doesn't allocate.
     pub fn count_of_reads(&self, number: usize) -> usize
         ensures { result ≡ length (reads_of self.now number) }
     {
         self.tables.files.reads.at(number).len()
     }
 
-    /// How many files the recipe of a node reads that aren't settled. It takes no memory.
+    /// How many unsettled files the recipe of a node reads. Doesn't allocate.
     pub fn count_of_unsettled(&self, number: usize) -> usize
         ensures { result ≡ length (unsettled_of self.now number) }
     {
         self.tables.unsettled.at(number).len()
     }
 
-    /// How many files all recipes read that aren't settled: no recipe reads more of them. It takes
-    /// no memory.
+    /// How many unsettled reads all recipes have together; a bound for each of them. Doesn't
+    /// allocate.
     pub fn count_of_all_unsettled(&self) -> usize
         ensures { (t : ℕ) → length (unsettled_of self.now t) ≤ result }
     {
         self.tables.unsettled.total()
     }
 
-    /// The file at a place among those that the recipe of a node reads and that aren't settled,
-    /// with what is known of it. It takes no memory.
+    /// The file at `place` among the unsettled ones that the recipe of a node reads. Doesn't
+    /// allocate.
     pub(crate) fn unsettled(&self, number: usize, place: usize) -> Target<'_>
         requires { place < length (unsettled_of self.now number) }
         ensures { result ≡ target_of self.entry.now
@@ -250,9 +246,8 @@ impl<'a> Subject<'a> {
         target_at(&self.tables.files, at)
     }
 
-    /// The file at a place of what the recipe of a node reads, with what is known of it. It takes
-    /// no memory.
-    pub fn read(&self, entry: &Entry<'_>, place: usize) -> Target<'_>
+    /// The file at `place` among those that the recipe of a node reads. Doesn't allocate.
+    pub fn read(&self, entry: &NodeRow<'_>, place: usize) -> Target<'_>
         requires entry { IsEntry self.now entry.now }
         requires place { place < length (entry_reads entry.now) }
         ensures { result ≡ target_of self.entry.now

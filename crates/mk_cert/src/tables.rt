@@ -1,47 +1,47 @@
-//! What a subject looks up.
+//! The tables of a subject.
 
 ghost use Rattle.std.specs.Prelude.{◌≡◌, [], map, IfErr, IfOk};
 ghost use Rattle.mk_graph.specs.Graph.{IsGraph};
 ghost use Rattle.mk_cert.specs.Subject.{subject_of};
-ghost use Rattle.mk_cert.specs.Entry.{AreEntries, IsFaultOf};
+ghost use Rattle.mk_cert.specs.NodeRow.{AreEntries, IsFaultOf};
 ghost use Rattle.mk_cert.specs.Tables.{AreTables};
 
-use crate::entry::Entry;
 use crate::files::{Files, files_of};
-use crate::links::node_names;
 use crate::looking_up::entries_for;
+use crate::node_row::NodeRow;
 use crate::number_rows::NumberRows;
 use crate::records::Records;
 use crate::settled::unsettled_places;
+use crate::way_tables::node_names;
 use crate::writers::writers_among;
 use mk_foot::Setting;
 use mk_graph::Graph;
 use mk_graph::laws::serial_reaches_each_once;
 use mk_infer::{Exists, InferFault, RuleTable};
-use mk_lines::NameSet;
+use mk_lines::BorrowedNames;
 use std::alloc::Global;
 
-/// What is looked up of a subject.
+/// The tables of a subject, each built once.
 #[derive(Drop)]
 pub struct Tables<'a> {
-    /// Each node, in the serial order.
-    pub entries: Vec<Entry<'a>>,
+    /// The entry of each node, in the serial order.
+    pub entries: Vec<NodeRow<'a>>,
     /// The names of the nodes, each at its number.
-    pub names: NameSet<'a>,
-    /// The files that recipes read or write.
+    pub names: BorrowedNames<'a>,
+    /// The files with the names of nodes, and those that recipes read or write.
     pub files: Files<'a>,
-    /// For each node, at its number, the places of the files that its recipe reads and that aren't
+    /// For each node, at its number, the indices of the files that its recipe reads and that aren't
     /// settled.
     pub unsettled: NumberRows,
 }
 
-/// What is looked up of each node, and that the graph is one.
+/// The entry of each node; its contract also says that the graph is a valid one.
 fn entries_in<'a>(
     alloc: Global,
     table: &RuleTable<'_>,
     there: &Exists<'_>,
     records: &Records<'a>,
-) -> Result<Vec<Entry<'a>>, InferFault>
+) -> Result<Vec<NodeRow<'a>>, InferFault>
     requires { there.now.more ≡ [] }
     ensures graph { IsGraph records.now.graph }
     ensures entries { IfOk result (λ entries. AreEntries
@@ -55,7 +55,7 @@ fn entries_in<'a>(
     entries_for(alloc, table, there, records)
 }
 
-/// All that is looked up. The fault is the first one of the nodes' commands.
+/// Builds all tables. The error is the first fault of the nodes' commands, or out of memory.
 pub fn tables_for<'a>(
     alloc: Global,
     table: &RuleTable<'_>,

@@ -1,24 +1,22 @@
-//! A file, with what is known of it.
+//! A file with what is looked up for it.
 
 ghost use Rattle.std.specs.Prelude.{◌≡◌, true, ◌↔◌};
 ghost use Rattle.mk_graph.specs.Ways.{CanChange};
 ghost use Rattle.mk_cert.specs.Subject.{footprints};
 ghost use Rattle.mk_cert.specs.Target.{target_of};
 
-use crate::known::Known;
+use crate::file_info::FileInfo;
 use crate::subject::Subject;
 use std::marker::Model;
 
-/// A file, with what is known of it, which was looked up once. A contract sees its name and what is
-/// known.
+/// A file with what is looked up for it. Its model is the name and the `FileInfo`.
 #[derive(Drop)]
 pub struct Target<'a> {
     /// Its name.
     pub file: &'a str,
-    /// Its place among the files that recipes read or write.
+    /// Its index in the table of files.
     pub(crate) place: usize,
-    /// What is known of it.
-    pub(crate) known: &'a Known,
+    pub(crate) known: &'a FileInfo,
 }
 
 impl<'a> Model for Target<'a> {
@@ -30,7 +28,7 @@ impl<'a> Model for Target<'a> {
 }
 
 impl<'a> Target<'a> {
-    /// The numbers of the nodes that write it, in the serial order.
+    /// The numbers of the nodes that write the file, in the serial order.
     pub fn writers(&self) -> &'a [usize]
         ensures { result.now ≡ self.now.known.writers }
     {
@@ -38,7 +36,7 @@ impl<'a> Target<'a> {
         known.writers.as_slice()
     }
 
-    /// Whether it can change.
+    /// Whether the file can change: it is editable or not given.
     pub fn can_change(&self, subject: &Subject<'_>) -> bool
         requires { self.now ≡ target_of subject.now self.now.file }
         ensures { (result ≡ true) ↔ CanChange (footprints subject.now.setting) self.now.file }

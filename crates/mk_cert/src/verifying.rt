@@ -1,4 +1,4 @@
-//! Whether a certificate shows that a build is safe.
+//! Checks a certificate.
 
 ghost use Rattle.std.specs.Prelude.{◌≡◌, ◌⊎◌, ◌↔◌, true, map, Err, OnOk};
 ghost use Rattle.mk_graph.specs.Right.{IsRight};
@@ -16,12 +16,12 @@ use crate::first::{first_race, first_static};
 use crate::judging::{check_entries, empty_sets};
 use crate::lacking::check_reads;
 use crate::laws::verified_is_right;
-use crate::links::links_of;
 use crate::subject::Subject;
-use mk_ways::{Certificate, PackedNames, Ways};
+use crate::way_tables::way_tables_of;
+use mk_cert_text::{Certificate, PackedNames, Ways};
 use std::alloc::Global;
 
-/// Whether these names are those of the goals, in their order.
+/// Whether `names` are the names of the goals, in their order.
 fn has_goals(subject: &Subject<'_>, names: &PackedNames) -> bool
     ensures { (result ≡ true) ↔ (names.now ≡ map (name_of subject.now) subject.now.graph.goals) }
 {
@@ -39,7 +39,8 @@ fn has_goals(subject: &Subject<'_>, names: &PackedNames) -> bool
     true
 }
 
-/// That nothing is found, or the first that is: static, or else a race (76).
+/// Checks that there is no finding of `static_findings` and no race. Else the error is `Static`
+/// (76) with the first one, static findings before races.
 fn check_found(alloc: Global, subject: &Subject<'_>) -> Result<(), CertFault>
     ensures { (result ≡ Err Memory) ⊎ AnswersFound subject.now result }
 {
@@ -52,27 +53,28 @@ fn check_found(alloc: Global, subject: &Subject<'_>) -> Result<(), CertFault>
     Ok(())
 }
 
-/// That no entry is bad, or the first one that is (75); then that each read that needs a way has
-/// its entry, or the first that hasn't (74).
+/// Checks that no entry is bad, then that each read that needs a way has an entry. The errors are
+/// `BadWay` (75) with the first bad entry, and `NoWay` (74) with the first read without an entry.
 fn check_ways(alloc: Global, subject: &Subject<'_>, ways: &Ways) -> Result<(), CertFault>
     ensures { (result ≡ Err Memory) ⊎ AnswersWays subject.now ways.now result }
 {
     let carried = carried_lists(alloc, subject)?;
-    let links = links_of(alloc, subject, &carried)?;
+    let links = way_tables_of(alloc, subject, &carried)?;
     let mut seen = empty_sets(alloc, subject.graph().nodes().len())?;
     check_entries(alloc, subject, &links, ways, &mut seen)?;
     check_reads(alloc, subject, &seen)
 }
 
-/// Whether a certificate shows that a build is safe: its goals are those of the graph, nothing is
-/// found in the footprints, no entry is bad, and each read of a file that can change has its entry.
-/// Else the first of these that fails, in the order of 73, 76, 75 and 74.
+/// Accepts the certificate if its goals are those of the graph, nothing is found in the footprints,
+/// no entry is bad, and each read of a file that can change has an entry. Else the error is the
+/// first of these that fails: `OtherGoals` (73), `Static` (76), `BadWay` (75), `NoWay` (74).
+/// `Memory` can come in place of any result.
 ///
-/// Where it answers `Ok`, every legal history is right: after each make of any of the goals that
-/// comes to its end, with any number of jobs and any overlap of recipes, after any edits, makes and
-/// stops, the files of all recipes that these goals reach hold what a clean build would give them.
-/// And the graph is the one that is selected whatever part of the files that recipes write is
-/// there, for the goals and for each part of them.
+/// After `Ok`, every legal history is right: after each finished make of any of the goals, with any
+/// number of jobs, any overlap of recipes, and any edits, makes and stops before it, the files of
+/// all recipes that these goals reach hold what a clean build would give. Also, the same graph is
+/// selected whatever part of the files that recipes write exists, for the goals and for each subset
+/// of them.
 pub fn verify(
     alloc: Global,
     subject: &Subject<'_>,

@@ -3,30 +3,30 @@
 ghost use Rattle.std.specs.Prelude.{◌≡◌, ◌↔◌, ℕ, [], true, drop, slice_index_or, IfOk, IfSome, MatchOption, OnOk};
 ghost use Rattle.mk_lines.specs.Names.{has_name};
 ghost use Rattle.mk_graph.specs.Membership.{Has};
-ghost use Rattle.mk_graph.specs.Setting.{Needs};
+ghost use Rattle.mk_graph.specs.Setting.{HasDirectPrerequisite};
 ghost use Rattle.mk_cert.specs.Subject.{footprints, name_of, reads_of};
 ghost use Rattle.mk_cert.specs.Conditions.{IsRecipe};
 ghost use Rattle.mk_cert.specs.Cursor.{IsReadOf};
 ghost use Rattle.mk_cert.specs.Paths.{EndsAt};
 ghost use Rattle.mk_cert.specs.Verdict.{IsGood};
-ghost use Rattle.mk_cert.specs.Links.{AreEnds, AreLinks, HoldReads};
+ghost use Rattle.mk_cert.specs.WayTables.{AreEnds, AreLinks, HoldReads};
 ghost use Rattle.mk_cert.specs.Target.{target_of};
-ghost use Rattle.mk_cert.specs.Walking.{GoesOver, Leads};
+ghost use Rattle.mk_cert.specs.Walking.{GoesOver, LeadsToFile};
 
 use crate::cursor::{Cursor, NamedRead};
-use crate::links::{Ends, Links};
 use crate::number_list::NumberList;
 use crate::read_lists::ReadLists;
 use crate::seen_names::SeenNames;
 use crate::subject::Subject;
 use crate::target::Target;
+use crate::way_tables::{EndTables, WayTables};
 use crate::writer_findings::has_number;
+use mk_cert_text::{Finish, Path, Way};
 use mk_graph::growth_laws::names_have_one_number;
 use mk_graph::laws::serial_reaches_each_once;
-use mk_ways::{Finish, Path, Way};
 use std::alloc::{AllocError, Global};
 
-/// Whether a number stands in the list at a place.
+/// Whether the number is in the list at an index.
 fn has_at(lists: &[NumberList<'_>], place: usize, number: usize) -> bool
     ensures { (result ≡ true) ↔ Has (slice_index_or lists.now place []) number }
 {
@@ -36,7 +36,7 @@ fn has_at(lists: &[NumberList<'_>], place: usize, number: usize) -> bool
     }
 }
 
-/// Whether a name stands in the set at a place.
+/// Whether the name is in the set at an index.
 pub fn stands_at(sets: &[SeenNames<'_>], place: usize, name: &str) -> bool
     ensures { result ≡ has_name (slice_index_or sets.now place []) name.now }
 {
@@ -46,7 +46,7 @@ pub fn stands_at(sets: &[SeenNames<'_>], place: usize, name: &str) -> bool
     }
 }
 
-/// Whether a node is the recipe with a name.
+/// Whether the node has a recipe and this name.
 fn is_recipe_named(subject: &Subject<'_>, number: usize, name: &str) -> bool
     ensures { result ≡ true →
         IsRecipe subject.now number × (name_of subject.now number ≡ name.now) }
@@ -57,8 +57,7 @@ fn is_recipe_named(subject: &Subject<'_>, number: usize, name: &str) -> bool
     }
 }
 
-/// The number of the recipe with a name. It may be the one that is likely, which is looked at
-/// first.
+/// The number of the recipe with this name, if there is one. It tries the node `likely` first.
 fn recipe_named(subject: &Subject<'_>, likely: usize, name: &str) -> Option<usize>
     ensures { MatchOption result ((n : ℕ) → IsRecipe subject.now n →
         ¬ (name_of subject.now n ≡ name.now))
@@ -78,9 +77,9 @@ fn recipe_named(subject: &Subject<'_>, likely: usize, name: &str) -> Option<usiz
     Some(number)
 }
 
-/// The recipe that is likely to stand behind another one on a path to a file: at its end one that
-/// writes the file, else the first that the other one carries.
-fn likely_behind(links: &Links<'_>, last: usize, file: &Target<'_>, is_end: bool) -> usize {
+/// A guess at the next recipe on a path to a file: at the end of the path the first writer of the
+/// file, else the first recipe that `last` carries.
+fn likely_behind(links: &WayTables<'_>, last: usize, file: &Target<'_>, is_end: bool) -> usize {
     let first = if is_end {
         file.writers().first().copied()
     } else {
@@ -92,11 +91,11 @@ fn likely_behind(links: &Links<'_>, last: usize, file: &Target<'_>, is_end: bool
     first.unwrap_or(0)
 }
 
-/// The last recipe of a path to a file, which begins at this one and goes over recipes with these
-/// names but the first.
+/// The last recipe of the path, if the path begins at `start`, all its other names are those of
+/// recipes, and each recipe carries the next. The first name of the path isn't looked at.
 fn last_over(
     subject: &Subject<'_>,
-    links: &Links<'_>,
+    links: &WayTables<'_>,
     start: usize,
     path: &Path<'_>,
     file: &Target<'_>,
@@ -124,12 +123,12 @@ fn last_over(
     Some(last)
 }
 
-/// Whether a file is a direct prerequisite of a node.
-fn needs(subject: &Subject<'_>, ends: &Ends<'_>, number: usize, file: &Target<'_>) -> bool
+/// Whether the file is a direct prerequisite of the node.
+fn needs(subject: &Subject<'_>, ends: &EndTables<'_>, number: usize, file: &Target<'_>) -> bool
     requires ends { AreEnds subject.now ends.now.needed.items
         ends.now.always.items }
     requires file { file.now ≡ target_of subject.now file.now.file }
-    ensures { (result ≡ true) ↔ Needs subject.now.graph number file.now.file }
+    ensures { (result ≡ true) ↔ HasDirectPrerequisite subject.now.graph number file.now.file }
 {
     names_have_one_number();
     let _graph = subject.graph();
@@ -137,11 +136,11 @@ fn needs(subject: &Subject<'_>, ends: &Ends<'_>, number: usize, file: &Target<'_
     has_at(&ends.needed, number, known.number)
 }
 
-/// Whether a path to a file may end so at a recipe. A file has one writer where nothing was found,
-/// so its writers are no list to go through.
+/// Whether a path to the file may end at this recipe with this `finish`. Without `TwoWriters`
+/// findings a file has one writer, so a linear search of its writers is fast.
 pub fn ends_at(
     subject: &Subject<'_>,
-    ends: &Ends<'_>,
+    ends: &EndTables<'_>,
     file: &Target<'_>,
     finish: Finish,
     number: usize,
@@ -162,10 +161,10 @@ pub fn ends_at(
     }
 }
 
-/// Whether the path of an entry goes on from its first recipe to its file.
+/// Whether the path of the entry leads from its first recipe, `start`, to its file.
 fn leads(
     subject: &Subject<'_>,
-    links: &Links<'_>,
+    links: &WayTables<'_>,
     start: usize,
     way: &Way<'_>,
     file: &Target<'_>,
@@ -173,7 +172,7 @@ fn leads(
     requires links { AreLinks subject.now links.now.carried.items links.now.ends.needed.items
         links.now.ends.always.items }
     requires file { file.now ≡ target_of subject.now way.now.file }
-    ensures { (result ≡ true) ↔ Leads subject.now start (drop 1 way.now.path) way.now }
+    ensures { (result ≡ true) ↔ LeadsToFile subject.now start (drop 1 way.now.path) way.now }
 {
     names_have_one_number();
     let _graph = subject.graph();
@@ -186,8 +185,8 @@ fn leads(
     ends_at(subject, &links.ends, file, way.finish, last)
 }
 
-/// The read of a recipe and a file with these names: the one at which the cursor stands, or the one
-/// that is looked up.
+/// The recipe and the file with these names, if the recipe reads the file. It tries the cursor's
+/// guess before it looks up the names.
 fn read_named<'s>(
     alloc: Global,
     subject: &'s Subject<'_>,
@@ -224,8 +223,13 @@ fn read_named<'s>(
     }))
 }
 
-/// Whether an entry, whose recipe reads its file, is good.
-fn is_good(subject: &Subject<'_>, links: &Links<'_>, way: &Way<'_>, found: &NamedRead<'_>) -> bool
+/// Whether the entry is good, where `found` is its read.
+fn is_good(
+    subject: &Subject<'_>,
+    links: &WayTables<'_>,
+    way: &Way<'_>,
+    found: &NamedRead<'_>,
+) -> bool
     requires links { AreLinks subject.now links.now.carried.items links.now.ends.needed.items
         links.now.ends.always.items }
     requires found { IsReadOf subject.now way.now.recipe way.now.file found.now.recipe
@@ -240,11 +244,11 @@ fn is_good(subject: &Subject<'_>, links: &Links<'_>, way: &Way<'_>, found: &Name
     found.file.can_change(subject) && leads(subject, links, found.recipe, way, &found.file)
 }
 
-/// The number of the recipe of an entry, where the entry is good.
+/// The number of the entry's recipe, if the entry is good. The only error is out of memory.
 pub fn good_start<'s>(
     alloc: Global,
     subject: &'s Subject<'_>,
-    links: &Links<'_>,
+    links: &WayTables<'_>,
     lists: &mut ReadLists<'s>,
     cursor: &mut Cursor,
     way: &Way<'_>,

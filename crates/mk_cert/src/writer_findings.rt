@@ -1,20 +1,20 @@
-//! What is found of the writers of files.
+//! The check `Loose`, of names without a recipe whose files are written.
 
 ghost use Rattle.std.specs.Prelude.{◌≡◌, ◌∷◌, [], ℕ, false, map, OnOk};
 ghost use Rattle.mk_graph.specs.Membership.{Has, has};
 ghost use Rattle.mk_graph.specs.Serial.{serial_order};
 ghost use Rattle.mk_cert.specs.Subject.{name_of, writes_of};
 ghost use Rattle.mk_cert.specs.Candidates.{loose};
-ghost use Rattle.mk_cert.specs.Entry.{IsEntry, writers_of};
+ghost use Rattle.mk_cert.specs.NodeRow.{IsEntry, writers_of};
 ghost use Rattle.mk_cert.specs.Listed.{Adds};
 
-use crate::entry::Entry;
 use crate::file_names::FileNames;
 use crate::finding::Finding;
+use crate::node_row::NodeRow;
 use crate::subject::Subject;
 use std::alloc::AllocError;
 
-/// Whether a number stands among these.
+/// Whether `number` is among `numbers`.
 pub fn has_number(numbers: &[usize], number: usize) -> bool
     ensures { result ≡ has numbers.now number }
 {
@@ -26,10 +26,10 @@ pub fn has_number(numbers: &[usize], number: usize) -> bool
     false
 }
 
-/// Adds that a writer of a name without a recipe is no direct prerequisite of it, if it is so.
+/// Adds the finding `Loose`, if `writer` isn't a direct prerequisite of this node without a recipe.
 fn note_loose_writer(
     subject: &Subject<'_>,
-    entry: &Entry<'_>,
+    entry: &NodeRow<'_>,
     writer: usize,
     names: &mut FileNames,
     found: &mut Vec<Finding>,
@@ -50,10 +50,11 @@ fn note_loose_writer(
     Ok(())
 }
 
-/// Adds which of these writers of a name without a recipe are no direct prerequisites of it.
+/// Adds the finding `Loose` for each of these writers that isn't a direct prerequisite of this node
+/// without a recipe.
 fn note_loose_writers(
     subject: &Subject<'_>,
-    entry: &Entry<'_>,
+    entry: &NodeRow<'_>,
     writers: &[usize],
     names: &mut FileNames,
     found: &mut Vec<Finding>,
@@ -71,9 +72,9 @@ fn note_loose_writers(
     Ok(())
 }
 
-/// The numbers of the nodes that write the file with the name of a node, in the serial order. What
-/// is known of an entry doesn't tell that its number is a node's, so this is looked at first.
-fn writers_for<'s>(subject: &'s Subject<'_>, entry: &Entry<'_>) -> &'s [usize]
+/// The numbers of the nodes that write the file with the node's name, in the serial order. The
+/// contract of an entry doesn't bound its number, so the bound is tested first.
+fn writers_for<'s>(subject: &'s Subject<'_>, entry: &NodeRow<'_>) -> &'s [usize]
     requires { IsEntry subject.now entry.now }
     ensures { result.now ≡ writers_of subject.now (name_of subject.now entry.now.number) }
 {
@@ -83,10 +84,11 @@ fn writers_for<'s>(subject: &'s Subject<'_>, entry: &Entry<'_>) -> &'s [usize]
     subject.writers(entry.name())
 }
 
-/// Adds which writers of a name without a recipe are no direct prerequisites of it.
+/// Adds the finding `Loose` for each writer of the node's file that isn't a direct prerequisite of
+/// it, if the node has no recipe. The only error is out of memory.
 pub fn note_loose(
     subject: &Subject<'_>,
-    entry: &Entry<'_>,
+    entry: &NodeRow<'_>,
     names: &mut FileNames,
     found: &mut Vec<Finding>,
 ) -> Result<(), AllocError>

@@ -1,22 +1,22 @@
-//! Who writes a file.
+//! The table of the nodes that write each file.
 
 ghost use Rattle.std.specs.Prelude.{◌≡◌, ◌∷◌, ◌++◌, [], List, ℕ, map, filter, IfOk, OnOk, if◌then◌else◌};
 ghost use Rattle.std.specs.Str.{bytes_eq};
 ghost use Rattle.std.specs.String.{string_bytes};
 ghost use Rattle.mk_lines.specs.Names.{has_name};
-ghost use Rattle.mk_cert.specs.Entry.{entry_writes};
+ghost use Rattle.mk_cert.specs.NodeRow.{entry_writes};
 ghost use Rattle.mk_cert.specs.Writers.{numbers_at};
 
-use crate::entry::Entry;
 use crate::file_writers::FileWriters;
+use crate::node_row::NodeRow;
 use indexmap::IndexMap;
-use mk_foot::{is_repeated, seen_of};
+use mk_foot::{empty_seen_set, is_repeated};
 use std::alloc::{AllocError, Global};
 
 /// For each file the numbers of the nodes that write it, in the serial order.
 pub type Writers<'a> = IndexMap<&'a str, FileWriters>;
 
-/// One more writer of a file.
+/// Appends a writer of a file.
 fn add_writer<'a>(
     alloc: Global,
     writers: &mut Writers<'a>,
@@ -32,7 +32,7 @@ fn add_writer<'a>(
     Ok(())
 }
 
-/// A writer of each of these files, once.
+/// Appends a node as a writer of each of these files, once per file.
 fn add_files<'a>(
     alloc: Global,
     writers: &mut Writers<'a>,
@@ -43,7 +43,7 @@ fn add_files<'a>(
         numbers_at writers.new name ≡ (if has_name (map string_bytes files.now) name
         then numbers_at writers.old name ++ number ∷ [] else numbers_at writers.old name)) }
 {
-    let mut seen = seen_of(alloc, files.len())?;
+    let mut seen = empty_seen_set(alloc, files.len())?;
     for place in 0..files.len() {
         if is_repeated(files, place, &mut seen)? {
             continue;
@@ -53,7 +53,7 @@ fn add_files<'a>(
     Ok(())
 }
 
-/// The numbers of the nodes that write a file.
+/// The numbers of the nodes that write a file; empty where there are none.
 pub fn writers_at<'a>(writers: &'a Writers<'_>, file: &str) -> &'a [usize]
     ensures { result.now ≡ numbers_at writers.entry.now file.now }
 {
@@ -63,8 +63,8 @@ pub fn writers_at<'a>(writers: &'a Writers<'_>, file: &str) -> &'a [usize]
     }
 }
 
-/// The numbers of those nodes that write each file.
-pub fn writers_among<'a>(alloc: Global, entries: &[Entry<'a>]) -> Result<Writers<'a>, AllocError>
+/// The table of which of these nodes write each file. The only error is out of memory.
+pub fn writers_among<'a>(alloc: Global, entries: &[NodeRow<'a>]) -> Result<Writers<'a>, AllocError>
     ensures { IfOk result (λ writers. (name : List ℕ) →
         numbers_at writers name ≡ map (λ e. e.number)
         (filter (λ e. has_name (entry_writes e) name) entries.now)) }

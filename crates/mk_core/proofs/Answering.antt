@@ -15,11 +15,11 @@ use Rattle.mk_read.specs.declared.fault.ReadFault.{ReadFault}
 use Rattle.mk_read.specs.Files.{Told, text_at}
 use Rattle.mk_read.specs.Following as following
 use Rattle.mk_read.specs.Reading.{Makefile, makefile}
-use Rattle.mk_print.specs.declared.fault.Fault.{Fault}
-use Rattle.mk_print.specs.declared.fault.Fault.TheVariants.{Read, Infer, Foot, Plan, Certificate, Verify, FileReadFailed, NoFile, Memory}
+use Rattle.mk_core_text.specs.declared.fault.Fault.{Fault}
+use Rattle.mk_core_text.specs.declared.fault.Fault.TheVariants.{Read, Infer, Foot, Plan, Certificate, Verify, FileReadFailed, NoFile, Memory}
 use Rattle.mk_core.specs.declared.request.Request.{Request}
 use Rattle.mk_core.specs.Answer.{Answers, Draws, failed_file, failing_of}
-use Rattle.mk_print.specs.GraphText.{graph_text, shown_lines}
+use Rattle.mk_core_text.specs.GraphText.{graph_text, shown_lines}
 use Rattle.mk_core.specs.Ready.{Ready, book_for, exists, makefile_for, ready_for, setting_of}
 use Rattle.mk_core.specs.Steps.{◌>>=◌, as_fault, of_infer, of_read, seen}
 use Rattle.mk_core.specs.Views.{AnswersOver, DrawsOver, Finds, PrintsOver, ready_over, ready_with}
@@ -37,7 +37,7 @@ module _ (asked : Bool) (ready : Ready) where
   pub graph_printed : (g : value.Graph) (found : Result (Vec ℕ Global) InferFault) → Selects ready.makefile (exists ready) ready.goals (Ok g)
       → inferring.Gives (λ text. text.items) found (graph_text (shown_lines asked ready.makefile (exists ready)) g) → PrintsOver asked ready (seen (λ text. text.items) found)
   graph_printed g (Ok text) s h = (Ok g, s, sym h)
-  graph_printed g (Err fault) s (inl k) = λ settled. let e : true ≡ false = ap inferring.is_want_of_memory (sym k) ∙ settled in absurd cc
+  graph_printed g (Err fault) s (inl k) = λ settled. let e : true ≡ false = ap inferring.is_out_of_memory (sym k) ∙ settled in absurd cc
   graph_printed g (Err fault) s (inr h) = λ settled. (Ok g, s, sym h)
 
 -- ---- what is ready
@@ -72,8 +72,8 @@ module _ (files : Told) (request : Request) (m : Makefile) (goals : List (List �
 pub goals_fail : (files : Told) (request : Request) (m : Makefile) (fault : InferFault) → inferring.Fails fault (goal_names m request.goals) → Finds (λ failing. ready_over files failing request m) (Err (of_infer fault))
 goals_fail files request m fault h = by_infer (λ f. Finds (λ failing. ready_over files failing request m) (Err f)) fault (inl refl) (λ settled. by settled h)
   where
-    by : inferring.is_want_of_memory fault ≡ false → inferring.Fails fault (goal_names m request.goals) → Finds (λ failing. ready_over files failing request m) (Err (Infer fault))
-    by settled (inl k) = let e : true ≡ false = ap inferring.is_want_of_memory (sym k) ∙ settled in absurd cc
+    by : inferring.is_out_of_memory fault ≡ false → inferring.Fails fault (goal_names m request.goals) → Finds (λ failing. ready_over files failing request m) (Err (Infer fault))
+    by settled (inl k) = let e : true ≡ false = ap inferring.is_out_of_memory (sym k) ∙ settled in absurd cc
     by settled (inr is) = inr (ap (λ (r : Result (List (List ℕ)) InferFault). as_fault Infer r >>= ready_with files None request m) is)
 
 -- ---- the answer of a command

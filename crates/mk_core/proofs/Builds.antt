@@ -2,7 +2,7 @@
 use Rattle.std.proofs.Common.{◌≡◌, ◌⊎◌, ◌∙◌, ℕ, true, false, List, Result, Ok, Err, map, inl, inr, refl, sym, ap, subst}
 use Rattle.mk_graph.specs.Graph as value
 use Rattle.mk_graph.specs.Graph.{IsGraph}
-use Rattle.mk_cert.specs.Entry.{IsFaultOf}
+use Rattle.mk_cert.specs.NodeRow.{IsFaultOf}
 use Rattle.mk_cert.specs.Laws.{SelectedGoals}
 use Rattle.mk_cert.specs.Subject.{Subject, IsSubject, name_of, subject_of}
 use Rattle.mk_foot.specs.Setting.{Setting}
@@ -12,8 +12,8 @@ use Rattle.mk_infer.specs.Steps as inferring
 use Rattle.mk_infer.specs.declared.fault.InferFault.{InferFault}
 use Rattle.mk_read.specs.Files.{Told}
 use Rattle.mk_read.specs.Reading.{Makefile}
-use Rattle.mk_print.specs.declared.fault.Fault.{Fault}
-use Rattle.mk_print.specs.declared.fault.Fault.TheVariants.{Infer, Memory}
+use Rattle.mk_core_text.specs.declared.fault.Fault.{Fault}
+use Rattle.mk_core_text.specs.declared.fault.Fault.TheVariants.{Infer, Memory}
 use Rattle.mk_core.specs.Answer.{failing_of}
 use Rattle.mk_core.specs.FileText.{text_of}
 use Rattle.mk_core.specs.Judging.{AnswersJudged, AnswersTold, recorded, subject_over}
@@ -30,7 +30,7 @@ module _ {A : Type 0} (judges : Subject → Result A Fault → Type 0) where
   -- some commands can't be told
   pub told_fails : (x : Subject) (fault : InferFault) → IsFaultOf x fault → (◌≡◌ {A = Result A Fault} (Err (of_infer fault)) (Err Memory)) ⊎ AnswersTold judges x (Err (of_infer fault))
   told_fails x fault (inl e) =
-      by_infer (λ f. (◌≡◌ {A = Result A Fault} (Err f) (Err Memory)) ⊎ AnswersTold judges x (Err f)) fault (inl refl) (λ settled. let k : true ≡ false = ap inferring.is_want_of_memory (sym e) ∙ settled in absurd cc)
+      by_infer (λ f. (◌≡◌ {A = Result A Fault} (Err f) (Err Memory)) ⊎ AnswersTold judges x (Err f)) fault (inl refl) (λ settled. let k : true ≡ false = ap inferring.is_out_of_memory (sym e) ∙ settled in absurd cc)
   told_fails x fault (inr first) =
       by_infer (λ f. (◌≡◌ {A = Result A Fault} (Err f) (Err Memory)) ⊎ AnswersTold judges x (Err f)) fault (inl refl) (λ settled. inr (inr (fault, first, refl)))
 

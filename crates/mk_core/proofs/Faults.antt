@@ -1,31 +1,30 @@
--- Faults of the lower crates as those of a request: how they count, and want of memory among them.
+-- Faults of the lower crates as those of a request: how they count, and out of memory among them.
 use Rattle.std.proofs.Common.{◌≡◌, ℕ, Bool, true, false, cond, refl, sym, ap, ◌∙◌}
 use Rattle.std.specs.Prelude.{not}
-use Rattle.std.specs.Prelude.{Option, None, Some, IfSome}
 use Rattle.mk_infer.specs.declared.fault.InferFault.{InferFault}
 use Rattle.mk_infer.specs.Steps as inferring
 use Rattle.mk_read.specs.declared.fault.ReadFault.{ReadFault}
 use Rattle.mk_read.specs.Steps as reading
-use Rattle.mk_print.specs.declared.fault.Fault.{Fault}
-use Rattle.mk_print.specs.declared.fault.Fault.TheVariants.{Read, Infer, Memory}
+use Rattle.mk_core_text.specs.declared.fault.Fault.{Fault}
+use Rattle.mk_core_text.specs.declared.fault.Fault.TheVariants.{Read, Infer, Memory}
 use Rattle.mk_core.specs.Answer.{Rises}
-use Rattle.mk_core.specs.Steps.{is_want_of_memory, of_infer, of_read}
+use Rattle.mk_core.specs.Steps.{is_out_of_memory, of_infer, of_read}
 
 -- what holds of Memory and of another fault holds of either
 either : (P : Fault → Type 0) (fault : Fault) (b : Bool) → (b ≡ true → P Memory) → (b ≡ false → P fault) → P (cond b Memory fault)
 either P fault true m f = m refl
 either P fault false m f = f refl
 
-pub by_infer : (P : Fault → Type 0) (fault : InferFault) → P Memory → (inferring.is_want_of_memory fault ≡ false → P (Infer fault)) → P (of_infer fault)
-by_infer P fault m f = either P (Infer fault) (inferring.is_want_of_memory fault) (λ _. m) f
+pub by_infer : (P : Fault → Type 0) (fault : InferFault) → P Memory → (inferring.is_out_of_memory fault ≡ false → P (Infer fault)) → P (of_infer fault)
+by_infer P fault m f = either P (Infer fault) (inferring.is_out_of_memory fault) (λ _. m) f
 
-pub by_read : (P : Fault → Type 0) (fault : ReadFault) → P Memory → (reading.is_want_of_memory fault ≡ false → P (Read fault)) → P (of_read fault)
-by_read P fault m f = either P (Read fault) (reading.is_want_of_memory fault) (λ _. m) f
+pub by_read : (P : Fault → Type 0) (fault : ReadFault) → P Memory → (reading.is_out_of_memory fault ≡ false → P (Read fault)) → P (of_read fault)
+by_read P fault m f = either P (Read fault) (reading.is_out_of_memory fault) (λ _. m) f
 
 true≢false : true ≡ false → ⊥
 true≢false e = absurd cc
 
--- a fault that is no want of memory isn't found to be one
+-- the test for out of memory says no of any other fault
 not_both : (b : Bool) → b ≡ false → b ≡ true → ⊥
 not_both b f t = true≢false (sym t ∙ f)
 
@@ -34,32 +33,15 @@ pub turned : (b r : Bool) → b ≡ not r → r ≡ not b
 turned b true e = sym (ap not e)
 turned b false e = sym (ap not e)
 
--- ---- want of memory has one form
+-- ---- out of memory has one form
 
-pub plain_infer : (fault : InferFault) → is_want_of_memory (of_infer fault) ≡ true → of_infer fault ≡ Memory
-plain_infer fault = by_infer (λ f. is_want_of_memory f ≡ true → f ≡ Memory) fault (λ _. refl) (λ settled found. absurd (not_both (inferring.is_want_of_memory fault) settled found))
+pub plain_infer : (fault : InferFault) → is_out_of_memory (of_infer fault) ≡ true → of_infer fault ≡ Memory
+plain_infer fault = by_infer (λ f. is_out_of_memory f ≡ true → f ≡ Memory) fault (λ _. refl) (λ settled found. absurd (not_both (inferring.is_out_of_memory fault) settled found))
 
-pub plain_read : (fault : ReadFault) → is_want_of_memory (of_read fault) ≡ true → of_read fault ≡ Memory
-plain_read fault = by_read (λ f. is_want_of_memory f ≡ true → f ≡ Memory) fault (λ _. refl) (λ settled found. absurd (not_both (reading.is_want_of_memory fault) settled found))
+pub plain_read : (fault : ReadFault) → is_out_of_memory (of_read fault) ≡ true → of_read fault ≡ Memory
+plain_read fault = by_read (λ f. is_out_of_memory f ≡ true → f ≡ Memory) fault (λ _. refl) (λ settled found. absurd (not_both (reading.is_out_of_memory fault) settled found))
 
 -- ---- faults that read nothing
 
 pub stays_infer : (old new : ℕ) (fault : InferFault) → new ≡ old → Rises old new (of_infer fault)
 stays_infer old new fault e = by_infer (Rises old new) fault e (λ _. e)
-
--- ---- facts of the files that are told
-
--- from one of all files
-pub some_all : {A : Type 0} {P : A → Type 0} (o : Option A) → ((x : A) → P x) → IfSome o P
-some_all None h = tt
-some_all (Some x) h = h x
-
--- from another
-pub some_with : {A : Type 0} {P Q : A → Type 0} (o : Option A) → IfSome o P → ((x : A) → P x → Q x) → IfSome o Q
-some_with None p h = tt
-some_with (Some x) p h = h x p
-
--- from two others
-pub some_both : {A : Type 0} {P R Q : A → Type 0} (o : Option A) → IfSome o P → IfSome o R → ((x : A) → P x → R x → Q x) → IfSome o Q
-some_both None p r h = tt
-some_both (Some x) p r h = h x p r

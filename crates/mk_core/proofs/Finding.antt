@@ -1,4 +1,5 @@
--- What is ready is ready where another file fails to be read later, or that file is the one that fails.
+-- What is ready is ready where another file fails to be read later, or that file is the one that
+-- fails.
 use Rattle.std.proofs.Common.{◌≡◌, ◌⊎◌, ◌∙◌, ℕ, Bool, true, false, List, Option, None, Some, Result, Ok, Err, inl, inr, refl, sym, ap, subst}
 use Rattle.std.proofs.lemmas.Bool.{cond-true, cond-false}
 use Rattle.std.proofs.lemmas.Slice.Eq.{bytes_eq-Decides}
@@ -9,8 +10,8 @@ use Rattle.mk_infer.specs.Goals.{goal_names}
 use Rattle.mk_infer.specs.declared.fault.InferFault.{InferFault}
 use Rattle.mk_read.specs.Files.{Told, text_at}
 use Rattle.mk_read.specs.Reading.{Makefile}
-use Rattle.mk_print.specs.declared.fault.Fault.{Fault}
-use Rattle.mk_print.specs.declared.fault.Fault.TheVariants.{Read, Infer, Foot, Plan, Certificate, Verify, FileReadFailed, NoFile, Memory}
+use Rattle.mk_core_text.specs.declared.fault.Fault.{Fault}
+use Rattle.mk_core_text.specs.declared.fault.Fault.TheVariants.{Read, Infer, Foot, Plan, Certificate, Verify, FileReadFailed, NoFile, Memory}
 use Rattle.mk_core.specs.declared.request.Request.{Request}
 use Rattle.mk_core.specs.Answer.{Draws}
 use Rattle.mk_core.specs.FileText.{text_of}

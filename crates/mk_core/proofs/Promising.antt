@@ -13,14 +13,14 @@ use Rattle.mk_find.specs.Laws.{CertificateIsAccepted, NoFindings}
 use Rattle.mk_infer.specs.Laws.{StaysSelected}
 use Rattle.mk_infer.specs.Selection.{Selects}
 use Rattle.mk_read.specs.Files.{Told, text_at}
-use Rattle.mk_ways.specs.Certificate.{Certificate}
-use Rattle.mk_ways.specs.Reading.{certificate_from}
-use Rattle.mk_ways.specs.declared.fault.CertificateFault.{CertificateFault}
-use Rattle.mk_print.specs.declared.fault.Fault.{Fault}
-use Rattle.mk_print.specs.declared.fault.Fault.TheVariants.{NoFile}
+use Rattle.mk_cert_text.specs.Certificate.{Certificate}
+use Rattle.mk_cert_text.specs.Reading.{certificate_from}
+use Rattle.mk_cert_text.specs.declared.fault.CertTextFault.{CertTextFault}
+use Rattle.mk_core_text.specs.declared.fault.Fault.{Fault}
+use Rattle.mk_core_text.specs.declared.fault.Fault.TheVariants.{NoFile}
 use Rattle.mk_core.specs.declared.request.Request.{Request}
-use Rattle.mk_print.specs.declared.verdict.Verdict.{Verdict}
-use Rattle.mk_print.specs.declared.verdict.Verdict.TheVariants.{Yes, No}
+use Rattle.mk_core_text.specs.declared.verdict.Verdict.{Verdict}
+use Rattle.mk_core_text.specs.declared.verdict.Verdict.TheVariants.{Yes, No}
 use Rattle.mk_core.specs.Answer.{Draws}
 use Rattle.mk_core.specs.CheckAnswer.{AnswersCheck, IsVerdict, IsYes}
 use Rattle.mk_core.specs.Judging.{recorded, subject_over}
@@ -80,7 +80,7 @@ module _ (x : Subject) (text : List ℕ) where
   of_verdict c (Ok done) v e = v
   of_verdict c (Err why) v e = absurd cc
 
-  of_certificate : (r : Result Certificate CertificateFault) → VerifiesCertificate x r (Ok text) → (c : Certificate) × Verifies x c (Ok tt)
+  of_certificate : (r : Result Certificate CertTextFault) → VerifiesCertificate x r (Ok text) → (c : Certificate) × Verifies x c (Ok tt)
   of_certificate (Ok c) (verdict, v, e) = (c, of_verdict c verdict v e)
   of_certificate (Err why) e = absurd cc
 

@@ -3,7 +3,7 @@ use Rattle.std.proofs.Common.{ℕ, List, Result, Ok, Err, inl, inr, refl}
 use Rattle.mk_graph.specs.Graph as value
 use Rattle.mk_infer.specs.declared.fault.InferFault.{InferFault}
 use Rattle.mk_read.specs.Files.{Told}
-use Rattle.mk_print.specs.declared.fault.Fault.{Fault}
+use Rattle.mk_core_text.specs.declared.fault.Fault.{Fault}
 use Rattle.mk_core.specs.Ready.{Ready, exists}
 use Rattle.mk_core.specs.Simulation.{Simulation}
 use Rattle.mk_core.specs.Steps.{of_infer}

@@ -1,27 +1,28 @@
--- What a command answers to a build that is judged.
+-- The answers of commands that judge a build.
 use Rattle.std.specs.Prelude.{◌≡◌, ◌⊎◌, false, Result, Err}
-use Rattle.mk_cert.specs.Entry.{IsFirstFault}
+use Rattle.mk_cert.specs.NodeRow.{IsFirstFault}
 use Rattle.mk_cert.specs.Subject.{Subject, IsSubject, subject_of}
 use Rattle.mk_graph.specs.Graph.{Graph, IsGraph}
 use Rattle.mk_graph.specs.Serial.{serial_order}
 use Rattle.mk_infer.specs.Selection.{Selects}
 use Rattle.mk_infer.specs.There.{Exists}
 use Rattle.mk_infer.specs.declared.fault.InferFault.{InferFault}
-use Rattle.mk_print.specs.declared.fault.Fault.{Fault}
-use Rattle.mk_print.specs.declared.fault.Fault.TheVariants.{Infer}
+use Rattle.mk_core_text.specs.declared.fault.Fault.{Fault}
+use Rattle.mk_core_text.specs.declared.fault.Fault.TheVariants.{Infer}
 use Rattle.mk_core.specs.Ready.{Ready, exists}
 use Rattle.mk_core.specs.Selected.{DrawsGraph}
 
--- The files that are there before a make, by what is recorded. No other name is given.
+-- The files that exist before a make by the footprint file and the makefile alone; no other name is
+-- given.
 abbrev pub recorded : Ready → Exists
 recorded ready = record (exists ready) { any_leaf = false }
 
--- what is judged of a graph
+-- The subject for a graph of the prepared request.
 abbrev pub subject_over : Ready → Graph → Subject
 subject_over ready g = subject_of ready.makefile (recorded ready) g ready.setting
 
--- The commands of each node can be told, and this is answered; or it is the fault of the first of
--- them that can't, in the serial order.
+-- The answer to a subject if the commands of each node have no fault; else the fault of the first
+-- node, in the serial order, whose commands have one.
 abbrev pub AnswersTold : {A : Type 0} → (Subject → Result A Fault → Type 0) → Subject →
     Result A Fault → Type 0
 AnswersTold judges x answer =
@@ -29,7 +30,8 @@ AnswersTold judges x answer =
     ((fault : InferFault) × IsFirstFault x (serial_order x.graph) fault ×
     (answer ≡ Err (Infer fault)))
 
--- the graph is selected by what is recorded, and its build is judged
+-- The graph is the one selected by the footprint file and the makefile, and the answer is the one
+-- to its subject, or the fault of the selection.
 abbrev pub AnswersJudged : {A : Type 0} → (Subject → Result A Fault → Type 0) → Ready →
     Result A Fault → Type 0
 AnswersJudged judges ready answer =

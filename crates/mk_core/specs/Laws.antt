@@ -1,21 +1,21 @@
--- Laws of the answer: what a yes promises.
+-- Laws about answers: what a yes promises.
 use Rattle.std.specs.Prelude.{List, ℕ, Result, Ok}
 use Rattle.mk_read.specs.Files.{Told}
-use Rattle.mk_print.specs.declared.fault.Fault.{Fault}
+use Rattle.mk_core_text.specs.declared.fault.Fault.{Fault}
 use Rattle.mk_core.specs.declared.request.Request.{Request}
-use Rattle.mk_print.specs.declared.verdict.Verdict.{Verdict}
+use Rattle.mk_core_text.specs.declared.verdict.Verdict.{Verdict}
 use Rattle.mk_core.specs.Answer.{Answers}
 use Rattle.mk_core.specs.CheckAnswer.{AnswersCheck, IsYes}
 use Rattle.mk_core.specs.Right.{IsRightFor}
 use Rattle.mk_core.specs.VerifyAnswer.{AnswersVerify}
 
--- Where the answer to a request for a verdict is yes, all is right.
+-- If `check` answers yes, `IsRightFor` holds.
 abbrev pub YesIsRight : Type 0
 YesIsRight =
     (files : Told) (request : Request) (answer : Result Verdict Fault) →
     Answers files request AnswersCheck answer → IsYes answer → IsRightFor files request
 
--- Where a certificate is accepted, all is right.
+-- If `verify` accepts a certificate, `IsRightFor` holds.
 abbrev pub AcceptedIsRight : Type 0
 AcceptedIsRight =
     (files : Told) (request : Request) (name text : List ℕ) →

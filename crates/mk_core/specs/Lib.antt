@@ -1,8 +1,8 @@
 pub use Rattle.mk_read.specs.Files
-pub use Rattle.mk_parse.specs.MemFiles
-pub use Rattle.mk_print.specs.FaultText
-pub use Rattle.mk_print.specs.GraphText
-pub use Rattle.mk_print.specs.VerdictText
+pub use Rattle.mk_read_parse.specs.MemFiles
+pub use Rattle.mk_core_text.specs.FaultText
+pub use Rattle.mk_core_text.specs.GraphText
+pub use Rattle.mk_core_text.specs.VerdictText
 pub mod Words
 pub mod Steps
 pub mod FileText

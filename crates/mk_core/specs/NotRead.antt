@@ -1,5 +1,5 @@
--- No command answers a fault of the makefile to what is ready. These are lemmas that the laws of
--- `Command` and `Judge` cite; a reader of the meaning may skip them.
+-- No command answers a prepared request with a fault of the makefile. These are lemmas that the
+-- laws of `Command` and `Judge` cite; a reader of the meaning may skip them.
 use Rattle.std.proofs.Common.{◌≡◌, ℕ, Bool, List, Option, None, Some, Result, Ok, Err, inl, inr, sym, subst}
 use Rattle.std.specs.Prelude.{⊤}
 use Rattle.std.specs.Option.{ok_or}
@@ -8,14 +8,14 @@ use Rattle.mk_cert.specs.declared.fault.CertFault.{CertFault}
 use Rattle.mk_graph.specs.Graph.{Graph}
 use Rattle.mk_read.specs.declared.fault.ReadFault.{ReadFault}
 use Rattle.mk_read.specs.Files.{Told, text_at}
-use Rattle.mk_ways.specs.Certificate as ways
-use Rattle.mk_ways.specs.Reading.{certificate_from}
-use Rattle.mk_ways.specs.declared.fault.CertificateFault.{CertificateFault}
+use Rattle.mk_cert_text.specs.Certificate as ways
+use Rattle.mk_cert_text.specs.Reading.{certificate_from}
+use Rattle.mk_cert_text.specs.declared.fault.CertTextFault.{CertTextFault}
 use Rattle.mk_world.specs.declared.plan.PlanFault.{PlanFault}
 use Rattle.mk_world.specs.declared.plan.PlanLine.{PlanLine}
-use Rattle.mk_world.specs.Plans.{plan_of}
-use Rattle.mk_print.specs.declared.fault.Fault.{Fault}
-use Rattle.mk_print.specs.declared.fault.Fault.TheVariants.{Read, Infer, Plan, Certificate, NoFile}
+use Rattle.mk_world_plan.specs.PlanReading.{plan_of}
+use Rattle.mk_core_text.specs.declared.fault.Fault.{Fault}
+use Rattle.mk_core_text.specs.declared.fault.Fault.TheVariants.{Read, Infer, Plan, Certificate, NoFile}
 use Rattle.mk_core.specs.CheckAnswer.{GivesVerdict}
 use Rattle.mk_core.specs.FileText.{text_of}
 use Rattle.mk_core.specs.GraphAnswer.{AnswersGraph}
@@ -24,12 +24,12 @@ use Rattle.mk_core.specs.Ready.{Ready}
 use Rattle.mk_core.specs.SimulationAnswer.{AnswersSimulation, RunsLines, RunsText}
 use Rattle.mk_core.specs.VerifyAnswer.{VerifiesCertificate, VerifiesText, accepted}
 
--- the answer is no fault of a makefile
+-- The answer is no fault of a makefile.
 abbrev pub IsNotRead : {A : Type 0} → Result A Fault → Type 0
 IsNotRead (Err (Read fault)) = ⊥
 IsNotRead answer = Unit {0}
 
--- another answer isn't one
+-- An answer that is no fault of a makefile differs from each such fault.
 pub differs :
     {A : Type 0} (f : ReadFault) (other : Result A Fault) → IsNotRead other →
     ◌≡◌ {A = Result A Fault} (Err (Read f)) other → ⊥
@@ -80,7 +80,7 @@ accepted_not_read x f (Ok done) e = differs f (accepted x (Ok done)) tt e
 accepted_not_read x f (Err why) e = differs f (accepted x (Err why)) tt e
 
 certificate_not_read :
-    (x : Subject) (f : ReadFault) (r : Result ways.Certificate CertificateFault) →
+    (x : Subject) (f : ReadFault) (r : Result ways.Certificate CertTextFault) →
     VerifiesCertificate x r (Err (Read f)) → ⊥
 certificate_not_read x f (Ok certificate) (verdict, v, e) = accepted_not_read x f verdict e
 certificate_not_read x f (Err why) e = differs f (Err (Certificate why)) tt e

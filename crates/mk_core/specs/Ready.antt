@@ -1,4 +1,4 @@
--- What a request needs before it is answered.
+-- Prepared requests.
 use Rattle.std.specs.Prelude.{ℕ, Bool, List, [], Option, None, Some, Result, Ok}
 use Rattle.std.specs.Option.{is_none}
 use Rattle.mk_foot.specs.Book.{Book, no_book}
@@ -10,21 +10,21 @@ use Rattle.mk_read.specs.declared.fault.ReadFault.{ReadFault}
 use Rattle.mk_read.specs.Files.{Told}
 use Rattle.mk_read.specs.Following.{reader_of}
 use Rattle.mk_read.specs.Reading.{Makefile, Reader, makefile}
-use Rattle.mk_print.specs.declared.fault.Fault.{Fault}
-use Rattle.mk_print.specs.declared.fault.Fault.TheVariants.{Read, Infer, Foot}
+use Rattle.mk_core_text.specs.declared.fault.Fault.{Fault}
+use Rattle.mk_core_text.specs.declared.fault.Fault.TheVariants.{Read, Infer, Foot}
 use Rattle.mk_core.specs.declared.request.Request.{Request}
 use Rattle.mk_core.specs.FileText.{text_of}
 use Rattle.mk_core.specs.Steps.{◌>>=◌, as_fault}
 
--- a makefile, its goals, what a build of them starts from, and whether each name that nothing makes
--- is given
+-- The makefile, the goals, the footprints and inputs of the build, and whether each name that
+-- nothing makes is given.
 pub record Ready : Type 0 where
   pub makefile : Makefile
   pub goals : List (List ℕ)
   pub setting : Setting
   pub any_leaf : Bool
 
--- the files that are there before a make
+-- The files that exist before a make.
 abbrev pub exists : Ready → Exists
 exists ready =
     record {
@@ -35,18 +35,19 @@ exists ready =
       more = [];
     }
 
--- the makefile of a request
+-- The makefile of a request, as the reader gives it.
 abbrev pub makefile_for : Request → Reader → Result Makefile ReadFault
 makefile_for request reader = makefile reader request.makefile request.defaults request.operands
 
--- The book of a file of footprints for these goals. Without such a file it says nothing.
+-- The footprints for these goals, from the footprint file; empty without such a file.
 abbrev pub book_for : Told → Option (List ℕ) → Option (List ℕ) → List (List ℕ) → Result Book Fault
 book_for files failing None goals = Ok no_book
 book_for files failing (Some name) goals = do
   bytes ← text_of files failing name
   as_fault Foot (book_from goals bytes)
 
--- what a build starts from by a book
+-- The build inputs: those of the footprint file, with the makefile's texts and the names that its
+-- reading passed over.
 abbrev pub setting_of : Makefile → Book → Setting
 setting_of m book =
     record {
@@ -57,8 +58,9 @@ setting_of m book =
       passed_over = m.passed_over;
     }
 
--- What a request needs, over files that are told, of which one that is no makefile can't be read or
--- none; or the first fault. Without footprints each name that nothing makes is given.
+-- The prepared request when the files have these contents and the file `failing`, if there is one,
+-- can't be read; or the first fault. Without a footprint file each name that nothing makes is
+-- given.
 abbrev pub ready_for : Told → Option (List ℕ) → Request → Result Ready Fault
 ready_for files failing request = do
   m ← as_fault Read (makefile_for request (reader_of files None))

@@ -12,10 +12,11 @@ use Rattle.mk_core.specs.declared.request.Request.{Request}
 use Rattle.mk_core.specs.Judging.{recorded, subject_over}
 use Rattle.mk_core.specs.Ready.{Ready, ready_for}
 
--- The files and the request give makefile, goals and footprints, and by these a graph. Over its
--- footprints every legal history is right, and so is one make from a start. And in each make the
--- selection made anew, with whatever part of the written files is there, gives this graph; for a
--- part of the goals it gives one graph too, whose nodes are nodes of this one.
+-- The files and the request give a makefile, goals and footprints, and these give a graph. Over
+-- this graph and its footprints every legal history is right, and so is one make from a start. In
+-- each make that reads the makefile again, whatever part of the files that recipes write exists,
+-- this same graph is selected; for some of the goals a graph is selected whose nodes are nodes of
+-- this one.
 pub record IsRightFor (files : Told) (request : Request) : Type 0 where
   pub ready : Ready
   pub graph : Graph

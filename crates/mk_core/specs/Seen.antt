@@ -1,17 +1,17 @@
--- What is answered, seen, is answered as it is seen. These are lemmas that proofs here and in
--- crates above cite; a reader of the meaning may skip them.
+-- Mapping a function over an answer keeps it an answer. These are lemmas that proofs here and in
+-- the crates above cite; a reader of the meaning may skip them.
 use Rattle.std.proofs.Common.{◌≡◌, None, Some, Result, Ok, Err, inl, inr, ap}
 use Rattle.mk_cert.specs.Subject.{Subject}
 use Rattle.mk_read.specs.Files.{Told}
-use Rattle.mk_print.specs.declared.fault.Fault.{Fault}
-use Rattle.mk_print.specs.declared.fault.Fault.TheVariants.{Read, Infer, Foot, Plan, Certificate, Verify, FileReadFailed, NoFile, Memory}
+use Rattle.mk_core_text.specs.declared.fault.Fault.{Fault}
+use Rattle.mk_core_text.specs.declared.fault.Fault.TheVariants.{Read, Infer, Foot, Plan, Certificate, Verify, FileReadFailed, NoFile, Memory}
 use Rattle.mk_core.specs.declared.request.Request.{Request}
 use Rattle.mk_core.specs.Answer.{Answers, Draws}
 use Rattle.mk_core.specs.Judging.{AnswersJudged}
 use Rattle.mk_core.specs.Ready.{Ready, ready_for}
 use Rattle.mk_core.specs.Steps.{seen}
 
--- the fault of an answer
+-- The fault of an answer.
 abbrev of_error : {A : Type 0} → Result A Fault → Fault
 of_error (Ok x) = Memory
 of_error (Err fault) = fault
@@ -21,7 +21,8 @@ pub fault_same :
     ◌≡◌ {A = Result B Fault} (Err one) (Err other)
 fault_same {A} {B} one other h = ap (λ (f : Fault). Err f) (ap (of_error {A = A}) h)
 
--- what is judged so, seen, is judged as it is seen
+-- If `f` maps each answer of one judging command to one of another, it does so for whole requests
+-- too.
 module _ {A B : Type 0} (f : A → B)
     (judges : Subject → Result A Fault → Type 0) (others : Subject → Result B Fault → Type 0)
     (along : (x : Subject) (answer : Result A Fault) →
@@ -36,7 +37,7 @@ module _ {A B : Type 0} (f : A → B)
   judged_along ready answer (Err fault, s, (settled, e)) =
       (Err fault, s, (settled, ap (seen f) e))
 
--- an answer to a request, seen, is answered as it is seen
+-- If `f` maps each answer of one command to one of another, it does so for whole requests too.
 module _ {A B : Type 0} (f : A → B) (files : Told) (request : Request)
     (one : Ready → Result A Fault → Type 0) (other : Ready → Result B Fault → Type 0)
     (turn : (ready : Ready) (answer : Result A Fault) →

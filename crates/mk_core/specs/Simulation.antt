@@ -1,4 +1,4 @@
--- What is shown of the run of a plan.
+-- The output of a plan's run.
 use Rattle.std.specs.Prelude.{◌≡◌, ℕ, Bool, List, ◌∷◌, ◌++◌, codes, Option, None, Some, is_some}
 use Rattle.mk_foot.specs.Setting.{Setting}
 use Rattle.mk_graph.specs.Graph.{Graph}
@@ -8,21 +8,21 @@ use Rattle.mk_world.specs.declared.plan.PlanLine.{PlanLine}
 use Rattle.mk_world.specs.Running.{Stage, RunsTo, files_text, stage_of}
 use Rattle.mk_world.specs.State.{State, world_of}
 use Rattle.mk_world.specs.Steps.{IsFirstOf}
-use Rattle.mk_print.specs.FaultText.{step_fault_text}
+use Rattle.mk_core_text.specs.FaultText.{step_fault_text}
 
--- a text, and whether a line of the plan was refused
+-- The text, and whether a line of the plan was refused.
 pub record Simulation : Type 0 where
   pub text : List ℕ
   pub refused : Bool
 
--- how the text ends: all lines were followed; or one was refused, and then the files are shown
+-- The end of the text: `plan ok`, or the refused line's fault followed by the files.
 abbrev pub last_lines : Stage → Option (ℕ × StepFault) → World → List ℕ
 last_lines stage None left = codes "plan ok\n"
 last_lines stage (Some (line, fault)) left =
     step_fault_text line fault ++ 10 ∷ files_text stage.names (disk_of left)
 
--- The lines are run in the first world, one after another. What they print is shown, and how the
--- run ended.
+-- The lines are run one after another in the first world, and the text is what they print, followed
+-- by how the run ended.
 pub record ShowsRun (g : Graph) (s : Setting) (lines : List PlanLine) (shown : Simulation) : Type 0
   where
     pub first : State

@@ -1,36 +1,37 @@
-//! Commands, and what is answered to a request.
+//! Commands of the program, and how each request is answered.
 
-ghost use Rattle.std.specs.Prelude.{◌≡◌, ◌⊎◌, ◌<◌, ◌-◌, ◌^◌, true, Result, Err, IfErr, IfSome};
-ghost use Rattle.mk_read.specs.Files.{Told};
+ghost use Rattle.std.specs.Prelude.{◌≡◌, ◌⊎◌, ◌<◌, ◌-◌, ◌^◌, true, Result, Err, IfErr};
+ghost use Rattle.mk_read.specs.Files.{IfFits, Keeps, Told};
 ghost use Rattle.mk_read.specs.declared.fault.ReadFault as read;
 ghost use Rattle.mk_core.specs.Answer.{Answers, Counts};
 ghost use Rattle.mk_core.specs.Ready.{Ready as ReadyValue};
-ghost use Rattle.mk_core.specs.Steps.{is_want_of_memory};
+ghost use Rattle.mk_core.specs.Steps.{is_out_of_memory};
 ghost use Rattle.mk_core.specs.Views.{AnswersOver};
-ghost use Rattle.mk_print.specs.declared.fault.Fault as faults;
-ghost use Rattle.mk_print.specs.declared.fault.Fault.TheVariants.{Memory, Read};
+ghost use Rattle.mk_core_text.specs.declared.fault.Fault as faults;
+ghost use Rattle.mk_core_text.specs.declared.fault.Fault.TheVariants.{Memory, Read};
 
-use crate::leaving::end_of;
+use crate::leaking::drop_or_leak;
 use crate::ready::{Ready, ready_over};
 use crate::request::Request;
+use mk_core_text::Fault;
 use mk_infer::RuleTable;
-use mk_parse::read_makefile;
-use mk_print::Fault;
 use mk_read::{Files, Makefile};
+use mk_read_parse::read_makefile;
 use std::alloc::Global;
 
-/// A command, by what it answers to what is ready.
+/// A command of the program, given by its answer to a prepared request.
 pub(crate) trait Command {
-    /// What is answered.
+    /// The type of its answers.
     type Answer: Drop;
 
-    /// Over files that are told, the answers to what is ready.
+    /// The answers that the command may give to a prepared request, when the files have these
+    /// contents.
     ghost answers: { Self → Told → ReadyValue → Result Self.Answer faults.Fault → Type 0 };
 
-    /// Whether the answer is a line, however much is read.
+    /// Whether the answer is a single line, however large the input is.
     fn is_brief(&self) -> bool;
 
-    /// The answer to what is ready. It may read files that are no makefile.
+    /// Answers a prepared request. It may read files other than makefiles.
     fn answer<F: Files>(
         &self,
         alloc: Global,
@@ -38,18 +39,18 @@ pub(crate) trait Command {
         ready: &Ready<'_>,
     ) -> Result<Self::Answer, Fault>
         requires { F.failed files.old < 2 ^ 64 - 1 }
-        ensures map { F.told files.new ≡ F.told files.old }
-        ensures answer { IfSome (F.told files.old)
+        ensures keeps { Keeps (F.fits files.old) (F.fits files.new) }
+        ensures answer { IfFits (F.fits files.new)
             (λ told. (result ≡ Err Memory) ⊎ answers self.now told ready.now result) }
-        ensures memory { IfErr result (λ fault. is_want_of_memory fault ≡ true → fault ≡ Memory) }
+        ensures memory { IfErr result (λ fault. is_out_of_memory fault ≡ true → fault ≡ Memory) }
         ensures counted { Counts (F.failed files.old) (F.failed files.new) result };
 
-    /// A fault of the makefile is no answer to what is ready.
+    /// A command never returns a fault of the makefile itself.
     ghost not_read: { (command : Self) (told : Told) (ready : ReadyValue)
         (fault : read.ReadFault) → answers command told ready (Err (Read fault)) → ⊥ };
 }
 
-/// The answer to a request over its makefile, whose names are looked up.
+/// Prepares the request over the indexed makefile, and lets the command answer it.
 fn answer_with<F: Files, C: Command>(
     alloc: Global,
     files: &mut F,
@@ -58,20 +59,20 @@ fn answer_with<F: Files, C: Command>(
     command: &C,
 ) -> Result<C::Answer, Fault>
     requires { F.failed files.old < 2 ^ 64 - 1 }
-    ensures map { F.told files.new ≡ F.told files.old }
-    ensures answer { IfSome (F.told files.old)
+    ensures keeps { Keeps (F.fits files.old) (F.fits files.new) }
+    ensures answer { IfFits (F.fits files.new)
         (λ told. AnswersOver told request.now table.now (C.answers command.now told) result) }
-    ensures memory { IfErr result (λ fault. is_want_of_memory fault ≡ true → fault ≡ Memory) }
+    ensures memory { IfErr result (λ fault. is_out_of_memory fault ≡ true → fault ≡ Memory) }
     ensures counted { Counts (F.failed files.old) (F.failed files.new) result }
 {
     let ready = ready_over(alloc, files, request, table)?;
     let answer = command.answer(alloc, files, &ready);
     let leaves_memory = ready.leaves_memory(command.is_brief());
-    end_of(ready, leaves_memory);
+    drop_or_leak(ready, leaves_memory);
     answer
 }
 
-/// The answer to a request over its makefile.
+/// Indexes the makefile, and answers the request over it.
 fn answer_over<F: Files, C: Command>(
     alloc: Global,
     files: &mut F,
@@ -80,21 +81,22 @@ fn answer_over<F: Files, C: Command>(
     command: &C,
 ) -> Result<C::Answer, Fault>
     requires { F.failed files.old < 2 ^ 64 - 1 }
-    ensures map { F.told files.new ≡ F.told files.old }
-    ensures answer { IfSome (F.told files.old)
+    ensures keeps { Keeps (F.fits files.old) (F.fits files.new) }
+    ensures answer { IfFits (F.fits files.new)
         (λ told. AnswersOver told request.now makefile.now (C.answers command.now told) result) }
-    ensures memory { IfErr result (λ fault. is_want_of_memory fault ≡ true → fault ≡ Memory) }
+    ensures memory { IfErr result (λ fault. is_out_of_memory fault ≡ true → fault ≡ Memory) }
     ensures counted { Counts (F.failed files.old) (F.failed files.new) result }
 {
     let table = RuleTable::new(alloc, makefile)?;
     let answer = answer_with(alloc, files, request, &table, command);
-    end_of(table, request.leaves_memory);
+    drop_or_leak(table, request.leaves_memory);
     answer
 }
 
-/// The answer to a request: what the command answers to what is ready, or the first fault of the
-/// makefile's name, of the operands, of the reading; 45, of the goals, 44; 35, 38 and 51 to 58 of
-/// the footprints.
+/// Answers a request: what the command answers to the prepared request, or the first fault before
+/// that, in this order: the makefile's name, the operands, the reading of the makefile (1 to 37);
+/// `InferencePrerequisites` (45), the goals (27, 28), `NoGoal` (44); the footprint file (35, 38, 51
+/// to 58). Out of memory can come in place of any result.
 pub(crate) fn answer_request<F: Files, C: Command>(
     alloc: Global,
     files: &mut F,
@@ -102,10 +104,10 @@ pub(crate) fn answer_request<F: Files, C: Command>(
     command: &C,
 ) -> Result<C::Answer, Fault>
     requires { F.failed files.old < 2 ^ 64 - 1 }
-    ensures map { F.told files.new ≡ F.told files.old }
-    ensures answer { IfSome (F.told files.old)
+    ensures keeps { Keeps (F.fits files.old) (F.fits files.new) }
+    ensures answer { IfFits (F.fits files.new)
         (λ told. Answers told request.now (C.answers command.now told) result) }
-    ensures memory { IfErr result (λ fault. is_want_of_memory fault ≡ true → fault ≡ Memory) }
+    ensures memory { IfErr result (λ fault. is_out_of_memory fault ≡ true → fault ≡ Memory) }
     ensures counted { Counts (F.failed files.old) (F.failed files.new) result }
 {
     let makefile = read_makefile(
@@ -116,6 +118,6 @@ pub(crate) fn answer_request<F: Files, C: Command>(
         request.operands.as_slice(),
     )?;
     let answer = answer_over(alloc, files, request, &makefile, command);
-    end_of(makefile, request.leaves_memory);
+    drop_or_leak(makefile, request.leaves_memory);
     answer
 }

@@ -1,21 +1,21 @@
-//! The answer to a request for a graph.
+//! The command `graph`.
 
-ghost use Rattle.std.specs.Prelude.{◌≡◌, ◌<◌, ◌-◌, ◌^◌, ℕ, true, IfErr, IfSome};
+ghost use Rattle.std.specs.Prelude.{◌≡◌, ◌<◌, ◌-◌, ◌^◌, ℕ, true, IfErr};
+ghost use Rattle.mk_read.specs.Files.{IfFits, Keeps};
 ghost use Rattle.mk_core.specs.NotRead.{graph_not_read};
 ghost use Rattle.mk_core.specs.Answer.{Answers, Counts};
 ghost use Rattle.mk_core.specs.GraphAnswer.{AnswersGraph};
-ghost use Rattle.mk_core.specs.Steps.{is_want_of_memory, seen};
+ghost use Rattle.mk_core.specs.Steps.{is_out_of_memory, seen};
 ghost use Rattle.mk_core.specs.Views.{DrawsOver, PrintsOver};
-ghost use Rattle.mk_print.specs.declared.fault.Fault.TheVariants.{Memory};
+ghost use Rattle.mk_core_text.specs.declared.fault.Fault.TheVariants.{Memory};
 
 use crate::command::{Command, answer_request};
 use crate::ready::Ready;
 use crate::request::Request;
-use mk_choice::Choices;
-use mk_infer::InferFault;
-use mk_print::{Fault, text_of};
+use mk_core_text::{Fault, text_of};
+use mk_infer::{Choices, InferFault};
+use mk_infer_select::select;
 use mk_read::Files;
-use mk_select::select;
 use std::alloc::Global;
 
 /// The text of the graph that is selected for the goals.
@@ -28,10 +28,10 @@ fn selected_text(alloc: Global, ready: &Ready<'_>, commands: bool) -> Result<Vec
     text_of(alloc, &choices, &graph, commands)
 }
 
-/// The answer to what is ready. No read is counted.
+/// The answer to a prepared request. It reads no file.
 fn drawn(alloc: Global, ready: &Ready<'_>, commands: bool) -> Result<Vec<u8>, Fault>
     ensures answer { DrawsOver commands ready.now (seen (λ text. text.items) result) }
-    ensures memory { IfErr result (λ fault. is_want_of_memory fault ≡ true → fault ≡ Memory) }
+    ensures memory { IfErr result (λ fault. is_out_of_memory fault ≡ true → fault ≡ Memory) }
     ensures counted { (failed : ℕ) → Counts failed failed result }
 {
     let text = selected_text(alloc, ready, commands)?;
@@ -41,7 +41,7 @@ fn drawn(alloc: Global, ready: &Ready<'_>, commands: bool) -> Result<Vec<u8>, Fa
 /// The command `graph`.
 #[derive(Drop)]
 struct DrawGraph {
-    /// Whether the commands of nodes are shown.
+    /// Whether the commands of nodes are printed.
     commands: bool,
 }
 
@@ -67,25 +67,27 @@ impl Command for DrawGraph {
     ghost not_read = { λ c told ready fault. graph_not_read c.commands ready fault };
 }
 
-/// What `mkcheck graph` prints: the goals on a line, then a line for each node in serial order,
-/// with its commands behind it where they are asked for (IEEE Std 1003.1-2024, XCU make, "Target
-/// Rules", "Inference Rules", "Macros").
+/// What `mkcheck graph` prints: a line with the goals, then a line for each node in the serial
+/// order, followed by its commands if the request asks for them (IEEE Std 1003.1-2024, XCU make,
+/// "Target Rules", "Inference Rules", "Macros").
 ///
-/// The first fault is the answer: of the makefile's name, of the operands, of the reading; 45, of
-/// the goals, 44; 35, 38 and 51 to 58 of the footprints; 41 or 43 as a walk meets them, 42; and
-/// with commands 11 to 17, node by node in serial order.
+/// The error is the first fault in this order: the makefile's name, the operands, the reading of
+/// the makefile (1 to 37); `InferencePrerequisites` (45), the goals (27, 28), `NoGoal` (44); the
+/// footprint file (35, 38, 51 to 58); `NoRule` (41) and `TooManyNodes` (43) as the walk from the
+/// goals meets them, `Cycle` (42); and if commands are printed, those of the commands (11 to 17),
+/// node by node in the serial order. Out of memory can come in place of any result.
 pub fn graph_text<F: Files>(
     alloc: Global,
     files: &mut F,
     request: &Request,
 ) -> Result<Vec<u8>, Fault>
     requires { F.failed files.old < 2 ^ 64 - 1 }
-    ensures map { F.told files.new ≡ F.told files.old }
-    ensures answer { IfSome (F.told files.old)
+    ensures keeps { Keeps (F.fits files.old) (F.fits files.new) }
+    ensures answer { IfFits (F.fits files.new)
         (λ told.
         Answers told request.now (AnswersGraph request.now.commands)
         (seen (λ text. text.items) result)) }
-    ensures memory { IfErr result (λ fault. is_want_of_memory fault ≡ true → fault ≡ Memory) }
+    ensures memory { IfErr result (λ fault. is_out_of_memory fault ≡ true → fault ≡ Memory) }
     ensures counted { Counts (F.failed files.old) (F.failed files.new) result }
 {
     let command = DrawGraph {

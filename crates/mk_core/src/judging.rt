@@ -1,41 +1,41 @@
-//! Commands over a build that is judged.
+//! Commands that judge a build: what `check`, `check -e` and `verify` share.
 
-ghost use Rattle.std.specs.Prelude.{◌≡◌, ◌⊎◌, ◌<◌, ◌-◌, ◌^◌, true, Result, Ok, Err, IfErr, IfSome};
+ghost use Rattle.std.specs.Prelude.{◌≡◌, ◌⊎◌, ◌<◌, ◌-◌, ◌^◌, true, Result, Ok, Err, IfErr};
 ghost use Rattle.mk_cert.specs.Subject.{Subject as SubjectValue};
 ghost use Rattle.mk_infer.specs.Selection.{Selects};
-ghost use Rattle.mk_read.specs.Files.{Told};
+ghost use Rattle.mk_read.specs.Files.{IfFits, Keeps, Told};
 ghost use Rattle.mk_read.specs.declared.fault.ReadFault as read;
 ghost use Rattle.mk_core.specs.NotRead.{judged_not_read};
 ghost use Rattle.mk_core.specs.Answer.{Answers, Counts};
 ghost use Rattle.mk_core.specs.Judging.{AnswersJudged, AnswersTold, recorded, subject_over};
-ghost use Rattle.mk_core.specs.Steps.{is_want_of_memory};
-ghost use Rattle.mk_print.specs.declared.fault.Fault as faults;
-ghost use Rattle.mk_print.specs.declared.fault.Fault.TheVariants.{Memory, Read};
+ghost use Rattle.mk_core.specs.Steps.{is_out_of_memory};
+ghost use Rattle.mk_core_text.specs.declared.fault.Fault as faults;
+ghost use Rattle.mk_core_text.specs.declared.fault.Fault.TheVariants.{Memory, Read};
 
 use crate::command::{Command, answer_request};
-use crate::leaving::end_of;
+use crate::leaking::drop_or_leak;
 use crate::ready::Ready;
 use crate::request::Request;
 use crate::selecting::selected;
 use mk_cert::Subject;
 use mk_cert::laws::selected_goals;
+use mk_core_text::Fault;
 use mk_graph::Graph;
-use mk_print::Fault;
 use mk_read::Files;
 use std::alloc::Global;
 
-/// A command over a build that is judged, by what it answers to it.
+/// A command that judges a build, given by its answer to a subject.
 pub trait Judge {
-    /// What is answered.
+    /// The type of its answers.
     type Answer: Drop;
 
-    /// Over files that are told, the answers to a build.
+    /// The answers that the command may give to a subject, when the files have these contents.
     ghost judges: { Self → Told → SubjectValue → Result Self.Answer faults.Fault → Type 0 };
 
-    /// Whether the answer is a line, however much is read.
+    /// Whether the answer is a single line, however large the input is.
     fn is_brief(&self) -> bool;
 
-    /// The answer to a build. It may read files that are no makefile.
+    /// Answers for a subject. It may read files other than makefiles.
     fn judge<F: Files>(
         &self,
         alloc: Global,
@@ -43,19 +43,19 @@ pub trait Judge {
         subject: &Subject<'_>,
     ) -> Result<Self::Answer, Fault>
         requires { F.failed files.old < 2 ^ 64 - 1 }
-        ensures map { F.told files.new ≡ F.told files.old }
-        ensures answer { IfSome (F.told files.old)
+        ensures keeps { Keeps (F.fits files.old) (F.fits files.new) }
+        ensures answer { IfFits (F.fits files.new)
             (λ told. (result ≡ Err Memory) ⊎ judges self.now told subject.now result) }
-        ensures memory { IfErr result (λ fault. is_want_of_memory fault ≡ true → fault ≡ Memory) }
+        ensures memory { IfErr result (λ fault. is_out_of_memory fault ≡ true → fault ≡ Memory) }
         ensures counted { Counts (F.failed files.old) (F.failed files.new) result };
 
-    /// A fault of the makefile is no answer to a build.
+    /// Such a command never returns a fault of the makefile itself.
     ghost not_read: { (judge : Self) (told : Told) (x : SubjectValue) (fault : read.ReadFault) →
         judges judge told x (Err (Read fault)) → ⊥ };
 }
 
-/// The answer to the build of a graph. The fault of the build itself is the first one of the nodes'
-/// commands (11 to 17), in the serial order.
+/// The answer for the build of this graph. The errors are the first fault of the nodes' commands
+/// (11 to 17), in the serial order, and those of `judge`.
 fn judge_graph<F: Files, J: Judge>(
     alloc: Global,
     files: &mut F,
@@ -66,11 +66,11 @@ fn judge_graph<F: Files, J: Judge>(
     requires few { F.failed files.old < 2 ^ 64 - 1 }
     requires selected { Selects ready.now.makefile (recorded ready.now) ready.now.goals
         (Ok graph.now) }
-    ensures map { F.told files.new ≡ F.told files.old }
-    ensures answer { IfSome (F.told files.old)
+    ensures keeps { Keeps (F.fits files.old) (F.fits files.new) }
+    ensures answer { IfFits (F.fits files.new)
         (λ told. (result ≡ Err Memory) ⊎
         AnswersTold (J.judges judge.now told) (subject_over ready.now graph.now) result) }
-    ensures memory { IfErr result (λ fault. is_want_of_memory fault ≡ true → fault ≡ Memory) }
+    ensures memory { IfErr result (λ fault. is_out_of_memory fault ≡ true → fault ≡ Memory) }
     ensures counted { Counts (F.failed files.old) (F.failed files.new) result }
 {
     selected_goals();
@@ -83,14 +83,13 @@ fn judge_graph<F: Files, J: Judge>(
     )?;
     let _graph = subject.graph();
     let answer = judge.judge(alloc, files, &subject);
-    end_of(subject, ready.leaves_memory(judge.is_brief()));
+    drop_or_leak(subject, ready.leaves_memory(judge.is_brief()));
     answer
 }
 
-/// A command over the build of the goals.
+/// Turns a `Judge` into a `Command`.
 #[derive(Drop)]
 struct Judged<J> {
-    /// What is answered to the build.
     judge: J,
 }
 
@@ -112,7 +111,7 @@ impl<J: Judge + Drop> Command for Judged<J> {
     ) -> Result<J::Answer, Fault> {
         let graph = selected(alloc, ready, &ready.recorded())?;
         let answer = judge_graph(alloc, files, ready, &graph, &self.judge);
-        end_of(graph, ready.leaves_memory(self.judge.is_brief()));
+        drop_or_leak(graph, ready.leaves_memory(self.judge.is_brief()));
         answer
     }
 
@@ -121,10 +120,9 @@ impl<J: Judge + Drop> Command for Judged<J> {
         (λ x. J.not_read c.judge told x fault) };
 }
 
-/// The answer of a command over a build that is judged to a request.
+/// Answers a request with a command that judges the build of its goals.
 ///
-/// The first fault is the answer: those of `check`, in their order, and then what the command
-/// answers.
+/// The error is the first fault in the order that `check` lists, then that of the command itself.
 pub fn answer_judged<F: Files, J: Judge + Drop>(
     alloc: Global,
     files: &mut F,
@@ -132,10 +130,10 @@ pub fn answer_judged<F: Files, J: Judge + Drop>(
     judge: J,
 ) -> Result<J::Answer, Fault>
     requires { F.failed files.old < 2 ^ 64 - 1 }
-    ensures map { F.told files.new ≡ F.told files.old }
-    ensures answer { IfSome (F.told files.old)
+    ensures keeps { Keeps (F.fits files.old) (F.fits files.new) }
+    ensures answer { IfFits (F.fits files.new)
         (λ told. Answers told request.now (AnswersJudged (J.judges judge told)) result) }
-    ensures memory { IfErr result (λ fault. is_want_of_memory fault ≡ true → fault ≡ Memory) }
+    ensures memory { IfErr result (λ fault. is_out_of_memory fault ≡ true → fault ≡ Memory) }
     ensures counted { Counts (F.failed files.old) (F.failed files.new) result }
 {
     let command = Judged { judge };

@@ -1,4 +1,4 @@
-//! From a request to a graph, a verdict or a refusal.
+//! Answers requests: from files to a graph, a verdict, a simulation, or a fault.
 #![tactic(auto)]
 
 mod checking;
@@ -7,7 +7,7 @@ mod file_text;
 mod graph;
 mod judging;
 pub mod laws;
-mod leaving;
+mod leaking;
 mod ready;
 mod request;
 mod selecting;
@@ -17,11 +17,11 @@ mod verifying;
 pub use checking::{check, verdict_of};
 pub use graph::graph_text;
 pub use judging::{Judge, answer_judged};
-pub use leaving::end_of;
+pub use leaking::drop_or_leak;
+pub use mk_core_text::{Fault, Findings, Verdict, fault_text, render};
 pub use mk_lines::{Name, Names};
-pub use mk_parse::MemFiles;
-pub use mk_print::{Fault, Findings, Verdict, fault_text, render};
 pub use mk_read::{Files, FilesError};
+pub use mk_read_parse::MemFiles;
 pub use request::{Operands, Request, split_words};
 pub use simulation::{Simulation, simulate_text};
 pub use verifying::verify_text;

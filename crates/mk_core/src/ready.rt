@@ -1,37 +1,38 @@
-//! What a request needs before it is answered.
+//! Prepares a request: goals and footprints over the makefile.
 
-ghost use Rattle.std.specs.Prelude.{◌≡◌, ◌<◌, ◌-◌, ◌^◌, true, IfErr, IfOk, IfSome};
+ghost use Rattle.std.specs.Prelude.{◌≡◌, ◌<◌, ◌-◌, ◌^◌, true, IfErr, IfOk};
 ghost use Rattle.std.specs.Option.{option_copied};
+ghost use Rattle.mk_read.specs.Files.{IfFits, Keeps};
 ghost use Rattle.mk_core.specs.Answer.{Counts};
 ghost use Rattle.mk_core.specs.Judging.{recorded};
 ghost use Rattle.mk_core.specs.Ready.{book_for, exists, setting_of};
-ghost use Rattle.mk_core.specs.Steps.{is_want_of_memory};
+ghost use Rattle.mk_core.specs.Steps.{is_out_of_memory};
 ghost use Rattle.mk_core.specs.Views.{Finds, ready_over, ready_with};
-ghost use Rattle.mk_print.specs.declared.fault.Fault.TheVariants.{Memory};
+ghost use Rattle.mk_core_text.specs.declared.fault.Fault.TheVariants.{Memory};
 
 use crate::file_text::file_text;
-use crate::leaving::Leaving;
+use crate::leaking::LeakPolicy;
 use crate::request::Request;
+use mk_core_text::Fault;
 use mk_foot::{Book, Setting, read_book};
 use mk_infer::{Exists, RuleTable};
+use mk_infer_select::{Goals, goal_names};
 use mk_lines::{Name, NameTable};
-use mk_print::Fault;
 use mk_read::{Files, Makefile};
-use mk_select::{Goals, goal_names};
 use std::alloc::{AllocError, Global};
 use std::marker::Model;
 
-/// What a request needs before it is answered: a makefile whose names are looked up, its goals,
-/// what a build of them starts from, and whether each name that nothing makes is given.
+/// A prepared request: the indexed makefile, the goals, the build's footprints and inputs, and
+/// whether each name that nothing makes is given. Its model is these four.
 #[derive(Drop)]
 pub struct Ready<'m> {
     table: &'m RuleTable<'m>,
     goals: Goals,
     setting: Setting,
     any_leaf: bool,
-    /// No names, which count as there beside the others.
+    /// An empty list of additional names, which `Exists` needs.
     more: NameTable,
-    leaving: Leaving,
+    leaving: LeakPolicy,
 }
 
 impl<'m> Model for Ready<'m> {
@@ -52,7 +53,7 @@ impl<'m> Model for Ready<'m> {
 }
 
 impl<'m> Ready<'m> {
-    /// The makefile, whose names are looked up.
+    /// The indexed makefile.
     pub fn table(&self) -> &'m RuleTable<'m>
         ensures { result.now ≡ self.now.makefile }
     {
@@ -66,20 +67,21 @@ impl<'m> Ready<'m> {
         &self.goals
     }
 
-    /// What a build of the goals starts from.
+    /// The footprints and inputs of the build.
     pub fn setting(&self) -> &Setting
         ensures { result.now ≡ self.now.setting }
     {
         &self.setting
     }
 
-    /// Whether the memory of all this is left to the end of the process, behind an answer of a line
-    /// or of many. It changes no answer.
+    /// Whether the inputs are leaked instead of freed after an answer that is brief or not. No
+    /// answer depends on it.
     pub fn leaves_memory(&self, is_brief: bool) -> bool {
         self.leaving.behind(is_brief)
     }
 
-    /// The files that are there before a make.
+    /// The files that exist before a make. Without a footprint file each name that nothing makes is
+    /// among them.
     pub fn exists(&self) -> Exists<'_>
         ensures { result ≡ exists self.now }
     {
@@ -89,7 +91,7 @@ impl<'m> Ready<'m> {
         }
     }
 
-    /// The files that are there before a make, by what is recorded.
+    /// The files that exist before a make by the footprint file and the makefile alone.
     pub fn recorded(&self) -> Exists<'_>
         ensures { result ≡ recorded self.now }
     {
@@ -103,14 +105,16 @@ impl<'m> Ready<'m> {
     }
 }
 
-/// What a build of a makefile starts from by a book.
+/// The build inputs: those of the footprint file, with the makefile's texts and the names that its
+/// reading passed over.
 fn setting_of(alloc: Global, makefile: &Makefile, book: Book) -> Result<Setting, AllocError>
     ensures { IfOk result (λ setting. setting ≡ setting_of makefile.now book) }
 {
     Setting::new(alloc, book, makefile.texts(), makefile.passed_over())
 }
 
-/// The book of a file of footprints for these goals. Without such a file it says nothing.
+/// Reads the footprints for these goals; without a footprint file they are empty. The errors are
+/// those of the file (35, 38, 51 to 58), and out of memory.
 fn book_for<F: Files>(
     alloc: Global,
     files: &mut F,
@@ -118,11 +122,11 @@ fn book_for<F: Files>(
     goals: &Goals,
 ) -> Result<Book, Fault>
     requires { F.failed files.old < 2 ^ 64 - 1 }
-    ensures map { F.told files.new ≡ F.told files.old }
-    ensures book { IfSome (F.told files.old)
+    ensures keeps { Keeps (F.fits files.old) (F.fits files.new) }
+    ensures book { IfFits (F.fits files.new)
         (λ told.
         Finds (λ failing. book_for told failing (option_copied name.entry) goals.now) result) }
-    ensures memory { IfErr result (λ fault. is_want_of_memory fault ≡ true → fault ≡ Memory) }
+    ensures memory { IfErr result (λ fault. is_out_of_memory fault ≡ true → fault ≡ Memory) }
     ensures counted { Counts (F.failed files.old) (F.failed files.new) result }
 {
     let Some(name) = name else {
@@ -132,11 +136,11 @@ fn book_for<F: Files>(
     Ok(read_book(alloc, &footprints, goals.as_slice())?)
 }
 
-/// So many reads are few. An answer may be as large as what was read, and is not to stand beside the
-/// memory of more.
+/// Up to this many reads, inputs may be leaked at exit instead of freed even after a long answer;
+/// with more reads, inputs and answer together could take too much memory.
 const FEW_READS: usize = 65_536;
 
-/// Whether few reads are recorded.
+/// Whether the footprints have at most `FEW_READS` reads.
 fn reads_few(book: &Book) -> bool {
     let mut reads: usize = 0;
     for record in &book.records {
@@ -145,11 +149,11 @@ fn reads_few(book: &Book) -> bool {
     reads <= FEW_READS
 }
 
-/// What a request needs, by a book.
+/// The prepared request with these footprints.
 fn ready_by<'m>(
     alloc: Global,
     any_leaf: bool,
-    leaving: Leaving,
+    leaving: LeakPolicy,
     table: &'m RuleTable<'m>,
     goals: Goals,
     book: Book,
@@ -174,7 +178,7 @@ fn ready_by<'m>(
     })
 }
 
-/// What a request needs over its makefile and its goals.
+/// Reads the footprints and prepares the request over its makefile and goals.
 fn ready_with<'m, F: Files>(
     alloc: Global,
     files: &mut F,
@@ -183,15 +187,15 @@ fn ready_with<'m, F: Files>(
     goals: Goals,
 ) -> Result<Ready<'m>, Fault>
     requires { F.failed files.old < 2 ^ 64 - 1 }
-    ensures map { F.told files.new ≡ F.told files.old }
-    ensures ready { IfSome (F.told files.old)
+    ensures keeps { Keeps (F.fits files.old) (F.fits files.new) }
+    ensures ready { IfFits (F.fits files.new)
         (λ told. Finds (λ failing. ready_with told failing request.now table.now goals) result) }
-    ensures memory { IfErr result (λ fault. is_want_of_memory fault ≡ true → fault ≡ Memory) }
+    ensures memory { IfErr result (λ fault. is_out_of_memory fault ≡ true → fault ≡ Memory) }
     ensures counted { Counts (F.failed files.old) (F.failed files.new) result }
 {
     let book = book_for(alloc, files, request.book.as_ref(), &goals)?;
     let any_leaf = request.book.is_none();
-    let leaving = Leaving {
+    let leaving = LeakPolicy {
         is_asked: request.leaves_memory,
         reads_few: reads_few(&book),
     };
@@ -199,8 +203,9 @@ fn ready_with<'m, F: Files>(
     Ok(ready)
 }
 
-/// What a request needs over its makefile: goals, and what the file of footprints says. Faults 45,
-/// of the goals 27 and 28, 44; 35, 38 and 51 to 58 of the footprints.
+/// Prepares a request over its makefile: determines the goals and reads the footprints. The error
+/// is the first of `InferencePrerequisites` (45), the goals (27, 28), `NoGoal` (44), and the
+/// footprint file (35, 38, 51 to 58). Out of memory can come in place of any result.
 pub fn ready_over<'m, F: Files>(
     alloc: Global,
     files: &mut F,
@@ -208,10 +213,10 @@ pub fn ready_over<'m, F: Files>(
     table: &'m RuleTable<'m>,
 ) -> Result<Ready<'m>, Fault>
     requires { F.failed files.old < 2 ^ 64 - 1 }
-    ensures map { F.told files.new ≡ F.told files.old }
-    ensures ready { IfSome (F.told files.old)
+    ensures keeps { Keeps (F.fits files.old) (F.fits files.new) }
+    ensures ready { IfFits (F.fits files.new)
         (λ told. Finds (λ failing. ready_over told failing request.now table.now) result) }
-    ensures memory { IfErr result (λ fault. is_want_of_memory fault ≡ true → fault ≡ Memory) }
+    ensures memory { IfErr result (λ fault. is_out_of_memory fault ≡ true → fault ≡ Memory) }
     ensures counted { Counts (F.failed files.old) (F.failed files.new) result }
 {
     let goals = goal_names(alloc, table, request.goals.as_slice())?;

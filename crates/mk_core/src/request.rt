@@ -1,4 +1,4 @@
-//! What is asked.
+//! Requests.
 
 ghost use Rattle.std.specs.Prelude.{◌≡◌, map, IfOk};
 ghost use Rattle.mk_core.specs.Words.{is_operand, operands_of, goals_of};
@@ -7,7 +7,7 @@ use mk_lines::{Name, Names};
 use std::alloc::{AllocError, Global};
 use std::marker::Model;
 
-/// Macro operands, as bytes. A contract sees a list of them.
+/// Macro operands, as bytes. Its model is a list of byte lists.
 #[derive(Debug, Drop)]
 pub struct Operands {
     words: Vec<Vec<u8>>,
@@ -37,36 +37,35 @@ impl Operands {
     }
 }
 
-/// What is asked of a makefile.
+/// A request: the command-line options and words that all commands share.
 #[derive(Debug, Drop)]
 pub struct Request {
-    /// The makefile's name; without one it is `makefile`, else `Makefile`.
+    /// The makefile's name; `None` stands for `makefile`, or `Makefile` if there is no `makefile`.
     pub makefile: Option<Name>,
-    /// Whether the default text is read before the operands: its macros, suffixes and inference
-    /// rules.
+    /// Whether the default text (macros, suffixes and inference rules) is read before the operands.
     pub defaults: bool,
-    /// Macro operands, as given.
+    /// The macro operands, in their order.
     pub operands: Operands,
-    /// Goals, as given; without one it is the first target.
+    /// The goals, in their order; if there are none, the goal is the first target.
     pub goals: Names,
-    /// The name of the file of footprints. Without one each name that has no rule is given.
+    /// The name of the footprint file. With `None` each name that nothing makes is given.
     pub book: Option<Name>,
     /// Whether a graph is printed with the commands of its nodes.
     pub commands: bool,
-    /// Whether the memory of what was read is left to the end of the process, where it or the answer
-    /// is small: that is quick where nothing follows the answer. It changes no answer.
+    /// Whether inputs may be leaked at exit instead of freed, if they or the answer are small. That
+    /// saves time if the process ends after the answer. No answer depends on it.
     pub leaves_memory: bool,
 }
 
-/// Whether a word is a macro operand: it holds `=`.
+/// Whether a word is a macro operand: it contains `=`.
 fn is_operand(word: &str) -> bool
     ensures { result ≡ is_operand word.now }
 {
     word.as_bytes().contains(&b'=')
 }
 
-/// The macro operands among the words of a command line, which hold `=`, and the goals, each in
-/// their order.
+/// Splits the words of a command line into macro operands, which contain `=`, and goals, each in
+/// their order. The only error is out of memory.
 pub fn split_words(alloc: Global, words: &[&str]) -> Result<(Operands, Names), AllocError>
     ensures operands { IfOk result (λ r. r.0 ≡ operands_of (map (λ word. word.now) words.now)) }
     ensures goals { IfOk result (λ r. r.1 ≡ goals_of (map (λ word. word.now) words.now)) }

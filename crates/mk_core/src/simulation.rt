@@ -1,36 +1,39 @@
-//! The answer to a request for the run of a plan.
+//! The command `simulate`.
 
-ghost use Rattle.std.specs.Prelude.{◌≡◌, ◌<◌, ◌-◌, ◌^◌, true, IfErr, IfOk, IfSome};
+ghost use Rattle.std.specs.Prelude.{◌≡◌, ◌<◌, ◌-◌, ◌^◌, true, IfErr, IfOk};
 ghost use Rattle.mk_foot.specs.Setting.{Setting as SettingValue};
 ghost use Rattle.mk_graph.specs.Graph.{Graph as GraphValue};
 ghost use Rattle.mk_world.specs.Running.{stage_of};
 ghost use Rattle.mk_world.specs.State.{world_of};
 ghost use Rattle.mk_world.specs.Steps.{IsFirstOf};
+ghost use Rattle.mk_read.specs.Files.{IfFits, Keeps};
 ghost use Rattle.mk_core.specs.NotRead.{simulation_not_read};
 ghost use Rattle.mk_core.specs.Answer.{Answers, Counts};
 ghost use Rattle.mk_core.specs.Simulation.{ShowsRun, last_lines};
 ghost use Rattle.mk_core.specs.SimulationAnswer.{AnswersSimulation};
-ghost use Rattle.mk_core.specs.Steps.{is_want_of_memory};
+ghost use Rattle.mk_core.specs.Steps.{is_out_of_memory};
 ghost use Rattle.mk_core.specs.Views.{RunsTextOver, SimulatesOver};
-ghost use Rattle.mk_print.specs.declared.fault.Fault.TheVariants.{Memory};
+ghost use Rattle.mk_core_text.specs.declared.fault.Fault.TheVariants.{Memory};
 
 use crate::command::{Command, answer_request};
 use crate::file_text::file_text;
 use crate::ready::Ready;
 use crate::request::Request;
 use crate::selecting::selected;
+use mk_core_text::{Fault, step_fault_text};
 use mk_foot::Setting;
 use mk_graph::Graph;
-use mk_print::{Fault, step_fault_text};
 use mk_read::Files;
-use mk_world::{Plan, StepFault, World, print_files, read_plan, run_plan};
+use mk_world::{Plan, StepFault, World, print_files, run_plan};
+use mk_world_plan::read_plan;
 use std::alloc::{AllocError, Global};
 use std::marker::Model;
 
-/// What is shown of the run of a plan. A contract sees its bytes.
+/// The output of a plan's run. Its model has the text as bytes.
 #[derive(Debug, Drop)]
 pub struct Simulation {
-    /// The files at each `end`, a line `name content stamp` for each, and how the run ended.
+    /// At each `end` line of the plan a line `name content stamp` for each file; then how the run
+    /// ended.
     pub text: Vec<u8>,
     /// Whether a line of the plan was refused.
     pub refused: bool,
@@ -44,7 +47,7 @@ impl Model for Simulation {
     ghost view = { λ s. record { text = s.text.items; refused = s.refused } };
 }
 
-/// How the text of a run ends.
+/// The end of the output: `plan ok`, or the refused line's fault and the files.
 fn last_lines(
     alloc: Global,
     world: &World<'_>,
@@ -64,7 +67,7 @@ fn last_lines(
     Ok(text)
 }
 
-/// What is shown of the run of a plan in a world, which is to be a first one.
+/// Runs a plan in a world, which must be the first one.
 fn shown_in(alloc: Global, world: &mut World<'_>, plan: &Plan) -> Result<Simulation, AllocError>
     ensures { IfOk result (λ shown. (g : GraphValue) (s : SettingValue) →
         IsFirstOf g s world.old → ShowsRun g s plan.now shown) }
@@ -77,7 +80,7 @@ fn shown_in(alloc: Global, world: &mut World<'_>, plan: &Plan) -> Result<Simulat
     Ok(Simulation { text, refused })
 }
 
-/// What is shown of the run of a plan.
+/// Runs a plan in the first world.
 fn shown(
     alloc: Global,
     graph: &Graph,
@@ -90,7 +93,7 @@ fn shown(
     shown_in(alloc, &mut world, plan)
 }
 
-/// The answer over a graph and what is recorded: the plan is read, and run.
+/// Reads a plan, and runs it over this graph and these footprints.
 fn run_file<F: Files>(
     alloc: Global,
     files: &mut F,
@@ -99,10 +102,10 @@ fn run_file<F: Files>(
     plan: &str,
 ) -> Result<Simulation, Fault>
     requires { F.failed files.old < 2 ^ 64 - 1 }
-    ensures map { F.told files.new ≡ F.told files.old }
-    ensures answer { IfSome (F.told files.old)
+    ensures keeps { Keeps (F.fits files.old) (F.fits files.new) }
+    ensures answer { IfFits (F.fits files.new)
         (λ told. RunsTextOver told plan.now graph.now setting.now result) }
-    ensures memory { IfErr result (λ fault. is_want_of_memory fault ≡ true → fault ≡ Memory) }
+    ensures memory { IfErr result (λ fault. is_out_of_memory fault ≡ true → fault ≡ Memory) }
     ensures counted { Counts (F.failed files.old) (F.failed files.new) result }
 {
     let text = file_text(alloc, files, plan)?;
@@ -111,7 +114,7 @@ fn run_file<F: Files>(
     Ok(shown)
 }
 
-/// The answer to what is ready.
+/// The answer to a prepared request.
 fn simulated<F: Files>(
     alloc: Global,
     files: &mut F,
@@ -119,17 +122,17 @@ fn simulated<F: Files>(
     plan: &str,
 ) -> Result<Simulation, Fault>
     requires { F.failed files.old < 2 ^ 64 - 1 }
-    ensures map { F.told files.new ≡ F.told files.old }
-    ensures answer { IfSome (F.told files.old)
+    ensures keeps { Keeps (F.fits files.old) (F.fits files.new) }
+    ensures answer { IfFits (F.fits files.new)
         (λ told. SimulatesOver told plan.now ready.now result) }
-    ensures memory { IfErr result (λ fault. is_want_of_memory fault ≡ true → fault ≡ Memory) }
+    ensures memory { IfErr result (λ fault. is_out_of_memory fault ≡ true → fault ≡ Memory) }
     ensures counted { Counts (F.failed files.old) (F.failed files.new) result }
 {
     let graph = selected(alloc, ready, &ready.exists())?;
     run_file(alloc, files, &graph, ready.setting(), plan)
 }
 
-/// The command `simulate`, with the name of the file of the plan.
+/// The command `simulate`, with the name of the plan file.
 #[derive(Drop)]
 struct SimulatePlan<'a> {
     plan: &'a str,
@@ -156,13 +159,15 @@ impl Command for SimulatePlan<'_> {
     ghost not_read = { λ c told ready fault. simulation_not_read told c.plan.now ready fault };
 }
 
-/// What `mkcheck simulate` prints: what the run of the plan in the file of this name prints over
-/// the graph and the footprints, that is the files at each `end`; then `plan ok`, or the refusal of
-/// a line and the files.
+/// What `mkcheck simulate` prints: the output of the run, over the graph and the footprints, of the
+/// plan in the file with this name. That is the files at each `end`, then `plan ok` or the fault of
+/// the refused line and the files.
 ///
-/// The first fault is the answer: of the makefile's name, of the operands, of the reading; 45, of
-/// the goals, 44; 35, 38 and 51 to 58 of the footprints; 41 or 43 as a walk meets them, 42; and of
-/// the plan 35, 38 and 69. A refusal while the plan runs is no fault.
+/// The error is the first fault in this order: the makefile's name, the operands, the reading of
+/// the makefile (1 to 37); `InferencePrerequisites` (45), the goals (27, 28), `NoGoal` (44); the
+/// footprint file (35, 38, 51 to 58); `NoRule` (41) and `TooManyNodes` (43) as the walk from the
+/// goals meets them, `Cycle` (42); the plan file (35, 38, 69). Out of memory can come in place of
+/// any result. A line that is refused while the plan runs is no error: the output shows it.
 pub fn simulate_text<F: Files>(
     alloc: Global,
     files: &mut F,
@@ -170,10 +175,10 @@ pub fn simulate_text<F: Files>(
     plan: &str,
 ) -> Result<Simulation, Fault>
     requires { F.failed files.old < 2 ^ 64 - 1 }
-    ensures map { F.told files.new ≡ F.told files.old }
-    ensures answer { IfSome (F.told files.old)
+    ensures keeps { Keeps (F.fits files.old) (F.fits files.new) }
+    ensures answer { IfFits (F.fits files.new)
         (λ told. Answers told request.now (AnswersSimulation told plan.now) result) }
-    ensures memory { IfErr result (λ fault. is_want_of_memory fault ≡ true → fault ≡ Memory) }
+    ensures memory { IfErr result (λ fault. is_out_of_memory fault ≡ true → fault ≡ Memory) }
     ensures counted { Counts (F.failed files.old) (F.failed files.new) result }
 {
     answer_request(alloc, files, request, &SimulatePlan { plan })

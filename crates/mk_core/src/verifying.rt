@@ -1,34 +1,35 @@
-//! The answer to a certificate.
+//! The command `verify`.
 
-ghost use Rattle.std.specs.Prelude.{◌≡◌, ◌⊎◌, ◌<◌, ◌-◌, ◌^◌, ℕ, true, Err, IfErr, IfOk, IfSome, OnOk};
+ghost use Rattle.std.specs.Prelude.{◌≡◌, ◌⊎◌, ◌<◌, ◌-◌, ◌^◌, ℕ, true, Err, IfErr, IfOk, OnOk};
+ghost use Rattle.mk_read.specs.Files.{IfFits, Keeps};
 ghost use Rattle.mk_core.specs.NotRead.{verified_not_read};
 ghost use Rattle.mk_core.specs.Answer.{Answers, Counts, failing_of};
 ghost use Rattle.mk_core.specs.FileText.{text_of};
 ghost use Rattle.mk_core.specs.Right.{IsRightFor};
-ghost use Rattle.mk_core.specs.Steps.{is_want_of_memory, seen};
+ghost use Rattle.mk_core.specs.Steps.{is_out_of_memory, seen};
 ghost use Rattle.mk_core.specs.VerifyAnswer.{AnswersVerify, VerifiesCertificate, VerifiesText};
 ghost use Rattle.mk_core.specs.Views.{AcceptsOver, VerifiesOver};
-ghost use Rattle.mk_print.specs.declared.fault.Fault.TheVariants.{Memory};
+ghost use Rattle.mk_core_text.specs.declared.fault.Fault.TheVariants.{Memory};
 
 use crate::file_text::file_text;
 use crate::judging::{Judge, answer_judged};
 use crate::laws::accepted_is_right;
 use crate::request::Request;
 use mk_cert::{Subject, counts, verify};
+use mk_cert_text::{Certificate, read_certificate};
+use mk_core_text::{Fault, yes_line};
 use mk_lines::Name;
-use mk_print::{Fault, yes_line};
 use mk_read::Files;
-use mk_ways::{Certificate, read_certificate};
 use std::alloc::Global;
 
-/// The answer to a certificate: yes, or its fault.
+/// The answer to a certificate: `yes N recipes M reads`, or its fault (73 to 76).
 fn accepted(
     alloc: Global,
     subject: &Subject<'_>,
     certificate: &Certificate,
 ) -> Result<Vec<u8>, Fault>
     ensures answer { AcceptsOver subject.now certificate.now (seen (λ text. text.items) result) }
-    ensures memory { IfErr result (λ fault. is_want_of_memory fault ≡ true → fault ≡ Memory) }
+    ensures memory { IfErr result (λ fault. is_out_of_memory fault ≡ true → fault ≡ Memory) }
     ensures counted { (failed : ℕ) → Counts failed failed result }
 {
     verify(alloc, subject, certificate)?;
@@ -37,7 +38,7 @@ fn accepted(
     Ok(line)
 }
 
-/// The answer to the certificate in the file of this name.
+/// The answer to the certificate in the file with this name.
 fn verified<F: Files>(
     alloc: Global,
     files: &mut F,
@@ -45,10 +46,10 @@ fn verified<F: Files>(
     name: &str,
 ) -> Result<Vec<u8>, Fault>
     requires { F.failed files.old < 2 ^ 64 - 1 }
-    ensures map { F.told files.new ≡ F.told files.old }
-    ensures answer { IfSome (F.told files.old)
+    ensures keeps { Keeps (F.fits files.old) (F.fits files.new) }
+    ensures answer { IfFits (F.fits files.new)
         (λ told. VerifiesOver told name.now subject.now (seen (λ text. text.items) result)) }
-    ensures memory { IfErr result (λ fault. is_want_of_memory fault ≡ true → fault ≡ Memory) }
+    ensures memory { IfErr result (λ fault. is_out_of_memory fault ≡ true → fault ≡ Memory) }
     ensures counted { Counts (F.failed files.old) (F.failed files.new) result }
 {
     let text = file_text(alloc, files, name)?;
@@ -56,7 +57,7 @@ fn verified<F: Files>(
     accepted(alloc, subject, &certificate)
 }
 
-/// The command `verify`, with the name of the file of the certificate.
+/// The command `verify`, with the name of the certificate file.
 #[derive(Drop)]
 struct VerifyBuild<'a> {
     name: &'a str,
@@ -85,13 +86,14 @@ impl Judge for VerifyBuild<'_> {
     ghost not_read = { λ v told x fault. verified_not_read told v.name.now x fault };
 }
 
-/// Whether the certificate in the file of this name shows that the build of the goals is right, as
-/// `mkcheck verify` tells: `yes N recipes M reads`.
+/// What `mkcheck verify` prints if the certificate in the file with this name shows that the build
+/// of the goals is right: `yes N recipes M reads`.
 ///
-/// Where it says yes, all holds that `check` promises of a yes.
+/// After a yes all holds that `check` promises of a yes.
 ///
-/// The first fault is the answer: those of `check`; then of the certificate 35, 38, 71 and 72; 73,
-/// 76, 75 entry by entry, 74 read by read.
+/// The error is the first fault in this order: those that `check` lists; the certificate file (35,
+/// 38, 71, 72); `OtherGoals` (73), `Static` (76), `BadWay` (75) for the first bad entry, `NoWay`
+/// (74) for the first read without an entry. Out of memory can come in place of any result.
 pub fn verify_text<F: Files>(
     alloc: Global,
     files: &mut F,
@@ -99,14 +101,14 @@ pub fn verify_text<F: Files>(
     certificate: &str,
 ) -> Result<Vec<u8>, Fault>
     requires { F.failed files.old < 2 ^ 64 - 1 }
-    ensures map { F.told files.new ≡ F.told files.old }
-    ensures answer { IfSome (F.told files.old)
+    ensures keeps { Keeps (F.fits files.old) (F.fits files.new) }
+    ensures answer { IfFits (F.fits files.new)
         (λ told.
         Answers told request.now (AnswersVerify told certificate.now)
         (seen (λ text. text.items) result)) }
-    ensures right { IfSome (F.told files.old)
+    ensures right { IfFits (F.fits files.new)
         (λ told. OnOk result (IsRightFor told request.now)) }
-    ensures memory { IfErr result (λ fault. is_want_of_memory fault ≡ true → fault ≡ Memory) }
+    ensures memory { IfErr result (λ fault. is_out_of_memory fault ≡ true → fault ≡ Memory) }
     ensures counted { Counts (F.failed files.old) (F.failed files.new) result }
 {
     accepted_is_right();

@@ -4,12 +4,12 @@ use Rattle.mk_graph.specs.Graph.{IsGraph, node}
 use Rattle.mk_graph.specs.GrowthLaws.{NamesHaveOneNumber}
 use Rattle.mk_graph.specs.Laws.{SerialReachesEachOnce}
 use Rattle.mk_graph.specs.Membership.{Has, IsDistinct}
-use Rattle.mk_ways.specs.Certificate.{Way}
+use Rattle.mk_cert_text.specs.Certificate.{Way}
 use Rattle.mk_cert.specs.Conditions.{IsRecipe}
 use Rattle.mk_cert.specs.Paths.{AreCarried, IsPath}
 use Rattle.mk_cert.specs.Subject.{Subject, footprints, name_of}
 use Rattle.mk_cert.specs.Verdict.{Read, NeedsWay, IsGood, HasEntry, NoneBad}
-use Rattle.mk_find.specs.Certifying.{reads_once, Needs, IsEntryFor, AreEntriesFor, nothing, entry, none}
+use Rattle.mk_find.specs.Certifying.{reads_once, ReadNeedsWay, IsEntryFor, AreEntriesFor, nothing, entry, none}
 use Rattle.mk_find.specs.Laws.{CertificateIsAccepted}
 use Rattle.mk_find.proofs.ReadsOnce.{reads_differ, has_recipe, recipe_is_node, reader_is_recipe, stands_there}
 
@@ -34,7 +34,7 @@ path_of_recipes x t others is are k d low = by (get_or (t ∷ others) k d) (has_
     by n (inr there) = carried_are_recipes x t others are n there
 
 -- an entry for a read that needs a way is good
-entry_is_good : (x : Subject) (r : Read) (w : Way) → Needs x r → IsEntryFor x r w → IsGood x w
+entry_is_good : (x : Subject) (r : Read) (w : Way) → ReadNeedsWay x r → IsEntryFor x r w → IsGood x w
 entry_is_good x r w needs is = record {
   start = r.recipe;
   others = reverse is.first.way;
@@ -61,17 +61,34 @@ none_bad : NamesHaveOneNumber → (x : Subject) → IsGraph x.graph → (before 
 none_bad one x is before earlier [] ways are apart d nothing = tt
 none_bad one x is before earlier (r ∷ reads) ways are apart d (entry {w} {ways = others} needs for_it more) =
     let recipe = reader_is_recipe x r.recipe r.file needs.0 in
-    let new : ¬ (HasEntry before w.recipe w.file) = λ found. (let old = are found.0 found.1 in apart r (inl refl) (subst (λ (k : Read). Has earlier k) (same_read one x is old.0 r old.2 recipe (sym old.3 ∙ (found.2 ∙ for_it.same_recipe)) (sym old.4 ∙ (found.3 ∙ for_it.same_file))) old.1)) in
-    ((entry_is_good x r w needs for_it, new), none_bad one x is (w ∷ before) (r ∷ earlier) reads others (λ v h. elim h [ inl here ↦ (r, inl refl, recipe, ap (λ (k : Way). k.recipe) (sym here) ∙ for_it.same_recipe, ap (λ (k : Way). k.file) (sym here) ∙ for_it.same_file) | inr there ↦ (let old = are v there in (old.0, inr old.1, old.2, old.3, old.4)) ]) (λ k h in_it. elim in_it [ inl here ↦ d.0 (subst (λ (j : Read). Has reads j) (sym here) h) | inr there ↦ apart k (inr h) there ]) d.1 more)
+    let new : ¬ (HasEntry before w.recipe w.file) = λ found. (let old = are found.0 found.1 in apart r (inl refl) (subst (λ (k : Read). Has earlier k) (same_read one x is old.0 r old.2 recipe (sym old.3 ∙ (found.2 ∙ for_it.same_recipe)) (sym old.4 ∙ (found.3 ∙ for_it.same_file))) old.1)) in (
+      (entry_is_good x r w needs for_it, new),
+      none_bad one x is (w ∷ before) (r ∷ earlier) reads others
+          (λ v h. elim h [
+            | inl here ↦ (
+              r,
+              inl refl,
+              recipe,
+              ap (λ (k : Way). k.recipe) (sym here)
+                  ∙ for_it.same_recipe,
+              ap (λ (k : Way). k.file) (sym here) ∙ for_it.same_file,
+            )
+            | inr there ↦ (let old = are v there in (old.0, inr old.1, old.2, old.3, old.4))
+          ])
+          (λ k h in_it. elim in_it [
+            | inl here ↦ d.0 (subst (λ (j : Read). Has reads j) (sym here) h)
+            | inr there ↦ apart k (inr h) there
+          ]) d.1 more,
+    )
 none_bad one x is before earlier (r ∷ reads) ways are apart d (none out more) =
     none_bad one x is before earlier reads ways are (λ k h. apart k (inr h)) d.1 more
 
 -- each read that needs a way has its entry
-has_its_entry : (x : Subject) (reads : List Read) (ways : List Way) → AreEntriesFor x reads ways → (r : Read) → Has reads r → Needs x r → HasEntry ways (name_of x r.recipe) r.file
+has_its_entry : (x : Subject) (reads : List Read) (ways : List Way) → AreEntriesFor x reads ways → (r : Read) → Has reads r → ReadNeedsWay x r → HasEntry ways (name_of x r.recipe) r.file
 has_its_entry x [] ways nothing r h needs = absurd h
 has_its_entry x (k ∷ reads) ways (entry {w} other is more) r (inl here) needs = (w, inl refl, is.same_recipe ∙ ap (λ (j : Read). name_of x j.recipe) here, is.same_file ∙ ap (λ (j : Read). j.file) here)
 has_its_entry x (k ∷ reads) ways (entry {ways = others} other is more) r (inr there) needs = let found = has_its_entry x reads others more r there needs in (found.0, inr found.1, found.2, found.3)
-has_its_entry x (k ∷ reads) ways (none out more) r (inl here) needs = absurd (out (subst (λ (j : Read). Needs x j) (sym here) needs))
+has_its_entry x (k ∷ reads) ways (none out more) r (inl here) needs = absurd (out (subst (λ (j : Read). ReadNeedsWay x j) (sym here) needs))
 has_its_entry x (k ∷ reads) ways (none out more) r (inr there) needs = has_its_entry x reads ways more r there needs
 
 -- so it is accepted

@@ -4,7 +4,7 @@ use Rattle.std.specs.List.{flat_map}
 use Rattle.std.proofs.lemmas.List.{map-append, drop_more, nil_from_length}
 use Rattle.mk_cert.specs.declared.finding.Finding.{Finding}
 use Rattle.mk_cert.specs.Subject.{Subject}
-use Rattle.mk_cert.specs.Candidates.{Candidate, Holds}
+use Rattle.mk_cert.specs.Candidates.{Candidate, IsFinding}
 use Rattle.mk_cert.specs.Listing.{Lists, nothing, keeps, drops}
 use Rattle.mk_cert.specs.Listed.{Adds, named}
 
@@ -27,10 +27,10 @@ adds_append x one other old mid new a b = record {
 }
 
 -- one candidate whose condition holds, and one whose condition doesn't
-pub adds_one : (x : Subject) (c : Candidate) (old new : List Finding) → Holds x c → new ≡ old ++ named x c ∷ [] → Adds x (c ∷ []) old new
+pub adds_one : (x : Subject) (c : Candidate) (old new : List Finding) → IsFinding x c → new ≡ old ++ named x c ∷ [] → Adds x (c ∷ []) old new
 adds_one x c old new h e = record { kept = c ∷ []; right = keeps h nothing; added = e }
 
-pub adds_none : (x : Subject) (c : Candidate) (old : List Finding) → ¬ (Holds x c) → Adds x (c ∷ []) old old
+pub adds_none : (x : Subject) (c : Candidate) (old : List Finding) → ¬ (IsFinding x c) → Adds x (c ∷ []) old old
 adds_none x c old h = record { kept = []; right = drops h nothing; added = sym (append-nil old) }
 
 -- past the end nothing is left of a list
@@ -55,11 +55,17 @@ leads_on x part rest all now next first lead added = λ last more. lead last (ad
 
 module _ {A : Type 0} where
   -- that of an element of a list
-  pub leads_each : (x : Subject) (found : A → List Candidate) (xs : List A) (i : ℕ) (d : A) (all : List Candidate) (now next first : List Finding) → i < length xs → Leads x (flat_map found (drop i xs)) all now first → Adds x (found (get_or xs i d)) now next → Leads x (flat_map found (drop (i + 1) xs)) all next first
+  pub leads_each : (x : Subject) (found : A → List Candidate) (xs : List A) (i : ℕ) (d : A)
+      (all : List Candidate) (now next first : List Finding) → i < length xs
+      → Leads x (flat_map found (drop i xs)) all now first → Adds x (found (get_or xs i d)) now next
+      → Leads x (flat_map found (drop (i + 1) xs)) all next first
   leads_each x found xs i d all now next first lt lead added =
       leads_on x (found (get_or xs i d)) (flat_map found (drop (i + 1) xs)) all now next first (subst (λ (l : List A). Leads x (flat_map found l) all now first) (drop_more xs i d lt) lead) added
 
   -- one candidate for each element
-  pub leads_map : (x : Subject) (candidate : A → Candidate) (xs : List A) (i : ℕ) (d : A) (all : List Candidate) (now next first : List Finding) → i < length xs → Leads x (map candidate (drop i xs)) all now first → Adds x (candidate (get_or xs i d) ∷ []) now next → Leads x (map candidate (drop (i + 1) xs)) all next first
+  pub leads_map : (x : Subject) (candidate : A → Candidate) (xs : List A) (i : ℕ) (d : A)
+      (all : List Candidate) (now next first : List Finding) → i < length xs
+      → Leads x (map candidate (drop i xs)) all now first → Adds x (candidate (get_or xs i d) ∷ []) now next
+      → Leads x (map candidate (drop (i + 1) xs)) all next first
   leads_map x candidate xs i d all now next first lt lead added =
       leads_on x (candidate (get_or xs i d) ∷ []) (map candidate (drop (i + 1) xs)) all now next first (subst (λ (l : List A). Leads x (map candidate l) all now first) (drop_more xs i d lt) lead) added

@@ -4,21 +4,21 @@ use Rattle.std.proofs.lemmas.List.{length-map, nil_from_length}
 use Rattle.mk_lines.specs.Names.{has_name, once}
 use Rattle.mk_foot.specs.Laws.{OnceKeepsFirst}
 use Rattle.mk_graph.specs.Membership.{Has}
-use Rattle.mk_ways.specs.declared.certificate.Finish.{Finish}
+use Rattle.mk_cert_text.specs.declared.certificate.Finish.{Finish}
 use Rattle.mk_cert.specs.declared.finding.Finding.{Finding}
 use Rattle.mk_cert.specs.Candidates.{Candidate, stale}
 use Rattle.mk_cert.specs.Listed.{Adds, named}
 use Rattle.mk_cert.specs.Conditions.{IsStale}
 use Rattle.mk_cert.specs.Laws.{ListedExactly}
 use Rattle.mk_cert.specs.Listing.{Lists}
-use Rattle.mk_ways.specs.Certificate.{Way}
+use Rattle.mk_cert_text.specs.Certificate.{Way}
 use Rattle.mk_cert.specs.Subject.{Subject, reads_of}
 use Rattle.mk_cert.specs.Verdict.{Read}
-use Rattle.mk_find.specs.FirstPaths.{GoesFirst}
+use Rattle.mk_find.specs.FirstPaths.{IsAlongFirstPath}
 use Rattle.mk_find.proofs.Accepted.{carried_are_recipes}
 use Rattle.mk_graph.specs.Lists.{has_mapped}
 use Rattle.mk_find.proofs.ReadsOnce.{recipe_is_node}
-use Rattle.mk_find.specs.Certifying.{Needs, IsEntryFor, AreEntriesFor, nothing, entry, none, AddsEntries}
+use Rattle.mk_find.specs.Certifying.{ReadNeedsWay, IsEntryFor, AreEntriesFor, nothing, entry, none, AddsEntries}
 
 -- the reads of these files by a recipe
 abbrev pub reads_of_files : ℕ → List (List ℕ) → List Read
@@ -43,14 +43,14 @@ adds_more_entries x reads others old mid new a b = record {
 }
 
 -- one read with its entry, and one without
-pub adds_entry : (x : Subject) (r : Read) (w : Way) (old new : List Way) → Needs x r → IsEntryFor x r w → new ≡ old ++ w ∷ [] → AddsEntries x (r ∷ []) old new
+pub adds_entry : (x : Subject) (r : Read) (w : Way) (old new : List Way) → ReadNeedsWay x r → IsEntryFor x r w → new ≡ old ++ w ∷ [] → AddsEntries x (r ∷ []) old new
 adds_entry x r w old new needs is e = record { more = w ∷ []; right = entry needs is nothing; added = e }
 
-pub adds_no_entry : (x : Subject) (r : Read) (old : List Way) → ¬ (Needs x r) → AddsEntries x (r ∷ []) old old
+pub adds_no_entry : (x : Subject) (r : Read) (old : List Way) → ¬ (ReadNeedsWay x r) → AddsEntries x (r ∷ []) old old
 adds_no_entry x r old out = record { more = []; right = none out nothing; added = sym (append-nil old) }
 
 -- the nodes along a first path are nodes of the graph
-pub nodes_low : (x : Subject) (f : List ℕ) (t : ℕ) (nodes : List ℕ) (finish : Finish) → t < length x.graph.nodes → GoesFirst x f t nodes finish → (n : ℕ) → Has nodes n → n < length x.graph.nodes
+pub nodes_low : (x : Subject) (f : List ℕ) (t : ℕ) (nodes : List ℕ) (finish : Finish) → t < length x.graph.nodes → IsAlongFirstPath x f t nodes finish → (n : ℕ) → Has nodes n → n < length x.graph.nodes
 nodes_low x f t nodes finish low goes n h = by (subst (λ (l : List ℕ). Has l n) goes.goes h)
   where
     by : Has (t ∷ reverse goes.way) n → n < length x.graph.nodes

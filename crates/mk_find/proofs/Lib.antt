@@ -3,7 +3,7 @@ pub mod Turned
 pub mod FirstPaths
 pub mod Adding
 pub mod FindingLists
-pub mod Entries
+pub mod EntryLaws
 pub mod ReadsOnce
 pub mod Accepted
 pub mod Trying

@@ -9,15 +9,15 @@ use Rattle.mk_graph.specs.declared.node.Node.{Node}
 use Rattle.mk_graph.specs.Graph.{IsGraph, node}
 use Rattle.mk_graph.specs.Membership.{Has}
 use Rattle.mk_graph.specs.Ways.{CanChange}
-use Rattle.mk_ways.specs.declared.certificate.Finish.{Finish}
+use Rattle.mk_cert_text.specs.declared.certificate.Finish.{Finish}
 use Rattle.mk_cert.specs.Candidates.{static_candidates}
 use Rattle.mk_cert.specs.Conditions.{IsStale}
-use Rattle.mk_cert.specs.Entry.{Entry, IsEntry, reads_in, entry_reads}
+use Rattle.mk_cert.specs.NodeRow.{NodeRow, IsEntry, reads_in, entry_reads}
 use Rattle.mk_cert.specs.Laws.{NothingFoundIsSound, PathsAreWays}
 use Rattle.mk_cert.specs.Listing.{Lists}
 use Rattle.mk_cert.specs.Subject.{Subject, IsSubject, footprints, name_of, reads_of, writes_of}
 use Rattle.mk_find.specs.declared.first_path.FirstPath.{FirstPath}
-use Rattle.mk_find.specs.FirstPaths.{GoesFirst, HasNoPath}
+use Rattle.mk_find.specs.FirstPaths.{IsAlongFirstPath, HasNoPath}
 use Rattle.mk_find.proofs.ReadsOnce.{recipe_is_node, reader_is_recipe}
 
 -- what is looked up of the reads of a record is what the setting says
@@ -26,15 +26,15 @@ reads_by s name None e = rw e refl
 reads_by s name (Some r) e = rw e refl
 
 -- so an entry reads what the recipe of its node does
-pub same_reads : (x : Subject) (e : Entry) → IsEntry x e → entry_reads e ≡ reads_of x e.number
+pub same_reads : (x : Subject) (e : NodeRow) → IsEntry x e → entry_reads e ≡ reads_of x e.number
 same_reads x e is = ap (λ (n : Node). cond n.recipe (reads_in e.recorded) []) is.same_node ∙ ap (λ fs. cond (node x.graph e.number).recipe fs []) (reads_by x.setting (name_of x e.number) e.recorded (sym is.same_record))
 
 -- as many files as the recipe reads
-pub count_is : (x : Subject) (e : Entry) (files : List (String Global)) → IsEntry x e → map string_bytes files ≡ entry_reads e → length files ≡ length (reads_of x e.number)
+pub count_is : (x : Subject) (e : NodeRow) (files : List (String Global)) → IsEntry x e → map string_bytes files ≡ entry_reads e → length files ≡ length (reads_of x e.number)
 count_is x e files is same = sym (length-map files string_bytes) ∙ ap (λ (l : List (List ℕ)). length l) (same ∙ same_reads x e is)
 
 -- a place of theirs is one of the record's files
-pub place_is : (e : Entry) (files : List (String Global)) (i : ℕ) → map string_bytes files ≡ entry_reads e → i < length files → i < length (entry_reads e)
+pub place_is : (e : NodeRow) (files : List (String Global)) (i : ℕ) → map string_bytes files ≡ entry_reads e → i < length files → i < length (entry_reads e)
 place_is e files i same lt = omega (arith, length-map files string_bytes, ap (λ (l : List (List ℕ)). length l) same)
 
 -- who reads is a node
@@ -46,7 +46,7 @@ pub reader_writes_not : NothingFoundIsSound → (x : Subject) → IsGraph x.grap
 reader_writes_not sound x graph is none t f h = (sound x graph is none).not_own t f h
 
 -- a path leads to the file, so it isn't stale
-pub path_not_stale : PathsAreWays → (x : Subject) (f : List ℕ) (t : ℕ) (nodes : List ℕ) (finish : Finish) → GoesFirst x f t nodes finish → ¬ (IsStale x t f)
+pub path_not_stale : PathsAreWays → (x : Subject) (f : List ℕ) (t : ℕ) (nodes : List ℕ) (finish : Finish) → IsAlongFirstPath x f t nodes finish → ¬ (IsStale x t f)
 path_not_stale ways x f t nodes finish goes is = is.2 ((ways x.graph (footprints x.setting) f t).1 (finish, _, goes.first.path))
 
 -- none does, so it is
@@ -54,11 +54,11 @@ pub no_path_stale : PathsAreWays → (x : Subject) (f : List ℕ) (t : ℕ) → 
 no_path_stale ways x f t reads can none = (reads, can, λ way. let path = (ways x.graph (footprints x.setting) f t).0 way in none path.0 path.1 path.2)
 
 -- the same of what a search has answered
-pub some_not_stale : PathsAreWays → (x : Subject) (f : List ℕ) (t : ℕ) (o : Option FirstPath) → MatchOption o (HasNoPath x f t) (λ p. GoesFirst x f t p.nodes.items p.finish) → is_some o ≡ true → ¬ (IsStale x t f)
+pub some_not_stale : PathsAreWays → (x : Subject) (f : List ℕ) (t : ℕ) (o : Option FirstPath) → MatchOption o (HasNoPath x f t) (λ p. IsAlongFirstPath x f t p.nodes.items p.finish) → is_some o ≡ true → ¬ (IsStale x t f)
 some_not_stale ways x f t None m e = absurd (false≢true e)
 some_not_stale ways x f t (Some p) m e = path_not_stale ways x f t p.nodes.items p.finish m
 
-pub none_is_none : (x : Subject) (f : List ℕ) (t : ℕ) (o : Option FirstPath) → MatchOption o (HasNoPath x f t) (λ p. GoesFirst x f t p.nodes.items p.finish) → is_some o ≡ false → HasNoPath x f t
+pub none_is_none : (x : Subject) (f : List ℕ) (t : ℕ) (o : Option FirstPath) → MatchOption o (HasNoPath x f t) (λ p. IsAlongFirstPath x f t p.nodes.items p.finish) → is_some o ≡ false → HasNoPath x f t
 none_is_none x f t None m e = m
 none_is_none x f t (Some p) m e = absurd (false≢true (sym e))
 

@@ -7,10 +7,10 @@ use Rattle.std.proofs.lemmas.List.{take_more, map_push}
 use Rattle.std.proofs.lemmas.Slice.Eq.{bytes_eq-Decides}
 use Rattle.mk_lines.specs.Names.{has_name, once, with_name}
 use Rattle.mk_foot.specs.Laws.{OnceKeepsFirst}
-use Rattle.mk_ways.specs.Certificate.{Way}
+use Rattle.mk_cert_text.specs.Certificate.{Way}
 use Rattle.mk_cert.specs.Subject.{Subject, reads_of}
 use Rattle.mk_cert.specs.Verdict.{Read}
-use Rattle.mk_find.specs.Certifying.{AddsEntries, AddsOnce, Needs}
+use Rattle.mk_find.specs.Certifying.{AddsEntries, AddsOnce, ReadNeedsWay}
 use Rattle.mk_find.proofs.AddingEntries.{reads_of_files, adds_more_entries, adds_no_entry, once_same, once_new}
 
 or_false : (b : Bool) → (b || false) ≡ b
@@ -44,7 +44,7 @@ has_with names f g = by (has_name names f) refl
 
 -- of the files that need a way a set has just those that were read so far
 abbrev pub Knows : Subject → ℕ → (before seen : List (List ℕ)) → Type 0
-Knows x t before seen = (g : List ℕ) → Needs x (record { recipe = t; file = g }) → has_name seen g ≡ has_name before g
+Knows x t before seen = (g : List ℕ) → ReadNeedsWay x (record { recipe = t; file = g }) → has_name seen g ≡ has_name before g
 
 -- a file more
 pub knows_more : (x : Subject) (t : ℕ) (before seen : List (List ℕ)) (f : List ℕ) → Knows x t before seen → Knows x t (before ++ f ∷ []) (with_name seen f)
@@ -52,13 +52,13 @@ knows_more x t before seen f knows g needs =
     has_with seen f g ∙ (ap (λ b. b || bytes_eq g f) (knows g needs) ∙ sym (has_push before f g))
 
 -- one that needs none
-pub knows_past : (x : Subject) (t : ℕ) (before seen : List (List ℕ)) (f : List ℕ) → ¬ (Needs x (record { recipe = t; file = f })) → Knows x t before seen → Knows x t (before ++ f ∷ []) seen
+pub knows_past : (x : Subject) (t : ℕ) (before seen : List (List ℕ)) (f : List ℕ) → ¬ (ReadNeedsWay x (record { recipe = t; file = f })) → Knows x t before seen → Knows x t (before ++ f ∷ []) seen
 knows_past x t before seen f out knows g needs =
     knows g needs ∙ (sym (or_false (has_name before g)) ∙ (ap (λ b. has_name before g || b) (sym (apart (bytes_eq g f) refl)) ∙ sym (has_push before f g)))
   where
     apart : (b : Bool) → bytes_eq g f ≡ b → bytes_eq g f ≡ false
     apart false e = e
-    apart true e = absurd (out (subst (λ k. Needs x (record { recipe = t; file = k })) ((bytes_eq-Decides g f).0 e) needs))
+    apart true e = absurd (out (subst (λ k. ReadNeedsWay x (record { recipe = t; file = k })) ((bytes_eq-Decides g f).0 e) needs))
 
 -- a file that stands at a place stands among those up to a later one
 pub stands_in : (files : List (List ℕ)) (i place : ℕ) (f : List ℕ) → i < place → i < length files → bytes_eq f (get_or files i []) ≡ true → has_name (take place files) f ≡ true
@@ -88,11 +88,14 @@ adds_read keeps x t i first old new low so (inr (lacks, adds)) =
     let f = get_or files i [] in
     let r : Read = record { recipe = t; file = f } in
     let after : take (i + 1) files ≡ before ++ f ∷ [] = take_more files i [] low in
-    let reads : reads_of_files t (once before) ++ r ∷ [] ≡ reads_of_files t (once (take (i + 1) files)) = sym (map_push (λ (g : List ℕ). record { recipe = t; file = g }) (once before) f) ∙ ap (reads_of_files t) (sym (once_new keeps before f (once before) refl ((keeps before).same f ∙ lacks)) ∙ ap once (sym after)) in
+    let reads : reads_of_files t (once before) ++ r ∷ [] ≡ reads_of_files t (once (take (i + 1) files)) = sym
+    (map_push (λ (g : List ℕ). record { recipe = t; file = g }) (once before) f)
+    ∙ ap (reads_of_files t) (sym (once_new keeps before f (once before) refl
+    ((keeps before).same f ∙ lacks)) ∙ ap once (sym after)) in
     subst (λ (l : List Read). AddsEntries x l first new) reads (adds_more_entries x (reads_of_files t (once before)) (r ∷ []) first old new so adds)
 
 -- for one that needs no way nothing is added
-pub adds_past : (x : Subject) (t i : ℕ) (ways : List Way) → ¬ (Needs x (record { recipe = t; file = get_or (reads_of x t) i [] })) → AddsOnce x t i ways ways
+pub adds_past : (x : Subject) (t i : ℕ) (ways : List Way) → ¬ (ReadNeedsWay x (record { recipe = t; file = get_or (reads_of x t) i [] })) → AddsOnce x t i ways ways
 adds_past x t i ways out = by (has_name (take i (reads_of x t)) (get_or (reads_of x t) i [])) refl
   where
     by : (b : Bool) → has_name (take i (reads_of x t)) (get_or (reads_of x t) i []) ≡ b → AddsOnce x t i ways ways

@@ -39,7 +39,11 @@ read_by x t r h = let at = mapped_from (λ f. record { recipe = t; file = f }) (
 reads_apart : (x : Subject) (order : List ℕ) → IsDistinct order → IsDistinct (flat_map (reads_by x) order)
 reads_apart x [] d = tt
 reads_apart x (t ∷ order) d =
-    distinct_joined (reads_by x t) (flat_map (reads_by x) order) (distinct_mapped (λ f. record { recipe = t; file = f }) (λ f h e. ap (λ (k : Read). k.file) e) (once (reads_of x t)) (once_distinct (reads_of x t))) (reads_apart x order d.1) (λ r here there. let at = joined_from (reads_by x) order r there in d.0 (subst (λ (n : ℕ). Has order n) (read_by x at.0 r at.2 ∙ sym (read_by x t r here)) at.1))
+    distinct_joined (reads_by x t) (flat_map (reads_by x) order)
+    (distinct_mapped (λ f. record { recipe = t; file = f }) (λ f h e. ap (λ (k : Read). k.file) e)
+    (once (reads_of x t)) (once_distinct (reads_of x t))) (reads_apart x order d.1)
+    (λ r here there. let at = joined_from (reads_by x) order r there in d.0
+    (subst (λ (n : ℕ). Has order n) (read_by x at.0 r at.2 ∙ sym (read_by x t r here)) at.1))
 
 -- no read stands twice
 pub reads_differ : SerialReachesEachOnce → (x : Subject) → IsGraph x.graph → IsDistinct (reads_once x)

@@ -10,14 +10,14 @@ use Rattle.mk_lines.specs.Names.{has_name}
 use Rattle.mk_graph.specs.Graph.{IsGraph, node, prerequisites}
 use Rattle.mk_graph.specs.Membership.{Has}
 use Rattle.mk_graph.specs.Setting.{is_editable}
-use Rattle.mk_search.specs.Ways.{successors, end}
-use Rattle.mk_search.specs.Places.{Task, StandsAt, EndsAt, GoesAt, HasAtMost}
-use Rattle.mk_search.specs.Laws.{FirstByPlaces, NoneByPlaces, OneWayAtAPlace, PlacesAreBelow, SaysNoBefore}
-use Rattle.mk_ways.specs.declared.certificate.Finish.{Finish}
-use Rattle.mk_ways.specs.declared.certificate.Finish.TheVariants.{Written, Source, Always}
+use Rattle.mk_graph_search.specs.Ways.{successors, end}
+use Rattle.mk_graph_search.specs.Places.{SearchInput, StandsAt, EndsAt, GoesAt, HasAtMost}
+use Rattle.mk_graph_search.specs.Laws.{FirstByPlaces, NoneByPlaces, OneWayAtAPlace, PlacesAreBelow, SaysNoBefore}
+use Rattle.mk_cert_text.specs.declared.certificate.Finish.{Finish}
+use Rattle.mk_cert_text.specs.declared.certificate.Finish.TheVariants.{Written, Source, Always}
 use Rattle.mk_cert.specs.Carried.{carried, CarriedExactly}
 use Rattle.mk_cert.specs.Subject.{Subject, footprints, name_of, writes_of}
-use Rattle.mk_find.specs.FirstPaths.{Ends, EndsFirst, GoesFirst, HasNoPath}
+use Rattle.mk_find.specs.FirstPaths.{MayEnd, IsFirstFinish, IsAlongFirstPath, HasNoPath}
 use Rattle.mk_find.proofs.FirstPaths.{HasFinish, found_first, none_found}
 use Rattle.mk_find.proofs.ReadsOnce.{has_recipe, recipe_is_node}
 
@@ -71,32 +71,57 @@ says_yes x f n (Source, is) =
     both_true true b e k = k
     both_true false b e k = absurd (false≢true e)
 says_yes x f n (Always, made) =
-    or_right (has_name (writes_of x n) f) _ (or_right (is_editable (footprints x.setting) f && needs x f n) (always x n) (elim made [ inl phony ↦ or_left (node x.graph n).phony _ phony | inr some ↦ or_right (node x.graph n).phony _ (some_passes (λ p. (node x.graph p).phony) (prerequisites x.graph n) some.0 some.1 some.2) ]))
+    or_right (has_name (writes_of x n) f) _ (or_right (is_editable (footprints x.setting) f && needs x f n)
+    (always x n) (elim made [
+      | inl phony ↦ or_left (node x.graph n).phony _ phony
+      | inr some ↦ or_right (node x.graph n).phony _ (some_passes (λ p. (node x.graph p).phony)
+          (prerequisites x.graph n) some.0 some.1 some.2)
+    ]))
 
 -- and only there
 pub finish_from : (x : Subject) (f : List ℕ) (n : ℕ) → may_end x f n ≡ true → HasFinish x f n
 unfolding may_end needs always
 finish_from x f n e =
-    elim (or_cases (has_name (writes_of x n) f) _ e) [ inl wrote ↦ (Written, stands (writes_of x n) f wrote) | inr other ↦ elim (or_cases (is_editable (footprints x.setting) f && needs x f n) (always x n) other) [ inl source ↦ (let at = which_passes (λ p. bytes_eq f (name_of x p)) (prerequisites x.graph n) (both_from (is_editable (footprints x.setting) f) (needs x f n) source).1 in (Source, ((both_from (is_editable (footprints x.setting) f) (needs x f n) source).0, (at.0, at.1, sym ((bytes_eq-Decides f (name_of x at.0)).0 at.2))))) | inr made ↦ (Always, elim (or_cases (node x.graph n).phony _ made) [ inl phony ↦ inl phony | inr some ↦ inr (which_passes (λ p. (node x.graph p).phony) (prerequisites x.graph n) some) ]) ] ]
+    elim (or_cases (has_name (writes_of x n) f) _ e) [
+      | inl wrote ↦ (Written, stands (writes_of x n) f wrote)
+      | inr other ↦ elim (or_cases (is_editable (footprints x.setting) f && needs x f n) (always x n) other) [
+        | inl source ↦ (let at = which_passes (λ p. bytes_eq f (name_of x p)) (prerequisites x.graph n)
+            (both_from (is_editable (footprints x.setting) f) (needs x f n) source).1 in (
+              Source,
+              (
+                (both_from (is_editable (footprints x.setting) f) (needs x f n) source).0,
+                (at.0, at.1, sym ((bytes_eq-Decides f (name_of x at.0)).0 at.2)),
+              ),
+            ))
+        | inr made ↦ (
+          Always,
+          elim (or_cases (node x.graph n).phony _ made) [
+            | inl phony ↦ inl phony
+            | inr some ↦ inr (which_passes (λ p. (node x.graph p).phony)
+                (prerequisites x.graph n) some)
+          ],
+        )
+      ]
+    ]
 
 -- at the ends of the ways at all places before this one no path to the file may end
 pub record EndsNoneBefore (x : Subject) (f : List ℕ) (t place : ℕ) : Type 0 where
-  pub none : (j : ℕ) → j < place → (way : List ℕ) → StandsAt (carried x) t j way → (finish : Finish) → ¬ (Ends x f finish (end t way))
+  pub none : (j : ℕ) → j < place → (way : List ℕ) → StandsAt (carried x) t j way → (finish : Finish) → ¬ (MayEnd x f finish (end t way))
 
 -- before the first place
 pub none_before_first : (x : Subject) (f : List ℕ) (t : ℕ) → EndsNoneBefore x f t 0
 none_before_first x f t = record { none = λ j low. absurd (omega arith) }
 
 -- nor at this one
-pub none_here : OneWayAtAPlace → (x : Subject) (f : List ℕ) (t place number : ℕ) → EndsNoneBefore x f t place → EndsAt (carried x) t place number → ((finish : Finish) → ¬ (Ends x f finish number)) → EndsNoneBefore x f t (place + 1)
+pub none_here : OneWayAtAPlace → (x : Subject) (f : List ℕ) (t place number : ℕ) → EndsNoneBefore x f t place → EndsAt (carried x) t place number → ((finish : Finish) → ¬ (MayEnd x f finish number)) → EndsNoneBefore x f t (place + 1)
 none_here one x f t place number before at out = record { none = λ j low way stands. by j way stands (eq-or-lt_of_le (le_of j low)) }
   where
     le_of : (j : ℕ) → j < place + 1 → j ≤ place
     le_of j low = omega arith
 
-    by : (j : ℕ) (way : List ℕ) → StandsAt (carried x) t j way → (j ≡ place) ⊎ (j < place) → (finish : Finish) → ¬ (Ends x f finish (end t way))
+    by : (j : ℕ) (way : List ℕ) → StandsAt (carried x) t j way → (j ≡ place) ⊎ (j < place) → (finish : Finish) → ¬ (MayEnd x f finish (end t way))
     by j way stands (inr low) = before.none j low way stands
-    by j way stands (inl e) = λ finish ends. out finish (subst (λ (n : ℕ). Ends x f finish n) (ap (end t) (one (carried x) t place way at.way (subst (λ (k : ℕ). StandsAt (carried x) t k way) e stands) at.stands) ∙ at.ends) ends)
+    by j way stands (inl e) = λ finish ends. out finish (subst (λ (n : ℕ). MayEnd x f finish n) (ap (end t) (one (carried x) t place way at.way (subst (λ (k : ℕ). StandsAt (carried x) t k way) e stands) at.stands) ∙ at.ends) ends)
 
 -- so the test says no there
 says_no : (x : Subject) (f : List ℕ) (t place : ℕ) → EndsNoneBefore x f t place → SaysNoBefore (carried x) t (may_end x f) place
@@ -104,13 +129,16 @@ says_no x f t place before j low way stands =
     false_from_ne_true (may_end x f (end t way)) (λ e. let at = finish_from x f (end t way) e in before.none j low way stands at.0 at.1)
 
 -- at this place the first path ends
-pub path_found : CarriedExactly → FirstByPlaces → OneWayAtAPlace → (x : Subject) → IsGraph x.graph → (f : List ℕ) (t place number : ℕ) (finish : Finish) (nodes : List ℕ) → ¬ (Has (writes_of x t) f) → EndsNoneBefore x f t place → EndsAt (carried x) t place number → EndsFirst x f finish number → GoesAt (carried x) t place nodes → GoesFirst x f t nodes finish
+pub path_found : CarriedExactly → FirstByPlaces → OneWayAtAPlace → (x : Subject) → IsGraph x.graph
+    → (f : List ℕ) (t place number : ℕ) (finish : Finish) (nodes : List ℕ) → ¬ (Has (writes_of x t) f)
+    → EndsNoneBefore x f t place → EndsAt (carried x) t place number → IsFirstFinish x f finish number
+    → GoesAt (carried x) t place nodes → IsAlongFirstPath x f t nodes finish
 path_found carries first one x is f t place number finish nodes out before at ends goes =
     let same : goes.way ≡ at.way = one (carried x) t place goes.way at.way goes.stands at.stands in
     let there : end t goes.way ≡ number = ap (end t) same ∙ at.ends in
-    let here : Ends x f finish (end t goes.way) = subst (λ (n : ℕ). Ends x f finish n) (sym there) ends.0 in
+    let here : MayEnd x f finish (end t goes.way) = subst (λ (n : ℕ). MayEnd x f finish n) (sym there) ends.0 in
     let is_first = first (carried x) t (may_end x f) place goes.way (says_no x f t place before) goes.stands (says_yes x f (end t goes.way) (finish, here)) in
-    record { way = goes.way; first = found_first x f t (carries x is) out (may_end x f) (says_yes x f) goes.way finish is_first here (λ other at_end. ends.1 other (subst (λ (n : ℕ). Ends x f other n) there at_end)); goes = goes.goes }
+    record { way = goes.way; first = found_first x f t (carries x is) out (may_end x f) (says_yes x f) goes.way finish is_first here (λ other at_end. ends.1 other (subst (λ (n : ℕ). MayEnd x f other n) there at_end)); goes = goes.goes }
 
 -- there is no path
 pub path_missing : CarriedExactly → NoneByPlaces → (x : Subject) → IsGraph x.graph → (f : List ℕ) (t place : ℕ) → EndsNoneBefore x f t place → HasAtMost (carried x) t place → HasNoPath x f t
@@ -128,13 +156,13 @@ pub place_low : CarriedExactly → PlacesAreBelow → (x : Subject) → IsGraph 
 place_low carries below x is t place number low at = below (carried x) t (length x.graph.nodes) low (carried_low carries x is) place at.way at.stands
 
 -- what is so of a search is so of carried recipes
-pub moved : (P : (ℕ → List ℕ) → ℕ → Type 0) (x : Subject) (task first : Task) → task ≡ first → ((t : ℕ) → successors first.rows t ≡ carried x t) → P (successors task.rows) task.start → P (carried x) first.start
+pub moved : (P : (ℕ → List ℕ) → ℕ → Type 0) (x : Subject) (task first : SearchInput) → task ≡ first → ((t : ℕ) → successors first.rows t ≡ carried x t) → P (successors task.rows) task.start → P (carried x) first.start
 moved P x task first e rows h =
     let same : successors first.rows ≡ carried x = (λ i t. rows t i) in
-    subst (λ (succ : ℕ → List ℕ). P succ first.start) same (subst (λ (k : Task). P (successors k.rows) k.start) e h)
+    subst (λ (succ : ℕ → List ℕ). P succ first.start) same (subst (λ (k : SearchInput). P (successors k.rows) k.start) e h)
 
 -- what a search has answered of a place, over carried recipes
-module _ (x : Subject) (task first : Task) (e : task ≡ first) (rows : (t : ℕ) → successors first.rows t ≡ carried x t) (place : ℕ) where
+module _ (x : Subject) (task first : SearchInput) (e : task ≡ first) (rows : (t : ℕ) → successors first.rows t ≡ carried x t) (place : ℕ) where
   -- a node
   pub ended : (o : Option ℕ) (number : ℕ) → o ≡ Some number → MatchOption o (HasAtMost (successors task.rows) task.start place) (λ node. EndsAt (successors task.rows) task.start place node) → EndsAt (carried x) first.start place number
   ended o number is found =

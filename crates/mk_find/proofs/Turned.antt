@@ -6,7 +6,7 @@ use Rattle.mk_graph.specs.Graph.{Graph}
 use Rattle.mk_graph.specs.Membership.{Has}
 use Rattle.mk_graph.specs.Setting.{Setting}
 use Rattle.mk_graph.specs.Ways.{Carries}
-use Rattle.mk_search.specs.Ways.{end, IsWay}
+use Rattle.mk_graph_search.specs.Ways.{end, IsWay}
 use Rattle.mk_cert.specs.Paths.{AreCarried, last_of}
 
 -- a list with one more behind it isn't empty

@@ -1,49 +1,50 @@
--- The certificate of a build of which nothing is found.
+-- The certificate of a build without findings.
 use Rattle.std.specs.Prelude.{◌≡◌, ◌⊎◌, ℕ, List, [], ◌∷◌, ◌++◌, map, take, slice_index_or, true, false}
 use Rattle.std.specs.List.{flat_map}
 use Rattle.mk_lines.specs.Names.{has_name, once}
 use Rattle.mk_graph.specs.Serial.{serial_order}
-use Rattle.mk_ways.specs.Certificate.{Way, Certificate}
+use Rattle.mk_cert_text.specs.Certificate.{Way, Certificate}
 use Rattle.mk_cert.specs.Subject.{Subject, name_of, reads_of}
 use Rattle.mk_cert.specs.Verdict.{Read, NeedsWay, HasGoals}
-use Rattle.mk_find.specs.FirstPaths.{GoesFirst}
+use Rattle.mk_find.specs.FirstPaths.{IsAlongFirstPath}
 
--- the reads of a recipe, each once, by the place of the file
+-- The reads of a recipe, each file once, in the order of its record.
 abbrev pub reads_by : Subject → ℕ → List Read
 reads_by x t = map (λ f. record { recipe = t; file = f }) (once (reads_of x t))
 
--- those of all recipes, by the place of the recipe in the serial order
+-- The reads of all recipes, each once, by the recipe's position in the serial order.
 abbrev pub reads_once : Subject → List Read
 reads_once x = flat_map (reads_by x) (serial_order x.graph)
 
--- the read needs a way
-abbrev pub Needs : Subject → Read → Type 0
-Needs x r = NeedsWay x r.recipe r.file
+-- The read is of a file that can change.
+abbrev pub ReadNeedsWay : Subject → Read → Type 0
+ReadNeedsWay x r = NeedsWay x r.recipe r.file
 
--- The entry is for the read: it has its recipe and its file, and of all paths the first, by names.
+-- The entry is for this read: it has its recipe, its file, and the names along the first path from
+-- the recipe to the file.
 pub record IsEntryFor (x : Subject) (r : Read) (w : Way) : Type 0 where
   pub nodes : List ℕ
-  pub first : GoesFirst x r.file r.recipe nodes w.finish
+  pub first : IsAlongFirstPath x r.file r.recipe nodes w.finish
   pub same_recipe : w.recipe ≡ name_of x r.recipe
   pub same_file : w.file ≡ r.file
   pub same_path : w.path ≡ map (name_of x) nodes
 
--- these are the entries for those of the reads that need a way, in their order
+-- These are the entries for those of the reads that need a way, in their order.
 pub data AreEntriesFor (x : Subject) : List Read → List Way → Type 0 where
   nothing : AreEntriesFor x [] []
-  entry : {r : Read} {w : Way} {reads : List Read} {ways : List Way} → Needs x r →
+  entry : {r : Read} {w : Way} {reads : List Read} {ways : List Way} → ReadNeedsWay x r →
       IsEntryFor x r w → AreEntriesFor x reads ways → AreEntriesFor x (r ∷ reads) (w ∷ ways)
-  none : {r : Read} {reads : List Read} {ways : List Way} → ¬ (Needs x r) →
+  none : {r : Read} {reads : List Read} {ways : List Way} → ¬ (ReadNeedsWay x r) →
       AreEntriesFor x reads ways → AreEntriesFor x (r ∷ reads) ways
 
--- the new list is the old one, and behind it the entries for these reads
+-- The new list is the old one followed by the entries for those of these reads that need a way.
 pub record AddsEntries (x : Subject) (reads : List Read) (old new : List Way) : Type 0 where
   pub more : List Way
   pub right : AreEntriesFor x reads more
   pub added : new ≡ old ++ more
 
--- The same for the read at a place of what a recipe reads, where its file doesn't stand before that
--- place too; else nothing is added.
+-- If the file at `place` among the recipe's reads also stands at an earlier place, nothing is
+-- added; else the entry for that read is, if it needs a way.
 abbrev pub AddsOnce : Subject → ℕ → ℕ → List Way → List Way → Type 0
 AddsOnce x t place old new =
     ((has_name (take place (reads_of x t)) (slice_index_or (reads_of x t) place []) ≡ true) ×
@@ -53,7 +54,7 @@ AddsOnce x t place old new =
     (record { recipe = t; file = slice_index_or (reads_of x t) place [] } ∷ []) old new)
 
 -- The certificate has the goals of the graph in their order, and an entry for each read that needs
--- a way.
+-- a way, which has the first path.
 pub record IsCertificate (x : Subject) (c : Certificate) : Type 0 where
   pub goals : HasGoals x c
   pub ways : AreEntriesFor x (reads_once x) c.ways

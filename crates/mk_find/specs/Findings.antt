@@ -1,4 +1,4 @@
--- What is told of a build.
+-- The findings of a build.
 use Rattle.std.specs.Prelude.{◌≡◌, List, [], ◌++◌, ◌⊎◌}
 use Rattle.mk_cert.specs.declared.finding.Finding.{Finding}
 use Rattle.mk_cert.specs.Subject.{Subject}
@@ -6,8 +6,8 @@ use Rattle.mk_cert.specs.Candidates.{static_candidates, race_candidates, stale_c
 use Rattle.mk_cert.specs.Listing.{Lists}
 use Rattle.mk_cert.specs.Listed.{Adds}
 
--- The findings of a build. Where there are some that need no order and no ways, it is these; else
--- it is the races, and behind them the stale reads.
+-- These are the static findings (1 to 9, 12) if there are any; else the races (10) followed by the
+-- stale reads (11).
 abbrev pub AreFindings : Subject → List Finding → Type 0
 AreFindings x found =
     ((¬ (found ≡ [])) × Adds x (static_candidates x) [] found) ⊎

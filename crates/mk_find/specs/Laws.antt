@@ -1,14 +1,14 @@
--- Laws of first paths, findings and certificates.
+-- Laws about first paths, findings and certificates.
 use Rattle.std.specs.Prelude.{◌≡◌, ℕ, suc, ◌≤◌, List, [], length, Ok}
 use Rattle.mk_graph.specs.Graph.{IsGraph}
-use Rattle.mk_ways.specs.declared.certificate.Finish.{Finish}
-use Rattle.mk_ways.specs.Certificate.{Way, Certificate}
+use Rattle.mk_cert_text.specs.declared.certificate.Finish.{Finish}
+use Rattle.mk_cert_text.specs.Certificate.{Way, Certificate}
 use Rattle.mk_cert.specs.declared.finding.Finding.{Finding}
 use Rattle.mk_cert.specs.Candidates.{stale_candidates}
 use Rattle.mk_cert.specs.Listing.{Lists}
 use Rattle.mk_cert.specs.Subject.{Subject}
 use Rattle.mk_cert.specs.Verdict.{Read, NothingFound, Verifies}
-use Rattle.mk_find.specs.FirstPaths.{Leads, IsFirstPath}
+use Rattle.mk_find.specs.FirstPaths.{IsPathOver, IsFirstPath}
 use Rattle.mk_find.specs.Findings.{AreFindings}
 use Rattle.mk_find.specs.Certifying.{IsEntryFor, IsCertificate}
 
@@ -19,31 +19,31 @@ FirstPathIsOne =
     IsFirstPath x f t way finish → IsFirstPath x f t other other_finish →
     (way ≡ other) × (finish ≡ other_finish)
 
--- No path to the file is shorter.
+-- No path to the file is shorter than the first path.
 abbrev pub FirstPathIsShortest : Type 0
 FirstPathIsShortest =
     (x : Subject) (f : List ℕ) (t : ℕ) (way : List ℕ) (finish : Finish) →
     IsFirstPath x f t way finish →
-    (others : List ℕ) (other_finish : Finish) → Leads x f other_finish t others →
+    (others : List ℕ) (other_finish : Finish) → IsPathOver x f other_finish t others →
     length way ≤ length others
 
--- There is one list of findings.
+-- At most one list of findings meets `AreFindings`.
 abbrev pub FindingsAreOne : Type 0
 FindingsAreOne =
     (x : Subject) (one other : List Finding) → AreFindings x one → AreFindings x other → one ≡ other
 
--- Where the list is empty nothing is found: nothing static, no race and no stale read.
+-- If the list of findings is empty, there is no static finding, no race and no stale read.
 abbrev pub NoFindings : Type 0
 NoFindings =
     (x : Subject) → AreFindings x [] → NothingFound x × Lists x (stale_candidates x) []
 
--- There is one certificate.
+-- At most one certificate meets `IsCertificate`.
 abbrev pub CertificateIsOne : Type 0
 CertificateIsOne =
     (x : Subject) (one other : Certificate) → IsCertificate x one → IsCertificate x other →
     one ≡ other
 
--- Where nothing static and no race is found, the certificate is accepted.
+-- If there is no static finding and no race, the certificate is accepted.
 abbrev pub CertificateIsAccepted : Type 0
 CertificateIsAccepted =
     (x : Subject) (c : Certificate) → IsGraph x.graph → NothingFound x → IsCertificate x c →
@@ -54,5 +54,5 @@ abbrev pub EntriesAreShortest : Type 0
 EntriesAreShortest =
     (x : Subject) (r : Read) (w : Way) → IsEntryFor x r w →
     (others : List ℕ) (finish : Finish) →
-    Leads x r.file finish r.recipe others →
+    IsPathOver x r.file finish r.recipe others →
     length w.path ≤ suc (length others)

@@ -1,5 +1,5 @@
 pub mod FirstPaths
-pub mod Standing
+pub mod ReadStatus
 pub mod Findings
 pub mod Certifying
 pub mod Laws

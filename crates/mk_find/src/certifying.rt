@@ -1,24 +1,24 @@
-//! The certificate of a build of which nothing is found.
+//! Builds the certificate of a build without findings.
 
 ghost use Rattle.std.specs.Prelude.{◌≡◌, ◌<◌, ◌∷◌, ◌++◌, [], ℕ, length, map, IfOk, OnOk};
-ghost use Rattle.mk_ways.specs.Certificate.{Way as WayValue};
+ghost use Rattle.mk_cert_text.specs.Certificate.{Way as WayValue};
 ghost use Rattle.mk_graph.specs.Membership.{Has};
 ghost use Rattle.mk_cert.specs.Candidates.{static_candidates, stale_candidates};
-ghost use Rattle.mk_cert.specs.Entry.{IsEntry};
+ghost use Rattle.mk_cert.specs.NodeRow.{IsEntry};
 ghost use Rattle.mk_cert.specs.Listing.{Lists};
 ghost use Rattle.mk_cert.specs.Subject.{name_of, reads_of};
 ghost use Rattle.mk_find.specs.Certifying.{IsCertificate, IsEntryFor};
-ghost use Rattle.mk_find.specs.FirstPaths.{GoesFirst};
+ghost use Rattle.mk_find.specs.FirstPaths.{IsAlongFirstPath};
 
 use crate::first_path::FirstPath;
 use crate::judging::judge_all;
 use mk_cert::laws::{carried_exactly, list_is_one};
-use mk_cert::{Entry, Subject};
-use mk_ways::{Certificate, PackedNames, Ways};
+use mk_cert::{NodeRow, Subject};
+use mk_cert_text::{Certificate, PackedNames, Ways};
 use std::alloc::{AllocError, Global};
 use std::marker::Model;
 
-/// How many bytes the names of nodes have together: the room that they take.
+/// The total length of these nodes' names in bytes.
 fn room_for(subject: &Subject<'_>, nodes: &[usize]) -> usize
     requires { (n : ℕ) → Has nodes.now n → n < length subject.now.graph.nodes }
 {
@@ -29,7 +29,7 @@ fn room_for(subject: &Subject<'_>, nodes: &[usize]) -> usize
     bytes
 }
 
-/// The names of nodes.
+/// The names of these nodes, in their order. The only error is out of memory.
 pub(crate) fn names_of(
     alloc: Global,
     subject: &Subject<'_>,
@@ -46,23 +46,24 @@ pub(crate) fn names_of(
     Ok(names)
 }
 
-/// The entries so far, and room for the names of a path. A contract sees a list of ways.
+/// A list of certificate entries under construction, with a buffer for the names of a path. Its
+/// model is the list of ways.
 #[derive(Drop)]
-pub(crate) struct Entries {
+pub(crate) struct CertificateBuilder {
     ways: Ways,
     path: PackedNames,
 }
 
-impl Model for Entries {
+impl Model for CertificateBuilder {
     ghost use Rattle.std.specs.Prelude.{List};
-    ghost use Rattle.mk_ways.specs.Certificate as value;
+    ghost use Rattle.mk_cert_text.specs.Certificate as value;
 
     ghost Value = { List value.Way };
 
     ghost view = { λ e. e.ways };
 }
 
-/// Puts the names of nodes in the place of others.
+/// Replaces the contents of `names` by the names of these nodes.
 fn name_all(
     names: &mut PackedNames,
     subject: &Subject<'_>,
@@ -78,35 +79,36 @@ fn name_all(
     Ok(())
 }
 
-impl Entries {
-    /// No entries, with room for so many.
-    pub fn with_capacity(alloc: Global, entries: usize) -> Result<Entries, AllocError>
+impl CertificateBuilder {
+    /// No entries, with capacity for `entries` of them. The only error is out of memory.
+    pub fn with_capacity(alloc: Global, entries: usize) -> Result<CertificateBuilder, AllocError>
         ensures { IfOk result (λ entries. entries ≡ []) }
     {
-        Ok(Entries {
+        Ok(CertificateBuilder {
             ways: Ways::with_capacity(alloc, entries)?,
             path: PackedNames::new(alloc),
         })
     }
 
-    /// The entries.
+    /// The entries, without the buffer.
     pub fn into_ways(self) -> Ways
         ensures { result ≡ self }
     {
         self.ways
     }
 
-    /// Adds the entry for a read, to whose file this path leads first.
+    /// Appends the entry for the read of `file` by the recipe of `entry`, where `path` is the first
+    /// path to the file. The only error is out of memory.
     pub fn push(
         &mut self,
         subject: &Subject<'_>,
-        entry: &Entry<'_>,
+        entry: &NodeRow<'_>,
         file: &str,
         path: &FirstPath,
     ) -> Result<(), AllocError>
         requires entry { IsEntry subject.now entry.now }
         requires read { Has (reads_of subject.now entry.now.number) file.now }
-        requires first { GoesFirst subject.now file.now entry.now.number path.now.nodes.items
+        requires first { IsAlongFirstPath subject.now file.now entry.now.number path.now.nodes.items
             path.now.finish }
         ensures { OnOk result ((way : WayValue) ×
             IsEntryFor subject.now (record { recipe = entry.now.number; file = file.now }) way ×
@@ -118,9 +120,9 @@ impl Entries {
     }
 }
 
-/// The certificate of a build of which nothing is found: for each read of a file that can change
-/// its first path, by the place of the recipe in the serial order, and by the place of the file. It
-/// fails for want of memory alone.
+/// The certificate of a build without findings: for each read of a file that can change, its first
+/// path, by the position of the recipe in the serial order and then of the file in its record. The
+/// only error is out of memory.
 pub fn certify(alloc: Global, subject: &Subject<'_>) -> Result<Certificate, AllocError>
     requires nothing { Lists subject.now (static_candidates subject.now) [] }
     requires no_stale { Lists subject.now (stale_candidates subject.now) [] }

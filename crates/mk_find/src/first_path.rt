@@ -2,35 +2,38 @@
 
 ghost use Rattle.std.specs.Prelude.{◌≡◌, ◌<◌, ℕ, length, IfOk, MatchOption};
 ghost use Rattle.mk_graph.specs.Membership.{Has};
-ghost use Rattle.mk_search.specs.Ways.{successors};
-ghost use Rattle.mk_ways.specs.declared.certificate.Finish.{Finish as FinishValue};
+ghost use Rattle.mk_graph_search.specs.Ways.{successors};
+ghost use Rattle.mk_cert_text.specs.declared.certificate.Finish.{Finish as FinishValue};
 ghost use Rattle.mk_cert.specs.Carried.{carried};
-ghost use Rattle.mk_cert.specs.Links.{AreEnds};
+ghost use Rattle.mk_cert.specs.WayTables.{AreEnds};
 ghost use Rattle.mk_cert.specs.Paths.{EndsAt};
 ghost use Rattle.mk_cert.specs.Subject.{footprints, writes_of};
 ghost use Rattle.mk_cert.specs.Target.{target_of};
-ghost use Rattle.mk_find.specs.FirstPaths.{EndsFirst, GoesFirst, HasNoPath};
+ghost use Rattle.mk_find.specs.FirstPaths.{IsFirstFinish, IsAlongFirstPath, HasNoPath};
 
 use mk_cert::laws::carried_exactly;
-use mk_cert::{Ends, Subject, Target, ends_at};
-use mk_search::Search;
-use mk_search::laws::{first_by_places, none_by_places, one_way_at_a_place, places_are_below};
-use mk_ways::Finish;
+use mk_cert::{EndTables, Subject, Target, ends_at};
+use mk_cert_text::Finish;
+use mk_graph_search::Search;
+use mk_graph_search::laws::{
+    first_by_places, none_by_places, one_way_at_a_place, places_are_below,
+};
 use std::alloc::{AllocError, Global};
 
 /// A path of recipes, and how it ends.
 #[derive(Debug, Drop)]
 pub(crate) struct FirstPath {
-    /// The recipes, from the one that reads the file on.
+    /// The recipes, beginning with the one that reads the file.
     pub nodes: Vec<usize>,
-    /// How it ends at the last of them.
+    /// How it ends at the last recipe.
     pub finish: Finish,
 }
 
-/// How a path to a file may end at a recipe, the first such finish.
+/// The first finish, in the order `Written`, `Source`, `Always`, with which a path to the file may
+/// end at this recipe.
 fn finish_at(
     subject: &Subject<'_>,
-    ends: &Ends<'_>,
+    ends: &EndTables<'_>,
     file: &Target<'_>,
     number: usize,
 ) -> Option<Finish>
@@ -40,7 +43,7 @@ fn finish_at(
     ensures { MatchOption result
         ((finish : FinishValue) → ¬ (EndsAt subject.now.graph (footprints subject.now.setting)
         file.now.file finish number))
-        (λ finish. EndsFirst subject.now file.now.file finish number) }
+        (λ finish. IsFirstFinish subject.now file.now.file finish number) }
 {
     if ends_at(subject, ends, file, Finish::Written, number) {
         return Some(Finish::Written);
@@ -54,12 +57,12 @@ fn finish_at(
     None
 }
 
-/// The first path to a file from the recipe at which a search over carried recipes starts, which
-/// doesn't write the file; or none, where none leads there. It fails for want of memory alone.
+/// The first path to the file from the start of `search`, or `None` if no path leads to it. The
+/// recipe at the start must not write the file. The only error is out of memory.
 pub(crate) fn first_path(
     alloc: Global,
     subject: &Subject<'_>,
-    ends: &Ends<'_>,
+    ends: &EndTables<'_>,
     search: &mut Search<'_>,
     file: &Target<'_>,
 ) -> Result<Option<FirstPath>, AllocError>
@@ -73,7 +76,7 @@ pub(crate) fn first_path(
     ensures found { IfOk result (λ found. MatchOption found
         (HasNoPath subject.now file.now.file search.old.start)
         (λ path.
-        GoesFirst subject.now file.now.file search.old.start path.nodes.items path.finish)) }
+        IsAlongFirstPath subject.now file.now.file search.old.start path.nodes.items path.finish)) }
 {
     carried_exactly();
     first_by_places();

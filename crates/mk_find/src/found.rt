@@ -1,4 +1,4 @@
-//! All that is found of a build.
+//! The verdict on a build: its certificate or its findings.
 
 ghost use Rattle.std.specs.Prelude.{◌≡◌, [], IfErr, IfOk};
 ghost use Rattle.mk_find.specs.Certifying.{IsCertificate};
@@ -7,11 +7,11 @@ ghost use Rattle.mk_find.specs.Findings.{AreFindings};
 use crate::certifying::names_of;
 use crate::judging::judge_all;
 use mk_cert::{Finding, Subject, races, static_findings};
-use mk_ways::Certificate;
+use mk_cert_text::Certificate;
 use std::alloc::{AllocError, Global};
 
-/// The certificate of a build, where nothing is found of it; else all that is found, as `findings`
-/// tells it. Each recipe is searched from once for both. It fails for want of memory alone.
+/// The certificate of a build without findings; else the findings, as `findings` returns them. One
+/// search from each recipe serves for both. The only error is out of memory.
 pub fn judge(
     alloc: Global,
     subject: &Subject<'_>,
@@ -37,9 +37,9 @@ pub fn judge(
     Ok(Ok(Certificate { goals, ways }))
 }
 
-/// All that is found of a build, in the order in which it is told: where there is something that
-/// needs no order and no ways, that by its number; else the races, and behind them the stale reads.
-/// It fails for want of memory alone.
+/// The findings of a build, in the order in which they are printed: the static findings (1 to 9,
+/// 12) if there are any; else the races (10), followed by the stale reads (11). The only error is
+/// out of memory.
 pub fn findings(alloc: Global, subject: &Subject<'_>) -> Result<Vec<Finding>, AllocError>
     ensures { IfOk result (λ found. AreFindings subject.now found.items) }
 {

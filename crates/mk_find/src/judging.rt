@@ -1,41 +1,43 @@
-//! The reads of all recipes, each judged once.
+//! Judges each read of each recipe once, both for findings and for the certificate.
 
 ghost use Rattle.std.specs.Prelude.{◌≡◌, ◌<◌, ◌∷◌, [], ℕ, length, map, take, slice_index_or, IfOk, MatchOption, OnOk};
 ghost use Rattle.mk_lines.specs.Names.{has_name, with_name};
 ghost use Rattle.mk_graph.specs.Membership.{Has};
-ghost use Rattle.mk_search.specs.Ways.{successors};
+ghost use Rattle.mk_graph_search.specs.Ways.{successors};
 ghost use Rattle.mk_cert.specs.Candidates.{stale, stale_candidates, static_candidates};
 ghost use Rattle.mk_cert.specs.Carried.{carried};
-ghost use Rattle.mk_cert.specs.Entry.{IsEntry, entry_reads};
-ghost use Rattle.mk_cert.specs.Links.{AreEnds};
+ghost use Rattle.mk_cert.specs.NodeRow.{IsEntry, entry_reads};
+ghost use Rattle.mk_cert.specs.WayTables.{AreEnds};
 ghost use Rattle.mk_cert.specs.Listed.{Adds};
 ghost use Rattle.mk_cert.specs.Listing.{Lists};
 ghost use Rattle.mk_cert.specs.Subject.{reads_of};
-ghost use Rattle.mk_find.specs.Certifying.{AddsEntries, AddsOnce, AreEntriesFor, Needs, reads_by, reads_once};
-ghost use Rattle.mk_find.specs.FirstPaths.{GoesFirst};
+ghost use Rattle.mk_find.specs.Certifying.{AddsEntries, AddsOnce, AreEntriesFor, ReadNeedsWay, reads_by, reads_once};
+ghost use Rattle.mk_find.specs.FirstPaths.{IsAlongFirstPath};
 ghost use Rattle.mk_cert.specs.Target.{target_of};
 
-use crate::certifying::Entries;
+use crate::certifying::CertificateBuilder;
 use crate::first_path::FirstPath;
-use crate::repeats::is_read_before;
+use crate::read_status::{ReadStatus, read_status_of};
+use crate::repeats::is_repeated_read;
 use crate::stale::note_stale;
-use crate::standing::{Standing, standing_of};
 use mk_cert::laws::{listed_exactly, paths_are_ways};
-use mk_cert::{Ends, Entry, FileNames, Finding, Subject, Target, carried_lists, ends_of};
+use mk_cert::{
+    EndTables, FileNames, Finding, NodeRow, Subject, Target, carried_lists, end_tables_of,
+};
+use mk_cert_text::Ways;
 use mk_foot::laws::once_keeps_first;
 use mk_graph::Groups;
-use mk_lines::NameSet;
-use mk_search::Search;
-use mk_ways::Ways;
+use mk_graph_search::Search;
+use mk_lines::BorrowedNames;
 use std::alloc::{AllocError, Global};
 
-/// Adds that a read is stale, if it is. What it gives is the entry for the read, if one is needed
-/// and nothing is found even then.
+/// Adds the finding `Stale`, if the read is stale. Returns the first path for its certificate
+/// entry, if the read needs a way and there is no finding, or `None`.
 fn judge_read(
     subject: &Subject<'_>,
-    ends: &Ends<'_>,
+    ends: &EndTables<'_>,
     search: &mut Search<'_>,
-    entry: &Entry<'_>,
+    entry: &NodeRow<'_>,
     file: &Target<'_>,
     names: &mut FileNames,
     found: &mut Vec<Finding>,
@@ -53,34 +55,35 @@ fn judge_read(
         found.old.items found.new.items) }
     ensures path { IfOk result (λ path. MatchOption path
         (found.new.items ≡ [] →
-        ¬ (Needs subject.now (record { recipe = entry.now.number; file = file.now.file })))
+        ¬ (ReadNeedsWay subject.now (record { recipe = entry.now.number; file = file.now.file })))
         (λ path. (found.new.items ≡ []) ×
-        Needs subject.now (record { recipe = entry.now.number; file = file.now.file }) ×
-        GoesFirst subject.now file.now.file entry.now.number path.nodes.items path.finish)) }
+        ReadNeedsWay subject.now (record { recipe = entry.now.number; file = file.now.file }) ×
+        IsAlongFirstPath subject.now file.now.file entry.now.number path.nodes.items path.finish)) }
 {
     listed_exactly();
     paths_are_ways();
     let alloc = *found.allocator();
-    match standing_of(alloc, subject, ends, search, file)? {
-        Standing::Fixed => Ok(None),
-        Standing::Led(path) if found.is_empty() => Ok(Some(path)),
-        Standing::Led(_) => Ok(None),
-        Standing::Stale => {
+    match read_status_of(alloc, subject, ends, search, file)? {
+        ReadStatus::Fixed => Ok(None),
+        ReadStatus::HasWay(path) if found.is_empty() => Ok(Some(path)),
+        ReadStatus::HasWay(_) => Ok(None),
+        ReadStatus::Stale => {
             note_stale(entry, file, names, found)?;
             Ok(None)
         }
     }
 }
 
-/// Adds the entry for a read that needs one, to whose file this path leads first, unless the recipe
-/// reads that file before that place too. `seen` knows whether it does, where there are many reads.
+/// Appends the entry for a read that needs one, unless the recipe lists the same file at an earlier
+/// place. If the recipe has many reads, `seen` has the files of the earlier places that needed a
+/// way; this file is added to it.
 fn push_once<'s>(
     subject: &'s Subject<'_>,
-    entry: &Entry<'_>,
+    entry: &NodeRow<'_>,
     place: usize,
     path: &FirstPath,
-    seen: &mut NameSet<'s>,
-    ways: &mut Entries,
+    seen: &mut BorrowedNames<'s>,
+    ways: &mut CertificateBuilder,
 ) -> Result<(), AllocError>
     requires entry { IsEntry subject.now entry.now }
     requires place { place < length (entry_reads entry.now) }
@@ -88,11 +91,11 @@ fn push_once<'s>(
         has_name seen.old (slice_index_or (reads_of subject.now entry.now.number) place []) ≡
         has_name (take place (reads_of subject.now entry.now.number))
         (slice_index_or (reads_of subject.now entry.now.number) place []) }
-    requires needs { Needs subject.now (record {
+    requires needs { ReadNeedsWay subject.now (record {
       recipe = entry.now.number;
       file = slice_index_or (reads_of subject.now entry.now.number) place [];
     }) }
-    requires first { GoesFirst subject.now
+    requires first { IsAlongFirstPath subject.now
         (slice_index_or (reads_of subject.now entry.now.number) place []) entry.now.number
         path.now.nodes.items path.now.finish }
     ensures ways { OnOk result (AddsOnce subject.now entry.now.number place ways.old ways.new) }
@@ -100,22 +103,23 @@ fn push_once<'s>(
         seen.new ≡ with_name seen.old
         (slice_index_or (reads_of subject.now entry.now.number) place [])) }
 {
-    if is_read_before(subject, entry, place, seen)? {
+    if is_repeated_read(subject, entry, place, seen)? {
         return Ok(());
     }
     let file = subject.read(entry, place).file;
     ways.push(subject, entry, file, path)
 }
 
-/// Adds which reads of a recipe are stale, and while nothing is found the entries for its reads.
+/// Adds the finding `Stale` for each stale read of a recipe; as long as there are no findings, also
+/// appends the entries for its reads.
 fn judge_reads(
     subject: &Subject<'_>,
-    ends: &Ends<'_>,
+    ends: &EndTables<'_>,
     search: &mut Search<'_>,
-    entry: &Entry<'_>,
+    entry: &NodeRow<'_>,
     names: &mut FileNames,
     found: &mut Vec<Finding>,
-    ways: &mut Entries,
+    ways: &mut CertificateBuilder,
 ) -> Result<(), AllocError>
     requires entry { IsEntry subject.now entry.now }
     requires ends { AreEnds subject.now ends.now.needed.items
@@ -131,7 +135,7 @@ fn judge_reads(
         (reads_by subject.now entry.now.number) ways.old ways.new) }
 {
     once_keeps_first();
-    let mut seen = NameSet::new(*found.allocator());
+    let mut seen = BorrowedNames::new(*found.allocator());
     for place in 0..subject.count_of_reads(entry.number) {
         let file = subject.read(entry, place);
         let path = judge_read(subject, ends, search, entry, &file, names, found)?;
@@ -142,16 +146,16 @@ fn judge_reads(
     Ok(())
 }
 
-/// Adds which reads of a recipe are stale, and while nothing is found the entries for its reads.
-/// The recipe is searched from once, where it reads anything.
+/// Adds the finding `Stale` for each stale read of a recipe; as long as there are no findings, also
+/// appends the entries for its reads. It makes one search, and none if the recipe reads nothing.
 fn judge_recipe(
     subject: &Subject<'_>,
-    ends: &Ends<'_>,
+    ends: &EndTables<'_>,
     rows: &Groups,
-    entry: &Entry<'_>,
+    entry: &NodeRow<'_>,
     names: &mut FileNames,
     found: &mut Vec<Finding>,
-    ways: &mut Entries,
+    ways: &mut CertificateBuilder,
 ) -> Result<(), AllocError>
     requires entry { IsEntry subject.now entry.now }
     requires ends { AreEnds subject.now ends.now.needed.items
@@ -171,8 +175,9 @@ fn judge_recipe(
     judge_reads(subject, ends, &mut search, entry, names, found, ways)
 }
 
-/// Adds which reads are stale, where nothing is found without a search. What it gives are the
-/// entries for all reads, if nothing is found even then. Each recipe is searched from once.
+/// Adds the finding `Stale` for each stale read, if there are no static findings. Returns the
+/// entries for all reads, which are complete only if there is no finding even then. It makes one
+/// search from each recipe. The only error is out of memory.
 pub(crate) fn judge_all(
     alloc: Global,
     subject: &Subject<'_>,
@@ -184,11 +189,11 @@ pub(crate) fn judge_all(
     ensures ways { IfOk result (λ ways. found.new.items ≡ [] →
         AreEntriesFor subject.now (reads_once subject.now) ways) }
 {
-    let ends = ends_of(alloc, subject)?;
+    let ends = end_tables_of(alloc, subject)?;
     let rows = carried_lists(alloc, subject)?;
     let entries = subject.entries();
-    // There are no more entries than reads of files that aren't settled.
-    let mut ways = Entries::with_capacity(alloc, subject.count_of_all_unsettled())?;
+    // Only reads of unsettled files have entries.
+    let mut ways = CertificateBuilder::with_capacity(alloc, subject.count_of_all_unsettled())?;
     let mut names = FileNames::new(alloc);
     for entry in entries {
         judge_recipe(subject, &ends, &rows, entry, &mut names, found, &mut ways)?;

@@ -1,12 +1,12 @@
-//! Laws of first paths, findings and certificates. Each is the contract of a function that does nothing but call lower laws:
-//! who calls it has the law.
+//! Laws about first paths, findings and certificates. Each function exists for its contract alone:
+//! a caller has the law as a fact.
 
 ghost use Rattle.mk_find.specs.Laws.{FirstPathIsOne, FirstPathIsShortest, FindingsAreOne, NoFindings, CertificateIsOne, CertificateIsAccepted, EntriesAreShortest};
 
 use mk_cert::laws::list_is_one;
 use mk_graph::growth_laws::names_have_one_number;
 use mk_graph::laws::serial_reaches_each_once;
-use mk_search::laws::{precedes_as_read, precedes_is_an_order};
+use mk_graph_search::laws::{precedes_as_read, precedes_is_an_order};
 
 /// From a recipe to a file there is at most one first path, with one finish.
 pub fn first_path_is_one()
@@ -15,33 +15,33 @@ pub fn first_path_is_one()
     precedes_is_an_order();
 }
 
-/// No path to the file is shorter than the first.
+/// No path to the file is shorter than the first path.
 pub fn first_path_is_shortest()
     ensures { FirstPathIsShortest }
 {
     precedes_as_read();
 }
 
-/// There is one list of findings.
+/// At most one list of findings meets `AreFindings`.
 pub fn findings_are_one()
     ensures { FindingsAreOne }
 {
     list_is_one();
 }
 
-/// Where the list of findings is empty nothing is found: nothing static, no race, no stale read.
+/// If the list of findings is empty, there is no static finding, no race and no stale read.
 pub fn no_findings()
     ensures { NoFindings }
 {}
 
-/// There is one certificate.
+/// At most one certificate meets `IsCertificate`.
 pub fn certificate_is_one()
     ensures { CertificateIsOne }
 {
     first_path_is_one();
 }
 
-/// Where nothing static and no race is found, the certificate is accepted.
+/// If there is no static finding and no race, the certificate is accepted.
 pub fn certificate_is_accepted()
     ensures { CertificateIsAccepted }
 {

@@ -1,4 +1,4 @@
-//! What is found of a build, and the certificate of one of which nothing is.
+//! Computes all findings of a build, or the certificate of a build without findings.
 #![tactic(auto)]
 
 mod certifying;
@@ -6,9 +6,9 @@ mod first_path;
 mod found;
 mod judging;
 pub mod laws;
+mod read_status;
 mod repeats;
 mod stale;
-mod standing;
 
 pub use certifying::certify;
 pub use found::{findings, judge};

@@ -1,20 +1,20 @@
-//! Reads that a record repeats.
+//! Files that a record lists as read more than once.
 
 ghost use Rattle.std.specs.Prelude.{◌≡◌, ◌<◌, ◌≤◌, [], length, take, slice_index_or, IfOk, OnOk};
 ghost use Rattle.mk_lines.specs.Names.{has_name, with_name};
-ghost use Rattle.mk_cert.specs.Entry.{IsEntry, entry_reads};
+ghost use Rattle.mk_cert.specs.NodeRow.{IsEntry, entry_reads};
 ghost use Rattle.mk_cert.specs.Subject.{reads_of};
 
-use mk_cert::{Entry, Subject};
-use mk_lines::NameSet;
+use mk_cert::{NodeRow, Subject};
+use mk_lines::BorrowedNames;
 use std::alloc::AllocError;
 
-/// So many reads are compared one by one: to compare them costs less than to look them up.
+/// At most this many reads are compared one by one, which costs less than a set.
 const FEW: usize = 4;
 
-/// Whether the file at a place of what a recipe reads stands before that place too. It goes through
-/// them, so it is for few.
-fn stands_before(subject: &Subject<'_>, entry: &Entry<'_>, place: usize) -> bool
+/// Whether the file at `place` among the recipe's reads also stands at an earlier place. Uses a
+/// linear search.
+fn repeats_earlier_read(subject: &Subject<'_>, entry: &NodeRow<'_>, place: usize) -> bool
     requires entry { IsEntry subject.now entry.now }
     requires place { place < length (entry_reads entry.now) }
     ensures { result ≡ has_name (take place (reads_of subject.now entry.now.number))
@@ -29,14 +29,14 @@ fn stands_before(subject: &Subject<'_>, entry: &Entry<'_>, place: usize) -> bool
     false
 }
 
-/// Whether the file at a place of what a recipe reads stands before that place too: of few reads by
-/// themselves, of many by whether it was seen, which is noted then. The error is want of memory
-/// alone.
-pub(crate) fn is_read_before<'s>(
+/// Whether the file at `place` among the recipe's reads also stands at an earlier place: by linear
+/// search for a few reads, else by whether it is in `seen`, to which it is then added. The only
+/// error is out of memory.
+pub(crate) fn is_repeated_read<'s>(
     subject: &'s Subject<'_>,
-    entry: &Entry<'_>,
+    entry: &NodeRow<'_>,
     place: usize,
-    seen: &mut NameSet<'s>,
+    seen: &mut BorrowedNames<'s>,
 ) -> Result<bool, AllocError>
     requires entry { IsEntry subject.now entry.now }
     requires place { place < length (entry_reads entry.now) }
@@ -51,7 +51,7 @@ pub(crate) fn is_read_before<'s>(
         (slice_index_or (reads_of subject.entry.now entry.now.number) place [])) }
 {
     if subject.count_of_reads(entry.number) <= FEW {
-        return Ok(stands_before(subject, entry, place));
+        return Ok(repeats_earlier_read(subject, entry, place));
     }
     Ok(!seen.insert(subject.read(entry, place).file)?)
 }

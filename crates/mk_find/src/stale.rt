@@ -1,18 +1,18 @@
-//! Reads of files that can change, to which no path leads.
+//! Stale reads: of files that can change, to which no path leads.
 
 ghost use Rattle.std.specs.Prelude.{◌≡◌, ◌∷◌, [], OnOk};
 ghost use Rattle.mk_cert.specs.Candidates.{stale};
 ghost use Rattle.mk_cert.specs.Conditions.{IsStale};
-ghost use Rattle.mk_cert.specs.Entry.{IsEntry};
+ghost use Rattle.mk_cert.specs.NodeRow.{IsEntry};
 ghost use Rattle.mk_cert.specs.Listed.{Adds};
 ghost use Rattle.mk_cert.specs.Subject.{Subject};
 
-use mk_cert::{Entry, FileNames, Finding, Target};
+use mk_cert::{FileNames, Finding, NodeRow, Target};
 use std::alloc::AllocError;
 
-/// Adds that a read is stale.
+/// Adds the finding `Stale` for a read. The only error is out of memory.
 pub(crate) fn note_stale(
-    entry: &Entry<'_>,
+    entry: &NodeRow<'_>,
     file: &Target<'_>,
     names: &mut FileNames,
     found: &mut Vec<Finding>,

@@ -7,7 +7,7 @@ use Rattle.std.proofs.lemmas.List.{take-append-drop}
 use Rattle.std.proofs.Math.Seq.{take-append_seam}
 use Rattle.std.proofs.lemmas.Slice.Eq.{bytes_eq-Decides}
 use Rattle.mk_lines.specs.Bytes.{begins_with}
-use Rattle.mk_foot.specs.Names.{Has, has_name, is_under}
+use Rattle.mk_foot.specs.Names.{Has, has_name, begins_with_any}
 use Rattle.mk_foot.specs.Setting.{Setting, is_given, is_editable}
 use Rattle.mk_foot.specs.Laws.{Under, GivenExactly, EditableExactly, EditableIsGiven}
 
@@ -49,30 +49,30 @@ front_told name prefix e =
 front_tells : (name prefix rest : List ℕ) → name ≡ prefix ++ rest → begins_with prefix name ≡ true
 front_tells name prefix rest e = (bytes_eq-Decides (take (length prefix) name) prefix).1 (ap (take (length prefix)) e ∙ take-append_seam prefix rest)
 
-pub under_told : (fixed : List (List ℕ)) (name : List ℕ) → is_under fixed name ≡ true → Under fixed name
+pub under_told : (fixed : List (List ℕ)) (name : List ℕ) → begins_with_any fixed name ≡ true → Under fixed name
 under_told [] name e = absurd (true≢false (sym e))
 under_told (prefix ∷ fixed) name e =
-    elim (either_true (begins_with prefix name) (is_under fixed name) e) [
+    elim (either_true (begins_with prefix name) (begins_with_any fixed name) e) [
       | inl t ↦ (prefix, inl refl, front_told name prefix t)
       | inr h ↦ (let u = under_told fixed name h in (u.0, inr u.1, u.2))
     ]
 
-pub under_tells : (fixed : List (List ℕ)) (name prefix rest : List ℕ) → Has fixed prefix → name ≡ prefix ++ rest → is_under fixed name ≡ true
+pub under_tells : (fixed : List (List ℕ)) (name prefix rest : List ℕ) → Has fixed prefix → name ≡ prefix ++ rest → begins_with_any fixed name ≡ true
 under_tells [] name prefix rest h e = absurd h
-under_tells (other ∷ fixed) name prefix rest (inl same) e = left_true (begins_with other name) (is_under fixed name) (front_tells name other rest (e ∙ ap (λ p. p ++ rest) (sym same)))
-under_tells (other ∷ fixed) name prefix rest (inr h) e = right_true (begins_with other name) (is_under fixed name) (under_tells fixed name prefix rest h e)
+under_tells (other ∷ fixed) name prefix rest (inl same) e = left_true (begins_with other name) (begins_with_any fixed name) (front_tells name other rest (e ∙ ap (λ p. p ++ rest) (sym same)))
+under_tells (other ∷ fixed) name prefix rest (inr h) e = right_true (begins_with other name) (begins_with_any fixed name) (under_tells fixed name prefix rest h e)
 
 given_told : (s : Setting) (name : List ℕ) → is_given s name ≡ true → Has s.sources name ⊎ (Under s.fixed name ⊎ Has s.texts name)
 given_told s name e =
-    elim (either_true (has_name s.sources name) (is_under s.fixed name || has_name s.texts name) e) [
+    elim (either_true (has_name s.sources name) (begins_with_any s.fixed name || has_name s.texts name) e) [
       | inl t ↦ inl (has_told s.sources name t)
-      | inr f ↦ (elim (either_true (is_under s.fixed name) (has_name s.texts name) f) [ inl u ↦ inr (inl (under_told s.fixed name u)) | inr t ↦ inr (inr (has_told s.texts name t)) ])
+      | inr f ↦ (elim (either_true (begins_with_any s.fixed name) (has_name s.texts name) f) [ inl u ↦ inr (inl (under_told s.fixed name u)) | inr t ↦ inr (inr (has_told s.texts name t)) ])
     ]
 
 given_tells : (s : Setting) (name : List ℕ) → Has s.sources name ⊎ (Under s.fixed name ⊎ Has s.texts name) → is_given s name ≡ true
-given_tells s name (inl h) = left_true (has_name s.sources name) (is_under s.fixed name || has_name s.texts name) (has_tells s.sources name h)
-given_tells s name (inr (inl u)) = right_true (has_name s.sources name) (is_under s.fixed name || has_name s.texts name) (left_true (is_under s.fixed name) (has_name s.texts name) (under_tells s.fixed name u.0 u.2.0 u.1 u.2.1))
-given_tells s name (inr (inr h)) = right_true (has_name s.sources name) (is_under s.fixed name || has_name s.texts name) (right_true (is_under s.fixed name) (has_name s.texts name) (has_tells s.texts name h))
+given_tells s name (inl h) = left_true (has_name s.sources name) (begins_with_any s.fixed name || has_name s.texts name) (has_tells s.sources name h)
+given_tells s name (inr (inl u)) = right_true (has_name s.sources name) (begins_with_any s.fixed name || has_name s.texts name) (left_true (begins_with_any s.fixed name) (has_name s.texts name) (under_tells s.fixed name u.0 u.2.0 u.1 u.2.1))
+given_tells s name (inr (inr h)) = right_true (has_name s.sources name) (begins_with_any s.fixed name || has_name s.texts name) (right_true (begins_with_any s.fixed name) (has_name s.texts name) (has_tells s.texts name h))
 
 pub given_exactly : GivenExactly
 given_exactly s name = (given_told s name, given_tells s name)
@@ -95,4 +95,4 @@ pub editable_exactly : EditableExactly
 editable_exactly s name = (editable_told s name, editable_tells s name)
 
 pub editable_is_given : EditableIsGiven
-editable_is_given s name e = left_true (has_name s.sources name) (is_under s.fixed name || has_name s.texts name) (both_true (has_name s.sources name) (not (has_name s.texts name)) e).0
+editable_is_given s name e = left_true (has_name s.sources name) (begins_with_any s.fixed name || has_name s.texts name) (both_true (has_name s.sources name) (not (has_name s.texts name)) e).0

@@ -9,8 +9,8 @@ use Rattle.mk_json.specs.Kinds.{array_of}
 use Rattle.mk_foot.specs.declared.fault.FootFault.{FootFault}
 use Rattle.mk_foot.specs.declared.fault.FootFault.TheVariants.{Shape}
 use Rattle.mk_foot.specs.declared.key.Key.{Key}
-use Rattle.mk_foot.specs.Kinds.{texts_of}
-use Rattle.mk_foot.specs.PartsRead.{text_of}
+use Rattle.mk_foot.specs.Fields.{texts_of}
+use Rattle.mk_foot.specs.ReaderParts.{text_of}
 use Rattle.mk_foot.specs.Steps.{◌>>=◌, each}
 use Rattle.mk_foot.proofs.Members.{elements_items}
 use Rattle.mk_foot.proofs.Steps.{Fails}

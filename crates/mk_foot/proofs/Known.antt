@@ -5,10 +5,10 @@ use Rattle.std.proofs.lemmas.Bool.{and_parts}
 use Rattle.mk_lines.specs.Paths.{is_plain_path}
 use Rattle.mk_foot.specs.Checks.{entry_is_plain}
 use Rattle.mk_foot.specs.Names.{once}
-use Rattle.mk_foot.specs.Parts.{Entry}
+use Rattle.mk_foot.specs.Parts.{RawRecord}
 
 -- its names are plain paths
-pub known_plain : (entry : Entry) (target : List ℕ) (reads writes : List (List ℕ)) (plain : Bool) → target ≡ entry.target → reads ≡ entry.reads → writes ≡ entry.writes
+pub known_plain : (entry : RawRecord) (target : List ℕ) (reads writes : List (List ℕ)) (plain : Bool) → target ≡ entry.target → reads ≡ entry.reads → writes ≡ entry.writes
     → plain ≡ (is_plain_path target && list_all is_plain_path reads && list_all is_plain_path writes) → plain ≡ true → entry_is_plain entry ≡ Ok tt
 unfolding entry_is_plain
 known_plain entry target reads writes plain at own others is holds =

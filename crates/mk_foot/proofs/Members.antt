@@ -7,8 +7,8 @@ use Rattle.serde_json.specs.View.{items_of}
 use Rattle.mk_json.specs.Kinds.{elements}
 use Rattle.mk_foot.specs.declared.fault.FootFault.{FootFault}
 use Rattle.mk_foot.specs.declared.key.Key.TheVariants as keys
-use Rattle.mk_foot.specs.Kinds.{texts_of}
-use Rattle.mk_foot.specs.PartsRead.{GivesTexts, AreLists}
+use Rattle.mk_foot.specs.Fields.{texts_of}
+use Rattle.mk_foot.specs.ReaderParts.{GivesTexts, AreLists}
 
 pub elements_items : (ds : List Data) → elements (items_of ds) ≡ ds
 elements_items [] = refl

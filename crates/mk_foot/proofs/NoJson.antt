@@ -13,13 +13,13 @@ use Rattle.mk_foot.specs.declared.key.Key.{Key}
 use Rattle.mk_foot.specs.declared.key.Key.TheVariants as keys
 use Rattle.mk_foot.specs.declared.format.Format.{Format}
 use Rattle.mk_foot.specs.declared.format.Format.TheVariants.{One, Two}
-use Rattle.mk_foot.specs.Steps.{◌>>=◌, unless_holds, each, test_each}
-use Rattle.mk_foot.specs.Kinds.{texts_of, text_at, texts_at, elements_at, members_at, is_object, has_only, format_of, format_in}
+use Rattle.mk_foot.specs.Steps.{◌>>=◌, check_that, each, test_each}
+use Rattle.mk_foot.specs.Fields.{texts_of, text_at, texts_at, elements_at, members_at, is_object, has_only, format_of, format_in}
 use Rattle.mk_foot.specs.Keys.{spelling}
-use Rattle.mk_foot.specs.Parts.{Entry, Group, Footprints}
-use Rattle.mk_foot.specs.Footprints.{shared_in, entry_in, group_in, list_in, lists_in, first_format, second_format, in_format, footprints_in}
+use Rattle.mk_foot.specs.Parts.{RawRecord, Group, FootprintFile}
+use Rattle.mk_foot.specs.FootprintFile.{shared_in, entry_in, group_in, list_in, lists_in, first_format, second_format, in_format, footprints_in}
 use Rattle.mk_foot.specs.Names.{is_prefix}
-use Rattle.mk_foot.specs.Checks.{are_plain, entry_is_plain, goals_are_plain, group_is_plain, list_is_plain, names_are_plain, unless_found, targets_differ, sources_are_free, list_names, lists_are_there, test_all, group_for}
+use Rattle.mk_foot.specs.Checks.{are_plain, entry_is_plain, goals_are_plain, group_is_plain, list_is_plain, names_are_plain, unless_found, targets_differ, sources_are_not_fixed, list_names, shared_lists_exist, check_all, group_for}
 use Rattle.mk_foot.specs.Reading.{book_of, book_in, book_from}
 use Rattle.mk_foot.specs.Laws.{OnlyTextWithoutValueIsNoJson}
 
@@ -38,7 +38,7 @@ other_or : {A : Type 0} (fault : FootFault) (o : Option A) → fault ≢ NotJson
 other_or fault (Some x) h e = cc
 other_or {A} fault None h e = let same : fault ≡ NotJson = cc e in h same
 
-other_unless : (fault : FootFault) (b : Bool) → fault ≢ NotJson → Other (unless_holds fault b)
+other_unless : (fault : FootFault) (b : Bool) → fault ≢ NotJson → Other (check_that fault b)
 other_unless fault true h e = cc
 other_unless fault false h e = let same : fault ≡ NotJson = cc e in h same
 
@@ -155,7 +155,7 @@ footprints_other value = other_then (is_object keys.Top value) _ (object_other k
 plain_other : (key : Key) (names : List (List ℕ)) → Other (are_plain key names)
 plain_other key names = other_unless (BadName key) _ (λ e. cc e)
 
-entry_plain_other : (entry : Entry) → Other (entry_is_plain entry)
+entry_plain_other : (entry : RawRecord) → Other (entry_is_plain entry)
 unfolding entry_is_plain
 entry_plain_other entry = other_then (are_plain keys.Target (entry.target ∷ [])) _ (plain_other keys.Target (entry.target ∷ [])) (λ _. other_then (are_plain keys.Reads entry.reads) _ (plain_other keys.Reads entry.reads) (λ _. plain_other keys.Writes entry.writes))
 
@@ -167,10 +167,10 @@ group_plain_other : (group : Group) → Other (group_is_plain group)
 unfolding group_is_plain
 group_plain_other group = other_then (goals_are_plain group.goals) _ (goals_other group.goals) (λ _. other_tests entry_is_plain group.records entry_plain_other)
 
-names_other : (file : Footprints) → Other (names_are_plain file)
+names_other : (file : FootprintFile) → Other (names_are_plain file)
 unfolding names_are_plain
 names_other file =
-    other_then (unless_holds (BadName keys.Fixed) (list_all is_prefix file.fixed)) _ (other_unless (BadName keys.Fixed) _ (λ e. cc e)) (λ _.
+    other_then (check_that (BadName keys.Fixed) (list_all is_prefix file.fixed)) _ (other_unless (BadName keys.Fixed) _ (λ e. cc e)) (λ _.
     other_then (are_plain keys.Sources file.sources) _ (plain_other keys.Sources file.sources) (λ _.
     other_then (test_each list_is_plain file.lists) _ (other_tests list_is_plain file.lists (λ list. plain_other keys.Lists list.names)) (λ _.
     other_tests group_is_plain file.groups group_plain_other)))
@@ -179,19 +179,19 @@ found_other : (fault : List ℕ → FootFault) (o : Option (List ℕ)) → ((nam
 found_other fault None h e = cc e
 found_other fault (Some name) h e = let same : fault name ≡ NotJson = cc e in h name same
 
-tests_other : (file : Footprints) → Other (test_all file)
-unfolding test_all
+tests_other : (file : FootprintFile) → Other (check_all file)
+unfolding check_all
 tests_other file =
     other_then (names_are_plain file) _ (names_other file) (λ _.
     other_then (test_each targets_differ file.groups) _ (other_tests targets_differ file.groups (λ group. found_other TwoRecords _ (λ name e. cc e))) (λ _.
-    other_then (sources_are_free file) _ (found_other SourceIsFixed _ (λ name e. cc e)) (λ _.
-    other_tests (lists_are_there (list_names file)) file.groups (λ group. other_unless NoList _ (λ e. cc e)))))
+    other_then (sources_are_not_fixed file) _ (found_other SourceIsFixed _ (λ name e. cc e)) (λ _.
+    other_tests (shared_lists_exist (list_names file)) file.groups (λ group. other_unless NoList _ (λ e. cc e)))))
 
 book_other : (goals : List (List ℕ)) (value : Data) → Other (book_in goals value)
 unfolding book_in
 book_other goals value =
     other_then (footprints_in value) _ (footprints_other value) (λ file.
-    other_then (test_all file) _ (tests_other file) (λ _.
+    other_then (check_all file) _ (tests_other file) (λ _.
     other_then (group_for goals file.groups) _ (other_or NoGroup _ (λ e. cc e)) (λ group. other_ok (book_of file group))))
 
 no_value : (goals : List (List ℕ)) (o : Option Data) → (ok_or o NotJson >>= book_in goals) ≡ Err NotJson → o ≡ None

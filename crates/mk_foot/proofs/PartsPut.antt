@@ -16,11 +16,11 @@ use Rattle.mk_foot.specs.declared.key.Key.{Key}
 use Rattle.mk_foot.specs.declared.key.Key.TheVariants as keys
 use Rattle.mk_foot.specs.declared.records.EntryParts.{EntryParts}
 use Rattle.mk_foot.specs.declared.shapes.Parts.{Parts}
-use Rattle.mk_foot.specs.Footprints.{entry_keys, shared_in, entry_in, group_in, list_in, lists_in}
+use Rattle.mk_foot.specs.FootprintFile.{entry_keys, shared_in, entry_in, group_in, list_in, lists_in}
 use Rattle.mk_foot.specs.Keys.{spelling}
-use Rattle.mk_foot.specs.Kinds.{texts_of, text_at, texts_at, elements_at, members_at, format_of, format_in}
-use Rattle.mk_foot.specs.Parts.{Entry, Group, SharedList}
-use Rattle.mk_foot.specs.PartsRead.{text_of, format_from, lists_from, GivesTexts, AreEach, IsOfEntry, IsOfGroup, IsOf, first_keys, second_keys}
+use Rattle.mk_foot.specs.Fields.{texts_of, text_at, texts_at, elements_at, members_at, format_of, format_in}
+use Rattle.mk_foot.specs.Parts.{RawRecord, Group, SharedList}
+use Rattle.mk_foot.specs.ReaderParts.{text_of, format_from, lists_from, GivesTexts, AreEach, IsOfEntry, IsOfGroup, IsOf, first_keys, second_keys}
 use Rattle.mk_foot.specs.Steps.{◌>>=◌, Gives, each}
 use Rattle.mk_foot.proofs.Read.{moved}
 
@@ -222,7 +222,7 @@ module _ (law : LastValueCounts) where
     alone = was.alone ∙ sym (known_there group_names (codes "goals") value ms refl);
   })
 
-  pub group_records_put : (p : GroupParts) (records : Result (Result (Vec Entry Global) FootFault) FootFault) (key : List ℕ) (value : Data) (ms : Members) → key ≡ codes "records" → AreEach (entry_in Two) records (ok_or (json.elements_of value) (Shape keys.Records))
+  pub group_records_put : (p : GroupParts) (records : Result (Result (Vec RawRecord Global) FootFault) FootFault) (key : List ℕ) (value : Data) (ms : Members) → key ≡ codes "records" → AreEach (entry_in Two) records (ok_or (json.elements_of value) (Shape keys.Records))
       → IsOfGroup p (object ms) → IsOfGroup (record { goals = p.goals; records = records; alone = p.alone }) (object (put key value ms))
   group_records_put p records key value ms is given was = rw is (record {
     goals = texts_moved p.goals _ _ was.goals (texts_there keys.Goals (codes "records") value ms refl);
@@ -285,7 +285,7 @@ module _ (law : LastValueCounts) where
     is_second = was.is_second ∙ sym (known_there second_names (codes "sources") value ms refl);
   })
 
-  pub file_records_put : (p : Parts) (records : Result (Result (Vec Entry Global) FootFault) FootFault) (key : List ℕ) (value : Data) (ms : Members) → key ≡ codes "records" → AreEach (entry_in One) records (ok_or (json.elements_of value) (Shape keys.Records)) → IsOf p (object ms)
+  pub file_records_put : (p : Parts) (records : Result (Result (Vec RawRecord Global) FootFault) FootFault) (key : List ℕ) (value : Data) (ms : Members) → key ≡ codes "records" → AreEach (entry_in One) records (ok_or (json.elements_of value) (Shape keys.Records)) → IsOf p (object ms)
       → IsOf (record { format = p.format; fixed = p.fixed; sources = p.sources; records = records; lists = p.lists; groups = p.groups; is_first = p.is_first; is_second = false }) (object (put key value ms))
   file_records_put p records key value ms is given was = rw is (record {
     format = moved (λ format. format) p.format _ _ was.format (format_there (codes "records") value ms refl);

@@ -12,13 +12,13 @@ use Rattle.mk_foot.specs.declared.fault.FootFault.{FootFault}
 use Rattle.mk_foot.specs.declared.fault.FootFault.TheVariants.{BadName, NoGroup, NotJson}
 use Rattle.mk_foot.specs.declared.key.Key.TheVariants as keys
 use Rattle.mk_foot.specs.Book.{Book}
-use Rattle.mk_foot.specs.Checks.{are_plain, entry_is_plain, goals_are_plain, group_is_plain, list_is_plain, names_are_plain, test_all, targets_differ, sources_are_free, lists_are_there, list_names, serves, group_for}
-use Rattle.mk_foot.specs.Footprints.{footprints_in}
+use Rattle.mk_foot.specs.Checks.{are_plain, entry_is_plain, goals_are_plain, group_is_plain, list_is_plain, names_are_plain, check_all, targets_differ, sources_are_not_fixed, shared_lists_exist, list_names, serves, group_for}
+use Rattle.mk_foot.specs.FootprintFile.{footprints_in}
 use Rattle.mk_foot.specs.Laws.{names_of_record, names_of, NamesReadArePlain}
 use Rattle.mk_foot.specs.Names.{once, is_prefix}
-use Rattle.mk_foot.specs.Parts.{Entry, Group, SharedList, Footprints}
+use Rattle.mk_foot.specs.Parts.{RawRecord, Group, SharedList, FootprintFile}
 use Rattle.mk_foot.specs.Reading.{listed, record_of, book_of, book_in, book_from}
-use Rattle.mk_foot.specs.Steps.{◌>>=◌, unless_holds, test_each}
+use Rattle.mk_foot.specs.Steps.{◌>>=◌, check_that, test_each}
 
 abbrev ArePlain : List (List ℕ) → Type 0
 ArePlain names = list_all is_plain_path names ≡ true
@@ -29,7 +29,7 @@ bind_ok (Ok x) f y e = (x, refl, e)
 bind_ok (Err fault) f y e = absurd cc
 
 -- a test that was passed
-passed : (fault : FootFault) (b : Bool) (done : ⊤) → unless_holds fault b ≡ Ok done → b ≡ true
+passed : (fault : FootFault) (b : Bool) (done : ⊤) → check_that fault b ≡ Ok done → b ≡ true
 passed fault true done e = refl
 passed fault false done e = absurd cc
 
@@ -72,16 +72,16 @@ once_plain (name ∷ names) h =
 -- ---- what the tests say
 
 -- the names in an entry
-abbrev names_of_entry : Entry → List (List ℕ)
+abbrev names_of_entry : RawRecord → List (List ℕ)
 names_of_entry entry = entry.target ∷ (entry.reads ++ entry.writes)
 
-abbrev is_plain_entry : Entry → Bool
+abbrev is_plain_entry : RawRecord → Bool
 is_plain_entry entry = list_all is_plain_path (names_of_entry entry)
 
 abbrev is_plain_list : SharedList → Bool
 is_plain_list list = list_all is_plain_path list.names
 
-entry_plain : (entry : Entry) (done : ⊤) → entry_is_plain entry ≡ Ok done → is_plain_entry entry ≡ true
+entry_plain : (entry : RawRecord) (done : ⊤) → entry_is_plain entry ≡ Ok done → is_plain_entry entry ≡ true
 unfolding entry_is_plain
 entry_plain entry done e =
     let first = bind_ok (are_plain keys.Target (entry.target ∷ [])) (λ _. are_plain keys.Reads entry.reads >>= λ _. are_plain keys.Writes entry.writes) done e in
@@ -104,15 +104,15 @@ abbrev is_plain_group : Group → Bool
 is_plain_group group = list_all is_plain_entry group.records
 
 -- the parts of a file that passed all tests
-record Tested (file : Footprints) : Type 0 where
+record Tested (file : FootprintFile) : Type 0 where
   sources : ArePlain file.sources
   lists : list_all is_plain_list file.lists ≡ true
   groups : list_all is_plain_group file.groups ≡ true
 
-names_tested : (file : Footprints) (done : ⊤) → names_are_plain file ≡ Ok done → Tested file
+names_tested : (file : FootprintFile) (done : ⊤) → names_are_plain file ≡ Ok done → Tested file
 unfolding names_are_plain
 names_tested file done e =
-    let first = bind_ok (unless_holds (BadName keys.Fixed) (list_all is_prefix file.fixed)) (λ _. are_plain keys.Sources file.sources >>= λ _. test_each list_is_plain file.lists >>= λ _. test_each group_is_plain file.groups) done e in
+    let first = bind_ok (check_that (BadName keys.Fixed) (list_all is_prefix file.fixed)) (λ _. are_plain keys.Sources file.sources >>= λ _. test_each list_is_plain file.lists >>= λ _. test_each group_is_plain file.groups) done e in
     let second = bind_ok (are_plain keys.Sources file.sources) (λ _. test_each list_is_plain file.lists >>= λ _. test_each group_is_plain file.groups) done first.2 in
     let third = bind_ok (test_each list_is_plain file.lists) (λ _. test_each group_is_plain file.groups) done second.2 in
     record {
@@ -121,10 +121,10 @@ names_tested file done e =
       groups = each_passed is_plain_group group_is_plain group_plain file.groups done third.2;
     }
 
-tested : (file : Footprints) (done : ⊤) → test_all file ≡ Ok done → Tested file
-unfolding test_all
+tested : (file : FootprintFile) (done : ⊤) → check_all file ≡ Ok done → Tested file
+unfolding check_all
 tested file done e =
-    let first = bind_ok (names_are_plain file) (λ _. test_each targets_differ file.groups >>= λ _. sources_are_free file >>= λ _. test_each (lists_are_there (list_names file)) file.groups) done e in
+    let first = bind_ok (names_are_plain file) (λ _. test_each targets_differ file.groups >>= λ _. sources_are_not_fixed file >>= λ _. test_each (shared_lists_exist (list_names file)) file.groups) done e in
     names_tested file first.0 first.1
 
 -- ---- the book
@@ -143,7 +143,7 @@ shared_plain : (lists : List SharedList) (names : List (List ℕ)) → list_all 
 shared_plain lists [] h = refl
 shared_plain lists (name ∷ names) h = both_plain (listed lists name) (flat_map (listed lists) names) (listed_plain lists name h) (shared_plain lists names h)
 
-record_plain : (lists : List SharedList) (entry : Entry) → list_all is_plain_list lists ≡ true → is_plain_entry entry ≡ true → ArePlain (names_of_record (record_of lists entry))
+record_plain : (lists : List SharedList) (entry : RawRecord) → list_all is_plain_list lists ≡ true → is_plain_entry entry ≡ true → ArePlain (names_of_record (record_of lists entry))
 record_plain lists entry h plain =
     let target = and_parts (is_plain_path entry.target) (list_all is_plain_path (entry.reads ++ entry.writes)) plain in
     let own = and_parts (list_all is_plain_path entry.reads) (list_all is_plain_path entry.writes) (sym (list_all-append is_plain_path entry.reads entry.writes) ∙ target.1) in
@@ -151,13 +151,13 @@ record_plain lists entry h plain =
     let reads = once_plain all (both_plain entry.reads (flat_map (listed lists) entry.shared) own.0 (shared_plain lists entry.shared h)) in
     and_from (is_plain_path entry.target) (list_all is_plain_path (once all ++ once entry.writes)) target.0 (both_plain (once all) (once entry.writes) reads (once_plain entry.writes own.1))
 
-records_plain : (lists : List SharedList) (entries : List Entry) → list_all is_plain_list lists ≡ true → list_all is_plain_entry entries ≡ true → ArePlain (flat_map names_of_record (map (record_of lists) entries))
+records_plain : (lists : List SharedList) (entries : List RawRecord) → list_all is_plain_list lists ≡ true → list_all is_plain_entry entries ≡ true → ArePlain (flat_map names_of_record (map (record_of lists) entries))
 records_plain lists [] h all = refl
 records_plain lists (entry ∷ entries) h all =
     let p = and_parts (is_plain_entry entry) (list_all is_plain_entry entries) all in
     both_plain (names_of_record (record_of lists entry)) (flat_map names_of_record (map (record_of lists) entries)) (record_plain lists entry h p.0) (records_plain lists entries h p.1)
 
-book_plain : (file : Footprints) (group : Group) → Tested file → is_plain_group group ≡ true → ArePlain (names_of (book_of file group))
+book_plain : (file : FootprintFile) (group : Group) → Tested file → is_plain_group group ≡ true → ArePlain (names_of (book_of file group))
 book_plain file group t plain = both_plain (once file.sources) (flat_map names_of_record (map (record_of file.lists) group.records)) (once_plain file.sources t.sources) (records_plain file.lists group.records t.lists plain)
 
 -- the group that is found is one of them
@@ -174,9 +174,9 @@ found_plain goals (one ∷ groups) group all e =
 in_plain : (goals : List (List ℕ)) (value : Data) (book : Book) → book_in goals value ≡ Ok book → ArePlain (names_of book)
 unfolding book_in
 in_plain goals value book e =
-    let first = bind_ok (footprints_in value) (λ file. test_all file >>= λ _. group_for goals file.groups >>= λ group. Ok (book_of file group)) book e in
-    let file : Footprints = first.0 in
-    let second = bind_ok (test_all file) (λ _. group_for goals file.groups >>= λ group. Ok (book_of file group)) book first.2 in
+    let first = bind_ok (footprints_in value) (λ file. check_all file >>= λ _. group_for goals file.groups >>= λ group. Ok (book_of file group)) book e in
+    let file : FootprintFile = first.0 in
+    let second = bind_ok (check_all file) (λ _. group_for goals file.groups >>= λ group. Ok (book_of file group)) book first.2 in
     let third = bind_ok (group_for goals file.groups) (λ group. Ok (book_of file group)) book second.2 in
     let t = tested file second.0 second.1 in
     let same : book_of file third.0 ≡ book = cc in

@@ -4,10 +4,10 @@ use Rattle.serde_json.specs.Data.{Data, Members, no_members, member}
 use Rattle.mk_json.specs.Kinds.{pairs}
 use Rattle.mk_foot.specs.declared.fault.FootFault.{FootFault}
 use Rattle.mk_foot.specs.declared.key.Key.TheVariants as keys
-use Rattle.mk_foot.specs.Kinds.{texts_of}
-use Rattle.mk_foot.specs.Footprints.{list_in}
+use Rattle.mk_foot.specs.Fields.{texts_of}
+use Rattle.mk_foot.specs.FootprintFile.{list_in}
 use Rattle.mk_foot.specs.Parts.{SharedList}
-use Rattle.mk_foot.specs.PartsRead.{AreLists}
+use Rattle.mk_foot.specs.ReaderParts.{AreLists}
 use Rattle.mk_foot.specs.Steps.{each}
 use Rattle.mk_foot.proofs.Members.{Found}
 use Rattle.mk_foot.proofs.Steps.{Fails, with_front, each_first, first_fails, each_none}

@@ -6,7 +6,7 @@ use Rattle.mk_foot.specs.declared.fault.FootFault.{FootFault}
 use Rattle.mk_foot.specs.declared.fault.FootFault.TheVariants.{Memory}
 use Rattle.mk_foot.specs.Steps.{◌>>=◌, each, test_each}
 
--- a fault that is the one defined, or want of memory
+-- the fault is the defined one, or out of memory
 abbrev pub Fails : {Y : Type 0} → FootFault → Result Y FootFault → Type 0
 Fails fault defined = (fault ≡ Memory) ⊎ (defined ≡ Err fault)
 

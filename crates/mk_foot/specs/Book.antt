@@ -1,4 +1,4 @@
--- What a file of footprints says, in lists of bytes.
+-- What a footprint file says for some goals, in lists of bytes.
 use Rattle.std.specs.Prelude.{ℕ, List, []}
 
 -- what the recipe of a target was recorded to do
@@ -8,13 +8,13 @@ pub record Record : Type 0 where
   pub reads : List (List ℕ)
   pub writes : List (List ℕ)
 
--- the fronts of names of files that never change, the files that are there before a build, and what
--- recipes do
+-- the prefixes of the names of files that never change, the files that exist before a build, and
+-- the records of recipes
 pub record Book : Type 0 where
   pub fixed : List (List ℕ)
   pub sources : List (List ℕ)
   pub records : List Record
 
--- the book that says nothing
+-- the book without records, sources and fixed prefixes
 abbrev pub no_book : Book
 no_book = record { fixed = []; sources = []; records = [] }

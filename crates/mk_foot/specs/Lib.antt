@@ -3,10 +3,10 @@ pub mod Keys
 pub mod Steps
 pub mod Names
 pub mod Parts
-pub mod Kinds
-pub mod Footprints
+pub mod Fields
+pub mod FootprintFile
 pub mod Checks
 pub mod Reading
-pub mod PartsRead
+pub mod ReaderParts
 pub mod Setting
 pub mod Laws

@@ -1,4 +1,4 @@
--- The book of a file of footprints, for some goals.
+-- The book of a footprint file, for some goals.
 use Rattle.std.specs.Prelude.{ℕ, List, [], ◌∷◌, ◌++◌, map, Result, Ok, if◌then◌else◌, ok_or}
 use Rattle.std.specs.List.{flat_map}
 use Rattle.std.specs.Str.{bytes_eq}
@@ -9,18 +9,18 @@ use Rattle.mk_foot.specs.declared.fault.FootFault.TheVariants.{NotJson}
 use Rattle.mk_foot.specs.Book.{Record, Book}
 use Rattle.mk_foot.specs.Steps.{◌>>=◌}
 use Rattle.mk_foot.specs.Names.{once}
-use Rattle.mk_foot.specs.Parts.{Entry, Group, SharedList, Footprints}
-use Rattle.mk_foot.specs.Footprints.{footprints_in}
-use Rattle.mk_foot.specs.Checks.{test_all, group_for}
+use Rattle.mk_foot.specs.Parts.{RawRecord, Group, SharedList, FootprintFile}
+use Rattle.mk_foot.specs.FootprintFile.{footprints_in}
+use Rattle.mk_foot.specs.Checks.{check_all, group_for}
 
--- the names of the shared list of a name
+-- the names of the shared list with this name, or none if there is no such list
 abbrev pub listed : List SharedList → List ℕ → List (List ℕ)
 listed [] name = []
 listed (list ∷ lists) name = if bytes_eq name list.name then list.names else listed lists name
 
--- A record reads its own files, then those of the shared lists that it names, in order, each once.
--- What it writes comes once too, and commands keep their repeats.
-abbrev pub record_of : List SharedList → Entry → Record
+-- The record of the book: its reads are its own and then those of its shared lists in order, each
+-- once; its writes are each once; its commands keep their repeats.
+abbrev pub record_of : List SharedList → RawRecord → Record
 record_of lists entry = record {
   target = entry.target;
   commands = entry.commands;
@@ -28,7 +28,8 @@ record_of lists entry = record {
   writes = once entry.writes;
 }
 
-abbrev pub book_of : Footprints → Group → Book
+-- the book of a file with the records of this group
+abbrev pub book_of : FootprintFile → Group → Book
 book_of file group =
     record {
       fixed = once file.fixed;
@@ -36,15 +37,16 @@ book_of file group =
       records = map (record_of file.lists) group.records;
     }
 
--- the book of a JSON value: the tests of its shape, the others, and the choice of a group
+-- the book of a JSON value, or the first fault: of its shape, of the checks, or that no group
+-- serves the goals
 unfoldable pub book_in : List (List ℕ) → Data → Result Book FootFault
 book_in goals value = do
   file ← footprints_in value
-  _ ← test_all file
+  _ ← check_all file
   group ← group_for goals file.groups
   Ok (book_of file group)
 
--- the book of a file's bytes
+-- the book of the bytes of a footprint file, or the first fault
 unfoldable pub book_from : List (List ℕ) → List ℕ → Result Book FootFault
 book_from goals bytes = do
   value ← ok_or (json_of bytes) NotJson

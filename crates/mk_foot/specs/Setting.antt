@@ -1,9 +1,11 @@
--- What a build starts from: footprints, makefile texts, and names that the reading passed over.
+-- What a build starts from: records, given files, and names that reading the makefile passed over.
 use Rattle.std.specs.Prelude.{ℕ, Bool, List, [], find, Option, None, Some}
 use Rattle.std.specs.Str.{bytes_eq}
 use Rattle.mk_foot.specs.Book.{Record}
 use Rattle.mk_lines.specs.Given as given
 
+-- the records, the sources, the names of the makefile texts, the fixed prefixes, and the names that
+-- reading the makefile passed over
 pub record Setting : Type 0 where
   pub records : List Record
   pub sources : List (List ℕ)
@@ -23,17 +25,18 @@ abbrev writes_in : Option Record → List (List ℕ)
 writes_in None = []
 writes_in (Some r) = r.writes
 
--- what the recipe of a target reads and writes: nothing without a record
+-- what the recipe of a target reads, which is nothing without a record
 abbrev pub reads : Setting → List ℕ → List (List ℕ)
 reads setting name = reads_in (record_for setting.records name)
 
+-- what the recipe of a target writes, which is nothing without a record
 abbrev pub writes : Setting → List ℕ → List (List ℕ)
 writes setting name = writes_in (record_for setting.records name)
 
--- a source, a file under a fixed prefix, or a makefile text
+-- a file is given if it is a source, is under a fixed prefix, or is a makefile text
 abbrev pub is_given : Setting → List ℕ → Bool
 is_given setting name = given.is_given setting.sources setting.fixed setting.texts name
 
--- a source that is no makefile text
+-- a file is editable if it is a source and no makefile text
 abbrev pub is_editable : Setting → List ℕ → Bool
 is_editable setting name = given.is_editable setting.sources setting.texts name

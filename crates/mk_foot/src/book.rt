@@ -1,4 +1,4 @@
-//! Books: what a file of footprints says for some goals.
+//! A footprint file, as it applies to some goals.
 
 ghost use Rattle.std.specs.Prelude.{◌≡◌};
 ghost use Rattle.mk_foot.specs.Book.{no_book};
@@ -9,11 +9,11 @@ use std::marker::Model;
 /// What the recipe of a target was recorded to do. A contract sees lists of bytes.
 #[derive(Debug, Drop)]
 pub struct Record {
-    /// The target.
+    /// The target of the recipe.
     pub target: String,
-    /// The commands, expanded, with their repeats.
+    /// The expanded commands, in order, with repeats.
     pub commands: Vec<String>,
-    /// The files that the recipe reads and has not written before in the same run, each once.
+    /// The files that the recipe reads before it has written them in the same run, each once.
     pub reads: Vec<String>,
     /// The files that the recipe leaves written, each once.
     pub writes: Vec<String>,
@@ -35,14 +35,14 @@ impl Model for Record {
         } };
 }
 
-/// What a file of footprints says for some goals. A contract sees lists of bytes.
+/// What a footprint file says for some goals. A contract sees lists of bytes.
 #[derive(Debug, Drop)]
 pub struct Book {
-    /// The files whose names begin with one of these never change, each once.
+    /// Prefixes of the names of files that never change, each once.
     pub fixed: Vec<String>,
-    /// The files that are there before a build, each once.
+    /// The files that exist before a build, each once.
     pub sources: Vec<String>,
-    /// What recipes were recorded to do, one record a target.
+    /// The records, one for each target.
     pub records: Vec<Record>,
 }
 
@@ -62,7 +62,7 @@ impl Model for Book {
 }
 
 impl Book {
-    /// The book that says nothing.
+    /// Returns a book without records, sources and fixed prefixes.
     pub fn empty(alloc: Global) -> Book
         ensures { result ≡ no_book }
     {

@@ -1,22 +1,22 @@
-//! What a file of footprints owes beside its shape.
+//! Checks of a footprint file after its JSON shape was read.
 
 ghost use Rattle.std.specs.Prelude.{◌≡◌, ◌∷◌, [], map, find, IfOk, IfSome};
 ghost use Rattle.std.specs.List.{list_all};
 ghost use Rattle.std.specs.Option.{option_map, option_copied};
 ghost use Rattle.std.specs.String.{string_bytes};
 ghost use Rattle.mk_lines.specs.Paths.{is_plain_path as is_plain};
-ghost use Rattle.mk_foot.specs.Names.{has_name, is_prefix, is_under, first_again, same_names};
-ghost use Rattle.mk_foot.specs.Steps.{Gives, test_each, unless_holds};
-ghost use Rattle.mk_foot.specs.Checks.{are_plain, entry_is_plain, goals_are_plain, group_is_plain, list_is_plain, names_are_plain, targets_differ, sources_are_free, list_names, lists_are_there, test_all, serves, group_for};
+ghost use Rattle.mk_foot.specs.Names.{has_name, is_prefix, begins_with_any, first_repeat, same_names};
+ghost use Rattle.mk_foot.specs.Steps.{Gives, test_each, check_that};
+ghost use Rattle.mk_foot.specs.Checks.{are_plain, entry_is_plain, goals_are_plain, group_is_plain, list_is_plain, names_are_plain, targets_differ, sources_are_not_fixed, list_names, shared_lists_exist, check_all, serves, group_for};
 
 use crate::fault::FootFault;
 use crate::key::Key;
 use crate::names::clones_of;
-use crate::parts::{Entry, Footprints, Group, SharedList};
-use mk_lines::{Name, NameSet, NameTable, Prefixes, is_plain_path, is_plain_text_path};
+use crate::parts::{FootprintFile, Group, RawRecord, SharedList};
+use mk_lines::{BorrowedNames, Name, NameTable, Prefixes, is_plain_path, is_plain_text_path};
 use std::alloc::Global;
 
-/// Whether a text is `/`, or a plain path with `/` behind it.
+/// Whether a text is `/`, or a plain path followed by `/`.
 fn is_prefix(text: &[u8]) -> bool
     ensures { result ≡ is_prefix text.now }
 {
@@ -27,14 +27,14 @@ fn is_prefix(text: &[u8]) -> bool
     }
 }
 
-/// Whether texts are plain paths.
+/// Whether all texts are plain paths.
 pub fn are_paths(texts: &[String]) -> bool
     ensures { result ≡ list_all is_plain (map string_bytes texts.now) }
 {
     texts.iter().all(|text| is_plain_text_path(text.as_str()))
 }
 
-/// Whether a name is a plain path.
+/// Fails with `BadName` (55) if the name is no plain path.
 fn is_path(key: Key, name: &str) -> Result<(), FootFault>
     ensures { Gives (λ done. done) result (are_plain key (name.now ∷ [])) }
 {
@@ -45,7 +45,7 @@ fn is_path(key: Key, name: &str) -> Result<(), FootFault>
     }
 }
 
-/// Whether names are plain paths.
+/// Fails with `BadName` (55) if one of the names is no plain path.
 fn are_plain(key: Key, names: &[String]) -> Result<(), FootFault>
     ensures { Gives (λ done. done) result (are_plain key (map string_bytes names.now)) }
 {
@@ -56,16 +56,17 @@ fn are_plain(key: Key, names: &[String]) -> Result<(), FootFault>
     }
 }
 
-/// Whether texts are prefixes.
+/// Whether all texts are prefixes.
 fn are_prefixes(texts: &[String]) -> bool
     ensures { result ≡ list_all is_prefix (map string_bytes texts.now) }
 {
     texts.iter().all(|text| is_prefix(text.as_bytes()))
 }
 
-/// Whether the names of a record are plain paths. Of most it is known since they were read.
+/// Checks the target, the reads and the writes of a record. The check is skipped if the reader has
+/// found them plain already.
 #[tactic(auto, unfolding(crate::specs::Checks::entry_is_plain))]
-fn entry_is_plain(entry: &Entry) -> Result<(), FootFault>
+fn entry_is_plain(entry: &RawRecord) -> Result<(), FootFault>
     ensures { Gives (λ done. done) result (entry_is_plain entry.now) }
 {
     if entry.plain {
@@ -76,8 +77,7 @@ fn entry_is_plain(entry: &Entry) -> Result<(), FootFault>
     are_plain(Key::Writes, &entry.writes)
 }
 
-/// The same of each record.
-fn entries_are_plain(entries: &[Entry]) -> Result<(), FootFault>
+fn entries_are_plain(entries: &[RawRecord]) -> Result<(), FootFault>
     ensures { Gives (λ done. done) result (test_each entry_is_plain entries.now) }
 {
     for entry in entries {
@@ -86,7 +86,7 @@ fn entries_are_plain(entries: &[Entry]) -> Result<(), FootFault>
     Ok(())
 }
 
-/// Whether the names of a group are plain paths.
+/// Checks the goals of a group and the names in its records.
 #[tactic(auto, unfolding(crate::specs::Checks::group_is_plain))]
 fn group_is_plain(group: &Group) -> Result<(), FootFault>
     ensures { Gives (λ done. done) result (group_is_plain group.now) }
@@ -97,7 +97,6 @@ fn group_is_plain(group: &Group) -> Result<(), FootFault>
     entries_are_plain(&group.records)
 }
 
-/// The same of each group.
 fn groups_are_plain(groups: &[Group]) -> Result<(), FootFault>
     ensures { Gives (λ done. done) result (test_each group_is_plain groups.now) }
 {
@@ -107,14 +106,12 @@ fn groups_are_plain(groups: &[Group]) -> Result<(), FootFault>
     Ok(())
 }
 
-/// Whether the names of a shared list are plain paths.
 fn list_is_plain(list: &SharedList) -> Result<(), FootFault>
     ensures { Gives (λ done. done) result (list_is_plain list.now) }
 {
     are_plain(Key::Lists, &list.names)
 }
 
-/// The same of each shared list.
 fn lists_are_plain(lists: &[SharedList]) -> Result<(), FootFault>
     ensures { Gives (λ done. done) result (test_each list_is_plain lists.now) }
 {
@@ -124,9 +121,9 @@ fn lists_are_plain(lists: &[SharedList]) -> Result<(), FootFault>
     Ok(())
 }
 
-/// Whether all names are plain paths, and the fixed prefixes are prefixes.
+/// Checks all names and prefixes of a file, in the order of the format.
 #[tactic(auto, unfolding(crate::specs::Checks::names_are_plain))]
-fn names_are_plain(file: &Footprints) -> Result<(), FootFault>
+fn names_are_plain(file: &FootprintFile) -> Result<(), FootFault>
     ensures { Gives (λ done. done) result (names_are_plain file.now) }
 {
     if !are_prefixes(&file.fixed) {
@@ -137,12 +134,12 @@ fn names_are_plain(file: &Footprints) -> Result<(), FootFault>
     groups_are_plain(&file.groups)
 }
 
-/// The first target that comes a second time.
-fn first_again(alloc: Global, entries: &[Entry]) -> Result<Option<&str>, FootFault>
-    ensures { Gives (λ found. option_map (λ name. name.now) found) result (Ok (first_again []
+/// Returns the first target that an earlier record has too.
+fn first_repeat(alloc: Global, entries: &[RawRecord]) -> Result<Option<&str>, FootFault>
+    ensures { Gives (λ found. option_map (λ name. name.now) found) result (Ok (first_repeat []
         (map (λ entry. entry.target) entries.now))) }
 {
-    let mut seen = NameSet::with_capacity(alloc, entries.len())?;
+    let mut seen = BorrowedNames::with_capacity(alloc, entries.len())?;
     for entry in entries {
         let target = entry.target.as_str();
         if !seen.insert(target)? {
@@ -152,17 +149,16 @@ fn first_again(alloc: Global, entries: &[Entry]) -> Result<Option<&str>, FootFau
     Ok(None)
 }
 
-/// Whether no target comes twice in a group.
+/// Fails with `TwoRecords` (54) if a target occurs twice in the group.
 fn targets_differ(alloc: Global, group: &Group) -> Result<(), FootFault>
     ensures { Gives (λ done. done) result (targets_differ group.now) }
 {
-    match first_again(alloc, &group.records)? {
+    match first_repeat(alloc, &group.records)? {
         Some(target) => Err(FootFault::TwoRecords(Name::new(alloc, target)?)),
         None => Ok(()),
     }
 }
 
-/// The same of each group.
 fn all_targets_differ(alloc: Global, groups: &[Group]) -> Result<(), FootFault>
     ensures { Gives (λ done. done) result (test_each targets_differ groups.now) }
 {
@@ -172,22 +168,22 @@ fn all_targets_differ(alloc: Global, groups: &[Group]) -> Result<(), FootFault>
     Ok(())
 }
 
-/// The first source under a fixed prefix.
+/// Returns the first source that is under a fixed prefix.
 fn first_fixed<'a>(fixed: &Prefixes, sources: &'a [String]) -> Option<&'a str>
     ensures { option_map (λ name. name.now) result ≡
-        find (is_under fixed.now) (map string_bytes sources.now) }
+        find (begins_with_any fixed.now) (map string_bytes sources.now) }
 {
     for source in sources {
-        if fixed.is_under(source.as_str()) {
+        if fixed.begins_with_any(source.as_str()) {
             return Some(source.as_str());
         }
     }
     None
 }
 
-/// Whether no source lies under a fixed prefix.
-fn sources_are_free(alloc: Global, file: &Footprints) -> Result<(), FootFault>
-    ensures { Gives (λ done. done) result (sources_are_free file.now) }
+/// Fails with `SourceIsFixed` (56) if a source is under a fixed prefix.
+fn sources_are_not_fixed(alloc: Global, file: &FootprintFile) -> Result<(), FootFault>
+    ensures { Gives (λ done. done) result (sources_are_not_fixed file.now) }
 {
     let fixed = Prefixes::new(alloc, clones_of(alloc, &file.fixed)?)?;
     match first_fixed(&fixed, &file.sources) {
@@ -196,30 +192,30 @@ fn sources_are_free(alloc: Global, file: &Footprints) -> Result<(), FootFault>
     }
 }
 
-/// Whether each of these names is among those.
+/// Whether the table has all names of `shared`.
 fn are_listed(names: &NameTable, shared: &[String]) -> bool
     ensures { result ≡ list_all (has_name names.now) (map string_bytes shared.now) }
 {
     shared.iter().all(|name| names.contains(name))
 }
 
-/// Whether each shared list that a record names is among these.
-fn entry_is_listed(names: &NameTable, entry: &Entry) -> bool
+/// Whether the table has all shared lists that the record names.
+fn entry_is_listed(names: &NameTable, entry: &RawRecord) -> bool
     ensures { result ≡ list_all (has_name names.now) entry.now.shared }
 {
     are_listed(names, &entry.shared)
 }
 
-/// The same of each record.
-fn entries_are_listed(names: &NameTable, entries: &[Entry]) -> bool
+fn entries_are_listed(names: &NameTable, entries: &[RawRecord]) -> bool
     ensures { result ≡ list_all (λ entry. list_all (has_name names.now) entry.shared) entries.now }
 {
     entries.iter().all(|entry| entry_is_listed(names, entry))
 }
 
-/// The same of each record of a group.
+/// Fails with `NoList` (58) if a record of the group names a shared list that the table doesn't
+/// have.
 fn group_is_listed(names: &NameTable, group: &Group) -> Result<(), FootFault>
-    ensures { Gives (λ done. done) result (lists_are_there names.now group.now) }
+    ensures { Gives (λ done. done) result (shared_lists_exist names.now group.now) }
 {
     if entries_are_listed(names, &group.records) {
         Ok(())
@@ -228,9 +224,8 @@ fn group_is_listed(names: &NameTable, group: &Group) -> Result<(), FootFault>
     }
 }
 
-/// The same of each group.
 fn groups_are_listed(names: &NameTable, groups: &[Group]) -> Result<(), FootFault>
-    ensures { Gives (λ done. done) result (test_each (lists_are_there names.now) groups.now) }
+    ensures { Gives (λ done. done) result (test_each (shared_lists_exist names.now) groups.now) }
 {
     for group in groups {
         group_is_listed(names, group)?;
@@ -238,19 +233,20 @@ fn groups_are_listed(names: &NameTable, groups: &[Group]) -> Result<(), FootFaul
     Ok(())
 }
 
-/// All tests, in their order. The names are those of the shared lists.
-#[tactic(auto, unfolding(crate::specs::Checks::test_all))]
-pub fn test_all(alloc: Global, file: &Footprints, names: &NameTable) -> Result<(), FootFault>
+/// Makes all checks in their order and returns the first fault. `names` are the names of the shared
+/// lists. It fails with `Memory` when out of memory.
+#[tactic(auto, unfolding(crate::specs::Checks::check_all))]
+pub fn check_all(alloc: Global, file: &FootprintFile, names: &NameTable) -> Result<(), FootFault>
     requires { names.now ≡ list_names file.now }
-    ensures { Gives (λ done. done) result (test_all file.now) }
+    ensures { Gives (λ done. done) result (check_all file.now) }
 {
     names_are_plain(file)?;
     all_targets_differ(alloc, &file.groups)?;
-    sources_are_free(alloc, file)?;
+    sources_are_not_fixed(alloc, file)?;
     groups_are_listed(names, &file.groups)
 }
 
-/// Whether two lists hold the same names in the same order.
+/// Whether both lists have the same names in the same order.
 fn same_names(goals: &[Name], own: &[String]) -> bool
     ensures { result ≡ same_names goals.now (map string_bytes own.now) }
 {
@@ -265,7 +261,7 @@ fn same_names(goals: &[Name], own: &[String]) -> bool
     true
 }
 
-/// Whether a group serves the goals.
+/// Whether a group has these goals, or serves any goals.
 fn serves(goals: &[Name], group: &Group) -> bool
     ensures { result ≡ serves goals.now group.now.goals }
 {
@@ -275,7 +271,7 @@ fn serves(goals: &[Name], group: &Group) -> bool
     }
 }
 
-/// The first group that serves the goals.
+/// Returns the first group that serves the goals, or `NoGroup` (57).
 pub fn group_for(goals: &[Name], groups: Vec<Group>) -> Result<Group, FootFault>
     ensures { Gives (λ group. group) result (group_for goals.now groups.items) }
 {

@@ -1,4 +1,4 @@
-//! Why a file of footprints has no book.
+//! Faults of a footprint file.
 
 ghost use Rattle.std.specs.Prelude.{◌≡◌};
 ghost use Rattle.mk_foot.specs.declared.fault.FootFault.TheVariants.{Memory};
@@ -8,38 +8,39 @@ use mk_lines::Name;
 use std::alloc::{AllocError, AllocFailed};
 use thiserror::Error;
 
-/// Why a file of footprints has no book: the first test that fails.
+/// Why a footprint file is refused: the first check that fails.
 #[derive(Debug, Drop, Error)]
 pub enum FootFault {
-    /// The bytes are no JSON value that `serde_json` reads, as where they aren't UTF-8 (fault 51).
-    #[error("the bytes are no JSON value")]
+    /// The bytes have no JSON value that `serde_json` reads; bytes that aren't UTF-8 have none
+    /// (51).
+    #[error("no JSON value")]
     NotJson,
-    /// What stands under the key is missing or of another kind, the value as a whole (`top`), a
-    /// record (`records`) or a group (`groups`) is no object, or one of them has a key that doesn't
-    /// belong there (`unknown`) (fault 52).
-    #[error("there is no such part, or it is of another kind: {0}")]
+    /// The value under the key is missing or of another kind (52). The key is `top` if the whole
+    /// value is no object, `records` or `groups` if one of their elements is no object, and
+    /// `unknown` if an object has a key that doesn't belong there.
+    #[error("missing value or another kind: {0}")]
     Shape(Key),
-    /// The format is a whole number other than 1 and 2 (fault 53).
-    #[error("the format is another one")]
+    /// The format is a whole number other than 1 and 2 (53).
+    #[error("unknown format")]
     OtherFormat,
-    /// This target comes a second time among the records of a group (fault 54).
-    #[error("a target has two records: {0}")]
+    /// This target has an earlier record in the same group (54).
+    #[error("two records of one target: {0}")]
     TwoRecords(Name),
     /// A name under the key is no plain path, or an entry of `fixed` is neither `/` nor a plain
-    /// path with `/` behind it (fault 55).
-    #[error("a name is no plain path: {0}")]
+    /// path followed by `/` (55).
+    #[error("no plain path: {0}")]
     BadName(Key),
-    /// This source begins with an entry of `fixed` (fault 56).
-    #[error("a source is fixed: {0}")]
+    /// This source is under a fixed prefix (56).
+    #[error("a fixed source: {0}")]
     SourceIsFixed(Name),
-    /// No group has these goals (fault 57).
-    #[error("no group of records is for these goals")]
+    /// No group has these goals (57).
+    #[error("no group for these goals")]
     NoGroup,
-    /// A record names a shared list that isn't there (fault 58).
-    #[error("a shared list is missing")]
+    /// A record names a shared list that doesn't exist (58).
+    #[error("missing shared list")]
     NoList,
-    /// A growth was refused, which may come in place of any answer.
-    #[error("memory ran out")]
+    /// Out of memory. Any call may return it.
+    #[error("out of memory")]
     Memory,
 }
 

@@ -1,5 +1,5 @@
-//! Texts, lists of them and the format, by the tokens of a file of footprints, each with the fault
-//! of its key.
+//! Reads texts, lists of texts and the format from JSON tokens. A value of another kind is a fault
+//! with its key.
 
 ghost use Rattle.std.specs.Prelude.{◌≡◌, ◌∷◌, ◌++◌, [], ℕ, List, Result, IfOk, OnOk, option_and_then};
 ghost use Rattle.std.specs.Option.{option_map};
@@ -8,22 +8,22 @@ ghost use Rattle.serde_json.specs.Data.{Data};
 ghost use Rattle.serde_json.specs.Find.{as_str, as_number, as_integer};
 ghost use Rattle.mk_json.specs.Tokens.{Reads, ReadsItems};
 ghost use Rattle.mk_foot.specs.declared.fault.FootFault.{FootFault};
-ghost use Rattle.mk_foot.specs.Kinds.{texts_of};
-ghost use Rattle.mk_foot.specs.PartsRead.{text_of, format_from, GivesTexts};
+ghost use Rattle.mk_foot.specs.Fields.{texts_of};
+ghost use Rattle.mk_foot.specs.ReaderParts.{text_of, format_from, GivesTexts};
 ghost use Rattle.mk_foot.specs.Steps.{Gives, each};
 
 use crate::fault::FootFault;
 use crate::format::Format;
 use crate::key::Key;
 use json::{Invalid, Reader};
-use mk_json::laws::{items_in_turn, values_take_tokens};
+use mk_json::laws::{items_are_read_in_order, values_take_tokens};
 use mk_json::{enter_array, next_integer, next_text};
 use std::alloc::{AllocError, Global};
 
-/// A list of texts, or its fault.
+/// A list of texts, or why there is none.
 pub type Texts = Result<Vec<String>, FootFault>;
 
-/// A copy of the text that was read, where there is one.
+/// Copies the text that was read; `None` is `Shape` (52).
 fn copy_of(alloc: Global, key: Key, text: Option<&str>) -> Result<String, FootFault>
     ensures { (value : Data) → option_map (λ found. found.now) text.entry ≡ as_str value →
         Gives string_bytes result (text_of key value) }
@@ -34,7 +34,7 @@ fn copy_of(alloc: Global, key: Key, text: Option<&str>) -> Result<String, FootFa
     }
 }
 
-/// Reads a text.
+/// Reads a text. It fails with `Shape` (52) if the value is no text.
 pub fn read_text(
     alloc: Global,
     key: Key,
@@ -48,10 +48,11 @@ pub fn read_text(
     Ok(copy_of(alloc, key, text))
 }
 
-/// So many texts may stand in a list with spare room.
+/// A list of at most this many texts may keep spare capacity.
 const FEW: usize = 4;
 
-/// A text behind others. Many lists have one alone, so the first one gets no spare room.
+/// Appends a text. Many lists have a single text, so the first one is stored without spare
+/// capacity.
 fn push_text(texts: &mut Vec<String>, text: String) -> Result<(), AllocError>
     ensures { OnOk result (texts.new.items ≡ texts.old.items ++ text ∷ []) }
 {
@@ -62,7 +63,7 @@ fn push_text(texts: &mut Vec<String>, text: String) -> Result<(), AllocError>
     Ok(())
 }
 
-/// Texts with one more at their end, or the fault of what is no text.
+/// Appends a text to a list. If either is a fault, returns the first fault.
 fn with_text(texts: Texts, text: Result<String, FootFault>) -> Texts
     ensures { (key : Key) (front : List Data) (value : Data) →
         GivesTexts texts (each (text_of key) front) →
@@ -76,7 +77,7 @@ fn with_text(texts: Texts, text: Result<String, FootFault>) -> Texts
     Ok(texts)
 }
 
-/// Reads the texts of a list that was entered.
+/// Reads the texts of an array whose bracket was read.
 fn read_list(
     alloc: Global,
     key: Key,
@@ -87,7 +88,7 @@ fn read_list(
         (λ texts values. GivesTexts texts (each (text_of key) values))
         depth reader.old result reader.new }
 {
-    items_in_turn();
+    items_are_read_in_order();
     values_take_tokens();
     let mut texts: Texts = Ok(Vec::new(alloc));
     'items: while !reader.take_end_array() {
@@ -97,8 +98,8 @@ fn read_list(
     Ok(texts)
 }
 
-/// The same texts. More than a few stand in a list without spare room then: one that grew has room
-/// for up to twice as many. The error is want of memory alone.
+/// Returns the same texts. A list of more than `FEW` texts is moved to one without spare capacity,
+/// since a list that grew may have capacity for twice as many. The only error is out of memory.
 fn fitted(alloc: Global, texts: Vec<String>) -> Result<Vec<String>, AllocError>
     ensures { IfOk result (λ all. all.items ≡ texts.items) }
 {
@@ -111,7 +112,7 @@ fn fitted(alloc: Global, texts: Vec<String>) -> Result<Vec<String>, AllocError>
     Ok(exact)
 }
 
-/// The same texts, or their fault.
+/// Applies `fitted` to a list without a fault.
 fn without_room(alloc: Global, texts: Texts) -> Texts
     ensures { (defined : Result (List (List ℕ)) FootFault) →
         GivesTexts texts defined → GivesTexts result defined }
@@ -120,7 +121,7 @@ fn without_room(alloc: Global, texts: Texts) -> Texts
     Ok(fitted(alloc, texts)?)
 }
 
-/// Reads a list of texts.
+/// Reads a list of texts. It fails with `Shape` (52) if the value is no array of texts.
 pub fn read_texts(
     alloc: Global,
     key: Key,
@@ -138,7 +139,7 @@ pub fn read_texts(
     Ok(without_room(alloc, texts))
 }
 
-/// The format that goes by a number.
+/// Returns the format with a number. No number is `Shape` (52), another number `OtherFormat` (53).
 fn format_of(number: Option<i128>) -> Result<Format, FootFault>
     ensures { (value : Data) → number ≡ option_and_then as_integer (as_number value) →
         Gives (λ format. format) result (format_from value) }
@@ -151,7 +152,7 @@ fn format_of(number: Option<i128>) -> Result<Format, FootFault>
     }
 }
 
-/// Reads the format.
+/// Reads the format. It fails with `Shape` (52) or `OtherFormat` (53).
 pub fn read_format(
     reader: &mut Reader<'_>,
     depth: usize,
@@ -163,7 +164,7 @@ pub fn read_format(
     Ok(format_of(number))
 }
 
-/// A list with one more at its end, or the first fault.
+/// Appends an element to a list. If either is a fault, returns the first fault.
 pub fn with_next<T: Drop>(
     found: Result<Vec<T>, FootFault>,
     next: Result<T, FootFault>,

@@ -1,10 +1,10 @@
-//! The two formats of footprint files.
+//! The formats of footprint files.
 
 /// A format of footprint files.
 #[derive(Clone, Copy, Debug, Drop, PartialEq, Eq)]
 pub enum Format {
-    /// One list of records.
+    /// Format 1: one list of records.
     One,
-    /// Groups of records by goals, and lists that records share.
+    /// Format 2: a group of records for each list of goals, and file lists that records share.
     Two,
 }

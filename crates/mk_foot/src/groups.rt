@@ -1,4 +1,4 @@
-//! Groups of records, by the tokens of a file of footprints: of each only its parts are kept.
+//! Reads the groups of a footprint file from JSON tokens.
 
 ghost use Rattle.std.specs.Prelude.{◌≡◌, true, is_some, ok_or};
 ghost use Rattle.serde_json.specs.Data.{Data, object, Members, no_members, put};
@@ -7,8 +7,8 @@ ghost use Rattle.mk_json.specs.Kinds.{elements_of};
 ghost use Rattle.mk_json.specs.Tokens.{Reads, ReadsItems, ReadsMembers};
 ghost use Rattle.mk_foot.specs.declared.fault.FootFault.TheVariants.{Shape};
 ghost use Rattle.mk_foot.specs.declared.key.Key.TheVariants as keys;
-ghost use Rattle.mk_foot.specs.Footprints.{group_in};
-ghost use Rattle.mk_foot.specs.PartsRead.{IsOfGroup, AreEach};
+ghost use Rattle.mk_foot.specs.FootprintFile.{group_in};
+ghost use Rattle.mk_foot.specs.ReaderParts.{IsOfGroup, AreEach};
 ghost use Rattle.mk_foot.specs.Steps.{Gives, each};
 
 use crate::fault::FootFault;
@@ -16,22 +16,24 @@ use crate::fields::{Texts, read_texts, with_next};
 use crate::format::Format;
 use crate::key::Key;
 use crate::parts::Group;
-use crate::records::{Entries, read_entries};
+use crate::records::{RecordsResult, read_entries};
 use json::{Invalid, Reader};
-use mk_json::laws::{items_in_turn, last_value_counts, members_in_turn, values_take_tokens};
+use mk_json::laws::{
+    items_are_read_in_order, last_value_counts, members_are_read_in_order, values_take_tokens,
+};
 use mk_json::{enter_array, enter_object, skip_value};
 use std::alloc::Global;
 
-/// What the members of a group give so far: of each key its last value, or its fault, and whether
-/// there are no other keys.
+/// What the members of a group that were read so far give: for each key its last value or a fault,
+/// and whether there is no other key.
 #[derive(Drop)]
 struct GroupParts {
     goals: Texts,
-    records: Entries,
+    records: RecordsResult,
     alone: bool,
 }
 
-/// What no members give.
+/// The parts of a group without members.
 fn no_group_parts() -> GroupParts
     ensures { IsOfGroup result (object no_members) }
 {
@@ -42,7 +44,7 @@ fn no_group_parts() -> GroupParts
     }
 }
 
-/// Reads the value of a key of a group.
+/// Reads the value under a key of a group.
 fn read_group_part(
     alloc: Global,
     key: &str,
@@ -72,7 +74,7 @@ fn read_group_part(
     }
 }
 
-/// Reads the members of a group that was entered, over what no members give.
+/// Reads the members of a group whose brace was read, into the parts of a group without members.
 fn read_members(
     alloc: Global,
     parts: &mut GroupParts,
@@ -83,7 +85,7 @@ fn read_members(
     ensures { ReadsMembers (λ _ members. IsOfGroup parts.new (object members))
         depth reader.old result reader.new }
 {
-    members_in_turn();
+    members_are_read_in_order();
     values_take_tokens();
     'members: while let Some(key) = reader.next_key()? {
         read_group_part(alloc, key, parts, reader, depth)?;
@@ -91,7 +93,7 @@ fn read_members(
     Ok(())
 }
 
-/// Reads the members of a group that was entered.
+/// Reads the members of a group whose brace was read.
 fn read_group_parts(
     alloc: Global,
     reader: &mut Reader<'_>,
@@ -105,8 +107,9 @@ fn read_group_parts(
     Ok(parts)
 }
 
-/// The group that its parts give: its keys, then any other key, then its records.
-#[tactic(auto, unfolding(crate::specs::Footprints::group_in))]
+/// Returns the group that these parts give. Faults come in this order: the known keys, another key,
+/// the records.
+#[tactic(auto, unfolding(crate::specs::FootprintFile::group_in))]
 fn group_of(parts: GroupParts) -> Result<Group, FootFault>
     ensures { (whole : Data) → is_some (as_object whole) ≡ true → IsOfGroup parts whole →
         Gives (λ group. group) result (group_in whole) }
@@ -128,7 +131,7 @@ fn group_of(parts: GroupParts) -> Result<Group, FootFault>
     })
 }
 
-/// Reads a group.
+/// Reads a group. A value that is no object is `Shape` (52).
 fn read_group(
     alloc: Global,
     reader: &mut Reader<'_>,
@@ -144,7 +147,7 @@ fn read_group(
     Ok(group_of(parts))
 }
 
-/// Reads the groups of a list that was entered.
+/// Reads the groups of an array whose bracket was read.
 fn read_list(
     alloc: Global,
     reader: &mut Reader<'_>,
@@ -153,7 +156,7 @@ fn read_list(
     ensures { ReadsItems (λ groups values. Gives (λ all. all.items) groups (each group_in values))
         depth reader.old result reader.new }
 {
-    items_in_turn();
+    items_are_read_in_order();
     values_take_tokens();
     let mut groups: Result<Vec<Group>, FootFault> = Ok(Vec::new(alloc));
     'items: while !reader.take_end_array() {
@@ -163,10 +166,10 @@ fn read_list(
     Ok(groups)
 }
 
-/// What a list of groups gives, or the fault of what is no list.
+/// The groups, or the first fault in them. The outer fault says that the value is no array.
 pub type Groups = Result<Result<Vec<Group>, FootFault>, FootFault>;
 
-/// Reads a list of groups.
+/// Reads the list of groups.
 pub fn read_groups(alloc: Global, reader: &mut Reader<'_>, depth: usize) -> Result<Groups, Invalid>
     ensures { Reads (λ groups value. AreEach group_in groups
         (ok_or (elements_of value) (Shape keys.Groups)))

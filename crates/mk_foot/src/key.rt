@@ -5,18 +5,18 @@ ghost use Rattle.mk_foot.specs.Keys.{spelling};
 
 use std::fmt;
 
-/// A key of a footprint file, or a word for what has none.
+/// A key of a footprint file, or a word that a fault shows in place of one.
 #[derive(Clone, Copy, Debug, Drop, PartialEq, Eq)]
 pub enum Key {
-    /// The whole value, which is to be an object.
+    /// The whole value, which must be an object.
     Top,
     /// The number of the format, 1 or 2.
     Format,
-    /// Fronts of names of files that never change.
+    /// Prefixes of the names of files that never change.
     Fixed,
-    /// Files that are there before a build.
+    /// Files that exist before a build.
     Sources,
-    /// What recipes were recorded to do.
+    /// The records.
     Records,
     /// The target of a record.
     Target,
@@ -26,20 +26,20 @@ pub enum Key {
     Reads,
     /// The files that a recipe writes.
     Writes,
-    /// Names of lists of files that a recipe reads too.
+    /// The names of the shared lists that a recipe reads too.
     Shared,
     /// The lists of files that records share.
     Lists,
-    /// Records, by the goals that they were made for.
+    /// The groups of records, each for some goals.
     Groups,
     /// The goals of a group.
     Goals,
-    /// A key that is none of these, or not at its place.
+    /// A key that is none of these, or that doesn't belong where it stands.
     Unknown,
 }
 
 impl Key {
-    /// How the key is spelled in a file, and in a fault.
+    /// Returns the key as a footprint file and a fault spell it.
     pub fn as_str(self) -> &'static str
         ensures { result.now ≡ spelling self }
     {

@@ -1,42 +1,41 @@
-//! Laws of books and settings, about the definitions alone. Each is the contract of a function that
-//! does nothing: who calls it has the law.
+//! Laws about the definitions of books and settings. Each law is the contract of a function with an
+//! empty body; a caller of the function has the law.
 
 ghost use Rattle.mk_foot.specs.Laws.{OnceKeepsFirst, OnlyTextWithoutValueIsNoJson, FormatsAgree, GivenExactly, EditableExactly, EditableIsGiven, NamesReadArePlain};
 
-/// Dropping repeats keeps each name, once, where it first stands.
+/// Dropping repeats keeps each name once, at its first place.
 pub fn once_keeps_first()
     ensures { OnceKeepsFirst }
 {}
 
-/// Fault 51 is answered exactly for bytes without a JSON value.
+/// `NotJson` (51) is returned exactly for bytes without a JSON value.
 pub fn only_text_without_value_is_no_json()
     ensures { OnlyTextWithoutValueIsNoJson }
 {}
 
-/// A file of format 1, and one of format 2 with the same records in one group of the goals and
-/// without shared lists, give equal books, or the same fault.
+/// A file of format 1 and a file of format 2 give equal books, or the same fault, if the second one
+/// has the same records in a single group for the goals and no shared lists.
 pub fn formats_agree()
     ensures { FormatsAgree }
 {}
 
-/// A name is given exactly where it is a source, begins with a fixed prefix, or is a text of the
-/// makefile.
+/// A name is given exactly if it is a source, is under a fixed prefix, or is a makefile text.
 pub fn given_exactly()
     ensures { GivenExactly }
 {}
 
-/// A name is editable exactly where it is a source and no text of the makefile.
+/// A name is editable exactly if it is a source and no makefile text.
 pub fn editable_exactly()
     ensures { EditableExactly }
 {}
 
-/// What is editable is given.
+/// An editable name is given.
 pub fn editable_is_given()
     ensures { EditableIsGiven }
 {}
 
-/// All names of a book that was read are plain paths: its sources, and the targets, reads and writes
-/// of its records.
+/// All names of a book that was read are plain paths: its sources, and the targets, reads and
+/// writes of its records.
 pub fn names_read_are_plain()
     ensures { NamesReadArePlain }
 {}

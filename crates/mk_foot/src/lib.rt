@@ -1,4 +1,4 @@
-//! Recorded footprints: what a file of them says, and which files are given and editable.
+//! Recorded footprints: reads footprint files, and says which files are given and editable.
 #![tactic(auto)]
 
 mod book;
@@ -22,5 +22,5 @@ pub use book::{Book, Record};
 pub use fault::FootFault;
 pub use key::Key;
 pub use reading::read_book;
-pub use repeats::{has_among, is_repeated, seen_of};
+pub use repeats::{contains_by_scan, empty_seen_set, is_repeated};
 pub use setting::Setting;

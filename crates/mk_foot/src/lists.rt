@@ -1,13 +1,13 @@
-//! Shared lists, by the tokens of a file of footprints, in the order of their names.
+//! Reads the shared lists of a footprint file from JSON tokens.
 
 ghost use Rattle.std.specs.Prelude.{IfOk};
 ghost use Rattle.serde_json.specs.Data.{Data, Members, put};
 ghost use Rattle.mk_json.specs.Kinds.{pairs};
 ghost use Rattle.mk_json.specs.Tokens.{Reads, ReadsMembers};
 ghost use Rattle.mk_foot.specs.declared.key.Key.TheVariants as keys;
-ghost use Rattle.mk_foot.specs.Footprints.{list_in};
-ghost use Rattle.mk_foot.specs.Kinds.{texts_of};
-ghost use Rattle.mk_foot.specs.PartsRead.{AreLists, GivesTexts, lists_from};
+ghost use Rattle.mk_foot.specs.FootprintFile.{list_in};
+ghost use Rattle.mk_foot.specs.Fields.{texts_of};
+ghost use Rattle.mk_foot.specs.ReaderParts.{AreLists, GivesTexts, lists_from};
 ghost use Rattle.mk_foot.specs.Steps.{Gives, each};
 
 use crate::fault::FootFault;
@@ -16,18 +16,18 @@ use crate::key::Key;
 use crate::parts::SharedList;
 use json::{Invalid, Reader};
 use mk_json::enter_object;
-use mk_json::laws::{members_in_turn, values_take_tokens};
+use mk_json::laws::{members_are_read_in_order, values_take_tokens};
 use std::alloc::{AllocError, Global};
 use std::collections::BTreeMap;
 
-/// What the members of an object of shared lists give so far: of each name its last list, or the
-/// fault of what is no list of texts.
+/// The lists that were read so far: for each name its last list, or a fault if that is no list of
+/// texts.
 type Lists = BTreeMap<String, Texts>;
 
-/// Shared lists, or their fault.
+/// The shared lists in the order of their names, or a fault.
 pub type SharedLists = Result<Vec<SharedList>, FootFault>;
 
-/// Shared lists with the list of a name, which counts in place of an earlier one.
+/// Sets the list of a name, in place of an earlier one.
 fn with_list(
     alloc: Global,
     lists: Result<Lists, AllocError>,
@@ -45,7 +45,7 @@ fn with_list(
     Ok(lists)
 }
 
-/// Reads the members of an object of shared lists that was entered.
+/// Reads the members of an object of shared lists whose brace was read.
 fn read_members(
     alloc: Global,
     reader: &mut Reader<'_>,
@@ -54,7 +54,7 @@ fn read_members(
     ensures { ReadsMembers (λ lists members. IfOk lists (λ lists. AreLists lists.entries members))
         depth reader.old result reader.new }
 {
-    members_in_turn();
+    members_are_read_in_order();
     values_take_tokens();
     let mut lists: Result<Lists, AllocError> = Ok(BTreeMap::new(alloc));
     'members: while let Some(name) = reader.next_key()? {
@@ -64,7 +64,7 @@ fn read_members(
     Ok(lists)
 }
 
-/// The shared lists, or the first fault in the order of their names.
+/// Returns the shared lists in the order of their names, or the first fault in this order.
 fn lists_of(alloc: Global, found: Lists) -> SharedLists
     ensures { (members : Members) → AreLists found.entries members →
         Gives (λ lists. lists.items) result (each list_in (pairs members)) }
@@ -77,7 +77,7 @@ fn lists_of(alloc: Global, found: Lists) -> SharedLists
     Ok(lists)
 }
 
-/// The same, unless memory ran out before.
+/// Calls `lists_of` unless memory has run out before.
 fn all_lists_of(alloc: Global, found: Result<Lists, AllocError>) -> SharedLists
     ensures { (members : Members) → IfOk found (λ lists. AreLists lists.entries members) →
         Gives (λ lists. lists.items) result (each list_in (pairs members)) }
@@ -86,7 +86,7 @@ fn all_lists_of(alloc: Global, found: Result<Lists, AllocError>) -> SharedLists
     lists_of(alloc, found)
 }
 
-/// Reads the shared lists.
+/// Reads the shared lists. A value that is no object of lists of texts is `Shape` (52).
 pub fn read_lists(
     alloc: Global,
     reader: &mut Reader<'_>,

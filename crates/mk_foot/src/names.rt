@@ -1,14 +1,14 @@
-//! Copies of names, and lists of them without repeats.
+//! Copies of names, and lists of names without repeats.
 
 ghost use Rattle.std.specs.Prelude.{◌≡◌, true, map, IfOk};
 ghost use Rattle.std.specs.String.{string_bytes};
 ghost use Rattle.mk_foot.specs.Names.{once};
 
-use crate::repeats::{is_repeated, seen_of};
-use mk_lines::NameSet;
+use crate::repeats::{empty_seen_set, is_repeated};
+use mk_lines::BorrowedNames;
 use std::alloc::{AllocError, Global};
 
-/// Copies of texts.
+/// Copies texts into strings of their own. The only error is out of memory.
 pub fn copied(alloc: Global, texts: &[&str]) -> Result<Vec<String>, AllocError>
     ensures { IfOk result (λ copies. map string_bytes copies.items ≡
         map (λ text. text.now) texts.now) }
@@ -20,7 +20,7 @@ pub fn copied(alloc: Global, texts: &[&str]) -> Result<Vec<String>, AllocError>
     Ok(copies)
 }
 
-/// Clones of names.
+/// Clones names. The only error is out of memory.
 pub fn clones_of(alloc: Global, names: &[String]) -> Result<Vec<String>, AllocError>
     ensures { IfOk result (λ clones. map string_bytes clones.items ≡ map string_bytes names.now) }
 {
@@ -31,15 +31,15 @@ pub fn clones_of(alloc: Global, names: &[String]) -> Result<Vec<String>, AllocEr
     Ok(clones)
 }
 
-/// Whether no name comes twice.
-pub fn are_apart(alloc: Global, names: &[String]) -> Result<bool, AllocError>
+/// Whether no name occurs twice. The only error is out of memory.
+pub fn are_distinct(alloc: Global, names: &[String]) -> Result<bool, AllocError>
     ensures { IfOk result (λ apart. apart ≡ true →
         once (map string_bytes names.now) ≡ map string_bytes names.now) }
 {
     if names.len() < 2 {
         return Ok(true);
     }
-    let mut seen = seen_of(alloc, names.len())?;
+    let mut seen = empty_seen_set(alloc, names.len())?;
     for place in 0..names.len() {
         if is_repeated(names, place, &mut seen)? {
             return Ok(false);
@@ -48,21 +48,22 @@ pub fn are_apart(alloc: Global, names: &[String]) -> Result<bool, AllocError>
     Ok(true)
 }
 
-/// Each name once, where it first stands. Names without repeats are given back as they are.
+/// Returns each name once, at its first place. A list without repeats is returned as it is. The
+/// only error is out of memory.
 pub fn once(alloc: Global, names: Vec<String>) -> Result<Vec<String>, AllocError>
     ensures { IfOk result (λ kept. map string_bytes kept.items ≡
         once (map string_bytes names.items)) }
 {
-    if are_apart(alloc, &names)? {
+    if are_distinct(alloc, &names)? {
         return Ok(names);
     }
-    let mut set = NameSet::with_capacity(alloc, names.len())?;
+    let mut set = BorrowedNames::with_capacity(alloc, names.len())?;
     set.insert_all(&names)?;
     copied(alloc, set.as_slice())
 }
 
-/// Each name once, where it first stands. Names that are known to be apart are given back as they
-/// are.
+/// Returns each name once, at its first place. If `apart` is true, the list has no repeats and is
+/// returned as it is. The only error is out of memory.
 pub fn kept(alloc: Global, apart: bool, names: Vec<String>) -> Result<Vec<String>, AllocError>
     requires { apart ≡ true →
         once (map string_bytes names.items) ≡ map string_bytes names.items }

@@ -1,30 +1,30 @@
-//! The parts of a file of footprints, as they stand in it. They own their texts.
+//! The parts of a footprint file as they stand in it. They own their texts.
 
 use std::marker::Model;
 
-/// A record as it stands in a file. A contract sees lists of bytes.
+/// A record as it stands in the file. A contract sees lists of bytes.
 #[derive(Drop)]
-pub struct Entry {
+pub struct RawRecord {
     pub target: String,
     pub commands: Vec<String>,
     pub reads: Vec<String>,
     pub writes: Vec<String>,
-    /// The names of shared lists, whose files are read too. None in format 1.
+    /// The names of the shared lists that the recipe reads too. Format 1 has none.
     pub shared: Vec<String>,
-    /// Where this is true, the target, the reads and the writes are plain paths.
+    /// If true, the target, the reads and the writes are known to be plain paths.
     pub plain: bool,
-    /// Where this is true, no name comes twice among the reads, and none among the writes.
+    /// If true, the reads are known to have no repeats, and the writes too.
     pub apart: bool,
 }
 
-impl Model for Entry {
+impl Model for RawRecord {
     ghost use Rattle.std.specs.Prelude.{◌≡◌, true, map, Ok};
     ghost use Rattle.std.specs.String.{string_bytes};
     ghost use Rattle.mk_foot.specs.Checks.{entry_is_plain};
     ghost use Rattle.mk_foot.specs.Names.{once};
     ghost use Rattle.mk_foot.specs.Parts as value;
 
-    ghost Value = { value.Entry };
+    ghost Value = { value.RawRecord };
 
     ghost view = { λ e.
         record {
@@ -48,12 +48,12 @@ impl Model for Entry {
         (once (map string_bytes e.writes.items) ≡ map string_bytes e.writes.items)) };
 }
 
-/// Records, and the goals that they were made for. A contract sees lists of bytes.
+/// Records for some goals. A contract sees lists of bytes.
 #[derive(Drop)]
 pub struct Group {
-    /// None in format 1, whose records serve any goals.
+    /// The goals. In format 1 it is `None`: the records serve any goals.
     pub goals: Option<Vec<String>>,
-    pub records: Vec<Entry>,
+    pub records: Vec<RawRecord>,
 }
 
 impl Model for Group {
@@ -71,7 +71,7 @@ impl Model for Group {
         } };
 }
 
-/// A list that records share. A contract sees lists of bytes.
+/// A list of files that records share. A contract sees lists of bytes.
 #[derive(Drop)]
 pub struct SharedList {
     pub name: String,
@@ -92,23 +92,23 @@ impl Model for SharedList {
         } };
 }
 
-/// A file of footprints by its parts. A contract sees lists of bytes.
+/// A whole footprint file. A contract sees lists of bytes.
 #[derive(Drop)]
-pub struct Footprints {
+pub struct FootprintFile {
     pub fixed: Vec<String>,
     pub sources: Vec<String>,
-    /// None in format 1.
+    /// Format 1 has none.
     pub lists: Vec<SharedList>,
-    /// One in format 1.
+    /// Format 1 has one.
     pub groups: Vec<Group>,
 }
 
-impl Model for Footprints {
+impl Model for FootprintFile {
     ghost use Rattle.std.specs.Prelude.{map};
     ghost use Rattle.std.specs.String.{string_bytes};
     ghost use Rattle.mk_foot.specs.Parts as value;
 
-    ghost Value = { value.Footprints };
+    ghost Value = { value.FootprintFile };
 
     ghost view = { λ f.
         record {

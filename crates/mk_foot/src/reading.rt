@@ -1,26 +1,26 @@
-//! The book of a file of footprints.
+//! Reads the book of a footprint file.
 
 ghost use Rattle.std.specs.Prelude.{◌≡◌, true, ◌++◌, map, IfOk, OnOk, fold};
 ghost use Rattle.std.specs.List.{flat_map};
 ghost use Rattle.std.specs.String.{string_bytes};
 ghost use Rattle.mk_foot.specs.Names.{with_name, once as all_once};
-ghost use Rattle.mk_foot.specs.PartsRead.{footprints_from, book_of_file};
+ghost use Rattle.mk_foot.specs.ReaderParts.{footprints_from, book_of_file};
 ghost use Rattle.mk_foot.specs.Steps.{Gives};
 ghost use Rattle.mk_foot.specs.Reading.{listed, record_of, book_from};
 
 use crate::book::{Book, Record};
-use crate::checks::{group_for, test_all};
+use crate::checks::{check_all, group_for};
 use crate::fault::FootFault;
 use crate::names::{copied, kept, once};
-use crate::parts::{Entry, Footprints, SharedList};
+use crate::parts::{FootprintFile, RawRecord, SharedList};
 use crate::shapes::read_footprints;
 use json::{Reader, Scratch};
 use mk_json::laws::whole_text;
-use mk_json::{MAX_DEPTH, text_in};
-use mk_lines::{Name, NameSet, NameTable};
+use mk_json::{MAX_DEPTH, text_from_utf8};
+use mk_lines::{BorrowedNames, Name, NameTable};
 use std::alloc::{AllocError, Global};
 
-/// The names of the shared lists.
+/// Returns a table of the names of the shared lists.
 fn list_names(alloc: Global, lists: &[SharedList]) -> Result<NameTable, AllocError>
     ensures { IfOk result (λ names. names ≡ map (λ list. list.name) lists.now) }
 {
@@ -31,9 +31,9 @@ fn list_names(alloc: Global, lists: &[SharedList]) -> Result<NameTable, AllocErr
     NameTable::new(alloc, names)
 }
 
-/// Adds the names of a shared list.
+/// Adds the names of the shared list with this name.
 fn insert_list<'a>(
-    set: &mut NameSet<'a>,
+    set: &mut BorrowedNames<'a>,
     names: &NameTable,
     lists: &'a [SharedList],
     name: &str,
@@ -50,9 +50,9 @@ fn insert_list<'a>(
     }
 }
 
-/// Adds the names of the shared lists of these names.
+/// Adds the names of the shared lists with these names.
 fn insert_listed<'a>(
-    set: &mut NameSet<'a>,
+    set: &mut BorrowedNames<'a>,
     names: &NameTable,
     lists: &'a [SharedList],
     shared: &[String],
@@ -67,7 +67,7 @@ fn insert_listed<'a>(
     Ok(())
 }
 
-/// The files that a record reads: its own, then those of the shared lists that it names.
+/// Returns the files that a record reads, each once: its own, then those of its shared lists.
 fn reads_of(
     alloc: Global,
     names: &NameTable,
@@ -86,23 +86,23 @@ fn reads_of(
     if shared.is_empty() {
         return kept(alloc, apart, own);
     }
-    let mut set = NameSet::with_capacity(alloc, own.len())?;
+    let mut set = BorrowedNames::with_capacity(alloc, own.len())?;
     set.insert_all(&own)?;
     insert_listed(&mut set, names, lists, shared)?;
     copied(alloc, set.as_slice())
 }
 
-/// A record of the book.
+/// Converts a record of the file to one of the book.
 fn record_of(
     alloc: Global,
     names: &NameTable,
     lists: &[SharedList],
-    entry: Entry,
+    entry: RawRecord,
 ) -> Result<Record, AllocError>
     requires { names.now ≡ map (λ list. list.name) lists.now }
     ensures { IfOk result (λ made. made ≡ record_of lists.now entry) }
 {
-    let Entry {
+    let RawRecord {
         target,
         commands,
         reads,
@@ -119,12 +119,12 @@ fn record_of(
     })
 }
 
-/// The records of the book.
+/// Converts the records of a group to those of the book.
 fn records_of(
     alloc: Global,
     names: &NameTable,
     lists: &[SharedList],
-    entries: Vec<Entry>,
+    entries: Vec<RawRecord>,
 ) -> Result<Vec<Record>, AllocError>
     requires { names.now ≡ map (λ list. list.name) lists.now }
     ensures { IfOk result (λ records. records.items ≡ map (record_of lists.now) entries.items) }
@@ -136,13 +136,13 @@ fn records_of(
     Ok(records)
 }
 
-/// The book of a file of footprints by its parts.
-fn book_of(alloc: Global, file: Footprints, goals: &[Name]) -> Result<Book, FootFault>
+/// Checks a footprint file and returns its book for the goals.
+fn book_of(alloc: Global, file: FootprintFile, goals: &[Name]) -> Result<Book, FootFault>
     ensures { Gives (λ book. book) result (book_of_file goals.now file) }
 {
     let names = list_names(alloc, &file.lists)?;
-    test_all(alloc, &file, &names)?;
-    let Footprints {
+    check_all(alloc, &file, &names)?;
+    let FootprintFile {
         fixed,
         sources,
         lists,
@@ -156,13 +156,13 @@ fn book_of(alloc: Global, file: Footprints, goals: &[Name]) -> Result<Book, Foot
     })
 }
 
-/// The parts of a file of footprints.
-#[tactic(auto, unfolding(crate::specs::PartsRead::footprints_from))]
-fn read_file(alloc: Global, bytes: &[u8]) -> Result<Footprints, FootFault>
+/// Reads a footprint file into its parts.
+#[tactic(auto, unfolding(crate::specs::ReaderParts::footprints_from))]
+fn read_file(alloc: Global, bytes: &[u8]) -> Result<FootprintFile, FootFault>
     ensures { Gives (λ file. file) result (footprints_from bytes.now) }
 {
     whole_text();
-    let Some(text) = text_in(bytes) else {
+    let Some(text) = text_from_utf8(bytes) else {
         return Err(FootFault::NotJson);
     };
     let mut scratch = Scratch::new(alloc);
@@ -178,21 +178,28 @@ fn read_file(alloc: Global, bytes: &[u8]) -> Result<Footprints, FootFault>
     file
 }
 
-/// The book of a file of footprints, for the goals of a build, or the first fault.
+/// Reads a footprint file and returns its book for the goals of a build, or the first fault. On an
+/// error nothing is returned.
 ///
-/// A file of format 1 is a JSON object with exactly `format` (1), `fixed`, `sources` and `records`.
-/// One of format 2 has `lists` and `groups` in place of `records`; its book has the records of the
-/// first group whose goals equal those handed in, and a record reads its own files, then those of
-/// the shared lists that it names. Lists keep their order. Repeats are dropped in `fixed`,
-/// `sources`, reads and writes, where a name first stands, and kept in commands.
+/// A file of format 1 is a JSON object with exactly the keys `format` (1), `fixed`, `sources` and
+/// `records`. In format 2 (`format` is 2) `lists` and `groups` replace `records`. The
+/// book then has the records of the first group whose goals equal `goals`, and a record reads its
+/// own files and then those of the shared lists that it names. All lists keep their order. Repeats
+/// are dropped in `fixed`, `sources`, reads and writes, and kept in commands. If a key occurs
+/// twice, its last value counts.
 ///
-/// The faults are tested in this order: 51 the value; 52 and 53 the format, then the keys of the
-/// object in the order of the format's description, then any other key, then record by record or
-/// group by group the same; 55 names, in the order fixed, sources, shared lists by the bytes of
-/// their names, then group by group goals, and record by record target, reads and writes; 54; 56;
-/// 58; 57. A key that comes twice has its last value.
+/// The checks come in this order:
 ///
-/// It is read a token at a time, so memory stays near that of the book and its bytes.
+/// 1. `NotJson` (51);
+/// 2. `Shape` (52) and `OtherFormat` (53): the format, the keys of the object in the order of the
+/// format's description, any other key, and then the same for each record, or for each group and
+/// its records;
+/// 3. `BadName` (55): `fixed`, `sources`, the shared lists by the bytes of their names, and then
+/// for each group its goals and the target, reads and writes of each record;
+/// 4. `TwoRecords` (54), `SourceIsFixed` (56), `NoList` (58), `NoGroup` (57).
+///
+/// `Memory` may come at any time. The file is read token by token, so memory use stays near the
+/// size of the bytes and the book.
 #[tactic(auto, unfolding(crate::specs::Reading::book_from))]
 pub fn read_book(alloc: Global, bytes: &[u8], goals: &[Name]) -> Result<Book, FootFault>
     ensures { Gives (λ book. book) result (book_from goals.now bytes.now) }

@@ -1,4 +1,4 @@
-//! Records, by the tokens of a file of footprints: of each only its parts are kept.
+//! Reads the records of a footprint file from JSON tokens.
 
 ghost use Rattle.std.specs.Prelude.{◌≡◌, ◌&&◌, true, map, is_some, ok_or, IfOk};
 ghost use Rattle.std.specs.List.{list_all};
@@ -11,10 +11,10 @@ ghost use Rattle.mk_json.specs.Tokens.{Reads, ReadsItems, ReadsMembers};
 ghost use Rattle.mk_foot.specs.declared.fault.FootFault.TheVariants.{Shape};
 ghost use Rattle.mk_foot.specs.declared.format.Format.{Format};
 ghost use Rattle.mk_foot.specs.declared.key.Key.TheVariants as keys;
-ghost use Rattle.mk_foot.specs.Footprints.{entry_in, shared_in};
+ghost use Rattle.mk_foot.specs.FootprintFile.{entry_in, shared_in};
 ghost use Rattle.mk_foot.specs.Keys.{spelling};
 ghost use Rattle.mk_foot.specs.Names.{once};
-ghost use Rattle.mk_foot.specs.PartsRead.{GivesTexts, IsOfEntry, AreEach};
+ghost use Rattle.mk_foot.specs.ReaderParts.{GivesTexts, IsOfEntry, AreEach};
 ghost use Rattle.mk_foot.specs.Steps.{Gives, each};
 
 use crate::checks::are_paths;
@@ -22,16 +22,18 @@ use crate::fault::FootFault;
 use crate::fields::{Texts, read_text, read_texts, with_next};
 use crate::format::Format;
 use crate::key::Key;
-use crate::names::are_apart;
-use crate::parts::Entry;
+use crate::names::are_distinct;
+use crate::parts::RawRecord;
 use json::{Invalid, Reader};
-use mk_json::laws::{items_in_turn, last_value_counts, members_in_turn, values_take_tokens};
+use mk_json::laws::{
+    items_are_read_in_order, last_value_counts, members_are_read_in_order, values_take_tokens,
+};
 use mk_json::{enter_array, enter_object, skip_value};
 use mk_lines::is_plain_text_path;
 use std::alloc::{AllocError, Global};
 
-/// What the members of a record give so far: of each key its last value, or its fault, and whether
-/// there are no other keys.
+/// What the members of a record that were read so far give: for each key its last value or a fault,
+/// and whether there is no other key.
 #[derive(Drop)]
 struct EntryParts {
     target: Result<String, FootFault>,
@@ -42,8 +44,8 @@ struct EntryParts {
     alone: bool,
 }
 
-/// What no members give of shared lists. A record of format 1 names none.
-#[tactic(auto, unfolding(crate::specs::Footprints::shared_in, crate::specs::Kinds::texts_at))]
+/// The shared lists of a record without members: none in format 1, a missing key in format 2.
+#[tactic(auto, unfolding(crate::specs::FootprintFile::shared_in, crate::specs::Fields::texts_at))]
 fn no_shared(alloc: Global, format: Format) -> Texts
     ensures { GivesTexts result (shared_in format (object no_members)) }
 {
@@ -53,7 +55,7 @@ fn no_shared(alloc: Global, format: Format) -> Texts
     }
 }
 
-/// What no members give.
+/// The parts of a record without members.
 fn no_entry_parts(alloc: Global, format: Format) -> EntryParts
     ensures { IsOfEntry format result (object no_members) }
 {
@@ -68,7 +70,7 @@ fn no_entry_parts(alloc: Global, format: Format) -> EntryParts
     }
 }
 
-/// Reads the shared lists that a record names. In format 1 it has no such key.
+/// Reads the value under `shared`, which is an unknown key in format 1.
 fn read_shared(
     alloc: Global,
     format: Format,
@@ -95,7 +97,7 @@ fn read_shared(
     }
 }
 
-/// Reads the value of a key of a record.
+/// Reads the value under a key of a record.
 fn read_entry_part(
     alloc: Global,
     format: Format,
@@ -136,7 +138,7 @@ fn read_entry_part(
     }
 }
 
-/// Reads the members of a record that was entered, over what no members give.
+/// Reads the members of a record whose brace was read, into the parts of a record without members.
 fn read_members(
     alloc: Global,
     format: Format,
@@ -148,7 +150,7 @@ fn read_members(
     ensures { ReadsMembers (λ _ members. IsOfEntry format parts.new (object members))
         depth reader.old result reader.new }
 {
-    members_in_turn();
+    members_are_read_in_order();
     values_take_tokens();
     'members: while let Some(key) = reader.next_key()? {
         read_entry_part(alloc, format, key, parts, reader, depth)?;
@@ -156,7 +158,7 @@ fn read_members(
     Ok(())
 }
 
-/// Reads the members of a record that was entered.
+/// Reads the members of a record whose brace was read.
 fn read_entry_parts(
     alloc: Global,
     format: Format,
@@ -171,7 +173,7 @@ fn read_entry_parts(
     Ok(parts)
 }
 
-/// Whether the target of a record, its reads and its writes are plain paths.
+/// Whether the target, the reads and the writes of a record are plain paths.
 fn are_plain(target: &str, reads: &[String], writes: &[String]) -> bool
     ensures { result ≡ (is_plain target.now && list_all is_plain (map string_bytes reads.now) &&
         list_all is_plain (map string_bytes writes.now)) }
@@ -179,21 +181,21 @@ fn are_plain(target: &str, reads: &[String], writes: &[String]) -> bool
     is_plain_text_path(target) && are_paths(reads) && are_paths(writes)
 }
 
-/// Whether no name comes twice among the reads of a record, and none among its writes.
+/// Whether the reads have no repeats, and the writes have none.
 fn are_both_apart(alloc: Global, reads: &[String], writes: &[String]) -> Result<bool, AllocError>
     ensures { IfOk result (λ apart. apart ≡ true →
         (once (map string_bytes reads.now) ≡ map string_bytes reads.now) ×
         (once (map string_bytes writes.now) ≡ map string_bytes writes.now)) }
 {
-    if !are_apart(alloc, reads)? {
+    if !are_distinct(alloc, reads)? {
         return Ok(false);
     }
-    are_apart(alloc, writes)
+    are_distinct(alloc, writes)
 }
 
-/// The record that its parts give: its keys in order, then any other key.
-#[tactic(auto, unfolding(crate::specs::Footprints::entry_in))]
-fn entry_of(alloc: Global, parts: EntryParts) -> Result<Entry, FootFault>
+/// Returns the record that these parts give. A fault in a known key comes before another key.
+#[tactic(auto, unfolding(crate::specs::FootprintFile::entry_in))]
+fn entry_of(alloc: Global, parts: EntryParts) -> Result<RawRecord, FootFault>
     ensures { (format : Format) (whole : Data) → is_some (as_object whole) ≡ true →
         IsOfEntry format parts whole → Gives (λ entry. entry) result (entry_in format whole) }
 {
@@ -215,7 +217,7 @@ fn entry_of(alloc: Global, parts: EntryParts) -> Result<Entry, FootFault>
     }
     let plain = are_plain(&target, &reads, &writes);
     let apart = are_both_apart(alloc, &reads, &writes)?;
-    Ok(Entry {
+    Ok(RawRecord {
         target,
         commands,
         reads,
@@ -226,13 +228,13 @@ fn entry_of(alloc: Global, parts: EntryParts) -> Result<Entry, FootFault>
     })
 }
 
-/// Reads a record.
+/// Reads a record. A value that is no object is `Shape` (52).
 fn read_entry(
     alloc: Global,
     format: Format,
     reader: &mut Reader<'_>,
     depth: usize,
-) -> Result<Result<Entry, FootFault>, Invalid>
+) -> Result<Result<RawRecord, FootFault>, Invalid>
     ensures { Reads (λ entry value. Gives (λ entry. entry) entry (entry_in format value))
         depth reader.old result reader.new }
 {
@@ -243,20 +245,20 @@ fn read_entry(
     Ok(entry_of(alloc, parts))
 }
 
-/// Reads the records of a list that was entered.
+/// Reads the records of an array whose bracket was read.
 fn read_list(
     alloc: Global,
     format: Format,
     reader: &mut Reader<'_>,
     depth: usize,
-) -> Result<Result<Vec<Entry>, FootFault>, Invalid>
+) -> Result<Result<Vec<RawRecord>, FootFault>, Invalid>
     ensures { ReadsItems
         (λ entries values. Gives (λ all. all.items) entries (each (entry_in format) values))
         depth reader.old result reader.new }
 {
-    items_in_turn();
+    items_are_read_in_order();
     values_take_tokens();
-    let mut entries: Result<Vec<Entry>, FootFault> = Ok(Vec::new(alloc));
+    let mut entries: Result<Vec<RawRecord>, FootFault> = Ok(Vec::new(alloc));
     'items: while !reader.take_end_array() {
         let entry = read_entry(alloc, format, reader, depth)?;
         entries = with_next(entries, entry);
@@ -264,8 +266,8 @@ fn read_list(
     Ok(entries)
 }
 
-/// What a list of records gives, or the fault of what is no list.
-pub type Entries = Result<Result<Vec<Entry>, FootFault>, FootFault>;
+/// The records, or the first fault in them. The outer fault says that the value is no array.
+pub type RecordsResult = Result<Result<Vec<RawRecord>, FootFault>, FootFault>;
 
 /// Reads a list of records.
 pub fn read_entries(
@@ -273,7 +275,7 @@ pub fn read_entries(
     format: Format,
     reader: &mut Reader<'_>,
     depth: usize,
-) -> Result<Entries, Invalid>
+) -> Result<RecordsResult, Invalid>
     ensures { Reads (λ entries value. AreEach (entry_in format) entries
         (ok_or (elements_of value) (Shape keys.Records)))
         depth reader.old result reader.new }

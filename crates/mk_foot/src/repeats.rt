@@ -1,18 +1,18 @@
-//! Names that a list repeats.
+//! Finds repeated names in a list.
 
 ghost use Rattle.std.specs.Prelude.{◌≡◌, ◌<◌, ◌+◌, [], length, map, take, slice_index_or, IfOk, OnOk};
 ghost use Rattle.std.specs.String.{string_bytes};
 ghost use Rattle.mk_lines.specs.Names.{has_name, once};
 
 use crate::laws::once_keeps_first;
-use mk_lines::NameSet;
+use mk_lines::BorrowedNames;
 use std::alloc::{AllocError, Global};
 
-/// Of so many names no set is made: to compare them costs less than to look them up.
+/// Up to this many names are compared with each other, which costs less than a set.
 const FEW: usize = 4;
 
-/// Whether a name stands among these. It goes through them, so it is for few.
-pub fn has_among(names: &[String], name: &str) -> bool
+/// Whether a name is among others. It compares them one by one, so it is for short lists.
+pub fn contains_by_scan(names: &[String], name: &str) -> bool
     ensures { result ≡ has_name (map string_bytes names.now) name.now }
 {
     for other in names {
@@ -23,23 +23,24 @@ pub fn has_among(names: &[String], name: &str) -> bool
     false
 }
 
-/// An empty set for `is_repeated`, with the room that it needs of a list of so many names. The
-/// error is want of memory alone.
-pub fn seen_of<'s>(alloc: Global, count: usize) -> Result<NameSet<'s>, AllocError>
+/// Returns an empty set for `is_repeated`, with capacity for a list of `count` names. The only
+/// error is out of memory.
+pub fn empty_seen_set<'s>(alloc: Global, count: usize) -> Result<BorrowedNames<'s>, AllocError>
     ensures { IfOk result (λ seen. seen ≡ []) }
 {
     if count <= FEW {
-        return Ok(NameSet::new(alloc));
+        return Ok(BorrowedNames::new(alloc));
     }
-    NameSet::with_capacity(alloc, count)
+    BorrowedNames::with_capacity(alloc, count)
 }
 
-/// Whether the name at a place of a list stands before it too. `seen` is for this list alone, whose
-/// places are asked for one after another. The error is want of memory alone.
+/// Whether the name at a place of a list also occurs before that place. `seen` must come from
+/// `empty_seen_set`, and all earlier places of the same list must have been passed with it, in
+/// order. The only error is out of memory.
 pub fn is_repeated<'s>(
     names: &'s [String],
     place: usize,
-    seen: &mut NameSet<'s>,
+    seen: &mut BorrowedNames<'s>,
 ) -> Result<bool, AllocError>
     requires place { place < length names.now }
     requires seen { 4 < length names.now →
@@ -53,7 +54,7 @@ pub fn is_repeated<'s>(
     once_keeps_first();
     let name = names[place].as_str();
     if names.len() <= FEW {
-        return Ok(has_among(&names[..place], name));
+        return Ok(contains_by_scan(&names[..place], name));
     }
     Ok(!seen.insert(name)?)
 }

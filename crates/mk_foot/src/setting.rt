@@ -1,4 +1,4 @@
-//! What a build starts from.
+//! The files that a build starts from.
 
 ghost use Rattle.std.specs.Prelude.{◌≡◌, ℕ, List, map, IfOk};
 ghost use Rattle.std.specs.Option.{option_copied};
@@ -13,9 +13,9 @@ use mk_lines::{NamePlaces, NameTable, Prefixes};
 use std::alloc::{AllocError, Global};
 use std::marker::Model;
 
-/// What a build starts from: a book, the makefile's texts, and the names that its reading passed
-/// over because they are missing. A contract sees lists of records and of names, from which
-/// `specs.Setting` gives what the recipe of a name reads and writes.
+/// What a build starts from: a book, the makefile texts (the makefile and what it includes), and
+/// the missing names that reading the makefile passed over. A contract sees lists of records and
+/// names; `specs.Setting` defines what a recipe reads and writes by them.
 #[derive(Drop)]
 pub struct Setting {
     fixed: Prefixes,
@@ -47,7 +47,7 @@ impl Model for Setting {
         place_in s.targets name ≡ place_from 0 (map (λ r. r.target) s.records.items) name };
 }
 
-/// The places of the targets of records.
+/// Maps each target to the place of its first record.
 fn targets_of(alloc: Global, records: &[Record]) -> Result<NamePlaces, AllocError>
     ensures { IfOk result (λ targets. (name : List ℕ) →
         place_in targets name ≡ place_from 0 (map (λ r. r.target) records.now) name) }
@@ -59,14 +59,13 @@ fn targets_of(alloc: Global, records: &[Record]) -> Result<NamePlaces, AllocErro
     Ok(targets)
 }
 
-/// A table of copies of names.
 fn copies_of(alloc: Global, names: &[String]) -> Result<NameTable, AllocError>
     ensures { IfOk result (λ table. table ≡ map string_bytes names.now) }
 {
     NameTable::new(alloc, clones_of(alloc, names)?)
 }
 
-/// Tables of the makefile's texts, and of the names that its reading passed over.
+/// Copies both lists into tables.
 fn tables_of(
     alloc: Global,
     texts: &[String],
@@ -80,7 +79,7 @@ fn tables_of(
     Ok((texts, passed_over))
 }
 
-/// Tables of fixed prefixes and of sources.
+/// Makes tables of the fixed prefixes and the sources.
 fn places_of(
     alloc: Global,
     fixed: Vec<String>,
@@ -94,8 +93,7 @@ fn places_of(
     Ok((fixed, sources))
 }
 
-/// The setting of a book, and of tables of the makefile's texts and of the names that its reading
-/// passed over.
+/// Makes a setting of a book and the tables of `tables_of`.
 fn of_tables(
     alloc: Global,
     book: Book,
@@ -129,8 +127,9 @@ fn of_tables(
 }
 
 impl Setting {
-    /// The setting of a book, the names of the makefile's texts, and the names that its reading
-    /// passed over, which are copied. It fails for want of memory alone.
+    /// Makes the setting of a book, of the names of the makefile texts, and of the names that
+    /// reading the makefile passed over. Both lists of names are copied. The only error is out of
+    /// memory.
     pub fn new(
         alloc: Global,
         book: Book,
@@ -150,23 +149,23 @@ impl Setting {
         of_tables(alloc, book, tables)
     }
 
-    /// Whether a file is given: a source, one under a fixed prefix, or a text of the makefile. It
-    /// takes no memory.
+    /// Whether a file is given: a source, a file under a fixed prefix, or a makefile text. It
+    /// allocates nothing.
     pub fn is_given(&self, name: &str) -> bool
         ensures { result ≡ is_given self.now name.now }
     {
-        self.sources.contains(name) || self.fixed.is_under(name) || self.texts.contains(name)
+        self.sources.contains(name) || self.fixed.begins_with_any(name) || self.texts.contains(name)
     }
 
-    /// Whether a file may be edited between makes: a source that is no text of the makefile. It
-    /// takes no memory.
+    /// Whether a file may be edited between makes: a source that is no makefile text. It allocates
+    /// nothing.
     pub fn is_editable(&self, name: &str) -> bool
         ensures { result ≡ is_editable self.now name.now }
     {
         self.sources.contains(name) && !self.texts.contains(name)
     }
 
-    /// The first record of a target. It takes no memory.
+    /// Returns the first record of a target. It allocates nothing.
     pub fn record_of(&self, name: &str) -> Option<&Record>
         ensures { option_copied result ≡ record_for self.now.records name.now }
     {
@@ -176,28 +175,28 @@ impl Setting {
         }
     }
 
-    /// The table of the sources, in the order of the book.
+    /// Returns the sources, in the order of the book.
     pub fn sources(&self) -> &NameTable
         ensures { result.now ≡ self.now.sources }
     {
         &self.sources
     }
 
-    /// The table of the fixed prefixes.
+    /// Returns the fixed prefixes.
     pub fn fixed(&self) -> &Prefixes
         ensures { result.now ≡ self.now.fixed }
     {
         &self.fixed
     }
 
-    /// The table of the makefile's texts.
+    /// Returns the names of the makefile texts.
     pub fn texts(&self) -> &NameTable
         ensures { result.now ≡ self.now.texts }
     {
         &self.texts
     }
 
-    /// Whether the reading of the makefile passed over a name. It takes no memory.
+    /// Whether reading the makefile passed over this name. It allocates nothing.
     pub fn is_passed_over(&self, name: &str) -> bool
         ensures { result ≡ has_name self.now.passed_over name.now }
     {

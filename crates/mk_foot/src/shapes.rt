@@ -1,4 +1,4 @@
-//! A file of footprints, by its tokens: of the whole only its parts are kept.
+//! Reads the shape of a footprint file from JSON tokens.
 
 ghost use Rattle.std.specs.Prelude.{◌≡◌, true, is_some, map};
 ghost use Rattle.serde_json.specs.Data.{Data, object, Members, no_members, put};
@@ -7,10 +7,10 @@ ghost use Rattle.mk_json.specs.Kinds.{has_only};
 ghost use Rattle.mk_json.specs.Tokens.{Reads, ReadsMembers};
 ghost use Rattle.mk_foot.specs.declared.format.Format.TheVariants.{One};
 ghost use Rattle.mk_foot.specs.declared.key.Key.TheVariants as keys;
-ghost use Rattle.mk_foot.specs.Footprints.{entry_in, group_in, lists_in, first_format, second_format, footprints_in};
+ghost use Rattle.mk_foot.specs.FootprintFile.{entry_in, group_in, lists_in, first_format, second_format, footprints_in};
 ghost use Rattle.mk_foot.specs.Keys.{spelling};
-ghost use Rattle.mk_foot.specs.Kinds.{texts_at, elements_at};
-ghost use Rattle.mk_foot.specs.PartsRead.{GivesTexts, AreEach, IsOf, first_keys, second_keys};
+ghost use Rattle.mk_foot.specs.Fields.{texts_at, elements_at};
+ghost use Rattle.mk_foot.specs.ReaderParts.{GivesTexts, AreEach, IsOf, first_keys, second_keys};
 ghost use Rattle.mk_foot.specs.Steps.{Gives};
 
 use crate::fault::FootFault;
@@ -19,28 +19,29 @@ use crate::format::Format;
 use crate::groups::{Groups, read_groups};
 use crate::key::Key;
 use crate::lists::{SharedLists, read_lists};
-use crate::parts::{Footprints, Group};
-use crate::records::{Entries, read_entries};
+use crate::parts::{FootprintFile, Group};
+use crate::records::{RecordsResult, read_entries};
 use json::{Invalid, Reader};
-use mk_json::laws::{last_value_counts, members_in_turn, values_take_tokens};
+use mk_json::laws::{last_value_counts, members_are_read_in_order, values_take_tokens};
 use mk_json::{enter_object, skip_value};
 use std::alloc::Global;
 
-/// What the members of a file give so far: of each key its last value, or its fault, and of each
-/// format whether there are no keys but its own. The format may come last.
+/// What the members of a file that were read so far give: for each key its last value or a fault,
+/// and for each format whether there is no key but its own. The format may be the last key, so both
+/// formats are prepared for.
 #[derive(Drop)]
 struct Parts {
     format: Result<Format, FootFault>,
     fixed: Texts,
     sources: Texts,
-    records: Entries,
+    records: RecordsResult,
     lists: SharedLists,
     groups: Groups,
     is_first: bool,
     is_second: bool,
 }
 
-/// What no members give.
+/// The parts of a file without members.
 fn no_parts() -> Parts
     ensures { IsOf result (object no_members) }
 {
@@ -56,7 +57,7 @@ fn no_parts() -> Parts
     }
 }
 
-/// Reads the value of a key of a file.
+/// Reads the value under a key of a file.
 fn read_part(
     alloc: Global,
     key: &str,
@@ -106,7 +107,7 @@ fn read_part(
     }
 }
 
-/// Reads the members of a file that was entered, over what no members give.
+/// Reads the members of a file whose brace was read, into the parts of a file without members.
 fn read_members(
     alloc: Global,
     parts: &mut Parts,
@@ -117,7 +118,7 @@ fn read_members(
     ensures { ReadsMembers (λ _ members. IsOf parts.new (object members))
         depth reader.old result reader.new }
 {
-    members_in_turn();
+    members_are_read_in_order();
     values_take_tokens();
     'members: while let Some(key) = reader.next_key()? {
         read_part(alloc, key, parts, reader, depth)?;
@@ -125,7 +126,7 @@ fn read_members(
     Ok(())
 }
 
-/// Reads the members of a file that was entered.
+/// Reads the members of a file whose brace was read.
 fn read_parts(alloc: Global, reader: &mut Reader<'_>, depth: usize) -> Result<Parts, Invalid>
     ensures { ReadsMembers (λ parts members. IsOf parts (object members))
         depth reader.old result reader.new }
@@ -135,15 +136,15 @@ fn read_parts(alloc: Global, reader: &mut Reader<'_>, depth: usize) -> Result<Pa
     Ok(parts)
 }
 
-/// The file of format 1 that its parts give.
-#[tactic(auto, unfolding(crate::specs::Footprints::first_format))]
+/// Returns the file of format 1 that its parts give, or the first fault.
+#[tactic(auto, unfolding(crate::specs::FootprintFile::first_format))]
 fn first_format(
     alloc: Global,
     fixed: Texts,
     sources: Texts,
-    records: Entries,
+    records: RecordsResult,
     alone: bool,
-) -> Result<Footprints, FootFault>
+) -> Result<FootprintFile, FootFault>
     ensures { (whole : Data) → GivesTexts fixed (texts_at keys.Fixed whole) →
         GivesTexts sources (texts_at keys.Sources whole) →
         AreEach (entry_in One) records (elements_at keys.Records whole) →
@@ -161,7 +162,7 @@ fn first_format(
         goals: None,
         records,
     };
-    Ok(Footprints {
+    Ok(FootprintFile {
         fixed,
         sources,
         lists: Vec::new(alloc),
@@ -169,15 +170,15 @@ fn first_format(
     })
 }
 
-/// The file of format 2 that its parts give.
-#[tactic(auto, unfolding(crate::specs::Footprints::second_format))]
+/// Returns the file of format 2 that its parts give, or the first fault.
+#[tactic(auto, unfolding(crate::specs::FootprintFile::second_format))]
 fn second_format(
     fixed: Texts,
     sources: Texts,
     lists: SharedLists,
     groups: Groups,
     alone: bool,
-) -> Result<Footprints, FootFault>
+) -> Result<FootprintFile, FootFault>
     ensures { (whole : Data) → GivesTexts fixed (texts_at keys.Fixed whole) →
         GivesTexts sources (texts_at keys.Sources whole) →
         Gives (λ all. all.items) lists (lists_in whole) →
@@ -193,7 +194,7 @@ fn second_format(
         return Err(FootFault::Shape(Key::Unknown));
     }
     let groups = groups?;
-    Ok(Footprints {
+    Ok(FootprintFile {
         fixed,
         sources,
         lists,
@@ -201,9 +202,9 @@ fn second_format(
     })
 }
 
-/// The file that its parts give.
-#[tactic(auto, unfolding(crate::specs::Footprints::footprints_in))]
-fn footprints_of(alloc: Global, parts: Parts) -> Result<Footprints, FootFault>
+/// Returns the file that its parts give, or the first fault.
+#[tactic(auto, unfolding(crate::specs::FootprintFile::footprints_in))]
+fn footprints_of(alloc: Global, parts: Parts) -> Result<FootprintFile, FootFault>
     ensures { (whole : Data) → is_some (as_object whole) ≡ true → IsOf parts whole →
         Gives (λ file. file) result (footprints_in whole) }
 {
@@ -223,12 +224,13 @@ fn footprints_of(alloc: Global, parts: Parts) -> Result<Footprints, FootFault>
     }
 }
 
-/// Reads a file of either format.
+/// Reads a file of either format. The inner error is a fault of its shape, the outer one invalid
+/// JSON.
 pub fn read_footprints(
     alloc: Global,
     reader: &mut Reader<'_>,
     depth: usize,
-) -> Result<Result<Footprints, FootFault>, Invalid>
+) -> Result<Result<FootprintFile, FootFault>, Invalid>
     ensures { Reads (λ file value. Gives (λ file. file) file (footprints_in value))
         depth reader.old result reader.new }
 {

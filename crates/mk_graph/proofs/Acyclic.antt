@@ -5,7 +5,7 @@ use Rattle.std.proofs.lemmas.Bool.{cases_Bool, cond-true, cond-false, cases_lt}
 use Rattle.std.proofs.lemmas.List.{get_or_past}
 use Rattle.mk_graph.specs.declared.node.Node.{Node}
 use Rattle.mk_graph.specs.Membership.{Has}
-use Rattle.mk_graph.specs.Graph.{Graph, node, no_node, prerequisites, Reached, goal, onward, Leads, one, then, HasNoCycle, IsSound}
+use Rattle.mk_graph.specs.Graph.{Graph, node, no_node, prerequisites, Reached, goal, onward, HasPath, one, then, HasNoCycle, IsSound}
 use Rattle.mk_graph.specs.Walk.{Through}
 use Rattle.mk_graph.specs.Build.{WalksAll}
 use Rattle.mk_graph.proofs.Members.{length-le_distinct}
@@ -80,10 +80,10 @@ no_cycle g finished sound w =
     }
 
 -- along a path of prerequisites heights fall
-leads_falls : (g : Graph) (is : HasNoCycle g) (n m : ℕ) → Leads g n m → is.height m < is.height n
+leads_falls : (g : Graph) (is : HasNoCycle g) (n m : ℕ) → HasPath g n m → is.height m < is.height n
 leads_falls g is n m (one h) = is.falls n m h
 leads_falls g is n m (then {m = k} l h) = let far = leads_falls g is n k l in let near = is.falls k m h in omega arith
 
 -- so none leads from a node to itself
-pub no_node_leads_to_itself : (g : Graph) → HasNoCycle g → (n : ℕ) → ¬ (Leads g n n)
+pub no_node_leads_to_itself : (g : Graph) → HasNoCycle g → (n : ℕ) → ¬ (HasPath g n n)
 no_node_leads_to_itself g is n l = let less = leads_falls g is n n l in omega arith

@@ -1,8 +1,8 @@
 -- What can be done without one node decides which nodes it is before.
 use Rattle.std.proofs.Common.{true, ◌≡◌, ℕ, zero, suc, ◌<◌, List, [], ◌∷◌, length, inl, inr, ⊎_elim, ◌⊎◌, refl, sym, subst, arith}
 use Rattle.mk_graph.specs.Membership.{Has, IsWithin}
-use Rattle.mk_graph.specs.Graph.{Graph, node, prerequisites, Reached, goal, onward, Leads, one, then, IsSound, IsGraph}
-use Rattle.mk_graph.specs.Turns.{HasAll, InOpenGroup, Wanted, goal as wanted_goal, onward as wanted_onward, MayTurn, Turns, IsPart, Before}
+use Rattle.mk_graph.specs.Graph.{Graph, node, prerequisites, Reached, goal, onward, HasPath, one, then, IsSound, IsGraph}
+use Rattle.mk_graph.specs.Schedules.{HasAll, InOpenGroup, Wanted, goal as wanted_goal, onward as wanted_onward, CanStart, IsSchedule, IsPart, Before}
 use Rattle.mk_graph.specs.Without.{IsFree, AreFree, joined}
 use Rattle.mk_graph.specs.Lists.{has_left, has_right}
 use Rattle.mk_graph.proofs.Members.{cases_Has}
@@ -10,20 +10,20 @@ use Rattle.mk_graph.proofs.Parts.{HasAll-from_Has, Has-from_HasAll, HasAll-grows
 use Rattle.mk_graph.proofs.Loops.{HasAll-append}
 
 -- a path goes over a prerequisite of its first node
-first_step : (g : Graph) (n m : ℕ) → Leads g n m → (p : ℕ) × Has (prerequisites g n) p × ((p ≡ m) ⊎ Leads g p m)
+first_step : (g : Graph) (n m : ℕ) → HasPath g n m → (p : ℕ) × Has (prerequisites g n) p × ((p ≡ m) ⊎ HasPath g p m)
 first_step g n m (one h) = (m, h, inl refl)
 first_step g n m (then {m = k} l h) =
     let s = first_step g n k l in
     (s.0, s.1, inr (⊎_elim (λ same. one (subst (λ j. Has (prerequisites g j) m) (sym same) h)) (λ on. then on h) s.2))
 
 -- a path goes on from a prerequisite
-step_on : (g : Graph) (n p m : ℕ) → Has (prerequisites g n) p → Leads g p m → Leads g n m
+step_on : (g : Graph) (n p m : ℕ) → Has (prerequisites g n) p → HasPath g p m → HasPath g n m
 step_on g n p m h (one h') = then (one h) h'
 step_on g n p m h (then {m = k} l h') = then (step_on g n p k h l) h'
 
 -- what a free node needs is free
 pub free_needs : (g : Graph) (o n p : ℕ) → IsFree g o n → Has (prerequisites g n) p → IsFree g o p
-free_needs g o n p f h = (λ e. f.1 (subst (λ k. Leads g n k) e (one h)), λ l. f.1 (step_on g n p o h l))
+free_needs g o n p f h = (λ e. f.1 (subst (λ k. HasPath g n k) e (one h)), λ l. f.1 (step_on g n p o h l))
 
 -- another node than o is free where all that it needs is
 pub free_made : (g : Graph) (o n : ℕ) → ¬ (n ≡ o) → ((p : ℕ) → Has (prerequisites g n) p → IsFree g o p) → IsFree g o n
@@ -54,7 +54,7 @@ wanted_part g goals done n (wanted_onward {p} w stands) = wanted_part g goals do
 module _ (g : Graph) (o : ℕ) where
   -- a turn list without o that has all of another one
   pub record IsLonger (ns ms : List ℕ) : Type 0 where
-    pub turns : Turns g g.goals ms
+    pub turns : IsSchedule g g.goals ms
     pub lacks : ¬ (Has ms o)
     pub within : IsWithin ns ms
 
@@ -133,20 +133,20 @@ module _ (g : Graph) (o : ℕ) where
         (b.0, longer_on ns a.0 b.0 a.1 b.1, wanted_onward (Wanted-grows g g.goals g.goals a.0 b.0 (λ k h. h) b.1.within p a.2) b.2)
 
     -- where a node stands in a turn list, its turn came
-    turn_came : (ns : List ℕ) (n : ℕ) → Turns g g.goals ns → ¬ (Has ns o) → Has ns n → (ms : List ℕ) × Turns g g.goals ms × (¬ (Has ms o)) × MayTurn g g.goals ms n
+    turn_came : (ns : List ℕ) (n : ℕ) → IsSchedule g g.goals ns → ¬ (Has ns o) → Has ns n → (ms : List ℕ) × IsSchedule g g.goals ms × (¬ (Has ms o)) × CanStart g g.goals ms n
     turn_came [] n turns lacks h = absurd h
-    turn_came (m ∷ ns) n turns lacks (inl here) = (ns, turns.1, λ h. lacks (inr h), subst (λ k. MayTurn g g.goals ns k) here turns.0)
+    turn_came (m ∷ ns) n turns lacks (inl here) = (ns, turns.1, λ h. lacks (inr h), subst (λ k. CanStart g g.goals ns k) here turns.0)
     turn_came (m ∷ ns) n turns lacks (inr there) = turn_came ns n turns.1 (λ h. lacks (inr h)) there
 
     -- where a node would be wanted and all that it needs is free, its turn comes without o
-    pub turn_comes : (t : ℕ) → Wanted g g.goals free t → HasAll free (prerequisites g t) → (ns : List ℕ) × Turns g g.goals ns × (¬ (Has ns o)) × MayTurn g g.goals ns t
+    pub turn_comes : (t : ℕ) → Wanted g g.goals free t → HasAll free (prerequisites g t) → (ns : List ℕ) × IsSchedule g g.goals ns × (¬ (Has ns o)) × CanStart g g.goals ns t
     turn_comes t w all =
         let a = comes_wanted t w [] (record { turns = tt; lacks = λ h. h; within = λ n h. h }) in
         let b = finish_groups (node g t).groups (λ p h. free_finishes p (Has-from_HasAll free (prerequisites g t) all p h)) a.0 (itself [] a.0 a.1) (opened_by t a.0 a.2) in
         ⊎_elim (turn_came b.0 t b.1.turns b.1.lacks) (λ new. (b.0, b.1.turns, b.1.lacks, record { wanted = Wanted-grows g g.goals g.goals a.0 b.0 (λ k h. h) b.1.within t a.2; not_done = new; prerequisites = b.2 })) (cases_Has b.0 t)
 
     -- a turn list without o has free nodes alone
-    turned_free : (goals ns : List ℕ) → IsWithin goals g.goals → Turns g goals ns → ¬ (Has ns o) → IsWithin ns free
+    turned_free : (goals ns : List ℕ) → IsWithin goals g.goals → IsSchedule g goals ns → ¬ (Has ns o) → IsWithin ns free
     turned_free goals [] within turns lacks n h = absurd h
     turned_free goals (m ∷ ns) within turns lacks n (inl here) =
         let rest = turned_free goals ns within turns.1 (λ h. lacks (inr h)) in

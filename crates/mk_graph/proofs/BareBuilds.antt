@@ -7,9 +7,9 @@ use Rattle.mk_graph.specs.Membership.{Has}
 use Rattle.mk_graph.specs.Graph.{Graph, node}
 use Rattle.mk_graph.specs.Setting.{FileName, Setting, reads, writes}
 use Rattle.mk_graph.specs.World.{Outcome, Disk, Making, World, Idle, Busy, outcome, same_seen}
-use Rattle.mk_graph.specs.Turns.{MayTurn, Turns, IsPart}
-use Rattle.mk_graph.specs.Schedule.{changed_at, Step, Make, Begin, End, Pass, MayEnd, begun, noted, seen_by, put_by, after, IsLegal, after_all}
-use Rattle.mk_graph.specs.Bare.{empty_setting, empty_disk, turn_steps, steps_of, IsUndone, ShowsNotBefore}
+use Rattle.mk_graph.specs.Schedules.{CanStart, IsSchedule, IsPart}
+use Rattle.mk_graph.specs.Steps.{changed_at, Step, Make, Begin, End, Pass, MayEnd, begun, noted, seen_by, put_by, after, IsLegal, after_all}
+use Rattle.mk_graph.specs.EmptyInputs.{empty_setting, empty_disk, node_steps, steps_of, IsUndone, ShowsNotBefore}
 
 -- a legal history goes on where its end allows
 legal-append : (g : Graph) (s : Setting) (w : World) (front back : List Step) → IsLegal g s w front → IsLegal g s (after_all g s w front) back → IsLegal g s w (front ++ back)
@@ -39,7 +39,11 @@ outcome_nothing : (known : List Outcome) (t : ℕ) (seen : List (Option ℕ)) �
 outcome_nothing [] t seen nothing = tt
 outcome_nothing (o ∷ known) t seen nothing =
     let test : Bool = nat_eq o.recipe t && same_seen o.seen seen in
-    ⊎_elim (λ e. subst (λ (r : Option (List ℕ)). IfSome r (λ written. written ≡ [])) (sym (cond-true test (Some o.written) (outcome known t seen) e)) (nothing o (inl refl))) (λ e. subst (λ (r : Option (List ℕ)). IfSome r (λ written. written ≡ [])) (sym (cond-false test (Some o.written) (outcome known t seen) e)) (outcome_nothing known t seen (λ k h. nothing k (inr h)))) (cases_Bool test)
+    ⊎_elim (λ e. subst (λ (r : Option (List ℕ)). IfSome r (λ written. written ≡ []))
+    (sym (cond-true test (Some o.written) (outcome known t seen) e)) (nothing o (inl refl)))
+    (λ e. subst (λ (r : Option (List ℕ)). IfSome r (λ written. written ≡ []))
+    (sym (cond-false test (Some o.written) (outcome known t seen) e))
+    (outcome_nothing known t seen (λ k h. nothing k (inr h)))) (cases_Bool test)
 
 -- one more that wrote nothing
 noted_nothing : (d : Disk) (o : Outcome) → WroteNothing d.known → o.written ≡ [] → WroteNothing (noted d o).known
@@ -66,7 +70,7 @@ module _ (g : Graph) (goals : List ℕ) where
     nothing : WroteNothing disk.known
     legal : IsLegal g empty_setting from steps
 
-  module _ (seen : ℕ → FileName → Option (Option ℕ)) (put : ℕ → FileName → Option ℕ) (disk : Disk) (nothing : WroteNothing disk.known) (ns : List ℕ) (n : ℕ) (may : MayTurn g goals ns n) where
+  module _ (seen : ℕ → FileName → Option (Option ℕ)) (put : ℕ → FileName → Option ℕ) (disk : Disk) (nothing : WroteNothing disk.known) (ns : List ℕ) (n : ℕ) (may : CanStart g goals ns n) where
     -- a node without a recipe is passed
     pass_turn : (node g n).recipe ≡ false → LeadsTo (Busy (quiet seen put ns) disk) (Pass n ∷ []) (n ∷ ns)
     pass_turn e = record { seen = changed_at seen n (λ f. None); put = changed_at put n (λ f. None); disk = disk; world = refl; nothing = nothing; legal = (((may, λ h. h), inl e), tt) }
@@ -93,10 +97,13 @@ module _ (g : Graph) (goals : List ℕ) where
         }
 
     -- a node has its turn
-    one_turn : LeadsTo (Busy (quiet seen put ns) disk) (turn_steps g n) (n ∷ ns)
+    one_turn : LeadsTo (Busy (quiet seen put ns) disk) (node_steps g n) (n ∷ ns)
     one_turn =
         let b = (node g n).recipe in
-        ⊎_elim (λ e. subst (λ (l : List Step). LeadsTo (Busy (quiet seen put ns) disk) l (n ∷ ns)) (sym (cond-true b (Begin n ∷ End n ∷ []) (Pass n ∷ []) e)) (run_turn e)) (λ e. subst (λ (l : List Step). LeadsTo (Busy (quiet seen put ns) disk) l (n ∷ ns)) (sym (cond-false b (Begin n ∷ End n ∷ []) (Pass n ∷ []) e)) (pass_turn e)) (cases_Bool b)
+        ⊎_elim (λ e. subst (λ (l : List Step). LeadsTo (Busy (quiet seen put ns) disk) l (n ∷ ns))
+        (sym (cond-true b (Begin n ∷ End n ∷ []) (Pass n ∷ []) e)) (run_turn e))
+        (λ e. subst (λ (l : List Step). LeadsTo (Busy (quiet seen put ns) disk) l (n ∷ ns))
+        (sym (cond-false b (Begin n ∷ End n ∷ []) (Pass n ∷ []) e)) (pass_turn e)) (cases_Bool b)
 
   -- what one list of steps leads to, and another one from there
   leads_on : (from : World) (front back : List Step) (ns ms : List ℕ) → (a : LeadsTo from front ns) → LeadsTo (Busy (quiet a.seen a.put ns) a.disk) back ms → LeadsTo from (front ++ back) ms
@@ -110,14 +117,14 @@ module _ (g : Graph) (goals : List ℕ) where
   }
 
   -- the nodes of a turn list have their turns
-  all_turns : IsPart goals g.goals → (ns : List ℕ) → Turns g goals ns → LeadsTo (Idle empty_disk) (Make 1 goals ∷ steps_of g ns) ns
+  all_turns : IsPart goals g.goals → (ns : List ℕ) → IsSchedule g goals ns → LeadsTo (Idle empty_disk) (Make 1 goals ∷ steps_of g ns) ns
   all_turns part [] turns = record { seen = λ t f. None; put = λ t f. None; disk = empty_disk; world = refl; nothing = λ o h. absurd h; legal = ((omega arith, part), tt) }
   all_turns part (n ∷ ns) turns =
       let a = all_turns part ns turns.1 in
-      leads_on (Idle empty_disk) (Make 1 goals ∷ steps_of g ns) (turn_steps g n) ns (n ∷ ns) a (one_turn a.seen a.put a.disk a.nothing ns n turns.0)
+      leads_on (Idle empty_disk) (Make 1 goals ∷ steps_of g ns) (node_steps g n) ns (n ∷ ns) a (one_turn a.seen a.put a.disk a.nothing ns n turns.0)
 
   -- and then the recipe of t begins
-  pub begins_last : (o t : ℕ) → IsPart goals g.goals → (ns : List ℕ) → Turns g goals ns → ¬ (Has ns o) → MayTurn g goals ns t → (node g t).recipe ≡ true → ShowsNotBefore g o t goals ns
+  pub begins_last : (o t : ℕ) → IsPart goals g.goals → (ns : List ℕ) → IsSchedule g goals ns → ¬ (Has ns o) → CanStart g goals ns t → (node g t).recipe ≡ true → ShowsNotBefore g o t goals ns
   begins_last o t part ns turns lacks may recipe =
       let a = all_turns part ns turns in
       let before : List Step = Make 1 goals ∷ steps_of g ns in

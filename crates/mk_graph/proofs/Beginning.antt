@@ -5,8 +5,8 @@ use Rattle.mk_graph.specs.Membership.{Has}
 use Rattle.mk_graph.specs.Graph.{Graph, node}
 use Rattle.mk_graph.specs.Setting.{FileName, Setting}
 use Rattle.mk_graph.specs.World.{Disk, Making, Busy}
-use Rattle.mk_graph.specs.Turns.{Before}
-use Rattle.mk_graph.specs.Schedule.{Begin, Ready, begun}
+use Rattle.mk_graph.specs.Schedules.{Before}
+use Rattle.mk_graph.specs.Steps.{Begin, Ready, begun}
 use Rattle.mk_graph.specs.Runs.{Runs, runs_after}
 use Rattle.mk_graph.proofs.Changes.{changed_at_here, changed_at_there}
 use Rattle.mk_graph.proofs.InOrder.{runs_not_done, begun_in_order}
@@ -40,7 +40,20 @@ module _ (g : Graph) (s : Setting) (p : Runs) (start : ℕ) (m : Making) (d : Di
   -- of two of which one is before the other, one was through when the other last began
   apart_begun : (o t : ℕ) → Before g o t → WasThrough g s (p.last o) (x ∷ m.running) d o (now.began t) ⊎ WasThrough g s (p.last t) (x ∷ m.running) d t (now.began o)
   apart_begun o t before =
-      ⊎_elim (λ same. let o_done : Has m.done o = subst (λ (k : ℕ). Before g o k) (sym same) before recipe m.goals m.done is.order.part is.order.turns ready.0 in inl (through_now o (now.began t) (λ here. ready.0.not_done (subst (λ (k : ℕ). Has m.done k) (sym here) o_done)) (λ runs. runs_not_done g m is.order o runs o_done) (began_here t same))) (λ differ. ⊎_elim (λ same. inr (through_now t (now.began o) differ (λ runs. ready.0.not_done (subst (λ (k : ℕ). Has m.done k) (sym same) (before (is.order.recipes t runs) m.goals m.done is.order.part is.order.turns (is.order.running t runs)))) (began_here o same))) (λ apart. ⊎_elim (λ one. inl (subst (λ (k : ℕ). WasThrough g s (p.last o) (x ∷ m.running) d o k) (sym (began_there t differ)) (through_there o (p.began t) apart one))) (λ two. inr (subst (λ (k : ℕ). WasThrough g s (p.last t) (x ∷ m.running) d t k) (sym (began_there o apart)) (through_there t (p.began o) differ two))) (fits.apart o t before)) (cases_eq x o)) (cases_eq x t)
+      ⊎_elim (λ same. let o_done : Has m.done o = subst (λ (k : ℕ). Before g o k) (sym same) before recipe
+      m.goals m.done is.order.part is.order.turns ready.0 in inl
+      (through_now o (now.began t) (λ here. ready.0.not_done
+      (subst (λ (k : ℕ). Has m.done k) (sym here) o_done))
+      (λ runs. runs_not_done g m is.order o runs o_done) (began_here t same)))
+      (λ differ. ⊎_elim (λ same. inr (through_now t (now.began o) differ
+      (λ runs. ready.0.not_done (subst (λ (k : ℕ). Has m.done k) (sym same)
+      (before (is.order.recipes t runs) m.goals m.done is.order.part is.order.turns
+      (is.order.running t runs)))) (began_here o same)))
+      (λ apart. ⊎_elim (λ one. inl (subst (λ (k : ℕ). WasThrough g s (p.last o) (x ∷ m.running) d o k)
+      (sym (began_there t differ)) (through_there o (p.began t) apart one)))
+      (λ two. inr (subst (λ (k : ℕ). WasThrough g s (p.last t) (x ∷ m.running) d t k)
+      (sym (began_there o apart)) (through_there t (p.began o) differ two))) (fits.apart o t before))
+      (cases_eq x o)) (cases_eq x t)
 
   -- the disk fits the runs after the begin
   fits_begun : Fits g s now (x ∷ m.running) d
@@ -58,7 +71,13 @@ module _ (g : Graph) (s : Setting) (p : Runs) (start : ℕ) (m : Making) (d : Di
   -- a recipe that has seen something after this runs from before
   seen_before : (t : ℕ) (f : FileName) (v : Option ℕ) → (begun m x).seen t f ≡ Some v → (¬ (x ≡ t)) × (m.seen t f ≡ Some v)
   seen_before t f v e =
-      ⊎_elim (λ same. let none : None ≡ Some v = sym (ap (λ (at : FileName → Option (Option ℕ)). at f) (changed_at_here m.seen x t (λ h. None) same)) ∙ e in absurd (cc)) (λ differ. (differ, sym (ap (λ (at : FileName → Option (Option ℕ)). at f) (changed_at_there m.seen x t (λ h. None) differ)) ∙ e)) (cases_eq x t)
+      ⊎_elim (λ same. let none : None ≡ Some v = sym (ap (λ (at : FileName → Option (Option ℕ)). at f)
+      (changed_at_here m.seen x t (λ h. None) same)) ∙ e in absurd (cc))
+      (λ differ. (
+        differ,
+        sym (ap (λ (at : FileName → Option (Option ℕ)). at f)
+            (changed_at_there m.seen x t (λ h. None) differ)) ∙ e,
+      )) (cases_eq x t)
 
   -- nor has it put anything
   put_before : (t : ℕ) (f : FileName) (c : ℕ) → (begun m x).put t f ≡ Some c → (¬ (x ≡ t)) × (m.put t f ≡ Some c)

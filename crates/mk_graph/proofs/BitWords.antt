@@ -28,7 +28,15 @@ module _ (f : ℕ → ℕ → ℕ) (old others now : List ℕ) (place : ℕ) (so
   word_below : (k : ℕ) → k < place + 8 → get_or (put_chunk place now next) k 0 ≡ f (get_or old k 0) (get_or others k 0)
   word_below k low =
       let long = next_length in
-      elim (cases_lt k place) [ inl before ↦ get_or-put_chunk_below place now next k 0 before ∙ so_far.before k before | inr behind ↦ (let at : place + (k - place) ≡ k = omega arith in ap (λ i. get_or (put_chunk place now next) i 0) (sym at) ∙ get_or-put_chunk_at place now next (k - place) 0 (omega arith) (omega arith) ∙ next_word (k - place) (omega arith) ∙ ap (λ i. f (get_or now i 0) (get_or others i 0)) at ∙ ap (λ w. f w (get_or others k 0)) (so_far.behind k behind)) ]
+      elim (cases_lt k place) [
+        | inl before ↦ get_or-put_chunk_below place now next k 0 before
+            ∙ so_far.before k before
+        | inr behind ↦ (let at : place + (k - place)
+            ≡ k = omega arith in ap (λ i. get_or (put_chunk place now next) i 0) (sym at)
+            ∙ get_or-put_chunk_at place now next (k - place) 0 (omega arith) (omega arith)
+            ∙ next_word (k - place) (omega arith) ∙ ap (λ i. f (get_or now i 0) (get_or others i 0)) at
+            ∙ ap (λ w. f w (get_or others k 0)) (so_far.behind k behind))
+      ]
 
   -- once they are stored, the words below the next place are combined
   pub combined_more : AreCombined f old others (place + 8) (put_chunk place now next)

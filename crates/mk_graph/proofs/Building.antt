@@ -58,7 +58,10 @@ pub path_within : (g : Graph) (path : List ℕ) → IsSound g → WalksAll g (Cl
 path_within g path sound w = All-from_Has (λ n. n < length g.nodes) path (holds_closes (prerequisites g) (λ n. n < length g.nodes) (λ n p low need. sound.edges n p need) w (λ n u. absurd u) sound.goals)
 
 -- what the walk over the rows says of the graph
-pub walked : (g : Graph) (rows now : List (Vec ℕ Global)) (nodes : List Node) (goals : List ℕ) (end : End) (it : End) → now ≡ rows → map (λ (r : Vec ℕ Global). r.items) rows ≡ map joined_groups nodes → nodes ≡ g.nodes → goals ≡ g.goals → it ≡ end → Walks (row now) [] [] goals (walk_end it) → WalksAll g (walk_end end)
+pub walked : (g : Graph) (rows now : List (Vec ℕ Global)) (nodes : List Node) (goals : List ℕ) (end : End)
+    (it : End) → now ≡ rows → map (λ (r : Vec ℕ Global). r.items) rows ≡ map joined_groups nodes → nodes
+    ≡ g.nodes → goals ≡ g.goals → it ≡ end → Walks (row now) [] [] goals (walk_end it)
+    → WalksAll g (walk_end end)
 walked g rows now nodes goals end it now_is are nodes_are goals_are it_is w =
     let w1 : Walks (row now) [] [] goals (walk_end end) = subst (λ (e : End). Walks (row now) [] [] goals (walk_end e)) it_is w in
     let w2 : Walks (row rows) [] [] goals (walk_end end) = subst (λ (l : List (Vec ℕ Global)). Walks (row l) [] [] goals (walk_end end)) now_is w1 in

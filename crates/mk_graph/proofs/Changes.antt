@@ -5,7 +5,7 @@ use Rattle.std.proofs.lemmas.Bool.{cases_Bool, cond-true, cond-false, false_from
 use Rattle.std.proofs.lemmas.Slice.Eq.{bytes_eq-Decides}
 use Rattle.mk_graph.specs.Setting.{FileName}
 use Rattle.mk_graph.specs.World.{changed}
-use Rattle.mk_graph.specs.Schedule.{changed_at}
+use Rattle.mk_graph.specs.Steps.{changed_at}
 
 -- two names are equal or not
 pub cases_name : (f h : FileName) → (f ≡ h) ⊎ (¬ (f ≡ h))

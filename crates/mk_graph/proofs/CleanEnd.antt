@@ -9,7 +9,7 @@ use Rattle.mk_graph.specs.Graph.{Graph, node, goal, onward, IsGraph}
 use Rattle.mk_graph.specs.Serial.{visits}
 use Rattle.mk_graph.specs.Setting.{FileName, Setting, is_given, reads, writes}
 use Rattle.mk_graph.specs.World.{Disk, content, changed, outcome}
-use Rattle.mk_graph.specs.Turns.{HasAll, InOpenGroup, Wanted, goal as wanted_goal, onward as wanted_onward, MayTurn, Turns, IsPart}
+use Rattle.mk_graph.specs.Schedules.{HasAll, InOpenGroup, Wanted, goal as wanted_goal, onward as wanted_onward, CanStart, IsSchedule, IsPart}
 use Rattle.mk_graph.specs.Clean.{Contents, given_contents, put_all, run_clean, make_clean, make_all_clean, ReachedFrom, IsBuilt}
 use Rattle.mk_graph.specs.Right.{AreSound, HaveNoRace}
 use Rattle.mk_graph.specs.Lists.{has_left, has_right}
@@ -44,8 +44,14 @@ put_all_agrees d (k ∷ files) [] at e = absurd (cc)
 put_all_agrees d (k ∷ files) (c ∷ cs) at e =
     let at_k : content d k ≡ Some c = cc in
     let rest : map (content d) files ≡ map (λ c. Some c) cs = cc in
-    let more = put_all_agrees d files cs (changed at k (Some c)) rest in
-    (more.0, more.1, λ f why. more.2 f (⊎_elim (λ same. inl (changed_here at k f (Some c) same ∙ (sym at_k ∙ ap (content d) same))) (λ differ. ⊎_elim (λ before. inl (changed_there at k f (Some c) differ ∙ before)) (λ among. ⊎_elim (λ same. absurd (differ same)) (λ later. inr later) among) why) (cases_name k f)))
+    let more = put_all_agrees d files cs (changed at k (Some c)) rest in (
+      more.0,
+      more.1,
+      λ f why. more.2 f (⊎_elim (λ same. inl
+          (changed_here at k f (Some c) same ∙ (sym at_k ∙ ap (content d) same)))
+          (λ differ. ⊎_elim (λ before. inl (changed_there at k f (Some c) differ ∙ before))
+          (λ among. ⊎_elim (λ same. absurd (differ same)) (λ later. inr later) among) why) (cases_name k f)),
+    )
 
 -- the recipe's files hold the outcome of what its reads hold
 pub record IsFresh (g : Graph) (s : Setting) (d : Disk) (t : ℕ) : Type 0 where
@@ -62,7 +68,7 @@ module _ (g : Graph) (s : Setting) (graph : IsGraph g) (sound : AreSound g s) (n
   abbrev BuildAgrees : List ℕ → Type 0
   BuildAgrees ns = (at : Contents) × (make_all_clean g s d.known (Some (given_contents s d)) (reverse ns) ≡ Some at) × Agrees at ns
 
-  module _ (n : ℕ) (ns : List ℕ) (may : MayTurn g goals ns n) (turns : Turns g goals ns) (before : BuildAgrees ns) where
+  module _ (n : ℕ) (ns : List ℕ) (may : CanStart g goals ns n) (turns : IsSchedule g goals ns) (before : BuildAgrees ns) where
     -- the build after one more node
     one_more : make_all_clean g s d.known (Some (given_contents s d)) (reverse (n ∷ ns)) ≡ make_clean g s d.known before.0 n
     one_more =
@@ -72,8 +78,15 @@ module _ (g : Graph) (s : Setting) (graph : IsGraph g) (sound : AreSound g s) (n
     -- a node without a recipe
     agrees_without : (node g n).recipe ≡ false → BuildAgrees (n ∷ ns)
     unfolding Agrees
-    agrees_without e =
-        (before.0, one_more ∙ cond-false (node g n).recipe (run_clean g s d.known before.0 n) (Some before.0) e, λ f why. ⊎_elim (λ given. before.2 f (inl given)) (λ wrote. ⊎_elim (λ here. absurd (true≢false (sym (writer_has_recipe g s n f (subst (λ (k : ℕ). Has (writes g s k) f) (sym here) wrote.2)) ∙ e))) (λ there. before.2 f (inr (wrote.0, there, wrote.2))) wrote.1) why)
+    agrees_without e = (
+      before.0,
+      one_more ∙ cond-false (node g n).recipe (run_clean g s d.known before.0 n) (Some before.0)
+          e,
+      λ f why. ⊎_elim (λ given. before.2 f (inl given))
+          (λ wrote. ⊎_elim (λ here. absurd (true≢false (sym
+          (writer_has_recipe g s n f (subst (λ (k : ℕ). Has (writes g s k) f) (sym here) wrote.2)) ∙ e)))
+          (λ there. before.2 f (inr (wrote.0, there, wrote.2))) wrote.1) why,
+    )
 
     -- its recipe sees what the disk holds
     sees_disk : map before.0 (reads g s n) ≡ map (content d) (reads g s n)
@@ -87,18 +100,26 @@ module _ (g : Graph) (s : Setting) (graph : IsGraph g) (sound : AreSound g s) (n
     unfolding Agrees
     agrees_with e fresh =
         let put = put_all_agrees d (writes g s n) fresh.written before.0 fresh.holds in
-        let ran : run_clean g s d.known before.0 n ≡ Some put.0 = ap (λ (l : List (Option ℕ)). option_and_then (put_all before.0 (writes g s n)) (outcome d.known n l)) sees_disk ∙ (ap (λ (o : Option (List ℕ)). option_and_then (put_all before.0 (writes g s n)) o) fresh.known ∙ put.1) in
-        (put.0, one_more ∙ (cond-true (node g n).recipe (run_clean g s d.known before.0 n) (Some before.0) e ∙ ran), λ f why. put.2 f (⊎_elim (λ among. inr among) (λ out. inl (before.2 f (⊎_elim (λ given. inl given) (λ wrote. ⊎_elim (λ here. absurd (out (subst (λ (k : ℕ). Has (writes g s k) f) (sym here) wrote.2))) (λ there. inr (wrote.0, there, wrote.2)) wrote.1) why))) (cases_among (writes g s n) f)))
+        let ran : run_clean g s d.known before.0 n ≡ Some put.0 = ap (λ (l : List (Option ℕ)). option_and_then (put_all before.0 (writes g s n)) (outcome d.known n l)) sees_disk ∙ (ap (λ (o : Option (List ℕ)). option_and_then (put_all before.0 (writes g s n)) o) fresh.known ∙ put.1) in (
+          put.0,
+          one_more ∙ (cond-true (node g n).recipe (run_clean g s d.known before.0 n) (Some before.0) e
+              ∙ ran),
+          λ f why. put.2 f (⊎_elim (λ among. inr among)
+              (λ out. inl (before.2 f (⊎_elim (λ given. inl given)
+              (λ wrote. ⊎_elim (λ here. absurd (out (subst (λ (k : ℕ). Has (writes g s k) f) (sym here)
+              wrote.2))) (λ there. inr (wrote.0, there, wrote.2)) wrote.1) why)))
+              (cases_among (writes g s n) f)),
+        )
 
   -- the clean build of a turn list whose recipes are fresh
-  build_agrees : (ns : List ℕ) → Turns g goals ns → ((n : ℕ) → Has ns n → (node g n).recipe ≡ true → IsFresh g s d n) → BuildAgrees ns
+  build_agrees : (ns : List ℕ) → IsSchedule g goals ns → ((n : ℕ) → Has ns n → (node g n).recipe ≡ true → IsFresh g s d n) → BuildAgrees ns
   unfolding Agrees
   build_agrees [] turns fresh = (given_contents s d, refl, λ f why. ⊎_elim (λ given. cond-true (is_given s f) (content d f) None given) (λ wrote. absurd wrote.1) why)
   build_agrees (n ∷ ns) turns fresh =
       let before = build_agrees ns turns.1 (λ k h. fresh k (inr h)) in
       ⊎_elim (λ e. agrees_with n ns turns.0 turns.1 before e (fresh n (inl refl) e)) (λ e. agrees_without n ns turns.0 turns.1 before e) (cases_Bool (node g n).recipe)
 
-  module _ (done : List ℕ) (turns : Turns g goals done) (all : HasAll done goals) (fresh : (n : ℕ) → Has done n → (node g n).recipe ≡ true → IsFresh g s d n) where
+  module _ (done : List ℕ) (turns : IsSchedule g goals done) (all : HasAll done goals) (fresh : (n : ℕ) → Has done n → (node g n).recipe ≡ true → IsFresh g s d n) where
     -- the serial order of the goals, the last node first
     abbrev order : List ℕ
     order = visits g [] (filter (has goals) g.goals)
@@ -109,7 +130,7 @@ module _ (g : Graph) (s : Setting) (graph : IsGraph g) (sound : AreSound g s) (n
     wanted_is_done {ns = ns} (wanted_onward {p = p} {n = n} w h) = turn_has_prerequisites g goals done p n turns (wanted_is_done w) (open_is_needed (node g p).groups ns n h)
 
     -- each node of a turn list is
-    turned_is_done : (ns : List ℕ) → Turns g goals ns → (n : ℕ) → Has ns n → Has done n
+    turned_is_done : (ns : List ℕ) → IsSchedule g goals ns → (n : ℕ) → Has ns n → Has done n
     turned_is_done [] t n h = absurd h
     turned_is_done (k ∷ ns) t n (inl here) = subst (λ (j : ℕ). Has done j) here (wanted_is_done t.0.wanted)
     turned_is_done (k ∷ ns) t n (inr there) = turned_is_done ns t.1 n there

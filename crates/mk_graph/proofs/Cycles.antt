@@ -2,7 +2,7 @@
 use Rattle.std.proofs.Common.{true, false, ◌≡◌, ℕ, zero, suc, ◌+◌, ◌<◌, eqb, List, [], ◌∷◌, ◌++◌, length, inl, inr, ⊎_elim, refl, sym, subst, arith, eqb-true, eq-eqb}
 use Rattle.std.proofs.lemmas.Bool.{cases_Bool, cond-true, cond-false, eqb-false}
 use Rattle.mk_graph.specs.Membership.{Has, IsDistinct}
-use Rattle.mk_graph.specs.Graph.{Graph, prerequisites, Reached, goal, onward, Leads, one, then, HasNoCycle, IsSound}
+use Rattle.mk_graph.specs.Graph.{Graph, prerequisites, Reached, goal, onward, HasPath, one, then, HasNoCycle, IsSound}
 use Rattle.mk_graph.specs.Walk.{WalkEnd, Through, Closes, path_from, closed_path, Walks, ends, passes, closes, breaks, finishes}
 use Rattle.mk_graph.specs.Build.{WalksAll}
 use Rattle.mk_graph.specs.Laws.{WalkHasAnEnd, WalkHasOneEnd, GoesAlong, step, further, ClosesOnlyCycles, ComesThroughWithoutCycles, HeightsForbidCycles, NoCycleGivesHeights}
@@ -75,7 +75,7 @@ module _ (g : Graph) where
   closes_along (finishes new unfinished w v) chain next = closes_along v chain (λ p t. next p (inr t))
 
   -- a path leads to its end
-  along_leads : {n p : ℕ} {path : List ℕ} → GoesAlong g n p path → Leads g n p
+  along_leads : {n p : ℕ} {path : List ℕ} → GoesAlong g n p path → HasPath g n p
   along_leads (step h) = one h
   along_leads (further a h) = then (along_leads a) h
 
@@ -96,7 +96,9 @@ module _ (needs : ℕ → List ℕ) (bound : ℕ) (within : (n p : ℕ) → Has 
   HasEnd room = (under finished todo : List ℕ) → IsDistinct under → ((n : ℕ) → Has under n → n < bound) → ((n : ℕ) → Has todo n → n < bound) → bound < room + length under → (end : WalkEnd) × Walks needs under finished todo end
 
   -- after the prerequisites of a node: it is finished, or their path is the end
-  after_inside : {under finished todo : List ℕ} {n : ℕ} (end : WalkEnd) → ¬ (Has under n) → ¬ (Has finished n) → Walks needs (n ∷ under) finished (needs n) end → ((middle : List ℕ) → (end : WalkEnd) × Walks needs under (n ∷ middle) todo end) → (end : WalkEnd) × Walks needs under finished (n ∷ todo) end
+  after_inside : {under finished todo : List ℕ} {n : ℕ} (end : WalkEnd) → ¬ (Has under n) → ¬ (Has finished n)
+      → Walks needs (n ∷ under) finished (needs n) end → ((middle : List ℕ) → (end : WalkEnd)
+      × Walks needs under (n ∷ middle) todo end) → (end : WalkEnd) × Walks needs under finished (n ∷ todo) end
   after_inside (Through middle) new unfinished w rest = let r = rest middle in (r.0, finishes new unfinished w r.1)
   after_inside (Closes path) new unfinished w rest = (Closes path, breaks new unfinished w)
 
@@ -109,7 +111,12 @@ module _ (needs : ℕ → List ℕ) (bound : ℕ) (within : (n p : ℕ) → Has 
   more_room room below under finished [] distinct low todo_low fits = (Through finished, ends)
   more_room room below under finished (n ∷ todo) distinct low todo_low fits =
       let rest : (l : List ℕ) → (end : WalkEnd) × Walks needs under l todo end = λ l. more_room room below under l todo distinct low (λ k t. todo_low k (inr t)) fits in
-      ⊎_elim (λ was. let r = rest finished in (r.0, passes was r.1)) (λ unfinished. ⊎_elim (λ u. (Closes (closed_path n under), closes u)) (λ new. let inside = below (n ∷ under) finished (needs n) (new, distinct) (λ k u. ⊎_elim (λ e. subst (λ j. j < bound) e (todo_low n (inl refl))) (low k) u) (within n) (omega arith) in after_inside inside.0 new unfinished inside.1 (λ middle. rest (n ∷ middle))) (cases_Has under n)) (cases_Has finished n)
+      ⊎_elim (λ was. let r = rest finished in (r.0, passes was r.1))
+      (λ unfinished. ⊎_elim (λ u. (Closes (closed_path n under), closes u))
+      (λ new. let inside = below (n ∷ under) finished (needs n) (new, distinct)
+      (λ k u. ⊎_elim (λ e. subst (λ j. j < bound) e (todo_low n (inl refl))) (low k) u) (within n)
+      (omega arith) in after_inside inside.0 new unfinished inside.1 (λ middle. rest (n ∷ middle)))
+      (cases_Has under n)) (cases_Has finished n)
 
   -- however many may be under way, there is an end
   pub has_end : (room : ℕ) → HasEnd room
@@ -121,7 +128,7 @@ pub walk_has_an_end : WalkHasAnEnd
 walk_has_an_end g sound = has_end (prerequisites g) (length g.nodes) sound.edges (suc (length g.nodes)) [] [] g.goals tt (λ n u. absurd u) sound.goals (omega arith)
 
 -- each end of a walk of a graph without cycles gives heights
-heights_from : (g : Graph) → IsSound g → ((n : ℕ) → ¬ (Leads g n n)) → (end : WalkEnd) → WalksAll g end → HasNoCycle g
+heights_from : (g : Graph) → IsSound g → ((n : ℕ) → ¬ (HasPath g n n)) → (end : WalkEnd) → WalksAll g end → HasNoCycle g
 heights_from g sound none (Through finished) w = no_cycle g finished sound w
 heights_from g sound none (Closes path) w = let cycle = closes_only_cycles g path w in absurd (none cycle.first cycle.leads)
 

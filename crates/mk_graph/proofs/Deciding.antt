@@ -5,7 +5,7 @@ use Rattle.std.proofs.lemmas.Bool.{cases_Bool, cases_eq, false≢true}
 use Rattle.mk_graph.specs.Membership.{Has}
 use Rattle.mk_graph.specs.Graph.{Graph, node, prerequisites, IsGraph}
 use Rattle.mk_graph.specs.Serial.{serial_order}
-use Rattle.mk_graph.specs.Turns.{HasAll, InOpenGroup, Wanted, MayTurn, Turns, Before}
+use Rattle.mk_graph.specs.Schedules.{HasAll, InOpenGroup, Wanted, CanStart, IsSchedule, Before}
 use Rattle.mk_graph.specs.Without.{AreFree}
 use Rattle.mk_graph.specs.BuildLaws.{NotBeforeIsShown}
 use Rattle.mk_graph.specs.Lists.{has_left, has_right, has_cases}
@@ -25,7 +25,17 @@ opened : (done : List ℕ) (groups : List (List ℕ)) → (ms : List ℕ) × ((n
 opened done [] = ([], λ n. (λ h. h, λ h. h))
 opened done (group ∷ groups) =
     let rest = opened done groups in
-    ⊎_elim (λ all. (group ++ rest.0, λ n. (λ h. ⊎_elim (λ here. inl here) (λ later. inr (all, (rest.1 n).0 later)) (has_cases group rest.0 n h), λ h. ⊎_elim (λ here. has_left group rest.0 n here) (λ later. has_right group rest.0 n ((rest.1 n).1 later.1)) h))) (λ out. (group, λ n. (λ h. inl h, λ h. ⊎_elim (λ here. here) (λ later. absurd (out later.0)) h))) (cases_HasAll done group)
+    ⊎_elim (λ all. (
+      group ++ rest.0,
+      λ n. (
+        λ h. ⊎_elim (λ here. inl here)
+            (λ later. inr (all, (rest.1 n).0 later)) (has_cases group rest.0 n h),
+        λ h. ⊎_elim
+            (λ here. has_left group rest.0 n here) (λ later. has_right group rest.0 n ((rest.1 n).1 later.1)) h,
+      ),
+    ))
+    (λ out. (group, λ n. (λ h. inl h, λ h. ⊎_elim (λ here. here) (λ later. absurd (out later.0)) h)))
+    (cases_HasAll done group)
 
 -- the elements of two lists
 joins_list : (ms ns : List ℕ) (n : ℕ) → Has (ms ++ ns) n ↔ (Has ms n ⊎ Has ns n)
@@ -49,7 +59,18 @@ module _ (g : Graph) (is : IsGraph g) where
         let this = get_or order i 0 in
         let inside : i < length order = omega arith in
         let stays = λ (cannot : ¬ ((¬ (this ≡ o)) × HasAll rest.0 (prerequisites g this))). subst (λ k. AreFreeUpTo g order o k rest.0) (add-one i) (free_stays g is order refl o i rest.0 inside rest.1 cannot) in
-        elim (cases_eq this o) [ inl same ↦ (rest.0, stays (λ h. h.0 same)) | inr other ↦ (elim (cases_HasAll rest.0 (prerequisites g this)) [ inl all ↦ (this ∷ rest.0, subst (λ k. AreFreeUpTo g order o k (this ∷ rest.0)) (add-one i) (free_joins g is order refl o i rest.0 (this ∷ rest.0) inside rest.1 other all (joins_one this rest.0))) | inr out ↦ (rest.0, stays (λ h. out h.1)) ]) ]
+        elim (cases_eq this o) [
+          | inl same ↦ (rest.0, stays (λ h. h.0 same))
+          | inr other ↦ (elim (cases_HasAll rest.0 (prerequisites g this)) [
+            | inl all ↦ (
+              this ∷ rest.0,
+              subst (λ k. AreFreeUpTo g order o k (this ∷ rest.0)) (add-one i)
+                  (free_joins g is order refl o i rest.0 (this ∷ rest.0) inside rest.1 other all
+                  (joins_one this rest.0)),
+            )
+            | inr out ↦ (rest.0, stays (λ h. out h.1))
+          ])
+        ]
 
     -- all free nodes
     free_nodes : (free : List ℕ) × AreFree g o free
@@ -64,7 +85,18 @@ module _ (g : Graph) (is : IsGraph g) where
         let inside : place < length order = omega arith in
         let are' : AreWantedFrom g g.goals order done (place + 1) wanted = subst (λ k. AreWantedFrom g g.goals order done k wanted) (sym (add-one place)) are in
         let more = opened done (node g this).groups in
-        elim (cases_Has wanted this) [ inl here ↦ wanted_from place (omega arith) (more.0 ++ wanted) (opens_this g is order refl g.goals done place inside wanted (more.0 ++ wanted) are' here (λ n. (λ h. ⊎_elim (λ there. inl ((more.1 n).0 there)) (λ had. inr had) ((joins_list more.0 wanted n).0 h), λ h. (joins_list more.0 wanted n).1 (⊎_elim (λ stands. inl ((more.1 n).1 stands)) (λ had. inr had) h)))) | inr out ↦ wanted_from place (omega arith) wanted (passes_this g is order refl g.goals done place inside wanted are' out) ]
+        elim (cases_Has wanted this) [
+          | inl here ↦ wanted_from place (omega arith) (more.0 ++ wanted)
+              (opens_this g is order refl g.goals done place inside wanted (more.0 ++ wanted) are' here
+              (λ n. (
+                λ h. ⊎_elim (λ there. inl ((more.1 n).0 there)) (λ had. inr had)
+                    ((joins_list more.0 wanted n).0 h),
+                λ h. (joins_list more.0 wanted n).1
+                    (⊎_elim (λ stands. inl ((more.1 n).1 stands)) (λ had. inr had) h),
+              )))
+          | inr out ↦ wanted_from place (omega arith) wanted
+              (passes_this g is order refl g.goals done place inside wanted are' out)
+        ]
 
     -- all that is wanted
     wanted_nodes : (wanted : List ℕ) × ((n : ℕ) → Has wanted n ↔ Wanted g g.goals done n)
@@ -78,16 +110,32 @@ module _ (g : Graph) (is : IsGraph g) where
       let free = free_nodes o in
       let wanted = wanted_nodes free.0 in
       let past : (¬ (Wanted g g.goals free.0 t × HasAll free.0 (prerequisites g t))) → Before g o t ⊎ (¬ (Before g o t)) = λ cannot. inl (is_before g o is free.0 free.1 t cannot) in
-      ⊎_elim (λ recipe. elim (cases_Has wanted.0 t) [ inl here ↦ (elim (cases_HasAll free.0 (prerequisites g t)) [ inl all ↦ inr (is_not_before g o is free.0 free.1 t recipe ((wanted.1 t).0 here) all) | inr out ↦ past (λ both. out both.1) ]) | inr out ↦ past (λ both. out ((wanted.1 t).1 both.0)) ]) (λ none. inl (λ recipe. absurd (false≢true (sym none ∙ recipe)))) (cases_Bool (node g t).recipe)
+      ⊎_elim (λ recipe. elim (cases_Has wanted.0 t) [
+        | inl here ↦
+            (elim (cases_HasAll free.0 (prerequisites g t)) [
+              | inl all ↦ inr
+                  (is_not_before g o is free.0 free.1 t recipe ((wanted.1 t).0 here) all)
+              | inr out ↦ past (λ both. out both.1)
+            ])
+        | inr out ↦ past (λ both. out ((wanted.1 t).1 both.0))
+      ])
+      (λ none. inl (λ recipe. absurd (false≢true (sym none ∙ recipe)))) (cases_Bool (node g t).recipe)
 
   -- where o isn't before t, t would be wanted once all free nodes are done, and needs what is free
   pub would_turn : (o t : ℕ) (free : List ℕ) → AreFree g o free → ¬ (Before g o t) → Wanted g g.goals free t × HasAll free (prerequisites g t)
   would_turn o t free are not_before =
       let wanted = wanted_nodes free in
-      elim (cases_Has wanted.0 t) [ inl here ↦ (elim (cases_HasAll free (prerequisites g t)) [ inl all ↦ ((wanted.1 t).0 here, all) | inr out ↦ absurd (not_before (is_before g o is free are t (λ both. out both.1))) ]) | inr out ↦ absurd (not_before (is_before g o is free are t (λ both. out ((wanted.1 t).1 both.0)))) ]
+      elim (cases_Has wanted.0 t) [
+        | inl here ↦ (elim (cases_HasAll free (prerequisites g t)) [
+          | inl all ↦ ((wanted.1 t).0 here, all)
+          | inr out ↦ absurd
+              (not_before (is_before g o is free are t (λ both. out both.1)))
+        ])
+        | inr out ↦ absurd (not_before (is_before g o is free are t (λ both. out ((wanted.1 t).1 both.0))))
+      ]
 
   -- where o isn't before t, the turn of t comes without o
-  comes_without : (o t : ℕ) → ¬ (Before g o t) → (ns : List ℕ) × Turns g g.goals ns × (¬ (Has ns o)) × MayTurn g g.goals ns t
+  comes_without : (o t : ℕ) → ¬ (Before g o t) → (ns : List ℕ) × IsSchedule g g.goals ns × (¬ (Has ns o)) × CanStart g g.goals ns t
   comes_without o t not_before =
       let free = free_nodes o in
       let would = would_turn o t free.0 free.1 not_before in

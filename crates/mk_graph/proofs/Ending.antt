@@ -7,7 +7,7 @@ use Rattle.mk_graph.specs.Membership.{Has}
 use Rattle.mk_graph.specs.Graph.{Graph, node}
 use Rattle.mk_graph.specs.Setting.{FileName, Setting, reads, writes}
 use Rattle.mk_graph.specs.World.{Outcome, Disk, Making, Busy, content}
-use Rattle.mk_graph.specs.Schedule.{End, Ready, MayEnd, finished, noted, changed_at, seen_by, put_by}
+use Rattle.mk_graph.specs.Steps.{End, Ready, MayEnd, finished, noted, changed_at, seen_by, put_by}
 use Rattle.mk_graph.specs.Runs.{WholeRun, Runs, run_of, runs_after}
 use Rattle.mk_graph.proofs.Changes.{changed_at_here, changed_at_there}
 use Rattle.mk_graph.proofs.InOrder.{runs_not_done, finished_in_order, Has-without, Has-from_without}
@@ -112,7 +112,14 @@ module _ (g : Graph) (s : Setting) (p : Runs) (start : ℕ) (m : Making) (d : Di
     -- a recipe that doesn't run has none of its files or is as its last run left it
     whole_ended : (t : ℕ) → ¬ (Has (finished m x).running t) → IsUntouched g s (noted d result) t ⊎ ((r : WholeRun) × (last t ≡ Some r) × HasRunWhole g s r (noted d result) t)
     whole_ended t stopped =
-        ⊎_elim (λ same. inr (run, last_here t same, subst (λ (k : ℕ). HasRunWhole g s run (noted d result) k) same whole_now)) (λ differ. ⊎_elim (λ none. inl none) (λ whole. inr (whole.0, last_there t differ ∙ whole.1, whole_still t whole.0 whole.2)) (fits.whole t (stopped_before t stopped differ))) (cases_eq x t)
+        ⊎_elim (λ same. inr (
+          run,
+          last_here t same,
+          subst (λ (k : ℕ). HasRunWhole g s run (noted d result) k)
+              same whole_now,
+        )) (λ differ. ⊎_elim (λ none. inl none)
+        (λ whole. inr (whole.0, last_there t differ ∙ whole.1, whole_still t whole.0 whole.2))
+        (fits.whole t (stopped_before t stopped differ))) (cases_eq x t)
 
     -- what last runs saw is there or was written since
     saw_ended : (t : ℕ) (r : WholeRun) → last t ≡ Some r → SawOrLater g s r (noted d result) t
@@ -126,7 +133,10 @@ module _ (g : Graph) (s : Setting) (p : Runs) (start : ℕ) (m : Making) (d : Di
       began = fits.began;
       ended = λ t r is_last. ⊎_elim (λ here. let same = ap (λ (k : WholeRun). k.ended) here.1 in omega arith) (λ there. fits.ended t r there.1) (last_cases t r is_last);
       last_begun = λ t r stopped is_last. ⊎_elim (λ here. sym (ap (λ (k : WholeRun). k.began) here.1) ∙ ap p.began here.0) (λ there. fits.last_begun t r (stopped_before t stopped there.0) there.1) (last_cases t r is_last);
-      after_begin = λ t f stamp stopped wrote has. ⊎_elim (λ same. subst (λ (k : ℕ). p.began k < stamp) same (let own = subst (λ (k : ℕ). Has (writes g s k) f) (sym same) wrote in is.put_late x f (unwrap_or (m.put x f) 0) stamp may.runs own (put_somewhere (m.put x f) (may.put f own)) has)) (λ differ. fits.after_begin t f stamp (stopped_before t stopped differ) wrote has) (cases_eq x t);
+      after_begin = λ t f stamp stopped wrote has. ⊎_elim (λ same. subst (λ (k : ℕ). p.began k < stamp) same
+          (let own = subst (λ (k : ℕ). Has (writes g s k) f) (sym same) wrote in is.put_late x f
+          (unwrap_or (m.put x f) 0) stamp may.runs own (put_somewhere (m.put x f) (may.put f own)) has))
+          (λ differ. fits.after_begin t f stamp (stopped_before t stopped differ) wrote has) (cases_eq x t);
       whole = whole_ended;
       saw = saw_ended;
       apart = λ o t before. ⊎_elim (λ one. inl (through_ended o (p.began t) one)) (λ two. inr (through_ended t (p.began o) two)) (fits.apart o t before);

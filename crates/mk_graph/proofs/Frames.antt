@@ -29,7 +29,10 @@ module _ (needs : ℕ → List ℕ) where
   -- With these frames, the innermost first, and these nodes finished, the rest of the walk ends so.
   abbrev pub Resumes : List Frame → List ℕ → WalkEnd → Type 0
   Resumes [] finished end = Through finished ≡ end
-  Resumes (frame ∷ frames) finished end = ((path : List ℕ) × Walks needs (frame.node ∷ nodes_of frames) finished (left_of frame) (Closes path) × (Closes path ≡ end)) ⊎ ((middle : List ℕ) × Walks needs (frame.node ∷ nodes_of frames) finished (left_of frame) (Through middle) × Resumes frames (frame.node ∷ middle) end)
+  Resumes (frame ∷ frames) finished end = ((path : List ℕ)
+      × Walks needs (frame.node ∷ nodes_of frames) finished (left_of frame) (Closes path)
+      × (Closes path ≡ end)) ⊎ ((middle : List ℕ) × Walks needs (frame.node ∷ nodes_of frames) finished
+      (left_of frame) (Through middle) × Resumes frames (frame.node ∷ middle) end)
 
   -- a walk of one node begins with its frame
   pub begins : (n : ℕ) (finished : List ℕ) (end : WalkEnd) → ¬ (Has finished n) → Resumes (begun n ∷ []) finished end → Walks needs [] finished (n ∷ []) end
@@ -54,7 +57,10 @@ module _ (needs : ℕ → List ℕ) where
       inl (path, subst (λ l. Walks needs (frame.node ∷ nodes_of frames) finished l (Closes path)) (sym next) (closes there), refl)
 
   -- a new prerequisite begins
-  pub goes_down : (frame : Frame) (frames : List Frame) (finished : List ℕ) (p : ℕ) (end : WalkEnd) → left_of frame ≡ p ∷ left_of (advanced frame) → ¬ (Has (frame.node ∷ nodes_of frames) p) → ¬ (Has finished p) → Resumes (begun p ∷ advanced frame ∷ frames) finished end → Resumes (frame ∷ frames) finished end
+  pub goes_down : (frame : Frame) (frames : List Frame) (finished : List ℕ) (p : ℕ) (end : WalkEnd)
+      → left_of frame ≡ p ∷ left_of (advanced frame) → ¬ (Has (frame.node ∷ nodes_of frames) p)
+      → ¬ (Has finished p) → Resumes (begun p ∷ advanced frame ∷ frames) finished end
+      → Resumes (frame ∷ frames) finished end
   goes_down frame frames finished p end next new unfinished (inl r) =
       inl (r.0, subst (λ l. Walks needs (frame.node ∷ nodes_of frames) finished l (Closes r.0)) (sym next) (breaks new unfinished r.1), r.2)
   goes_down frame frames finished p end next new unfinished (inr (middle, w, inl r)) =

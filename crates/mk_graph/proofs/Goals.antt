@@ -35,7 +35,11 @@ nothing_walked rows goals = record {
 }
 
 -- one goal more has been walked
-pub one_more : (rows : List (Vec ℕ Global)) (goals : List ℕ) (place : ℕ) (marks marks' : List Mark) (order order' : List ℕ) → place < length goals → HasWalked rows goals place marks order → Walks (row rows) [] (reverse order) (get_or goals place 0 ∷ []) (Through (reverse order')) → AreMarks marks' [] (reverse order') → length marks' ≡ length marks → HasWalked rows goals (place + 1) marks' order'
+pub one_more : (rows : List (Vec ℕ Global)) (goals : List ℕ) (place : ℕ) (marks marks' : List Mark)
+    (order order' : List ℕ) → place < length goals → HasWalked rows goals place marks order
+    → Walks (row rows) [] (reverse order) (get_or goals place 0 ∷ []) (Through (reverse order'))
+    → AreMarks marks' [] (reverse order') → length marks' ≡ length marks
+    → HasWalked rows goals (place + 1) marks' order'
 one_more rows goals place marks marks' order order' within is w are same = record {
   resumes = λ end v. is.resumes end (subst (λ (l : List ℕ). Walks (row rows) [] (reverse order) l end) (sym (drop_more goals place 0 within)) (then_walks (row rows) w v));
   marked = are;
@@ -43,7 +47,10 @@ one_more rows goals place marks marks' order order' within is w are same = recor
 }
 
 -- the goal at this place closes a path
-pub path_closed : (rows : List (Vec ℕ Global)) (goals : List ℕ) (place : ℕ) (marks : List Mark) (order path : List ℕ) → place < length goals → HasWalked rows goals place marks order → Walks (row rows) [] (reverse order) (get_or goals place 0 ∷ []) (Closes path) → Walks (row rows) [] [] goals (Closes path)
+pub path_closed : (rows : List (Vec ℕ Global)) (goals : List ℕ) (place : ℕ) (marks : List Mark)
+    (order path : List ℕ) → place < length goals → HasWalked rows goals place marks order
+    → Walks (row rows) [] (reverse order) (get_or goals place 0 ∷ []) (Closes path)
+    → Walks (row rows) [] [] goals (Closes path)
 path_closed rows goals place marks order path within is w =
     is.resumes (Closes path) (subst (λ (l : List ℕ). Walks (row rows) [] (reverse order) l (Closes path)) (sym (drop_more goals place 0 within)) (closes_first (row rows) (drop (place + 1) goals) w))
 

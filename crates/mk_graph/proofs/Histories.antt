@@ -5,9 +5,9 @@ use Rattle.std.proofs.lemmas.Bool.{true≢false}
 use Rattle.mk_graph.specs.Membership.{Has}
 use Rattle.mk_graph.specs.Graph.{Graph, node, IsGraph}
 use Rattle.mk_graph.specs.Setting.{FileName, Setting, is_editable, reads, writes}
-use Rattle.mk_graph.specs.World.{File, Disk, Making, World, Idle, Busy, IsStart, content, HasStamp, written, disk_of, outcome}
-use Rattle.mk_graph.specs.Turns.{IsPart}
-use Rattle.mk_graph.specs.Schedule.{Step, Edit, Make, Begin, Look, Put, End, Pass, Stop, EndMake, MustRun, Ready, Allowed, after, make_of, finished, IsLegal, after_all, disk_after}
+use Rattle.mk_graph.specs.World.{File, Disk, Making, World, Idle, Busy, IsStartDisk, content, HasStamp, written, disk_of, outcome}
+use Rattle.mk_graph.specs.Schedules.{IsPart}
+use Rattle.mk_graph.specs.Steps.{Step, Edit, Make, Begin, Look, Put, End, Pass, Stop, EndMake, MustRun, Ready, Allowed, after, make_of, finished, IsLegal, after_all, disk_after}
 use Rattle.mk_graph.specs.Runs.{WholeRun, Runs, no_runs, runs_after, runs_after_all, runs_of}
 use Rattle.mk_graph.specs.Ways.{Carries}
 use Rattle.mk_graph.specs.Right.{AreSound, HaveNoRace, HaveWays, IsRightAt}
@@ -30,13 +30,16 @@ stamped_file d f stamp has = cases (d.files f) refl where
 
 module _ (g : Graph) (s : Setting) where
   -- what each allowed step keeps, beside the runs so far, each legal history keeps
-  pub kept_with_runs : (P : Runs → ℕ → World → Type 0) → ((p : Runs) (start : ℕ) (w : World) (step : Step) → P p start w → Allowed g s w step → P (runs_after w step p) (start_after w step start) (after g s w step)) → (p : Runs) (start : ℕ) (w : World) (steps : List Step) → P p start w → IsLegal g s w steps → (now : ℕ) × P (runs_after_all g s w steps p) now (after_all g s w steps)
+  pub kept_with_runs : (P : Runs → ℕ → World → Type 0) → ((p : Runs) (start : ℕ) (w : World) (step : Step)
+      → P p start w → Allowed g s w step → P (runs_after w step p) (start_after w step start)
+      (after g s w step)) → (p : Runs) (start : ℕ) (w : World) (steps : List Step) → P p start w
+      → IsLegal g s w steps → (now : ℕ) × P (runs_after_all g s w steps p) now (after_all g s w steps)
   kept_with_runs P keeps p start w [] is legal = (start, is)
   kept_with_runs P keeps p start w (step ∷ steps) is legal = kept_with_runs P keeps (runs_after w step p) (start_after w step start) (after g s w step) steps (keeps p start w step is legal.0) legal.1
 
 module _ (g : Graph) (s : Setting) (graph : IsGraph g) (sound : AreSound g s) where
   -- nothing that recipes write is there at a start
-  pub untouched_at_start : (d : Disk) → IsStart s d → (t : ℕ) → IsUntouched g s d t
+  pub untouched_at_start : (d : Disk) → IsStartDisk s d → (t : ℕ) → IsUntouched g s d t
   untouched_at_start d start t f wrote =
       ⊎_elim (λ none. none) (λ there. let is = stamped_file d f there.0 there.1 in absurd (true≢false (sym (start.given f is.0 is.1) ∙ sound.not_given t f wrote))) (cases_file d f)
 
@@ -49,7 +52,7 @@ module _ (g : Graph) (s : Setting) (graph : IsGraph g) (sound : AreSound g s) wh
   no_last run e = absurd (cc)
 
   -- the invariant at a start
-  pub start_fits : (d : Disk) → IsStart s d → Fits g s no_runs [] d
+  pub start_fits : (d : Disk) → IsStartDisk s d → Fits g s no_runs [] d
   start_fits d start = record {
     stamped = λ f stamp has. let is = stamped_file d f stamp has in let early = start.stamped f is.0 is.1 in let same = is.2 in omega arith;
     began = λ t. omega arith;
@@ -107,7 +110,7 @@ module _ (g : Graph) (s : Setting) (graph : IsGraph g) (sound : AreSound g s) wh
     step_keeps p start (Busy m d) EndMake is may = rest_after p start m d is may.1
 
     -- the invariant after a legal history
-    pub history_fits : (d : Disk) (steps : List Step) → IsStart s d → IsLegal g s (Idle d) steps → (start : ℕ) × IsInvariant g s (runs_of g s d steps) start (after_all g s (Idle d) steps)
+    pub history_fits : (d : Disk) (steps : List Step) → IsStartDisk s d → IsLegal g s (Idle d) steps → (start : ℕ) × IsInvariant g s (runs_of g s d steps) start (after_all g s (Idle d) steps)
     history_fits d steps start legal = kept_with_runs g s (IsInvariant g s) step_keeps no_runs 0 (Idle d) steps (start_fits d start) legal
 
     -- the disk of a world fits the runs
@@ -116,7 +119,7 @@ module _ (g : Graph) (s : Setting) (graph : IsGraph g) (sound : AreSound g s) wh
     saw_in p start (Busy m d) is = is.fits.saw
 
     -- so last runs saw what is there, or it was written since
-    pub last_runs_saw : (d : Disk) (steps : List Step) → IsStart s d → IsLegal g s (Idle d) steps → (t : ℕ) (run : WholeRun) → (runs_of g s d steps).last t ≡ Some run → (f : FileName) → Has (reads g s t) f → SawOrWasWrittenAfter run (disk_after g s d steps) f
+    pub last_runs_saw : (d : Disk) (steps : List Step) → IsStartDisk s d → IsLegal g s (Idle d) steps → (t : ℕ) (run : WholeRun) → (runs_of g s d steps).last t ≡ Some run → (f : FileName) → Has (reads g s t) f → SawOrWasWrittenAfter run (disk_after g s d steps) f
     last_runs_saw d steps start legal t run is_last f read =
         let is = history_fits d steps start legal in
         ⊎_elim (λ sees. inl sees) (λ late. inr late.1) (saw_in (runs_of g s d steps) is.0 (after_all g s (Idle d) steps) is.1 t run is_last f read)
@@ -135,7 +138,10 @@ module _ (g : Graph) (s : Setting) (graph : IsGraph g) (sound : AreSound g s) wh
     IsWhole p start w = IsInvariant g s p start w × IsSettled g s p start w
 
     -- what is done stays up to date over each step, where what is passed is
-    pub step_settles : ((p : Runs) (start : ℕ) (m : Making) (d : Disk) → Holds g s p start m d → AreUpToDate g s p start m d → PassesUpToDate p start m d) → (p : Runs) (start : ℕ) (w : World) (step : Step) → IsWhole p start w → Allowed g s w step → IsSettled g s (runs_after w step p) (start_after w step start) (after g s w step)
+    pub step_settles : ((p : Runs) (start : ℕ) (m : Making) (d : Disk) → Holds g s p start m d
+        → AreUpToDate g s p start m d → PassesUpToDate p start m d)
+        → (p : Runs) (start : ℕ) (w : World) (step : Step) → IsWhole p start w → Allowed g s w step
+        → IsSettled g s (runs_after w step p) (start_after w step start) (after g s w step)
     step_settles passes p start (Idle d) (Edit f c) is may = tt
     step_settles passes p start (Idle d) (Make jobs goals) is may = λ t done. absurd done
     step_settles passes p start (Idle d) (Begin t) is may = absurd may
@@ -173,11 +179,11 @@ module _ (g : Graph) (s : Setting) (graph : IsGraph g) (sound : AreSound g s) wh
           (step_keeps p start w step is.0 may, step_settles (λ q begun m d at are n ready recipe need_not. passed_is_up_to_date g s graph sound q begun m d at.fits at.make are n ready recipe need_not ways) p start w step is may)
 
       -- so does each legal history
-      history_is_whole : (d : Disk) (steps : List Step) → IsStart s d → IsLegal g s (Idle d) steps → (start : ℕ) × IsWhole (runs_of g s d steps) start (after_all g s (Idle d) steps)
+      history_is_whole : (d : Disk) (steps : List Step) → IsStartDisk s d → IsLegal g s (Idle d) steps → (start : ℕ) × IsWhole (runs_of g s d steps) start (after_all g s (Idle d) steps)
       history_is_whole d steps start legal = kept_with_runs g s IsWhole whole_keeps no_runs 0 (Idle d) steps (start_fits d start, tt) legal
 
       -- each legal history is right
-      pub history_is_right : (d : Disk) (steps : List Step) → IsStart s d → IsLegal g s (Idle d) steps → IsRightAt g s (after_all g s (Idle d) steps)
+      pub history_is_right : (d : Disk) (steps : List Step) → IsStartDisk s d → IsLegal g s (Idle d) steps → IsRightAt g s (after_all g s (Idle d) steps)
       history_is_right d steps start legal =
           let is = history_is_whole d steps start legal in
           right_at (runs_of g s d steps) is.0 (after_all g s (Idle d) steps) is.1
@@ -189,7 +195,7 @@ module _ (g : Graph) (s : Setting) (graph : IsGraph g) (sound : AreSound g s) wh
           ⊎_elim (λ none. absurd (true≢false (sym recipe ∙ none))) (λ need_not. ready_ran_after g s graph sound p start m d is.0.fits is.0.make is.1 t may.0 recipe need_not o carries) may.1
 
       -- so in each legal history
-      pub carried_ran_before : (d : Disk) (steps : List Step) → IsStart s d → IsLegal g s (Idle d) steps → (t o : ℕ) → (node g t).recipe ≡ true → Allowed g s (after_all g s (Idle d) steps) (Pass t) → Carries g s t o → RanBefore (runs_of g s d steps) o t
+      pub carried_ran_before : (d : Disk) (steps : List Step) → IsStartDisk s d → IsLegal g s (Idle d) steps → (t o : ℕ) → (node g t).recipe ≡ true → Allowed g s (after_all g s (Idle d) steps) (Pass t) → Carries g s t o → RanBefore (runs_of g s d steps) o t
       carried_ran_before d steps start legal t o recipe may carries =
           let is = history_is_whole d steps start legal in
           ran_in (runs_of g s d steps) is.0 (after_all g s (Idle d) steps) is.1 t o recipe may carries

@@ -6,30 +6,50 @@ use Rattle.mk_graph.specs.Membership.{Has}
 use Rattle.mk_graph.specs.Graph.{Graph, node}
 use Rattle.mk_graph.specs.Setting.{Setting}
 use Rattle.mk_graph.specs.World.{Disk, Making, World, Idle, Busy}
-use Rattle.mk_graph.specs.Turns.{MayTurn, Turns, IsPart}
-use Rattle.mk_graph.specs.Schedule.{Step, Edit, Make, Begin, Look, Put, End, Pass, Stop, EndMake, Ready, Allowed, after, finished, begun, IsLegal, after_all}
-use Rattle.mk_graph.proofs.Turning.{MayTurn-grow}
+use Rattle.mk_graph.specs.Schedules.{CanStart, IsSchedule, IsPart}
+use Rattle.mk_graph.specs.Steps.{Step, Edit, Make, Begin, Look, Put, End, Pass, Stop, EndMake, Ready, Allowed, after, finished, begun, IsLegal, after_all}
+use Rattle.mk_graph.proofs.Turning.{CanStart-grow}
 
 -- what remains when one is taken out of a list
 pub Has-without : (t x : ℕ) (ns : List ℕ) → Has (filter (λ n. not (nat_eq t n)) ns) x → Has ns x × (¬ (t ≡ x))
 Has-without t x [] h = absurd h
 Has-without t x (n ∷ ns) h =
     let rest = filter (λ n. not (nat_eq t n)) ns in
-    ⊎_elim (λ same. let e : cond (not (nat_eq t n)) (n ∷ rest) rest ≡ rest = cond-false (not (nat_eq t n)) (n ∷ rest) rest (ap not same) in let found = Has-without t x ns (subst (λ (l : List ℕ). Has l x) e h) in (inr found.0, found.1)) (λ other. let e : cond (not (nat_eq t n)) (n ∷ rest) rest ≡ n ∷ rest = cond-true (not (nat_eq t n)) (n ∷ rest) rest (ap not other) in elim (subst (λ (l : List ℕ). Has l x) e h) [ inl here ↦ (inl here, λ same. eqb-false t n other (same ∙ sym here)) | inr there ↦ (inr (Has-without t x ns there).0, (Has-without t x ns there).1) ]) (cases_Bool (nat_eq t n))
+    ⊎_elim (λ same. let e : cond (not (nat_eq t n)) (n ∷ rest) rest
+    ≡ rest = cond-false (not (nat_eq t n)) (n ∷ rest) rest (ap not same) in let found = Has-without t x ns
+    (subst (λ (l : List ℕ). Has l x) e h) in (inr found.0, found.1))
+    (λ other. let e : cond (not (nat_eq t n)) (n ∷ rest) rest ≡ n
+    ∷ rest = cond-true (not (nat_eq t n)) (n ∷ rest) rest (ap not other) in elim
+    (subst (λ (l : List ℕ). Has l x) e h) [
+      | inl here ↦ (
+        inl here,
+        λ same. eqb-false t n other
+            (same ∙ sym here),
+      )
+      | inr there ↦ (inr (Has-without t x ns there).0, (Has-without t x ns there).1)
+    ])
+    (cases_Bool (nat_eq t n))
 
 -- and all of it does
 pub Has-from_without : (t x : ℕ) (ns : List ℕ) → Has ns x → ¬ (t ≡ x) → Has (filter (λ n. not (nat_eq t n)) ns) x
 Has-from_without t x [] h differ = absurd h
 Has-from_without t x (n ∷ ns) h differ =
     let rest = filter (λ n. not (nat_eq t n)) ns in
-    ⊎_elim (λ same. let e : cond (not (nat_eq t n)) (n ∷ rest) rest ≡ rest = cond-false (not (nat_eq t n)) (n ∷ rest) rest (ap not same) in subst (λ (l : List ℕ). Has l x) (sym e) (⊎_elim (λ here. absurd (differ (eqb-true t n same ∙ here))) (λ there. Has-from_without t x ns there differ) h)) (λ other. let e : cond (not (nat_eq t n)) (n ∷ rest) rest ≡ n ∷ rest = cond-true (not (nat_eq t n)) (n ∷ rest) rest (ap not other) in subst (λ (l : List ℕ). Has l x) (sym e) (⊎_elim (λ here. inl here) (λ there. inr (Has-from_without t x ns there differ)) h)) (cases_Bool (nat_eq t n))
+    ⊎_elim (λ same. let e : cond (not (nat_eq t n)) (n ∷ rest) rest
+    ≡ rest = cond-false (not (nat_eq t n)) (n ∷ rest) rest (ap not same) in subst
+    (λ (l : List ℕ). Has l x) (sym e) (⊎_elim (λ here. absurd (differ (eqb-true t n same ∙ here)))
+    (λ there. Has-from_without t x ns there differ) h))
+    (λ other. let e : cond (not (nat_eq t n)) (n ∷ rest) rest ≡ n
+    ∷ rest = cond-true (not (nat_eq t n)) (n ∷ rest) rest (ap not other) in subst
+    (λ (l : List ℕ). Has l x) (sym e) (⊎_elim (λ here. inl here)
+    (λ there. inr (Has-from_without t x ns there differ)) h)) (cases_Bool (nat_eq t n))
 
 -- A make goes in order: the nodes done are a turn list, and the turns of the running recipes may come behind it.
 pub record InOrder (g : Graph) (m : Making) : Type 0 where
   pub part : IsPart m.goals g.goals
-  pub turns : Turns g m.goals m.done
+  pub turns : IsSchedule g m.goals m.done
   pub recipes : (t : ℕ) → Has m.running t → (node g t).recipe ≡ true
-  pub running : (t : ℕ) → Has m.running t → MayTurn g m.goals m.done t
+  pub running : (t : ℕ) → Has m.running t → CanStart g m.goals m.done t
 
 -- a make in progress goes in order
 abbrev pub GoesInOrder : Graph → World → Type 0
@@ -47,16 +67,16 @@ module _ (g : Graph) (m : Making) (is : InOrder g m) where
     part = is.part;
     turns = is.turns;
     recipes = λ x h. ⊎_elim (λ here. subst (λ (k : ℕ). (node g k).recipe ≡ true) here recipe) (λ there. is.recipes x there) h;
-    running = λ x h. ⊎_elim (λ here. subst (λ (k : ℕ). MayTurn g m.goals m.done k) here ready.0) (λ there. is.running x there) h;
+    running = λ x h. ⊎_elim (λ here. subst (λ (k : ℕ). CanStart g m.goals m.done k) here ready.0) (λ there. is.running x there) h;
   }
 
   -- after a node was done, whose turn had come
-  pub finished_in_order : (t : ℕ) → MayTurn g m.goals m.done t → InOrder g (finished m t)
+  pub finished_in_order : (t : ℕ) → CanStart g m.goals m.done t → InOrder g (finished m t)
   finished_in_order t may = record {
     part = is.part;
     turns = (may, is.turns);
     recipes = λ x h. is.recipes x (Has-without t x m.running h).0;
-    running = λ x h. let left = Has-without t x m.running h in MayTurn-grow m.done (t ∷ m.done) (λ n there. inr there) g m.goals x (λ d. ⊎_elim (λ here. left.1 here) (λ there. (is.running x left.0).not_done there) d) (is.running x left.0);
+    running = λ x h. let left = Has-without t x m.running h in CanStart-grow m.done (t ∷ m.done) (λ n there. inr there) g m.goals x (λ d. ⊎_elim (λ here. left.1 here) (λ there. (is.running x left.0).not_done there) d) (is.running x left.0);
   }
 
 module _ (g : Graph) (s : Setting) where

@@ -4,8 +4,8 @@ use Rattle.mk_graph.specs.Membership.{Has}
 use Rattle.mk_graph.specs.Graph.{Graph, node}
 use Rattle.mk_graph.specs.Setting.{FileName, Setting, reads, writes}
 use Rattle.mk_graph.specs.World.{Disk, Making, World, Idle, Busy, content, HasStamp, WasWrittenAfter, outcome}
-use Rattle.mk_graph.specs.Turns.{Before}
-use Rattle.mk_graph.specs.Schedule.{Step, Make, MustRun}
+use Rattle.mk_graph.specs.Schedules.{Before}
+use Rattle.mk_graph.specs.Steps.{Step, Make, MustRun}
 use Rattle.mk_graph.specs.Runs.{WholeRun, Runs}
 use Rattle.mk_graph.specs.Ways.{CanChange}
 use Rattle.mk_graph.proofs.InOrder.{InOrder}

@@ -4,7 +4,7 @@ use Rattle.std.specs.Prelude.{◌↔◌}
 use Rattle.std.specs.declared.alloc.Global.{Global}
 use Rattle.std.proofs.lemmas.List.{drop_more}
 use Rattle.mk_graph.specs.Membership.{Has}
-use Rattle.mk_graph.specs.Turns.{HasAll, InOpenGroup}
+use Rattle.mk_graph.specs.Schedules.{HasAll, InOpenGroup}
 use Rattle.mk_graph.specs.Without.{joined}
 use Rattle.mk_graph.specs.Lists.{has_left, has_right, has_cases}
 use Rattle.mk_graph.proofs.Parts.{HasAll-from_Has, Has-from_HasAll}
@@ -21,7 +21,10 @@ module _ (ns numbers : List ℕ) (i : ℕ) (low : i < length numbers) where
   number_lacks out rest all = out (subst (λ (l : List ℕ). HasAll ns l) (drop_more numbers i 0 low) (rest.0 all)).0
 
 -- a number joins a set
-pub number_joins : (was old new numbers : List ℕ) (i : ℕ) → i < length numbers → ((n : ℕ) → Has new n ↔ ((n ≡ get_or numbers i 0) ⊎ Has old n)) → ((n : ℕ) → (Has numbers n ⊎ Has was n) ↔ (Has (drop i numbers) n ⊎ Has old n)) → (n : ℕ) → (Has numbers n ⊎ Has was n) ↔ (Has (drop (i + 1) numbers) n ⊎ Has new n)
+pub number_joins : (was old new numbers : List ℕ) (i : ℕ) → i < length numbers
+    → ((n : ℕ) → Has new n ↔ ((n ≡ get_or numbers i 0) ⊎ Has old n))
+    → ((n : ℕ) → (Has numbers n ⊎ Has was n) ↔ (Has (drop i numbers) n ⊎ Has old n)) → (n : ℕ)
+    → (Has numbers n ⊎ Has was n) ↔ (Has (drop (i + 1) numbers) n ⊎ Has new n)
 number_joins was old new numbers i low joins rest n =
     let e = drop_more numbers i 0 low in (
       λ h. elim ((rest n).0 h) [ inl left ↦ (elim (subst (λ (l : List ℕ). Has l n) e left) [ inl here ↦ inr ((joins n).1 (inl (sym here))) | inr there ↦ inl there ]) | inr had ↦ inr ((joins n).1 (inr had)) ],

@@ -8,11 +8,11 @@ use Rattle.mk_graph.specs.Membership.{Has, has}
 use Rattle.mk_graph.specs.Graph.{Graph, node}
 use Rattle.mk_graph.specs.Setting.{FileName, Setting, reads, writes, writings}
 use Rattle.mk_graph.specs.World.{File, Outcome, Disk, World, Busy, HasStamp, content, last_stamp, outcome, disk_of}
-use Rattle.mk_graph.specs.Turns.{MayTurn}
-use Rattle.mk_graph.specs.Schedule.{changed_at, Step, Pass, MustRun, after, noted, IsLegal, after_all}
+use Rattle.mk_graph.specs.Schedules.{CanStart}
+use Rattle.mk_graph.specs.Steps.{changed_at, Step, Pass, MustRun, after, noted, IsLegal, after_all}
 use Rattle.mk_graph.specs.SerialMake.{whole_run}
 use Rattle.mk_graph.specs.Right.{AreSound}
-use Rattle.mk_graph.specs.InTurn.{next_stamps, to_put, MakesBut, ends, passes, runs}
+use Rattle.mk_graph.specs.NodeByNode.{next_stamps, to_put, MakesAllBut, ends, passes, runs}
 use Rattle.mk_graph.proofs.Sound.{writer_has_recipe}
 use Rattle.mk_graph.proofs.Outcomes.{cases_outcome, noted_cases}
 use Rattle.mk_graph.proofs.Writing.{one_stamp}
@@ -67,7 +67,19 @@ module _ (g : Graph) (s : Setting) where
     to_put_fits d t by_name =
         let found = outcome d.known t (map (content d) (reads g s t)) in
         let stamps = next_stamps d.clock (length (writes g s t)) in
-        ⊎_elim (λ none. (ap (λ (o : Option (List ℕ)). length (unwrap_or o stamps)) none ∙ next_stamps_many d.clock (length (writes g s t)), inl none)) (λ some. let form = by_name t (map (content d) (reads g s t)) some.0 some.1 in let is : to_put g s d t ≡ some.0 = ap (λ (o : Option (List ℕ)). unwrap_or o stamps) some.1 in (ap (λ (l : List ℕ). length l) (is ∙ form.1) ∙ length-map (writes g s t) form.0, inr (form.0, some.1 ∙ ap (λ (l : List ℕ). Some l) (sym is), is ∙ form.1))) (cases_outcome d (record { recipe = t; seen = []; written = [] }) t (map (content d) (reads g s t)))
+        ⊎_elim (λ none. (
+          ap (λ (o : Option (List ℕ)). length (unwrap_or o stamps)) none
+              ∙ next_stamps_many d.clock (length (writes g s t)),
+          inl none,
+        ))
+        (λ some. let form = by_name t (map (content d) (reads g s t)) some.0 some.1 in let is : to_put g s
+        d t ≡ some.0 = ap (λ (o : Option (List ℕ)). unwrap_or o stamps) some.1 in (
+          ap (λ (l : List ℕ). length l) (is ∙ form.1) ∙ length-map (writes g s t) form.0,
+          inr
+              (form.0, some.1 ∙ ap (λ (l : List ℕ). Some l) (sym is), is ∙ form.1),
+        ))
+        (cases_outcome d (record { recipe = t; seen = []; written = [] }) t
+        (map (content d) (reads g s t)))
 
     -- files of what was done before a run stay
     module _ (t : ℕ) (done : List ℕ) (limit : ℕ) (d e : Disk) (left : Left passed done before limit d) (new : ¬ (Has done t)) (keeps : (h : FileName) → ¬ (Has (writes g s t) h) → e.files h ≡ d.files h) where
@@ -82,8 +94,13 @@ module _ (g : Graph) (s : Setting) where
       -- the order of their stamps
       ascends_still : (ns : List ℕ) → ((n : ℕ) → Has ns n → Has done n) → Ascends passed ns d → Ascends passed ns e
       ascends_still [] within old = tt
-      ascends_still (n ∷ ns) within old =
-          (λ x h k stamp early x_in x_run n_run wrote k_wrote has k_has. old.0 x h k stamp early x_in x_run n_run wrote k_wrote (other_stamp n h stamp (within n (inl refl)) wrote has) (other_stamp x k early (within x (inr x_in)) k_wrote k_has), ascends_still ns (λ m there. within m (inr there)) old.1)
+      ascends_still (n ∷ ns) within old = (
+        λ x h k stamp early x_in x_run n_run wrote k_wrote has k_has. old.0 x h k stamp early x_in x_run
+            n_run wrote k_wrote (other_stamp n h stamp (within n (inl refl)) wrote has)
+            (other_stamp x k early (within x (inr x_in)) k_wrote k_has),
+        ascends_still ns
+            (λ m there. within m (inr there)) old.1,
+      )
 
     -- after a whole run
     left_ran : (t : ℕ) (done cs : List ℕ) (limit : ℕ) (d : Disk) (w : World) → ¬ (passed t) → ¬ (Has done t) → Left passed done before limit d → (ran : Ran g s 1 g.goals done t cs d w) → Left passed (t ∷ done) before (limit + length (writes g s t)) (noted ran.disk ran.result)
@@ -95,10 +112,31 @@ module _ (g : Graph) (s : Setting) where
           stamped = ran.stamped left.stamped;
           grown = omega arith;
           low = omega arith;
-          by_name = λ x saw written e. ⊎_elim (λ same. let form = ran.result_is in (form.0, sym same.1 ∙ subst (λ (k : ℕ). ran.result.written ≡ map form.0 (writes g s k)) (sym ran.result_recipe ∙ same.0) form.1)) (λ old. left.by_name x saw written (subst (λ (l : List Outcome). outcome l x saw ≡ Some written) ran.known old)) (noted_cases ran.disk ran.result x saw written e);
+          by_name = λ x saw written e. ⊎_elim (λ same. let form = ran.result_is in (
+            form.0,
+            sym same.1 ∙ subst (λ (k : ℕ). ran.result.written ≡ map form.0 (writes g s k))
+                (sym ran.result_recipe ∙ same.0) form.1,
+          )) (λ old. left.by_name x saw written
+              (subst (λ (l : List Outcome). outcome l x saw ≡ Some written) ran.known old))
+              (noted_cases ran.disk ran.result x saw written e);
           keeps = λ h all. ran.keeps h (λ own. run (all t own)) ∙ left.keeps h all;
-          fresh = λ x h x_done x_run wrote. ⊎_elim (λ same. let late = ran.late h (subst (λ (k : ℕ). Has (writes g s k) h) (sym same) wrote) in (late.0, late.1, let less = late.2 in omega arith)) (λ there. let old = left.fresh x h there x_run wrote in (old.0, same_stamp d ran.disk h old.0 (other_stays t done limit d ran.disk left new ran.keeps x h there wrote) old.1, old.2)) x_done;
-          ascends = (λ x h k stamp old x_in x_run t_run wrote k_wrote has k_has. let late = ran.late h wrote in let same = one_stamp ran.disk h stamp late.0 has late.1 in let less = late.2 in let came = left.stamped k old (other_stamp t done limit d ran.disk left new ran.keeps x k old x_in k_wrote k_has) in omega arith, ascends_still t done limit d (noted ran.disk ran.result) left new ran.keeps done (λ n h. h) left.ascends);
+          fresh = λ x h x_done x_run wrote. ⊎_elim (λ same. let late = ran.late h
+              (subst (λ (k : ℕ). Has (writes g s k) h) (sym same) wrote) in
+              (late.0, late.1, let less = late.2 in omega arith))
+              (λ there. let old = left.fresh x h there x_run wrote in (
+                old.0,
+                same_stamp d ran.disk h old.0 (other_stays t done limit d ran.disk left new ran.keeps x
+                    h there wrote) old.1,
+                old.2,
+              )) x_done;
+          ascends = (
+            λ x h k stamp old x_in x_run t_run wrote k_wrote has k_has. let late = ran.late h wrote
+                in let same = one_stamp ran.disk h stamp late.0 has late.1 in let less = late.2 in let came =
+                left.stamped k old (other_stamp t done limit d ran.disk left new ran.keeps x k old x_in k_wrote
+                k_has) in omega arith,
+            ascends_still t done limit d (noted ran.disk ran.result) left new
+                ran.keeps done (λ n h. h) left.ascends,
+          );
         }
 
     -- after a node was passed
@@ -117,26 +155,72 @@ module _ (g : Graph) (s : Setting) where
 
     module _ (need_not : (n : ℕ) (now : Disk) → passed n → (node g n).recipe ≡ true → Keeps passed before now → ¬ (MustRun g now n)) where
       -- a whole run
-      one_run : (t : ℕ) (done : List ℕ) (limit : ℕ) (w : World) → (node g t).recipe ≡ true → ¬ (passed t) → MayTurn g g.goals done t → limit + length (writes g s t) ≤ last_stamp → Goes passed done before limit w → IsLegal g s w (whole_run g s t (to_put g s (disk_of w) t)) × Goes passed (t ∷ done) before (limit + length (writes g s t)) (after_all g s w (whole_run g s t (to_put g s (disk_of w) t)))
+      one_run : (t : ℕ) (done : List ℕ) (limit : ℕ) (w : World) → (node g t).recipe ≡ true → ¬ (passed t)
+          → CanStart g g.goals done t → limit + length (writes g s t) ≤ last_stamp
+          → Goes passed done before limit w → IsLegal g s w (whole_run g s t (to_put g s (disk_of w) t))
+          × Goes passed (t ∷ done) before (limit + length (writes g s t))
+          (after_all g s w (whole_run g s t (to_put g s (disk_of w) t)))
       one_run t done limit w recipe run may room goes =
           let fits = to_put_fits goes.disk t goes.left.by_name in
           let low = goes.left.low in
           let now = whole_run_legal g s 1 g.goals t done (to_put g s goes.disk t) goes.seen goes.put goes.disk fits.0 (omega arith) may recipe fits.1 (omega arith) in
-          subst (λ (k : World). IsLegal g s k (whole_run g s t (to_put g s (disk_of k) t)) × Goes passed (t ∷ done) before (limit + length (writes g s t)) (after_all g s k (whole_run g s t (to_put g s (disk_of k) t)))) (sym goes.is) (now.0, record { seen = now.1.seen; put = now.1.put; disk = noted now.1.disk now.1.result; is = now.1.is; left = left_ran t done (to_put g s goes.disk t) limit goes.disk (after_all g s (Busy (quiet g s 1 g.goals done goes.seen goes.put) goes.disk) (whole_run g s t (to_put g s goes.disk t))) run may.not_done goes.left now.1 })
+          subst (λ (k : World). IsLegal g s k (whole_run g s t (to_put g s (disk_of k) t))
+          × Goes passed (t ∷ done) before (limit + length (writes g s t))
+          (after_all g s k (whole_run g s t (to_put g s (disk_of k) t)))) (sym goes.is) (
+            now.0,
+            record {
+              seen = now.1.seen;
+              put = now.1.put;
+              disk = noted now.1.disk now.1.result;
+              is =
+                  now.1.is;
+              left = left_ran t done (to_put g s goes.disk t) limit goes.disk
+                  (after_all g s (Busy (quiet g s 1 g.goals done goes.seen goes.put) goes.disk)
+                  (whole_run g s t (to_put g s goes.disk t))) run may.not_done goes.left now.1;
+            },
+          )
 
       -- a pass
-      one_pass : (n : ℕ) (done : List ℕ) (limit : ℕ) (w : World) → ((node g n).recipe ≡ false) ⊎ passed n → MayTurn g g.goals done n → Goes passed done before limit w → IsLegal g s w (Pass n ∷ []) × Goes passed (n ∷ done) before (limit + length (writes g s n)) (after g s w (Pass n))
+      one_pass : (n : ℕ) (done : List ℕ) (limit : ℕ) (w : World) → ((node g n).recipe ≡ false) ⊎ passed n → CanStart g g.goals done n → Goes passed done before limit w → IsLegal g s w (Pass n ∷ []) × Goes passed (n ∷ done) before (limit + length (writes g s n)) (after g s w (Pass n))
       one_pass n done limit w why may goes =
           let may_pass : ((node g n).recipe ≡ false) ⊎ (¬ (MustRun g goes.disk n)) = ⊎_elim (λ no. inl no) (λ is. ⊎_elim (λ recipe. inr (need_not n goes.disk is recipe goes.left.keeps)) (λ no. inl no) (cases_Bool (node g n).recipe)) why in
-          subst (λ (k : World). IsLegal g s k (Pass n ∷ []) × Goes passed (n ∷ done) before (limit + length (writes g s n)) (after g s k (Pass n))) (sym goes.is) ((((may, λ h. h), may_pass), tt), record { seen = changed_at goes.seen n (λ f. None); put = changed_at goes.put n (λ f. None); disk = goes.disk; is = refl; left = left_passed n done limit goes.disk why goes.left })
+          subst (λ (k : World). IsLegal g s k (Pass n ∷ []) × Goes passed (n ∷ done) before
+          (limit + length (writes g s n)) (after g s k (Pass n))) (sym goes.is) (
+            (((may, λ h. h), may_pass), tt),
+            record {
+              seen = changed_at goes.seen n (λ f. None);
+              put =
+                  changed_at goes.put n (λ f. None);
+              disk = goes.disk;
+              is = refl;
+              left = left_passed n done limit
+                  goes.disk why goes.left;
+            },
+          )
 
       -- one node, and then others
-      then_others : (n : ℕ) (ns done : List ℕ) (first rest : List Step) (w : World) (limit : ℕ) → IsLegal g s w first → IsLegal g s (after_all g s w first) rest × Goes passed (reverse ns ++ (n ∷ done)) before ((limit + length (writes g s n)) + writings g s ns) (after_all g s (after_all g s w first) rest) → IsLegal g s w (first ++ rest) × Goes passed (reverse (n ∷ ns) ++ done) before (limit + writings g s (n ∷ ns)) (after_all g s w (first ++ rest))
-      then_others n ns done first rest w limit legal more =
-          (legal_append g s w first rest legal more.0, subst (λ (k : World). Goes passed (reverse (n ∷ ns) ++ done) before (limit + writings g s (n ∷ ns)) k) (sym (after_append g s w first rest)) (subst (λ (l : List ℕ). Goes passed l before (limit + writings g s (n ∷ ns)) (after_all g s (after_all g s w first) rest)) (done_behind g s [] 1 g.goals n ns done) (subst (λ (k : ℕ). Goes passed (reverse ns ++ (n ∷ done)) before k (after_all g s (after_all g s w first) rest)) (clock_behind g s [] 1 g.goals limit n ns) more.1)))
+      then_others : (n : ℕ) (ns done : List ℕ) (first rest : List Step) (w : World) (limit : ℕ)
+          → IsLegal g s w first → IsLegal g s (after_all g s w first) rest
+          × Goes passed (reverse ns ++ (n ∷ done)) before ((limit + length (writes g s n)) + writings g s ns)
+          (after_all g s (after_all g s w first) rest) → IsLegal g s w (first ++ rest)
+          × Goes passed (reverse (n ∷ ns) ++ done) before (limit + writings g s (n ∷ ns))
+          (after_all g s w (first ++ rest))
+      then_others n ns done first rest w limit legal more = (
+        legal_append g s w first rest legal more.0,
+        subst
+            (λ (k : World). Goes passed (reverse (n ∷ ns) ++ done) before (limit + writings g s (n ∷ ns)) k)
+            (sym (after_append g s w first rest)) (subst (λ (l : List ℕ). Goes passed l before
+            (limit + writings g s (n ∷ ns)) (after_all g s (after_all g s w first) rest))
+            (done_behind g s [] 1 g.goals n ns done) (subst (λ (k : ℕ). Goes passed
+            (reverse ns ++ (n ∷ done)) before k (after_all g s (after_all g s w first) rest))
+            (clock_behind g s [] 1 g.goals limit n ns) more.1)),
+      )
 
       -- all nodes
-      pub makes_legal : {w : World} {ns : List ℕ} {steps : List Step} → MakesBut g s passed w ns steps → (done : List ℕ) (limit : ℕ) → TurnOn g g.goals done ns → limit + writings g s ns ≤ last_stamp → Goes passed done before limit w → IsLegal g s w steps × Goes passed (reverse ns ++ done) before (limit + writings g s ns) (after_all g s w steps)
+      pub makes_legal : {w : World} {ns : List ℕ} {steps : List Step} → MakesAllBut g s passed w ns steps
+          → (done : List ℕ) (limit : ℕ) → TurnOn g g.goals done ns → limit + writings g s ns ≤ last_stamp
+          → Goes passed done before limit w → IsLegal g s w steps
+          × Goes passed (reverse ns ++ done) before (limit + writings g s ns) (after_all g s w steps)
       makes_legal (ends {w = w}) done limit turns room goes = (tt, subst (λ (k : ℕ). Goes passed done before k w) (omega arith) goes)
       makes_legal (passes {w = w} {n = n} {ns = ns} {steps = steps} why more) done limit turns room goes =
           let now = one_pass n done limit w why turns.0 goes in

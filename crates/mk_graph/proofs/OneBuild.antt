@@ -4,8 +4,8 @@ use Rattle.std.proofs.lemmas.Bool.{cases_Bool}
 use Rattle.mk_graph.specs.Membership.{Has}
 use Rattle.mk_graph.specs.Graph.{Graph, node, IsGraph}
 use Rattle.mk_graph.specs.Setting.{FileName, Setting, name, writes}
-use Rattle.mk_graph.specs.World.{Disk, Making, World, Idle, Busy, IsStart}
-use Rattle.mk_graph.specs.Schedule.{Step, Edit, Make, Begin, Look, Put, End, Pass, Stop, EndMake, MustRun, Ready, Allowed, after, make_of, finished, IsLegal, after_all}
+use Rattle.mk_graph.specs.World.{Disk, Making, World, Idle, Busy, IsStartDisk}
+use Rattle.mk_graph.specs.Steps.{Step, Edit, Make, Begin, Look, Put, End, Pass, Stop, EndMake, MustRun, Ready, Allowed, after, make_of, finished, IsLegal, after_all}
 use Rattle.mk_graph.specs.Runs.{Runs, no_runs, runs_after}
 use Rattle.mk_graph.specs.Right.{AreSound, HaveNoRace, IsRightAt}
 use Rattle.mk_graph.specs.BuildLaws.{IsInside, AreInside}
@@ -52,7 +52,11 @@ module _ (g : Graph) (s : Setting) (graph : IsGraph g) (sound : AreSound g s) (n
   inside_waits (Busy m d) (Begin t) inside none may = λ o not_done stopped. none o not_done (λ runs. stopped (inr runs))
   inside_waits (Busy m d) (Look t f) inside none may = none
   inside_waits (Busy m d) (Put t f c) inside none may =
-      λ o not_done stopped h wrote. ⊎_elim (λ same. absurd (stopped (subst (λ (k : ℕ). Has m.running k) (sound.one_writer t o h (subst (λ (k : FileName). Has (writes g s t) k) same may.1) wrote) may.0))) (λ differ. changed_there d.files f h (Some (record { content = c; stamp = d.clock + 1 })) differ ∙ none o not_done stopped h wrote) (cases_name f h)
+      λ o not_done stopped h wrote. ⊎_elim (λ same. absurd
+      (stopped (subst (λ (k : ℕ). Has m.running k) (sound.one_writer t o h
+      (subst (λ (k : FileName). Has (writes g s t) k) same may.1) wrote) may.0)))
+      (λ differ. changed_there d.files f h (Some (record { content = c; stamp = d.clock + 1 })) differ
+      ∙ none o not_done stopped h wrote) (cases_name f h)
   inside_waits (Busy m d) (End t) inside none may = finished_waits m d t none
   inside_waits (Busy m d) (Pass n) inside none may = finished_waits m d n none
   inside_waits (Busy m d) Stop inside none may = absurd inside
@@ -78,6 +82,6 @@ module _ (g : Graph) (s : Setting) (graph : IsGraph g) (sound : AreSound g s) (n
       all_right (runs_after w step p) (start_after w step start) (after g s w step) steps inside.1 (inside_waits w step inside.0 none legal.0) (step_keeps g s graph sound no_race p start w step is.0 legal.0, inside_settles p start w step inside.0 none is legal.0) legal.1
 
   -- one make from a start is right
-  pub one_build : (d : Disk) (jobs : ℕ) (goals : List ℕ) (steps : List Step) → IsStart s d → AreInside steps → IsLegal g s (Idle d) (Make jobs goals ∷ steps) → IsRightAt g s (after_all g s (Idle d) (Make jobs goals ∷ steps))
+  pub one_build : (d : Disk) (jobs : ℕ) (goals : List ℕ) (steps : List Step) → IsStartDisk s d → AreInside steps → IsLegal g s (Idle d) (Make jobs goals ∷ steps) → IsRightAt g s (after_all g s (Idle d) (Make jobs goals ∷ steps))
   one_build d jobs goals steps start inside legal =
       all_right no_runs d.clock (Busy (make_of jobs goals) d) steps inside (λ t not_done stopped. untouched_at_start g s graph sound d start t) (make_holds g s graph sound no_runs d jobs goals (start_fits g s graph sound d start) legal.0.1, λ t done. absurd done) legal.1

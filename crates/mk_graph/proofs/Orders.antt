@@ -77,7 +77,10 @@ module _ (needs : ℕ → List ℕ) (done : List ℕ) (closed : (n p : ℕ) → 
   -- a visit of one such node
   one_adds_nothing : (deep : ℕ) → AddNothing deep → (visited : List ℕ) (n : ℕ) → Has done n → beside done (visit needs (suc deep) visited n) ≡ beside done visited
   one_adds_nothing deep below visited n h =
-      ⊎_elim (λ e. ap (λ (l : List ℕ). beside done l) (visit_old needs deep visited n e)) (λ e. ap (λ (l : List ℕ). beside done l) (visit_new needs deep visited n e) ∙ beside_in done n (fold (visit needs deep) visited (needs n)) (has-from_Has done n h) ∙ below visited (needs n) (λ p need. closed n p h need)) (cases_Bool (has visited n))
+      ⊎_elim (λ e. ap (λ (l : List ℕ). beside done l) (visit_old needs deep visited n e))
+      (λ e. ap (λ (l : List ℕ). beside done l) (visit_new needs deep visited n e)
+      ∙ beside_in done n (fold (visit needs deep) visited (needs n)) (has-from_Has done n h)
+      ∙ below visited (needs n) (λ p need. closed n p h need)) (cases_Bool (has visited n))
 
   -- visits one level deeper
   adds_nothing_deep : (deep : ℕ) → AddNothing deep → AddNothing (suc deep)

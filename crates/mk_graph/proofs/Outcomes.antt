@@ -7,7 +7,7 @@ use Rattle.std.proofs.lemmas.Bool.{cases_Bool, cond-true, cond-false, and_parts,
 use Rattle.std.proofs.lemmas.Bool.Decides.{Decides-eqb}
 use Rattle.std.proofs.lemmas.Slice.Eq.{slice_eq-Decides}
 use Rattle.mk_graph.specs.World.{Outcome, Disk, outcome, same_seen}
-use Rattle.mk_graph.specs.Schedule.{noted}
+use Rattle.mk_graph.specs.Steps.{noted}
 
 -- the test on contents, or absences, says whether they are equal
 option_Decides : (a b : Option ℕ) → Decides (option_eq nat_eq a b) (a ≡ b)
@@ -31,7 +31,13 @@ found o known = cond-true (nat_eq o.recipe o.recipe && same_seen o.seen o.seen) 
 -- what was known stays known behind an outcome of something that wasn't
 stays : (o : Outcome) (known : List Outcome) (t : ℕ) (seen : List (Option ℕ)) (written : List ℕ) → outcome known o.recipe o.seen ≡ None → outcome known t seen ≡ Some written → outcome (o ∷ known) t seen ≡ Some written
 stays o known t seen written unknown e =
-    ⊎_elim (λ yes. let parts = and_parts (nat_eq o.recipe t) (same_seen o.seen seen) yes in let same_recipe = (Decides-eqb o.recipe t).0 parts.0 in let same = (same_seen-Decides o.seen seen).0 parts.1 in let none : outcome known t seen ≡ None = subst (λ (k : ℕ). outcome known k seen ≡ None) same_recipe (subst (λ (l : List (Option ℕ)). outcome known o.recipe l ≡ None) same unknown) in let both : None ≡ Some written = sym none ∙ e in absurd (cc)) (λ no. cond-false (nat_eq o.recipe t && same_seen o.seen seen) (Some o.written) (outcome known t seen) no ∙ e) (cases_Bool (nat_eq o.recipe t && same_seen o.seen seen))
+    ⊎_elim (λ yes. let parts = and_parts (nat_eq o.recipe t) (same_seen o.seen seen) yes in let same_recipe =
+    (Decides-eqb o.recipe t).0 parts.0 in let same = (same_seen-Decides o.seen seen).0 parts.1 in let none
+    : outcome known t seen ≡ None = subst (λ (k : ℕ). outcome known k seen ≡ None) same_recipe
+    (subst (λ (l : List (Option ℕ)). outcome known o.recipe l ≡ None) same unknown) in let both : None
+    ≡ Some written = sym none ∙ e in absurd (cc)) (λ no. cond-false
+    (nat_eq o.recipe t && same_seen o.seen seen) (Some o.written) (outcome known t seen) no ∙ e)
+    (cases_Bool (nat_eq o.recipe t && same_seen o.seen seen))
 
 module _ (d : Disk) (o : Outcome) where
   -- nothing is noted where something was known
@@ -52,7 +58,11 @@ module _ (d : Disk) (o : Outcome) where
   -- an outcome that agrees with what was known is known when it was noted
   pub noted_new : IfSome (outcome d.known o.recipe o.seen) (λ known. known ≡ o.written) → outcome (noted d o).known o.recipe o.seen ≡ Some o.written
   noted_new agrees =
-      ⊎_elim (λ none. subst (λ (l : List Outcome). outcome l o.recipe o.seen ≡ Some o.written) (sym (noted_unknown none)) (found o d.known)) (λ some. let same : some.0 ≡ o.written = subst (λ (x : Option (List ℕ)). IfSome x (λ known. known ≡ o.written)) some.1 agrees in subst (λ (l : List Outcome). outcome l o.recipe o.seen ≡ Some o.written) (sym (noted_known some.0 some.1)) (some.1 ∙ ap (λ k. Some k) same)) (cases_outcome o.recipe o.seen)
+      ⊎_elim (λ none. subst (λ (l : List Outcome). outcome l o.recipe o.seen ≡ Some o.written)
+      (sym (noted_unknown none)) (found o d.known)) (λ some. let same : some.0
+      ≡ o.written = subst (λ (x : Option (List ℕ)). IfSome x (λ known. known ≡ o.written)) some.1 agrees
+      in subst (λ (l : List Outcome). outcome l o.recipe o.seen ≡ Some o.written)
+      (sym (noted_known some.0 some.1)) (some.1 ∙ ap (λ k. Some k) same)) (cases_outcome o.recipe o.seen)
 
   -- what was known is known
   pub noted_old : (t : ℕ) (seen : List (Option ℕ)) (written : List ℕ) → outcome d.known t seen ≡ Some written → outcome (noted d o).known t seen ≡ Some written
@@ -62,4 +72,15 @@ module _ (d : Disk) (o : Outcome) where
   -- what is known after an outcome was noted is that outcome, or was known
   pub noted_cases : (t : ℕ) (seen : List (Option ℕ)) (written : List ℕ) → outcome (noted d o).known t seen ≡ Some written → ((o.recipe ≡ t) × (o.written ≡ written)) ⊎ (outcome d.known t seen ≡ Some written)
   noted_cases t seen written e =
-      ⊎_elim (λ none. let e1 : outcome (o ∷ d.known) t seen ≡ Some written = subst (λ (l : List Outcome). outcome l t seen ≡ Some written) (noted_unknown none) e in ⊎_elim (λ yes. let same : Some o.written ≡ Some written = sym (cond-true (finds o t seen) (Some o.written) (outcome d.known t seen) yes) ∙ e1 in inl ((Decides-eqb o.recipe t).0 (and_parts (nat_eq o.recipe t) (same_seen o.seen seen) yes).0, cc)) (λ no. inr (sym (cond-false (finds o t seen) (Some o.written) (outcome d.known t seen) no) ∙ e1)) (cases_Bool (finds o t seen))) (λ some. inr (subst (λ (l : List Outcome). outcome l t seen ≡ Some written) (noted_known some.0 some.1) e)) (cases_outcome o.recipe o.seen)
+      ⊎_elim (λ none. let e1 : outcome (o ∷ d.known) t seen
+      ≡ Some written = subst (λ (l : List Outcome). outcome l t seen ≡ Some written) (noted_unknown none)
+      e in ⊎_elim (λ yes. let same : Some o.written ≡ Some written = sym
+      (cond-true (finds o t seen) (Some o.written) (outcome d.known t seen) yes)
+      ∙ e1 in inl (
+        (Decides-eqb o.recipe t).0 (and_parts (nat_eq o.recipe t) (same_seen o.seen seen)
+            yes).0,
+        cc,
+      )) (λ no. inr (sym (cond-false (finds o t seen) (Some o.written) (outcome d.known t seen)
+      no) ∙ e1)) (cases_Bool (finds o t seen))) (λ some. inr
+      (subst (λ (l : List Outcome). outcome l t seen ≡ Some written) (noted_known some.0 some.1) e))
+      (cases_outcome o.recipe o.seen)

@@ -4,11 +4,11 @@ use Rattle.std.specs.Prelude.{IfSome}
 use Rattle.mk_graph.specs.Membership.{Has}
 use Rattle.mk_graph.specs.Graph.{Graph, node}
 use Rattle.mk_graph.specs.Setting.{FileName, Setting, reads, writes, writings}
-use Rattle.mk_graph.specs.World.{Outcome, Disk, Making, World, Idle, Busy, IsStart, HasStampsFor, content, changed, written, last_stamp, outcome}
-use Rattle.mk_graph.specs.Turns.{MayTurn, Turns, IsPart}
-use Rattle.mk_graph.specs.Schedule.{Step, Look, Put, End, Allowed, after, MayEnd, begun, looked, has_put, finished, noted, seen_by, put_by, make_of, IsLegal, after_all}
+use Rattle.mk_graph.specs.World.{Outcome, Disk, Making, World, Idle, Busy, IsStartDisk, HasStampsFor, content, changed, written, last_stamp, outcome}
+use Rattle.mk_graph.specs.Schedules.{CanStart, IsSchedule, IsPart}
+use Rattle.mk_graph.specs.Steps.{Step, Look, Put, End, Allowed, after, MayEnd, begun, looked, has_put, finished, noted, seen_by, put_by, make_of, IsLegal, after_all}
 use Rattle.mk_graph.specs.SerialMake.{puts, rest_of_run}
-use Rattle.mk_graph.specs.InTurn.{MakesAll}
+use Rattle.mk_graph.specs.NodeByNode.{MakesAll}
 use Rattle.mk_graph.specs.Overlap.{Interleaves, nothing, from_first, from_second, begin_both, RunTogether, overlapping}
 use Rattle.mk_graph.proofs.Changes.{cases_name, changed_here, changed_there, changed_at_here, changed_at_there}
 use Rattle.mk_graph.proofs.InOrder.{Has-from_without}
@@ -102,7 +102,13 @@ module _ (g : Graph) (s : Setting) where
             does = record {
               runs = does.runs;
               looks = λ h among. does.looks h (inr among);
-              seen = λ h read. ⊎_elim (λ same. inr (λ none. let both : Some (content d f) ≡ None = sym (changed_here (m.seen x) f h (Some (content d f)) same) ∙ (sym (ap (λ (at : FileName → Option (Option ℕ)). at h) own_seen) ∙ none) in cc)) (λ another. ⊎_elim (λ among. ⊎_elim (λ same. absurd (another same)) (λ there. inl there) among) (λ some. inr (λ none. some (sym (changed_there (m.seen x) f h (Some (content d f)) another) ∙ (sym (ap (λ (at : FileName → Option (Option ℕ)). at h) own_seen) ∙ none)))) (does.seen h read)) (cases_name f h);
+              seen = λ h read. ⊎_elim (λ same. inr (λ none. let both : Some (content d f)
+                  ≡ None = sym (changed_here (m.seen x) f h (Some (content d f)) same)
+                  ∙ (sym (ap (λ (at : FileName → Option (Option ℕ)). at h) own_seen) ∙ none) in cc))
+                  (λ another. ⊎_elim (λ among. ⊎_elim (λ same. absurd (another same)) (λ there. inl there)
+                  among) (λ some. inr (λ none. some (sym (changed_there (m.seen x) f h (Some (content d f))
+                  another) ∙ (sym (ap (λ (at : FileName → Option (Option ℕ)). at h) own_seen) ∙ none))))
+                  (does.seen h read)) (cases_name f h);
               writing = does.writing;
               put = does.put;
               many = does.many;
@@ -137,7 +143,13 @@ module _ (g : Graph) (s : Setting) where
               looks = λ h among. absurd among;
               seen = does.seen;
               writing = λ h among. does.writing h (inr among);
-              put = λ h wrote. ⊎_elim (λ same. inr (λ none. let both : Some c ≡ None = sym (changed_here (m.put x) f h (Some c) same) ∙ (sym (ap (λ (at : FileName → Option ℕ). at h) own_put) ∙ none) in cc)) (λ another. ⊎_elim (λ among. ⊎_elim (λ same. absurd (another same)) (λ there. inl there) among) (λ some. inr (λ none. some (sym (changed_there (m.put x) f h (Some c) another) ∙ (sym (ap (λ (at : FileName → Option ℕ). at h) own_put) ∙ none)))) (does.put h wrote)) (cases_name f h);
+              put = λ h wrote. ⊎_elim (λ same. inr (λ none. let both : Some c
+                  ≡ None = sym (changed_here (m.put x) f h (Some c) same)
+                  ∙ (sym (ap (λ (at : FileName → Option ℕ). at h) own_put) ∙ none) in cc))
+                  (λ another. ⊎_elim (λ among. ⊎_elim (λ same. absurd (another same)) (λ there. inl there)
+                  among) (λ some. inr (λ none. some (sym (changed_there (m.put x) f h (Some c) another)
+                  ∙ (sym (ap (λ (at : FileName → Option ℕ). at h) own_put) ∙ none)))) (does.put h wrote))
+                  (cases_name f h);
               many = let more = does.many in omega arith;
             };
             unknown = unknown;
@@ -165,7 +177,12 @@ module _ (g : Graph) (s : Setting) where
           leaves = refl;
           fewer = 0;
           first = inl rest;
-          second = stays y m (finished m x) d (noted d o) others most (λ h. Has-from_without x y m.running h differ) (changed_at_there m.seen x y (λ h. None) differ) (changed_at_there m.put x y (λ h. None) differ) (λ none saw. subst (λ (l : List Outcome). outcome l y saw ≡ None) (sym (noted_unknown d o (unknown (seen_by g s m x)))) (skips o d.known y saw differ (none saw))) other;
+          second = stays y m (finished m x) d (noted d o) others most
+              (λ h. Has-from_without x y m.running h differ) (changed_at_there m.seen x y (λ h. None) differ)
+              (changed_at_there m.put x y (λ h. None) differ) (λ none saw. subst
+              (λ (l : List Outcome). outcome l y saw ≡ None) (sym
+              (noted_unknown d o (unknown (seen_by g s m x)))) (skips o d.known y saw differ (none saw)))
+              other;
           room = omega arith;
         })
 
@@ -205,7 +222,14 @@ module _ (g : Graph) (s : Setting) where
       unknown = unknown;
     })
 
-module _ (g : Graph) (s : Setting) (d : Disk) (jobs : ℕ) (goals ns : List ℕ) (before : List Step) (start : IsStart s d) (free : 1 < jobs) (part : IsPart goals g.goals) (turns : Turns g goals ns) (makes : MakesAll g s (Busy (make_of jobs goals) d) (reverse ns) before) (a b : ℕ) (differ : ¬ (a ≡ b)) (a_recipe : (node g a).recipe ≡ true) (b_recipe : (node g b).recipe ≡ true) (a_may : MayTurn g goals ns a) (b_may : MayTurn g goals ns b) (puts_a puts_b : List ℕ) (a_many : length puts_a ≡ length (writes g s a)) (b_many : length puts_b ≡ length (writes g s b)) (room : HasStampsFor d (writings g s (reverse ns) + (length (writes g s a) + length (writes g s b)))) (between : List Step) (together : RunTogether g s a puts_a b puts_b between) where
+module _ (g : Graph) (s : Setting) (d : Disk) (jobs : ℕ) (goals ns : List ℕ) (before : List Step)
+    (start : IsStartDisk s d) (free : 1 < jobs) (part : IsPart goals g.goals) (turns : IsSchedule g goals ns)
+    (makes : MakesAll g s (Busy (make_of jobs goals) d) (reverse ns) before) (a b : ℕ) (differ : ¬ (a ≡ b))
+    (a_recipe : (node g a).recipe ≡ true) (b_recipe : (node g b).recipe ≡ true)
+    (a_may : CanStart g goals ns a) (b_may : CanStart g goals ns b) (puts_a puts_b : List ℕ)
+    (a_many : length puts_a ≡ length (writes g s a)) (b_many : length puts_b ≡ length (writes g s b))
+    (room : HasStampsFor d (writings g s (reverse ns) + (length (writes g s a) + length (writes g s b))))
+    (between : List Step) (together : RunTogether g s a puts_a b puts_b between) where
   -- both begin behind the turn list, and go on
   both_go : (end : FileName → Option ℕ) (w : World) → Arrives g s jobs goals ns end (d.clock + writings g s (reverse ns)) w → IsLegal g s w (begin_both a b ++ between)
   both_go end w arrived =

@@ -2,7 +2,7 @@
 use Rattle.std.proofs.Common.{ℕ, List, [], ◌∷◌, inl, inr, refl, subst}
 use Rattle.mk_graph.specs.Membership.{Has, IsWithin}
 use Rattle.mk_graph.specs.Graph.{Graph, node}
-use Rattle.mk_graph.specs.Turns.{HasAll, InOpenGroup, Wanted, goal, onward, MayTurn, Turns, IsPart}
+use Rattle.mk_graph.specs.Schedules.{HasAll, InOpenGroup, Wanted, goal, onward, CanStart, IsSchedule, IsPart}
 use Rattle.mk_graph.specs.BuildLaws.{AllGoalsSuffice}
 
 -- all of a list stands there, element by element
@@ -33,17 +33,17 @@ Wanted-grows g goals all ns ms goals_within within n (goal h) = goal (goals_with
 Wanted-grows g goals all ns ms goals_within within n (onward {p} w stands) = onward (Wanted-grows g goals all ns ms goals_within within p w) (InOpenGroup-grows ns ms (node g p).groups n within stands)
 
 -- what may turn in a make of some goals may turn in one of more
-pub MayTurn-grows : (g : Graph) (goals all ns : List ℕ) (n : ℕ) → IsWithin goals all → MayTurn g goals ns n → MayTurn g all ns n
-MayTurn-grows g goals all ns n within may = record {
+pub CanStart-grows : (g : Graph) (goals all ns : List ℕ) (n : ℕ) → IsWithin goals all → CanStart g goals ns n → CanStart g all ns n
+CanStart-grows g goals all ns n within may = record {
   wanted = Wanted-grows g goals all ns ns within (λ k h. h) n may.wanted;
   not_done = may.not_done;
   prerequisites = may.prerequisites;
 }
 
 -- so a turn list stays one
-pub Turns-grows : (g : Graph) (goals all ns : List ℕ) → IsWithin goals all → Turns g goals ns → Turns g all ns
-Turns-grows g goals all [] within turns = tt
-Turns-grows g goals all (n ∷ ns) within turns = (MayTurn-grows g goals all ns n within turns.0, Turns-grows g goals all ns within turns.1)
+pub IsSchedule-grows : (g : Graph) (goals all ns : List ℕ) → IsWithin goals all → IsSchedule g goals ns → IsSchedule g all ns
+IsSchedule-grows g goals all [] within turns = tt
+IsSchedule-grows g goals all (n ∷ ns) within turns = (CanStart-grows g goals all ns n within turns.0, IsSchedule-grows g goals all ns within turns.1)
 
 -- what has a part that isn't empty is one
 pub part_of_itself : (goals all : List ℕ) → IsPart goals all → IsPart all all
@@ -55,4 +55,4 @@ part_of_itself (n ∷ goals) (m ∷ all) part = record { not_empty = λ e. absur
 pub all_goals_suffice : AllGoalsSuffice
 all_goals_suffice g o t all recipe goals ns part turns may =
     let within = Has-from_HasAll g.goals goals part.within in
-    all recipe ns (part_of_itself goals g.goals part) (Turns-grows g goals g.goals ns within turns) (MayTurn-grows g goals g.goals ns t within may)
+    all recipe ns (part_of_itself goals g.goals part) (IsSchedule-grows g goals g.goals ns within turns) (CanStart-grows g goals g.goals ns t within may)

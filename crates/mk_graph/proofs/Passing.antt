@@ -6,8 +6,8 @@ use Rattle.mk_graph.specs.Membership.{Has}
 use Rattle.mk_graph.specs.Graph.{Graph, node, prerequisites, IsGraph}
 use Rattle.mk_graph.specs.Setting.{FileName, Setting, name, writes}
 use Rattle.mk_graph.specs.World.{File, Disk, Making, content, HasStamp}
-use Rattle.mk_graph.specs.Turns.{Before}
-use Rattle.mk_graph.specs.Schedule.{MustRun, Ready}
+use Rattle.mk_graph.specs.Schedules.{Before}
+use Rattle.mk_graph.specs.Steps.{MustRun, Ready}
 use Rattle.mk_graph.specs.Runs.{WholeRun, Runs}
 use Rattle.mk_graph.specs.Ways.{Carries, Way, over, written, source, always}
 use Rattle.mk_graph.specs.Right.{AreSound, HaveWays}
@@ -152,6 +152,9 @@ module _ (g : Graph) (s : Setting) (graph : IsGraph g) (sound : AreSound g s) (p
           run = own.0;
           is_last = own.1;
           whole = own.2;
-          sees = λ f read. ⊎_elim (λ sees. sees) (λ later. let bound = along f (ways t f read later.0) ready_is_passed target.0 later.1.0 target.1 later.1.1 in let less = later.1.2 in let early = own.2.early (name g t) target.0 (own_target t ready_is_passed) target.1 in absurd (omega arith)) (fits.saw t own.0 own.1 f read);
+          sees = λ f read. ⊎_elim (λ sees. sees) (λ later. let bound = along f (ways t f read later.0)
+              ready_is_passed target.0 later.1.0 target.1 later.1.1 in let less = later.1.2 in let early =
+              own.2.early (name g t) target.0 (own_target t ready_is_passed) target.1 in absurd (omega arith))
+              (fits.saw t own.0 own.1 f read);
           settled = inl need_not;
         }

@@ -5,8 +5,8 @@ use Rattle.mk_graph.specs.Membership.{Has}
 use Rattle.mk_graph.specs.Graph.{Graph, node, prerequisites, IsGraph}
 use Rattle.mk_graph.specs.Setting.{FileName, Setting, name, reads, writes}
 use Rattle.mk_graph.specs.World.{Disk, Making, content, written, changed}
-use Rattle.mk_graph.specs.Turns.{Before}
-use Rattle.mk_graph.specs.Schedule.{has_put, looked}
+use Rattle.mk_graph.specs.Schedules.{Before}
+use Rattle.mk_graph.specs.Steps.{has_put, looked}
 use Rattle.mk_graph.specs.Runs.{Runs}
 use Rattle.mk_graph.specs.Right.{AreSound, HaveNoRace}
 use Rattle.mk_graph.proofs.Changes.{cases_name, changed_here, changed_there, changed_at_here, changed_at_there}
@@ -24,7 +24,10 @@ module _ (g : Graph) (m : Making) (order : InOrder g m) (o t : ℕ) (before : Be
   pub before_done : (node g t).recipe ≡ true → Has m.done t → ¬ (Has m.running o)
   before_done recipe done o_runs = runs_not_done g m order o o_runs (turn_has_before g m.goals order.part o t recipe before m.done order.turns done)
 
-module _ (g : Graph) (s : Setting) (graph : IsGraph g) (sound : AreSound g s) (no_race : HaveNoRace g s) (p : Runs) (start : ℕ) (m : Making) (d : Disk) (fits : Fits g s p m.running d) (is : InMake g s p start m d) (x : ℕ) (f : FileName) (c : ℕ) (runs : Has m.running x) (wrote : Has (writes g s x) f) where
+module _ (g : Graph) (s : Setting) (graph : IsGraph g) (sound : AreSound g s) (no_race : HaveNoRace g s)
+    (p : Runs) (start : ℕ) (m : Making) (d : Disk) (fits : Fits g s p m.running d)
+    (is : InMake g s p start m d) (x : ℕ) (f : FileName) (c : ℕ) (runs : Has m.running x)
+    (wrote : Has (writes g s x) f) where
   -- only the recipe that puts it writes the file
   only_it : (t : ℕ) → Has (writes g s t) f → Has m.running t
   only_it t h = subst (λ (k : ℕ). Has m.running k) (sound.one_writer x t f wrote h) runs
@@ -66,7 +69,22 @@ module _ (g : Graph) (s : Setting) (graph : IsGraph g) (sound : AreSound g s) (n
   -- what a recipe has put after this: the file that is put now, or one from before
   put_cases : (t : ℕ) (h : FileName) (new : ℕ) → Has m.running t → Has (writes g s t) h → (has_put m x f c).put t h ≡ Some new → ((f ≡ h) × (c ≡ new)) ⊎ ((¬ (f ≡ h)) × (m.put t h ≡ Some new))
   put_cases t h new t_runs h_wrote e =
-      ⊎_elim (λ same. let e1 : (has_put m x f c).put t ≡ changed (m.put x) f (Some c) = changed_at_here m.put x t (changed (m.put x) f (Some c)) same in let e2 : changed (m.put x) f (Some c) h ≡ Some new = sym (ap (λ (at : FileName → Option ℕ). at h) e1) ∙ e in ⊎_elim (λ here. let e3 : Some c ≡ Some new = sym (changed_here (m.put x) f h (Some c) here) ∙ e2 in inl (here, cc)) (λ there. inr (there, subst (λ (k : ℕ). m.put k h ≡ Some new) same (sym (changed_there (m.put x) f h (Some c) there) ∙ e2))) (cases_name f h)) (λ differ. let e1 : (has_put m x f c).put t ≡ m.put t = changed_at_there m.put x t (changed (m.put x) f (Some c)) differ in inr (λ same. differ (sound.one_writer x t h (subst (λ (k : FileName). Has (writes g s x) k) same wrote) h_wrote), sym (ap (λ (at : FileName → Option ℕ). at h) e1) ∙ e)) (cases_eq x t)
+      ⊎_elim (λ same. let e1 : (has_put m x f c).put t ≡ changed (m.put x) f (Some c) = changed_at_here m.put
+      x t (changed (m.put x) f (Some c)) same in let e2 : changed (m.put x) f (Some c) h
+      ≡ Some new = sym (ap (λ (at : FileName → Option ℕ). at h) e1)
+      ∙ e in ⊎_elim (λ here. let e3 : Some c ≡ Some new = sym (changed_here (m.put x) f h (Some c) here)
+      ∙ e2 in inl (here, cc)) (λ there. inr (
+        there,
+        subst (λ (k : ℕ). m.put k h ≡ Some new) same
+            (sym (changed_there (m.put x) f h (Some c) there) ∙ e2),
+      )) (cases_name f h))
+      (λ differ. let e1 : (has_put m x f c).put t ≡ m.put t = changed_at_there m.put x t
+      (changed (m.put x) f (Some c)) differ in inr (
+        λ same. differ
+            (sound.one_writer x t h (subst (λ (k : FileName). Has (writes g s x) k) same wrote) h_wrote),
+        sym
+            (ap (λ (at : FileName → Option ℕ). at h) e1) ∙ e,
+      )) (cases_eq x t)
 
   -- the invariant after a writing of a running recipe
   pub put_holds : Holds g s p start (has_put m x f c) (written d f c)
@@ -87,7 +105,18 @@ module _ (g : Graph) (s : Setting) (p : Runs) (start : ℕ) (m : Making) (d : Di
   -- what a recipe has seen after this is there
   look_cases : (t : ℕ) (h : FileName) (v : Option ℕ) → Has m.running t → Has (reads g s t) h → (looked m x f (content d f)).seen t h ≡ Some v → content d h ≡ v
   look_cases t h v t_runs read e =
-      ⊎_elim (λ same. let e1 : (looked m x f (content d f)).seen t ≡ changed (m.seen x) f (Some (content d f)) = changed_at_here m.seen x t (changed (m.seen x) f (Some (content d f))) same in let e2 : changed (m.seen x) f (Some (content d f)) h ≡ Some v = sym (ap (λ (at : FileName → Option (Option ℕ)). at h) e1) ∙ e in ⊎_elim (λ here. let e3 : Some (content d f) ≡ Some v = sym (changed_here (m.seen x) f h (Some (content d f)) here) ∙ e2 in let e4 : content d f ≡ v = cc in subst (λ (k : FileName). content d k ≡ v) here e4) (λ there. is.seen t h v t_runs read (subst (λ (k : ℕ). m.seen k h ≡ Some v) same (sym (changed_there (m.seen x) f h (Some (content d f)) there) ∙ e2))) (cases_name f h)) (λ differ. is.seen t h v t_runs read (sym (ap (λ (at : FileName → Option (Option ℕ)). at h) (changed_at_there m.seen x t (changed (m.seen x) f (Some (content d f))) differ)) ∙ e)) (cases_eq x t)
+      ⊎_elim (λ same. let e1 : (looked m x f (content d f)).seen t
+      ≡ changed (m.seen x) f (Some (content d f)) = changed_at_here m.seen x t
+      (changed (m.seen x) f (Some (content d f))) same in let e2 : changed (m.seen x) f
+      (Some (content d f)) h ≡ Some v = sym (ap (λ (at : FileName → Option (Option ℕ)). at h) e1)
+      ∙ e in ⊎_elim (λ here. let e3 : Some (content d f)
+      ≡ Some v = sym (changed_here (m.seen x) f h (Some (content d f)) here) ∙ e2 in let e4 : content d f
+      ≡ v = cc in subst (λ (k : FileName). content d k ≡ v) here e4)
+      (λ there. is.seen t h v t_runs read (subst (λ (k : ℕ). m.seen k h ≡ Some v) same
+      (sym (changed_there (m.seen x) f h (Some (content d f)) there) ∙ e2))) (cases_name f h))
+      (λ differ. is.seen t h v t_runs read (sym (ap (λ (at : FileName → Option (Option ℕ)). at h)
+      (changed_at_there m.seen x t (changed (m.seen x) f (Some (content d f))) differ)) ∙ e))
+      (cases_eq x t)
 
   -- the invariant after a look
   pub look_holds : Holds g s p start (looked m x f (content d f)) d

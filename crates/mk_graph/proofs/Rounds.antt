@@ -7,7 +7,7 @@ use Rattle.mk_graph.specs.declared.node.Node.{Node}
 use Rattle.mk_graph.specs.Membership.{Has, IsWithin}
 use Rattle.mk_graph.specs.Graph.{Graph, no_node, node, prerequisites, IsGraph}
 use Rattle.mk_graph.specs.Serial.{serial_order}
-use Rattle.mk_graph.specs.Turns.{HasAll, InOpenGroup, Wanted, goal as wanted_goal, onward as wanted_onward, Before}
+use Rattle.mk_graph.specs.Schedules.{HasAll, InOpenGroup, Wanted, goal as wanted_goal, onward as wanted_onward, Before}
 use Rattle.mk_graph.specs.Without.{IsFree, AreFree, joined}
 use Rattle.mk_graph.specs.Lists.{has_left, has_right, has_cases}
 use Rattle.mk_graph.proofs.Members.{Has-get_or}
@@ -96,7 +96,19 @@ module _ (g : Graph) (is : IsGraph g) (order : List ℕ) (order_is : order ≡ s
           record {
             sound = λ n h. ⊎_elim (λ stands. wanted_onward (are.sound this here) stands) (λ had. are.sound n had) ((joins n).0 h);
             all_goals = λ n h. (joins n).1 (inr (are.all_goals n h));
-            rest = λ p h. elim ((joins p).0 h) [ inl stands ↦ inl (needs_before place p low (open_joined done (node g this).groups p stands)) | inr had ↦ (elim (are.rest p had) [ inl before ↦ (elim ((Has-take_more order place p low).0 before) [ inl earlier ↦ inl earlier | inr same ↦ inr (λ n stands. (joins n).1 (inl (subst (λ k. InOpenGroup done (node g k).groups n) same stands))) ]) | inr closed ↦ inr (λ n stands. (joins n).1 (inr (closed n stands))) ]) ];
+            rest = λ p h. elim ((joins p).0 h) [
+              | inl stands ↦ inl
+                  (needs_before place p low (open_joined done (node g this).groups p stands))
+              | inr had ↦ (elim (are.rest p had) [
+                | inl before ↦
+                    (elim ((Has-take_more order place p low).0 before) [
+                      | inl earlier ↦ inl earlier
+                      | inr same ↦ inr (λ n stands. (joins n).1
+                          (inl (subst (λ k. InOpenGroup done (node g k).groups n) same stands)))
+                    ])
+                | inr closed ↦ inr (λ n stands. (joins n).1 (inr (closed n stands)))
+              ])
+            ];
           }
 
       -- it isn't

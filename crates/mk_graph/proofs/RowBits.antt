@@ -39,12 +39,45 @@ module _ (old others new : List ℕ) (same : length new ≡ length old) (size : 
   -- words that were intersected lack what one of the two lacked
   pub lacks_met : new ≡ zip2 bit_and old others → Lacks new o ↔ (Lacks old o ⊎ Lacks others o)
   lacks_met is =
-      elim (cases_lt (o / 64) (length new)) [ inl low ↦ (let bit : bit_of new o ≡ min (bit_of old o) (bit_of others o) = ap (λ w. bit_at w (o % 64)) (each_word bit_and is (o / 64) low) ∙ bit_at_and (get_or old (o / 64) 0) (get_or others (o / 64) 0) (o % 64) in (λ h. let none = (lacks_bit new o).0 h in elim (cases_lt 0 (bit_of old o)) [ inl some ↦ inr ((lacks_bit others o).1 (omega arith)) | inr zero ↦ inl ((lacks_bit old o).1 (omega arith)) ], λ h. (lacks_bit new o).1 (⊎_elim (λ l. let none = (lacks_bit old o).0 l in omega arith) (λ l. let none = (lacks_bit others o).0 l in omega arith) h))) | inr past ↦ (λ h. inl (lacks_beyond old o (omega arith)), λ h. lacks_beyond new o past) ]
+      elim (cases_lt (o / 64) (length new)) [
+        | inl low ↦ (let bit : bit_of new o
+            ≡ min (bit_of old o) (bit_of others o) = ap (λ w. bit_at w (o % 64))
+            (each_word bit_and is (o / 64) low) ∙ bit_at_and (get_or old (o / 64) 0) (get_or others (o / 64) 0)
+            (o % 64) in (
+              λ h. let none = (lacks_bit new o).0 h in elim (cases_lt 0 (bit_of old o)) [
+                | inl some ↦ inr ((lacks_bit others o).1 (omega arith))
+                | inr zero ↦ inl ((lacks_bit old o).1 (omega arith))
+              ],
+              λ h. (lacks_bit new o).1
+                  (⊎_elim (λ l. let none = (lacks_bit old o).0 l in omega arith)
+                  (λ l. let none = (lacks_bit others o).0 l in omega arith) h),
+            ))
+        | inr past ↦ (λ h. inl (lacks_beyond old o (omega arith)), λ h. lacks_beyond new o past)
+      ]
 
   -- words that were united lack what both lacked
   pub lacks_united : new ≡ zip2 bit_or old others → Lacks new o ↔ (Lacks old o × Lacks others o)
   lacks_united is =
-      elim (cases_lt (o / 64) (length new)) [ inl low ↦ (let bit : bit_of new o ≡ max (bit_of old o) (bit_of others o) = ap (λ w. bit_at w (o % 64)) (each_word bit_or is (o / 64) low) ∙ bit_at_or (get_or old (o / 64) 0) (get_or others (o / 64) 0) (o % 64) in (λ h. let none = (lacks_bit new o).0 h in ((lacks_bit old o).1 (omega arith), (lacks_bit others o).1 (omega arith)), λ h. let none = (lacks_bit old o).0 h.0 in let none' = (lacks_bit others o).0 h.1 in (lacks_bit new o).1 (omega arith))) | inr past ↦ (λ h. (lacks_beyond old o (omega arith), lacks_beyond others o (omega arith)), λ h. lacks_beyond new o past) ]
+      elim (cases_lt (o / 64) (length new)) [
+        | inl low ↦ (let bit : bit_of new o
+            ≡ max (bit_of old o) (bit_of others o) = ap (λ w. bit_at w (o % 64))
+            (each_word bit_or is (o / 64) low) ∙ bit_at_or (get_or old (o / 64) 0) (get_or others (o / 64) 0)
+            (o % 64) in (
+              λ h. let none = (lacks_bit new o).0 h in
+                  ((lacks_bit old o).1 (omega arith), (lacks_bit others o).1 (omega arith)),
+              λ h. let none =
+                  (lacks_bit old o).0 h.0 in let none' = (lacks_bit others o).0 h.1 in (lacks_bit new o).1
+                  (omega arith),
+            ))
+        | inr past ↦ (
+          λ h. (
+            lacks_beyond old o (omega arith),
+            lacks_beyond others o
+                (omega arith),
+          ),
+          λ h. lacks_beyond new o past,
+        )
+      ]
 
 module _ (stride : ℕ) (words : List ℕ) (number : ℕ) (room : number * stride + stride ≤ length words) where
   -- a row has as many words as its stride says
@@ -65,7 +98,16 @@ module _ (stride : ℕ) (words : List ℕ) (number : ℕ) (room : number * strid
     -- the other rows stay
     pub row_other : (n : ℕ) → n ≢ number → row stride written n ≡ row stride words n
     row_other n ne =
-        elim (cases_lt n number) [ inl below ↦ (let fits : n * stride + stride ≤ number * stride = row_fits n stride number stride below (omega arith) in sym (drop-take (n * stride) stride written) ∙ ap (λ (l : List ℕ). drop (n * stride) l) (take-put_mid_below (number * stride) k words part (n * stride + stride) fits (omega arith)) ∙ drop-take (n * stride) stride words) | inr above ↦ (let fits : number * stride + stride ≤ n * stride = row_fits number stride n stride (omega (arith, ne)) (omega arith) in ap (λ (l : List ℕ). take stride l) (drop-put_mid (number * stride) k words part (n * stride) (omega arith) (omega arith) (omega arith))) ]
+        elim (cases_lt n number) [
+          | inl below ↦ (let fits : n * stride + stride ≤ number * stride = row_fits n
+              stride number stride below (omega arith) in sym (drop-take (n * stride) stride written)
+              ∙ ap (λ (l : List ℕ). drop (n * stride) l) (take-put_mid_below (number * stride) k words part
+              (n * stride + stride) fits (omega arith)) ∙ drop-take (n * stride) stride words)
+          | inr above ↦ (let fits : number * stride + stride ≤ n * stride = row_fits number stride n stride
+              (omega (arith, ne)) (omega arith) in ap (λ (l : List ℕ). take stride l)
+              (drop-put_mid (number * stride) k words part (n * stride) (omega arith) (omega arith)
+              (omega arith)))
+        ]
 
     -- a row that was intersected with a gate
     pub row_met : (gate : List ℕ) → length gate ≡ stride → part ≡ zip2 bit_and (take k (drop (number * stride) words)) gate → (n o : ℕ) → RowLacks stride written n o ↔ (RowLacks stride words n o ⊎ ((n ≡ number) × Lacks gate o))
@@ -73,7 +115,26 @@ module _ (stride : ℕ) (words : List ℕ) (number : ℕ) (room : number * strid
         let old : List ℕ = row stride words number in
         let combined : part ≡ zip2 bit_and old gate = is ∙ ap (λ j. zip2 bit_and (take j (drop (number * stride) words)) gate) k_is in
         let met : Lacks part o ↔ (Lacks old o ⊎ Lacks gate o) = lacks_met old gate part (long ∙ sym length-row) (length-row ∙ sym size) o combined in
-        elim (cases_eq n number) [ inl same ↦ (λ h. elim (met.0 (subst (λ (l : List ℕ). Lacks l o) (ap (λ m. row stride written m) same ∙ row_same) h)) [ inl lacked ↦ inl (subst (λ m. RowLacks stride words m o) (sym same) lacked) | inr gated ↦ inr (same, gated) ], λ h. subst (λ (l : List ℕ). Lacks l o) (sym (ap (λ m. row stride written m) same ∙ row_same)) (met.1 (⊎_elim (λ lacked. inl (subst (λ m. RowLacks stride words m o) same lacked)) (λ gated. inr gated.1) h))) | inr other ↦ (λ h. inl (subst (λ (l : List ℕ). Lacks l o) (row_other n other) h), λ h. ⊎_elim (λ lacked. subst (λ (l : List ℕ). Lacks l o) (sym (row_other n other)) lacked) (λ gated. absurd (other gated.0)) h) ]
+        elim (cases_eq n number) [
+          | inl same ↦ (
+            λ h. elim (met.0
+                (subst (λ (l : List ℕ). Lacks l o) (ap (λ m. row stride written m) same ∙ row_same) h)) [
+                  | inl lacked ↦ inl (subst (λ m. RowLacks stride words m o) (sym same) lacked)
+                  | inr gated ↦ inr (same, gated)
+                ],
+            λ h. subst (λ (l : List ℕ). Lacks l o)
+                (sym (ap (λ m. row stride written m) same ∙ row_same))
+                (met.1 (⊎_elim (λ lacked. inl (subst (λ m. RowLacks stride words m o) same lacked))
+                (λ gated. inr gated.1) h)),
+          )
+          | inr other ↦ (
+            λ h. inl
+                (subst (λ (l : List ℕ). Lacks l o) (row_other n other) h),
+            λ h. ⊎_elim
+                (λ lacked. subst (λ (l : List ℕ). Lacks l o) (sym (row_other n other)) lacked)
+                (λ gated. absurd (other gated.0)) h,
+          )
+        ]
 
 -- what the code reads of a word of a row
 pub reads_row : (words : List ℕ) (o word : ℕ) → word ≡ get_or words (o / 64) 0 → eqb (bit_and (word / 2 ^ (o % 64)) 1) 1 ≡ is_set words o
@@ -85,7 +146,16 @@ pub lacks_inserted : (words : List ℕ) (k : ℕ) → k / 64 < length words → 
 lacks_inserted words k low o =
     let is = lacks_bit (with_bit words k) o in
     let was = lacks_bit words o in
-    elim (cases_eq o k) [ inl same ↦ (λ h. let none = is.0 (subst (λ m. Lacks (with_bit words k) m) refl h) in let one : bit_of (with_bit words k) o ≡ 1 = subst (λ m. bit_of (with_bit words k) m ≡ 1) (sym same) (set_there words k low) in absurd (omega arith), λ h. absurd (h.1 same)) | inr other ↦ (let kept = kept_elsewhere words k low o other in (λ h. (was.1 (sym kept ∙ is.0 h), other), λ h. is.1 (kept ∙ was.0 h.0))) ]
+    elim (cases_eq o k) [
+      | inl same ↦ (
+        λ h. let none = is.0 (subst (λ m. Lacks (with_bit words k) m) refl h) in
+            let one : bit_of (with_bit words k) o ≡ 1 = subst (λ m. bit_of (with_bit words k) m ≡ 1) (sym same)
+            (set_there words k low) in absurd (omega arith),
+        λ h. absurd (h.1 same),
+      )
+      | inr other ↦ (let kept = kept_elsewhere words k low o other in
+          (λ h. (was.1 (sym kept ∙ is.0 h), other), λ h. is.1 (kept ∙ was.0 h.0)))
+    ]
 
 module _ (numbers : List ℕ) (i : ℕ) (low : i < length numbers) where
   -- all of these and all behind them
@@ -95,7 +165,13 @@ module _ (numbers : List ℕ) (i : ℕ) (low : i < length numbers) where
       (λ all. (all (get_or numbers i 0) (subst (λ (l : List ℕ). Has l (get_or numbers i 0)) (sym e) (inl refl)), λ n h. all n (subst (λ (l : List ℕ). Has l n) (sym e) (inr h))), λ both n h. elim (subst (λ (l : List ℕ). Has l n) e h) [ inl here ↦ subst P here both.0 | inr there ↦ both.1 n there ])
 
   -- a row more was intersected
-  pub met_more : (stride : ℕ) (was old new gate : List ℕ) → ((n o : ℕ) → RowLacks stride new n o ↔ (RowLacks stride old n o ⊎ ((n ≡ get_or numbers i 0) × Lacks gate o))) → ((n o : ℕ) → (RowLacks stride was n o ⊎ (Has numbers n × Lacks gate o)) ↔ (RowLacks stride old n o ⊎ (Has (drop i numbers) n × Lacks gate o))) → (n o : ℕ) → (RowLacks stride was n o ⊎ (Has numbers n × Lacks gate o)) ↔ (RowLacks stride new n o ⊎ (Has (drop (i + 1) numbers) n × Lacks gate o))
+  pub met_more : (stride : ℕ) (was old new gate : List ℕ)
+      → ((n o : ℕ) → RowLacks stride new n o ↔ (RowLacks stride old n o
+      ⊎ ((n ≡ get_or numbers i 0) × Lacks gate o))) → ((n o : ℕ)
+      → (RowLacks stride was n o ⊎ (Has numbers n × Lacks gate o))
+      ↔ (RowLacks stride old n o ⊎ (Has (drop i numbers) n × Lacks gate o))) → (n o : ℕ)
+      → (RowLacks stride was n o ⊎ (Has numbers n × Lacks gate o))
+      ↔ (RowLacks stride new n o ⊎ (Has (drop (i + 1) numbers) n × Lacks gate o))
   met_more stride was old new gate met rest n o =
       let e = drop_more numbers i 0 low in (
         λ h. elim ((rest n o).0 h) [ inl lacked ↦ inl ((met n o).1 (inl lacked)) | inr gated ↦ (elim (subst (λ (l : List ℕ). Has l n) e gated.0) [ inl here ↦ inl ((met n o).1 (inr (sym here, gated.1))) | inr there ↦ inr (there, gated.1) ]) ],
@@ -104,13 +180,22 @@ module _ (numbers : List ℕ) (i : ℕ) (low : i < length numbers) where
 
   module _ (stride : ℕ) (words : List ℕ) where
     -- a row more was united
-    pub united_more : (was old new : List ℕ) → ((o : ℕ) → Lacks new o ↔ (Lacks old o × RowLacks stride words (get_or numbers i 0) o)) → ((o : ℕ) → (Lacks was o × ((n : ℕ) → Has numbers n → RowLacks stride words n o)) ↔ (Lacks old o × ((n : ℕ) → Has (drop i numbers) n → RowLacks stride words n o))) → (o : ℕ) → (Lacks was o × ((n : ℕ) → Has numbers n → RowLacks stride words n o)) ↔ (Lacks new o × ((n : ℕ) → Has (drop (i + 1) numbers) n → RowLacks stride words n o))
+    pub united_more : (was old new : List ℕ) → ((o : ℕ) → Lacks new o
+        ↔ (Lacks old o × RowLacks stride words (get_or numbers i 0) o))
+        → ((o : ℕ) → (Lacks was o × ((n : ℕ) → Has numbers n → RowLacks stride words n o))
+        ↔ (Lacks old o × ((n : ℕ) → Has (drop i numbers) n → RowLacks stride words n o))) → (o : ℕ)
+        → (Lacks was o × ((n : ℕ) → Has numbers n → RowLacks stride words n o))
+        ↔ (Lacks new o × ((n : ℕ) → Has (drop (i + 1) numbers) n → RowLacks stride words n o))
     united_more was old new united rest o =
         let more = each_more (λ n. RowLacks stride words n o) in
         (λ h. let both = (rest o).0 h in let split = more.0 both.1 in ((united o).1 (both.0, split.0), split.1), λ h. let both = (united o).0 h.0 in (rest o).1 (both.0, more.1 (both.1, h.1)))
 
     -- a row more lacks the member
-    pub lacks_more : (o : ℕ) → RowLacks stride words (get_or numbers i 0) o → (((n : ℕ) → Has numbers n → RowLacks stride words n o) ↔ ((n : ℕ) → Has (drop i numbers) n → RowLacks stride words n o)) → ((n : ℕ) → Has numbers n → RowLacks stride words n o) ↔ ((n : ℕ) → Has (drop (i + 1) numbers) n → RowLacks stride words n o)
+    pub lacks_more : (o : ℕ) → RowLacks stride words (get_or numbers i 0) o
+        → (((n : ℕ) → Has numbers n → RowLacks stride words n o)
+        ↔ ((n : ℕ) → Has (drop i numbers) n → RowLacks stride words n o))
+        → ((n : ℕ) → Has numbers n → RowLacks stride words n o)
+        ↔ ((n : ℕ) → Has (drop (i + 1) numbers) n → RowLacks stride words n o)
     lacks_more o lacks rest =
         let more = each_more (λ n. RowLacks stride words n o) in
         (λ h. (more.0 (rest.0 h)).1, λ h. rest.1 (more.1 (lacks, h)))
@@ -119,7 +204,14 @@ module _ (numbers : List ℕ) (i : ℕ) (low : i < length numbers) where
 word_of_zeros : (count stride k : ℕ) → get_or (take stride (replicate {A = ℕ} count 0)) k 0 ≡ 0
 word_of_zeros count stride k =
     let zeros : List ℕ = replicate count 0 in
-    elim (cases_lt k stride) [ inl low ↦ get_or-take stride zeros k 0 low ∙ (elim (cases_lt k count) [ inl small ↦ get_or-replicate count k 0 0 small | inr large ↦ get_or_past zeros k 0 (omega (arith, length-replicate {A = ℕ} count 0)) ]) | inr past ↦ get_or_past (take stride zeros) k 0 (omega (arith, length-take stride zeros)) ]
+    elim (cases_lt k stride) [
+      | inl low ↦ get_or-take stride zeros k 0 low
+          ∙ (elim (cases_lt k count) [
+            | inl small ↦ get_or-replicate count k 0 0 small
+            | inr large ↦ get_or_past zeros k 0 (omega (arith, length-replicate {A = ℕ} count 0))
+          ])
+      | inr past ↦ get_or_past (take stride zeros) k 0 (omega (arith, length-take stride zeros))
+    ]
 
 -- zeros behind words are no other words
 pub word_before_zeros : (words : List ℕ) (count k : ℕ) → get_or (words ++ replicate count 0) k 0 ≡ get_or words k 0
@@ -145,7 +237,17 @@ zeros_lack count stride o =
 -- a row of ones lacks nothing that it has a bit for
 pub ones_lack : (stride total n o : ℕ) → n * stride + stride ≤ total → RowLacks stride (replicate total 18446744073709551615) n o → 64 * stride ≤ o
 ones_lack stride total n o room lacks =
-    elim (cases_lt (o / 64) stride) [ inl low ↦ (let word : get_or (row stride (replicate total 18446744073709551615) n) (o / 64) 0 ≡ 18446744073709551615 = get_or-take stride (drop (n * stride) (replicate total 18446744073709551615)) (o / 64) 0 low ∙ get_or-drop (n * stride) (replicate total 18446744073709551615) (o / 64) 0 ∙ get_or-replicate total (n * stride + o / 64) 18446744073709551615 0 (omega arith) in let one : bit_of (row stride (replicate total 18446744073709551615) n) o ≡ 1 = ap (λ w. bit_at w (o % 64)) word ∙ bit_at_ones 64 (o % 64) (omega arith) in let none = (lacks_bit (row stride (replicate total 18446744073709551615) n) o).0 lacks in absurd (omega arith)) | inr past ↦ omega arith ]
+    elim (cases_lt (o / 64) stride) [
+      | inl low ↦ (let word : get_or
+          (row stride (replicate total 18446744073709551615) n) (o / 64) 0
+          ≡ 18446744073709551615 = get_or-take stride (drop (n * stride) (replicate total 18446744073709551615))
+          (o / 64) 0 low ∙ get_or-drop (n * stride) (replicate total 18446744073709551615) (o / 64) 0
+          ∙ get_or-replicate total (n * stride + o / 64) 18446744073709551615 0 (omega arith) in let one :
+          bit_of (row stride (replicate total 18446744073709551615) n) o ≡ 1 = ap (λ w. bit_at w (o % 64)) word
+          ∙ bit_at_ones 64 (o % 64) (omega arith) in let none =
+          (lacks_bit (row stride (replicate total 18446744073709551615) n) o).0 lacks in absurd (omega arith))
+      | inr past ↦ omega arith
+    ]
 
 -- numbers that fall have a sum that falls, or are the same
 pub sum_falls : (xs ys : List ℕ) → length ys ≡ length xs → ((k : ℕ) → k < length ys → get_or ys k 0 ≤ get_or xs k 0) → (sum ys ≤ sum xs) × (sum ys ≡ sum xs → ys ≡ xs)
@@ -196,7 +298,14 @@ module _ (stride count : ℕ) where
         let b = get_or new k 0 in
         let small = fits k in
         let within : bit_and a b ≤ b = and_le_r a b in
-        let same : bit_and a b ≡ b = same_from_bits_below 64 (bit_and a b) b (omega arith) small (λ i lower. let of_a = bit_at-lt a i in let of_b = bit_at-lt b i in elim (cases_lt 0 (bit_at a i)) [ inl some ↦ bit_at_and a b i ∙ omega arith | inr none ↦ (let zero_b : bit_at b i ≡ 0 = (word_bit new k i low lower).0 (stays (k / stride) (k % stride * 64 + i) ((word_bit old k i low lower).1 (omega arith))) in bit_at_and a b i ∙ omega arith) ]) in
+        let same : bit_and a b ≡ b = same_from_bits_below 64 (bit_and a b) b (omega arith) small
+        (λ i lower. let of_a = bit_at-lt a i in let of_b = bit_at-lt b i in elim (cases_lt 0 (bit_at a i)) [
+          | inl some ↦ bit_at_and a b i ∙ omega arith
+          | inr none ↦
+              (let zero_b : bit_at b i ≡ 0 = (word_bit new k i low lower).0
+              (stays (k / stride) (k % stride * 64 + i) ((word_bit old k i low lower).1 (omega arith))) in
+              bit_at_and a b i ∙ omega arith)
+        ]) in
         let falls = and_le_l a b in
         omega arith
 
@@ -209,12 +318,25 @@ module _ (groups : List (Vec ℕ Global)) (i : ℕ) (group : Vec ℕ Global) (nu
   each_group : (P : ℕ → Type 0) → ((n : ℕ) → Has (joined (lists (drop i groups))) n → P n) ↔ (((n : ℕ) → Has numbers n → P n) × ((n : ℕ) → Has (joined (lists (drop (i + 1) groups))) n → P n))
   each_group P =
       let e = lists_more groups i group numbers low is value in
-      let rest : List ℕ = joined (lists (drop (i + 1) groups)) in
-      (λ all. (λ n h. all n (subst (λ (l : List (List ℕ)). Has (joined l) n) (sym e) (has_left numbers rest n h)), λ n h. all n (subst (λ (l : List (List ℕ)). Has (joined l) n) (sym e) (has_right numbers rest n h))), λ both n h. ⊎_elim (both.0 n) (both.1 n) (has_cases numbers rest n (subst (λ (l : List (List ℕ)). Has (joined l) n) e h)))
+      let rest : List ℕ = joined (lists (drop (i + 1) groups)) in (
+        λ all. (
+          λ n h. all n (subst (λ (l : List (List ℕ)). Has (joined l) n) (sym e)
+              (has_left numbers rest n h)),
+          λ n h. all n (subst (λ (l : List (List ℕ)). Has (joined l) n) (sym e)
+              (has_right numbers rest n h)),
+        ),
+        λ both n h. ⊎_elim (both.0 n) (both.1 n)
+            (has_cases numbers rest n (subst (λ (l : List (List ℕ)). Has (joined l) n) e h)),
+      )
 
   module _ (stride : ℕ) (words : List ℕ) where
     -- the rows of a group more were united
-    pub group_united : (was old new : List ℕ) → ((o : ℕ) → Lacks new o ↔ (Lacks old o × ((n : ℕ) → Has numbers n → RowLacks stride words n o))) → ((o : ℕ) → (Lacks was o × ((n : ℕ) → Has (joined (lists groups)) n → RowLacks stride words n o)) ↔ (Lacks old o × ((n : ℕ) → Has (joined (lists (drop i groups))) n → RowLacks stride words n o))) → (o : ℕ) → (Lacks was o × ((n : ℕ) → Has (joined (lists groups)) n → RowLacks stride words n o)) ↔ (Lacks new o × ((n : ℕ) → Has (joined (lists (drop (i + 1) groups))) n → RowLacks stride words n o))
+    pub group_united : (was old new : List ℕ) → ((o : ℕ) → Lacks new o
+        ↔ (Lacks old o × ((n : ℕ) → Has numbers n → RowLacks stride words n o)))
+        → ((o : ℕ) → (Lacks was o × ((n : ℕ) → Has (joined (lists groups)) n → RowLacks stride words n o))
+        ↔ (Lacks old o × ((n : ℕ) → Has (joined (lists (drop i groups))) n → RowLacks stride words n o)))
+        → (o : ℕ) → (Lacks was o × ((n : ℕ) → Has (joined (lists groups)) n → RowLacks stride words n o))
+        ↔ (Lacks new o × ((n : ℕ) → Has (joined (lists (drop (i + 1) groups))) n → RowLacks stride words n o))
     group_united was old new united rest o =
         let more = each_group (λ n. RowLacks stride words n o) in
         (λ h. let both = (rest o).0 h in let split = more.0 both.1 in ((united o).1 (both.0, split.0), split.1), λ h. let both = (united o).0 h.0 in (rest o).1 (both.0, more.1 (both.1, h.1)))
@@ -230,13 +352,30 @@ module _ (groups : List (Vec ℕ Global)) (i : ℕ) (group : Vec ℕ Global) (nu
       pub group_has_member : ¬ ((n : ℕ) → Has numbers n → RowLacks stride words n o) → ¬ ((n : ℕ) → Has (joined (lists groups)) n → RowLacks stride words n o)
       group_has_member some h = some ((each_group (λ n. RowLacks stride words n o)).0 (rest.0 h)).0
 
-  module _ (lacks : (n o : ℕ) → Type 0) (was old new : (n o : ℕ) → Type 0) (start gate : ℕ → Type 0) (met : (n o : ℕ) → new n o ↔ (old n o ⊎ (Has numbers n × gate o))) (rest : (n o : ℕ) → (was n o ⊎ (start o × IsOpenTo (λ m. lacks m o) (lists groups) n)) ↔ (old n o ⊎ (gate o × IsOpenTo (λ m. lacks m o) (lists (drop i groups)) n))) where
+  module _ (lacks : (n o : ℕ) → Type 0) (was old new : (n o : ℕ) → Type 0) (start gate : ℕ → Type 0)
+      (met : (n o : ℕ) → new n o ↔ (old n o ⊎ (Has numbers n × gate o)))
+      (rest : (n o : ℕ) → (was n o ⊎ (start o × IsOpenTo (λ m. lacks m o) (lists groups) n))
+      ↔ (old n o ⊎ (gate o × IsOpenTo (λ m. lacks m o) (lists (drop i groups)) n))) where
     -- the gate was passed on to a group and takes its rows
     pub gate_goes_on : (next : ℕ → Type 0) → ((o : ℕ) → next o ↔ (gate o × ((m : ℕ) → Has numbers m → lacks m o))) → (n o : ℕ) → (was n o ⊎ (start o × IsOpenTo (λ m. lacks m o) (lists groups) n)) ↔ (new n o ⊎ (next o × IsOpenTo (λ m. lacks m o) (lists (drop (i + 1) groups)) n))
     gate_goes_on next united n o =
         let e = lists_more groups i group numbers low is value in (
           λ h. elim ((rest n o).0 h) [ inl had ↦ inl ((met n o).1 (inl had)) | inr gated ↦ (elim (subst (λ (l : List (List ℕ)). IsOpenTo (λ m. lacks m o) l n) e gated.1) [ inl here ↦ inl ((met n o).1 (inr (here, gated.0))) | inr later ↦ inr ((united o).1 (gated.0, later.0), later.1) ]) ],
-          λ h. (rest n o).1 (elim h [ inl has ↦ (elim ((met n o).0 has) [ inl had ↦ inl had | inr here ↦ inr (here.1, subst (λ (l : List (List ℕ)). IsOpenTo (λ m. lacks m o) l n) (sym e) (inl here.0)) ]) | inr later ↦ (let both = (united o).0 later.0 in inr (both.0, subst (λ (l : List (List ℕ)). IsOpenTo (λ m. lacks m o) l n) (sym e) (inr (both.1, later.1)))) ]),
+          λ h. (rest n o).1 (elim h [
+            | inl has ↦ (elim ((met n o).0 has) [
+              | inl had ↦ inl had
+              | inr here ↦ inr (
+                here.1,
+                subst
+                    (λ (l : List (List ℕ)). IsOpenTo (λ m. lacks m o) l n) (sym e) (inl here.0),
+              )
+            ])
+            | inr later ↦ (let both = (united o).0 later.0 in inr (
+              both.0,
+              subst (λ (l : List (List ℕ)). IsOpenTo (λ m. lacks m o) l n) (sym e)
+                  (inr (both.1, later.1)),
+            ))
+          ]),
         )
 
     -- the gate was passed on to the last group
@@ -245,5 +384,15 @@ module _ (groups : List (Vec ℕ Global)) (i : ℕ) (group : Vec ℕ Global) (nu
         let e = lists_more groups i group numbers low is value in
         let none : lists (drop (i + 1) groups) ≡ [] = ap (λ (l : List (Vec ℕ Global)). lists l) (drop_all (i + 1) groups past) in (
           λ h. elim ((rest n o).0 h) [ inl had ↦ inl ((met n o).1 (inl had)) | inr gated ↦ (elim (subst (λ (l : List (List ℕ)). IsOpenTo (λ m. lacks m o) l n) e gated.1) [ inl here ↦ inl ((met n o).1 (inr (here, gated.0))) | inr later ↦ inr (gated.0, later.1) ]) ],
-          λ h. (rest n o).1 (elim h [ inl has ↦ (elim ((met n o).0 has) [ inl had ↦ inl had | inr here ↦ inr (here.1, subst (λ (l : List (List ℕ)). IsOpenTo (λ m. lacks m o) l n) (sym e) (inl here.0)) ]) | inr later ↦ absurd (subst (λ (l : List (List ℕ)). IsOpenTo (λ m. lacks m o) l n) none later.1) ]),
+          λ h. (rest n o).1 (elim h [
+            | inl has ↦ (elim ((met n o).0 has) [
+              | inl had ↦ inl had
+              | inr here ↦ inr (
+                here.1,
+                subst
+                    (λ (l : List (List ℕ)). IsOpenTo (λ m. lacks m o) l n) (sym e) (inl here.0),
+              )
+            ])
+            | inr later ↦ absurd (subst (λ (l : List (List ℕ)). IsOpenTo (λ m. lacks m o) l n) none later.1)
+          ]),
         )

@@ -28,7 +28,11 @@ module _ (needs : ℕ → List ℕ) (deep : ℕ) (under finished todo : List ℕ
       passes (Has-from_has finished n e) (subst (λ (l : List ℕ). Walks needs under finished todo (Through (fold (visit needs (suc deep)) l todo))) (sym (visit_old needs deep finished n e)) w)
 
   -- and finishes what was not
-  finishes_new : has finished n ≡ false → ¬ (Has under n) → Walks needs (n ∷ under) finished (needs n) (Through (fold (visit needs deep) finished (needs n))) → ((visited : List ℕ) → Walks needs under visited todo (Through (fold (visit needs (suc deep)) visited todo))) → Walks needs under finished (n ∷ todo) (Through (fold (visit needs (suc deep)) finished (n ∷ todo)))
+  finishes_new : has finished n ≡ false → ¬ (Has under n)
+      → Walks needs (n ∷ under) finished (needs n) (Through (fold (visit needs deep) finished (needs n)))
+      → ((visited : List ℕ) → Walks needs under visited todo
+      (Through (fold (visit needs (suc deep)) visited todo)))
+      → Walks needs under finished (n ∷ todo) (Through (fold (visit needs (suc deep)) finished (n ∷ todo)))
   finishes_new e new inside rest =
       let middle = fold (visit needs deep) finished (needs n) in
       finishes new (not-from_has finished n e) inside (subst (λ (l : List ℕ). Walks needs under (n ∷ middle) todo (Through (fold (visit needs (suc deep)) l todo))) (sym (visit_new needs deep finished n e)) (rest (n ∷ middle)))

@@ -30,7 +30,13 @@ Has-from_passing test (suc k) n h =
 Has-passing : (test : ℕ → Bool) (bound n : ℕ) → n < bound → test n ≡ true → Has (passing test bound) n
 Has-passing test zero n low e = absurd (omega arith)
 Has-passing test (suc k) n low e =
-    elim (cases_eq k n) [ inl same ↦ subst (λ (l : List ℕ). Has l n) (sym (passing_in test k (subst (λ m. test m ≡ true) (sym same) e))) (inl same) | inr other ↦ let rest = Has-passing test k n (omega (arith, other)) e in ⊎_elim (λ p. subst (λ (l : List ℕ). Has l n) (sym (passing_in test k p)) (inr rest)) (λ p. subst (λ (l : List ℕ). Has l n) (sym (passing_out test k p)) rest) (cases_Bool (test k)) ]
+    elim (cases_eq k n) [
+      | inl same ↦ subst (λ (l : List ℕ). Has l n)
+          (sym (passing_in test k (subst (λ m. test m ≡ true) (sym same) e))) (inl same)
+      | inr other ↦ let rest = Has-passing test k n (omega (arith, other)) e in ⊎_elim
+          (λ p. subst (λ (l : List ℕ). Has l n) (sym (passing_in test k p)) (inr rest))
+          (λ p. subst (λ (l : List ℕ). Has l n) (sym (passing_out test k p)) rest) (cases_Bool (test k))
+    ]
 
 -- the bit of a number
 abbrev pub bit_of : List ℕ → ℕ → ℕ
@@ -54,7 +60,10 @@ pub no_members : (count n : ℕ) → ¬ (Has (members (replicate count 0)) n)
 no_members count n h =
     let e : bit_of (replicate count 0) n ≡ 1 = (member_is (replicate count 0) n).0 h in
     let same : length (replicate {A = ℕ} count 0) ≡ count = length-replicate count 0 in
-    ⊎_elim (λ low. let none : bit_of (replicate count 0) n ≡ 0 = ap (λ w. bit_at w (n % 64)) (get_or-replicate count (n / 64) 0 0 low) ∙ bit_at-zero (n % 64) in omega arith) (λ past. let none = bit_beyond (replicate count 0) n (subst (λ k. k ≤ n / 64) (sym same) past) in omega arith) (cases_lt (n / 64) count)
+    ⊎_elim (λ low. let none : bit_of (replicate count 0) n
+    ≡ 0 = ap (λ w. bit_at w (n % 64)) (get_or-replicate count (n / 64) 0 0 low)
+    ∙ bit_at-zero (n % 64) in omega arith) (λ past. let none = bit_beyond (replicate count 0) n
+    (subst (λ k. k ≤ n / 64) (sym same) past) in omega arith) (cases_lt (n / 64) count)
 
 -- the words after a number's bit was set
 abbrev pub with_bit : List ℕ → ℕ → List ℕ
@@ -66,7 +75,11 @@ module _ (words : List ℕ) (k : ℕ) (low : k / 64 < length words) where
   same_word n e =
       let mask : 1 * 2 ^ (k % 64) % 2 ^ 64 ≡ 2 ^ (k % 64) = one_shl (k % 64) 64 (omega arith) in
       let word = get_or words (k / 64) 0 in
-      ap (λ i. bit_at (get_or (with_bit words k) i 0) (n % 64)) e ∙ ap (λ w. bit_at w (n % 64)) (get_or-set_same words (k / 64) (bit_or word (1 * 2 ^ (k % 64) % 18446744073709551616)) 0 low) ∙ ap (λ m. bit_at (bit_or word m) (n % 64)) mask ∙ bit_at_or word (2 ^ (k % 64)) (n % 64) ∙ ap (λ i. max (bit_at (get_or words i 0) (n % 64)) (bit_at (2 ^ (k % 64)) (n % 64))) (sym e)
+      ap (λ i. bit_at (get_or (with_bit words k) i 0) (n % 64)) e
+      ∙ ap (λ w. bit_at w (n % 64)) (get_or-set_same words (k / 64)
+      (bit_or word (1 * 2 ^ (k % 64) % 18446744073709551616)) 0 low)
+      ∙ ap (λ m. bit_at (bit_or word m) (n % 64)) mask ∙ bit_at_or word (2 ^ (k % 64)) (n % 64)
+      ∙ ap (λ i. max (bit_at (get_or words i 0) (n % 64)) (bit_at (2 ^ (k % 64)) (n % 64))) (sym e)
 
   -- the other words
   other_word : (n : ℕ) → n / 64 ≢ k / 64 → bit_of (with_bit words k) n ≡ bit_of words n

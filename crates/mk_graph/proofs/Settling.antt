@@ -5,9 +5,9 @@ use Rattle.std.proofs.lemmas.Bool.{cases_eq}
 use Rattle.std.proofs.lemmas.List.{take_all, drop_more}
 use Rattle.std.proofs.lemmas.Nat.{row_fits}
 use Rattle.mk_graph.specs.Membership.{Has, IsWithin}
-use Rattle.mk_graph.specs.Graph.{Graph, node, prerequisites, Reached, goal, onward, Leads, one, then, IsGraph}
+use Rattle.mk_graph.specs.Graph.{Graph, node, prerequisites, Reached, goal, onward, HasPath, one, then, IsGraph}
 use Rattle.mk_graph.specs.Serial.{serial_order}
-use Rattle.mk_graph.specs.Turns.{HasAll, InOpenGroup, Wanted, goal as wanted_goal, onward as wanted_onward, Turns, Before}
+use Rattle.mk_graph.specs.Schedules.{HasAll, InOpenGroup, Wanted, goal as wanted_goal, onward as wanted_onward, IsSchedule, Before}
 use Rattle.mk_graph.specs.Without.{IsFree, AreFree, joined}
 use Rattle.mk_graph.specs.BitRows.{IsSized, IsOpenTo, PassesGates, PassesTargets, OnlyIfWanted, OnlyIfFree, Stays, AreSettled}
 use Rattle.mk_graph.specs.Lists.{has_left, has_right, has_cases}
@@ -36,7 +36,10 @@ pub record IsPassedUpTo (g : Graph) (order : List ℕ) (first old : ℕ → ℕ 
   pub free : OnlyIfFree g now
 
 -- what is open to nodes that lack o is open to nodes that can be done without o
-open_free : (g : Graph) (o : ℕ) (done : ℕ → ℕ → Type 0) (free : List ℕ) → AreFree g o free → ((n : ℕ) → n < length g.nodes → done n o → IsFree g o n) → (groups : List (List ℕ)) → ((m : ℕ) → Has (joined groups) m → m < length g.nodes) → (n : ℕ) → IsOpenTo (λ m. done m o) groups n → InOpenGroup free groups n
+open_free : (g : Graph) (o : ℕ) (done : ℕ → ℕ → Type 0) (free : List ℕ) → AreFree g o free
+    → ((n : ℕ) → n < length g.nodes → done n o → IsFree g o n) → (groups : List (List ℕ))
+    → ((m : ℕ) → Has (joined groups) m → m < length g.nodes) → (n : ℕ) → IsOpenTo (λ m. done m o) groups n
+    → InOpenGroup free groups n
 open_free g o done free are lack [] nodes n stands = absurd stands
 open_free g o done free are lack (group ∷ groups) nodes n (inl here) = inl here
 open_free g o done free are lack (group ∷ groups) nodes n (inr later) =
@@ -61,22 +64,54 @@ goals_cleared g first new wanted clears n o free low h are = ⊎_elim (λ lacked
 module _ (g : Graph) (is : IsGraph g) where
   module _ (order : List ℕ) (place : ℕ) (low : place < length order) (node_here : get_or order place 0 < length g.nodes) where
     -- the gates of one node more
-    pub gates_more : (old done now new : ℕ → ℕ → Type 0) → OnlyIfFree g done → IsPassedFrom g order old done (place + 1) now → ((n o : ℕ) → new n o ↔ (now n o ⊎ (now (get_or order place 0) o × IsOpenTo (λ m. done m o) (node g (get_or order place 0)).groups n))) → IsPassedFrom g order old done place new
+    pub gates_more : (old done now new : ℕ → ℕ → Type 0) → OnlyIfFree g done
+        → IsPassedFrom g order old done (place + 1) now → ((n o : ℕ) → new n o
+        ↔ (now n o ⊎ (now (get_or order place 0) o × IsOpenTo (λ m. done m o)
+        (node g (get_or order place 0)).groups n))) → IsPassedFrom g order old done place new
     gates_more old done now new free so_far passes =
         let this = get_or order place 0 in
         record {
           stays = λ n o h. (passes n o).1 (inl (so_far.stays n o h));
-          gates = λ p n o h lacks stands. elim (subst (λ (l : List ℕ). Has l p) (drop_more order place 0 low) h) [ inl here ↦ (passes n o).1 (inr (so_far.stays this o (subst (λ k. old k o) (sym here) lacks), subst (λ k. IsOpenTo (λ m. done m o) (node g k).groups n) (sym here) stands)) | inr there ↦ (passes n o).1 (inl (so_far.gates p n o there lacks stands)) ];
-          wanted = λ n o without small h are. ⊎_elim (λ had. so_far.wanted n o without small had are) (λ both. wanted_onward (so_far.wanted this o without node_here both.0 are) (open_free g o done without are (λ k. free k o) (node g this).groups (λ m need. is.sound.edges this m need) n both.1)) ((passes n o).0 h);
+          gates = λ p n o h lacks stands. elim (subst (λ (l : List ℕ). Has l p) (drop_more order place 0 low)
+              h) [
+                | inl here ↦ (passes n o).1 (inr (
+                  so_far.stays this o
+                      (subst (λ k. old k o) (sym here) lacks),
+                  subst (λ k. IsOpenTo (λ m. done m o) (node g k).groups
+                      n) (sym here) stands,
+                ))
+                | inr there ↦ (passes n o).1
+                    (inl (so_far.gates p n o there lacks stands))
+              ];
+          wanted = λ n o without small h are. ⊎_elim (λ had. so_far.wanted n o without small had are)
+              (λ both. wanted_onward (so_far.wanted this o without node_here both.0 are)
+              (open_free g o done without are (λ k. free k o) (node g this).groups
+              (λ m need. is.sound.edges this m need) n both.1)) ((passes n o).0 h);
         }
 
     -- the target of one node more
-    pub targets_more : (first old now new : ℕ → ℕ → Type 0) → IsPassedUpTo g order first old place now → ((n o : ℕ) → new n o ↔ (now n o ⊎ ((n ≡ get_or order place 0) × (first (get_or order place 0) o × (¬ (o ≡ get_or order place 0)) × ((p : ℕ) → Has (prerequisites g (get_or order place 0)) p → now p o))))) → IsPassedUpTo g order first old (place + 1) new
+    pub targets_more : (first old now new : ℕ → ℕ → Type 0) → IsPassedUpTo g order first old place now
+        → ((n o : ℕ) → new n o ↔ (now n o ⊎ ((n ≡ get_or order place 0)
+        × (first (get_or order place 0) o × (¬ (o ≡ get_or order place 0))
+        × ((p : ℕ) → Has (prerequisites g (get_or order place 0)) p → now p o)))))
+        → IsPassedUpTo g order first old (place + 1) new
     targets_more first old now new so_far passes =
         let this = get_or order place 0 in
         record {
           stays = λ n o h. (passes n o).1 (inl (so_far.stays n o h));
-          targets = λ n o h lacks other needs. ⊎_elim (λ before. (passes n o).1 (inl (so_far.targets n o before lacks other needs))) (λ same. (passes n o).1 (inr (same, (subst (λ k. first k o) same lacks, λ e. other (e ∙ sym same), λ p need. so_far.stays p o (needs p (subst (λ k. Has (prerequisites g k) p) (sym same) need)))))) ((Has-take_more order place n low).0 h);
+          targets = λ n o h lacks other needs. ⊎_elim (λ before. (passes n o).1
+              (inl (so_far.targets n o before lacks other needs)))
+              (λ same. (passes n o).1 (inr (
+                same,
+                (
+                  subst (λ k. first k o) same lacks,
+                  λ e. other
+                      (e ∙ sym same),
+                  λ p need. so_far.stays p o (needs p
+                      (subst (λ k. Has (prerequisites g k) p) (sym same) need)),
+                ),
+              )))
+              ((Has-take_more order place n low).0 h);
           free = λ n o small h. ⊎_elim (λ had. so_far.free n o small had) (λ both. subst (λ k. IsFree g o k) (sym both.0) (free_made g o this (λ e. both.1.1 (sym e)) (λ p need. so_far.free p o (is.sound.edges this p need) (both.1.2 p need)))) ((passes n o).0 h);
         }
 
@@ -97,7 +132,30 @@ module _ (g : Graph) (is : IsGraph g) where
         let this = get_or order i 0 in
         let within : i < length order = omega arith in
         let more : i + 1 ≡ suc i = omega arith in
-        elim (cases_eq this o) [ inl same ↦ (rest.0, subst (λ k. AreFreeUpTo g order o k rest.0) more (free_stays g is order order_is o i rest.0 within rest.1 (λ both. both.0 same))) | inr other ↦ (elim (cases_HasAll rest.0 (prerequisites g this)) [ inl all ↦ (this ∷ rest.0, subst (λ k. AreFreeUpTo g order o k (this ∷ rest.0)) more (free_joins g is order order_is o i rest.0 (this ∷ rest.0) within rest.1 other all (λ n. (λ h. ⊎_elim (λ e. inl (sym e)) (λ t. inr t) h, λ h. ⊎_elim (λ e. inl (sym e)) (λ t. inr t) h)))) | inr lacks ↦ (rest.0, subst (λ k. AreFreeUpTo g order o k rest.0) more (free_stays g is order order_is o i rest.0 within rest.1 (λ both. lacks both.1))) ]) ]
+        elim (cases_eq this o) [
+          | inl same ↦ (
+            rest.0,
+            subst (λ k. AreFreeUpTo g order o k rest.0) more
+                (free_stays g is order order_is o i rest.0 within rest.1 (λ both. both.0 same)),
+          )
+          | inr other ↦ (elim (cases_HasAll rest.0 (prerequisites g this)) [
+            | inl all ↦ (
+              this ∷ rest.0,
+              subst (λ k. AreFreeUpTo g order o k (this ∷ rest.0)) more
+                  (free_joins g is order order_is o i rest.0 (this ∷ rest.0) within rest.1 other all
+                  (λ n. (
+                    λ h. ⊎_elim (λ e. inl (sym e)) (λ t. inr t) h,
+                    λ h. ⊎_elim (λ e. inl (sym e)) (λ t. inr t)
+                        h,
+                  ))),
+            )
+            | inr lacks ↦ (
+              rest.0,
+              subst (λ k. AreFreeUpTo g order o k rest.0) more
+                  (free_stays g is order order_is o i rest.0 within rest.1 (λ both. lacks both.1)),
+            )
+          ])
+        ]
 
     -- the nodes that can be done without o
     pub some_free : (o : ℕ) → (free : List ℕ) × AreFree g o free
@@ -106,7 +164,7 @@ module _ (g : Graph) (is : IsGraph g) where
         (all.0, all_free g is order order_is o (length order) all.0 (omega arith) all.1)
 
   -- a path of prerequisites ends at a node
-  leads_to_node : (n m : ℕ) → Leads g n m → m < length g.nodes
+  leads_to_node : (n m : ℕ) → HasPath g n m → m < length g.nodes
   leads_to_node n m (one h) = is.sound.edges n m h
   leads_to_node n m (then {m = k} l h) = is.sound.edges k m h
 
@@ -143,7 +201,7 @@ module _ (g : Graph) (is : IsGraph g) where
         settled.gates p n o (reached_is_node g p is.sound (wanted_reached g ns p w)) (wanted_lacks ns lack p w) (open_lacking o done ns lack (node g p).groups n stands)
 
     -- the nodes of a turn list without o lack it
-    turned_lack : (goals ns : List ℕ) → IsWithin goals g.goals → Turns g goals ns → ¬ (Has ns o) → (n : ℕ) → Has ns n → done n o
+    turned_lack : (goals ns : List ℕ) → IsWithin goals g.goals → IsSchedule g goals ns → ¬ (Has ns o) → (n : ℕ) → Has ns n → done n o
     turned_lack goals [] within turns out n h = absurd h
     turned_lack goals (m ∷ ns) within turns out n (inl here) =
         let rest = turned_lack goals ns within turns.1 (λ h. out (inr h)) in

@@ -6,7 +6,7 @@ use Rattle.mk_lines.specs.Names.{has_name}
 use Rattle.mk_graph.specs.Membership.{Has}
 use Rattle.mk_graph.specs.Graph.{Graph, node, prerequisites, IsGraph}
 use Rattle.mk_graph.specs.Setting.{FileName, Setting, is_given, is_editable, name, reads, writes}
-use Rattle.mk_graph.specs.Turns.{Before}
+use Rattle.mk_graph.specs.Schedules.{Before}
 use Rattle.mk_graph.specs.Ways.{Carries, CanChange}
 use Rattle.mk_graph.specs.Right.{AreSound, HaveNoRace}
 use Rattle.mk_graph.proofs.Turning.{HasAll-has, turn_has_prerequisites}
@@ -30,7 +30,10 @@ module _ (g : Graph) (s : Setting) (graph : IsGraph g) (sound : AreSound g s) wh
   pub carried_is_before : (t o : ℕ) → Carries g s t o → Before g o t
   carried_is_before t o (p, need, writes_it) recipe goals ns part turns may =
       let here : Has ns p = HasAll-has ns (prerequisites g t) p may.prerequisites need in
-      ⊎_elim (λ e. let own = sound.target p e (sound.not_phony o p writes_it) in subst (λ (k : ℕ). Has ns k) (sound.one_writer p o (name g p) own writes_it) here) (λ e. turn_has_prerequisites g goals ns p o turns here (sound.not_loose p o (graph.sound.edges t p need) e writes_it)) (cases_Bool (node g p).recipe)
+      ⊎_elim (λ e. let own = sound.target p e (sound.not_phony o p writes_it) in subst (λ (k : ℕ). Has ns k)
+      (sound.one_writer p o (name g p) own writes_it) here)
+      (λ e. turn_has_prerequisites g goals ns p o turns here
+      (sound.not_loose p o (graph.sound.edges t p need) e writes_it)) (cases_Bool (node g p).recipe)
 
   -- what is written can change
   pub written_can_change : (t : ℕ) (f : FileName) → Has (writes g s t) f → CanChange s f

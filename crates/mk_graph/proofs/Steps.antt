@@ -107,7 +107,10 @@ module _ (rows : List (Vec ℕ Global)) where
       -- it is finished already
       pub pass_step : get_or marks p New ≡ Finished → p < length marks → IsUnderWay rows start goal marks (frames ++ advanced frame ∷ []) order
       pass_step mark low = record {
-        resumes = λ end r. resumes end (passes_over (row rows) frame (reverse frames) (reverse order) p end left (subst (λ m. IsMark m (frame.node ∷ nodes_of (reverse frames)) (reverse order) p) mark (marked p low)) (subst (λ (l : List Frame). Resumes (row rows) l (reverse order) end) (newest frames (advanced frame)) r));
+        resumes = λ end r. resumes end (passes_over (row rows) frame (reverse frames) (reverse order) p end
+            left (subst (λ m. IsMark m (frame.node ∷ nodes_of (reverse frames)) (reverse order) p) mark
+            (marked p low)) (subst (λ (l : List Frame). Resumes (row rows) l (reverse order) end)
+            (newest frames (advanced frame)) r));
         marked = advanced_marked;
         within = advanced_low;
       }
@@ -122,7 +125,12 @@ module _ (rows : List (Vec ℕ Global)) where
       -- it is under way
       pub close_step : get_or marks p New ≡ UnderWay → p < length marks → Walks (row rows) [] (reverse start) (goal ∷ []) (Closes (closed_path p (nodes_of (reverse (frames ++ advanced frame ∷ [])))))
       close_step mark low =
-          subst (λ (l : List Frame). Walks (row rows) [] (reverse start) (goal ∷ []) (Closes (closed_path p (nodes_of l)))) (sym (newest frames (advanced frame))) (resumes (Closes (closed_path p (frame.node ∷ nodes_of (reverse frames)))) (closes_path (row rows) frame (reverse frames) (reverse order) p left (subst (λ m. IsMark m (frame.node ∷ nodes_of (reverse frames)) (reverse order) p) mark (marked p low))))
+          subst (λ (l : List Frame). Walks (row rows) [] (reverse start) (goal ∷ [])
+          (Closes (closed_path p (nodes_of l)))) (sym (newest frames (advanced frame)))
+          (resumes (Closes (closed_path p (frame.node ∷ nodes_of (reverse frames))))
+          (closes_path (row rows) frame (reverse frames) (reverse order) p left
+          (subst (λ m. IsMark m (frame.node ∷ nodes_of (reverse frames)) (reverse order) p) mark
+          (marked p low))))
 
       -- it is new
       module _ (mark : get_or marks p New ≡ New) (low : p < length marks) where

@@ -3,8 +3,8 @@ use Rattle.std.proofs.Common.{◌≡◌, ℕ, ◌<◌, List, [], ◌∷◌, ◌+
 use Rattle.mk_graph.specs.Graph.{Graph}
 use Rattle.mk_graph.specs.Setting.{Setting}
 use Rattle.mk_graph.specs.World.{Disk, World, Idle, Busy, disk_of}
-use Rattle.mk_graph.specs.Turns.{IsPart}
-use Rattle.mk_graph.specs.Schedule.{Step, Make, Stop, IsLegal, after_all, disk_after}
+use Rattle.mk_graph.specs.Schedules.{IsPart}
+use Rattle.mk_graph.specs.Steps.{Step, Make, Stop, IsLegal, after_all, disk_after}
 use Rattle.mk_graph.specs.BuildLaws.{NothingRuns}
 use Rattle.mk_graph.proofs.WholeRuns.{legal_append, after_append}
 
@@ -15,7 +15,10 @@ module _ (g : Graph) (s : Setting) where
   stops_in (Busy m d) none jobs goals some part = ((none, ((some, part), tt)), refl)
 
   -- behind a legal history
-  pub can_be_stopped : (d : Disk) (steps : List Step) → IsLegal g s (Idle d) steps → NothingRuns (after_all g s (Idle d) steps) → (jobs : ℕ) (goals : List ℕ) → 0 < jobs → IsPart goals g.goals → IsLegal g s (Idle d) (steps ++ (Stop ∷ Make jobs goals ∷ [])) × (disk_after g s d (steps ++ Stop ∷ []) ≡ disk_after g s d steps)
+  pub can_be_stopped : (d : Disk) (steps : List Step) → IsLegal g s (Idle d) steps
+      → NothingRuns (after_all g s (Idle d) steps) → (jobs : ℕ) (goals : List ℕ) → 0 < jobs
+      → IsPart goals g.goals → IsLegal g s (Idle d) (steps ++ (Stop ∷ Make jobs goals ∷ []))
+      × (disk_after g s d (steps ++ Stop ∷ []) ≡ disk_after g s d steps)
   can_be_stopped d steps legal none jobs goals some part =
       let stops = stops_in (after_all g s (Idle d) steps) none jobs goals some part in
       (legal_append g s (Idle d) steps (Stop ∷ Make jobs goals ∷ []) legal stops.0, ap (λ (w : World). disk_of w) (after_append g s (Idle d) steps (Stop ∷ [])) ∙ stops.1)

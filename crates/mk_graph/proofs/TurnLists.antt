@@ -5,13 +5,13 @@ use Rattle.std.proofs.lemmas.List.{reverse-reverse}
 use Rattle.mk_graph.specs.Membership.{Has}
 use Rattle.mk_graph.specs.Graph.{Graph, node}
 use Rattle.mk_graph.specs.Setting.{FileName, Setting, reads, writes, writings}
-use Rattle.mk_graph.specs.World.{Outcome, Disk, World, Idle, Busy, IsStart, HasStampsFor, content, changed, last_stamp, outcome, disk_of}
-use Rattle.mk_graph.specs.Turns.{MayTurn, Turns, IsPart}
-use Rattle.mk_graph.specs.Schedule.{Step, Begin, Pass, make_of, IsLegal, after_all}
+use Rattle.mk_graph.specs.World.{Outcome, Disk, World, Idle, Busy, IsStartDisk, HasStampsFor, content, changed, last_stamp, outcome, disk_of}
+use Rattle.mk_graph.specs.Schedules.{CanStart, IsSchedule, IsPart}
+use Rattle.mk_graph.specs.Steps.{Step, Begin, Pass, make_of, IsLegal, after_all}
 use Rattle.mk_graph.specs.Clean.{Contents, put_all}
 use Rattle.mk_graph.specs.SerialMake.{whole_run}
-use Rattle.mk_graph.specs.InTurn.{next_stamps, to_put, ends, passes, runs, MakesAll}
-use Rattle.mk_graph.specs.TurnLists.{until_begin, MakesTurns, RunsAlone}
+use Rattle.mk_graph.specs.NodeByNode.{next_stamps, to_put, ends, passes, runs, MakesAll}
+use Rattle.mk_graph.specs.SchedulesWithout.{until_begin, MakesSchedule, RunsAlone}
 use Rattle.mk_graph.proofs.WholeRuns.{legal_append, after_append}
 use Rattle.mk_graph.proofs.SerialHistory.{TurnOn, turn_on, Arrives, IsLegalRun, ran, passed, joined, clock_behind}
 use Rattle.mk_graph.proofs.MakesBut.{next_stamps_many}
@@ -58,7 +58,7 @@ module _ (g : Graph) (s : Setting) (jobs : ℕ) (free : 0 < jobs) (goals : List 
       (rest.0, joined g s [] jobs goals t ns done (whole_run g s t cs) steps w rest.0 clock now.0 rest.1)
 
   -- a make at its begin, from a start
-  pub arrives_at_begin : (d : Disk) → IsStart s d → Arrives g s jobs goals [] (content d) d.clock (Busy (make_of jobs goals) d)
+  pub arrives_at_begin : (d : Disk) → IsStartDisk s d → Arrives g s jobs goals [] (content d) d.clock (Busy (make_of jobs goals) d)
   arrives_at_begin d start = record { seen = λ t f. None; put = λ t f. None; disk = d; is = refl; holds = λ f. refl; unknown = λ t saw out. subst (λ (l : List Outcome). outcome l t saw ≡ None) (sym start.nothing_known) refl; clock_is = refl }
 
   -- the list of nodes that are done behind a turn list
@@ -66,17 +66,27 @@ module _ (g : Graph) (s : Setting) (jobs : ℕ) (free : 0 < jobs) (goals : List 
   turned ns = append-nil (reverse (reverse ns)) ∙ reverse-reverse ns
 
   -- a turn list runs from a start
-  pub turn_list_goes : (d : Disk) (ns : List ℕ) (steps : List Step) → IsStart s d → Turns g goals ns → HasStampsFor d (writings g s (reverse ns)) → MakesAll g s (Busy (make_of jobs goals) d) (reverse ns) steps → (end : Contents) × IsLegal g s (Busy (make_of jobs goals) d) steps × Arrives g s jobs goals ns end (d.clock + writings g s (reverse ns)) (after_all g s (Busy (make_of jobs goals) d) steps)
+  pub turn_list_goes : (d : Disk) (ns : List ℕ) (steps : List Step) → IsStartDisk s d → IsSchedule g goals ns
+      → HasStampsFor d (writings g s (reverse ns)) → MakesAll g s (Busy (make_of jobs goals) d) (reverse ns)
+      steps → (end : Contents) × IsLegal g s (Busy (make_of jobs goals) d) steps
+      × Arrives g s jobs goals ns end (d.clock + writings g s (reverse ns))
+      (after_all g s (Busy (make_of jobs goals) d) steps)
   turn_list_goes d ns steps start turns room makes =
-      let on = turn_on g goals (reverse ns) [] (subst (λ (l : List ℕ). Turns g goals l) (sym (turned ns)) turns) in
+      let on = turn_on g goals (reverse ns) [] (subst (λ (l : List ℕ). IsSchedule g goals l) (sym (turned ns)) turns) in
       let goes = makes_all_legal makes [] (content d) d.clock on room (arrives_at_begin d start) in
       (goes.0, goes.1.0, subst (λ (l : List ℕ). Arrives g s jobs goals l goes.0 (d.clock + writings g s (reverse ns)) (after_all g s (Busy (make_of jobs goals) d) steps)) (turned ns) goes.1.1)
 
-module _ (g : Graph) (s : Setting) (d : Disk) (goals ns : List ℕ) (t : ℕ) (steps : List Step) (start : IsStart s d) (part : IsPart goals g.goals) (turns : Turns g goals ns) (may : MayTurn g goals ns t) (recipe : (node g t).recipe ≡ true) (room : HasStampsFor d (writings g s (reverse ns))) (makes : MakesTurns g s d goals ns steps) where
+module _ (g : Graph) (s : Setting) (d : Disk) (goals ns : List ℕ) (t : ℕ) (steps : List Step)
+    (start : IsStartDisk s d) (part : IsPart goals g.goals) (turns : IsSchedule g goals ns)
+    (may : CanStart g goals ns t) (recipe : (node g t).recipe ≡ true)
+    (room : HasStampsFor d (writings g s (reverse ns))) (makes : MakesSchedule g s d goals ns steps) where
   -- the turn list runs, and then the recipe begins
   pub turn_list_runs : IsLegal g s (Idle d) (until_begin goals steps t) × RunsAlone ns t (after_all g s (Idle d) (until_begin goals steps t))
   turn_list_runs =
       let begin = Busy (make_of 1 goals) d in
       let goes = turn_list_goes g s 1 (omega arith) goals d ns steps start turns room makes in
-      let last : IsLegal g s (after_all g s begin steps) (Begin t ∷ []) × RunsAlone ns t (after_all g s (after_all g s begin steps) (Begin t ∷ [])) = subst (λ (w : World). IsLegal g s w (Begin t ∷ []) × RunsAlone ns t (after_all g s w (Begin t ∷ []))) (sym goes.2.is) (((((may, λ h. h), recipe, omega arith), tt)), (refl, refl)) in
+      let last : IsLegal g s (after_all g s begin steps) (Begin t ∷ [])
+      × RunsAlone ns t (after_all g s (after_all g s begin steps) (Begin t ∷ [])) = subst
+      (λ (w : World). IsLegal g s w (Begin t ∷ []) × RunsAlone ns t (after_all g s w (Begin t ∷ [])))
+      (sym goes.2.is) (((((may, λ h. h), recipe, omega arith), tt)), (refl, refl)) in
       (((omega arith, part), legal_append g s begin steps (Begin t ∷ []) goes.1 last.0), subst (λ (w : World). RunsAlone ns t w) (sym (after_append g s begin steps (Begin t ∷ []))) last.1)

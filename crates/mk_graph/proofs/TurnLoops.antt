@@ -10,7 +10,7 @@ use Rattle.mk_graph.specs.Graph.{Graph, no_node, IsGraph}
 use Rattle.mk_graph.specs.declared.walk.End.{End}
 use Rattle.mk_graph.specs.Walk.{Walks}
 use Rattle.mk_graph.specs.Progress.{row, AreRows, walk_end}
-use Rattle.mk_graph.specs.Turns.{HasAll}
+use Rattle.mk_graph.specs.Schedules.{HasAll}
 use Rattle.mk_graph.specs.Without.{AreOpened, opened, until}
 use Rattle.mk_graph.proofs.Members.{has-from_Has, has-from_not}
 use Rattle.mk_graph.proofs.Loops.{lists}

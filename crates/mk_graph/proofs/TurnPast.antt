@@ -9,8 +9,8 @@ use mathlib.Core.Path.{fun_ext}
 use Rattle.mk_graph.specs.Membership.{Has, has, IsWithin}
 use Rattle.mk_graph.specs.Graph.{Graph, node, prerequisites, IsGraph}
 use Rattle.mk_graph.specs.Walk.{Through, Closes, Walks, ends, passes, finishes}
-use Rattle.mk_graph.specs.Turns.{HasAll, InOpenGroup, Wanted, goal, onward, MayTurn, Turns, Before}
-use Rattle.mk_graph.specs.TurnLists.{LeadsPast}
+use Rattle.mk_graph.specs.Schedules.{HasAll, InOpenGroup, Wanted, goal, onward, CanStart, IsSchedule, Before}
+use Rattle.mk_graph.specs.SchedulesWithout.{IsScheduleWithout}
 use Rattle.mk_graph.specs.Without.{AreFree, AreOpened, joined, opened, until}
 use Rattle.mk_graph.specs.Lists.{has_left, has_right, has_cases}
 use Rattle.mk_graph.proofs.Members.{Has-from_has, has-from_Has, Has-from_reverse}
@@ -53,20 +53,39 @@ open_at : (free done : List ℕ) (groups : List (List ℕ)) (front back : List �
 open_at free done [] [] back n e all = let none : [] ≡ n ∷ back = e in absurd (cc)
 open_at free done [] (x ∷ front) back n e all = let none : [] ≡ x ∷ (front ++ n ∷ back) = e in absurd (cc)
 open_at free done (group ∷ groups) front back n e all =
-    ⊎_elim (λ yes_all. let cut = cut_cases group (opened free groups) front back n (sym (opens free group groups yes_all) ∙ e) in ⊎_elim (λ here. inl here) (λ later. let is_done : (k : ℕ) → Has group k → Has done k = λ k h. all k (subst (λ (l : List ℕ). Has l k) (sym later.1) (has_left group later.0 k h)) (Has-from_HasAll free group (all_stand free group yes_all) k h) in inr (HasAll-from_Has done group is_done, open_at free done groups later.0 back n later.2 (λ k h. all k (subst (λ (l : List ℕ). Has l k) (sym later.1) (has_right group later.0 k h))))) cut) (λ no_all. let at : group ≡ front ++ n ∷ back = sym (stays_shut free group groups no_all) ∙ e in inl (subst (λ (l : List ℕ). Has l n) (sym at) (has_right front (n ∷ back) n (inl refl)))) (cases_Bool (list_all (has free) group))
+    ⊎_elim (λ yes_all. let cut = cut_cases group (opened free groups) front back n
+    (sym (opens free group groups yes_all) ∙ e) in ⊎_elim (λ here. inl here)
+    (λ later. let is_done : (k : ℕ) → Has group k → Has done k = λ k h. all k
+    (subst (λ (l : List ℕ). Has l k) (sym later.1) (has_left group later.0 k h))
+    (Has-from_HasAll free group (all_stand free group yes_all) k h) in inr (
+      HasAll-from_Has done group is_done,
+      open_at free done groups later.0 back n later.2
+          (λ k h. all k (subst (λ (l : List ℕ). Has l k) (sym later.1) (has_right group later.0 k h))),
+    )) cut)
+    (λ no_all. let at : group ≡ front ++ n ∷ back = sym (stays_shut free group groups no_all)
+    ∙ e in inl (subst (λ (l : List ℕ). Has l n) (sym at) (has_right front (n ∷ back) n (inl refl))))
+    (cases_Bool (list_all (has free) group))
 
 -- it is one of the members of the groups
 opened_within : (free : List ℕ) (groups : List (List ℕ)) → IsWithin (opened free groups) (joined groups)
 opened_within free [] n h = h
 opened_within free (group ∷ groups) n h =
-    ⊎_elim (λ e. ⊎_elim (λ here. has_left group (joined groups) n here) (λ there. has_right group (joined groups) n (opened_within free groups n there)) (has_cases group (opened free groups) n (subst (λ (l : List ℕ). Has l n) (opens free group groups e) h))) (λ e. has_left group (joined groups) n (subst (λ (l : List ℕ). Has l n) (stays_shut free group groups e) h)) (cases_Bool (list_all (has free) group))
+    ⊎_elim (λ e. ⊎_elim (λ here. has_left group (joined groups) n here)
+    (λ there. has_right group (joined groups) n (opened_within free groups n there))
+    (has_cases group (opened free groups) n (subst (λ (l : List ℕ). Has l n) (opens free group groups e)
+    h))) (λ e. has_left group (joined groups) n (subst (λ (l : List ℕ). Has l n)
+    (stays_shut free group groups e) h)) (cases_Bool (list_all (has free) group))
 
 -- where all members are free, all are there
 opened_whole : (free : List ℕ) (groups : List (List ℕ)) → ((n : ℕ) → Has (joined groups) n → Has free n) → IsWithin (joined groups) (opened free groups)
 opened_whole free [] all n h = h
 opened_whole free (group ∷ groups) all n h =
     let e = all_tested free group (HasAll-from_Has free group (λ k in_group. all k (has_left group (joined groups) k in_group))) in
-    subst (λ (l : List ℕ). Has l n) (sym (opens free group groups e)) (⊎_elim (λ here. has_left group (opened free groups) n here) (λ there. has_right group (opened free groups) n (opened_whole free groups (λ k later. all k (has_right group (joined groups) k later)) n there)) (has_cases group (joined groups) n h))
+    subst (λ (l : List ℕ). Has l n) (sym (opens free group groups e))
+    (⊎_elim (λ here. has_left group (opened free groups) n here)
+    (λ there. has_right group (opened free groups) n (opened_whole free groups
+    (λ k later. all k (has_right group (joined groups) k later)) n there))
+    (has_cases group (joined groups) n h))
 
 -- the free ones of a list
 abbrev pub kept : (free ns : List ℕ) → List ℕ
@@ -84,13 +103,22 @@ kept_out free n ns e = cond-false (has free n) (n ∷ kept free ns) (kept free n
 Has-kept : (free ns : List ℕ) (n : ℕ) → Has ns n → Has free n → Has (kept free ns) n
 Has-kept free [] n h f = absurd h
 Has-kept free (m ∷ ns) n h f =
-    ⊎_elim (λ e. subst (λ (l : List ℕ). Has l n) (sym (kept_in free m ns e)) (⊎_elim (λ here. inl here) (λ there. inr (Has-kept free ns n there f)) h)) (λ e. subst (λ (l : List ℕ). Has l n) (sym (kept_out free m ns e)) (⊎_elim (λ here. absurd (true≢false (sym (has-from_Has free m (subst (λ (k : ℕ). Has free k) (sym here) f)) ∙ e))) (λ there. Has-kept free ns n there f) h)) (cases_Bool (has free m))
+    ⊎_elim (λ e. subst (λ (l : List ℕ). Has l n) (sym (kept_in free m ns e))
+    (⊎_elim (λ here. inl here) (λ there. inr (Has-kept free ns n there f)) h))
+    (λ e. subst (λ (l : List ℕ). Has l n) (sym (kept_out free m ns e))
+    (⊎_elim (λ here. absurd (true≢false (sym (has-from_Has free m
+    (subst (λ (k : ℕ). Has free k) (sym here) f)) ∙ e))) (λ there. Has-kept free ns n there f) h))
+    (cases_Bool (has free m))
 
 -- and nothing else does
 pub Has-from_kept : (free ns : List ℕ) (n : ℕ) → Has (kept free ns) n → Has ns n × Has free n
 Has-from_kept free [] n h = absurd h
 Has-from_kept free (m ∷ ns) n h =
-    ⊎_elim (λ e. ⊎_elim (λ here. (inl here, subst (λ (k : ℕ). Has free k) here (Has-from_has free m e))) (λ there. let rest = Has-from_kept free ns n there in (inr rest.0, rest.1)) (subst (λ (l : List ℕ). Has l n) (kept_in free m ns e) h)) (λ e. let rest = Has-from_kept free ns n (subst (λ (l : List ℕ). Has l n) (kept_out free m ns e) h) in (inr rest.0, rest.1)) (cases_Bool (has free m))
+    ⊎_elim (λ e. ⊎_elim (λ here. (inl here, subst (λ (k : ℕ). Has free k) here (Has-from_has free m e)))
+    (λ there. let rest = Has-from_kept free ns n there in (inr rest.0, rest.1))
+    (subst (λ (l : List ℕ). Has l n) (kept_in free m ns e) h))
+    (λ e. let rest = Has-from_kept free ns n (subst (λ (l : List ℕ). Has l n) (kept_out free m ns e) h) in
+    (inr rest.0, rest.1)) (cases_Bool (has free m))
 
 -- what is kept of more is more
 kept_within : (free ns ms : List ℕ) → IsWithin ns ms → IsWithin (kept free ns) (kept free ms)
@@ -103,7 +131,7 @@ module _ (g : Graph) (is : IsGraph g) (o : ℕ) (free : List ℕ) (are : AreFree
 
   -- the free nodes that are finished are a turn list
   abbrev AreTurns : List ℕ → Type 0
-  AreTurns finished = Turns g g.goals (kept free finished)
+  AreTurns finished = IsSchedule g g.goals (kept free finished)
 
   -- each node to do is wanted once the free ones before it are done
   abbrev AreWantedInTurn : (finished todo : List ℕ) → Type 0
@@ -116,8 +144,8 @@ module _ (g : Graph) (is : IsGraph g) (o : ℕ) (free : List ℕ) (are : AreFree
   -- the node behind what it needs
   module _ (under finished middle : List ℕ) (n : ℕ) (unfinished : ¬ (Has finished n)) (w : Walks needs (n ∷ under) finished (needs n) (Through middle)) (wanted : Wanted g g.goals (kept free finished) n) (turns : AreTurns middle) where
     -- if it is free, its turn may come
-    may_turn : Has free n → MayTurn g g.goals (kept free middle) n
-    may_turn f = record {
+    can_start : Has free n → CanStart g g.goals (kept free middle) n
+    can_start f = record {
       wanted = Wanted-grows g g.goals g.goals (kept free finished) (kept free middle) (λ k h. h) (kept_within free finished middle (keeps needs w)) n wanted;
       not_done = λ h. ⊎_elim unfinished (λ out. out (inl refl)) (stays_under needs w n (Has-from_kept free middle n h).0);
       prerequisites = HasAll-from_Has (kept free middle) (prerequisites g n) (λ p need. Has-kept free middle p (takes needs w p (opened_whole free (node g n).groups (λ k h. needs_free n k f h) p need)) (needs_free n p f need));
@@ -126,7 +154,7 @@ module _ (g : Graph) (is : IsGraph g) (o : ℕ) (free : List ℕ) (are : AreFree
     -- so with it the free ones are a turn list
     turns_with : AreTurns (n ∷ middle)
     turns_with =
-        ⊎_elim (λ e. subst (λ (l : List ℕ). Turns g g.goals l) (sym (kept_in free n middle e)) (may_turn (Has-from_has free n e), turns)) (λ e. subst (λ (l : List ℕ). Turns g g.goals l) (sym (kept_out free n middle e)) turns) (cases_Bool (has free n))
+        ⊎_elim (λ e. subst (λ (l : List ℕ). IsSchedule g g.goals l) (sym (kept_in free n middle e)) (can_start (Has-from_has free n e), turns)) (λ e. subst (λ (l : List ℕ). IsSchedule g g.goals l) (sym (kept_out free n middle e)) turns) (cases_Bool (has free n))
 
   -- a walk finishes free nodes in turn
   finishes_in_turn : {under finished todo final : List ℕ} → Walks needs under finished todo (Through final) → AreTurns finished → AreWantedInTurn finished todo → AreTurns final
@@ -138,7 +166,10 @@ module _ (g : Graph) (is : IsGraph g) (o : ℕ) (free : List ℕ) (are : AreFree
       let inside : AreWantedInTurn finished (needs n) = λ front back done k e within more. onward (Wanted-grows g g.goals g.goals (kept free finished) done (λ j h. h) within n here) (open_at free done (node g n).groups front back k e more) in
       let middle_turns = finishes_in_turn w turns inside in
       let grown : IsWithin (kept free finished) (kept free (n ∷ middle)) = kept_within free finished (n ∷ middle) (λ k h. inr (keeps needs w k h)) in
-      finishes_in_turn v (turns_with under finished middle n unfinished w here middle_turns) (λ front back done k e within more. wanted (n ∷ front) back done k (ap (λ (l : List ℕ). n ∷ l) e) (λ j h. within j (grown j h)) (λ j h f. ⊎_elim (λ same. within j (Has-kept free (n ∷ middle) j (inl same) f)) (λ there. more j there f) h))
+      finishes_in_turn v (turns_with under finished middle n unfinished w here middle_turns)
+      (λ front back done k e within more. wanted (n ∷ front) back done k (ap (λ (l : List ℕ). n ∷ l) e)
+      (λ j h. within j (grown j h)) (λ j h f. ⊎_elim (λ same. within j
+      (Has-kept free (n ∷ middle) j (inl same) f)) (λ there. more j there f) h))
 
   -- heights fall along what stands in open groups
   needs_falls : (n p : ℕ) → Has (needs n) p → cut_height g is.no_cycle p < cut_height g is.no_cycle n
@@ -167,8 +198,15 @@ module _ (g : Graph) (is : IsGraph g) (o : ℕ) (free : List ℕ) (are : AreFree
     open_finished (group ∷ groups) n (inr later) within =
         let e = all_tested free group later.0 in
         let into : IsWithin (group ++ opened free groups) final = λ k h. within k (subst (λ (l : List ℕ). Has l k) (sym (opens free group groups e)) h) in
-        let rest = open_finished groups n later.1 (λ k h. into k (has_right group (opened free groups) k h)) in
-        (subst (λ (l : List ℕ). Has l n) (sym (opens free group groups e)) (has_right group (opened free groups) n rest.0), inr (HasAll-from_Has (kept free final) group (λ k h. Has-kept free final k (into k (has_left group (opened free groups) k h)) (Has-from_HasAll free group later.0 k h)), rest.1))
+        let rest = open_finished groups n later.1 (λ k h. into k (has_right group (opened free groups) k h)) in (
+          subst (λ (l : List ℕ). Has l n) (sym (opens free group groups e))
+              (has_right group (opened free groups) n rest.0),
+          inr (
+            HasAll-from_Has (kept free final) group (λ k h. Has-kept free final k
+                (into k (has_left group (opened free groups) k h)) (Has-from_HasAll free group later.0 k h)),
+            rest.1,
+          ),
+        )
 
     -- what would be wanted once all free nodes are done is finished, and wanted once the finished free ones are
     wanted_finished : (n : ℕ) → Wanted g g.goals free n → Has final n × Wanted g g.goals (kept free final) n
@@ -179,7 +217,7 @@ module _ (g : Graph) (is : IsGraph g) (o : ℕ) (free : List ℕ) (are : AreFree
         (closed p n before.0 open_there.0, onward before.1 open_there.1)
 
     -- where a node would be wanted and all that it needs is free, its turn may come behind all of them
-    turn_at_end : (t : ℕ) → Wanted g g.goals free t → HasAll free (prerequisites g t) → ¬ (Has (kept free final) t) → MayTurn g g.goals (kept free final) t
+    turn_at_end : (t : ℕ) → Wanted g g.goals free t → HasAll free (prerequisites g t) → ¬ (Has (kept free final) t) → CanStart g g.goals (kept free final) t
     turn_at_end t wanted all new =
         let there = wanted_finished t wanted in
         let are_free = Has-from_HasAll free (prerequisites g t) all in
@@ -196,7 +234,11 @@ kept_reverse free (n ∷ ns) =
     let front = kept free (reverse ns) in
     let split = ap (λ (l : List ℕ). kept free l) (reverse-cons n ns) ∙ filter-append (has free) (reverse ns) (n ∷ []) in
     let rest = kept_reverse free ns in
-    ⊎_elim (λ e. split ∙ (ap (λ (l : List ℕ). front ++ l) (kept_in free n [] e) ∙ (ap (λ (l : List ℕ). l ++ n ∷ []) rest ∙ sym (ap (λ (l : List ℕ). reverse l) (kept_in free n ns e) ∙ reverse-cons n (kept free ns))))) (λ e. split ∙ (ap (λ (l : List ℕ). front ++ l) (kept_out free n [] e) ∙ (append-nil front ∙ (rest ∙ sym (ap (λ (l : List ℕ). reverse l) (kept_out free n ns e)))))) (cases_Bool (has free n))
+    ⊎_elim (λ e. split ∙ (ap (λ (l : List ℕ). front ++ l) (kept_in free n [] e)
+    ∙ (ap (λ (l : List ℕ). l ++ n ∷ []) rest ∙ sym (ap (λ (l : List ℕ). reverse l) (kept_in free n ns e)
+    ∙ reverse-cons n (kept free ns))))) (λ e. split ∙ (ap (λ (l : List ℕ). front ++ l)
+    (kept_out free n [] e) ∙ (append-nil front ∙ (rest ∙ sym
+    (ap (λ (l : List ℕ). reverse l) (kept_out free n ns e)))))) (cases_Bool (has free n))
 
 -- a list up to a number
 pub until_here : (t n : ℕ) (ns : List ℕ) → eqb n t ≡ true → until t (n ∷ ns) ≡ []
@@ -209,14 +251,29 @@ until_there t n ns e = cond-false (eqb n t) [] (n ∷ until t ns) e
 until_cut : (t : ℕ) (ns : List ℕ) → ((until t ns ≡ ns) × (¬ (Has ns t))) ⊎ ((back : List ℕ) × (ns ≡ until t ns ++ t ∷ back))
 until_cut t [] = inl (refl, λ h. h)
 until_cut t (n ∷ ns) =
-    ⊎_elim (λ e. inr (ns, ap (λ (k : ℕ). k ∷ ns) (eqb-true n t e) ∙ sym (ap (λ (l : List ℕ). l ++ t ∷ ns) (until_here t n ns e)))) (λ e. ⊎_elim (λ whole. inl (until_there t n ns e ∙ ap (λ (l : List ℕ). n ∷ l) whole.0, λ h. ⊎_elim (λ here. true≢false (sym (eq-eqb n t here) ∙ e)) whole.1 h)) (λ cut. inr (cut.0, ap (λ (l : List ℕ). n ∷ l) cut.1 ∙ sym (ap (λ (l : List ℕ). l ++ t ∷ cut.0) (until_there t n ns e)))) (until_cut t ns)) (cases_Bool (eqb n t))
+    ⊎_elim (λ e. inr (
+      ns,
+      ap (λ (k : ℕ). k ∷ ns) (eqb-true n t e)
+          ∙ sym (ap (λ (l : List ℕ). l ++ t ∷ ns) (until_here t n ns e)),
+    ))
+    (λ e. ⊎_elim (λ whole. inl (
+      until_there t n ns e ∙ ap (λ (l : List ℕ). n ∷ l) whole.0,
+      λ h. ⊎_elim
+          (λ here. true≢false (sym (eq-eqb n t here) ∙ e)) whole.1 h,
+    ))
+    (λ cut. inr (
+      cut.0,
+      ap (λ (l : List ℕ). n ∷ l) cut.1
+          ∙ sym (ap (λ (l : List ℕ). l ++ t ∷ cut.0) (until_there t n ns e)),
+    )) (until_cut t ns))
+    (cases_Bool (eqb n t))
 
 -- it has no more than the list
 until_within : (t : ℕ) (ns : List ℕ) → IsWithin (until t ns) ns
 until_within t ns n h = ⊎_elim (λ whole. subst (λ (l : List ℕ). Has l n) whole.0 h) (λ cut. subst (λ (l : List ℕ). Has l n) (sym cut.1) (has_left (until t ns) (t ∷ cut.0) n h)) (until_cut t ns)
 
 -- the end of a turn list is one
-turns_end : (g : Graph) (goals front back : List ℕ) → Turns g goals (front ++ back) → Turns g goals back
+turns_end : (g : Graph) (goals front back : List ℕ) → IsSchedule g goals (front ++ back) → IsSchedule g goals back
 turns_end g goals [] back turns = turns
 turns_end g goals (n ∷ front) back turns = turns_end g goals front back turns.1
 
@@ -227,8 +284,8 @@ module _ (g : Graph) (is : IsGraph g) (o t : ℕ) (free : List ℕ) (are : AreFr
     over_needs = subst (λ (f : ℕ → List ℕ). Walks f [] [] g.goals (Through (reverse order))) (fun_ext opened_rows) walks
 
     -- its free nodes are a turn list
-    all_turns : Turns g g.goals (reverse (kept free order))
-    all_turns = subst (λ (l : List ℕ). Turns g g.goals l) (kept_reverse free order) (walk_turns g is o free are (reverse order) over_needs)
+    all_turns : IsSchedule g g.goals (reverse (kept free order))
+    all_turns = subst (λ (l : List ℕ). IsSchedule g g.goals l) (kept_reverse free order) (walk_turns g is o free are (reverse order) over_needs)
 
     -- none of them is o
     lacks_o : ¬ (Has (reverse (until t (kept free order))) o)
@@ -237,12 +294,28 @@ module _ (g : Graph) (is : IsGraph g) (o t : ℕ) (free : List ℕ) (are : AreFr
         ((are o).0 (Has-from_kept free order o among).1).1.0 refl
 
     -- those before t lead past o
-    pub leads_past : LeadsPast g o t (reverse (until t (kept free order)))
+    pub leads_past : IsScheduleWithout g o t (reverse (until t (kept free order)))
     leads_past =
         let would = would_turn g is o t free are not_before in
         let wanted = would.0 in
         let all = would.1 in
-        ⊎_elim (λ whole. let turns = subst (λ (l : List ℕ). Turns g g.goals (reverse l)) (sym whole.0) all_turns in let new : ¬ (Has (kept free (reverse order)) t) = λ h. whole.1 (Has-from_reverse (kept free order) t (subst (λ (l : List ℕ). Has l t) (kept_reverse free order) h)) in let last = turn_at_end g is o free are (reverse order) over_needs t wanted all new in record { turns = turns; may_turn = subst (λ (l : List ℕ). MayTurn g g.goals l t) (kept_reverse free order ∙ ap (λ (l : List ℕ). reverse l) (sym whole.0)) last; lacks = lacks_o }) (λ cut. let before = until t (kept free order) in let split : reverse (kept free order) ≡ reverse cut.0 ++ (t ∷ reverse before) = ap (λ (l : List ℕ). reverse l) cut.1 ∙ (reverse-append before (t ∷ cut.0) ∙ (ap (λ (l : List ℕ). l ++ reverse before) (reverse-cons t cut.0) ∙ append_assoc (reverse cut.0) (t ∷ []) (reverse before))) in let rest = turns_end g g.goals (reverse cut.0) (t ∷ reverse before) (subst (λ (l : List ℕ). Turns g g.goals l) split all_turns) in record { turns = rest.1; may_turn = rest.0; lacks = lacks_o }) (until_cut t (kept free order))
+        ⊎_elim (λ whole. let turns = subst (λ (l : List ℕ). IsSchedule g g.goals (reverse l)) (sym whole.0)
+        all_turns in let new : ¬ (Has (kept free (reverse order)) t) = λ h. whole.1
+        (Has-from_reverse (kept free order) t (subst (λ (l : List ℕ). Has l t) (kept_reverse free order)
+        h)) in let last = turn_at_end g is o free are (reverse order) over_needs t wanted all new in
+        record {
+          turns = turns;
+          can_start = subst (λ (l : List ℕ). CanStart g g.goals l t)
+              (kept_reverse free order ∙ ap (λ (l : List ℕ). reverse l) (sym whole.0)) last;
+          lacks = lacks_o;
+        })
+        (λ cut. let before = until t (kept free order) in let split : reverse (kept free order)
+        ≡ reverse cut.0 ++ (t ∷ reverse before) = ap (λ (l : List ℕ). reverse l) cut.1
+        ∙ (reverse-append before (t ∷ cut.0) ∙ (ap (λ (l : List ℕ). l ++ reverse before)
+        (reverse-cons t cut.0) ∙ append_assoc (reverse cut.0) (t ∷ []) (reverse before))) in let rest =
+        turns_end g g.goals (reverse cut.0) (t ∷ reverse before)
+        (subst (λ (l : List ℕ). IsSchedule g g.goals l) split all_turns) in
+        record { turns = rest.1; can_start = rest.0; lacks = lacks_o }) (until_cut t (kept free order))
 
 -- a walk over such rows closes no path
 pub no_path : (g : Graph) (is : IsGraph g) (o : ℕ) (free : List ℕ) (are : AreFree g o free) (rows : ℕ → List ℕ) → AreOpened g free rows → (path : List ℕ) → ¬ (Walks rows [] [] g.goals (Closes path))

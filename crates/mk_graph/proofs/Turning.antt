@@ -2,7 +2,7 @@
 use Rattle.std.proofs.Common.{◌≡◌, ℕ, List, [], ◌∷◌, true, inl, inr, refl, sym, subst}
 use Rattle.mk_graph.specs.Membership.{Has, IsWithin}
 use Rattle.mk_graph.specs.Graph.{Graph, node, prerequisites}
-use Rattle.mk_graph.specs.Turns.{HasAll, InOpenGroup, Wanted, goal, onward, MayTurn, Turns, IsPart, Before}
+use Rattle.mk_graph.specs.Schedules.{HasAll, InOpenGroup, Wanted, goal, onward, CanStart, IsSchedule, IsPart, Before}
 
 -- one of a list that stands wholly in another
 pub HasAll-has : (ns ms : List ℕ) (m : ℕ) → HasAll ns ms → Has ms m → Has ns m
@@ -32,19 +32,19 @@ module _ (done more : List ℕ) (grows : IsWithin done more) where
   Wanted-grow g goals all within (onward {p = p} {n = n} w h) = onward (Wanted-grow g goals all within w) (InOpenGroup-grow (node g p).groups n h)
 
   -- a turn that may come may come later, unless the node is done
-  pub MayTurn-grow : (g : Graph) (goals : List ℕ) (n : ℕ) → ¬ (Has more n) → MayTurn g goals done n → MayTurn g goals more n
-  MayTurn-grow g goals n out may = record { wanted = Wanted-grow g goals goals (λ k h. h) may.wanted; not_done = out; prerequisites = HasAll-grow (prerequisites g n) may.prerequisites }
+  pub CanStart-grow : (g : Graph) (goals : List ℕ) (n : ℕ) → ¬ (Has more n) → CanStart g goals done n → CanStart g goals more n
+  CanStart-grow g goals n out may = record { wanted = Wanted-grow g goals goals (λ k h. h) may.wanted; not_done = out; prerequisites = HasAll-grow (prerequisites g n) may.prerequisites }
 
 module _ (g : Graph) (goals : List ℕ) where
   -- what stands in a turn list stands behind its prerequisites
-  pub turn_has_prerequisites : (ns : List ℕ) (n p : ℕ) → Turns g goals ns → Has ns n → Has (prerequisites g n) p → Has ns p
+  pub turn_has_prerequisites : (ns : List ℕ) (n p : ℕ) → IsSchedule g goals ns → Has ns n → Has (prerequisites g n) p → Has ns p
   turn_has_prerequisites [] n p turns h need = absurd h
   turn_has_prerequisites (m ∷ ns) n p turns (inl here) need = inr (HasAll-has ns (prerequisites g m) p turns.0.prerequisites (subst (λ (k : ℕ). Has (prerequisites g k) p) (sym here) need))
   turn_has_prerequisites (m ∷ ns) n p turns (inr there) need = inr (turn_has_prerequisites ns n p turns.1 there need)
 
   module _ (part : IsPart goals g.goals) (o t : ℕ) (recipe : (node g t).recipe ≡ true) (before : Before g o t) where
     -- who is before a node that stands in a turn list stands in it
-    pub turn_has_before : (ns : List ℕ) → Turns g goals ns → Has ns t → Has ns o
+    pub turn_has_before : (ns : List ℕ) → IsSchedule g goals ns → Has ns t → Has ns o
     turn_has_before [] turns h = absurd h
-    turn_has_before (m ∷ ns) turns (inl here) = inr (before recipe goals ns part turns.1 (subst (λ (k : ℕ). MayTurn g goals ns k) here turns.0))
+    turn_has_before (m ∷ ns) turns (inl here) = inr (before recipe goals ns part turns.1 (subst (λ (k : ℕ). CanStart g goals ns k) here turns.0))
     turn_has_before (m ∷ ns) turns (inr there) = inr (turn_has_before ns turns.1 there)

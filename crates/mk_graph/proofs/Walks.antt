@@ -111,7 +111,13 @@ module _ (needs : ℕ → List ℕ) where
   path_from_holds : (P : ℕ → Type 0) (n : ℕ) (under : List ℕ) → ((m : ℕ) → Has under m → P m) → (m : ℕ) → Has (path_from n under) m → P m
   path_from_holds P n [] h = λ m in_it. absurd in_it
   path_from_holds P n (k ∷ under) h =
-      cond_both (eqb k n) (k ∷ []) (path_from n under ++ k ∷ []) (λ (l : List ℕ). (m : ℕ) → Has l m → P m) (λ e m in_it. elim in_it [ inl here ↦ h m (inl here) | inr none ↦ absurd none ]) (λ e m in_it. elim (has_cases (path_from n under) (k ∷ []) m in_it) [ inl before ↦ path_from_holds P n under (λ q u. h q (inr u)) m before | inr (inl last) ↦ h m (inl last) | inr (inr none) ↦ absurd none ])
+      cond_both (eqb k n) (k ∷ []) (path_from n under ++ k ∷ []) (λ (l : List ℕ). (m : ℕ) → Has l m → P m)
+      (λ e m in_it. elim in_it [ inl here ↦ h m (inl here) | inr none ↦ absurd none ])
+      (λ e m in_it. elim (has_cases (path_from n under) (k ∷ []) m in_it) [
+        | inl before ↦ path_from_holds P n under (λ q u. h q (inr u)) m before
+        | inr (inl last) ↦ h m (inl last)
+        | inr (inr none) ↦ absurd none
+      ])
 
   -- what holds of all that is under way and to do holds along the closed path
   pub holds_closes : (P : ℕ → Type 0) → ((n p : ℕ) → P n → Has (needs n) p → P p) → {under finished todo path : List ℕ} → Walks needs under finished todo (Closes path) → ((n : ℕ) → Has under n → P n) → ((n : ℕ) → Has todo n → P n) → (n : ℕ) → Has path n → P n

@@ -9,8 +9,8 @@ use Rattle.mk_graph.specs.Membership.{Has, has}
 use Rattle.mk_graph.specs.Graph.{Graph, node}
 use Rattle.mk_graph.specs.Setting.{FileName, Setting, reads, writes}
 use Rattle.mk_graph.specs.World.{Outcome, Disk, Making, World, Busy, HasStamp, content, changed, written, last_stamp, outcome}
-use Rattle.mk_graph.specs.Turns.{MayTurn}
-use Rattle.mk_graph.specs.Schedule.{changed_at, Step, Look, End, MayEnd, after, begun, looked, has_put, noted, seen_by, put_by, IsLegal, after_all}
+use Rattle.mk_graph.specs.Schedules.{CanStart}
+use Rattle.mk_graph.specs.Steps.{changed_at, Step, Look, End, MayEnd, after, begun, looked, has_put, noted, seen_by, put_by, IsLegal, after_all}
 use Rattle.mk_graph.specs.Clean.{Contents, put_all}
 use Rattle.mk_graph.specs.SerialMake.{puts, whole_run}
 use Rattle.mk_graph.proofs.Changes.{cases_name, changed_here, changed_there, changed_at_here}
@@ -37,7 +37,12 @@ module _ (g : Graph) (s : Setting) where
   -- one look more is seen
   seen_after : (m : Making) (t : ℕ) (f h : FileName) (d : Disk) → (f ≡ h) ⊎ (m.seen t h ≡ Some (content d h)) → (looked m t f (content d f)).seen t h ≡ Some (content d h)
   seen_after m t f h d why =
-      ap (λ (k : FileName → Option (Option ℕ)). k h) (changed_at_here m.seen t t (changed (m.seen t) f (Some (content d f))) refl) ∙ ⊎_elim (λ same. changed_here (m.seen t) f h (Some (content d f)) same ∙ ap (λ (k : FileName). Some (content d k)) same) (λ differ. changed_there (m.seen t) f h (Some (content d f)) differ ∙ ⊎_elim (λ same. absurd (differ same)) (λ before. before) why) (cases_name f h)
+      ap (λ (k : FileName → Option (Option ℕ)). k h) (changed_at_here m.seen t t
+      (changed (m.seen t) f (Some (content d f))) refl) ∙ ⊎_elim
+      (λ same. changed_here (m.seen t) f h (Some (content d f)) same
+      ∙ ap (λ (k : FileName). Some (content d k)) same) (λ differ. changed_there (m.seen t) f h
+      (Some (content d f)) differ ∙ ⊎_elim (λ same. absurd (differ same)) (λ before. before) why)
+      (cases_name f h)
 
   -- looks at files that a running recipe reads
   looks : (t : ℕ) (files : List FileName) (m : Making) (d : Disk) → Has m.running t → ((f : FileName) → Has files f → Has (reads g s t) f) → Looks t files m d
@@ -84,7 +89,10 @@ module _ (g : Graph) (s : Setting) where
   -- one writing more of what a name is given is put
   put_same : (m : Making) (t : ℕ) (f h : FileName) (φ : FileName → ℕ) → (f ≡ h) ⊎ (m.put t h ≡ Some (φ h)) → (has_put m t f (φ f)).put t h ≡ Some (φ h)
   put_same m t f h φ why =
-      ap (λ (k : FileName → Option ℕ). k h) (changed_at_here m.put t t (changed (m.put t) f (Some (φ f))) refl) ∙ ⊎_elim (λ same. changed_here (m.put t) f h (Some (φ f)) same ∙ ap (λ (k : FileName). Some (φ k)) same) (λ differ. changed_there (m.put t) f h (Some (φ f)) differ ∙ ⊎_elim (λ same. absurd (differ same)) (λ before. before) why) (cases_name f h)
+      ap (λ (k : FileName → Option ℕ). k h) (changed_at_here m.put t t (changed (m.put t) f (Some (φ f)))
+      refl) ∙ ⊎_elim (λ same. changed_here (m.put t) f h (Some (φ f)) same
+      ∙ ap (λ (k : FileName). Some (φ k)) same) (λ differ. changed_there (m.put t) f h (Some (φ f)) differ
+      ∙ ⊎_elim (λ same. absurd (differ same)) (λ before. before) why) (cases_name f h)
 
   -- stamps that had come have come after one writing
   stamped_after : (d : Disk) (f : FileName) (c : ℕ) → ((h : FileName) (stamp : ℕ) → HasStamp d h stamp → stamp ≤ d.clock) → (h : FileName) (stamp : ℕ) → HasStamp (written d f c) h stamp → stamp ≤ d.clock + 1
@@ -131,7 +139,12 @@ module _ (g : Graph) (s : Setting) where
       leaves = rest.leaves;
       now = λ h among. ⊎_elim (λ here. rest.still h (put_after m t f h c (inl here))) (λ there. rest.now h there) among;
       still = λ h before. rest.still h (put_after m t f h c (inr before));
-      same_put = λ φ e h why. let first : c ≡ φ f = cc in let others : cs ≡ map φ files = cc in rest.same_put φ others h (⊎_elim (λ among. ⊎_elim (λ here. inr (subst (λ (k : ℕ). (has_put m t f k).put t h ≡ Some (φ h)) (sym first) (put_same m t f h φ (inl here)))) (λ there. inl there) among) (λ before. inr (subst (λ (k : ℕ). (has_put m t f k).put t h ≡ Some (φ h)) (sym first) (put_same m t f h φ (inr before)))) why);
+      same_put = λ φ e h why. let first : c ≡ φ f = cc in let others : cs
+          ≡ map φ files = cc in rest.same_put φ others h (⊎_elim
+          (λ among. ⊎_elim (λ here. inr (subst (λ (k : ℕ). (has_put m t f k).put t h ≡ Some (φ h)) (sym first)
+          (put_same m t f h φ (inl here)))) (λ there. inl there) among)
+          (λ before. inr (subst (λ (k : ℕ). (has_put m t f k).put t h ≡ Some (φ h)) (sym first)
+          (put_same m t f h φ (inr before)))) why);
       holds = λ at new e held. rest.holds (changed at f (Some c)) new e (λ h. ⊎_elim (λ same. content_here d f c h same ∙ sym (changed_here at f h (Some c) same)) (λ differ. content_there d f c h differ ∙ (held h ∙ sym (changed_there at f h (Some c) differ))) (cases_name f h));
       keeps = λ h out. rest.keeps h (λ there. out (inr there)) ∙ changed_there d.files f h (Some (record { content = c; stamp = d.clock + 1 })) (λ same. out (inl same));
       late = λ h among. ⊎_elim (λ here. late_here h here) (λ there. let last = rest.late h there in (last.0, last.1, let less = last.2 in omega arith)) among;
@@ -212,14 +225,18 @@ module _ (g : Graph) (s : Setting) where
     result : Outcome
     result = record { recipe = t; seen = seen_by g s full t; written = put_by g s full t }
 
-    module _ (may : MayTurn g goals done t) (recipe : (node g t).recipe ≡ true) (agree : Agree t cs d) (free : 0 < jobs) where
+    module _ (may : CanStart g goals done t) (recipe : (node g t).recipe ≡ true) (agree : Agree t cs d) (free : 0 < jobs) where
       -- what is known of a run that saw the same
       known_now : outcome its_writes.disk.known t (seen_by g s full t) ≡ outcome d.known t (map (content d) (reads g s t))
       known_now = ap (λ (l : List Outcome). outcome l t (seen_by g s full t)) its_writes.known ∙ ap (λ (l : List (Option ℕ)). outcome d.known t l) it_saw
 
       -- it agrees
       it_agrees : IfSome (outcome its_writes.disk.known t (seen_by g s full t)) (λ known. known ≡ put_by g s full t)
-      it_agrees = subst (λ (o : Option (List ℕ)). IfSome o (λ known. known ≡ put_by g s full t)) (sym known_now) (⊎_elim (λ none. subst (λ (o : Option (List ℕ)). IfSome o (λ known. known ≡ put_by g s full t)) (sym none) tt) (λ some. subst (λ (o : Option (List ℕ)). IfSome o (λ known. known ≡ put_by g s full t)) (sym some.1) (sym (it_put some.0 some.2))) agree)
+      it_agrees = subst (λ (o : Option (List ℕ)). IfSome o (λ known. known ≡ put_by g s full t))
+          (sym known_now) (⊎_elim (λ none. subst (λ (o : Option (List ℕ)). IfSome o
+          (λ known. known ≡ put_by g s full t)) (sym none) tt)
+          (λ some. subst (λ (o : Option (List ℕ)). IfSome o (λ known. known ≡ put_by g s full t)) (sym some.1)
+          (sym (it_put some.0 some.2))) agree)
 
       -- it may end
       its_end : MayEnd g s full its_writes.disk t
@@ -259,13 +276,29 @@ module _ (g : Graph) (s : Setting) where
       ending_legal : IsLegal g s (Busy (record running { seen = its_looks.seen }) d) ending × Ran jobs goals done t cs d (after_all g s (Busy (record running { seen = its_looks.seen }) d) ending)
       unfolding ending full running
       ending_legal =
-          let start = Busy (record running { seen = its_looks.seen }) d in
-          (legal_append start (puts t (writes g s t) cs) (End t ∷ []) its_writes.legal (subst (λ (w : World). IsLegal g s w (End t ∷ [])) (sym its_writes.leaves) (its_end, tt)), subst (λ (w : World). Ran jobs goals done t cs d w) (sym (after_append start (puts t (writes g s t) cs) (End t ∷ []))) (subst (λ (w : World). Ran jobs goals done t cs d (after_all g s w (End t ∷ []))) (sym its_writes.leaves) ended))
+          let start = Busy (record running { seen = its_looks.seen }) d in (
+            legal_append start (puts t (writes g s t) cs) (End t ∷ []) its_writes.legal
+                (subst (λ (w : World). IsLegal g s w (End t ∷ [])) (sym its_writes.leaves) (its_end, tt)),
+            subst
+                (λ (w : World). Ran jobs goals done t cs d w) (sym
+                (after_append start (puts t (writes g s t) cs) (End t ∷ [])))
+                (subst (λ (w : World). Ran jobs goals done t cs d (after_all g s w (End t ∷ [])))
+                (sym its_writes.leaves) ended),
+          )
 
       -- a whole run is legal
       pub whole_run_legal : IsLegal g s (Busy (quiet jobs goals done seen put) d) (whole_run g s t cs) × Ran jobs goals done t cs d (after_all g s (Busy (quiet jobs goals done seen put) d) (whole_run g s t cs))
       unfolding ending running
       whole_run_legal =
           let start = Busy running d in
-          let looking = map (λ f. Look t f) (reads g s t) in
-          ((((may, λ h. h), recipe, omega arith), legal_append start looking ending its_looks.legal (subst (λ (w : World). IsLegal g s w ending) (sym its_looks.leaves) ending_legal.0)), subst (λ (w : World). Ran jobs goals done t cs d w) (sym (after_append start looking ending)) (subst (λ (w : World). Ran jobs goals done t cs d (after_all g s w ending)) (sym its_looks.leaves) ending_legal.1))
+          let looking = map (λ f. Look t f) (reads g s t) in (
+            (
+              ((may, λ h. h), recipe, omega arith),
+              legal_append start looking ending its_looks.legal
+                  (subst (λ (w : World). IsLegal g s w ending) (sym its_looks.leaves) ending_legal.0),
+            ),
+            subst
+                (λ (w : World). Ran jobs goals done t cs d w) (sym (after_append start looking ending))
+                (subst (λ (w : World). Ran jobs goals done t cs d (after_all g s w ending))
+                (sym its_looks.leaves) ending_legal.1),
+          )

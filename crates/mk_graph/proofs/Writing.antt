@@ -5,7 +5,7 @@ use Rattle.mk_graph.specs.Membership.{Has}
 use Rattle.mk_graph.specs.Graph.{Graph, prerequisites}
 use Rattle.mk_graph.specs.Setting.{FileName, Setting, name, writes}
 use Rattle.mk_graph.specs.World.{File, Disk, content, HasStamp, written}
-use Rattle.mk_graph.specs.Schedule.{MustRun}
+use Rattle.mk_graph.specs.Steps.{MustRun}
 use Rattle.mk_graph.specs.Runs.{WholeRun, Runs}
 use Rattle.mk_graph.specs.Ways.{CanChange}
 use Rattle.mk_graph.proofs.Changes.{cases_name, changed_here, changed_there}
@@ -66,7 +66,13 @@ module _ (g : Graph) (s : Setting) (p : Runs) (running : List ℕ) (d : Disk) (f
   -- the file that is written was written after each whole run; of others it stays what last runs saw
   saw_written : (t : ℕ) (run : WholeRun) → p.last t ≡ Some run → SawOrLater g s run (written d f c) t
   saw_written t run is_last h read =
-      ⊎_elim (λ same. let ended = fits.ended t run is_last in inr (subst (λ (k : FileName). CanChange s k) same can, (d.clock + 1, stamp_here d f c h same, omega arith))) (λ differ. ⊎_elim (λ sees. inl (content_there d f c h differ ∙ sees)) (λ late. inr (late.0, (late.1.0, stamp_kept d f c h late.1.0 differ late.1.1, late.1.2))) (fits.saw t run is_last h read)) (cases_name f h)
+      ⊎_elim (λ same. let ended = fits.ended t run is_last in inr (
+        subst (λ (k : FileName). CanChange s k) same can,
+        (d.clock + 1, stamp_here d f c h same, omega arith),
+      ))
+      (λ differ. ⊎_elim (λ sees. inl (content_there d f c h differ ∙ sees))
+      (λ late. inr (late.0, (late.1.0, stamp_kept d f c h late.1.0 differ late.1.1, late.1.2)))
+      (fits.saw t run is_last h read)) (cases_name f h)
 
   -- what was through was through
   through_written : (t clock : ℕ) → WasThrough g s (p.last t) running d t clock → WasThrough g s (p.last t) running (written d f c) t clock

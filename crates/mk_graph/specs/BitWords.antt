@@ -1,8 +1,8 @@
--- Words of bits that are combined with others, word by word.
+-- Combining two lists of words, word by word.
 use Rattle.std.specs.Prelude.{◌≡◌, ℕ, ◌<◌, ◌≤◌, List, length, slice_index}
 
--- the words below this place are combined with the others by f, and those from it on are as they
--- were
+-- The words before this place are `f` of the old word and the other word, and the words from this
+-- place on are unchanged.
 pub record AreCombined (f : ℕ → ℕ →
     ℕ) (old others : List ℕ) (place : ℕ) (new : List ℕ) : Type 0 where
   pub within : place ≤ length new

@@ -1,16 +1,17 @@
--- What becomes of nodes and goals: a graph, or the first of its faults.
+-- The result of building a graph: the graph, or the first fault.
 use Rattle.std.specs.Prelude.{◌≡◌, ℕ, ◌<◌, ◌≤◌, List, [], length, map, Result, Ok, Err}
 use Rattle.mk_graph.specs.declared.fault.GraphFault.{GraphFault}
 use Rattle.mk_graph.specs.declared.fault.GraphFault.TheVariants.{Cycle, TooManyNodes, Memory}
 use Rattle.mk_graph.specs.Graph.{Graph, node, prerequisites, max_nodes}
 use Rattle.mk_graph.specs.Walk.{WalkEnd, Through, Closes, Walks}
 
--- a walk of the whole graph from its goals ends so
+-- The walk of the whole graph from its goals has this end.
 abbrev pub WalksAll : Graph → WalkEnd → Type 0
 WalksAll g end = Walks (prerequisites g) [] [] g.goals end
 
--- Over 4,096 nodes are too many. Else the walk closes a path, whose names the fault has, or it
--- comes through, and the graph is the one that was handed in. Nothing is said of want of memory.
+-- More than 4,096 nodes give `TooManyNodes` (43); otherwise a walk that closes a path gives `Cycle`
+-- (42) with the names along it; otherwise the result is the graph that was given. Nothing is
+-- promised about out of memory.
 abbrev pub Builds : Graph → Result Graph GraphFault → Type 0
 Builds handed (Err TooManyNodes) = max_nodes < length handed.nodes
 Builds handed (Err (Cycle names)) =

@@ -1,73 +1,74 @@
--- Laws of builds: of turn lists, of legal histories, and of what is accepted.
+-- Laws of builds: of schedules, of traces, and of accepted builds. A trace is a legal list of
+-- steps.
 use Rattle.std.specs.Prelude.{◌≡◌, ℕ, suc, ◌+◌, ◌*◌, ◌<◌, List, [], ◌∷◌, ◌++◌, length, reverse, true, Some, ◌⊎◌}
 use Rattle.mk_graph.specs.Membership.{Has}
 use Rattle.mk_graph.specs.Graph.{Graph, node, HasNoCycle, IsGraph}
 use Rattle.mk_graph.specs.Setting.{FileName, Setting, reads, writes, writings}
-use Rattle.mk_graph.specs.World.{Outcome, Disk, Making, World, Idle, Busy, IsStart, IsFirst, HasStampsFor, HoldJust}
-use Rattle.mk_graph.specs.Turns.{MayTurn, Turns, IsPart, Before}
-use Rattle.mk_graph.specs.Schedule.{Step, Make, Begin, Look, Put, End, Pass, Stop, Ready, make_of, IsLegal, after_all, disk_after}
-use Rattle.mk_graph.specs.Clean.{Contents, given_contents, order_of, clean_build}
+use Rattle.mk_graph.specs.World.{Outcome, Disk, Making, World, Idle, Busy, IsStartDisk, IsFirstDisk, HasStampsFor, HoldJust}
+use Rattle.mk_graph.specs.Schedules.{CanStart, IsSchedule, IsPart, Before}
+use Rattle.mk_graph.specs.Steps.{Step, Make, Begin, Look, Put, End, Pass, Stop, Ready, make_of, IsLegal, after_all, disk_after}
+use Rattle.mk_graph.specs.Clean.{Contents, given_contents, order_from, clean_build}
 use Rattle.mk_graph.specs.SerialMake.{RunsSerially, one_make}
-use Rattle.mk_graph.specs.InTurn.{MakesAll}
-use Rattle.mk_graph.specs.TurnLists.{until_begin, MakesTurns, RunsAlone}
+use Rattle.mk_graph.specs.NodeByNode.{MakesAll}
+use Rattle.mk_graph.specs.SchedulesWithout.{until_begin, MakesSchedule, RunsAlone}
 use Rattle.mk_graph.specs.Overlap.{RunTogether, overlapping}
-use Rattle.mk_graph.specs.Bare.{ShowsNotBefore}
+use Rattle.mk_graph.specs.EmptyInputs.{ShowsNotBefore}
 use Rattle.mk_graph.specs.Ways.{Way, CanChange}
 use Rattle.mk_graph.specs.Stale.{stale_history, ShowsStale, IsLaterThanAll}
 use Rattle.mk_graph.specs.Right.{AreSound, HaveNoRace, HaveWays, IsRightAt, IsRight}
 
--- The first disk of a world is a start.
+-- The first disk of a world is a start disk.
 abbrev pub FirstIsAStart : Type 0
-FirstIsAStart = (g : Graph) (s : Setting) (d : Disk) → IsFirst g s d → IsStart s d
+FirstIsAStart = (g : Graph) (s : Setting) (d : Disk) → IsFirstDisk g s d → IsStartDisk s d
 
--- In a graph without cycles the serial order of any part of the goals is a turn list for this part.
-abbrev pub SerialOrderIsATurnList : Type 0
-SerialOrderIsATurnList =
+-- In a graph without cycles the serial order of any part of the goals is a schedule for that part.
+abbrev pub SerialOrderIsASchedule : Type 0
+SerialOrderIsASchedule =
     (g : Graph) → HasNoCycle g →
-    (goals : List ℕ) → IsPart goals g.goals → Turns g goals (reverse (order_of g goals))
+    (goals : List ℕ) → IsPart goals g.goals → IsSchedule g goals (reverse (order_from g goals))
 
--- Where the clean build of a part of the goals has a value, the history is legal that makes them
--- with one job, runs each recipe of their serial order whole, passes the other nodes and ends, if
--- there are stamps for all its writings; and it leaves what the clean build gives.
+-- If the clean build of a part of the goals has a value and there are stamps for all its writes,
+-- then the serial make of that part is legal and leaves what the clean build gives. It has one job,
+-- runs each recipe of the serial order whole, passes the other nodes, and ends.
 abbrev pub SerialMakeIsLegal : Type 0
 SerialMakeIsLegal =
     (g : Graph) (s : Setting) (outcomes : List Outcome) (d : Disk) (goals : List ℕ)
     (clean : Contents) →
-    HasNoCycle g → IsPart goals g.goals → IsStart s d →
+    HasNoCycle g → IsPart goals g.goals → IsStartDisk s d →
     clean_build g s outcomes (given_contents s d) goals ≡ Some clean →
-    HasStampsFor d (writings g s (order_of g goals)) →
+    HasStampsFor d (writings g s (order_from g goals)) →
     (steps : List Step) ×
-    RunsSerially g s outcomes (given_contents s d) (order_of g goals) steps clean ×
+    RunsSerially g s outcomes (given_contents s d) (order_from g goals) steps clean ×
     IsLegal g s (Idle d) (one_make goals steps) ×
     HoldJust (disk_after g s d (one_make goals steps)) clean
 
--- Whether a node is before another one, makes of all goals tell.
+-- If o runs before t in all makes of all goals, then o runs before t in makes of any part of the
+-- goals.
 abbrev pub AllGoalsSuffice : Type 0
 AllGoalsSuffice =
     (g : Graph) (o t : ℕ) →
-    ((node g t).recipe ≡ true → (ns : List ℕ) → IsPart g.goals g.goals → Turns g g.goals ns →
-    MayTurn g g.goals ns t → Has ns o) →
+    ((node g t).recipe ≡ true → (ns : List ℕ) → IsPart g.goals g.goals → IsSchedule g g.goals ns →
+    CanStart g g.goals ns t → Has ns o) →
     Before g o t
 
--- Of each two nodes of a graph one is before the other or isn't.
+-- For any two nodes of a graph, one runs before the other or it doesn't.
 abbrev pub BeforeIsDecided : Type 0
 BeforeIsDecided = (g : Graph) (o t : ℕ) → IsGraph g → Before g o t ⊎ (¬ (Before g o t))
 
--- where t is ready in the make in progress, o is done in it
+-- If t is ready in the make in progress, then o is done in it.
 abbrev pub IsDoneWhenReady : Graph → (o t : ℕ) → World → Type 0
 IsDoneWhenReady g o t (Idle d) = Unit {0}
 IsDoneWhenReady g o t (Busy m d) = Ready g m t → Has m.done o
 
--- Where o is before t, which has a recipe, o is done whenever t is ready, in each legal history of
--- each setting.
+-- If o runs before t, which has a recipe, then o is done whenever t is ready, in each trace over
+-- any build inputs.
 abbrev pub BeforeHoldsInHistories : Type 0
 BeforeHoldsInHistories =
     (g : Graph) (o t : ℕ) → (node g t).recipe ≡ true → Before g o t →
     (s : Setting) (d : Disk) (steps : List Step) → IsLegal g s (Idle d) steps →
     IsDoneWhenReady g o t (after_all g s (Idle d) steps)
 
--- Recipes run together: two that are ready may begin one behind the other, whatever else runs, if
--- there are jobs for both.
+-- Two ready recipes may begin one after the other, whatever else runs, if there are jobs for both.
 abbrev pub ReadyRecipesRunTogether : Type 0
 ReadyRecipesRunTogether =
     (g : Graph) (s : Setting) (m : Making) (d : Disk) (a b : ℕ) →
@@ -75,29 +76,29 @@ ReadyRecipesRunTogether =
     suc (length m.running) < m.jobs →
     IsLegal g s (Busy m d) (Begin a ∷ Begin b ∷ [])
 
--- Steps overlap: from a start, in a make of two jobs or more, behind a turn list whose recipes have
--- run whole, two recipes whose turns may come begin, and then look, put and end in any order of
--- their steps.
+-- Recipes overlap: take a start disk, a make with at least two jobs, and a schedule whose recipes
+-- have run whole. Two recipes that can then start may both begin, and then read, write and end in
+-- any interleaving of their steps, if there are enough stamps.
 abbrev pub RecipesOverlap : Type 0
 RecipesOverlap =
     (g : Graph) (s : Setting) (d : Disk) (jobs : ℕ) (goals ns : List ℕ) (before : List Step) →
-    IsStart s d → 1 < jobs → IsPart goals g.goals → Turns g goals ns →
+    IsStartDisk s d → 1 < jobs → IsPart goals g.goals → IsSchedule g goals ns →
     MakesAll g s (Busy (make_of jobs goals) d) (reverse ns) before →
     (a b : ℕ) → ¬ (a ≡ b) → (node g a).recipe ≡ true → (node g b).recipe ≡ true →
-    MayTurn g goals ns a → MayTurn g goals ns b →
+    CanStart g goals ns a → CanStart g goals ns b →
     (puts_a puts_b : List ℕ) → length puts_a ≡ length (writes g s a) →
     length puts_b ≡ length (writes g s b) →
     HasStampsFor d (writings g s (reverse ns) + (length (writes g s a) + length (writes g s b))) →
     (between : List Step) → RunTogether g s a puts_a b puts_b between →
     IsLegal g s (Idle d) (overlapping jobs goals before a b between)
 
--- in this world a make is in progress in which nothing runs
+-- A make is in progress and no recipe runs.
 abbrev pub NothingRuns : World → Type 0
 NothingRuns (Idle d) = ⊥
 NothingRuns (Busy m d) = m.running ≡ []
 
--- Wherever a legal history comes to a make in which nothing runs, the make may be stopped, which
--- changes no file, and any part of the goals may be made again.
+-- Whenever no recipe runs in a make of a trace, the make may be stopped, which changes no file, and
+-- a make of any part of the goals may begin.
 abbrev pub MakesCanBeStopped : Type 0
 MakesCanBeStopped =
     (g : Graph) (s : Setting) (d : Disk) (steps : List Step) → IsLegal g s (Idle d) steps →
@@ -106,27 +107,27 @@ MakesCanBeStopped =
     IsLegal g s (Idle d) (steps ++ (Stop ∷ Make jobs goals ∷ [])) ×
     (disk_after g s d (steps ++ Stop ∷ []) ≡ disk_after g s d steps)
 
--- A turn list can be run in any setting: the history is legal that makes a part of the goals with
--- one job, runs the recipes of the list whole, passes its other nodes, and then begins a recipe
--- whose turn may come, if there are stamps enough; and then just that recipe runs, and just the
--- list is done. It asks nothing of the footprints.
-abbrev pub TurnListsRun : Type 0
-TurnListsRun =
+-- Any schedule can be run over any build inputs: a make of a part of the goals with one job that
+-- runs the schedule's recipes whole, passes its other nodes, and then begins a recipe t that can
+-- start is legal, if there are enough stamps. Then t alone runs and exactly the schedule's nodes
+-- are done. The footprints need not be sound.
+abbrev pub SchedulesRun : Type 0
+SchedulesRun =
     (g : Graph) (s : Setting) (d : Disk) (goals ns : List ℕ) (t : ℕ) (steps : List Step) →
-    IsStart s d → IsPart goals g.goals → Turns g goals ns →
-    MayTurn g goals ns t → (node g t).recipe ≡ true →
+    IsStartDisk s d → IsPart goals g.goals → IsSchedule g goals ns →
+    CanStart g goals ns t → (node g t).recipe ≡ true →
     HasStampsFor d (writings g s (reverse ns)) →
-    MakesTurns g s d goals ns steps →
+    MakesSchedule g s d goals ns steps →
     IsLegal g s (Idle d) (until_begin goals steps t) ×
     RunsAlone ns t (after_all g s (Idle d) (until_begin goals steps t))
 
--- There is such a history for each list of nodes.
-abbrev pub TurnListHistoryExists : Type 0
-TurnListHistoryExists =
+-- For each list of nodes there are steps that make them.
+abbrev pub ScheduleHistoryExists : Type 0
+ScheduleHistoryExists =
     (g : Graph) (s : Setting) (d : Disk) (goals ns : List ℕ) →
-    (steps : List Step) × MakesTurns g s d goals ns steps
+    (steps : List Step) × MakesSchedule g s d goals ns steps
 
--- the step is taken inside a make
+-- The step is taken by a node inside a make.
 abbrev pub IsInside : Step → Type 0
 IsInside (Begin t) = Unit {0}
 IsInside (Look t f) = Unit {0}
@@ -135,49 +136,49 @@ IsInside (End t) = Unit {0}
 IsInside (Pass n) = Unit {0}
 IsInside other = ⊥
 
--- all of them are
+-- All steps are taken by nodes inside a make.
 abbrev pub AreInside : List Step → Type 0
 AreInside [] = Unit {0}
 AreInside (step ∷ steps) = IsInside step × AreInside steps
 
--- Where footprints are sound and races are none, one make of any part of the goals from a start
--- builds them, with any number of jobs and any overlap of recipes.
+-- If footprints are sound and there is no race, then one make of any part of the goals from a start
+-- disk builds those goals, with any number of jobs and any overlap of recipes.
 abbrev pub OneBuildIsRight : Type 0
 OneBuildIsRight =
     (g : Graph) (s : Setting) → IsGraph g → AreSound g s → HaveNoRace g s →
-    (d : Disk) (jobs : ℕ) (goals : List ℕ) (steps : List Step) → IsStart s d → AreInside steps →
+    (d : Disk) (jobs : ℕ) (goals : List ℕ) (steps : List Step) → IsStartDisk s d → AreInside steps →
     IsLegal g s (Idle d) (Make jobs goals ∷ steps) →
     IsRightAt g s (after_all g s (Idle d) (Make jobs goals ∷ steps))
 
--- Where, beside this, each read of a file that can change has a way, every legal history is right:
--- after each make that comes to its end, with any number of jobs, in any order of steps, after any
--- edits, makes and stops, its goals are built.
+-- If footprints are sound, there is no race, and each read of a file that can change has a way,
+-- then every trace is right: after each finished make, with any number of jobs, in any order of
+-- steps, after any edits, makes and stops, the goals of that make are built.
 abbrev pub AcceptedIsRight : Type 0
 AcceptedIsRight =
     (g : Graph) (s : Setting) → IsGraph g → AreSound g s → HaveNoRace g s → HaveWays g s →
     IsRight g s
 
--- Where o isn't before t, a legal history shows it: a make with one job in the setting without
--- files begins t, and o isn't done in it.
+-- If o doesn't run before t, a trace shows it: over the empty build inputs, a make with one job
+-- begins t while o isn't done.
 abbrev pub NotBeforeIsShown : Type 0
 NotBeforeIsShown =
     (g : Graph) (o t : ℕ) → IsGraph g → ¬ (Before g o t) →
     (goals ns : List ℕ) × ShowsNotBefore g o t goals ns
 
--- Where footprints are sound and a read of a file that can change has no way, the history is legal
--- that makes all, edits the file if it is editable, and makes all again but for the recipe and
--- those that it reaches by carrying, if there are stamps enough; and at its end the file is later
--- than all files of the recipe. Races may be there.
+-- If footprints are sound, a read of a file that can change has no way, and there are enough
+-- stamps, then these steps are legal: make all goals, edit the file if it is editable, and make all
+-- goals again without the recipe and those that it reaches by carrying. At the end the file is
+-- later than all files that the recipe wrote. There may be races.
 abbrev pub StaleIsShown : Type 0
 StaleIsShown =
     (g : Graph) (s : Setting) → IsGraph g → AreSound g s →
     (t : ℕ) (f : FileName) → Has (reads g s t) f → CanChange s f → ¬ (Way g s f t) →
-    (d : Disk) → IsStart s d → HasStampsFor d (2 * writings g s (order_of g g.goals) + 1) →
+    (d : Disk) → IsStartDisk s d → HasStampsFor d (2 * writings g s (order_from g g.goals) + 1) →
     (first edit second : List Step) → ShowsStale g s t f d first edit second →
     IsLegal g s (Idle d) (stale_history g first edit second) ×
     IsLaterThanAll g s (disk_after g s d (stale_history g first edit second)) f t
 
--- There is such a history for each read.
+-- For each read there are steps of the form that `StaleIsShown` needs.
 abbrev pub StaleHistoryExists : Type 0
 StaleHistoryExists =
     (g : Graph) (s : Setting) → IsGraph g → AreSound g s →

@@ -1,16 +1,17 @@
-//! An order that is worked out once for a graph, as rows of bits.
+//! The happens-before relation of a graph, computed once, as bit matrices.
 //!
-//! Each node has two rows: the first row holds what is done whenever the node is wanted, and the
-//! done row what is done whenever the node is done. A group of a node's prerequisites is behind a
-//! gate: the node's first row, united with the done rows of its earlier groups. A first row is the
-//! intersection of the gates of all groups in which the node stands, and a done row is the first
-//! row united with the node and the done rows of its prerequisites. All rows begin full, and rounds
-//! over the serial order clear bits until one round clears none.
+//! Each node has two rows. The first row holds the nodes that are done whenever the node is wanted,
+//! and the done row those that are done whenever the node is done. Each group of a node's
+//! prerequisites is behind a gate: the union of the node's first row and the done rows of the
+//! members of its earlier groups. A node's first row is the intersection of the gates of all groups
+//! that contain the node. Its done row is the union of its first row, the node itself, and the done
+//! rows of its prerequisites. All rows begin full. Rounds over the serial order clear bits until a
+//! round clears none.
 
 ghost use Rattle.std.specs.Prelude.{◌≡◌, ℕ, ◌+◌, ◌*◌, ◌^◌, ◌<◌, ◌≤◌, ◌↔◌, false};
 ghost use Rattle.std.specs.Prelude.{length, replicate, sum, slice_index, IfOk, MatchOption};
 ghost use Rattle.mk_graph.specs.Membership.{Has};
-ghost use Rattle.mk_graph.specs.Turns.{Before};
+ghost use Rattle.mk_graph.specs.Schedules.{Before};
 ghost use Rattle.mk_graph.specs.Graph.{IsGraph};
 ghost use Rattle.mk_graph.specs.BitRows.{Lacks, RowLacks, RowsLack, LackMore, HaveRows, IsSized};
 ghost use Rattle.mk_graph.specs.BitRows.{lists, listed, GateLacks, TargetLacks, Stays, PassesGates};
@@ -23,7 +24,7 @@ use crate::rows::{has, insert, meet_row, meet_rows, row, some_has, unite_rows};
 use std::alloc::{AllocError, Global};
 use std::marker::Model;
 
-/// The order of a graph, in two rows of bits for each node.
+/// The happens-before relation of a graph, in two rows of bits for each node.
 #[derive(Drop)]
 pub struct BitRows<'a> {
     graph: &'a Graph,
@@ -35,21 +36,21 @@ pub struct BitRows<'a> {
 
 impl<'a> Model for BitRows<'a> {
     ghost use Rattle.mk_graph.specs.Graph as value;
-    ghost use Rattle.mk_graph.specs.BitRows.{AreRowsOf};
+    ghost use Rattle.mk_graph.specs.BitRows.{AreBitRowsOf};
 
     ghost Value = { value.Graph };
 
     ghost view = { λ it. it.graph.now };
 
     ghost invariant = { λ it.
-        AreRowsOf it.graph.now it.stride it.first.items it.done.items it.rounds };
+        AreBitRowsOf it.graph.now it.stride it.first.items it.done.items it.rounds };
 }
 
 impl<'a> BitRows<'a> {
-    /// The order of this graph. A round takes time in proportion to the prerequisites of all nodes
-    /// times the words of a row, one for each 64 nodes; the rows take 4 MB for 4,096 nodes.
+    /// Computes the relation for this graph. The only error is out of memory.
     ///
-    /// It fails for want of memory alone.
+    /// A round takes time proportional to the number of prerequisites of all nodes times the words
+    /// of a row, one for each 64 nodes. The rows take 4 MB for 4,096 nodes.
     pub fn new(alloc: Global, graph: &'a Graph) -> Result<BitRows<'a>, AllocError>
         ensures { IfOk result (λ order. order ≡ graph.now) }
     {
@@ -67,16 +68,18 @@ impl<'a> BitRows<'a> {
         })
     }
 
-    /// How many rounds were taken, at least one. The last one found nothing to clear.
+    /// The number of rounds, at least one. The last round cleared nothing.
     pub fn rounds(&self) -> usize
         ensures { 0 < result }
     {
         self.rounds
     }
 
-    /// The nodes that are before `t`; none where each node is, since `t` has no recipe or is no
-    /// node. So what `before` tells is told of any number of nodes in the time that one takes: it is
-    /// linear in the prerequisites of `t`, times the words of a row. It takes no memory.
+    /// The set of nodes that run before `t`, or `None` if every node does, because `t` has no
+    /// recipe or isn't a node.
+    ///
+    /// The time is linear in the number of prerequisites of `t` times the words of a row, the same
+    /// as for one call of `before`. It allocates nothing.
     pub fn predecessors(&self, t: usize) -> Option<NodeSet>
         ensures { MatchOption result ((o : ℕ) → Before self.now o t)
             (λ set. (o : ℕ) → Has set o ↔ Before self.now o t) }
@@ -103,7 +106,7 @@ impl<'a> BitRows<'a> {
 impl<'a> Order for BitRows<'a> {
     ghost graph_of = { λ it. it };
 
-    /// The time is linear in the prerequisites of `t`. It takes no memory.
+    /// The time is linear in the number of prerequisites of `t`. It allocates nothing.
     fn before(&self, o: usize, t: usize) -> bool {
         let Some(node) = self.graph.nodes().get(t) else {
             return true;
@@ -118,7 +121,7 @@ impl<'a> Order for BitRows<'a> {
     }
 }
 
-/// Whether a member stands in the row of some number of these groups.
+/// Whether `member` is in the row of some number of these groups.
 fn groups_have(words: &[u64], stride: usize, groups: &[Vec<usize>], member: usize) -> bool
     requires { HaveRows stride words.now (listed groups.now) }
     ensures { (result ≡ false) ↔ RowsLack stride words.now (listed groups.now) member }
@@ -131,7 +134,7 @@ fn groups_have(words: &[u64], stride: usize, groups: &[Vec<usize>], member: usiz
     false
 }
 
-/// Adds to the gate what stands in the rows of all numbers of these groups.
+/// Adds the rows of all numbers of these groups to the gate.
 fn unite_groups(gate: &mut [u64], words: &[u64], stride: usize, groups: &[Vec<usize>])
     requires rows { HaveRows stride words.now (listed groups.now) }
     requires size { length gate.old ≡ stride }
@@ -143,7 +146,7 @@ fn unite_groups(gate: &mut [u64], words: &[u64], stride: usize, groups: &[Vec<us
     }
 }
 
-/// Puts a row into empty words, and adds what stands in the rows of all numbers of these groups.
+/// Sets the empty `words` to the union of `own` and the rows of all numbers of these groups.
 fn join_rows(words: &mut [u64], own: &[u64], done: &[u64], stride: usize, groups: &[Vec<usize>])
     requires empty { words.old ≡ replicate 64 0 }
     requires narrow { length own.now ≡ stride }
@@ -157,8 +160,7 @@ fn join_rows(words: &mut [u64], own: &[u64], done: &[u64], stride: usize, groups
     unite_groups(gate, done, stride, groups);
 }
 
-/// Takes from the first rows of a node's prerequisites what its own first row and the done rows of
-/// earlier groups lack.
+/// Intersects the first rows of a node's prerequisites with their gates.
 fn pass_gates(first: &mut [u64], done: &[u64], stride: usize, number: usize, groups: &[Vec<usize>])
     requires narrow { stride ≤ 64 }
     requires own { number * stride + stride ≤ length first.old }
@@ -178,8 +180,8 @@ fn pass_gates(first: &mut [u64], done: &[u64], stride: usize, number: usize, gro
     }
 }
 
-/// Takes from the done row of a node what its first row and the done rows of its prerequisites
-/// lack, save the node itself.
+/// Clears from the done row of a node what is neither the node itself nor in its first row nor in
+/// the done row of a prerequisite.
 fn pass_target(first: &[u64], done: &mut [u64], stride: usize, number: usize, groups: &[Vec<usize>])
     requires narrow { stride ≤ 64 }
     requires own { number * stride + stride ≤ length first.now }
@@ -197,7 +199,7 @@ fn pass_target(first: &[u64], done: &mut [u64], stride: usize, number: usize, gr
     meet_row(done, stride, number, gate);
 }
 
-/// Empties the first rows of the goals.
+/// Clears the first rows of the goals.
 fn clear_goals(graph: &Graph, stride: usize, first: &mut [u64])
     requires { IsSized graph.now stride first.old }
     ensures { LackMore stride first.old first.new (λ n o. Has graph.now.goals n) }
@@ -206,7 +208,7 @@ fn clear_goals(graph: &Graph, stride: usize, first: &mut [u64])
     meet_rows(first, stride, graph.goals(), &words[..stride]);
 }
 
-/// Passes the gates of all nodes, each after those that list it.
+/// Passes the gates of all nodes, each node after those that list it as a prerequisite.
 fn pass_backwards(graph: &Graph, stride: usize, first: &mut [u64], done: &[u64])
     requires first { IsSized graph.now stride first.old }
     requires done { IsSized graph.now stride done.now }
@@ -243,7 +245,7 @@ fn pass_forwards(graph: &Graph, stride: usize, first: &[u64], done: &mut [u64])
     }
 }
 
-/// The sum of words, as numbers.
+/// The sum of the words as numbers.
 fn sum_of(words: &[u64]) -> u128
     requires { length words.now ≤ 262144 }
     ensures value { result ≡ sum words.now }
@@ -257,11 +259,12 @@ fn sum_of(words: &[u64]) -> u128
     total
 }
 
-/// Settles all rows, and says how many rounds that took.
+/// Settles all rows and returns the number of rounds.
 ///
-/// In the first round the done rows are still full and would hide what stands behind them, so its
-/// gates take what their members lead to: what is in a member's first row is in its gate anyway.
-/// Thus gates behind gates take no further rounds.
+/// In the first round full done rows would hide what is behind them. So that round first computes
+/// them from empty first rows, as the nodes that each node depends on. This is enough, since what
+/// is in a member's first row is in its gate anyway. Thus gates behind gates need no further
+/// rounds.
 fn settle(graph: &Graph, stride: usize, first: &mut [u64], done: &mut [u64]) -> usize
     requires graph { IsGraph graph.now }
     requires first { IsSized graph.now stride first.old }
@@ -280,7 +283,7 @@ fn settle(graph: &Graph, stride: usize, first: &mut [u64], done: &mut [u64]) -> 
     take_rounds(graph, stride, first, done).saturating_add(1)
 }
 
-/// Takes rounds until one clears nothing, and says how many.
+/// Takes rounds until one clears nothing, and returns their number.
 fn take_rounds(graph: &Graph, stride: usize, first: &mut [u64], done: &mut [u64]) -> usize
     requires first { IsSized graph.now stride first.old }
     requires done { IsSized graph.now stride done.old }

@@ -1,4 +1,4 @@
-//! Sets of bits in words, united and intersected eight words at a time.
+//! Union and intersection of bit sets in words, eight words at a time.
 
 ghost use Rattle.std.specs.Prelude.{◌≡◌, length, bit_and, bit_or};
 ghost use Rattle.std.specs.Simd.Lanes.{zip2};
@@ -6,9 +6,8 @@ ghost use Rattle.mk_graph.specs.BitWords.{AreCombined};
 
 use std::simd::u64x8;
 
-/// Adds the bits of `others`, word by word, to those of `words`.
-///
-/// The two have as many words. It doesn't fail and takes no memory.
+/// Adds the bits of `others` to `words`, word by word. Both have the same length. It can't fail and
+/// allocates nothing.
 pub fn unite(words: &mut [u64], others: &[u64])
     requires { length words.old ≡ length others.now }
     ensures { words.new ≡ zip2 bit_or words.old others.now }
@@ -20,9 +19,8 @@ pub fn unite(words: &mut [u64], others: &[u64])
     }
 }
 
-/// Keeps the bits of `words` that are bits of `others`, word by word, and clears the rest.
-///
-/// The two have as many words. It doesn't fail and takes no memory.
+/// Clears the bits of `words` that aren't set in `others`, word by word. Both have the same length.
+/// It can't fail and allocates nothing.
 pub fn meet(words: &mut [u64], others: &[u64])
     requires { length words.old ≡ length others.now }
     ensures { words.new ≡ zip2 bit_and words.old others.now }
@@ -34,7 +32,7 @@ pub fn meet(words: &mut [u64], others: &[u64])
     }
 }
 
-/// Unites as many words as whole vectors hold, and says how many.
+/// Unites as many words as fill whole vectors, and returns how many.
 fn unite_vectors(words: &mut [u64], others: &[u64]) -> usize
     requires { length words.old ≡ length others.now }
     ensures { AreCombined bit_or words.old others.now result words.new }
@@ -48,7 +46,7 @@ fn unite_vectors(words: &mut [u64], others: &[u64]) -> usize
     place
 }
 
-/// Intersects as many words as whole vectors hold, and says how many.
+/// Intersects as many words as fill whole vectors, and returns how many.
 fn meet_vectors(words: &mut [u64], others: &[u64]) -> usize
     requires { length words.old ≡ length others.now }
     ensures { AreCombined bit_and words.old others.now result words.new }

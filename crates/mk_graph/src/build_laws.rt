@@ -1,100 +1,101 @@
-//! Laws of builds. Each is the contract of a function that does nothing: who calls it has the law.
+//! Laws of builds. Each is the contract of an empty function; calling the function gives the law.
 
-ghost use Rattle.mk_graph.specs.BuildLaws.{FirstIsAStart, SerialOrderIsATurnList, SerialMakeIsLegal, AllGoalsSuffice, BeforeIsDecided, BeforeHoldsInHistories, NotBeforeIsShown, ReadyRecipesRunTogether, OneBuildIsRight, AcceptedIsRight, StaleIsShown, StaleHistoryExists, TurnListsRun, TurnListHistoryExists, RecipesOverlap, MakesCanBeStopped};
+ghost use Rattle.mk_graph.specs.BuildLaws.{FirstIsAStart, SerialOrderIsASchedule, SerialMakeIsLegal, AllGoalsSuffice, BeforeIsDecided, BeforeHoldsInHistories, NotBeforeIsShown, ReadyRecipesRunTogether, OneBuildIsRight, AcceptedIsRight, StaleIsShown, StaleHistoryExists, SchedulesRun, ScheduleHistoryExists, RecipesOverlap, MakesCanBeStopped};
 
-/// The first disk of a world, on which just its given names are there, numbered in the order of
-/// their bytes, is a start in the sense of the other laws.
+/// The first disk of a world, which has exactly its given files, numbered in the order of their
+/// bytes, is a start disk in the other laws.
 pub fn first_is_a_start()
     ensures { FirstIsAStart }
 {}
 
-/// In a graph without cycles the serial order of any part of the goals is a turn list: each node's
-/// turn may come when those before it are done.
-pub fn serial_order_is_a_turn_list()
-    ensures { SerialOrderIsATurnList }
+/// In a graph without cycles the serial order of any part of the goals is a schedule for that part:
+/// each node can start once those before it are done.
+pub fn serial_order_is_a_schedule()
+    ensures { SerialOrderIsASchedule }
 {}
 
-/// Where the clean build of a part of the goals has a value, the history is legal that makes them
-/// with one job, runs each recipe of their serial order whole, passes the other nodes and ends, if
-/// there are stamps for all its writings; and it leaves what the clean build gives.
+/// If the clean build of a part of the goals has a value and there are stamps for all its writes,
+/// then the serial make of that part is legal and leaves what the clean build gives. It has one
+/// job, runs each recipe of the serial order whole, passes the other nodes, and ends.
 pub fn serial_make_is_legal()
     ensures { SerialMakeIsLegal }
 {}
 
-/// Whether a node is before another one, makes of all goals tell.
+/// If a node runs before another one in all makes of all goals, then it does so in makes of any
+/// part of the goals.
 pub fn all_goals_suffice()
     ensures { AllGoalsSuffice }
 {}
 
-/// Of each two nodes of a graph one is before the other or isn't.
+/// For any two nodes of a graph, one runs before the other or it doesn't.
 pub fn before_is_decided()
     ensures { BeforeIsDecided }
 {}
 
-/// Where a node is before a recipe, it is done in the make whenever the recipe is ready, in each
-/// legal history of each setting.
+/// If a node runs before a recipe, it is done whenever the recipe is ready, in each trace over any
+/// build inputs.
 pub fn before_holds_in_histories()
     ensures { BeforeHoldsInHistories }
 {}
 
-/// Two recipes that are ready may begin one behind the other, whatever else runs, if there are jobs
-/// for both.
+/// Two ready recipes may begin one after the other, whatever else runs, if there are jobs for both.
 pub fn ready_recipes_run_together()
     ensures { ReadyRecipesRunTogether }
 {}
 
-/// Where a node isn't before another one, a legal history shows it: a make with one job in which
-/// the other one begins, and the node isn't done.
+/// If a node doesn't run before another one, a trace shows it: a make with one job begins the other
+/// one while the node isn't done.
 pub fn not_before_is_shown()
     ensures { NotBeforeIsShown }
 {}
 
-/// Where footprints are sound and races are none, one make of any part of the goals from a start
-/// builds them, with any number of jobs and any overlap of recipes.
+/// If footprints are sound and there is no race, then one make of any part of the goals from a
+/// start disk builds those goals, with any number of jobs and any overlap of recipes.
 pub fn one_build_is_right()
     ensures { OneBuildIsRight }
 {}
 
-/// Where, beside this, each read of a file that can change has a way, every legal history is right.
+/// If footprints are sound, there is no race, and each read of a file that can change has a way,
+/// then every trace is right.
 pub fn accepted_is_right()
     ensures { AcceptedIsRight }
 {}
 
-/// Where footprints are sound and a read of a file that can change has no way, a legal history
-/// shows it, if there are stamps enough: all is made, the file is edited if it is editable, and all
-/// is made again but for the recipe and those that it reaches by carrying. At its end the file is
-/// later than all that the recipe wrote.
+/// If footprints are sound and a read of a file that can change has no way, a trace shows it, if
+/// there are enough stamps: make all goals, edit the file if it is editable, and make all goals
+/// again without the recipe and those that it reaches by carrying. At its end the file is later
+/// than all files that the recipe wrote.
 pub fn stale_is_shown()
     ensures { StaleIsShown }
 {}
 
-/// There is a history of the shape that `stale_is_shown` speaks of, for each read.
+/// For each read there are steps of the form that `stale_is_shown` needs.
 pub fn stale_history_exists()
     ensures { StaleHistoryExists }
 {}
 
-/// A turn list can be run in any setting: from a start, a make of a part of the goals with one job
-/// is legal in which the recipes of the list run whole, in its order, the other nodes are passed,
-/// and then a recipe begins whose turn may come, if there are stamps enough. Nothing is asked of
-/// the footprints.
-pub fn turn_lists_run()
-    ensures { TurnListsRun }
+/// Any schedule can be run over any build inputs: from a start disk, a make of a part of the goals
+/// with one job that runs the schedule's recipes whole in order, passes its other nodes, and then
+/// begins a recipe that can start is legal, if there are enough stamps. The footprints need not be
+/// sound.
+pub fn schedules_run()
+    ensures { SchedulesRun }
 {}
 
-/// There is a history of the shape that `turn_lists_run` speaks of, for each list of nodes.
-pub fn turn_list_history_exists()
-    ensures { TurnListHistoryExists }
+/// For each list of nodes there are steps of the form that `schedules_run` needs.
+pub fn schedule_history_exists()
+    ensures { ScheduleHistoryExists }
 {}
 
-/// Steps really overlap: from a start, in a make of two jobs or more, behind a turn list whose
-/// recipes have run whole, two recipes whose turns may come both begin, and then look, put and end
-/// in any order of their steps, if there are stamps enough.
+/// Recipes overlap: take a start disk, a make with at least two jobs, and a schedule whose recipes
+/// have run whole. Two recipes that can then start may both begin, and then read, write and end in
+/// any interleaving of their steps, if there are enough stamps.
 pub fn recipes_overlap()
     ensures { RecipesOverlap }
 {}
 
-/// Wherever a legal history comes to a make in which nothing runs, the make may be stopped, which
-/// changes no file, and any part of the goals may be made again.
+/// Whenever no recipe runs in a make of a trace, the make may be stopped, which changes no file,
+/// and a make of any part of the goals may begin.
 pub fn makes_can_be_stopped()
     ensures { MakesCanBeStopped }
 {}

@@ -1,4 +1,4 @@
-//! Why nodes are no graph.
+//! Faults in building a graph.
 
 ghost use Rattle.std.specs.Prelude.{◌≡◌};
 ghost use Rattle.mk_graph.specs.declared.fault.GraphFault.TheVariants.{Memory};
@@ -7,19 +7,19 @@ use mk_lines::Names;
 use std::alloc::{AllocError, AllocFailed};
 use thiserror::Error;
 
-/// Why nodes are no graph.
+/// Why nodes and goals don't make a graph.
 #[derive(Debug, Drop, Error)]
 pub enum GraphFault {
-    /// Prerequisites form a cycle: the names along the first closed path that a walk depth first
-    /// from the goals meets, the first one repeated last. It comes where there are at most 4,096
-    /// nodes (fault 42).
+    /// `Cycle` (42): the prerequisites form a cycle. It has the names along the first closed path
+    /// that a depth-first walk from the goals finds, with the first name repeated at the end.
+    /// `TooManyNodes` comes first.
     #[error("prerequisites form a cycle")]
     Cycle(Names),
-    /// There are over 4,096 nodes (fault 43).
-    #[error("there are over 4,096 nodes")]
+    /// `TooManyNodes` (43): there are more than 4,096 nodes.
+    #[error("over 4,096 nodes")]
     TooManyNodes,
-    /// A growth was refused, which may come in place of any answer.
-    #[error("memory ran out")]
+    /// Out of memory. It may replace any other result.
+    #[error("out of memory")]
     Memory,
 }
 

@@ -1,4 +1,4 @@
-//! A makefile's graph.
+//! The graph of a makefile.
 
 ghost use Rattle.std.specs.Prelude.{◌≡◌, ◌<◌, All, length, map, slice_index_or, IfOk};
 ghost use Rattle.mk_graph.specs.Graph.{IsGraph, IsSound, no_node, prerequisites};
@@ -13,10 +13,10 @@ use mk_lines::Names;
 use std::alloc::{AllocError, Global};
 use std::marker::Model;
 
-/// At most so many nodes are a graph.
+/// The most nodes that a graph may have.
 pub const MAX_NODES: usize = 4096;
 
-/// The nodes that goals reach through prerequisites, without a cycle.
+/// The nodes that the goals reach through prerequisites, without a cycle.
 #[derive(Debug, Drop)]
 pub struct Graph {
     nodes: Vec<Node>,
@@ -28,7 +28,7 @@ pub struct Graph {
 impl Model for Graph {
     ghost use Rattle.std.specs.Prelude.{◌≡◌};
     ghost use Rattle.mk_graph.specs.Graph as value;
-    ghost use Rattle.mk_graph.specs.Progress.{AreRowsOf};
+    ghost use Rattle.mk_graph.specs.Progress.{ArePrerequisiteRows};
     ghost use Rattle.mk_graph.specs.Serial.{serial_order};
 
     ghost Value = { value.Graph };
@@ -38,17 +38,17 @@ impl Model for Graph {
     ghost invariant = { λ g.
         value.IsGraph (record { nodes = g.nodes.items; goals = g.goals.items }) ×
         (g.order.items ≡ serial_order (record { nodes = g.nodes.items; goals = g.goals.items })) ×
-        AreRowsOf g.rows.items g.nodes.items };
+        ArePrerequisiteRows g.rows.items g.nodes.items };
 }
 
 impl Graph {
-    /// The graph of these nodes, which are known by their places, and these goals. Fault 43 where
-    /// there are over 4,096 nodes, else 42 where a path of prerequisites leads from a node to
-    /// itself.
+    /// The graph of these nodes, numbered by their positions, and these goals. `TooManyNodes` (43)
+    /// if there are more than 4,096 nodes; otherwise `Cycle` (42) if a path of prerequisites leads
+    /// from a node to itself; or out of memory. An error drops the nodes and goals.
     ///
-    /// The caller owes that names differ, that goals and prerequisites are places of nodes, and
-    /// that each node is reached from a goal. No nodes and no goals are a graph. The time is linear
-    /// in nodes and prerequisites, and a chain of nodes takes none of the machine's stack.
+    /// The caller must ensure that names are distinct, that goals and prerequisites are numbers of
+    /// nodes, and that the goals reach each node. An empty graph is allowed. The time is linear in
+    /// the number of nodes and prerequisites, and a long chain of nodes uses no machine stack.
     pub fn build(alloc: Global, nodes: Vec<Node>, goals: Vec<usize>) -> Result<Graph, GraphFault>
         requires { IsSound (record { nodes = nodes.items; goals = goals.items }) }
         ensures { Builds (record { nodes = nodes.items; goals = goals.items }) result }
@@ -68,7 +68,7 @@ impl Graph {
         }
     }
 
-    /// The nodes, each at its number.
+    /// The nodes; the position of each is its number.
     pub fn nodes(&self) -> &[Node]
         ensures value { result.now ≡ self.now.nodes }
         ensures graph { IsGraph self.now }
@@ -76,7 +76,7 @@ impl Graph {
         self.nodes.as_slice()
     }
 
-    /// The numbers of the goals, in their order.
+    /// The numbers of the goals, in order.
     pub fn goals(&self) -> &[usize]
         ensures value { result.now ≡ self.now.goals }
         ensures graph { IsGraph self.now }
@@ -84,8 +84,8 @@ impl Graph {
         self.goals.as_slice()
     }
 
-    /// The numbers of a node's direct prerequisites, those of its groups one after another. A
-    /// number that is no node's has none.
+    /// The numbers of a node's direct prerequisites, group by group. Empty if there is no such
+    /// node.
     pub fn prerequisites(&self, number: usize) -> &[usize]
         ensures { result.now ≡ prerequisites self.now number }
     {
@@ -103,12 +103,12 @@ impl Graph {
         self.order.as_slice()
     }
 
-    /// The numbers of all nodes in the order in which a make with one job makes them: depth first,
-    /// left to right, each node after its prerequisites, once. The prerequisites of a target are
-    /// made before it, in the order in which they appear (IEEE Std 1003.1-2024, XCU make, "Target
-    /// Rules"). `laws` says what this order keeps.
+    /// The numbers of all nodes in serial order, the order in which a make with one job makes them:
+    /// depth first, left to right, each node once and after its prerequisites. The only error is
+    /// out of memory.
     ///
-    /// It fails for want of memory alone.
+    /// The prerequisites of a target are made before it, in the order in which they appear (IEEE
+    /// Std 1003.1-2024, XCU make, "Target Rules"). `laws` has the properties of this order.
     pub fn serial(&self) -> Result<Vec<usize>, AllocError>
         ensures { IfOk result (λ order. order.items ≡ serial_order self.now) }
     {

@@ -1,4 +1,4 @@
-//! An order that is looked up in the graph anew for each two nodes.
+//! The happens-before relation, searched anew in the graph for each query.
 
 ghost use Rattle.std.specs.Prelude.{◌≡◌};
 
@@ -7,8 +7,8 @@ use crate::order::Order;
 use crate::without::Without;
 use std::marker::Model;
 
-/// The order of a graph. It finishes all that can be done without one node, as a make of all goals
-/// would, and sees whether the other one's turn comes.
+/// The happens-before relation of a graph. Each query does everything that can be done without one
+/// node, as a make of all goals would, and tests whether the other node can then start.
 #[derive(Drop)]
 pub struct Greedy<'a> {
     graph: &'a Graph,
@@ -23,7 +23,7 @@ impl<'a> Model for Greedy<'a> {
 }
 
 impl<'a> Greedy<'a> {
-    /// The order of this graph. It takes no time.
+    /// The relation for this graph, in constant time.
     pub fn new(graph: &'a Graph) -> Greedy<'a>
         ensures { result ≡ graph.now }
     {
@@ -34,8 +34,8 @@ impl<'a> Greedy<'a> {
 impl<'a> Order for Greedy<'a> {
     ghost graph_of = { λ it. it };
 
-    /// The time is linear in nodes and prerequisites. It takes no memory beside 1,024 bytes of the
-    /// machine's stack.
+    /// The time is linear in the number of nodes and prerequisites. It uses 1,024 bytes of stack
+    /// and allocates nothing.
     fn before(&self, o: usize, t: usize) -> bool {
         Without::new(self.graph, o).is_before(t)
     }

@@ -1,4 +1,4 @@
-//! Groups of node numbers, which contracts see as lists.
+//! Groups of node numbers. Contracts see them as lists.
 
 ghost use Rattle.std.specs.Prelude.{◌≡◌, map};
 
@@ -19,7 +19,7 @@ impl Model for Groups {
 }
 
 impl Groups {
-    /// The groups of a list, in its order.
+    /// The groups of this list, in its order.
     pub fn new(groups: Vec<Vec<usize>>) -> Groups
         ensures { result ≡ map (λ group. group.items) groups.items }
     {

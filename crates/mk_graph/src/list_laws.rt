@@ -1,19 +1,19 @@
-//! Laws of what stands in lists. Each is the contract of a function that does nothing: who calls it
-//! has the law, for the types that it names.
+//! Laws about members of lists. Each is the contract of an empty function; calling the function
+//! gives the law, for the types that the call names.
 
 ghost use Rattle.mk_graph.specs.Membership.{MembersOfAppended, MembersOfMapped, MembersOfJoined};
 
-/// In two lists, one behind the other, stands just what stands in one of them.
+/// An element is in an appended list exactly if it is in one of its two parts.
 pub fn members_of_appended<T>()
     ensures { MembersOfAppended T }
 {}
 
-/// In a mapped list stands just what some element is taken to.
+/// An element is in a mapped list exactly if it is the image of some element.
 pub fn members_of_mapped<T, U>()
     ensures { MembersOfMapped T U }
 {}
 
-/// In the lists of all elements, joined, stands just what stands in the list of some element.
+/// An element is in a flattened list exactly if it is in the list of some element.
 pub fn members_of_joined<T, U>()
     ensures { MembersOfJoined T U }
 {}

@@ -1,16 +1,16 @@
-//! Sets of node numbers, on the stack.
+//! Sets of node numbers, stored inline.
 
 ghost use Rattle.std.specs.Prelude.{◌≡◌, ℕ, ◌<◌, [], List, true, ◌⊎◌, ◌↔◌, map};
 ghost use Rattle.mk_graph.specs.Bits.{is_set};
 ghost use Rattle.mk_graph.specs.Graph.{max_nodes};
 ghost use Rattle.mk_graph.specs.Membership.{Has};
-ghost use Rattle.mk_graph.specs.Turns.{HasAll};
+ghost use Rattle.mk_graph.specs.Schedules.{HasAll};
 ghost use Rattle.mk_graph.specs.Without.{joined};
 
 use std::marker::Model;
 
-/// A set of numbers below 4,096, which takes no memory beside its 512 bytes. A contract sees the
-/// list of its members.
+/// A set of numbers below 4,096, in 512 bytes. It allocates nothing. Contracts see the list of its
+/// members.
 #[derive(Drop)]
 pub struct NodeSet {
     words: [u64; 64],
@@ -26,7 +26,7 @@ impl Model for NodeSet {
 }
 
 impl NodeSet {
-    /// The set without members.
+    /// The empty set.
     pub fn new() -> NodeSet
         ensures { (n : ℕ) → ¬ (Has result n) }
     {
@@ -50,7 +50,7 @@ impl NodeSet {
         }
     }
 
-    /// Adds a number.
+    /// Adds a number, which must be below 4,096.
     pub fn insert(&mut self, number: usize)
         requires { number < max_nodes }
         ensures { (n : ℕ) → Has self.new n ↔ (n ≡ number) ⊎ Has self.old n }
@@ -58,7 +58,7 @@ impl NodeSet {
         self.words[number / 64] |= 1u64 << (number % 64);
     }
 
-    /// Whether all numbers are members.
+    /// Whether all these numbers are members.
     pub fn has_all(&self, numbers: &[usize]) -> bool
         ensures { (result ≡ true) ↔ HasAll self.now numbers.now }
     {
@@ -83,7 +83,7 @@ impl NodeSet {
         true
     }
 
-    /// Adds all numbers.
+    /// Adds these numbers, which must be below 4,096.
     pub fn insert_all(&mut self, numbers: &[usize])
         requires { (n : ℕ) → Has numbers.now n → n < max_nodes }
         ensures { (n : ℕ) → Has self.new n ↔ Has numbers.now n ⊎ Has self.old n }

@@ -1,15 +1,16 @@
-//! The prerequisites of each node, all groups in one row.
+//! The prerequisites of each node, with all groups in one row.
 
 ghost use Rattle.std.specs.Prelude.{◌≡◌, map, IfOk};
 ghost use Rattle.std.specs.List.{flat_map};
-ghost use Rattle.mk_graph.specs.Progress.{AreRowsOf};
+ghost use Rattle.mk_graph.specs.Progress.{ArePrerequisiteRows};
 
 use crate::node::Node;
 use std::alloc::{AllocError, Global};
 
-/// A row for each node: its prerequisites, in the order of its groups.
+/// A row for each node: its prerequisites, in the order of its groups. The only error is out of
+/// memory.
 pub fn rows_of(alloc: Global, nodes: &[Node]) -> Result<Vec<Vec<usize>>, AllocError>
-    ensures { IfOk result (λ rows. AreRowsOf rows.items nodes.now) }
+    ensures { IfOk result (λ rows. ArePrerequisiteRows rows.items nodes.now) }
 {
     let mut rows = Vec::with_capacity(alloc, nodes.len())?;
     for node in nodes {
@@ -18,7 +19,7 @@ pub fn rows_of(alloc: Global, nodes: &[Node]) -> Result<Vec<Vec<usize>>, AllocEr
     Ok(rows)
 }
 
-/// The members of all groups, one group after another.
+/// The members of all groups, group by group.
 fn joined(alloc: Global, groups: &[Vec<usize>]) -> Result<Vec<usize>, AllocError>
     ensures { IfOk result (λ row. row.items ≡
         flat_map (λ group. group) (map (λ group. group.items) groups.now)) }

@@ -1,4 +1,4 @@
-//! Rows of bits, one for each node, in one list of words.
+//! A bit matrix in one list of words, with a row for each node.
 
 ghost use Rattle.std.specs.Prelude.{◌≡◌, ℕ, ◌+◌, ◌*◌, ◌/◌, ◌<◌, ◌≤◌, ◌↔◌, length, false};
 ghost use Rattle.mk_graph.specs.Membership.{Has};
@@ -17,7 +17,7 @@ pub(crate) fn row(words: &[u64], stride: usize, number: usize) -> &[u64]
     &words[start..start + stride]
 }
 
-/// Whether a member stands in a row.
+/// Whether `member` is in a row.
 pub(crate) fn has(words: &[u64], stride: usize, number: usize, member: usize) -> bool
     requires { number * stride + stride ≤ length words.now }
     ensures { result ≡ is_set (row stride words.now number) member }
@@ -28,7 +28,7 @@ pub(crate) fn has(words: &[u64], stride: usize, number: usize, member: usize) ->
     }
 }
 
-/// Whether a member stands in the row of one of these numbers.
+/// Whether `member` is in the row of one of these numbers.
 pub(crate) fn some_has(words: &[u64], stride: usize, numbers: &[usize], member: usize) -> bool
     requires { HaveRows stride words.now numbers.now }
     ensures { (result ≡ false) ↔ RowsLack stride words.now numbers.now member }
@@ -41,7 +41,7 @@ pub(crate) fn some_has(words: &[u64], stride: usize, numbers: &[usize], member: 
     false
 }
 
-/// Takes from a row what the gate lacks.
+/// Intersects a row with the gate.
 pub(crate) fn meet_row(words: &mut [u64], stride: usize, number: usize, gate: &[u64])
     requires room { number * stride + stride ≤ length words.old }
     requires size { length gate.now ≡ stride }
@@ -51,7 +51,7 @@ pub(crate) fn meet_row(words: &mut [u64], stride: usize, number: usize, gate: &[
     meet(&mut words[start..start + stride], gate);
 }
 
-/// Takes from the rows of these numbers what the gate lacks.
+/// Intersects the rows of these numbers with the gate.
 pub(crate) fn meet_rows(words: &mut [u64], stride: usize, numbers: &[usize], gate: &[u64])
     requires rows { HaveRows stride words.old numbers.now }
     requires size { length gate.now ≡ stride }
@@ -62,7 +62,7 @@ pub(crate) fn meet_rows(words: &mut [u64], stride: usize, numbers: &[usize], gat
     }
 }
 
-/// Adds to the gate what stands in the rows of these numbers.
+/// Adds the rows of these numbers to the gate.
 pub(crate) fn unite_rows(gate: &mut [u64], words: &[u64], stride: usize, numbers: &[usize])
     requires rows { HaveRows stride words.now numbers.now }
     requires size { length gate.old ≡ stride }

@@ -1,5 +1,5 @@
-//! A walk depth first, left to right, over rows of prerequisites. A chain of nodes grows a vector,
-//! and not the machine's stack.
+//! A depth-first, left-to-right walk over rows of prerequisites. It keeps its path in a vector and
+//! not on the machine stack.
 
 ghost use Rattle.std.specs.Prelude.{◌≡◌, ℕ, ◌<◌, ◌++◌, [], ◌∷◌, length, reverse, map, IfOk, IfNone, slice_set};
 ghost use Rattle.mk_graph.specs.Membership.{Has};
@@ -8,14 +8,14 @@ ghost use Rattle.mk_graph.specs.Progress.{row, AreRows, AreMarks, ending, walk_e
 
 use std::alloc::{AllocError, Global};
 
-/// What a walk knows of a node.
+/// The state of a node in the walk.
 #[derive(Clone, Copy, Debug)]
 pub enum Mark {
-    /// The walk has not met it.
+    /// The walk hasn't reached it.
     New,
     /// Its prerequisites are being walked.
     UnderWay,
-    /// It stands behind its prerequisites in the order.
+    /// It is in the order, after its prerequisites.
     Finished,
 }
 
@@ -26,16 +26,17 @@ pub struct Frame {
     pub walked: usize,
 }
 
-/// How a walk of all goals ends.
+/// The result of a walk from all goals.
 #[derive(Debug, Drop)]
 pub enum End {
-    /// All that the goals lead to, each node behind its prerequisites.
+    /// All nodes that the goals reach, each after its prerequisites.
     Order(Vec<usize>),
-    /// The first closed path, its first node repeated last.
+    /// The first closed path, with its first node repeated at the end.
     Cycle(Vec<usize>),
 }
 
-/// Walks the goals over the prerequisites of each node, a row for each.
+/// Walks from these goals over the rows, which hold the prerequisites of each node. The only error
+/// is out of memory.
 pub fn walk(alloc: Global, rows: &[Vec<usize>], goals: &[usize]) -> Result<End, AllocError>
     requires rows { AreRows rows.now }
     requires goals { (n : ℕ) → Has goals.now n → n < length rows.now }
@@ -51,7 +52,8 @@ pub fn walk(alloc: Global, rows: &[Vec<usize>], goals: &[usize]) -> Result<End, 
     Ok(End::Order(order))
 }
 
-/// Walks a goal: the closed path that it meets, or else what it finishes joins the order.
+/// Walks from one goal. Returns the closed path that it finds, or else appends the nodes that it
+/// finishes to the order.
 fn walk_from(
     alloc: Global,
     rows: &[Vec<usize>],
@@ -94,7 +96,7 @@ fn walk_from(
     Ok(None)
 }
 
-/// Begins a node.
+/// Marks a node as under way and pushes its frame.
 fn enter(frames: &mut Vec<Frame>, marks: &mut [Mark], node: usize) -> Result<(), AllocError>
     requires { node < length marks.old }
     ensures frames { IfOk result (λ _. frames.new.items ≡
@@ -106,7 +108,7 @@ fn enter(frames: &mut Vec<Frame>, marks: &mut [Mark], node: usize) -> Result<(),
     Ok(())
 }
 
-/// The path from a node that is under way along the frames, and to the node again.
+/// The path along the frames from a node that is under way, back to that node.
 fn closed_path_from(
     alloc: Global,
     mut frames: Vec<Frame>,

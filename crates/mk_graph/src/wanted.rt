@@ -3,18 +3,19 @@
 ghost use Rattle.std.specs.Prelude.{ℕ, ◌<◌, ◌⊎◌, ◌↔◌, length, map};
 ghost use Rattle.mk_graph.specs.Graph.{max_nodes};
 ghost use Rattle.mk_graph.specs.Membership.{Has};
-ghost use Rattle.mk_graph.specs.Turns.{InOpenGroup, Wanted};
+ghost use Rattle.mk_graph.specs.Schedules.{InOpenGroup, Wanted};
 ghost use Rattle.mk_graph.specs.Without.{joined};
 
 use crate::graph::Graph;
 use crate::node_set::NodeSet;
 
-/// The nodes that a make of these goals wants once these are done: the goals, and what stands in a
-/// group of a wanted node whose earlier groups are all done. What stands behind a `.WAIT` isn't
-/// wanted until what stands before it is made (IEEE Std 1003.1-2024, XCU make, "Target Rules").
+/// The nodes that a make of these goals wants once the nodes `done` are done: the goals, and the
+/// members of each group of a wanted node whose earlier groups are all done. It can't fail, uses
+/// 512 bytes of stack, and allocates nothing.
 ///
-/// One round backwards over the serial order finds them. It doesn't fail, and takes no memory
-/// beside 512 bytes of the machine's stack.
+/// What comes after a `.WAIT` isn't wanted until what comes before it is made (IEEE Std
+/// 1003.1-2024, XCU make, "Target Rules"). One pass backwards over the serial order finds these
+/// nodes.
 pub fn wanted_with(graph: &Graph, goals: &[usize], done: &NodeSet) -> NodeSet
     requires { (n : ℕ) → Has goals.now n → n < length graph.now.nodes }
     ensures { (n : ℕ) → Has result n ↔ Wanted graph.now goals.now done.now n }
@@ -34,7 +35,7 @@ pub fn wanted_with(graph: &Graph, goals: &[usize], done: &NodeSet) -> NodeSet
     wanted
 }
 
-/// Adds what stands in open groups.
+/// Adds the members of open groups.
 fn want_open(wanted: &mut NodeSet, done: &NodeSet, groups: &[Vec<usize>])
     requires { (n : ℕ) → Has (joined (map (λ group. group.items) groups.now)) n → n < max_nodes }
     ensures { (n : ℕ) → Has wanted.new n ↔

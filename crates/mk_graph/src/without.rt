@@ -1,11 +1,11 @@
 //! What can be done without one node.
 //!
-//! A node can be done without another one just where no path of prerequisites leads from it to that
-//! one. One round over the serial order finds these nodes, and a round backwards finds what a make
+//! A node can be done without another one exactly if no path of prerequisites leads from it to that
+//! one. One pass over the serial order finds these nodes, and a pass backwards finds what a make
 //! wants once they are done.
 
 ghost use Rattle.std.specs.Prelude.{◌≡◌, true, ◌↔◌};
-ghost use Rattle.mk_graph.specs.Turns.{Before};
+ghost use Rattle.mk_graph.specs.Schedules.{Before};
 ghost use Rattle.mk_graph.specs.Without.{AreFree};
 
 use crate::graph::Graph;
@@ -13,8 +13,8 @@ use crate::node_set::NodeSet;
 use crate::wanted::wanted_with;
 use std::marker::Model;
 
-/// What a make of all goals does while one node is never done. By it is told of this node before
-/// which others it is. A contract sees the graph and the node.
+/// A make of all goals in which one node is never done. It tells for this node which others it runs
+/// before. Contracts see the graph and the node.
 #[derive(Drop)]
 pub struct Without<'a> {
     graph: &'a Graph,
@@ -53,8 +53,8 @@ pub fn free_of(graph: &Graph, o: usize) -> NodeSet
 }
 
 impl<'a> Without<'a> {
-    /// What is done without this node. The time is linear in nodes and prerequisites. It doesn't
-    /// fail, and takes no memory beside its own 1,024 bytes.
+    /// The make without this node. The time is linear in the number of nodes and prerequisites. It
+    /// can't fail, and allocates nothing beyond its own 1,024 bytes.
     pub fn new(graph: &'a Graph, other: usize) -> Without<'a>
         ensures { result ≡ record { graph = graph.now; other = other } }
     {
@@ -75,9 +75,9 @@ impl<'a> Without<'a> {
         self.other
     }
 
-    /// Whether the node is done, in each make of some of the goals and with any number of jobs,
-    /// whenever the recipe of `t` may begin. It is so of each `t` that has no recipe or is no node.
-    /// The time is linear in the prerequisites of `t`.
+    /// Whether the node runs before `t`: it is done whenever the recipe of `t` may begin, in every
+    /// make of any part of the goals with any number of jobs. True for each `t` that has no recipe
+    /// or isn't a node. The time is linear in the number of prerequisites of `t`.
     pub fn is_before(&self, t: usize) -> bool
         ensures { (result ≡ true) ↔ Before self.now.graph self.now.other t }
     {

@@ -8,3 +8,9 @@ pub mod RuleNeeds
 pub mod InferenceNames
 pub mod LastDots
 pub mod Sources
+pub mod FirstFound
+pub mod ResolvedRules
+pub mod Least
+pub mod NamesThere
+pub mod CommandLists
+pub mod CommandRecipes

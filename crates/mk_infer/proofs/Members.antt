@@ -1,7 +1,7 @@
 -- What stands in a list.
-use Rattle.std.proofs.Common.{◌≡◌, ℕ, Bool, true, false, ◌||◌, cond, List, [], ◌∷◌, Option, Some, inl, inr, refl, sym, ap, ◌∙◌}
+use Rattle.std.proofs.Common.{◌≡◌, ℕ, Bool, true, false, ◌&&◌, ◌||◌, cond, List, [], ◌∷◌, Option, Some, None, inl, inr, refl, sym, ap, ◌∙◌}
 use Rattle.std.specs.Prelude.{find}
-use Rattle.std.specs.List.{list_any}
+use Rattle.std.specs.List.{list_all, list_any}
 use Rattle.std.specs.Str.{bytes_eq}
 use Rattle.std.proofs.lemmas.List.Folds.{list_any-append}
 use Rattle.std.proofs.lemmas.Slice.Eq.{bytes_eq-Decides}
@@ -48,3 +48,18 @@ pub target_listed : (rules : List RuleRead) (name : List ℕ) → list_any (λ (
 target_listed [] name = refl
 target_listed (rule ∷ rules) name =
     ap (λ b. has_name rule.targets name || b) (target_listed rules name) ∙ sym (list_any-append (λ (other : List ℕ). bytes_eq name other) rule.targets (targets_in rules))
+
+pub both_are : (a b : Bool) → (a && b) ≡ true → (a ≡ true) × (b ≡ true)
+both_are true b h = (refl, h)
+both_are false b h = absurd cc
+
+-- where all pass, each one does
+pub each_passes : {A : Type 0} (p : A → Bool) (xs : List A) (x : A) → list_all p xs ≡ true → Has xs x → p x ≡ true
+each_passes p [] x h k = absurd k
+each_passes p (y ∷ xs) x h (inl e) = ap p (sym e) ∙ (both_are (p y) (list_all p xs) h).0
+each_passes p (y ∷ xs) x h (inr k) = each_passes p xs x (both_are (p y) (list_all p xs) h).1 k
+
+-- where none passes, none is found
+pub find_none : (p : List ℕ → Bool) (xs : List (List ℕ)) → ((x : List ℕ) → Has xs x → p x ≡ false) → find p xs ≡ None
+find_none p [] none = refl
+find_none p (x ∷ xs) none = ap (λ b. cond b (Some x) (find p xs)) (none x (inl refl)) ∙ find_none p xs (λ y k. none y (inr k))

@@ -1,4 +1,4 @@
--- The commands of a name, expanded.
+-- The expanded commands of a name.
 use Rattle.std.specs.Prelude.{ℕ, Bool, false, ◌||◌, List, [], ◌∷◌, slice_get, Option, Some, Result, Ok}
 use Rattle.std.specs.Option.{option_map_or}
 use Rattle.mk_macros.specs.Expansion.{expansion}
@@ -12,15 +12,16 @@ use Rattle.mk_infer.specs.Selection.{needs}
 use Rattle.mk_infer.specs.Steps.{◌>>=◌, at_place}
 use Rattle.mk_infer.specs.There.{Exists}
 
--- commands as make would run them, and whether they vary from make to make
+-- expanded commands, and whether they vary from make to make
 pub record Commands : Type 0 where
   pub lines : List (List ℕ)
   pub varying : Bool
 
+-- no commands
 abbrev pub no_commands : Commands
 no_commands = record { lines = []; varying = false }
 
--- each command expanded, in order, or the first fault at its command's place
+-- the commands expanded in order, or the first fault, at the place of its command
 unfoldable pub expanded : List Macro → Option Recipe → List Command → Result Commands InferFault
 expanded macros recipe [] = Ok no_commands
 expanded macros recipe (command ∷ commands) = do
@@ -28,8 +29,8 @@ expanded macros recipe (command ∷ commands) = do
   rest ← expanded macros recipe commands
   Ok (record { lines = first.text ∷ rest.lines; varying = first.varying || rest.varying })
 
--- What the commands of a name speak of. The first prerequisite is the inferred one, where there is
--- one.
+-- what the internal macros in the commands of a name stand for; the first prerequisite is the
+-- inferred one, if there is one
 abbrev pub recipe_for : Makefile → Exists → List ℕ → Recipe
 recipe_for m e name =
     record {
@@ -39,7 +40,7 @@ recipe_for m e name =
       all = needs m e name;
     }
 
--- the commands of a name, expanded with the macros after all reading
+-- the commands of a name, expanded with the macros as they are after all reading
 unfoldable pub commands : Makefile → Exists → List ℕ → Result Commands InferFault
 commands m e name =
     option_map_or (expanded m.macros (Some (recipe_for m e name))) (chosen_commands m e name)

@@ -13,3 +13,4 @@ pub mod Table
 pub mod Ends
 pub mod Laws
 pub mod NameLaws
+pub mod Choosing

@@ -10,20 +10,20 @@ use Rattle.mk_infer.specs.Goals.{goal_names}
 use Rattle.mk_infer.specs.Selection.{Selects}
 use Rattle.mk_infer.specs.There.{Exists}
 
--- Goals of a makefile whose rule lines are well named are plain paths.
+-- If the names in the rule lines of a makefile are well formed, its goals are plain paths.
 abbrev pub GoalsArePlain : Type 0
 GoalsArePlain =
     (m : Makefile) (words goals : List (List ℕ)) → list_all is_well_named m.rules ≡ true →
     goal_names m words ≡ Ok goals → list_all is_plain_path goals ≡ true
 
--- The rule lines are well named, and the names that are there are plain paths.
+-- the names in the rule lines are well formed, and the present names are plain paths
 pub record HavePlainNames (m : Makefile) (e : Exists) : Type 0 where
   pub rules : list_all is_well_named m.rules ≡ true
   pub sources : list_all is_plain_path e.sources ≡ true
   pub texts : list_all is_plain_path e.texts ≡ true
   pub more : list_all is_plain_path e.more ≡ true
 
--- Then the names of the nodes of a graph are plain paths, where its goals are.
+-- Then the nodes of a graph have plain paths as names if its goals are plain paths.
 abbrev pub NodesHavePlainNames : Type 0
 NodesHavePlainNames =
     (m : Makefile) (e : Exists) (goals : List (List ℕ)) (g : Graph) → HavePlainNames m e →

@@ -16,12 +16,12 @@ use Rattle.mk_infer.specs.There.{Exists, is_given}
 use Rattle.mk_infer.specs.Inference.{choice, chosen_commands}
 use Rattle.mk_infer.specs.Walk.{Meets}
 
--- the prerequisites of a name, the inferred one before the others
+-- the prerequisites of a name, the inferred one first
 abbrev pub needs : Makefile → Exists → List ℕ → List (List ℕ)
 needs m e name = option_to_list (choice m e name) ++ prerequisites_of m name
 
--- The inferred prerequisite as the first member of the first group. Where nothing runs side by side
--- it is a group of its own.
+-- the groups with the inferred prerequisite put first: into the first group, or as a group of its
+-- own if nothing runs in parallel
 abbrev pub with_choice : Bool → Option (List ℕ) → List (List (List ℕ)) → List (List (List ℕ))
 with_choice not_parallel None groups = groups
 with_choice not_parallel (Some name) groups =
@@ -33,14 +33,15 @@ groups_of m e name =
     with_choice m.not_parallel (choice m e name) (groups m.not_parallel (words_for m name))
 
 -- the numbers of the names in groups
-abbrev pub numbered : List (List ℕ) → List (List (List ℕ)) → List (List ℕ)
-numbered all groups = map (map (number_of all)) groups
+abbrev pub in_node_numbers : List (List ℕ) → List (List (List ℕ)) → List (List ℕ)
+in_node_numbers all groups = map (map (number_of all)) groups
 
+-- the node of a name, with its prerequisites numbered by their place in the list of all names
 abbrev pub node_of : Makefile → Exists → List (List ℕ) → List ℕ → Node
 node_of m e all name =
     record {
       name = name;
-      groups = numbered all (groups_of m e name);
+      groups = in_node_numbers all (groups_of m e name);
       recipe = have_text (chosen_commands m e name);
       phony = has_name m.phony name;
     }
@@ -57,24 +58,24 @@ is_lacking m e name =
     (is_target m name ||
     (has_some (choice m e name) || (has_name m.phony name || is_given e name))))
 
--- the first of the names that lacks a rule, among as many as a graph may have
+-- the first name that nothing makes, among as many names as a graph may have
 abbrev pub lacking : Makefile → Exists → List (List ℕ) → Option (List ℕ)
 lacking m e all = find (is_lacking m e) (take max_nodes all)
 
--- The graph that is handed in is built, or refused. Want of memory is no refusal.
+-- the graph is built, or refused with a fault other than `Memory`
 abbrev pub Built : Graph → Result Graph InferFault → Type 0
 Built handed (Ok g) = Builds handed (Ok g)
 Built handed (Err (Refused graph.Memory)) = ⊥
 Built handed (Err (Refused fault)) = Builds handed (Err fault)
 Built handed (Err fault) = ⊥
 
--- a name that lacks a rule is the fault
+-- `NoRule` (41) if nothing makes a name, else the graph is built or refused
 abbrev pub BuiltUnless : Option (List ℕ) → Graph → Result Graph InferFault → Type 0
 BuiltUnless (Some name) handed answer = answer ≡ Err (NoRule name)
 BuiltUnless None handed answer = Built handed answer
 
--- What becomes of the goals: the graph of the names that a walk from them meets, or its first
--- fault. Nothing is said of want of memory.
+-- The answer for the goals is the graph of the names that a walk from them visits, or its first
+-- fault; or it is `Memory`, of which nothing is said.
 abbrev pub Selects : Makefile → Exists → List (List ℕ) → Result Graph InferFault → Type 0
 Selects m e goals (Err Memory) = Unit {0}
 Selects m e goals answer =

@@ -1,4 +1,4 @@
--- Results in steps: the first fault is the result.
+-- Results in sequence: the first fault is the result.
 use Rattle.std.specs.Prelude.{Bool, true, false, Result, Ok, Err}
 use Rattle.mk_graph.specs.declared.fault.GraphFault.{GraphFault}
 use Rattle.mk_graph.specs.declared.fault.GraphFault.TheVariants as graph
@@ -10,27 +10,27 @@ use Rattle.mk_infer.specs.declared.fault.InferFault.TheVariants.{Macro, Graph, M
 pub use Rattle.mk_lines.specs.Results.{◌>>=◌}
 use Rattle.mk_lines.specs.Results as results
 
--- want of memory, whatever met it
-abbrev pub is_want_of_memory : InferFault → Bool
-is_want_of_memory Memory = true
-is_want_of_memory (Macro place macro.Memory) = true
-is_want_of_memory (Graph graph.Memory) = true
-is_want_of_memory fault = false
+-- the fault is out of memory, at any depth
+abbrev pub is_out_of_memory : InferFault → Bool
+is_out_of_memory Memory = true
+is_out_of_memory (Macro place macro.Memory) = true
+is_out_of_memory (Graph graph.Memory) = true
+is_out_of_memory fault = false
 
--- the fault of a macro is one at this place
+-- a fault of a macro becomes one at this place
 abbrev pub at_place : {A : Type 0} → Place → Result A MacroFault → Result A InferFault
 at_place place (Ok x) = Ok x
 at_place place (Err fault) = Err (Macro place fault)
 
--- the fault of a graph, but want of memory
+-- a fault of a graph becomes one of goals; out of memory stays `Memory`
 abbrev pub of_graph : GraphFault → InferFault
 of_graph graph.Memory = Memory
 of_graph fault = Graph fault
 
--- A fault is the one that is defined, or want of memory, of which nothing is said.
+-- the fault is the defined one, or out of memory
 abbrev pub Fails : {Y : Type 0} → InferFault → Result Y InferFault → Type 0
 Fails = results.Fails Memory
 
--- What a call returned, seen by view, is what is defined, unless memory ran out.
+-- A call returned what is defined, seen by `view`, or ran out of memory.
 abbrev pub Gives : {X Y : Type 0} → (X → Y) → Result X InferFault → Result Y InferFault → Type 0
 Gives = results.Gives Memory

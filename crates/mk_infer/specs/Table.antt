@@ -1,4 +1,4 @@
--- The rule lines of a target, looked up by its name.
+-- The indexes of a makefile.
 use Rattle.std.specs.Prelude.{◌≡◌, ◌⊎◌, ℕ, ◌+◌, ◌<◌, ◌==◌, Bool, true, false, ◌&&◌, ◌||◌, not, List, [], ◌∷◌, ◌++◌, Vec, filter, find, length, map, take, drop, is_some, slice_get, if◌then◌else◌}
 use Rattle.std.specs.Option.{option_map_or}
 use Rattle.std.specs.Borrow.{Bor}
@@ -17,7 +17,7 @@ use Rattle.mk_read.specs.State.{RuleRead}
 use Rattle.mk_infer.specs.Inference.{commands_from, ending}
 use Rattle.mk_infer.specs.There.{Exists}
 
--- the places of rule lines that a table has at a name
+-- the places of rule lines that the table has for a name
 abbrev pub places_at : {S : Type 0} → IndexMap (Bor (List ℕ)) (Vec ℕ Global) S → List ℕ → List ℕ
 places_at table name =
     option_map_or (λ places. places.items) (get_by (λ k. bytes_eq name k.now) table) []
@@ -26,20 +26,20 @@ places_at table name =
 abbrev pub lines_at : List RuleRead → List ℕ → List RuleRead
 lines_at rules places = filter_map (λ place. slice_get rules place) places
 
--- the rule lines that name it
+-- the rule lines that have the name as a target
 abbrev pub lines_of : List RuleRead → List ℕ → List RuleRead
 lines_of rules name = filter (λ (rule : RuleRead). has_name rule.targets name) rules
 
--- the table has the rule lines of each target
+-- the table has, for each name, the places of exactly its rule lines
 abbrev pub HasLines : {S : Type 0} → List RuleRead → IndexMap (Bor (List ℕ)) (Vec ℕ Global) S →
     Type 0
 HasLines rules table = (name : List ℕ) → lines_at rules (places_at table name) ≡ lines_of rules name
 
--- the table has rule lines of that name
+-- the table has an entry for the name
 abbrev pub has_target : {S : Type 0} → IndexMap (Bor (List ℕ)) (Vec ℕ Global) S → List ℕ → Bool
 has_target table name = is_some (get_by (λ k. bytes_eq name k.now) table)
 
--- it has them of just the names of a list
+-- the table has entries for exactly these names
 abbrev pub HoldsTargets : {S : Type 0} → List (List ℕ) →
     IndexMap (Bor (List ℕ)) (Vec ℕ Global) S → Type 0
 HoldsTargets names table = (name : List ℕ) → has_target table name ≡ has_name names name
@@ -48,19 +48,19 @@ HoldsTargets names table = (name : List ℕ) → has_target table name ≡ has_n
 abbrev pub words_in : List RuleRead → List (List ℕ)
 words_in lines = flat_map (λ (rule : RuleRead). rule.words) lines
 
--- their prerequisites
+-- the prerequisites in these rule lines: their words without `.WAIT`
 abbrev pub prerequisites_in : List RuleRead → List (List ℕ)
 prerequisites_in lines = filter (λ word. not (is_wait word)) (words_in lines)
 
--- The rule line has commands. Where only the makefile's own count, it isn't of the default text.
+-- the rule line has commands and, if only the makefile's own lines count, isn't of the default text
 abbrev pub counts_for : Bool → RuleRead → Bool
 counts_for own rule = not (own && rule.default) && has_some rule.commands
 
--- where a dot stands next behind the first byte, or past the end
+-- the place of the first dot after the first byte of a name, or its length if there is none
 abbrev pub second_dot : List ℕ → ℕ
 second_dot name = position_or_len (is_byte 46) (drop 1 name) + 1
 
--- a name of the set, or two in a row, cut at the second dot
+-- the name is in the set, or is two names of the set in a row, cut at its second dot
 abbrev pub is_joined : List (List ℕ) → List ℕ → Bool
 is_joined set name =
     has_name set name ||
@@ -70,57 +70,57 @@ is_joined set name =
 abbrev pub targets_in : List RuleRead → List (List ℕ)
 targets_in rules = flat_map (λ (rule : RuleRead). rule.targets) rules
 
--- the targets of those that have commands
+-- the targets of the rule lines that have commands
 abbrev pub commanded_in : List RuleRead → List (List ℕ)
 commanded_in rules = targets_in (filter (λ (rule : RuleRead). has_some rule.commands) rules)
 
--- begins with a dot, as each inference name does
+-- the name begins with a dot, as each inference name does
 abbrev pub is_dotted : List ℕ → Bool
 is_dotted [] = false
 is_dotted (b ∷ rest) = b == 46
 
--- of the names that begin with a dot the new set has those of the old one and those of the list
+-- the new set has, of the names that begin with a dot, exactly those of the old set and of the list
 abbrev pub HoldsDotted : List (List ℕ) → List (List ℕ) → List (List ℕ) → Type 0
 HoldsDotted old names new = (rest : List ℕ)
     → has_name new (46 ∷ rest) ≡ (has_name old (46 ∷ rest) || has_name names (46 ∷ rest))
 
--- a suffix, or nothing
+-- an ending of a name is a suffix, or empty
 abbrev pub IsEnding : List ℕ → Type 0
 IsEnding end = (end ≡ []) ⊎ (is_suffix end ≡ true)
 
--- a suffix with nothing behind it, or some bytes with a suffix behind them
+-- the front is a suffix and the back is empty, or the front isn't empty and the back is a suffix
 abbrev pub AreParts : (front back : List ℕ) → Type 0
 AreParts front back =
     ((is_suffix front ≡ true) × (back ≡ [])) ⊎ ((0 < length front) × (is_suffix back ≡ true))
 
--- where the name is made of such parts, it is cut into these
+-- if the name consists of such a front and back, they are the given ones
 abbrev pub IsCut : (name front back : List ℕ) → Type 0
 IsCut name front back =
     (one other : List ℕ) → AreParts one other → name ≡ one ++ other →
     (front ≡ one) × (back ≡ other)
 
--- the texts that a table has at a key
+-- the texts that the table has for a key
 abbrev pub texts_at : {S : Type 0} → IndexMap (Bor (List ℕ)) (Vec (Bor (List ℕ)) Global) S →
     List ℕ → List (List ℕ)
 texts_at table key =
     map (λ text. text.now)
     (option_map_or (λ texts. texts.items) (get_by (λ k. bytes_eq key k.now) table) [])
 
--- the table has for each front what stands behind it among the names
+-- for each front the table has exactly the backs with which it forms one of the names
 abbrev pub HasBacks : {S : Type 0} → List (List ℕ) →
     IndexMap (Bor (List ℕ)) (Vec (Bor (List ℕ)) Global) S → Type 0
 HasBacks names table = (front back : List ℕ) → AreParts front back
     → has_name (texts_at table front) back ≡ has_name names (front ++ back)
 
--- For each front the new table has of the suffixes behind it those of the old one, and those that
--- stand behind it in the names.
+-- For each front the new table has the suffixes that the old one had, and those with which the
+-- front forms one of the names.
 abbrev pub AddsBacks : {S T : Type 0} → IndexMap (Bor (List ℕ)) (Vec (Bor (List ℕ)) Global) S →
     List (List ℕ) → IndexMap (Bor (List ℕ)) (Vec (Bor (List ℕ)) Global) T → Type 0
 AddsBacks old names new = (front back : List ℕ) → 0 < length front → is_suffix back ≡ true
     → has_name (texts_at new front) back ≡
     (has_name (texts_at old front) back || has_name names (front ++ back))
 
--- the suffix, for each of the backs that is the ending
+-- the suffix, once for each of the backs that equals the ending
 abbrev pub given : List ℕ → List ℕ → List (List ℕ) → List (List ℕ)
 given suffix ending backs =
     flat_map (λ back. if bytes_eq ending back then suffix ∷ [] else []) backs
@@ -129,19 +129,19 @@ given suffix ending backs =
 abbrev pub sources_by : (List ℕ → List (List ℕ)) → List ℕ → List (List ℕ) → List (List ℕ)
 sources_by backs ending suffixes = flat_map (λ suffix. given suffix ending (backs suffix)) suffixes
 
--- Of these the first that passes a test is the first of all suffixes that passes it and has a rule
--- with commands for the name.
+-- For each test, the first of these source suffixes that passes it is the first of all suffixes
+-- that passes it and has a rule with commands for the name.
 abbrev pub AreSources : Makefile → List ℕ → List (List ℕ) → Type 0
 AreSources m name sources = (p : List ℕ → Bool)
     → find p sources ≡
     find (λ suffix. has_some (commands_from m name suffix) && p suffix) m.suffixes
 
--- the table has them for what each name ends in
+-- the table has, for each ending, the source suffixes of the names with this ending
 abbrev pub HasSources : {S : Type 0} → Makefile →
     IndexMap (Bor (List ℕ)) (Vec (Bor (List ℕ)) Global) S → Type 0
 HasSources m table = (name : List ℕ) → AreSources m name (texts_at table (ending m name))
 
--- what is looked up in is the makefile's
+-- all indexes are those of the makefile
 pub record IsTableOf {S T : Type 0} (m : Makefile) (suffixes order phony : List (List ℕ))
     (table : IndexMap (Bor (List ℕ)) (Vec ℕ Global) S)
     (sources : IndexMap (Bor (List ℕ)) (Vec (Bor (List ℕ)) Global) T) : Type 0 where
@@ -153,6 +153,6 @@ pub record IsTableOf {S T : Type 0} (m : Makefile) (suffixes order phony : List 
   pub lines_held : HasLines m.rules table
   pub sources_held : HasSources m sources
 
--- a source, a text of the makefile, or one of the names more
+-- a source, a makefile text, or an extra name that counts as present
 abbrev pub is_listed : Exists → List ℕ → Bool
 is_listed e name = has_name e.sources name || (has_name e.texts name || has_name e.more name)

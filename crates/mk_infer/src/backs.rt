@@ -1,4 +1,4 @@
-//! What stands behind the fronts of names, where these are cut before their last dots.
+//! Names cut before their last dot: the part before it is the front, the rest is the back.
 
 ghost use Rattle.std.specs.Prelude.{◌≡◌, ◌∷◌, ◌++◌, [], List, ℕ, map, IfOk, OnOk, if◌then◌else◌};
 ghost use Rattle.std.specs.Option.{option_map_or};
@@ -8,15 +8,15 @@ ghost use Rattle.std.specs.String.{string_bytes};
 ghost use Rattle.mk_infer.specs.Table.{AddsBacks, HasBacks, IsCut, texts_at};
 
 use indexmap::IndexMap;
-use mk_lines::NameSet;
+use mk_lines::BorrowedNames;
 use std::alloc::{AllocError, Global};
 
-/// For the fronts of names what stands behind them.
+/// For each front the backs of the names that have it.
 pub type Backs<'m> = IndexMap<&'m str, Vec<&'m str>>;
 
-/// A name, cut before its last dot, where something stands before that; else the whole name, and
-/// nothing behind it. So a suffix, and two in a row, are cut behind the first suffix, and a name
-/// with a suffix before it.
+/// Cuts a name before its last dot. A name without a dot, or with its only dot at the start, is
+/// returned whole, with an empty back. So `.c.o` is cut into `.c` and `.o`, `main.o` into `main`
+/// and `.o`, and `.c` stays whole.
 fn cut(name: &str) -> (&str, &str)
     ensures whole { result.0.now ++ result.1.now ≡ name.now }
     ensures parts { IsCut name.now result.0.now result.1.now }
@@ -27,7 +27,7 @@ fn cut(name: &str) -> (&str, &str)
     }
 }
 
-/// One more back of a front.
+/// Adds a back to a front.
 fn add_back<'m>(
     alloc: Global,
     backs: &mut Backs<'m>,
@@ -47,8 +47,7 @@ fn add_back<'m>(
     Ok(())
 }
 
-/// What stands behind the fronts of these names, with what stood behind them before. A name that
-/// isn't cut has nothing behind it, and is passed over.
+/// Adds the fronts and backs of names to `backs`. A name that isn't cut is skipped.
 pub fn add_backs<'m>(
     alloc: Global,
     backs: &mut Backs<'m>,
@@ -65,8 +64,8 @@ pub fn add_backs<'m>(
     Ok(())
 }
 
-/// The names, each cut in two.
-pub fn backs_among<'m>(alloc: Global, names: &NameSet<'m>) -> Result<Backs<'m>, AllocError>
+/// Cuts all names. A name that isn't cut has an empty back.
+pub fn backs_among<'m>(alloc: Global, names: &BorrowedNames<'m>) -> Result<Backs<'m>, AllocError>
     ensures { IfOk result (λ backs. HasBacks names.now backs) }
 {
     let mut backs = IndexMap::new(alloc);
@@ -77,7 +76,7 @@ pub fn backs_among<'m>(alloc: Global, names: &NameSet<'m>) -> Result<Backs<'m>, 
     Ok(backs)
 }
 
-/// What stands behind this front, where something does.
+/// Returns the backs of a front, or `None` if it has none.
 pub fn backs_of<'b, 'm>(backs: &'b Backs<'m>, front: &str) -> Option<&'b [&'m str]>
     ensures { option_map_or (λ found. map (λ back. back.now) found.now) result [] ≡
         texts_at backs.now front.now }

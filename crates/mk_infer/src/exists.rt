@@ -1,4 +1,4 @@
-//! The files that are there before a make.
+//! The files that exist before a make.
 
 ghost use Rattle.std.specs.Prelude.{◌≡◌, true, false, ◌||◌, MatchOption};
 ghost use Rattle.mk_infer.specs.Table.{is_listed};
@@ -7,20 +7,20 @@ ghost use Rattle.mk_infer.specs.There.{is_given};
 use mk_lines::{NameTable, Prefixes};
 use std::marker::Model;
 
-/// The files that are there before a make, and the names that count as there or as given beside
-/// them. It borrows the tables of what a build starts from. A contract sees lists of names.
+/// The files that exist before a make, and the names that count as present or as given in addition.
+/// It borrows the tables of the build inputs. A contract sees lists of names.
 #[derive(Drop)]
 pub struct Exists<'a> {
-    /// Whether any name without a rule is given. It makes no name one that is there for the choice
-    /// of an inference rule.
+    /// Whether each name without a rule counts as given. Such a name doesn't count as present when
+    /// an inference rule is chosen.
     pub any_leaf: bool,
     /// The sources.
     pub sources: &'a NameTable,
-    /// The fixed prefixes: a name under one of them is given, and gets no inference rule.
+    /// The fixed prefixes. A name under one of them is given, and gets no inference rule.
     pub fixed: &'a Prefixes,
-    /// The texts of the makefile.
+    /// The names of the makefile texts.
     pub texts: &'a NameTable,
-    /// Names more that count as there for the choice of an inference rule.
+    /// Extra names that count as present when an inference rule is chosen.
     pub more: &'a NameTable,
 }
 
@@ -40,14 +40,14 @@ impl<'a> Model for Exists<'a> {
 }
 
 impl<'a> Exists<'a> {
-    /// Whether a name is given: a source, under a fixed prefix, or a text of the makefile.
+    /// Whether a name is given: a source, under a fixed prefix, or a makefile text.
     pub fn is_given(&self, name: &str) -> bool
         ensures { result ≡ is_given self.now name.now }
     {
-        self.sources.contains(name) || self.fixed.is_under(name) || self.texts.contains(name)
+        self.sources.contains(name) || self.fixed.begins_with_any(name) || self.texts.contains(name)
     }
 
-    /// The name itself, where it is a source, a text of the makefile, or one of the names more.
+    /// Returns the name if it is a source, a makefile text or an extra name.
     pub fn listed(&self, name: &str) -> Option<&str>
         ensures { MatchOption result (is_listed self.now name.now ≡
             false) (λ found. (found.now ≡ name.now) × (is_listed self.now name.now ≡ true)) }

@@ -1,7 +1,7 @@
-//! Why goals have no graph, and why commands aren't expanded.
+//! Faults of goals, of the graph, and of the commands of names.
 
 ghost use Rattle.std.specs.Prelude.{◌≡◌};
-ghost use Rattle.mk_infer.specs.Steps.{is_want_of_memory, of_graph};
+ghost use Rattle.mk_infer.specs.Steps.{is_out_of_memory, of_graph};
 ghost use Rattle.mk_infer.specs.declared.fault.InferFault.TheVariants.{Memory};
 
 use mk_graph::GraphFault;
@@ -11,41 +11,41 @@ use mk_read::Place;
 use std::alloc::{AllocError, AllocFailed};
 use thiserror::Error;
 
-/// Why goals have no graph, and why commands aren't expanded.
+/// Why goals have no graph, or commands can't be expanded.
 #[derive(Debug, Drop, Error)]
 pub enum InferFault {
-    /// A goal is no name of a target, `.WAIT` or `-` (fault 27). The place's file is `goal`, and
-    /// its line counts the goals as given, from 1.
+    /// A goal is no target name, or is `.WAIT` or `-` (27). The file of the place is `goal`, and
+    /// its line is the number of the goal, counted from 1.
     #[error("a goal is no name")]
     BadGoal(Place),
-    /// A goal holds `(` or `)` (fault 28). The place is as above.
-    #[error("a goal names an archive's member")]
+    /// A goal holds `(` or `)` (28), even if `BadGoal` applies too. The place is as for `BadGoal`.
+    #[error("a goal is an archive member")]
     GoalIsMember(Place),
-    /// Nothing makes this name: it is no target, has no inference rule, isn't phony, and isn't
-    /// given (fault 41).
-    #[error("a name has no rule and isn't given")]
+    /// Nothing makes this name (41): it is no target, has no inference rule, isn't phony and isn't
+    /// given.
+    #[error("no rule for a name that isn't given")]
     NoRule(Name),
-    /// No goal was given, and the makefile has no target that is one (fault 44).
-    #[error("there is no goal")]
+    /// No goal was given, and the makefile has no target that can be the default goal (44).
+    #[error("no goal")]
     NoGoal,
-    /// The rule line at this place gives an inference name prerequisites (fault 45).
-    #[error("an inference rule has prerequisites")]
+    /// The rule line at this place gives prerequisites to an inference rule (45).
+    #[error("an inference rule with prerequisites")]
     InferencePrerequisites(Place),
-    /// The command at this place can't be expanded (faults 11 to 17). The fault is none of memory.
+    /// The command at this place can't be expanded (11 to 17). The inner fault is never `Memory`.
     #[error("a command can't be expanded")]
     Macro(Place, MacroFault),
-    /// The nodes are no graph (faults 42 and 43). The fault is none of memory.
+    /// The nodes are no graph (42, 43). The inner fault is never `Memory`.
     #[error(transparent)]
     Graph(GraphFault),
-    /// A growth was refused, which may come in place of any answer.
-    #[error("memory ran out")]
+    /// Out of memory. Any call may return it.
+    #[error("out of memory")]
     Memory,
 }
 
 impl InferFault {
-    /// Whether a growth was refused, whatever met it.
-    pub fn is_want_of_memory(&self) -> bool
-        ensures { result ≡ is_want_of_memory self.now }
+    /// Whether this is out of memory, at any depth of the fault.
+    pub fn is_out_of_memory(&self) -> bool
+        ensures { result ≡ is_out_of_memory self.now }
     {
         matches!(
             self,

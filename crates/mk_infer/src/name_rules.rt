@@ -11,7 +11,7 @@ use mk_read::{Command, Rule};
 use std::alloc::{AllocError, Global};
 use std::marker::Model;
 
-/// The rule lines of a name, looked up once for all that is asked of them. A contract sees a list.
+/// The rule lines of a name, which were looked up once. A contract sees a list.
 #[derive(Drop)]
 pub struct NameRules<'t> {
     rules: &'t [Rule],
@@ -29,21 +29,22 @@ impl<'t> Model for NameRules<'t> {
 }
 
 impl<'t> NameRules<'t> {
-    /// The rule lines at these places.
+    /// Makes the rule lines at these places.
     pub(crate) fn new(rules: &'t [Rule], places: &'t [usize]) -> NameRules<'t>
         ensures { result ≡ lines_at rules.now places.now }
     {
         NameRules { rules, places }
     }
 
-    /// Their words, `.WAIT` among them.
+    /// Returns the words of the rule lines, including `.WAIT`. The only error is out of memory.
     pub fn words(&self, alloc: Global) -> Result<Vec<&'t str>, AllocError>
         ensures { IfOk result (λ words. map (λ word. word.now) words.items ≡ words_in self.now) }
     {
         words_at(alloc, self.rules, self.places)
     }
 
-    /// Their words but `.WAIT`, which are prerequisites, behind other names.
+    /// Appends the prerequisites of the rule lines: their words without `.WAIT`. The only error is
+    /// out of memory.
     pub fn push_prerequisites(&self, names: &mut Vec<&'t str>) -> Result<(), AllocError>
         ensures { OnOk result (map (λ name. name.now) names.new.items ≡
             map (λ name. name.now) names.old.items ++
@@ -52,8 +53,8 @@ impl<'t> NameRules<'t> {
         push_needs_at(names, self.rules, self.places)
     }
 
-    /// The commands of the one of these rule lines that has any: the makefile's own before one of
-    /// the default text.
+    /// Returns the commands of these rule lines: of a line of the makefile if one has commands,
+    /// else of a line of the default text.
     pub fn commands(&self) -> Option<&'t [Command]>
         ensures { (rules : List RuleRead) (name : List ℕ) → self.now ≡ lines_of rules name →
             option_map (λ commands. commands.now) result ≡ commands_of rules name }

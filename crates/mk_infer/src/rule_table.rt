@@ -1,4 +1,4 @@
-//! A makefile whose names are looked up.
+//! A makefile with its names indexed.
 
 ghost use Rattle.std.specs.Prelude.{◌≡◌, ◌∷◌, ◌++◌, [], List, ℕ, length, map, filter, is_some, find, not, ◌||◌, slice_get, true, false, None, Some, MatchOption, OnOk, IfOk, if◌then◌else◌};
 ghost use Rattle.std.specs.Option.{option_copied, option_map, option_map_or};
@@ -18,17 +18,16 @@ use crate::name_rules::NameRules;
 use crate::source_suffixes::{Sources, is_dotted, sources_among};
 use crate::suffix_set::{SuffixSet, suffixes_among};
 use indexmap::IndexMap;
-use mk_lines::{NameSet, NameTable, names_among};
+use mk_lines::{BorrowedNames, NameTable, borrowed_set_of};
 use mk_macros::MacroTable;
 use mk_read::{Command, Makefile, Rule};
 use std::alloc::{AllocError, Global};
 use std::marker::Model;
 
-/// For each target of rule lines, and for no other name, the places of those that name it, in
-/// their order.
+/// For each target of rule lines the places of its rule lines, in order. It has no other names.
 type Lines<'m> = IndexMap<&'m str, Vec<usize>>;
 
-/// One more rule line of a target.
+/// Adds the place of a rule line to a target.
 fn add_place<'m>(
     alloc: Global,
     lines: &mut Lines<'m>,
@@ -51,7 +50,7 @@ fn add_place<'m>(
     Ok(())
 }
 
-/// One more rule line of each of these targets.
+/// Adds the place of a rule line to each of its targets, once even if a target is repeated.
 fn add_targets<'m>(
     alloc: Global,
     lines: &mut Lines<'m>,
@@ -68,7 +67,7 @@ fn add_targets<'m>(
     if let [target] = targets {
         return add_place(alloc, lines, target, place);
     }
-    let mut seen = NameSet::new(alloc);
+    let mut seen = BorrowedNames::new(alloc);
     for target in targets {
         if !seen.insert(target)? {
             continue;
@@ -78,7 +77,7 @@ fn add_targets<'m>(
     Ok(())
 }
 
-/// The places of all rule lines.
+/// Indexes all rule lines by their targets.
 fn lines_among<'m>(alloc: Global, rules: &'m [Rule]) -> Result<Lines<'m>, AllocError>
     ensures places { IfOk result (λ lines. HasLines rules.now lines) }
     ensures targets { IfOk result (λ lines. HoldsTargets (targets_in rules.now) lines) }
@@ -90,7 +89,7 @@ fn lines_among<'m>(alloc: Global, rules: &'m [Rule]) -> Result<Lines<'m>, AllocE
     Ok(lines)
 }
 
-/// A list of names, in which each is looked up.
+/// Copies names into a table.
 fn listed(alloc: Global, names: &[String]) -> Result<NameTable, AllocError>
     ensures { IfOk result (λ table. table ≡ map string_bytes names.now) }
 {
@@ -101,7 +100,7 @@ fn listed(alloc: Global, names: &[String]) -> Result<NameTable, AllocError>
     NameTable::new(alloc, copies)
 }
 
-/// The rule line at a place.
+/// Returns the rule line at a place.
 fn rule_at(rules: &[Rule], place: usize) -> Option<&Rule>
     ensures { MatchOption result (slice_get rules.now place ≡ None)
         (λ rule. slice_get rules.now place ≡
@@ -110,7 +109,7 @@ fn rule_at(rules: &[Rule], place: usize) -> Option<&Rule>
     rules.get(place)
 }
 
-/// Words behind others.
+/// Appends words to others.
 fn push_words<'m>(words: &mut Vec<&'m str>, more: &'m [String]) -> Result<(), AllocError>
     ensures { OnOk result (map (λ word. word.now) words.new.items ≡
         map (λ word. word.now) words.old.items ++ map string_bytes more.now) }
@@ -121,7 +120,7 @@ fn push_words<'m>(words: &mut Vec<&'m str>, more: &'m [String]) -> Result<(), Al
     Ok(())
 }
 
-/// The words of the rule lines at these places.
+/// Returns all words of the rule lines at these places.
 pub(crate) fn words_at<'m>(
     alloc: Global,
     rules: &'m [Rule],
@@ -140,15 +139,15 @@ pub(crate) fn words_at<'m>(
     Ok(words)
 }
 
-/// Whether a rule line has commands. Where only the makefile's own count, it isn't of the default
-/// text.
+/// Whether a rule line has commands. If `own` is true, a rule line of the default text doesn't
+/// count.
 fn counts_for(own: bool, rule: &Rule) -> bool
     ensures { result ≡ counts_for own rule.now }
 {
     !(own && rule.default) && rule.commands.is_some()
 }
 
-/// The first rule line with commands at these places.
+/// Returns the first rule line at these places that has commands, by `counts_for`.
 fn commanded_at<'m>(rules: &'m [Rule], places: &[usize], own: bool) -> Option<&'m Rule>
     ensures { option_copied result ≡ find (counts_for own) (lines_at rules.now places.now) }
 {
@@ -163,7 +162,7 @@ fn commanded_at<'m>(rules: &'m [Rule], places: &[usize], own: bool) -> Option<&'
     None
 }
 
-/// The words but `.WAIT`, behind other names.
+/// Appends the words that aren't `.WAIT`.
 fn push_needs<'m>(names: &mut Vec<&'m str>, words: &'m [String]) -> Result<(), AllocError>
     ensures { OnOk result (map (λ name. name.now) names.new.items ≡
         map (λ name. name.now) names.old.items ++
@@ -177,7 +176,7 @@ fn push_needs<'m>(names: &mut Vec<&'m str>, words: &'m [String]) -> Result<(), A
     Ok(())
 }
 
-/// The words but `.WAIT` of the rule lines at these places, behind other names.
+/// Appends the words, without `.WAIT`, of the rule lines at these places.
 pub(crate) fn push_needs_at<'m>(
     names: &mut Vec<&'m str>,
     rules: &'m [Rule],
@@ -196,7 +195,7 @@ pub(crate) fn push_needs_at<'m>(
     Ok(())
 }
 
-/// The commands of a rule line, where it has any.
+/// Returns the commands of `rule`, or of `other` if there is no `rule`.
 fn commands_in<'m>(rule: Option<&'m Rule>, other: Option<&'m Rule>) -> Option<&'m [Command]>
     ensures { option_map (λ commands. commands.now) result ≡
         commands_in (option_copied rule.entry) (option_copied other.entry) }
@@ -207,8 +206,8 @@ fn commands_in<'m>(rule: Option<&'m Rule>, other: Option<&'m Rule>) -> Option<&'
     }
 }
 
-/// The commands at these places: those of the makefile's own rule line before those of the default
-/// text's.
+/// Returns the commands of the rule lines at these places: of a line of the makefile if one has
+/// commands, else of a line of the default text.
 pub(crate) fn commands_at<'m>(rules: &'m [Rule], places: &[usize]) -> Option<&'m [Command]>
     ensures { option_map (λ commands. commands.now) result ≡
         commands_in (find (counts_for true) (lines_at rules.now places.now))
@@ -219,13 +218,13 @@ pub(crate) fn commands_at<'m>(rules: &'m [Rule], places: &[usize]) -> Option<&'m
     commands_in(own, any)
 }
 
-/// A makefile whose names are looked up. A contract sees the makefile.
+/// A makefile with its names indexed. A contract sees the makefile.
 #[derive(Drop)]
 pub struct RuleTable<'m> {
     makefile: &'m Makefile,
     suffixes: SuffixSet<'m>,
     order: NameTable,
-    phony: NameSet<'m>,
+    phony: BorrowedNames<'m>,
     lines: Lines<'m>,
     sources: Sources<'m>,
 }
@@ -242,10 +241,10 @@ impl<'m> Model for RuleTable<'m> {
         IsTableOf t.makefile.now t.suffixes t.order t.phony t.lines t.sources };
 }
 
-/// What is looked up of a makefile's special targets.
-type Words<'m> = (SuffixSet<'m>, NameTable, NameSet<'m>);
+/// The suffixes as a set, the suffixes in order, and the phony names.
+type Words<'m> = (SuffixSet<'m>, NameTable, BorrowedNames<'m>);
 
-/// A makefile's suffixes, as a set and in their order, and its phony names.
+/// Indexes the suffixes and the phony names of a makefile.
 fn words_among<'m>(alloc: Global, makefile: &'m Makefile) -> Result<Words<'m>, AllocError>
     ensures suffixes { IfOk result (λ r. list_all is_suffix makefile.now.suffixes ≡ true) }
     ensures set { IfOk result (λ r. HoldsNames r.0 makefile.now.suffixes) }
@@ -255,11 +254,11 @@ fn words_among<'m>(alloc: Global, makefile: &'m Makefile) -> Result<Words<'m>, A
     let words = makefile.suffixes();
     let set = suffixes_among(alloc, words)?;
     let order = listed(alloc, words)?;
-    let phony = names_among(alloc, makefile.phony())?;
+    let phony = borrowed_set_of(alloc, makefile.phony())?;
     Ok((set, order, phony))
 }
 
-/// The places of a makefile's rule lines, and from which suffixes its rules make names.
+/// Indexes the rule lines of a makefile, and the source suffixes of its inference rules.
 fn rules_among<'m>(
     alloc: Global,
     makefile: &'m Makefile,
@@ -273,7 +272,7 @@ fn rules_among<'m>(
     Ok((lines, sources))
 }
 
-/// The table of a makefile, and of what was found of its rule lines.
+/// Makes the table of a makefile from the indexes of `rules_among`.
 fn of_rules<'m>(
     alloc: Global,
     makefile: &'m Makefile,
@@ -297,7 +296,7 @@ fn of_rules<'m>(
 }
 
 impl<'m> RuleTable<'m> {
-    /// The table of a makefile. The error is want of memory alone.
+    /// Indexes a makefile. The only error is out of memory.
     pub fn new(alloc: Global, makefile: &'m Makefile) -> Result<RuleTable<'m>, AllocError>
         ensures { IfOk result (λ table. table ≡ makefile.now) }
     {
@@ -305,14 +304,14 @@ impl<'m> RuleTable<'m> {
         of_rules(alloc, makefile, rules)
     }
 
-    /// The makefile.
+    /// Returns the makefile.
     pub fn makefile(&self) -> &'m Makefile
         ensures { result.now ≡ self.now }
     {
         self.makefile
     }
 
-    /// The rule lines, in their order.
+    /// Returns the rule lines, in order.
     pub fn rules<'t>(&'t self) -> &'t [Rule]
     where
         'm: 't,
@@ -322,8 +321,8 @@ impl<'m> RuleTable<'m> {
         self.makefile.rules()
     }
 
-    /// The suffixes with a rule with commands for names with this ending, in their order, where
-    /// there are any.
+    /// Returns the source suffixes of the rules with commands for names with this ending, in the
+    /// order of the list of suffixes, or `None` if there are none.
     pub fn sources_for(&self, end: &str) -> Option<&[&'m str]>
         ensures { (name : List ℕ) → end.now ≡ ending self.now name →
             AreSources self.now name (option_map_or (λ sources.
@@ -335,14 +334,14 @@ impl<'m> RuleTable<'m> {
         }
     }
 
-    /// Where a suffix first stands in the list of suffixes.
+    /// Returns the first place of a suffix in the list of suffixes.
     pub fn suffix_place(&self, suffix: &str) -> Option<usize>
         ensures { result ≡ place_from 0 self.now.suffixes suffix.now }
     {
         self.order.place(suffix)
     }
 
-    /// The macros after all reading.
+    /// Returns the macros as they are after all reading.
     pub fn macros<'t>(&'t self) -> &'t MacroTable
     where
         'm: 't,
@@ -358,7 +357,7 @@ impl<'m> RuleTable<'m> {
         self.makefile.not_parallel()
     }
 
-    /// Whether a name is an inference name. One that doesn't begin with a dot isn't looked up.
+    /// Whether a name is an inference name. Only names that begin with a dot are looked up.
     pub fn is_inference_name(&self, name: &str) -> bool
         ensures { result ≡ is_inference_name self.now.suffixes name.now }
     {
@@ -366,8 +365,9 @@ impl<'m> RuleTable<'m> {
         is_dotted(bytes) && self.suffixes.is_joined(bytes)
     }
 
-    /// A name, cut before its known suffix, where it has one and a rest before it. A known suffix
-    /// holds one dot, so it can only begin at the last one of the name.
+    /// Cuts a name before its known suffix, or returns `None` if it has none or nothing stands
+    /// before it. A known suffix has a single dot, so it can only begin at the last dot of the
+    /// name.
     pub fn cut_before_suffix<'a>(&self, name: &'a str) -> Option<(&'a str, &'a str)>
         ensures { MatchOption result (find (ends_in name.now) self.now.suffixes ≡
             None) (λ parts. (parts.0.now ≡ but_last (length parts.1.now) name.now) ×
@@ -384,14 +384,14 @@ impl<'m> RuleTable<'m> {
         Some((&name[..at], suffix))
     }
 
-    /// Whether a name is phony. Where none is, it isn't looked up.
+    /// Whether a name is phony. Nothing is looked up if there are no phony names.
     pub fn is_phony(&self, name: &str) -> bool
         ensures { result ≡ has_name self.now.phony name.now }
     {
         !self.phony.as_slice().is_empty() && self.phony.contains(name)
     }
 
-    /// The name itself, where it is the target of a target rule.
+    /// Returns the name if it is the target of a target rule.
     pub fn target<'t>(&'t self, name: &str) -> Option<&'t str>
     where
         'm: 't,
@@ -407,7 +407,7 @@ impl<'m> RuleTable<'m> {
         }
     }
 
-    /// The places of the rule lines that name a target, be it an inference name or not.
+    /// Returns the places of the rule lines with this target, which may be an inference name.
     fn places_of(&self, name: &str) -> &[usize]
         ensures { lines_at self.now.rules result.now ≡ lines_of self.now.rules name.now }
     {
@@ -417,7 +417,7 @@ impl<'m> RuleTable<'m> {
         places.as_slice()
     }
 
-    /// The places of a name's rule lines. An inference name is no target of theirs.
+    /// Returns the places of the rule lines of a name. An inference name has none.
     fn lines_for(&self, name: &str) -> &[usize]
         ensures { lines_at self.now.rules result.now ≡
             lines_of (rules_for self.now name.now) name.now }
@@ -428,7 +428,7 @@ impl<'m> RuleTable<'m> {
         self.places_of(name)
     }
 
-    /// The rule lines of a name. An inference name has none, since it is no target.
+    /// Returns the rule lines of a name. An inference name has none, since it is no target.
     pub fn rules_of<'t>(&'t self, name: &str) -> NameRules<'t>
     where
         'm: 't,
@@ -437,7 +437,7 @@ impl<'m> RuleTable<'m> {
         NameRules::new(self.rules(), self.lines_for(name))
     }
 
-    /// The commands of a rule line for a name, be it an inference name or not.
+    /// Returns the commands of the rule lines with this target, which may be an inference name.
     pub fn rule_commands<'t>(&'t self, name: &str) -> Option<&'t [Command]>
     where
         'm: 't,

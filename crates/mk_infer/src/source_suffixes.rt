@@ -1,4 +1,4 @@
-//! From which suffixes inference rules make a name, by what the name ends in.
+//! The source suffixes of inference rules, by the ending of the name that they make.
 
 ghost use Rattle.std.specs.Prelude.{◌≡◌, ◌∷◌, ◌++◌, [], List, ℕ, map, IfOk, OnOk, if◌then◌else◌};
 ghost use Rattle.std.specs.Option.{option_map_or};
@@ -9,12 +9,13 @@ ghost use Rattle.mk_infer.specs.Table.{HasSources, HoldsDotted, commanded_in, gi
 
 use crate::backs::{Backs, backs_among};
 use indexmap::IndexMap;
-use mk_lines::NameSet;
+use mk_lines::BorrowedNames;
 use mk_read::{Makefile, Rule};
 use std::alloc::{AllocError, Global};
 
-/// For each ending the suffixes that stand before it in the names of rules with commands, in the
-/// order of the list of suffixes.
+/// For each ending the source suffixes of the rules with commands, in the order of the list of
+/// suffixes. In the rule `.c.o` the ending is `.o` and the source suffix `.c`; in the rule `.c` the
+/// ending is empty.
 pub type Sources<'m> = IndexMap<&'m str, Vec<&'m str>>;
 
 /// Whether a name begins with a dot, as each inference name does.
@@ -27,8 +28,8 @@ pub fn is_dotted(name: &[u8]) -> bool
     }
 }
 
-/// Adds the names that begin with a dot, each unless it is there already.
-fn insert_dotted<'m>(set: &mut NameSet<'m>, names: &'m [String]) -> Result<(), AllocError>
+/// Adds the names that begin with a dot and aren't in the set yet.
+fn insert_dotted<'m>(set: &mut BorrowedNames<'m>, names: &'m [String]) -> Result<(), AllocError>
     ensures { OnOk result (HoldsDotted set.old (map string_bytes names.now) set.new) }
 {
     for name in names {
@@ -39,11 +40,11 @@ fn insert_dotted<'m>(set: &mut NameSet<'m>, names: &'m [String]) -> Result<(), A
     Ok(())
 }
 
-/// The targets of rule lines with commands that begin with a dot, each once.
-fn commanded_among<'m>(alloc: Global, rules: &'m [Rule]) -> Result<NameSet<'m>, AllocError>
+/// Returns the targets of rule lines with commands that begin with a dot, each once.
+fn commanded_among<'m>(alloc: Global, rules: &'m [Rule]) -> Result<BorrowedNames<'m>, AllocError>
     ensures { IfOk result (λ set. HoldsDotted [] (commanded_in rules.now) set) }
 {
-    let mut set = NameSet::new(alloc);
+    let mut set = BorrowedNames::new(alloc);
     for rule in rules {
         if rule.commands.is_some() {
             insert_dotted(&mut set, &rule.targets)?;
@@ -52,7 +53,7 @@ fn commanded_among<'m>(alloc: Global, rules: &'m [Rule]) -> Result<NameSet<'m>, 
     Ok(set)
 }
 
-/// One more suffix for an ending.
+/// Adds a source suffix to an ending.
 fn add_source<'m>(
     alloc: Global,
     sources: &mut Sources<'m>,
@@ -72,7 +73,7 @@ fn add_source<'m>(
     Ok(())
 }
 
-/// One more suffix for each of these endings.
+/// Adds a source suffix to each of these endings.
 fn add_sources<'m>(
     alloc: Global,
     sources: &mut Sources<'m>,
@@ -90,7 +91,7 @@ fn add_sources<'m>(
     Ok(())
 }
 
-/// For each ending the suffixes that have it among their backs.
+/// Returns for each ending the suffixes that have it among their backs, in order.
 fn sources_by<'m>(
     alloc: Global,
     suffixes: &'m [String],
@@ -109,8 +110,9 @@ fn sources_by<'m>(
     Ok(sources)
 }
 
-/// For each ending of a name, a known suffix or nothing, the suffixes with a rule with commands
-/// that makes the name, in their order. It takes as long as there are suffixes and targets.
+/// Returns for each ending (a known suffix, or nothing) the source suffixes of the rules with
+/// commands, in the order of the list of suffixes. The time is proportional to the number of
+/// suffixes and targets.
 pub fn sources_among<'m>(alloc: Global, makefile: &'m Makefile) -> Result<Sources<'m>, AllocError>
     ensures { IfOk result (λ sources. HasSources makefile.now sources) }
 {

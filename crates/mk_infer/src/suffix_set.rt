@@ -1,4 +1,4 @@
-//! Known suffixes, and the names that they make.
+//! The set of known suffixes.
 
 ghost use Rattle.std.specs.Prelude.{◌≡◌, ◌∷◌, ◌++◌, [], map, length, position, ◌≤◌, IfOk, OnOk, if◌then◌else◌};
 ghost use Rattle.std.specs.List.{position_or_len};
@@ -12,7 +12,7 @@ use indexmap::IndexSet;
 use std::alloc::{AllocError, Global};
 use std::marker::Model;
 
-/// Suffixes, each once. A contract sees a list of them.
+/// A set of suffixes. A contract sees a list of them.
 #[derive(Drop)]
 pub struct SuffixSet<'m> {
     suffixes: IndexSet<&'m [u8]>,
@@ -26,14 +26,14 @@ impl<'m> Model for SuffixSet<'m> {
     ghost view = { λ s. map (λ suffix. suffix.now) s.suffixes.keys };
 }
 
-/// Where the first dot stands.
+/// Returns the place of the first dot.
 fn dot_at(bytes: &[u8]) -> Option<usize>
     ensures { result ≡ position (is_byte 46) bytes.now }
 {
     bytes.iter().position(|b| *b == b'.')
 }
 
-/// Where the first dot stands, or the length where there is none.
+/// Returns the place of the first dot, or the length if there is none.
 fn first_dot(bytes: &[u8]) -> usize
     ensures place { result ≡ position_or_len (is_byte 46) bytes.now }
     ensures within { result ≤ length bytes.now }
@@ -45,7 +45,7 @@ fn first_dot(bytes: &[u8]) -> usize
 }
 
 impl<'m> SuffixSet<'m> {
-    /// No suffixes.
+    /// Returns the empty set.
     fn new(alloc: Global) -> SuffixSet<'m>
         ensures { result ≡ [] }
     {
@@ -54,7 +54,7 @@ impl<'m> SuffixSet<'m> {
         }
     }
 
-    /// Adds a suffix, unless it is there already.
+    /// Adds a suffix, unless it is in the set.
     fn insert(&mut self, suffix: &'m [u8]) -> Result<(), AllocError>
         ensures { OnOk result (self.new ≡
             (if has_name self.old suffix.entry.now then self.old else self.old ++
@@ -64,15 +64,15 @@ impl<'m> SuffixSet<'m> {
         Ok(())
     }
 
-    /// Whether the bytes are a suffix that is there.
+    /// Whether the set has this suffix.
     pub fn contains(&self, bytes: &[u8]) -> bool
         ensures { result ≡ has_name self.now bytes.now }
     {
         self.suffixes.contains(bytes)
     }
 
-    /// Whether a name is one of the suffixes, or two of them in a row: the second begins where the
-    /// name has its second dot.
+    /// Whether a name is a suffix of the set, or two of them in a row. The second one begins at the
+    /// second dot of the name.
     pub fn is_joined(&self, name: &[u8]) -> bool
         ensures { result ≡ is_joined self.now name.now }
     {
@@ -87,7 +87,7 @@ impl<'m> SuffixSet<'m> {
     }
 }
 
-/// Suffixes, each once.
+/// Makes the set of these suffixes.
 pub fn suffixes_among<'m>(alloc: Global, words: &'m [String]) -> Result<SuffixSet<'m>, AllocError>
     ensures { IfOk result (λ set. HoldsNames set (map string_bytes words.now)) }
 {

@@ -12,7 +12,7 @@ use Rattle.mk_read.specs.Reading.{Makefile}
 use Rattle.mk_read.specs.Special.{is_inference_name}
 use Rattle.mk_read.specs.State.{RuleRead}
 use Rattle.mk_lines.specs.Names.{number_of}
-use Rattle.mk_infer.specs.Selection.{numbered}
+use Rattle.mk_infer.specs.Selection.{in_node_numbers}
 use Rattle.mk_infer.specs.Targets.{prerequisites_of}
 use Rattle.mk_infer.specs.Table.{targets_in}
 
@@ -36,6 +36,6 @@ no_prerequisites m name h = ap (filter (λ word. not (is_wait word))) (none (is_
     none false = no_words m.rules name h
 
 -- numbers in groups are those of all names
-pub flat_numbered : (all : List (List ℕ)) (gs : List (List (List ℕ))) → flat_map (λ (group : List ℕ). group) (numbered all gs) ≡ map (number_of all) (joined gs)
+pub flat_numbered : (all : List (List ℕ)) (gs : List (List (List ℕ))) → flat_map (λ (group : List ℕ). group) (in_node_numbers all gs) ≡ map (number_of all) (joined gs)
 flat_numbered all [] = refl
 flat_numbered all (group ∷ gs) = ap (λ (ns : List ℕ). map (number_of all) group ++ ns) (flat_numbered all gs) ∙ sym (map-append (number_of all) group (joined gs))

@@ -5,7 +5,7 @@ use Rattle.std.proofs.lemmas.Bool.{cases_lt}
 use Rattle.std.proofs.lemmas.List.{length-append, length-map, take_all}
 use Rattle.mk_graph.specs.declared.node.Node.{Node}
 use Rattle.mk_graph.specs.Build.{WalksAll}
-use Rattle.mk_graph.specs.Graph.{Graph, Leads, one, then, node, prerequisites}
+use Rattle.mk_graph.specs.Graph.{Graph, HasPath, one, then, node, prerequisites}
 use Rattle.mk_graph.specs.Laws.{ClosesOnlyCycles, ComesThroughWithoutCycles, WalkHasAnEnd}
 use Rattle.mk_graph.specs.Membership.{Has, IsDistinct, IsWithin}
 use Rattle.mk_graph.specs.Lists.{has_left, has_right, has_cases, mapped_from}
@@ -15,7 +15,7 @@ use Rattle.mk_read.specs.Reading.{Makefile}
 use Rattle.mk_infer.specs.Inference.{choice}
 use Rattle.mk_infer.specs.Laws.{GraphStaysSelected, IsPartOf, NodesKeepTheirChoices, PartsStaySelected, Reaches, goal, onward, StaysSelected, names_in_groups, with_more}
 use Rattle.mk_lines.specs.Names.{number_of}
-use Rattle.mk_infer.specs.Selection.{BuiltUnless, Selects, graph_of, groups_of, is_lacking, lacking, needs, node_of, numbered}
+use Rattle.mk_infer.specs.Selection.{BuiltUnless, Selects, graph_of, groups_of, is_lacking, lacking, needs, node_of, in_node_numbers}
 use Rattle.mk_infer.specs.There.{Exists}
 use Rattle.mk_infer.specs.Walk.{Meets}
 use Rattle.mk_infer_laws.proofs.Ending.{walk_exists}
@@ -102,10 +102,10 @@ module _ (keeps : GroupsKeepTheirWords) (m : Makefile) (e : Exists) (goals all :
   met_at n lt = Has_get_or all n [] (omega (arith, count))
 
   -- the groups of a node by names
-  named_back : (gs : List (List Name)) → ((word : Name) → Has (joined gs) word → Has all word) → map (map (λ p. (node whole p).name)) (numbered all gs) ≡ gs
+  named_back : (gs : List (List Name)) → ((word : Name) → Has (joined gs) word → Has all word) → map (map (λ p. (node whole p).name)) (in_node_numbers all gs) ≡ gs
   named_back [] within = refl
   named_back (group ∷ gs) within =
-      ap (λ (ws : List Name). ws ∷ map (map (λ p. (node whole p).name)) (numbered all gs)) (names_back group (λ word h. within word (has_left group (joined gs) word h)))
+      ap (λ (ws : List Name). ws ∷ map (map (λ p. (node whole p).name)) (in_node_numbers all gs)) (names_back group (λ word h. within word (has_left group (joined gs) word h)))
       ∙ ap (λ (hs : List (List Name)). group ∷ hs) (named_back gs (λ word h. within word (has_right group (joined gs) word h)))
     where
       names_back : (words : List Name) → ((word : Name) → Has words word → Has all word) → map (λ p. (node whole p).name) (map (number_of all) words) ≡ words
@@ -200,7 +200,7 @@ module _ (an_end : WalkHasAnEnd) (closes : ClosesOnlyCycles) (comes : ComesThrou
           let at : get_or met p [] ≡ k.0 = ap (λ (i : ℕ). get_or met i []) (sym k.2) ∙ get_number met k.0 [] word in
           subst (λ (w : Name). Has (prerequisites large (moved n)) (number_of all w)) (sym at) (edge keeps m e goals all name k.0 (met_within name there) k.1)
 
-  leads_moved : (n p : ℕ) → Leads small n p → Leads large (moved n) (moved p)
+  leads_moved : (n p : ℕ) → HasPath small n p → HasPath large (moved n) (moved p)
   leads_moved n p (one h) = one (edge_moved n p h)
   leads_moved n p (then {m = middle} l h) = then (leads_moved n middle l) (edge_moved middle p h)
 

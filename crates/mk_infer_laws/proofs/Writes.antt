@@ -19,7 +19,7 @@ use Rattle.mk_infer.specs.Commands.{commands, expanded, no_commands, recipe_for}
 use Rattle.mk_infer.specs.Inference.{choice, chosen_commands, chosen_suffix, commands_by, commands_from, fits, may_infer, stem}
 use Rattle.mk_lines.specs.Names.{number_of}
 use Rattle.mk_infer.specs.Laws.{IsReached, MoreTakesNoChoiceAway, WritesChangeNothing, with_more}
-use Rattle.mk_infer.specs.Selection.{BuiltUnless, Selects, graph_of, groups_of, is_lacking, lacking, needs, node_of, numbered, with_choice}
+use Rattle.mk_infer.specs.Selection.{BuiltUnless, Selects, graph_of, groups_of, is_lacking, lacking, needs, node_of, in_node_numbers, with_choice}
 use Rattle.mk_infer.specs.Targets.{have_text, is_target, prerequisites_of, words_for}
 use Rattle.mk_infer.specs.There.{Exists, is_given, is_there}
 use Rattle.mk_infer.specs.Walk.{Meets}
@@ -187,8 +187,8 @@ module _ (m : Makefile) (e : Exists) (one other : List Name) where
 
   same_node : (all : List Name) (name : Name) → IsSame name → node_of m first all name ≡ node_of m second all name
   same_node all name s =
-      ap (λ (o : Option Name). node (numbered all (with_choice m.not_parallel o (groups m.not_parallel (words_for m name)))) (have_text (chosen_commands m first name))) (same_choice name s)
-      ∙ ap (λ (o : Option (List Command)). node (numbered all (groups_of m second name)) (have_text o)) (same_chosen name s)
+      ap (λ (o : Option Name). node (in_node_numbers all (with_choice m.not_parallel o (groups m.not_parallel (words_for m name)))) (have_text (chosen_commands m first name))) (same_choice name s)
+      ∙ ap (λ (o : Option (List Command)). node (in_node_numbers all (groups_of m second name)) (have_text o)) (same_chosen name s)
     where
       node : List (List ℕ) → Bool → Node
       node numbers recipe = record { name = name; groups = numbers; recipe = recipe; phony = has_name m.phony name }

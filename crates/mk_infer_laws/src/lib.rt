@@ -1,4 +1,4 @@
-//! Laws of what goals reach, of their graph, and of writes that count as there.
+//! Laws of the names that goals reach, of their graph, and of written files that count as present.
 #![tactic(auto)]
 
 pub mod laws;

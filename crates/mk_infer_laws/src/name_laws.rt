@@ -1,15 +1,15 @@
-//! Laws of the names of goals and of nodes. Each is the contract of a function that does nothing:
-//! who calls it has the law.
+//! Laws of the names of goals and nodes. Each law is the contract of a function with an empty body;
+//! a caller of the function has the law.
 
 ghost use Rattle.mk_infer.specs.NameLaws.{GoalsArePlain, NodesHavePlainNames};
 
-/// Goals of a makefile whose rule lines are well named are plain paths.
+/// If the names in the rule lines of a makefile are well formed, its goals are plain paths.
 pub fn goals_are_plain()
     ensures { GoalsArePlain }
 {}
 
-/// The names of the nodes of a graph are plain paths, where its goals and the names that are there
-/// are, and the rule lines are well named.
+/// The names of the nodes of a graph are plain paths if its goals and the present names are plain
+/// paths and the names in the rule lines are well formed.
 pub fn nodes_have_plain_names()
     ensures { NodesHavePlainNames }
 {}

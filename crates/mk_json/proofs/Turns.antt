@@ -11,7 +11,7 @@ use Rattle.serde_json.specs.Data.{Num, Data, null, boolean, number, string, arra
 use Rattle.serde_json.specs.Read.{of_json, converted, number_of}
 use Rattle.serde_json.specs.View.{items_of}
 use Rattle.mk_json.proofs.Converted.{converted_some, converted-array, converted-object, item_read, item_refused, items_over, member_read, member_refused, key_refused, members_over, mapped, whole_read, whole_and_more, whole_refused}
-use Rattle.mk_json.specs.Laws.{ItemsInTurn, MembersInTurn, WholeText}
+use Rattle.mk_json.specs.Laws.{ItemsAreReadInOrder, MembersAreReadInOrder, WholeText}
 use Rattle.mk_json.specs.Tokens.{next_value, next_items, next_members, Reads, ReadsItems, ReadsMembers, EntersArray, EntersObject, items_before, ItemsRead, MembersRead}
 
 -- a value takes at least one token
@@ -203,16 +203,16 @@ begun depth Token.bad ts r d e = none_there _ _ (no_value_first depth ts).4 e
 
 -- ---- laws
 
-pub items_in_turn : ItemsInTurn
-items_in_turn = record {
+pub items_are_read_in_order : ItemsAreReadInOrder
+items_are_read_in_order = record {
   begins = items_begin;
   goes_on = items_next;
   fails = items_fail;
   ends = items_end;
 }
 
-pub members_in_turn : MembersInTurn
-members_in_turn = record {
+pub members_are_read_in_order : MembersAreReadInOrder
+members_are_read_in_order = record {
   begins = members_begin;
   goes_on = members_next;
   has_no_key = key_fails;

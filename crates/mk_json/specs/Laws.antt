@@ -1,4 +1,4 @@
--- Laws of values by their tokens, and of objects.
+-- Laws of JSON values by their tokens, and of objects.
 use Rattle.std.specs.Prelude.{◌≡◌, ◌++◌, ◌<◌, ◌&&◌, ℕ, List, [], ◌∷◌, length, None, Some, if◌then◌else◌}
 use Rattle.std.specs.Str.{bytes_eq}
 use Rattle.mk_lines.specs.Names.{has_name}
@@ -12,14 +12,14 @@ use Rattle.serde_json.specs.View.{items_of}
 use Rattle.mk_json.specs.Kinds.{has_only}
 use Rattle.mk_json.specs.Tokens.{next_value, next_items, next_members, ItemsRead, MembersRead}
 
--- A value takes at least one token.
+-- Each value takes at least one token.
 abbrev pub ValuesTakeTokens : Type 0
 ValuesTakeTokens =
     (depth : ℕ) (now rest : List Token) (value : Data) → next_value depth now ≡ Some (value, rest) →
     length rest < length now
 
--- The values of an array are read one after another, up to its bracket.
-pub record ItemsInTurn : Type 0 where
+-- The values of an array are read one after another, up to its closing bracket.
+pub record ItemsAreReadInOrder : Type 0 where
   pub begins : (depth : ℕ) (all : List Token) → ItemsRead depth all [] all
   pub goes_on :
       (depth : ℕ) (all : List Token) (values : List Data) (now rest : List Token) (value : Data) →
@@ -34,8 +34,8 @@ pub record ItemsInTurn : Type 0 where
       ItemsRead depth all values now → after_end_array now ≡ Some rest →
       next_items depth all ≡ Some (items_of values, rest)
 
--- The members of an object are read one after another, up to its brace.
-pub record MembersInTurn : Type 0 where
+-- The members of an object are read one after another, up to its closing brace.
+pub record MembersAreReadInOrder : Type 0 where
   pub begins : (depth : ℕ) (all : List Token) → MembersRead depth all no_members all
   pub goes_on :
       (depth : ℕ) (all : List Token) (members : Members) (key : List ℕ) (value : Data)
@@ -55,7 +55,8 @@ pub record MembersInTurn : Type 0 where
       MembersRead depth all members now → read_key now ≡ Some (None, rest) →
       next_members depth all ≡ Some (members, rest)
 
--- Of the values of a key the last one counts.
+-- If a key occurs several times, its last value counts; an object has only known keys if each put
+-- key is known.
 pub record LastValueCounts : Type 0 where
   pub value :
       (key other : List ℕ) (value : Data) (members : Members) →
@@ -66,7 +67,7 @@ pub record LastValueCounts : Type 0 where
       has_only known (object (put key value members)) ≡
       (has_name known key && has_only known (object members))
 
--- A text is a value with nothing behind it.
+-- A text has a JSON value exactly if its tokens are that value and nothing more.
 pub record WholeText : Type 0 where
   pub whole :
       (text : List ℕ) (value : Data) → next_value max_depth (tokens text) ≡ Some (value, []) →

@@ -4,6 +4,6 @@ use Rattle.std.specs.Str.{is_utf8}
 use Rattle.serde_json.specs.Data.{Data}
 use Rattle.serde_json.specs.Read.{read}
 
--- the value that `serde_json` reads, where the bytes are UTF-8
+-- the value that `serde_json` reads from the bytes, or `None` if they aren't UTF-8
 abbrev pub json_of : List ℕ → Option Data
 json_of bytes = if is_utf8 bytes then read bytes else None

@@ -1,12 +1,12 @@
--- Results in steps: the first fault is the result.
+-- Results in sequence: the first error is the result of the whole.
 use Rattle.std.specs.Prelude.{⊤, List, [], ◌∷◌, Bool, if◌then◌else◌, Result, Ok, Err}
 pub use Rattle.mk_lines.specs.Results.{◌>>=◌}
 
--- nothing where the test holds, or this fault
-abbrev pub unless_holds : {E : Type 0} → E → Bool → Result ⊤ E
-unless_holds fault test = if test then Ok tt else Err fault
+-- success if the test holds, else this error
+abbrev pub check_that : {E : Type 0} → E → Bool → Result ⊤ E
+check_that fault test = if test then Ok tt else Err fault
 
--- what each of a list gives, or the first fault
+-- the results of f for all elements of a list, or the first error
 unfoldable pub each : {A B E : Type 0} → (A → Result B E) → List A → Result (List B) E
 each f [] = Ok []
 each f (x ∷ xs) = do

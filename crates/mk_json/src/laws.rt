@@ -1,29 +1,29 @@
-//! Laws of objects, and of values by their tokens, about the definitions alone. Each is the
-//! contract of a function that does nothing: who calls it has the law.
+//! Laws about the definitions of JSON values. Each law is the contract of a function with an empty
+//! body; a caller of the function has the law.
 
-ghost use Rattle.mk_json.specs.Laws.{ValuesTakeTokens, ItemsInTurn, MembersInTurn, LastValueCounts, WholeText};
+ghost use Rattle.mk_json.specs.Laws.{ValuesTakeTokens, ItemsAreReadInOrder, MembersAreReadInOrder, LastValueCounts, WholeText};
 
-/// A value takes at least one token.
+/// Each value takes at least one token.
 pub fn values_take_tokens()
     ensures { ValuesTakeTokens }
 {}
 
 /// The values of an array are read one after another.
-pub fn items_in_turn()
-    ensures { ItemsInTurn }
+pub fn items_are_read_in_order()
+    ensures { ItemsAreReadInOrder }
 {}
 
 /// The members of an object are read one after another.
-pub fn members_in_turn()
-    ensures { MembersInTurn }
+pub fn members_are_read_in_order()
+    ensures { MembersAreReadInOrder }
 {}
 
-/// Of the values of a key the last one counts.
+/// If a key occurs several times, its last value counts.
 pub fn last_value_counts()
     ensures { LastValueCounts }
 {}
 
-/// A text is a value with nothing behind it.
+/// A text has a JSON value exactly if its tokens are that value and nothing more.
 pub fn whole_text()
     ensures { WholeText }
 {}

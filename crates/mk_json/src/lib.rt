@@ -1,4 +1,4 @@
-//! JSON values that are read by their tokens.
+//! A streaming JSON reader: it skips what the caller doesn't want and builds no tree of values.
 #![tactic(auto)]
 
 pub mod laws;
@@ -6,5 +6,5 @@ mod numbers;
 mod tokens;
 
 pub use tokens::{
-    MAX_DEPTH, enter_array, enter_object, next_integer, next_text, skip_value, text_in,
+    MAX_DEPTH, enter_array, enter_object, next_integer, next_text, skip_value, text_from_utf8,
 };

@@ -1,4 +1,4 @@
-//! Numbers of JSON.
+//! JSON numbers.
 
 ghost use Rattle.std.specs.Prelude.{◌≡◌, ◌<◌, ◌==◌, length, slice_index, true, false, IsTrue};
 ghost use Rattle.std.specs.Option.{option_map};
@@ -8,7 +8,7 @@ ghost use Rattle.serde_json.specs.View.{number_view};
 use fast_float::Numeral;
 use serde_json::Number;
 
-/// The number that a numeral without a sign is.
+/// The value of a numeral without a minus.
 fn above_zero(numeral: &Numeral<'_>) -> Option<Number>
     ensures { option_map number_view result ≡ number_from false numeral.now }
 {
@@ -18,7 +18,7 @@ fn above_zero(numeral: &Numeral<'_>) -> Option<Number>
     }
 }
 
-/// The number that a numeral with a minus is.
+/// The value of a numeral that had a minus before it.
 fn below_zero(numeral: &Numeral<'_>) -> Option<Number>
     ensures { option_map number_view result ≡ number_from true numeral.now }
 {
@@ -30,7 +30,7 @@ fn below_zero(numeral: &Numeral<'_>) -> Option<Number>
     Number::from_f64(numeral.to_float::<f64>(true))
 }
 
-/// Whether a minus is first.
+/// Whether the text begins with a minus.
 fn has_minus(bytes: &[u8]) -> bool
     ensures minus { result ≡ (slice_index bytes.now 0 == 45) }
     ensures some { IsTrue result → 0 < length bytes.now }
@@ -38,7 +38,7 @@ fn has_minus(bytes: &[u8]) -> bool
     !bytes.is_empty() && bytes[0] == b'-'
 }
 
-/// The number that a text of JSON writes, where it is in the range of `serde_json`.
+/// Returns the value of a JSON number, or `None` if it is out of the range of `serde_json`.
 pub(crate) fn number_of(text: &str) -> Option<Number>
     ensures { option_map number_view result ≡ number_of text.now }
 {

@@ -1,4 +1,7 @@
-//! JSON values by their tokens, without a tree of what is not wanted.
+//! Reads JSON values token by token, without building a tree of values.
+//!
+//! Each `depth` says how deep arrays and objects may still nest. A value that nests deeper is
+//! `Invalid`.
 
 ghost use Rattle.std.specs.Prelude.{◌≡◌, ◌<◌, ◌∷◌, ⊤, None, MatchOption, option_and_then};
 ghost use Rattle.std.specs.Option.{option_map};
@@ -11,11 +14,11 @@ ghost use Rattle.mk_json.specs.Tokens.{Reads, ReadsItems, ReadsMembers, EntersAr
 use crate::numbers::number_of;
 use json::{Invalid, Reader, Token};
 
-/// How deep arrays and objects may nest.
+/// The maximum nesting depth of arrays and objects.
 pub const MAX_DEPTH: usize = 127;
 
-/// The text that bytes are, where they are UTF-8. It is what a JSON value is read from.
-pub fn text_in(bytes: &[u8]) -> Option<&str>
+/// Returns the bytes as text, or `None` if they aren't UTF-8. JSON is read from this text.
+pub fn text_from_utf8(bytes: &[u8]) -> Option<&str>
     ensures { MatchOption result (json_of bytes.now ≡ None)
         (λ text. json_of bytes.now ≡ read text.now) }
 {
@@ -25,7 +28,7 @@ pub fn text_in(bytes: &[u8]) -> Option<&str>
     }
 }
 
-/// Passes over what follows the first token of a value.
+/// Skips the rest of a value whose first token was read.
 #[cycle(skip)]
 fn skip_rest(reader: &mut Reader<'_>, token: Token<'_>, depth: usize) -> Result<(), Invalid>
     ensures { Reads (λ _ _. ⊤) depth (token_of token.entry ∷ reader.old) result reader.new }
@@ -52,7 +55,7 @@ fn skip_rest(reader: &mut Reader<'_>, token: Token<'_>, depth: usize) -> Result<
     }
 }
 
-/// Passes over the values of an array that was entered.
+/// Skips the values of an array whose bracket was read, and its closing bracket.
 #[cycle(skip)]
 fn skip_items(reader: &mut Reader<'_>, depth: usize) -> Result<(), Invalid>
     ensures { ReadsItems (λ _ _. ⊤) depth reader.old result reader.new }
@@ -63,7 +66,7 @@ fn skip_items(reader: &mut Reader<'_>, depth: usize) -> Result<(), Invalid>
     Ok(())
 }
 
-/// Passes over the members of an object that was entered.
+/// Skips the members of an object whose brace was read, and its closing brace.
 #[cycle(skip)]
 fn skip_members(reader: &mut Reader<'_>, depth: usize) -> Result<(), Invalid>
     ensures { ReadsMembers (λ _ _. ⊤) depth reader.old result reader.new }
@@ -74,7 +77,7 @@ fn skip_members(reader: &mut Reader<'_>, depth: usize) -> Result<(), Invalid>
     Ok(())
 }
 
-/// Passes over the next value.
+/// Skips the next value. It returns `Invalid` if there is no valid value.
 #[cycle(skip)]
 pub fn skip_value(reader: &mut Reader<'_>, depth: usize) -> Result<(), Invalid>
     ensures { Reads (λ _ _. ⊤) depth reader.old result reader.new }
@@ -83,7 +86,8 @@ pub fn skip_value(reader: &mut Reader<'_>, depth: usize) -> Result<(), Invalid>
     skip_rest(reader, token, depth)
 }
 
-/// The text that the next value is. What is no text is passed over.
+/// Reads the next value and returns its text if it is a string. Another value is skipped, and
+/// `None` is returned. It returns `Invalid` if there is no valid value.
 pub fn next_text<'a>(reader: &mut Reader<'a>, depth: usize) -> Result<Option<&'a str>, Invalid>
     ensures { Reads (λ text value. option_map (λ found. found.now) text ≡ as_str value)
         depth reader.old result reader.new }
@@ -98,8 +102,9 @@ pub fn next_text<'a>(reader: &mut Reader<'a>, depth: usize) -> Result<Option<&'a
     }
 }
 
-/// The whole number that the next value is, one that is kept as an integer. What is none is passed
-/// over.
+/// Reads the next value and returns it if it is a number that `serde_json` keeps as an integer.
+/// Another value is skipped, and `None` is returned. It returns `Invalid` if there is no valid
+/// value.
 pub fn next_integer(reader: &mut Reader<'_>, depth: usize) -> Result<Option<i128>, Invalid>
     ensures { Reads (λ integer value. integer ≡ option_and_then as_integer (as_number value))
         depth reader.old result reader.new }
@@ -117,7 +122,9 @@ pub fn next_integer(reader: &mut Reader<'_>, depth: usize) -> Result<Option<i128
     }
 }
 
-/// Enters the array that the next value is. What is none is passed over.
+/// Reads the opening bracket if the next value is an array, and returns `true`; its values come
+/// next. Another value is skipped, and `false` is returned. It returns `Invalid` if there is no
+/// valid value, or no array may nest here.
 pub fn enter_array(reader: &mut Reader<'_>, depth: usize) -> Result<bool, Invalid>
     ensures { EntersArray depth reader.old result reader.new }
 {
@@ -136,7 +143,9 @@ pub fn enter_array(reader: &mut Reader<'_>, depth: usize) -> Result<bool, Invali
     }
 }
 
-/// Enters the object that the next value is. What is none is passed over.
+/// Reads the opening brace if the next value is an object, and returns `true`; its members come
+/// next. Another value is skipped, and `false` is returned. It returns `Invalid` if there is no
+/// valid value, or no object may nest here.
 pub fn enter_object(reader: &mut Reader<'_>, depth: usize) -> Result<bool, Invalid>
     ensures { EntersObject depth reader.old result reader.new }
 {

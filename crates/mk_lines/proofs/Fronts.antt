@@ -9,7 +9,7 @@ use Rattle.std.proofs.lemmas.List.{take-append-drop}
 use Rattle.std.proofs.Math.Seq.{take-append_seam}
 use Rattle.std.proofs.lemmas.Slice.Eq.{bytes_eq-Decides}
 use Rattle.mk_lines.specs.Bytes.{begins_with}
-use Rattle.mk_lines.specs.Names.{has_name, is_under}
+use Rattle.mk_lines.specs.Names.{has_name, begins_with_any}
 
 -- a front of this length is a prefix
 abbrev pub front_there : List (List ℕ) → List ℕ → ℕ → Bool
@@ -25,24 +25,24 @@ front_tells : (name prefix rest : List ℕ) → name ≡ prefix ++ rest → begi
 front_tells name prefix rest e = (bytes_eq-Decides (take (length prefix) name) prefix).1 (ap (take (length prefix)) e ∙ take-append_seam prefix rest)
 
 -- the prefix with which a name begins
-under_told : (prefixes : List (List ℕ)) (name : List ℕ) → is_under prefixes name ≡ true → (prefix : List ℕ) × (has_name prefixes prefix ≡ true) × (rest : List ℕ) × (name ≡ prefix ++ rest)
+under_told : (prefixes : List (List ℕ)) (name : List ℕ) → begins_with_any prefixes name ≡ true → (prefix : List ℕ) × (has_name prefixes prefix ≡ true) × (rest : List ℕ) × (name ≡ prefix ++ rest)
 under_told [] name e = absurd (true≢false (sym e))
 under_told (prefix ∷ prefixes) name e =
-    elim (or_cases (begins_with prefix name) (is_under prefixes name) e) [
+    elim (or_cases (begins_with prefix name) (begins_with_any prefixes name) e) [
       | inl t ↦ (let f = front_told name prefix t in (prefix, or_left (bytes_eq prefix prefix) (has_name prefixes prefix) ((bytes_eq-Decides prefix prefix).1 refl), f.0, f.1))
       | inr h ↦ (let u = under_told prefixes name h in (u.0, or_right (bytes_eq u.0 prefix) (has_name prefixes u.0) u.1, u.2, u.3))
     ]
 
-under_tells : (prefixes : List (List ℕ)) (name prefix rest : List ℕ) → has_name prefixes prefix ≡ true → name ≡ prefix ++ rest → is_under prefixes name ≡ true
+under_tells : (prefixes : List (List ℕ)) (name prefix rest : List ℕ) → has_name prefixes prefix ≡ true → name ≡ prefix ++ rest → begins_with_any prefixes name ≡ true
 under_tells [] name prefix rest h e = absurd (true≢false (sym h))
 under_tells (other ∷ prefixes) name prefix rest h e =
     elim (or_cases (bytes_eq prefix other) (has_name prefixes prefix) h) [
-      | inl t ↦ or_left (begins_with other name) (is_under prefixes name) (front_tells name other rest (e ∙ ap (λ p. p ++ rest) ((bytes_eq-Decides prefix other).0 t)))
-      | inr t ↦ or_right (begins_with other name) (is_under prefixes name) (under_tells prefixes name prefix rest t e)
+      | inl t ↦ or_left (begins_with other name) (begins_with_any prefixes name) (front_tells name other rest (e ∙ ap (λ p. p ++ rest) ((bytes_eq-Decides prefix other).0 t)))
+      | inr t ↦ or_right (begins_with other name) (begins_with_any prefixes name) (under_tells prefixes name prefix rest t e)
     ]
 
 -- one that is found
-any_told : (prefixes : List (List ℕ)) (name : List ℕ) (lengths : List ℕ) → list_any (front_there prefixes name) lengths ≡ true → is_under prefixes name ≡ true
+any_told : (prefixes : List (List ℕ)) (name : List ℕ) (lengths : List ℕ) → list_any (front_there prefixes name) lengths ≡ true → begins_with_any prefixes name ≡ true
 any_told prefixes name [] e = absurd (true≢false (sym e))
 any_told prefixes name (n ∷ lengths) e =
     elim (or_cases (front_there prefixes name n) (list_any (front_there prefixes name) lengths) e) [
@@ -59,10 +59,10 @@ any_at test (m ∷ lengths) n e t =
     ]
 
 -- the prefixes' lengths are enough
-pub by_length : (prefixes : List (List ℕ)) (lengths name : List ℕ) → ((prefix : List ℕ) → has_name prefixes prefix ≡ true → list_any (nat_eq (length prefix)) lengths ≡ true) → list_any (front_there prefixes name) lengths ≡ is_under prefixes name
+pub by_length : (prefixes : List (List ℕ)) (lengths name : List ℕ) → ((prefix : List ℕ) → has_name prefixes prefix ≡ true → list_any (nat_eq (length prefix)) lengths ≡ true) → list_any (front_there prefixes name) lengths ≡ begins_with_any prefixes name
 by_length prefixes lengths name all = both_ways _ _ (any_told prefixes name lengths) tells
   where
-    tells : is_under prefixes name ≡ true → list_any (front_there prefixes name) lengths ≡ true
+    tells : begins_with_any prefixes name ≡ true → list_any (front_there prefixes name) lengths ≡ true
     tells e =
         let u = under_told prefixes name e in
         let front : take (length u.0) name ≡ u.0 = ap (take (length u.0)) u.3 ∙ take-append_seam u.0 u.2 in

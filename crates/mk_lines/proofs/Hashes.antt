@@ -23,7 +23,7 @@ pub comment_more : (behind : Bool) (text : List ℕ) (at : ℕ) → at < length 
 comment_more behind text at lt e =
     at_drop_more (λ rest. moved at (comment_from behind rest)) text at 0 lt ∙ (ap (moved at) (comment_later behind (get_or text at 0) (drop (at + 1) text) e) ∙ moved_suc at (comment_from (eqb (get_or text at 0) 92) (drop (at + 1) text)))
 
--- nothing is left
+-- the end of the text
 comment_nil : (behind : Bool) → comment_from behind [] ≡ None
 unfolding comment_from
 comment_nil behind = refl

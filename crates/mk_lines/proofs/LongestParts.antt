@@ -1,4 +1,4 @@
--- Words are the longest parts without blanks.
+-- Words are the maximal parts without blanks.
 use Rattle.std.proofs.Common.{◌≡◌, ℕ, zero, suc, ◌+◌, ◌-◌, ◌<◌, ◌≤◌, Bool, true, false, ◌||◌, cond, ltb, List, [], ◌∷◌, length, get_or, take, drop, filter, ◌⊎◌, inl, inr, refl, sym, ap, ◌∙◌, subst, arith}
 use Rattle.std.specs.List.{slice_split, onto_first, list_any, Contains}
 use Rattle.std.proofs.lemmas.Bool.{ltb-true, ltb-false, lt-ltb}
@@ -73,8 +73,16 @@ cuts_more x text at (part ∷ []) h =
     let e : suc (at + length part) ≡ suc at + length part = omega arith in
     (omega (arith, h.0), clean_at (x ∷ text) (suc at) (suc (at + length part)) (suc at + length part) e (clean_more x text at (at + length part) h.1))
 cuts_more x text at (part ∷ next ∷ parts) h =
-    let e : suc (at + length part) ≡ suc at + length part = omega arith in
-    (omega (arith, h.0), clean_at (x ∷ text) (suc at) (suc (at + length part)) (suc at + length part) e (clean_more x text at (at + length part) h.1), blank_at (x ∷ text) (suc (at + length part)) (suc at + length part) e h.2, cuts_at (x ∷ text) (suc (suc (at + length part))) (suc (suc at + length part)) (next ∷ parts) (ap suc e) (cuts_more x text (suc (at + length part)) (next ∷ parts) h.3))
+    let e : suc (at + length part) ≡ suc at + length part = omega arith in (
+      omega (arith, h.0),
+      clean_at (x ∷ text) (suc at) (suc (at + length part)) (suc at + length part) e
+          (clean_more x text at (at + length part) h.1),
+      blank_at (x ∷ text) (suc (at + length part))
+          (suc at + length part) e h.2,
+      cuts_at (x ∷ text) (suc (suc (at + length part)))
+          (suc (suc at + length part)) (next ∷ parts) (ap suc e)
+          (cuts_more x text (suc (at + length part)) (next ∷ parts) h.3),
+    )
 
 cuts_new : (x : ℕ) (text : List ℕ) (parts : List (List ℕ)) → is_blank x ≡ true → Cuts text 0 parts → Cuts (x ∷ text) 0 ([] ∷ parts)
 cuts_new x text [] e h = absurd h
@@ -90,8 +98,15 @@ cuts_onto x text (part ∷ []) e h =
     let q : suc (0 + length part) ≡ 0 + length (x ∷ part) = omega arith in
     (omega (arith, h.0), clean_onto x text (0 + length part) (0 + length (x ∷ part)) e q h.1)
 cuts_onto x text (part ∷ next ∷ parts) e h =
-    let q : suc (0 + length part) ≡ 0 + length (x ∷ part) = omega arith in
-    (omega (arith, h.0), clean_onto x text (0 + length part) (0 + length (x ∷ part)) e q h.1, blank_at (x ∷ text) (suc (0 + length part)) (0 + length (x ∷ part)) q h.2, cuts_at (x ∷ text) (suc (suc (0 + length part))) (suc (0 + length (x ∷ part))) (next ∷ parts) (ap suc q) (cuts_more x text (suc (0 + length part)) (next ∷ parts) h.3))
+    let q : suc (0 + length part) ≡ 0 + length (x ∷ part) = omega arith in (
+      omega (arith, h.0),
+      clean_onto x text (0 + length part) (0 + length (x ∷ part)) e q h.1,
+      blank_at
+          (x ∷ text) (suc (0 + length part)) (0 + length (x ∷ part)) q h.2,
+      cuts_at (x ∷ text)
+          (suc (suc (0 + length part))) (suc (0 + length (x ∷ part))) (next ∷ parts) (ap suc q)
+          (cuts_more x text (suc (0 + length part)) (next ∷ parts) h.3),
+    )
 
 cuts_case : (t : Bool) (x : ℕ) (text : List ℕ) (parts : List (List ℕ)) → is_blank x ≡ t → Cuts text 0 parts → Cuts (x ∷ text) 0 (cond t ([] ∷ parts) (onto_first x parts))
 cuts_case true x text parts e h = cuts_new x text parts e h
@@ -152,7 +167,11 @@ sound [] text at span c edge h = absurd c
 sound (part ∷ []) text at span c edge h =
     sound_case (has_bytes (span_at at part)) text (span_at at part) span [] (λ t. word_here text part at t (omega (arith, c.0)) c.1 edge (inl c.0)) (λ n. absurd n) h
 sound (part ∷ next ∷ parts) text at span c edge h =
-    sound_case (has_bytes (span_at at part)) text (span_at at part) span (filter has_bytes (spans_from (suc (at + length part)) (next ∷ parts))) (λ t. word_here text part at t (omega (arith, c.0)) c.1 edge (inr c.2)) (sound (next ∷ parts) text (suc (at + length part)) span c.3 (next_edge text (at + length part) c.2)) h
+    sound_case (has_bytes (span_at at part)) text (span_at at part) span
+    (filter has_bytes (spans_from (suc (at + length part)) (next ∷ parts)))
+    (λ t. word_here text part at t (omega (arith, c.0)) c.1 edge (inr c.2))
+    (sound (next ∷ parts) text (suc (at + length part)) span c.3 (next_edge text (at + length part) c.2))
+    h
 
 -- a word that begins in a part is that part
 not_at_end : (text : List ℕ) (n : ℕ) (span : Span) → IsWordAt text span → End text n → span.start ≡ n → ⊥
@@ -190,7 +209,11 @@ in_later : (t : Bool) (s span : Span) (spans : List Span) → In span spans → 
 in_later true s span spans h = inr h
 in_later false s span spans h = h
 
-complete_case : (t : Bool) (text part : List ℕ) (at : ℕ) (span : Span) (spans : List Span) → ltb (at + length part) span.start ≡ t → at + length part ≤ length text → Clean text at (at + length part) → End text (at + length part) → IsWordAt text span → at ≤ span.start → (at + length part < span.start → In span spans) → In span (cond (has_bytes (span_at at part)) (span_at at part ∷ spans) spans)
+complete_case : (t : Bool) (text part : List ℕ) (at : ℕ) (span : Span) (spans : List Span)
+    → ltb (at + length part) span.start ≡ t → at + length part ≤ length text
+    → Clean text at (at + length part) → End text (at + length part) → IsWordAt text span → at ≤ span.start
+    → (at + length part < span.start → In span spans) → In span
+    (cond (has_bytes (span_at at part)) (span_at at part ∷ spans) spans)
 complete_case true text part at span spans e le clean end w low f = in_later (has_bytes (span_at at part)) (span_at at part) span spans (f (ltb-true (at + length part) span.start e))
 complete_case false text part at span spans e le clean end w low f =
     let m = meets text part at span le clean end w low (ltb-false (at + length part) span.start e) in

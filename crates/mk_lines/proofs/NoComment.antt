@@ -5,7 +5,7 @@ use Rattle.std.specs.List.{list_any}
 use Rattle.std.proofs.lemmas.List.{take-append-drop}
 use Rattle.std.proofs.lemmas.List.Folds.{list_any-append}
 use Rattle.mk_lines.specs.Bytes.{is_byte}
-use Rattle.mk_lines.specs.Comments.{spared_at, read_part, comment_from, begins_with_hash, has_escaped_hash}
+use Rattle.mk_lines.specs.Comments.{unchanged_from, searched_part, comment_from, begins_with_hash, has_escaped_hash}
 use Rattle.mk_lines.specs.Laws.{NothingToUncomment}
 use Rattle.mk_lines.proofs.Uncommenting.{nothing_changes}
 
@@ -45,6 +45,6 @@ no_escape_in (b ∷ xs) e =
 
 pub nothing_to_uncomment : NothingToUncomment
 nothing_to_uncomment text e =
-    let read : list_any (is_byte 35) (read_part text) ≡ false = none_in_front (is_byte 35) (spared_at text) text e in
-    let kept : list_any (is_byte 35) (take (length (read_part text)) (read_part text)) ≡ false = none_in_front (is_byte 35) (length (read_part text)) (read_part text) read in
-    sym (nothing_changes text (read_part text) None refl (sym (no_comment_in false (read_part text) read)) refl (no_escape_in (take (length (read_part text)) (read_part text)) kept))
+    let read : list_any (is_byte 35) (searched_part text) ≡ false = none_in_front (is_byte 35) (unchanged_from text) text e in
+    let kept : list_any (is_byte 35) (take (length (searched_part text)) (searched_part text)) ≡ false = none_in_front (is_byte 35) (length (searched_part text)) (searched_part text) read in
+    sym (nothing_changes text (searched_part text) None refl (sym (no_comment_in false (searched_part text) read)) refl (no_escape_in (take (length (searched_part text)) (searched_part text)) kept))

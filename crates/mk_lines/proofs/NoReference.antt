@@ -7,11 +7,11 @@ use Rattle.std.proofs.lemmas.Bool.Decides.{nat_tests}
 use Rattle.bstr.specs.Bytes.{is_in}
 use Rattle.bstr.specs.Find.{IsFirstByte}
 use Rattle.mk_lines.specs.Bytes.{is_byte}
-use Rattle.mk_lines.specs.References.{Place, next_place, first_from, first_outside, is_one_of}
+use Rattle.mk_lines.specs.References.{ReferenceState, next_place, first_from, first_outside, is_one_of}
 use Rattle.mk_lines.proofs.Found.{found_first, passes_first, found_nil, found_same}
 use Rattle.mk_lines.proofs.NoComment.{neither_left, neither_right}
 
-abbrev outside : Place
+abbrev outside : ReferenceState
 outside = record { ends = []; dollar = false }
 
 stays_outside : (b : ℕ) → eqb b 36 ≡ false → next_place outside b ≡ outside

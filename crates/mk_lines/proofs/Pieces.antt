@@ -1,4 +1,4 @@
--- Texts cut at newlines, and cut texts whose first piece loses its front.
+-- Texts split at newlines, and split texts whose first piece loses its front.
 use Rattle.std.proofs.Common.{◌≡◌, ℕ, suc, ◌+◌, ◌<◌, ◌≤◌, Bool, true, false, cond, eqb, List, [], ◌∷◌, ◌++◌, length, drop, Option, None, Some, refl, sym, ap, ◌∙◌, subst, arith}
 use Rattle.std.specs.Prelude.{MatchOption, IfSome, is_some}
 use Rattle.std.specs.Borrow.{Bor}
@@ -8,7 +8,7 @@ use Rattle.std.proofs.lemmas.Bool.{eqb-true, ne_eqb}
 use Rattle.std.proofs.lemmas.List.{length-drop}
 use Rattle.std.proofs.lemmas.List.Splits.{length-slice_split, slice_split-cons_yes, slice_split-cons_no}
 use Rattle.mk_lines.specs.Bytes.{is_byte, is_blank, trimmed, parts_left}
-use Rattle.mk_lines.specs.Lines.{Line, is_command, without_tab, without_last, plain_text, command_text, plain_of, command_of, text_of, joined}
+use Rattle.mk_lines.specs.Lines.{Line, is_command, without_tab, without_last_byte, plain_text, command_text, plain_of, command_of, text_of, joined}
 
 -- the pieces of a text
 abbrev pub pieces : List ℕ → List (List ℕ)
@@ -82,13 +82,13 @@ pieces-without_tab [] = refl
 pieces-without_tab (b ∷ text) = tab_step (eqb b 9) b text refl
 
 -- pieces joined, one piece further
-plain_next : (piece : List ℕ) (xs : List (List ℕ)) → 0 < length xs → plain_of (piece ∷ xs) ≡ without_last piece ++ 32 ∷ plain_of (on_first trimmed xs)
+plain_next : (piece : List ℕ) (xs : List (List ℕ)) → 0 < length xs → plain_of (piece ∷ xs) ≡ without_last_byte piece ++ 32 ∷ plain_of (on_first trimmed xs)
 unfolding plain_text
 plain_next piece [] lt = absurd (omega arith)
 plain_next piece (x ∷ xs) lt = refl
 
-pub plain_step : (piece after : List ℕ) → plain_of (piece ∷ pieces after) ≡ without_last piece ++ 32 ∷ plain_of (pieces (trimmed after))
-plain_step piece after = plain_next piece (pieces after) (some_piece after) ∙ ap (λ xs. without_last piece ++ 32 ∷ plain_of xs) (sym (pieces-trimmed after))
+pub plain_step : (piece after : List ℕ) → plain_of (piece ∷ pieces after) ≡ without_last_byte piece ++ 32 ∷ plain_of (pieces (trimmed after))
+plain_step piece after = plain_next piece (pieces after) (some_piece after) ∙ ap (λ xs. without_last_byte piece ++ 32 ∷ plain_of xs) (sym (pieces-trimmed after))
 
 pub plain_end : (piece : List ℕ) → plain_of (piece ∷ []) ≡ piece
 unfolding plain_text
@@ -147,7 +147,7 @@ pub line_made : (first : ℕ) (run : List ℕ) → joined first (pieces run) ≡
 line_made first [] = refl
 line_made first (b ∷ text) = line_step (eqb b 9) first b text refl
 
--- what a cut leaves
+-- what a split leaves
 pub next_left : (piece : List ℕ) (o : Option (Bor (List ℕ))) (after : Bor (List ℕ)) (xs : List (List ℕ)) → xs ≡ piece ∷ parts_left 10 (option_map (λ r. r.now) o) → o ≡ Some after → xs ≡ piece ∷ pieces after.now
 next_left piece o after xs e s = e ∙ ap (λ (p : Option (Bor (List ℕ))). piece ∷ parts_left 10 (option_map (λ r. r.now) p)) s
 
@@ -168,7 +168,7 @@ pub some_shorter : (n : ℕ) (o : Option (Bor (List ℕ))) (after : Bor (List �
 some_shorter n None after h s = absurd cc
 some_shorter n (Some rest) after h s = subst (λ (r : Option (Bor (List ℕ))). IfSome r (λ rest. length rest.now < n)) s h
 
--- the text round a cut
+-- the text around a split
 pub some_whole : (text piece : List ℕ) (o : Option (Bor (List ℕ))) (after : Bor (List ℕ)) → MatchOption o (piece ≡ text) (λ rest. text ≡ piece ++ 10 ∷ rest.now) → o ≡ Some after → text ≡ piece ++ 10 ∷ after.now
 some_whole text piece None after w s = absurd cc
 some_whole text piece (Some rest) after w s = subst (λ (r : Option (Bor (List ℕ))). MatchOption r (piece ≡ text) (λ rest. text ≡ piece ++ 10 ∷ rest.now)) s w

@@ -4,7 +4,7 @@ use Rattle.std.specs.List.{onto_first, list_any, prefix_len, enumerate_from}
 use Rattle.std.proofs.lemmas.List.{reverse-append}
 use Rattle.std.proofs.lemmas.List.Folds.{list_any-append}
 use Rattle.mk_lines.specs.Bytes.{is_byte, is_blank_alone}
-use Rattle.mk_lines.specs.Lines.{Line, Run, escapes, goes_on_in, runs, numbered, is_command, plain_text, command_text, joined, line_of, is_kept, runs_of}
+use Rattle.mk_lines.specs.Lines.{Line, PieceRun, escapes, with_piece_in_front, runs, number_runs, is_command, plain_text, command_text, joined, line_of, is_kept, runs_of}
 use Rattle.mk_lines.specs.Laws.{plain, PlainTextsAreTheirPieces}
 use Rattle.mk_lines.proofs.Pieces.{pieces}
 use Rattle.mk_lines.proofs.NoComment.{neither_left, neither_right}
@@ -49,25 +49,29 @@ runs_alone : (xs : List (List ℕ)) → list_any (list_any (is_byte 92)) xs ≡ 
 unfolding runs
 runs_alone [] e = refl
 runs_alone (piece ∷ xs) e =
-    ap (λ t. cond t (goes_on_in piece (runs xs)) ((piece ∷ []) ∷ runs xs)) (no_escape piece (neither_left (list_any (is_byte 92) piece) (list_any (list_any (is_byte 92)) xs) e))
+    ap (λ t. cond t (with_piece_in_front piece (runs xs)) ((piece ∷ []) ∷ runs xs)) (no_escape piece (neither_left (list_any (is_byte 92) piece) (list_any (list_any (is_byte 92)) xs) e))
     ∙ ap (λ rs. (piece ∷ []) ∷ rs) (runs_alone xs (neither_right (list_any (is_byte 92) piece) (list_any (list_any (is_byte 92)) xs) e))
 
 line_alone : (n : ℕ) (piece : List ℕ) → is_command piece ≡ false → joined n (piece ∷ []) ≡ plain (n, piece)
 unfolding plain_text
 line_alone n piece e = ap (λ t. let line : Line = cond t (record { first = n; command = true; text = command_text (drop 1 piece) [] }) (record { first = n; command = false; text = piece }) in line) e
 
-lines_alone : (n : ℕ) (xs : List (List ℕ)) → list_any (list_any (is_byte 9)) xs ≡ false → list_any is_blank_alone xs ≡ false → map line_of (filter is_kept (numbered n (map alone xs))) ≡ map plain (enumerate_from n xs)
-unfolding numbered
+lines_alone : (n : ℕ) (xs : List (List ℕ)) → list_any (list_any (is_byte 9)) xs ≡ false → list_any is_blank_alone xs ≡ false → map line_of (filter is_kept (number_runs n (map alone xs))) ≡ map plain (enumerate_from n xs)
+unfolding number_runs
 lines_alone n [] t b = refl
 lines_alone n (piece ∷ xs) t b =
-    let run : Run = record { first = n; pieces = piece ∷ [] } in
+    let run : PieceRun = record { first = n; pieces = piece ∷ [] } in
     let line : joined n (piece ∷ []) ≡ plain (n, piece) = line_alone n piece (no_tab_first piece (neither_left (list_any (is_byte 9) piece) (list_any (list_any (is_byte 9)) xs) t)) in
     let kept : is_kept run ≡ true = ap (λ (x : Line). not (is_blank_alone x.text)) line ∙ ap not (neither_left (is_blank_alone piece) (list_any is_blank_alone xs) b) in
-    let rest = filter is_kept (numbered (n + 1) (map alone xs)) in
-    ap (λ t. map line_of (cond t (run ∷ rest) rest)) kept ∙ (ap (λ x. x ∷ map line_of rest) line ∙ ap (λ lines. plain (n, piece) ∷ lines) (lines_alone (n + 1) xs (neither_right (list_any (is_byte 9) piece) (list_any (list_any (is_byte 9)) xs) t) (neither_right (is_blank_alone piece) (list_any is_blank_alone xs) b)))
+    let rest = filter is_kept (number_runs (n + 1) (map alone xs)) in
+    ap (λ t. map line_of (cond t (run ∷ rest) rest)) kept
+    ∙ (ap (λ x. x ∷ map line_of rest) line ∙ ap (λ lines. plain (n, piece) ∷ lines)
+    (lines_alone (n + 1) xs (neither_right (list_any (is_byte 9) piece)
+    (list_any (list_any (is_byte 9)) xs) t) (neither_right (is_blank_alone piece)
+    (list_any is_blank_alone xs) b)))
 
 pub plain_texts_are_their_pieces : PlainTextsAreTheirPieces
 unfolding runs_of
 plain_texts_are_their_pieces text s t b =
-    ap (λ rs. map line_of (filter is_kept (numbered 1 rs))) (runs_alone (pieces text) (none_in_pieces (is_byte 92) text s))
+    ap (λ rs. map line_of (filter is_kept (number_runs 1 rs))) (runs_alone (pieces text) (none_in_pieces (is_byte 92) text s))
     ∙ lines_alone 1 (pieces text) (none_in_pieces (is_byte 9) text t) b

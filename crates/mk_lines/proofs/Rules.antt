@@ -1,4 +1,4 @@
--- Which bytes decide, and where.
+-- The bytes that decide whether a line is a rule line.
 use Rattle.std.proofs.Common.{◌≡◌, ℕ, eqb, List, [], ◌∷◌, refl, arith}
 use Rattle.std.proofs.lemmas.Bool.Decides.{nat_tests}
 use Rattle.std.proofs.Math.Bool.{or-false}

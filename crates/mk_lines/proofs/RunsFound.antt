@@ -1,10 +1,10 @@
--- The first run of pieces, piece by piece.
+-- The first run, piece by piece.
 use Rattle.std.proofs.Common.{◌≡◌, ℕ, suc, ◌+◌, ◌<◌, Bool, true, false, cond, List, [], ◌∷◌, ◌++◌, length, take, drop, refl, sym, ap, ◌∙◌, arith}
 use Rattle.std.specs.List.{All}
 use Rattle.std.proofs.lemmas.List.{take_all, drop-drop, drop_at, take-append-le}
 use Rattle.std.proofs.lemmas.List.Splits.{slice_split_at, slice_split_none}
 use Rattle.mk_lines.specs.Bytes.{is_byte}
-use Rattle.mk_lines.specs.Lines.{escapes, goes_on_in, runs}
+use Rattle.mk_lines.specs.Lines.{escapes, with_piece_in_front, runs}
 use Rattle.mk_lines.proofs.Pieces.{pieces, some_piece}
 
 -- the first run, and the pieces behind it
@@ -16,14 +16,17 @@ abbrev pub behind_run : List (List ℕ) → List (List ℕ)
 behind_run [] = []
 behind_run (piece ∷ rest) = cond (escapes piece) (behind_run rest) rest
 
-run_case : (t : Bool) (piece : List ℕ) (rest : List (List ℕ)) → goes_on_in piece (runs rest) ≡ (piece ∷ first_run rest) ∷ runs (behind_run rest) → cond t (goes_on_in piece (runs rest)) ((piece ∷ []) ∷ runs rest) ≡ cond t (piece ∷ first_run rest) (piece ∷ []) ∷ runs (cond t (behind_run rest) rest)
+run_case : (t : Bool) (piece : List ℕ) (rest : List (List ℕ)) → with_piece_in_front piece (runs rest)
+    ≡ (piece ∷ first_run rest) ∷ runs (behind_run rest) → cond t (with_piece_in_front piece (runs rest))
+    ((piece ∷ []) ∷ runs rest) ≡ cond t (piece ∷ first_run rest) (piece ∷ [])
+    ∷ runs (cond t (behind_run rest) rest)
 run_case true piece rest h = h
 run_case false piece rest h = refl
 
 runs_first : (piece : List ℕ) (rest : List (List ℕ)) → runs (piece ∷ rest) ≡ first_run (piece ∷ rest) ∷ runs (behind_run (piece ∷ rest))
 unfolding runs
 runs_first piece [] = run_case (escapes piece) piece [] refl
-runs_first piece (next ∷ rest) = run_case (escapes piece) piece (next ∷ rest) (ap (goes_on_in piece) (runs_first next rest))
+runs_first piece (next ∷ rest) = run_case (escapes piece) piece (next ∷ rest) (ap (with_piece_in_front piece) (runs_first next rest))
 
 runs_of_some : (xs : List (List ℕ)) → 0 < length xs → runs xs ≡ first_run xs ∷ runs (behind_run xs)
 runs_of_some [] lt = absurd (omega arith)

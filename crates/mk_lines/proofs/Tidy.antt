@@ -1,4 +1,4 @@
--- Paths that are seen to have the shape of one by a look at each byte.
+-- Paths that pass the fast test have the shape of a path.
 use Rattle.std.proofs.Common.{◌≡◌, ℕ, Bool, true, false, not, ◌&&◌, ◌||◌, ◌==◌, cond, List, [], ◌∷◌, ◌-◌, ◌≤◌, length, get_or, take, drop, refl, sym, ap, ◌∙◌, true≢false, arith}
 use Rattle.std.specs.List.{slice_split, onto_first, list_all}
 use Rattle.std.proofs.lemmas.Bool.{ne_eqb}

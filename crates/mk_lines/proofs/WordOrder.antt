@@ -6,21 +6,21 @@ use Rattle.std.proofs.lemmas.List.{drop_at, take_all, take-append-le, length-app
 use Rattle.mk_lines.specs.declared.spans.Span.{Span}
 use Rattle.mk_lines.specs.Bytes.{is_blank}
 use Rattle.mk_lines.specs.Words.{is_word, has_bytes, spans_from, word_spans, bytes_at}
-use Rattle.mk_lines.specs.Laws.{Rise, WordsComeInOrder}
+use Rattle.mk_lines.specs.Laws.{AreOrderedSpans, WordsComeInOrder}
 
--- spans that rise behind a place rise behind an earlier one
-rise_before : (early late : ℕ) (spans : List Span) → early ≤ late → Rise late spans → Rise early spans
-unfolding Rise
+-- spans in order after a position are in order after an earlier one
+rise_before : (early late : ℕ) (spans : List Span) → early ≤ late → AreOrderedSpans late spans → AreOrderedSpans early spans
+unfolding AreOrderedSpans
 rise_before early late [] le h = tt
 rise_before early late (span ∷ spans) le h = (omega (arith, h.0), h.1, h.2)
 
-rise_case : (t : Bool) (at n : ℕ) (rest : List Span) → ltb at (at + n) ≡ t → Rise (suc (at + n)) rest → Rise at (cond t (record { start = at; end = at + n } ∷ rest) rest)
-unfolding Rise
+rise_case : (t : Bool) (at n : ℕ) (rest : List Span) → ltb at (at + n) ≡ t → AreOrderedSpans (suc (at + n)) rest → AreOrderedSpans at (cond t (record { start = at; end = at + n } ∷ rest) rest)
+unfolding AreOrderedSpans
 rise_case true at n rest e h = (omega arith, ltb-true at (at + n) e, h)
 rise_case false at n rest e h = rise_before at (suc (at + n)) rest (omega arith) h
 
-rise_from : (at : ℕ) (parts : List (List ℕ)) → Rise at (filter has_bytes (spans_from at parts))
-unfolding Rise spans_from
+rise_from : (at : ℕ) (parts : List (List ℕ)) → AreOrderedSpans at (filter has_bytes (spans_from at parts))
+unfolding AreOrderedSpans spans_from
 rise_from at [] = tt
 rise_from at (part ∷ parts) = rise_case (ltb at (at + length part)) at (length part) (filter has_bytes (spans_from (suc (at + length part)) parts)) refl (rise_from (suc (at + length part)) parts)
 

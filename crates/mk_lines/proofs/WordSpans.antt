@@ -45,7 +45,10 @@ words_left_nil at = refl
 pub room_at : (parts : List (List ℕ)) (k : ℕ) (part : List ℕ) → (k < length parts) × (part ≡ get_or parts k part) → room (drop k parts) ≡ suc (length part) + room (drop (k + 1) parts)
 room_at parts k part h = at_drop_more room parts k part h.0 ∙ ap (λ (x : List ℕ). suc (length x) + room (drop (k + 1) parts)) (sym h.1)
 
-pub words_left_at : (at : ℕ) (parts : List (List ℕ)) (k : ℕ) (part : List ℕ) → (k < length parts) × (part ≡ get_or parts k part) → words_left at (drop k parts) ≡ cond (ltb at (at + length part)) (span_at at part ∷ words_left (at + length part + 1) (drop (k + 1) parts)) (words_left (at + length part + 1) (drop (k + 1) parts))
+pub words_left_at : (at : ℕ) (parts : List (List ℕ)) (k : ℕ) (part : List ℕ) → (k < length parts)
+    × (part ≡ get_or parts k part) → words_left at (drop k parts)
+    ≡ cond (ltb at (at + length part)) (span_at at part ∷ words_left (at + length part + 1)
+    (drop (k + 1) parts)) (words_left (at + length part + 1) (drop (k + 1) parts))
 words_left_at at parts k part h = at_drop_more (words_left at) parts k part h.0 ∙ (ap (λ (x : List ℕ). words_left at (x ∷ drop (k + 1) parts)) (sym h.1) ∙ words_left_cons at part (drop (k + 1) parts))
 
 pub words_left_end : (at : ℕ) (parts : List (List ℕ)) (k : ℕ) → length parts ≤ k → words_left at (drop k parts) ≡ []
@@ -55,7 +58,10 @@ words_left_end at parts k le = ap (words_left at) (drop_all k parts le) ∙ word
 pub words_more : (before : List Span) (at : ℕ) (parts : List (List ℕ)) (k : ℕ) (part : List ℕ) → (k < length parts) × (part ≡ get_or parts k part) → 0 < length part → (before ++ span_at at part ∷ []) ++ words_left (at + length part + 1) (drop (k + 1) parts) ≡ before ++ words_left at (drop k parts)
 words_more before at parts k part h lt =
     let longer : ltb at (at + length part) ≡ true = lt-ltb at (at + length part) (omega arith) in
-    append_assoc before (span_at at part ∷ []) (words_left (at + length part + 1) (drop (k + 1) parts)) ∙ ap (λ rest. before ++ rest) (sym (words_left_at at parts k part h ∙ ap (λ b. cond b (span_at at part ∷ words_left (at + length part + 1) (drop (k + 1) parts)) (words_left (at + length part + 1) (drop (k + 1) parts))) longer))
+    append_assoc before (span_at at part ∷ []) (words_left (at + length part + 1) (drop (k + 1) parts))
+    ∙ ap (λ rest. before ++ rest) (sym (words_left_at at parts k part h
+    ∙ ap (λ b. cond b (span_at at part ∷ words_left (at + length part + 1) (drop (k + 1) parts))
+    (words_left (at + length part + 1) (drop (k + 1) parts))) longer))
 
 pub words_skip : (before : List Span) (at : ℕ) (parts : List (List ℕ)) (k : ℕ) (part : List ℕ) → (k < length parts) × (part ≡ get_or parts k part) → length part ≡ 0 → before ++ words_left (at + length part + 1) (drop (k + 1) parts) ≡ before ++ words_left at (drop k parts)
 words_skip before at parts k part h none =

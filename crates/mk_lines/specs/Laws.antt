@@ -2,69 +2,73 @@
 use Rattle.std.specs.Prelude.{◌≡◌, ◌<◌, ◌≤◌, ◌↔◌, ℕ, suc, ◌+◌, Bool, true, false, List, [], ◌∷◌, ◌++◌, length, map, Some}
 use Rattle.std.specs.List.{slice_split, list_any, enumerate_from, Contains}
 use Rattle.mk_lines.specs.Bytes.{is_byte, is_blank_alone}
-use Rattle.mk_lines.specs.References.{first_outside, FirstOutside, is_drawn}
+use Rattle.mk_lines.specs.References.{first_outside, FirstOutside, pairs_with_dollar}
 use Rattle.mk_lines.specs.Lines.{Line, lines_of, escapes}
 use Rattle.mk_lines.specs.Words.{words, word_spans, bytes_at, IsWordAt}
 use Rattle.mk_lines.specs.Comments.{uncomment}
 use Rattle.mk_lines.specs.declared.spans.Span.{Span}
 
--- a piece as a plain line
+-- A piece with its number, as a plain line.
 abbrev pub plain : ℕ × List ℕ → Line
 plain (number, piece) = record { first = number; command = false; text = piece }
 
--- Without backslashes, tabs and pieces of blanks alone, the lines of a text are its pieces,
--- numbered from 1.
+-- In a text without backslashes, tabs and blank pieces, the logical lines are the pieces between
+-- newlines, numbered from 1.
 abbrev pub PlainTextsAreTheirPieces : Type 0
 PlainTextsAreTheirPieces =
     (text : List ℕ) → list_any (is_byte 92) text ≡ false → list_any (is_byte 9) text ≡ false
     → list_any is_blank_alone (slice_split (is_byte 10) text) ≡ false
     → lines_of text ≡ map plain (enumerate_from 1 (slice_split (is_byte 10) text))
 
--- numbers that grow strictly, each above the one before it
-unfoldable pub Grow : ℕ → List ℕ → Type 0
-Grow before [] = Unit {0}
-Grow before (n ∷ ns) = (before < n) × Grow n ns
+-- The numbers are strictly ascending, and all above `before`.
+unfoldable pub AreAscendingFrom : ℕ → List ℕ → Type 0
+AreAscendingFrom before [] = Unit {0}
+AreAscendingFrom before (n ∷ ns) = (before < n) × AreAscendingFrom n ns
 
--- The first physical lines of the lines of a text grow strictly, from 1 on.
-abbrev pub FirstLinesGrow : Type 0
-FirstLinesGrow = (text : List ℕ) → Grow 0 (map (λ line. line.first) (lines_of text))
+-- The first physical lines of a text's logical lines are strictly ascending, from 1 on.
+abbrev pub FirstLinesAscend : Type 0
+FirstLinesAscend = (text : List ℕ) → AreAscendingFrom 0 (map (λ line. line.first) (lines_of text))
 
-abbrev pub moved_on : ℕ → Line → Line
-moved_on by line = record line { first = by + line.first }
+-- The line with its number increased.
+abbrev pub renumbered : ℕ → Line → Line
+renumbered by line = record line { first = by + line.first }
 
--- Where a text ends at a newline that isn't escaped, the lines of it followed by another text are
--- its lines, then the other's, with their numbers moved on by its physical lines.
+-- Where a text ends with a newline that isn't escaped, the lines of it followed by another text are
+-- its own lines, then the other's lines, their numbers increased by the number of its physical
+-- lines.
 abbrev pub LinesOfTwoTexts : Type 0
 LinesOfTwoTexts = (front other : List ℕ) → escapes front ≡ false
     → lines_of ((front ++ 10 ∷ []) ++ other)
     ≡ lines_of (front ++ 10 ∷ []) ++
-    map (moved_on (length (slice_split (is_byte 10) front))) (lines_of other)
+    map (renumbered (length (slice_split (is_byte 10) front))) (lines_of other)
 
--- What the search outside references finds, said without a place: for bytes other than `$`, `(` and
--- `{`.
+-- Where none of the bytes `$`, `(`, `{` is wanted, `first_outside` finds k exactly where
+-- `FirstOutside` holds of k.
 abbrev pub SearchFindsFirstOutside : Type 0
 SearchFindsFirstOutside =
-    (wanted : ℕ → Bool) → ((b : ℕ) → is_drawn b ≡ true → wanted b ≡ false) → (text : List ℕ) →
+    (wanted : ℕ → Bool) → ((b : ℕ) → pairs_with_dollar b ≡ true → wanted b ≡ false) →
+    (text : List ℕ) →
     (k : ℕ)
     → (first_outside wanted text ≡ Some k) ↔ FirstOutside wanted text k
 
--- A span is among the words exactly where it is a longest part without blanks.
+-- A span is among the words exactly where it is a maximal part without blanks.
 abbrev pub WordsAreLongestParts : Type 0
 WordsAreLongestParts =
     (text : List ℕ) → (span : Span) → Contains (word_spans text) span ↔ IsWordAt text span
 
--- spans from left to right, each behind the end of the one before it
-unfoldable pub Rise : ℕ → List Span → Type 0
-Rise before [] = Unit {0}
-Rise before (span ∷ spans) =
-    (before ≤ span.start) × (span.start < span.end) × Rise (suc span.end) spans
+-- No span is empty, and they come from left to right with at least one byte between each two, the
+-- first at `before` or later.
+unfoldable pub AreOrderedSpans : ℕ → List Span → Type 0
+AreOrderedSpans before [] = Unit {0}
+AreOrderedSpans before (span ∷ spans) =
+    (before ≤ span.start) × (span.start < span.end) × AreOrderedSpans (suc span.end) spans
 
--- The words come in order and don't overlap, and what stands there are the words.
+-- The words come from left to right and don't overlap, and the bytes of their spans are the words.
 abbrev pub WordsComeInOrder : Type 0
 WordsComeInOrder =
-    (text : List ℕ) → Rise 0 (word_spans text) ×
+    (text : List ℕ) → AreOrderedSpans 0 (word_spans text) ×
     (map (bytes_at text) (word_spans text) ≡ words text)
 
--- A plain line without `#` has no comment to lose.
+-- A plain line without `#` is unchanged by `uncomment`.
 abbrev pub NothingToUncomment : Type 0
 NothingToUncomment = (text : List ℕ) → list_any (is_byte 35) text ≡ false → uncomment text ≡ text

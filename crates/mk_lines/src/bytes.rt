@@ -1,4 +1,4 @@
-//! Parts of a text between separators, and blanks.
+//! Splitting a text at a separator, and blanks.
 
 ghost use Rattle.std.specs.Prelude.{◌≡◌, ◌∷◌, ◌<◌, ◌++◌, false, length, drop, IfSome, MatchOption};
 ghost use Rattle.std.specs.Option.{option_map};
@@ -7,7 +7,7 @@ ghost use Rattle.mk_lines.specs.Bytes.{is_byte, is_blank, is_blank_alone, trimme
 
 use bstr::ByteSlice;
 
-/// The part up to the first separator, and what follows that separator.
+/// The part before the first separator, and what follows the separator: `None` where there is none.
 pub fn cut(text: &[u8], separator: u8) -> (&[u8], Option<&[u8]>)
     ensures shorter { IfSome result.1 (λ rest. length rest.now < length text.now) }
     ensures whole { MatchOption result.1 (result.0.now ≡ text.now) (λ rest. text.now ≡
@@ -22,22 +22,22 @@ pub fn cut(text: &[u8], separator: u8) -> (&[u8], Option<&[u8]>)
     }
 }
 
-/// Whether a byte is a blank, a space or a tab (the standard's `make`, "Makefile Syntax").
+/// Whether a byte is a blank: a space or a tab (the standard's `make`, "Makefile Syntax").
 pub fn is_blank(byte: u8) -> bool
     ensures { result ≡ is_blank byte }
 {
     byte == b' ' || byte == b'\t'
 }
 
-/// Whether a text has nothing but spaces and tabs.
+/// Whether a text is empty or holds only blanks.
 pub fn is_blank_alone(text: &[u8]) -> bool
     ensures { result ≡ is_blank_alone text.now }
 {
     text.iter().all(|b| is_blank(*b))
 }
 
-/// The text behind the blanks that lead it, all of it that is left: the standard's `make`,
-/// "Makefile Syntax" and "Macros", drops them there.
+/// The text without its leading blanks, which the standard's `make` drops ("Makefile Syntax" and
+/// "Macros").
 pub fn trimmed(text: &[u8]) -> &[u8]
     ensures { result.now ≡ trimmed text.now }
 {

@@ -1,19 +1,19 @@
-//! Comments of plain lines.
+//! Removes comments from plain lines. A plain line is one that doesn't begin with a tab.
 
 ghost use Rattle.std.specs.Prelude.{◌≡◌, ◌<◌, ◌≤◌, ◌++◌, length, true, false, IfOk, IfSome};
 ghost use Rattle.std.specs.Cow.{cow_slice_items};
 ghost use Rattle.mk_lines.specs.Borrowed.{is_borrowed};
-ghost use Rattle.mk_lines.specs.Comments.{begins_with_hash, spared_at, comment_at, unescaped, has_escaped_hash, before_comment, uncomment};
+ghost use Rattle.mk_lines.specs.Comments.{begins_with_hash, unchanged_from, comment_at, unescaped, has_escaped_hash, before_comment, uncomment};
 
 use crate::references::first_outside;
 use crate::rule_lines::is_rule_line;
 use std::alloc::{AllocError, Global};
 use std::borrow::CowSlice;
 
-/// Where the part of a plain line begins that stays as it is: at the first `;` outside references
-/// of a rule line, else at its end.
-fn spared_at(alloc: Global, text: &[u8]) -> Result<usize, AllocError>
-    ensures exact { IfOk result (λ at. at ≡ spared_at text.now) }
+/// Where the part of a plain line begins that `uncomment` leaves unchanged: at the first `;`
+/// outside references on a rule line, else at the end of the line.
+fn unchanged_from(alloc: Global, text: &[u8]) -> Result<usize, AllocError>
+    ensures exact { IfOk result (λ at. at ≡ unchanged_from text.now) }
     ensures within { IfOk result (λ at. at ≤ length text.now) }
 {
     if !is_rule_line(alloc, text)? {
@@ -22,7 +22,7 @@ fn spared_at(alloc: Global, text: &[u8]) -> Result<usize, AllocError>
     Ok(first_outside(alloc, b";", text)?.unwrap_or(text.len()))
 }
 
-/// Where the first `#` stands that isn't directly behind a backslash.
+/// The position of the first `#` that doesn't directly follow a backslash.
 fn comment_at(text: &[u8]) -> Option<usize>
     ensures exact { result ≡ comment_at text.now }
     ensures within { IfSome result (λ at. at < length text.now) }
@@ -37,14 +37,13 @@ fn comment_at(text: &[u8]) -> Option<usize>
     None
 }
 
-/// Whether a text begins with `#`.
 fn begins_with_hash(text: &[u8]) -> bool
     ensures { result ≡ begins_with_hash text.now }
 {
     matches!(text, [b'#', ..])
 }
 
-/// Whether a text holds `\#`.
+/// Whether a text contains `\#`.
 fn has_escaped_hash(text: &[u8]) -> bool
     ensures { result ≡ has_escaped_hash text.now }
 {
@@ -58,7 +57,7 @@ fn has_escaped_hash(text: &[u8]) -> bool
     false
 }
 
-/// Adds a text with `#` for each `\#`.
+/// Appends a text, with each `\#` replaced by `#`.
 fn push_unescaped(into: &mut Vec<u8>, text: &[u8]) -> Result<(), AllocError>
     ensures { IfOk result (λ _. into.new.items ≡ into.old.items ++ unescaped text.now) }
 {
@@ -72,23 +71,22 @@ fn push_unescaped(into: &mut Vec<u8>, text: &[u8]) -> Result<(), AllocError>
     Ok(())
 }
 
-/// A plain line without its comment, and with `#` for each `\#` before it.
+/// A plain line without its comment, and with each `\#` before the comment replaced by `#`.
 ///
-/// A comment begins at the first `#` that isn't directly behind a backslash and goes to the end of
-/// the line. On a rule line no comment begins behind the first `;` outside references, and the text
-/// from there on stays as it is (the standard's `make`, "Makefile Syntax"). Blanks that lead the
-/// line stay. The answer is a slice of the text where no `\#` was changed. The error is want of
-/// memory alone.
+/// A comment begins at the first `#` that doesn't directly follow a backslash, and goes to the end
+/// of the line. On a rule line the text from the first `;` outside references on has no comments
+/// and stays unchanged (the standard's `make`, "Makefile Syntax"). Leading blanks stay. Where no
+/// `\#` was replaced, the result borrows from the text. The only error is out of memory.
 pub fn uncomment<'a>(alloc: Global, text: &'a [u8]) -> Result<CowSlice<'a, u8>, AllocError>
     ensures exact { IfOk result (λ line. cow_slice_items line ≡ uncomment text.now) }
     ensures lends { IfOk result (λ line. has_escaped_hash (before_comment text.now) ≡ false →
         is_borrowed line ≡ true) }
 {
-    // Most lines need no look at their references.
+    // Most lines hold no `#`, so their references needn't be parsed.
     if !text.contains(&b'#') {
         return Ok(CowSlice::Borrowed(text));
     }
-    let (read, spared) = text.split_at(spared_at(alloc, text)?);
+    let (read, spared) = text.split_at(unchanged_from(alloc, text)?);
     let comment = comment_at(read);
     let kept = &read[..comment.unwrap_or(read.len())];
     if !has_escaped_hash(kept) {

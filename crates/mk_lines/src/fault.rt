@@ -1,4 +1,4 @@
-//! Why a text has no lines.
+//! Why a text can't be split into logical lines.
 
 ghost use Rattle.std.specs.Prelude.{◌≡◌};
 ghost use Rattle.mk_lines.specs.declared.fault.LineFault.TheVariants.{Memory};
@@ -6,21 +6,21 @@ ghost use Rattle.mk_lines.specs.declared.fault.LineFault.TheVariants.{Memory};
 use std::alloc::{AllocError, AllocFailed};
 use thiserror::Error;
 
-/// Why a text has no lines: the lowest fault of its first faulty line, whose first physical line,
-/// counted from 1, is told.
+/// Why a text can't be split into logical lines: the fault with the lowest number of the first
+/// faulty line. Each carries the number of the line's first physical line, counted from 1.
 #[derive(Debug, Drop, Error)]
 pub enum LineFault {
-    /// The line holds byte 0 (fault 1).
+    /// `NulByte` (1): the line holds byte 0.
     #[error("line {0} holds byte 0")]
     NulByte(usize),
-    /// The line is over 65,536 bytes (fault 2).
+    /// `LineTooLong` (2): the line is longer than 65,536 bytes.
     #[error("line {0} is over 65,536 bytes")]
     LineTooLong(usize),
-    /// The line is the 65,537th that isn't of blanks alone (fault 3).
-    #[error("line {0} is one too many")]
+    /// `TooManyLines` (3): the line is the 65,537th that isn't blank.
+    #[error("line {0} is one line too many")]
     TooManyLines(usize),
-    /// A growth was refused, which may come in place of any answer.
-    #[error("memory ran out")]
+    /// Out of memory. It can come in place of any result.
+    #[error("out of memory")]
     Memory,
 }
 

@@ -1,7 +1,8 @@
-//! The lowest layer of reading: logical lines, comments, words, plain paths, what stands outside
-//! references, and names that are looked up.
+//! The lowest layer of the parser: logical lines, comments, words, plain paths, bytes outside
+//! references, and tables of names.
 #![tactic(auto)]
 
+mod borrowed_names;
 mod bytes;
 mod comments;
 mod fault;
@@ -10,7 +11,6 @@ pub mod laws;
 mod lines;
 mod name;
 mod name_places;
-mod name_set;
 mod name_table;
 mod paths;
 mod prefixes;
@@ -19,13 +19,13 @@ mod rule_lines;
 mod runs;
 mod spans;
 
+pub use borrowed_names::{BorrowedNames, borrowed_set_of};
 pub use bytes::{is_blank, trimmed};
 pub use comments::uncomment;
 pub use fault::LineFault;
 pub use lines::{Line, logical_lines};
 pub use name::{Name, Names};
 pub use name_places::NamePlaces;
-pub use name_set::{NameSet, names_among};
 pub use name_table::NameTable;
 pub use paths::{is_plain_path, is_plain_text_path};
 pub use prefixes::Prefixes;

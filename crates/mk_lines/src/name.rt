@@ -1,4 +1,4 @@
-//! Names and lists of names, which contracts see as lists.
+//! Names, and lists of names.
 
 ghost use Rattle.std.specs.Prelude.{◌≡◌, IfOk, map};
 ghost use Rattle.std.specs.String.{string_bytes};
@@ -7,7 +7,7 @@ use std::alloc::{AllocError, Global};
 use std::fmt;
 use std::marker::Model;
 
-/// The name of a target, a file or a place. A contract sees its bytes.
+/// The name of a target, a file or a folder, seen by contracts as its bytes.
 #[derive(Debug, Drop)]
 pub struct Name {
     text: String,
@@ -23,7 +23,7 @@ impl Model for Name {
 }
 
 impl Name {
-    /// A name with a copy of the text. The error is want of memory alone.
+    /// A name with a copy of the text. The only error is out of memory.
     pub fn new(alloc: Global, text: &str) -> Result<Name, AllocError>
         ensures { IfOk result (λ name. name ≡ text.now) }
     {
@@ -32,14 +32,14 @@ impl Name {
         })
     }
 
-    /// The name that the text spells.
+    /// The name with this text, without a copy.
     pub fn from_string(text: String) -> Name
         ensures { result ≡ string_bytes text }
     {
         Name { text }
     }
 
-    /// The text that the name spells, without a copy.
+    /// The text of the name, without a copy.
     pub fn into_string(self) -> String
         ensures { string_bytes result ≡ self }
     {
@@ -47,7 +47,7 @@ impl Name {
         text
     }
 
-    /// The name as text.
+    /// The text of the name.
     pub fn as_str(&self) -> &str
         ensures { result.now ≡ self.now }
     {
@@ -75,7 +75,7 @@ impl Clone for Name {
     }
 }
 
-/// Names in their order. A contract sees a list of lists of bytes.
+/// A list of names, seen by contracts as a list of lists of bytes.
 #[derive(Debug, Drop)]
 pub struct Names {
     names: Vec<Name>,
@@ -90,14 +90,14 @@ impl Model for Names {
 }
 
 impl Names {
-    /// The names of a list, in its order.
+    /// The list of these names, in the same order.
     pub fn new(names: Vec<Name>) -> Names
         ensures { result ≡ names.items }
     {
         Names { names }
     }
 
-    /// The list of the names, without a copy.
+    /// The names as a vector, without a copy.
     pub fn into_vec(self) -> Vec<Name>
         ensures { result.items ≡ self }
     {

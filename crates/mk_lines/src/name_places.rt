@@ -1,4 +1,4 @@
-//! Places of names.
+//! Maps from names to places in a list.
 
 ghost use Rattle.std.specs.Prelude.{◌≡◌, ℕ, List, [], is_some, IfOk, OnOk};
 ghost use Rattle.std.specs.HashMap.{get_by_text};
@@ -10,8 +10,8 @@ use indexmap::IndexMap;
 use std::alloc::{AllocError, Global};
 use std::marker::Model;
 
-/// The place at which each name of a list first stands. The list itself isn't kept. A contract sees
-/// names with their places.
+/// A map from each name of a list to the index where it first stands. It doesn't keep the list. A
+/// contract sees a list of pairs of name and index.
 #[derive(Drop)]
 pub struct NamePlaces {
     places: IndexMap<String, usize>,
@@ -27,7 +27,7 @@ impl Model for NamePlaces {
 }
 
 impl NamePlaces {
-    /// No places, with room for those of so many names. The error is want of memory alone.
+    /// An empty map with room for `count` names. The only error is out of memory.
     pub fn with_capacity(alloc: Global, count: usize) -> Result<NamePlaces, AllocError>
         ensures { IfOk result (λ places. places ≡ []) }
     {
@@ -36,7 +36,8 @@ impl NamePlaces {
         })
     }
 
-    /// Notes the place of a name, unless it has one. The error is want of memory alone.
+    /// Records the place of a name, unless the name already has one. The only error is out of
+    /// memory.
     pub fn note(&mut self, alloc: Global, name: &str, place: usize) -> Result<(), AllocError>
         ensures { OnOk result ((other : List ℕ) →
             place_in self.new other ≡
@@ -46,14 +47,14 @@ impl NamePlaces {
         Ok(())
     }
 
-    /// The place of a name. It takes no memory.
+    /// The place of a name, or `None` where it has none. Allocates nothing.
     pub fn place(&self, name: &str) -> Option<usize>
         ensures { result ≡ place_in self.now name.now }
     {
         self.places.get(name).copied()
     }
 
-    /// Whether a name has a place. It takes no memory.
+    /// Whether a name has a place. Allocates nothing.
     pub fn contains(&self, name: &str) -> bool
         ensures { result ≡ is_some (place_in self.now name.now) }
     {
@@ -61,7 +62,6 @@ impl NamePlaces {
     }
 }
 
-/// Notes the place of a name, unless it has one.
 fn note_place(
     alloc: Global,
     places: &mut IndexMap<String, usize>,

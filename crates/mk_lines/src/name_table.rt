@@ -1,4 +1,4 @@
-//! Names that are looked up.
+//! Tables of names.
 
 ghost use Rattle.std.specs.Prelude.{◌≡◌, ◌<◌, ℕ, List, true, false, length, map, IfOk, IfSome, MatchOption};
 ghost use Rattle.std.specs.String.{string_bytes};
@@ -10,7 +10,7 @@ use std::alloc::{AllocError, Global};
 use std::marker::Model;
 use std::str;
 
-/// Names in their order, which are looked up. A contract sees a list of names.
+/// A list of names with an index for lookups, seen by contracts as the list of names.
 #[derive(Drop)]
 pub struct NameTable {
     names: Vec<String>,
@@ -32,7 +32,7 @@ impl Model for NameTable {
 }
 
 impl NameTable {
-    /// The table of these names. The error is want of memory alone.
+    /// The table of these names, in the same order. The only error is out of memory.
     pub fn new(alloc: Global, names: Vec<String>) -> Result<NameTable, AllocError>
         ensures { IfOk result (λ table. table ≡ map string_bytes names.items) }
     {
@@ -40,7 +40,7 @@ impl NameTable {
         Ok(NameTable { names, places })
     }
 
-    /// The place at which a name first stands.
+    /// The index where a name first stands, or `None` where the table lacks it. Allocates nothing.
     pub fn place(&self, name: &str) -> Option<usize>
         ensures place { result ≡ place_from 0 self.now name.now }
         ensures within { IfSome result (λ place. place < length self.now) }
@@ -48,7 +48,7 @@ impl NameTable {
         self.places.place(name)
     }
 
-    /// The name itself, where it is there.
+    /// The table's own copy of the name, or `None` where the table lacks it. Allocates nothing.
     pub fn get(&self, name: &str) -> Option<&str>
         ensures { MatchOption result (has_name self.now name.now ≡
             false) (λ found. (found.now ≡ name.now) × (has_name self.now name.now ≡ true)) }
@@ -59,14 +59,14 @@ impl NameTable {
         }
     }
 
-    /// Whether a name is there.
+    /// Whether the table has the name. Allocates nothing.
     pub fn contains(&self, name: &str) -> bool
         ensures { result ≡ has_name self.now name.now }
     {
         self.places.contains(name)
     }
 
-    /// Whether these bytes are those of a name that is there.
+    /// Whether the table has the name with these bytes. Allocates nothing.
     pub fn contains_bytes(&self, bytes: &[u8]) -> bool
         ensures { result ≡ has_name self.now bytes.now }
     {
@@ -77,7 +77,7 @@ impl NameTable {
         }
     }
 
-    /// The names in their order.
+    /// The names, in order.
     pub fn as_slice(&self) -> &[String]
         ensures { map string_bytes result.now ≡ self.now }
     {
@@ -85,7 +85,7 @@ impl NameTable {
     }
 }
 
-/// The place at which each name first stands.
+/// The index where each name first stands.
 fn places_of(alloc: Global, names: &[String]) -> Result<NamePlaces, AllocError>
     ensures { IfOk result (λ places. (q : List ℕ) →
         place_in places q ≡ place_from 0 (map string_bytes names.now) q) }

@@ -1,4 +1,4 @@
-//! Plain paths.
+//! Plain paths: the only spelling of a path that mkcheck accepts, so that a file has one name.
 
 ghost use Rattle.std.specs.Prelude.{◌≡◌, true};
 ghost use Rattle.std.specs.List.{slice_split, list_all};
@@ -9,17 +9,17 @@ ghost use Rattle.mk_lines.specs.Paths.{is_proper, goes_up_first, are_components,
 use crate::bytes::cut;
 use std::str;
 
-/// The longest path, in bytes.
+/// The most bytes of a path.
 const MAX_PATH: usize = 4096;
 
-/// Whether a component is none of the empty one, `.` and `..`.
+/// Whether a component is neither empty nor `.` nor `..`.
 fn is_proper(part: &[u8]) -> bool
     ensures { result ≡ is_proper part.now }
 {
     !part.is_empty() && part != b".".as_slice() && part != b"..".as_slice()
 }
 
-/// Whether each component is none of these.
+/// Whether each component between slashes is proper.
 fn are_proper(name: &[u8]) -> bool
     ensures { result ≡ list_all is_proper (slice_split (is_byte 47) name.now) }
 {
@@ -34,7 +34,7 @@ fn are_proper(name: &[u8]) -> bool
     true
 }
 
-/// Whether components are proper, behind nothing but `..`.
+/// Whether the components are any number of `..`, then proper ones only.
 fn goes_up_first(name: &[u8]) -> bool
     ensures { result ≡ goes_up_first (slice_split (is_byte 47) name.now) }
 {
@@ -49,8 +49,8 @@ fn goes_up_first(name: &[u8]) -> bool
     }
 }
 
-/// Whether the components of a path are proper, with an empty one before a leading slash alone and
-/// `..` at the front of a relative path alone.
+/// Whether each component is proper, but for an empty one before a leading slash, or `..` at the
+/// start of a relative path.
 fn are_components(name: &[u8]) -> bool
     ensures { result ≡ are_components (slice_split (is_byte 47) name.now) }
 {
@@ -61,17 +61,17 @@ fn are_components(name: &[u8]) -> bool
     }
 }
 
-/// Whether a name holds no spaces and no control bytes.
+/// Whether a name holds no space and no control byte.
 fn is_visible_throughout(name: &[u8]) -> bool
     ensures { result ≡ list_all is_visible name.now }
 {
     name.iter().all(|b| *b > b' ' && *b != 127)
 }
 
-/// Whether a name has the shape of a path at a glance, by one look at each byte: visible bytes, no
-/// dot before all, no slash behind all, and neither slash nor dot behind a slash. Most paths have
-/// it.
-fn is_tidy(name: &[u8]) -> bool
+/// A fast test that most paths pass, with one look at each byte: all bytes are visible, the first
+/// byte is no dot, the last byte is no slash, and no slash is followed by a slash or a dot. A name
+/// that passes has the shape of a path; one that fails may have it too.
+fn passes_fast_test(name: &[u8]) -> bool
     ensures visible { result ≡ true → list_all is_visible name.now ≡ true }
     ensures components { result ≡ true → are_components (slice_split (is_byte 47) name.now) ≡ true }
 {
@@ -89,21 +89,20 @@ fn is_tidy(name: &[u8]) -> bool
     tidy && before != b'/'
 }
 
-/// Whether a name is of 1 to 4,096 bytes without spaces and control bytes, and without a second
-/// spelling of one place.
+/// Whether a name is 1 to 4,096 bytes without spaces and control bytes, and has only components
+/// that a plain path may have.
 fn has_path_shape(name: &[u8]) -> bool
     ensures { result ≡ has_path_shape name.now }
 {
     if name.is_empty() || name.len() > MAX_PATH {
         return false;
     }
-    is_tidy(name) || (is_visible_throughout(name) && are_components(name))
+    passes_fast_test(name) || (is_visible_throughout(name) && are_components(name))
 }
 
-/// Whether bytes are a plain path: UTF-8 of 1 to 4,096 bytes without spaces and control bytes, in
-/// which no component is empty save a first one before a leading slash, none is `.`, and `..`
-/// stands only at the front of a relative path, after nothing but `..`. So a file has no second
-/// spelling.
+/// Whether bytes are a plain path: UTF-8, 1 to 4,096 bytes, without spaces and control bytes. No
+/// component is empty except before a leading slash, none is `.`, and `..` comes only at the start
+/// of a relative path, after nothing but `..`. So a file has no second spelling, links aside.
 #[tactic(auto, unfolding(crate::specs::Paths::is_plain_path))]
 pub fn is_plain_path(name: &[u8]) -> bool
     ensures { result ≡ is_plain_path name.now }
@@ -111,8 +110,8 @@ pub fn is_plain_path(name: &[u8]) -> bool
     has_path_shape(name) && str::from_utf8(name).is_ok()
 }
 
-/// Whether a text is a plain path. It answers as `is_plain_path` of the text's bytes, which need
-/// not be looked at again to be UTF-8.
+/// Whether a text is a plain path. It is `is_plain_path` of the text's bytes, without checking
+/// again that they are UTF-8.
 #[tactic(auto, unfolding(crate::specs::Paths::is_plain_path))]
 pub fn is_plain_text_path(name: &str) -> bool
     ensures { result ≡ is_plain_path name.now }

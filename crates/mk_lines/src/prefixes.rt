@@ -1,17 +1,17 @@
-//! Prefixes of names, which are looked up.
+//! Sets of prefixes.
 
 ghost use Rattle.std.specs.Prelude.{◌≡◌, ℕ, List, true, ◌&&◌, length, take, map, nat_eq, nat_le, IfOk};
 ghost use Rattle.std.specs.List.{list_any};
 ghost use Rattle.std.specs.String.{string_bytes};
 ghost use Rattle.indexmap.specs.IndexSet.{contains};
-ghost use Rattle.mk_lines.specs.Names.{has_name, is_under};
+ghost use Rattle.mk_lines.specs.Names.{has_name, begins_with_any};
 
 use crate::name_table::NameTable;
 use indexmap::IndexSet;
 use std::alloc::{AllocError, Global};
 use std::marker::Model;
 
-/// Prefixes of names, which are looked up by their lengths. A contract sees a list of prefixes.
+/// A set of prefixes, looked up by the lengths that occur, seen by contracts as a list of names.
 #[derive(Drop)]
 pub struct Prefixes {
     table: NameTable,
@@ -31,7 +31,7 @@ impl Model for Prefixes {
         contains nat_eq p.lengths (length prefix) ≡ true };
 }
 
-/// The lengths of names, each once.
+/// The set of the names' lengths.
 fn lengths_of(alloc: Global, names: &[String]) -> Result<IndexSet<usize>, AllocError>
     ensures { IfOk result (λ lengths. (name : List ℕ) →
         has_name (map string_bytes names.now) name ≡ true →
@@ -44,8 +44,8 @@ fn lengths_of(alloc: Global, names: &[String]) -> Result<IndexSet<usize>, AllocE
     Ok(lengths)
 }
 
-/// Whether a front of one of these lengths stands in the table.
-fn has_front(table: &NameTable, lengths: &[usize], name: &[u8]) -> bool
+/// Whether the table has a prefix of the name with one of these lengths.
+fn has_prefix_of_length(table: &NameTable, lengths: &[usize], name: &[u8]) -> bool
     ensures { result ≡
         list_any (λ n. nat_le n (length name.now) &&
         has_name table.now (take n name.now)) lengths.now }
@@ -59,7 +59,7 @@ fn has_front(table: &NameTable, lengths: &[usize], name: &[u8]) -> bool
 }
 
 impl Prefixes {
-    /// The table of these prefixes. The error is want of memory alone.
+    /// The set of these prefixes. The only error is out of memory.
     pub fn new(alloc: Global, prefixes: Vec<String>) -> Result<Prefixes, AllocError>
         ensures { IfOk result (λ made. made ≡ map string_bytes prefixes.items) }
     {
@@ -70,11 +70,11 @@ impl Prefixes {
         })
     }
 
-    /// Whether a name begins with one of the prefixes. It takes a look-up for each of their
-    /// lengths, and no memory.
-    pub fn is_under(&self, name: &str) -> bool
-        ensures { result ≡ is_under self.now name.now }
+    /// Whether a name begins with one of the prefixes. It takes one lookup for each length that
+    /// occurs, and allocates nothing.
+    pub fn begins_with_any(&self, name: &str) -> bool
+        ensures { result ≡ begins_with_any self.now name.now }
     {
-        has_front(&self.table, self.lengths.as_slice(), name.as_bytes())
+        has_prefix_of_length(&self.table, self.lengths.as_slice(), name.as_bytes())
     }
 }

@@ -1,32 +1,32 @@
-//! What stands outside references: `$(..)` and `${..}`.
+//! Finds bytes outside references, `$(..)` and `${..}`.
 
 ghost use Rattle.std.specs.Prelude.{◌≡◌, ◌<◌, ◌==◌, length, IfOk, IfSome};
 ghost use Rattle.mk_lines.specs.References.{closed, next_place, first_outside, is_one_of};
-ghost use Rattle.mk_lines.specs.Views.{place_view};
+ghost use Rattle.mk_lines.specs.Views.{reference_state_view};
 
 use bstr::ByteSlice;
 use std::alloc::{AllocError, Global};
 
-/// A place between the bytes of a text.
+/// The state of the search between two bytes.
 #[derive(Drop)]
-struct Place {
-    /// The closing bytes of the references that are open there, the innermost last.
+struct ReferenceState {
+    /// The closing bytes of the open references, the innermost last.
     ends: Vec<u8>,
-    /// Whether a `$` stands just before it that isn't the second of `$$`.
+    /// Whether a `$` directly precedes that isn't the second of a `$$`.
     dollar: bool,
 }
 
-impl Place {
-    /// Whether no reference is open.
+impl ReferenceState {
     fn is_outside(&self) -> bool
-        ensures { result ≡ (length (place_view self.now).ends == 0) }
+        ensures { result ≡ (length (reference_state_view self.now).ends == 0) }
     {
         self.ends.is_empty()
     }
 
-    /// Goes over a byte.
+    /// Moves the state past a byte. The only error is out of memory.
     fn pass(&mut self, byte: u8) -> Result<(), AllocError>
-        ensures { IfOk result (λ _. place_view self.new ≡ next_place (place_view self.old) byte) }
+        ensures { IfOk result
+            (λ _. reference_state_view self.new ≡ next_place (reference_state_view self.old) byte) }
     {
         let after_dollar = self.dollar;
         self.dollar = false;
@@ -39,9 +39,10 @@ impl Place {
         Ok(())
     }
 
-    /// Ends the innermost reference where this is its closing byte.
+    /// Closes the innermost reference, if the byte is its closing byte.
     fn close(&mut self, byte: u8)
-        ensures ends { (place_view self.new).ends ≡ closed (place_view self.old).ends byte }
+        ensures ends { (reference_state_view self.new).ends ≡
+            closed (reference_state_view self.old).ends byte }
         ensures dollar { self.new.dollar ≡ self.old.dollar }
     {
         if self.ends.last() == Some(&byte) {
@@ -50,12 +51,12 @@ impl Place {
     }
 }
 
-/// Where the first of the wanted bytes stands that is outside references, counted in bytes from 0.
+/// The position, in bytes from 0, of the first wanted byte outside references.
 ///
 /// A reference is `$(` up to the first `)` outside an inner reference, or `${` up to the first `}`
-/// outside one; one without an end reaches to the end of the text. `$$` is passed over as two
-/// bytes, and any other `$` is one byte (the standard's macros: `make`, "Macros"). The error is
-/// want of memory alone.
+/// outside one. A reference that isn't closed goes to the end of the text. `$$` is two bytes
+/// outside references, and any other `$` is one byte (the standard's `make`, "Macros"). The only
+/// error is out of memory.
 pub fn first_outside(alloc: Global, wanted: &[u8], text: &[u8]) -> Result<Option<usize>, AllocError>
     ensures exact { IfOk result (λ at. at ≡ first_outside (is_one_of wanted.now) text.now) }
     ensures within { IfOk result (λ at. IfSome at (λ k. k < length text.now)) }
@@ -64,7 +65,7 @@ pub fn first_outside(alloc: Global, wanted: &[u8], text: &[u8]) -> Result<Option
     if !text.contains(&b'$') {
         return Ok(text.find_byteset(wanted));
     }
-    let mut place = Place {
+    let mut place = ReferenceState {
         ends: Vec::new(alloc),
         dollar: false,
     };

@@ -1,4 +1,4 @@
-//! Which plain lines are rule lines.
+//! Recognizes rule lines and include lines.
 
 ghost use Rattle.std.specs.Prelude.{◌≡◌, position, IfOk};
 ghost use Rattle.mk_lines.specs.Bytes.{is_blank};
@@ -8,14 +8,14 @@ use crate::bytes::{is_blank, trimmed};
 use crate::references::first_outside;
 use std::alloc::{AllocError, Global};
 
-/// Where the first blank stands.
+/// The position of the first blank.
 fn blank_at(text: &[u8]) -> Option<usize>
     ensures { result ≡ position is_blank text.now }
 {
     text.iter().position(|b| is_blank(*b))
 }
 
-/// The bytes before the first blank, behind the blanks that lead the text.
+/// The first word of a text: what stands before the first blank, leading blanks dropped.
 fn first_word(text: &[u8]) -> &[u8]
     ensures { result.now ≡ first_word text.now }
 {
@@ -26,7 +26,7 @@ fn first_word(text: &[u8]) -> &[u8]
     }
 }
 
-/// Whether the first word of a plain line is `include` or `-include`.
+/// Whether a plain line is an include line: its first word is `include` or `-include`.
 pub fn is_include(text: &[u8]) -> bool
     ensures { result ≡ is_include text.now }
 {
@@ -34,7 +34,7 @@ pub fn is_include(text: &[u8]) -> bool
     word == b"include".as_slice() || word == b"-include".as_slice()
 }
 
-/// Whether a text begins with a colon that has neither `:` nor `=` behind it.
+/// Whether a text begins with a colon that neither `:` nor `=` follows.
 fn begins_with_rule_colon(text: &[u8]) -> bool
     ensures { result ≡ begins_with_rule_colon text.now }
 {
@@ -46,8 +46,8 @@ fn begins_with_rule_colon(text: &[u8]) -> bool
 }
 
 /// Whether a plain line is a rule line: it is no include line, and the first of `=`, `:`, `;`
-/// outside references is a colon with neither `:` nor `=` behind it (the standard's `make`, "Target
-/// Rules"). The error is want of memory alone.
+/// outside references is a colon that neither `:` nor `=` follows (the standard's `make`, "Target
+/// Rules"). The only error is out of memory.
 #[tactic(auto, unfolding(crate::specs::RuleLines::is_rule_line))]
 pub fn is_rule_line(alloc: Global, text: &[u8]) -> Result<bool, AllocError>
     ensures { IfOk result (λ is_rule. is_rule ≡ is_rule_line text.now) }

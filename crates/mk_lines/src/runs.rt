@@ -1,4 +1,4 @@
-//! Physical lines that escaped newlines join.
+//! Splits a text into runs: physical lines (pieces) that escaped newlines join.
 
 ghost use Rattle.std.specs.Prelude.{◌≡◌, ◌∷◌, ◌≤◌, ◌+◌, length, MatchOption};
 ghost use Rattle.std.specs.Option.{option_map};
@@ -8,23 +8,22 @@ ghost use Rattle.mk_lines.specs.Lines.{backslashes, escapes, runs};
 
 use crate::bytes::cut;
 
-/// How many backslashes stand at the end of a piece.
+/// How many backslashes end a piece.
 fn backslashes(piece: &[u8]) -> usize
     ensures { result ≡ backslashes piece.now }
 {
     piece.iter().rev().take_while(|b| **b == b'\\').count()
 }
 
-/// Whether a newline behind a piece is escaped: an odd number of backslashes stands directly before
-/// it.
+/// Whether the newline after a piece is escaped: an odd number of backslashes ends the piece.
 fn escapes(piece: &[u8]) -> bool
     ensures { result ≡ escapes piece.now }
 {
     backslashes(piece) % 2 == 1
 }
 
-/// The first run of pieces between newlines, in which each newline is escaped; the text behind it
-/// and its newline; and how many pieces it has.
+/// The first run of a text; what follows the newline at its end, or `None` at the end of the text;
+/// and how many pieces the run has.
 pub fn take_run(text: &[u8]) -> (&[u8], Option<&[u8]>, usize)
     ensures first { runs (slice_split (is_byte 10) text.now) ≡
         slice_split (is_byte 10) result.0.now ∷

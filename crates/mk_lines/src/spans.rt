@@ -6,18 +6,18 @@ ghost use Rattle.mk_lines.specs.Words.{word_spans};
 use crate::bytes::is_blank;
 use std::alloc::{AllocError, Global};
 
-/// A part of a text: the bytes from `start` up to, and without, `end`.
+/// A part of a text: the bytes from `start` to `end`, without `end`.
 #[derive(Debug, Clone, Copy, PartialEq, Eq)]
 pub struct Span {
-    /// The first byte of the part, counted from 0.
+    /// The index of its first byte.
     pub start: usize,
-    /// The byte behind its last one.
+    /// The index after its last byte.
     pub end: usize,
 }
 
-/// Where the words of a text stand: its longest parts without spaces and tabs, from left to right.
-/// They aren't empty and don't overlap (the standard's `make`, "Target Rules"). The error is want
-/// of memory alone.
+/// The spans of the words of a text, from left to right: its maximal parts without blanks. They
+/// aren't empty and don't overlap (the standard's `make`, "Target Rules"). The only error is out of
+/// memory.
 pub fn words(alloc: Global, text: &[u8]) -> Result<Vec<Span>, AllocError>
     ensures exact { IfOk result (λ spans. spans.items ≡ word_spans text.now) }
 {

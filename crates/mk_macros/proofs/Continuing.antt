@@ -1,4 +1,4 @@
--- A text that is expanded form by form into a buffer.
+-- A text that is expanded into a buffer, form by form.
 use Rattle.std.proofs.Common.{◌≡◌, ◌⊎◌, ℕ, false, ◌+◌, ◌-◌, ◌<◌, ◌≤◌, List, [], ◌∷◌, ◌++◌, ◌||◌, length, Bor, Option, None, Some, Result, Ok, Err, sym, ap, subst, ◌∙◌, inl, inr, arith, append_assoc, length-append}
 use Rattle.std.proofs.lemmas.List.{append-nil}
 use Rattle.mk_macros.specs.declared.fault.MacroFault.{MacroFault}
@@ -17,7 +17,7 @@ cut_none text run o e h = subst (λ o. IsCut text run (texts_of o)) e h
 pub cut_some : (text run : List ℕ) (o : Option (Bor (List ℕ))) (b : Bor (List ℕ)) → o ≡ Some b → IsCut text run (texts_of o) → (text ≡ run ++ 36 ∷ b.now) × IsPlain run
 cut_some text run o b e h = subst (λ o. IsCut text run (texts_of o)) e h
 
--- a run without which nothing is left, or with a form behind it
+-- a run at the end of the text, or a run followed by a form
 pub last_run : (text run : List ℕ) → text ≡ run → text ≡ run ++ []
 last_run text run e = e ∙ sym (append-nil run)
 
@@ -29,8 +29,8 @@ over_cut text run (Some b) h = (36 ∷ b.now, h.0, h.1)
 abbrev pub so_far : Used → List ℕ → Expanded
 so_far used done = record { text = done; references = used.references; varying = used.varying }
 
--- What stands behind the old bytes of a buffer is at most 1,048,576 bytes, and with what the rest of a text gives behind
--- it, it is the whole.
+-- What stands behind the old bytes of a buffer is at most 1,048,576 bytes, and with what the rest
+-- of a text gives behind it, it is the whole.
 abbrev pub Continues : Scope → Deeper → List (List ℕ) → List ℕ → List ℕ → Used → List ℕ → Result Expanded MacroFault → Type 0
 Continues scope deeper going old into used rest whole =
     (done : List ℕ) × (into ≡ old ++ done) × (length done ≤ 1048576) × (in_order (given scope deeper going) (so_far used done) (forms rest) ≡ whole)
@@ -61,7 +61,7 @@ module _ (scope : Scope) (deeper : Deeper) (going : List (List ℕ)) (old into :
       let over : 1048576 < length so.0 + length run = omega (arith, so.2) in
       sym so.3 ∙ (ap (λ t. in_order (given scope deeper going) (so_far used so.0) (forms t)) cut ∙ run_over scope deeper going (so_far used so.0) run behind plain so.2 over)
 
-  -- nothing is left
+  -- the end of the text
   pub finished : rest ≡ [] → Appends old into (Ok used) whole
   finished none = (so.0, so.1, sym so.3 ∙ (ap (λ t. in_order (given scope deeper going) (so_far used so.0) (forms t)) none ∙ in_order_nil (given scope deeper going) (so_far used so.0)))
 

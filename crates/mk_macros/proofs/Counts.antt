@@ -7,10 +7,10 @@ use Rattle.mk_macros.specs.declared.fault.MacroFault.TheVariants.{TooManyReferen
 use Rattle.mk_macros.specs.declared.locals.Part.{Part}
 use Rattle.mk_lines.specs.Names.{has_name}
 use Rattle.mk_macros.specs.Names.{is_macro_name}
-use Rattle.mk_macros.specs.Forms.{Form, Byte, Dollars, Reference, Endless, Lone, Parts, parts_of, forms}
+use Rattle.mk_macros.specs.Forms.{Form, Byte, Dollars, Reference, Endless, Lone, ReferenceParts, parse_reference, forms}
 use Rattle.mk_macros.specs.Table.{Macro, macro_named}
 use Rattle.mk_macros.specs.Locals.{internal_of, internal_value}
-use Rattle.mk_macros.specs.Expansion.{Expanded, Scope, Deeper, Ends, counted, macro_value, value_of, ends_of, with_ends, reference, given, joined, in_order, refused, expanded}
+use Rattle.mk_macros.specs.Expansion.{Expanded, Scope, Deeper, ExpandedSubstitution, counted, macro_value, value_of, expand_substitution, apply_substitution, reference, given, joined, in_order, refused, expanded}
 use Rattle.mk_macros.specs.Steps.{◌>>=◌}
 use Rattle.mk_macros.proofs.InOrder.{expanded_is}
 use Rattle.mk_macros.proofs.Splits.{err_not_ok, ok_same, step_of, follow_of}
@@ -55,23 +55,23 @@ module _ (scope : Scope) (deeper : Deeper) (going : List (List ℕ)) (low : (goi
       let a = step_of (counted references) (λ count. Ok (record { text = internal_value scope.recipe internal.0 internal.1; references = count; varying = eqb internal.0 63 })) found s in
       same_count a.0 _ found refl (counted_low references a.0 a.1) a.2
 
-  ends_low : (references : ℕ) (texts : Option (List ℕ × List ℕ)) (found : Ends) → references ≤ 65536 → ends_of deeper going references texts ≡ Ok found → found.references ≤ 65536
-  ends_low references None found h e = omega (arith, ap (λ (v : Ends). v.references) (ok_same e))
+  ends_low : (references : ℕ) (texts : Option (List ℕ × List ℕ)) (found : ExpandedSubstitution) → references ≤ 65536 → expand_substitution deeper going references texts ≡ Ok found → found.references ≤ 65536
+  ends_low references None found h e = omega (arith, ap (λ (v : ExpandedSubstitution). v.references) (ok_same e))
   ends_low references (Some texts) found h e =
       let a = step_of (deeper going references texts.0) (λ old. deeper going old.references texts.1 >>= (λ new. Ok (record { texts = Some (old.text, new.text); references = new.references; varying = old.varying || new.varying }))) found e in
       let b = step_of (deeper going a.0.references texts.1) (λ new. Ok (record { texts = Some (a.0.text, new.text); references = new.references; varying = a.0.varying || new.varying })) found a.2 in
       let l = low going a.0.references texts.1 b.0 (low going references texts.0 a.0 h a.1) b.1 in
-      omega (arith, ap (λ (v : Ends). v.references) (ok_same b.2))
+      omega (arith, ap (λ (v : ExpandedSubstitution). v.references) (ok_same b.2))
 
-  reference_low : (references : ℕ) (parts : Parts) (found : Expanded) → references ≤ 65536 → reference scope deeper going references parts ≡ Ok found → found.references ≤ 65536
+  reference_low : (references : ℕ) (parts : ReferenceParts) (found : Expanded) → references ≤ 65536 → reference scope deeper going references parts ≡ Ok found → found.references ≤ 65536
   unfolding reference
   reference_low references parts found h e =
-      let a = step_of (deeper going references parts.name) (λ name. ends_of deeper going name.references parts.ends >>= (λ ends. value_of scope deeper going ends.references name.text (internal_of name.text)
-      >>= (λ value. Ok (record { text = with_ends ends.texts value.text; references = value.references; varying = name.varying || (ends.varying || value.varying) })))) found e in
-      let b = step_of (ends_of deeper going a.0.references parts.ends) (λ ends. value_of scope deeper going ends.references a.0.text (internal_of a.0.text)
-      >>= (λ value. Ok (record { text = with_ends ends.texts value.text; references = value.references; varying = a.0.varying || (ends.varying || value.varying) }))) found a.2 in
+      let a = step_of (deeper going references parts.name) (λ name. expand_substitution deeper going name.references parts.ends >>= (λ ends. value_of scope deeper going ends.references name.text (internal_of name.text)
+      >>= (λ value. Ok (record { text = apply_substitution ends.texts value.text; references = value.references; varying = name.varying || (ends.varying || value.varying) })))) found e in
+      let b = step_of (expand_substitution deeper going a.0.references parts.ends) (λ ends. value_of scope deeper going ends.references a.0.text (internal_of a.0.text)
+      >>= (λ value. Ok (record { text = apply_substitution ends.texts value.text; references = value.references; varying = a.0.varying || (ends.varying || value.varying) }))) found a.2 in
       let d = step_of (value_of scope deeper going b.0.references a.0.text (internal_of a.0.text))
-      (λ value. Ok (record { text = with_ends b.0.texts value.text; references = value.references; varying = a.0.varying || (b.0.varying || value.varying) })) found b.2 in
+      (λ value. Ok (record { text = apply_substitution b.0.texts value.text; references = value.references; varying = a.0.varying || (b.0.varying || value.varying) })) found b.2 in
       same_count d.0.references _ found refl (value_low b.0.references a.0.text (internal_of a.0.text) d.0 d.1) d.2
 
   given_low : (references : ℕ) (form : Form) (found : Expanded) → references ≤ 65536 → given scope deeper going references form ≡ Ok found → found.references ≤ 65536
@@ -80,7 +80,7 @@ module _ (scope : Scope) (deeper : Deeper) (going : List (List ℕ)) (low : (goi
   given_low references Lone found h e = absurd (err_not_ok e)
   given_low references Endless found h e = absurd (err_not_ok e)
   given_low references (Reference inside) found h e =
-      let a = step_of (parts_of inside) (reference scope deeper going references) found e in
+      let a = step_of (parse_reference inside) (reference scope deeper going references) found e in
       reference_low references a.0 found h a.2
 
   order_low : (before found : Expanded) (rest : List Form) → before.references ≤ 65536 → in_order (given scope deeper going) before rest ≡ Ok found → found.references ≤ 65536

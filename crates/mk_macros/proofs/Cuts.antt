@@ -11,7 +11,7 @@ use Rattle.std.specs.List.{list_any, position_or_len}
 use Rattle.mk_lines.specs.Bytes.{is_byte}
 use Rattle.mk_lines.specs.References.{first_outside}
 use Rattle.mk_macros.specs.declared.fault.MacroFault.TheVariants.{BadMacroName}
-use Rattle.mk_macros.specs.Forms.{IsCut, parts_behind, parts_round, round}
+use Rattle.mk_macros.specs.Forms.{IsCut, split_at_colon, parts_round, round}
 
 -- no byte before the first that passes does
 none_before : (p : ℕ → Bool) (xs : List ℕ) → list_any p (take (position_or_len p xs) xs) ≡ false
@@ -55,7 +55,7 @@ cut_found text run behind at e lt before after =
     (whole, subst (λ t. list_any (is_byte 36) t ≡ false) (ap (λ n. take n text) (sym e) ∙ sym before) (none_before (is_byte 36) text))
 
 -- nothing wanted stands outside
-pub no_colon : (inside : List ℕ) (o : Option ℕ) → None ≡ round inside o → parts_behind inside o ≡ Ok (record { name = inside; ends = None })
+pub no_colon : (inside : List ℕ) (o : Option ℕ) → None ≡ round inside o → split_at_colon inside o ≡ Ok (record { name = inside; ends = None })
 no_colon inside None e = refl
 no_colon inside (Some at) e = cc
 
@@ -63,7 +63,7 @@ lone : (name rest : List ℕ) (o : Option ℕ) → None ≡ round rest o → par
 lone name rest None e = refl
 lone name rest (Some at) e = cc
 
-pub no_equals : (inside : List ℕ) (o : Option ℕ) (name rest : List ℕ) → Some (name, rest) ≡ round inside o → None ≡ round rest (first_outside (is_byte 61) rest) → parts_behind inside o ≡ Err BadMacroName
+pub no_equals : (inside : List ℕ) (o : Option ℕ) (name rest : List ℕ) → Some (name, rest) ≡ round inside o → None ≡ round rest (first_outside (is_byte 61) rest) → split_at_colon inside o ≡ Err BadMacroName
 no_equals inside None name rest e f = cc
 no_equals inside (Some at) name rest e f =
     let r : rest ≡ drop (suc at) inside = ap (λ (o : Option (List ℕ × List ℕ)). (unwrap_or o (name, rest)).1) e in
@@ -74,7 +74,7 @@ parted name rest old new None e = cc
 parted name rest old new (Some at) e = ap (λ (ends : Option (List ℕ × List ℕ)). Ok (record { name = name; ends = ends })) (sym e)
 
 pub with_both : (inside : List ℕ) (o : Option ℕ) (name rest old new : List ℕ) → Some (name, rest) ≡ round inside o → Some (old, new) ≡ round rest (first_outside (is_byte 61) rest)
-    → parts_behind inside o ≡ Ok (record { name = name; ends = Some (old, new) })
+    → split_at_colon inside o ≡ Ok (record { name = name; ends = Some (old, new) })
 with_both inside None name rest old new e f = cc
 with_both inside (Some at) name rest old new e f =
     let r : rest ≡ drop (suc at) inside = ap (λ (o : Option (List ℕ × List ℕ)). (unwrap_or o (name, rest)).1) e in

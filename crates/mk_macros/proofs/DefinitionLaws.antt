@@ -89,7 +89,7 @@ stands (first ∷ table) macro = at (is_called macro.name first) refl (stands ta
     at true t rest = ap (λ b. cond b (Some macro) (macro_named table macro.name)) ((bytes_eq-Decides macro.name macro.name).1 refl)
     at false f rest = ap (λ b. cond b (Some first) (macro_named (with_macro table macro) macro.name)) f ∙ rest
 
--- where a table comes out, the name is fixed in it
+-- where a table results, the name is fixed in it
 abbrev Fixes : List ℕ → Result (List Macro) MacroFault → Type 0
 Fixes name result = (after : List Macro) → result ≡ Ok after → IsFixed after name
 

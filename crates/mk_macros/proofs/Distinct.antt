@@ -1,4 +1,4 @@
--- Names that are kept where they come first.
+-- Names without repetition, each at its first place.
 use Rattle.std.proofs.Common.{◌≡◌, ℕ, ◌+◌, ◌<◌, ◌≤◌, Bool, true, false, not, ◌&&◌, ◌||◌, cond, List, [], ◌∷◌, ◌++◌, map, length, get_or, drop, refl, sym, ap, ◌∙◌, append_assoc, append-nil}
 use Rattle.std.specs.Prelude.{filter}
 use Rattle.std.specs.List.{list_any}

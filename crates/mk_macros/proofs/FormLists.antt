@@ -1,4 +1,4 @@
--- The forms of a text, without the fuel.
+-- The forms of a text, without a bound on their number.
 use Rattle.std.proofs.Common.{◌≡◌, ℕ, zero, suc, ◌≤◌, Bool, true, false, cond, eqb, List, [], ◌∷◌, ◌||◌, length, Option, None, Some, refl, ap, ◌∙◌, arith, length-drop}
 use Rattle.mk_lines.specs.Bytes.{is_byte}
 use Rattle.mk_lines.specs.References.{first_outside}
@@ -25,7 +25,7 @@ dollar_le (b ∷ text) =
 first_le : (b : ℕ) (text : List ℕ) → length (first_form b text).1 ≤ length text
 first_le b text = either_le (eqb b 36) (dollar_form text) (Byte b, text) (length text) (dollar_le text) (omega arith)
 
--- as many forms as there are bytes are all
+-- a text has at most as many forms as bytes
 enough : (n m : ℕ) (text : List ℕ) → length text ≤ n → length text ≤ m → some_forms n text ≡ some_forms m text
 unfolding some_forms
 enough zero zero text h k = refl

@@ -1,4 +1,4 @@
--- Forms in their order, behind what those before them gave.
+-- Forms in order, each appended to the values before it.
 use Rattle.std.proofs.Common.{◌≡◌, ℕ, zero, suc, ◌+◌, ◌-◌, ◌<◌, ◌≤◌, Bool, true, false, eqb, ltb, ◌||◌, List, [], ◌∷◌, ◌++◌, length, Result, Ok, Err, refl, sym, ap, subst, ◌∙◌, inl, inr, arith, append_assoc, length-append}
 use Rattle.std.proofs.Math.Bool.{or-false}
 use Rattle.std.proofs.lemmas.Bool.{cases_Bool, cases_lt, cond-true, cond-false}
@@ -69,7 +69,7 @@ within_err room value fault e =
 abbrev pub Gives : Type 0
 Gives = ℕ → Form → Result Expanded MacroFault
 
--- nothing is left
+-- the end of the text
 pub in_order_nil : (gives : Gives) (before : Expanded) → in_order gives before (forms []) ≡ Ok before
 unfolding in_order
 in_order_nil gives before = ap (in_order gives before) forms_nil

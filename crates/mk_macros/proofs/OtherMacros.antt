@@ -16,7 +16,7 @@ use Rattle.mk_macros.specs.Steps.{◌>>=◌}
 use Rattle.mk_macros.specs.Substitution.{ends_with, without_end}
 use Rattle.mk_macros.specs.Table.{Macro, is_called, macro_named, with_macro}
 
--- where a table comes out, the name means what it meant
+-- where a table results, the name has the same meaning
 abbrev Keeps : List Macro → List ℕ → Result (List Macro) MacroFault → Type 0
 Keeps table name result = (after : List Macro) → result ≡ Ok after → macro_named after name ≡ macro_named table name
 

@@ -10,11 +10,11 @@ use Rattle.mk_macros.specs.declared.fault.MacroFault.{MacroFault}
 use Rattle.mk_macros.specs.declared.fault.MacroFault.TheVariants.{BadMacroName}
 use Rattle.mk_macros.specs.declared.locals.Part.TheVariants.{Whole}
 use Rattle.mk_macros.specs.Names.{is_name_byte, is_macro_name}
-use Rattle.mk_macros.specs.Forms.{Form, Reference, IsPlain, Parts, is_internal, closed_at, dollar_form, parts_behind, parts_round, parts_of, forms}
+use Rattle.mk_macros.specs.Forms.{Form, Reference, IsPlain, ReferenceParts, is_internal, closed_at, dollar_form, split_at_colon, parts_round, parse_reference, forms}
 use Rattle.mk_macros.specs.Locals.{internal_of}
 use Rattle.mk_macros.specs.Table.{Macro, macro_named}
 use Rattle.mk_macros.specs.Substitution.{substituted}
-use Rattle.mk_macros.specs.Expansion.{Expanded, Scope, Ends, ends_of, with_ends, given, in_order, reference, value_of, macro_value, expanded}
+use Rattle.mk_macros.specs.Expansion.{Expanded, Scope, ExpandedSubstitution, expand_substitution, apply_substitution, given, in_order, reference, value_of, macro_value, expanded}
 use Rattle.mk_macros.specs.Appending.{below}
 use Rattle.mk_macros.specs.Laws.{round, is_inert}
 use Rattle.mk_macros.specs.Steps.{◌>>=◌}
@@ -90,7 +90,7 @@ round_order levels scope inside h =
 
 -- what one reference gives
 pub round_gives : (levels : ℕ) (scope : Scope) (inside : List ℕ) (after : Expanded) → IsClean (is_byte 41) inside → length after.text ≤ 1048576
-    → (parts_of inside >>= reference scope (below levels scope) [] 0) ≡ Ok after → expanded levels scope [] 0 (round inside) ≡ Ok after
+    → (parse_reference inside >>= reference scope (below levels scope) [] 0) ≡ Ok after → expanded levels scope [] 0 (round inside) ≡ Ok after
 round_gives levels scope inside after h le e =
     round_order levels scope inside h
     ∙ (in_order_cons (given scope (below levels scope) []) (record { text = []; references = 0; varying = false }) (Reference inside) (forms [])
@@ -100,7 +100,7 @@ round_gives levels scope inside after h le e =
 
 -- and the other way round
 pub round_given : (levels : ℕ) (scope : Scope) (inside : List ℕ) (found : Expanded) → IsClean (is_byte 41) inside
-    → expanded levels scope [] 0 (round inside) ≡ Ok found → (parts_of inside >>= reference scope (below levels scope) [] 0) ≡ Ok found
+    → expanded levels scope [] 0 (round inside) ≡ Ok found → (parse_reference inside >>= reference scope (below levels scope) [] 0) ≡ Ok found
 round_given levels scope inside found h e =
     let a = follow_of (given scope (below levels scope) []) (record { text = []; references = 0; varying = false }) found (Reference inside) (forms []) (sym (round_order levels scope inside h) ∙ e) in
     let s : a.0 ≡ found = ok_same (sym (in_order_nil (given scope (below levels scope) []) a.0) ∙ a.3) in
@@ -146,10 +146,10 @@ plain_name name h = clean_plain (is_byte 36) name (clean_name 36 refl name h)
 module _ (levels : ℕ) (scope : Scope) where
   -- `$(N)` is the value of N
   named_value : (name : List ℕ) → is_macro_name name ≡ true → length name ≤ 1048576
-      → (parts_of name >>= reference scope (expanded levels scope) [] 0) ≡ (value_of scope (expanded levels scope) [] 0 name (internal_of name) >>= (λ value. Ok value))
-  unfolding parts_of reference
+      → (parse_reference name >>= reference scope (expanded levels scope) [] 0) ≡ (value_of scope (expanded levels scope) [] 0 name (internal_of name) >>= (λ value. Ok value))
+  unfolding parse_reference reference
   named_value name n le =
-      ap (λ o. parts_behind name o >>= reference scope (expanded levels scope) [] 0) (clean_none (is_byte 58) name (clean_name 58 refl name n))
+      ap (λ o. split_at_colon name o >>= reference scope (expanded levels scope) [] 0) (clean_none (is_byte 58) name (clean_name 58 refl name n))
       ∙ ap (λ (r : Result Expanded MacroFault). r >>= (λ found. value_of scope (expanded levels scope) [] found.references found.text (internal_of found.text)
       >>= (λ value. Ok (record { text = value.text; references = value.references; varying = found.varying || (false || value.varying) })))) (plain_stays levels scope [] 0 name (plain_name name n) le)
 
@@ -195,14 +195,14 @@ clean_inert k f text h = clean_all is_inert (is_byte k) f inert_36 text h
 plain_inert : (text : List ℕ) → list_all is_inert text ≡ true → IsPlain text
 plain_inert text h = clean_plain (is_byte 41) text (clean_inert 41 inert_41 text h)
 
-abbrev found_parts : List ℕ → List ℕ → List ℕ → Result Parts MacroFault
+abbrev found_parts : List ℕ → List ℕ → List ℕ → Result ReferenceParts MacroFault
 found_parts name old new = Ok (record { name = name; ends = Some (old, new) })
 
-abbrev ends_made : Expanded → Expanded → Ends
+abbrev ends_made : Expanded → Expanded → ExpandedSubstitution
 ends_made one two = record { texts = Some (one.text, two.text); references = two.references; varying = one.varying || two.varying }
 
-abbrev given_made : Expanded → Ends → Expanded → Expanded
-given_made name ends value = record { text = with_ends ends.texts value.text; references = value.references; varying = name.varying || (ends.varying || value.varying) }
+abbrev given_made : Expanded → ExpandedSubstitution → Expanded → Expanded
+given_made name ends value = record { text = apply_substitution ends.texts value.text; references = value.references; varying = name.varying || (ends.varying || value.varying) }
 
 abbrev alone : List ℕ → Expanded
 alone text = record { text = text; references = 0; varying = false }
@@ -214,10 +214,10 @@ replaced_in old new value = record value { text = substituted old new value.text
 abbrev inside_of : List ℕ → List ℕ → List ℕ → List ℕ
 inside_of name old new = name ++ (58 ∷ (old ++ (61 ∷ new)))
 
-inside_parts : (name old new : List ℕ) → is_macro_name name ≡ true → list_all is_inert old ≡ true → parts_of (inside_of name old new) ≡ Ok (record { name = name; ends = Some (old, new) })
-unfolding parts_of
+inside_parts : (name old new : List ℕ) → is_macro_name name ≡ true → list_all is_inert old ≡ true → parse_reference (inside_of name old new) ≡ Ok (record { name = name; ends = Some (old, new) })
+unfolding parse_reference
 inside_parts name old new n o =
-    ap (parts_behind (inside_of name old new)) (clean_found (is_byte 58) name (old ++ 61 ∷ new) 58 (clean_name 58 refl name n) refl)
+    ap (split_at_colon (inside_of name old new)) (clean_found (is_byte 58) name (old ++ 61 ∷ new) 58 (clean_name 58 refl name n) refl)
     ∙ (ap (λ t. parts_round t (drop (suc (length name)) (inside_of name old new)) (first_outside (is_byte 61) (drop (suc (length name)) (inside_of name old new)))) (take-append_seam name (58 ∷ old ++ 61 ∷ new))
     ∙ (ap (λ t. parts_round name t (first_outside (is_byte 61) t)) (behind_seam name (old ++ 61 ∷ new) 58)
     ∙ (ap (parts_round name (old ++ 61 ∷ new)) (clean_found (is_byte 61) old new 61 (clean_inert 61 inert_61 old o) refl)
@@ -231,7 +231,7 @@ module _ (levels : ℕ) (scope : Scope) where
       → reference scope (expanded levels scope) [] 0 (record { name = name; ends = Some (old, new) }) ≡ Ok (record value { text = substituted old new value.text })
   unfolding reference
   replaced_value name old new value n o w ln lo lw e =
-      ap (λ (r : Result Expanded MacroFault). r >>= (λ found. ends_of (expanded levels scope) [] found.references (Some (old, new)) >>= (λ ends. value_of scope (expanded levels scope) [] ends.references found.text (internal_of found.text)
+      ap (λ (r : Result Expanded MacroFault). r >>= (λ found. expand_substitution (expanded levels scope) [] found.references (Some (old, new)) >>= (λ ends. value_of scope (expanded levels scope) [] ends.references found.text (internal_of found.text)
       >>= (λ value. Ok (given_made found ends value))))) (plain_stays levels scope [] 0 name (plain_name name n) ln)
       ∙ (ap (λ (r : Result Expanded MacroFault). (r >>= (λ one. expanded levels scope [] one.references new >>= (λ two. Ok (ends_made one two))))
       >>= (λ ends. value_of scope (expanded levels scope) [] ends.references name (internal_of name) >>= (λ value. Ok (given_made (alone name) ends value)))) (plain_stays levels scope [] 0 old (plain_inert old o) lo)
@@ -251,4 +251,4 @@ module _ (levels : ℕ) (scope : Scope) where
       (refl, refl, clean_append (is_byte 41) old (61 ∷ new) (clean_inert 41 inert_41 old o) (refl, refl, clean_inert 41 inert_41 new w)) in
       ap (λ t. expanded (suc levels) scope [] 0 (round t)) (append_assoc name (58 ∷ old) (61 ∷ new))
       ∙ round_gives (suc levels) scope (inside_of name old new) (replaced_in old new value) clean low
-      (ap (λ (r : Result Parts MacroFault). r >>= reference scope (expanded levels scope) [] 0) (inside_parts name old new n o) ∙ replaced_value name old new value n o w ln lo lw is)
+      (ap (λ (r : Result ReferenceParts MacroFault). r >>= reference scope (expanded levels scope) [] 0) (inside_parts name old new n o) ∙ replaced_value name old new value n o w ln lo lw is)

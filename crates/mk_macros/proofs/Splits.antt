@@ -1,4 +1,4 @@
--- What a run over forms that has a value went through.
+-- The steps of an expansion that has a value.
 use Rattle.std.proofs.Common.{◌≡◌, ℕ, ◌+◌, ◌≤◌, ltb, List, [], ◌∷◌, length, Result, Ok, Err, refl, sym, ap, subst, ◌∙◌, inl, inr, arith, append_assoc, length-append}
 use Rattle.std.proofs.lemmas.Bool.{cases_Bool, cond-true, cond-false}
 use Rattle.mk_macros.specs.declared.fault.MacroFault.{MacroFault}

@@ -14,7 +14,7 @@ use Rattle.mk_macros.specs.Table.{Macro, is_called, with_macro, with_text_behind
 use Rattle.mk_macros.specs.Views.{macro_of, entry_view}
 use Rattle.std.specs.Prelude.{map}
 
--- keys are told apart by their bytes
+-- keys differ where their bytes differ
 abbrev pub same_key : Vec ℕ Global → Vec ℕ Global → Bool
 same_key a b = bytes_eq a.items b.items
 
@@ -23,7 +23,11 @@ found : (name : List ℕ) (es : List (Vec ℕ Global × code.Macro)) → option_
 found name [] = refl
 found name (e ∷ es) = at (bytes_eq name e.0.items) refl (found name es)
   where
-    at : (b : Bool) → bytes_eq name e.0.items ≡ b → option_map (macro_of name) (lookup (λ (key : Vec ℕ Global). bytes_eq name key.items) es) ≡ find (is_called name) (map entry_view es) → option_map (macro_of name) (cond b (Some e.1) (lookup (λ (key : Vec ℕ Global). bytes_eq name key.items) es)) ≡ cond b (Some (entry_view e)) (find (is_called name) (map entry_view es))
+    at : (b : Bool) → bytes_eq name e.0.items ≡ b → option_map (macro_of name)
+        (lookup (λ (key : Vec ℕ Global). bytes_eq name key.items) es)
+        ≡ find (is_called name) (map entry_view es) → option_map (macro_of name)
+        (cond b (Some e.1) (lookup (λ (key : Vec ℕ Global). bytes_eq name key.items) es))
+        ≡ cond b (Some (entry_view e)) (find (is_called name) (map entry_view es))
     at true t h = ap (λ (n : List ℕ). Some (macro_of n e.1)) ((bytes_eq-Decides name e.0.items).0 t)
     at false f h = h
 
@@ -42,7 +46,11 @@ unfolding with_macro
 put key x [] = refl
 put key x (e ∷ es) = at (bytes_eq key.items e.0.items) refl (put key x es)
   where
-    at : (b : Bool) → bytes_eq key.items e.0.items ≡ b → map entry_view (insert_entry same_key es key x) ≡ with_macro (map entry_view es) (macro_of key.items x) → map entry_view (cond b ((e.0, x) ∷ es) (e ∷ insert_entry same_key es key x)) ≡ cond b (macro_of key.items x ∷ map entry_view es) (entry_view e ∷ with_macro (map entry_view es) (macro_of key.items x))
+    at : (b : Bool) → bytes_eq key.items e.0.items ≡ b → map entry_view (insert_entry same_key es key x)
+        ≡ with_macro (map entry_view es) (macro_of key.items x)
+        → map entry_view (cond b ((e.0, x) ∷ es) (e ∷ insert_entry same_key es key x))
+        ≡ cond b (macro_of key.items x ∷ map entry_view es)
+        (entry_view e ∷ with_macro (map entry_view es) (macro_of key.items x))
     at true t h = ap (λ (n : List ℕ). macro_of n x ∷ map entry_view es) (sym ((bytes_eq-Decides key.items e.0.items).0 t))
     at false f h = ap (λ (ms : List Macro). entry_view e ∷ ms) h
 

@@ -1,4 +1,4 @@
--- What an iterator gives in a turn of a loop, and that it has given all at the end.
+-- What an iterator yields in an iteration of a loop, and that it has yielded all at the end.
 use Rattle.std.proofs.Common.{◌≡◌, ◌<◌, ℕ, List, length, get_or, Option, Some, None}
 use Rattle.std.specs.Borrow.{Bor}
 use Rattle.std.specs.Iterator.{Yields}

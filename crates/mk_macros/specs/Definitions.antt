@@ -1,4 +1,4 @@
--- Definitions of macros, by the lines of a makefile and by operands.
+-- Definitions of macros, in a makefile and by operands.
 use Rattle.std.specs.Prelude.{ℕ, ◌==◌, Bool, true, false, not, List, [], ◌∷◌, ◌++◌, codes, length, reverse, nat_lt, Option, None, Some, Result, Ok, Err, if◌then◌else◌}
 use Rattle.std.specs.List.{flat_map, list_any, before_first, after_first}
 use Rattle.mk_lines.specs.Bytes.{is_byte, trimmed}
@@ -13,32 +13,35 @@ use Rattle.mk_macros.specs.Table.{Macro, macro_named, with_macro}
 use Rattle.mk_macros.specs.Expansion.{Expanded, expansion}
 use Rattle.mk_macros.specs.Steps.{◌>>=◌}
 
--- each `$` doubled
+-- The byte, doubled if it is `$`.
 abbrev pub doubled_byte : ℕ → List ℕ
 doubled_byte b = if b == 36 then codes "$$" else b ∷ []
 
+-- The text with each `$` doubled.
 abbrev pub doubled : List ℕ → List ℕ
 doubled text = flat_map doubled_byte text
 
--- the table with a macro of at most 1,048,576 bytes
+-- The table with a macro of at most 1,048,576 bytes in place of one with the same name, or
+-- `ValueTooLong`.
 abbrev pub stored : List Macro → Macro → Result (List Macro) MacroFault
 stored table macro =
     if nat_lt max_value (length macro.text) then Err ValueTooLong else Ok (with_macro table macro)
 
--- the text that an expansion gives
+-- The text of an expansion.
 abbrev pub value_text : Result Expanded MacroFault → Result (List ℕ) MacroFault
 value_text result = result >>= λ expanded. Ok expanded.text
 
--- the value with a space and more text behind it
+-- The macro with a space and more text appended.
 abbrev pub appended : Macro → List ℕ → Macro
 appended macro text = record macro { text = macro.text ++ 32 ∷ text }
 
--- the table with more text behind that of this macro, if there is one
+-- The table with a space and more text appended to this macro; unchanged where there is no macro.
 abbrev pub more_stored : List Macro → List ℕ → Option Macro → Result (List Macro) MacroFault
 more_stored table more None = Ok table
 more_stored table more (Some macro) = stored table (appended macro more)
 
--- `+=`: as `=` where the name is undefined; on an immediate macro the new text is expanded at once
+-- The table after `+=`: as `=` where the name is undefined; on an immediate macro the text is
+-- expanded first.
 abbrev pub with_more : List Macro → List ℕ → List ℕ → Option Macro → Result (List Macro) MacroFault
 with_more table name text None =
     stored table (record { name = name; text = text; immediate = false; fixed = false })
@@ -47,14 +50,14 @@ with_more table name text (Some macro) =
     stored table (appended macro more.text))
     else stored table (appended macro text)
 
--- `?=`: as `=` where the name is undefined
+-- The table after `?=`: as `=` where the name is undefined, else unchanged.
 abbrev pub if_unset : List Macro → List ℕ → List ℕ → Option Macro → Result (List Macro) MacroFault
 if_unset table name text None =
     stored table (record { name = name; text = text; immediate = false; fixed = false })
 if_unset table name text (Some macro) = Ok table
 
--- the table after a definition of this name, by a line of the makefile or by an operand, which
--- fixes it
+-- The table after a definition of this name by one of the five operators; a definition by an
+-- operand fixes the macro.
 abbrev pub set : List Macro → List ℕ → Bool → Op → List ℕ → Result (List Macro) MacroFault
 set table name by_operand Delay text =
     stored table (record { name = name; text = text; immediate = false; fixed = by_operand })
@@ -72,36 +75,40 @@ set table name by_operand Double text =
 set table name by_operand IfUnset text = if_unset table name text (macro_named table name)
 set table name by_operand Append text = with_more table name text (macro_named table name)
 
+-- The macro is defined, and an operand has fixed it.
 abbrev pub is_fixed : Option Macro → Bool
 is_fixed None = false
 is_fixed (Some macro) = macro.fixed
 
--- A definition of the makefile: a bad name is refused first, and one that an operand has fixed is
--- passed over.
+-- The table after a definition in a makefile: `BadMacroName` (11) for an invalid name, else
+-- unchanged where an operand has fixed the name, else set.
 unfoldable pub defined : List Macro → List ℕ → Op → List ℕ → Result (List Macro) MacroFault
 defined table name op text =
     if not (is_macro_name name) then Err BadMacroName
     else (if is_fixed (macro_named table name) then Ok table
     else set table name false op text)
 
--- the text without the blanks at its ends
+-- The text without the blanks at its ends.
 abbrev pub without_blanks : List ℕ → List ℕ
 without_blanks text = reverse (trimmed (reverse (trimmed text)))
 
--- the operator of an operand, and what stands before it: `:::=` and `::=` by the colons before the
--- first `=`
+-- The operator of an operand and the text before it, from what precedes the first `=`: `:::=` where
+-- that ends with `:::`, `::=` where it ends with `::`, else `=`.
 abbrev pub operator_of : List ℕ → Op × List ℕ
 operator_of before =
     if ends_with (codes ":::") before then (Double, without_end 3 before)
     else (if ends_with (codes "::") before then (Now, without_end 2 before)
     else (Delay, before))
 
+-- The table after an operand with this operator and what precedes it: `BadMacroName` (11) for an
+-- invalid name, else set, and the name is fixed.
 abbrev pub operand_set : List Macro → Op × List ℕ → List ℕ → Result (List Macro) MacroFault
 operand_set table operator text =
     if not (is_macro_name (without_blanks operator.1)) then Err BadMacroName
     else set table (without_blanks operator.1) true operator.0 text
 
--- A macro operand: its first `=` decides, and a later one of the same name replaces an earlier one.
+-- The table after a macro operand, split at its first `=`: `BadMacroName` (11) without `=`. A later
+-- operand replaces an earlier one of the same name.
 unfoldable pub with_operand : List Macro → List ℕ → Result (List Macro) MacroFault
 with_operand table operand =
     if not (list_any (is_byte 61) operand) then Err BadMacroName

@@ -1,42 +1,43 @@
--- What forms, macros and expansions of the code stand for.
+-- The values that contracts see of the code's forms, macros and expansions.
 use Rattle.std.specs.Prelude.{ℕ, Bool, List, Vec, Option}
 use Rattle.std.specs.Borrow.{Bor}
 use Rattle.std.specs.Cow.{cow_slice_items}
 use Rattle.std.specs.Option.{option_map}
 use Rattle.std.specs.declared.alloc.Global.{Global}
 use Rattle.mk_macros.specs.declared.expansion.Expansion as expansions
-use Rattle.mk_macros.specs.declared.forms.Ends as ends
+use Rattle.mk_macros.specs.declared.forms.Substitution as ends
 use Rattle.mk_macros.specs.declared.forms.Form as code
 use Rattle.mk_macros.specs.declared.forms.Form.TheVariants as variant
-use Rattle.mk_macros.specs.declared.forms.Parts as parts
+use Rattle.mk_macros.specs.declared.forms.ReferenceParts as parts
 use Rattle.mk_macros.specs.declared.table.Macro as macros
-use Rattle.mk_macros.specs.Forms.{Form, Dollars, Reference, Endless, Lone, Parts}
+use Rattle.mk_macros.specs.Forms.{Form, Dollars, Reference, Endless, Lone, ReferenceParts}
 use Rattle.mk_macros.specs.Table.{Macro}
 
--- two texts of the code
+-- The two texts that a pair of the code stands for.
 abbrev pub pair_view : Bor (List ℕ) × Bor (List ℕ) → List ℕ × List ℕ
 pair_view texts = (texts.0.now, texts.1.now)
 
--- a text of the code, if there is one
+-- The text that an optional text of the code stands for.
 abbrev pub texts_of : Option (Bor (List ℕ)) → Option (List ℕ)
 texts_of text = option_map (λ found. found.now) text
 
--- a form of the code
+-- The form that a `Form` of the code stands for.
 abbrev pub form_view : code.Form → Form
 form_view variant.Dollars = Dollars
 form_view (variant.Reference inside) = Reference inside.now
 form_view variant.Endless = Endless
 form_view variant.Lone = Lone
 
--- the two texts of a substitution of the code
-abbrev pub ends_view : ends.Ends → List ℕ × List ℕ
-ends_view texts = (texts.old.now, texts.new.now)
+-- The two texts that an `Substitution` of the code stands for.
+abbrev pub substitution_view : ends.Substitution → List ℕ × List ℕ
+substitution_view texts = (texts.old.now, texts.new.now)
 
--- parts of the code
-abbrev pub parts_view : parts.Parts → Parts
-parts_view inside = record { name = inside.name.now; ends = option_map ends_view inside.ends }
+-- The parts that a `ReferenceParts` of the code stands for.
+abbrev pub parts_view : parts.ReferenceParts → ReferenceParts
+parts_view inside = record
+    { name = inside.name.now; ends = option_map substitution_view inside.ends }
 
--- a macro of the code, of this name
+-- The macro that a `Macro` of the code with this name stands for.
 abbrev pub macro_of : List ℕ → macros.Macro → Macro
 macro_of name macro =
     record {
@@ -46,10 +47,10 @@ macro_of name macro =
       fixed = macro.fixed;
     }
 
--- an entry of the code's table
+-- The macro that an entry of the code's table stands for.
 abbrev pub entry_view : Vec ℕ Global × macros.Macro → Macro
 entry_view entry = macro_of entry.0.items entry.1
 
--- an expansion of the code
+-- The text of an `Expansion` of the code, and whether it varies.
 abbrev pub expansion_view : expansions.Expansion → List ℕ × Bool
 expansion_view found = (cow_slice_items found.text, found.varying)

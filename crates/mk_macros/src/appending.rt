@@ -1,46 +1,48 @@
-//! Expansions that are put behind what stands in a buffer.
+//! Expands texts, each into a buffer after what the buffer holds. After an error the buffer may
+//! hold part of an expansion.
 
 ghost use Rattle.std.specs.Prelude.{[], None, Some};
 ghost use Rattle.mk_macros.specs.Appending.{Appends, below, names_in, piece_view, scope_view, form_within, reference_within, behind_name};
 ghost use Rattle.mk_macros.specs.Expansion.{expanded, value_of, macro_value, refused};
 ghost use Rattle.mk_macros.specs.Locals.{internal_of};
 ghost use Rattle.mk_macros.specs.Table.{macro_named};
-ghost use Rattle.mk_macros.specs.Views.{form_view, ends_view};
+ghost use Rattle.mk_macros.specs.Views.{form_view, substitution_view};
 ghost use Rattle.mk_macros.specs.Steps.{Gives};
 
+use crate::expanded_part::{ExpandedPart, lent};
 use crate::fault::MacroFault;
-use crate::forms::{Ends, Form, cut_at_dollar, dollar_form, parts_of};
+use crate::forms::{Form, Substitution, cut_at_dollar, dollar_form, parse_reference};
 use crate::going::Going;
 use crate::locals::{Locals, Part, internal_of, internal_value};
 use crate::macro_name::{MacroName, is_macro_name};
-use crate::piece::{Piece, lent};
 use crate::room::{MAX_LENGTH, append_run, counted};
 use crate::substitution::push_substituted;
 use crate::table::MacroTable;
 use std::alloc::Global;
 use std::borrow::CowSlice;
 
-/// What names mean.
+/// What names mean during an expansion.
 #[derive(Clone, Copy)]
 pub struct Scope<'a> {
-    /// The allocator of all that is expanded.
+    /// The allocator of all results.
     pub alloc: Global,
     /// The macros.
     pub table: &'a MacroTable,
-    /// What the internal macros speak of.
+    /// The values of the internal macros.
     pub locals: &'a Locals<'a>,
 }
 
-/// What an expansion used.
+/// What an expansion has counted.
 #[derive(Clone, Copy, Debug)]
 pub struct Used {
-    /// The references that were counted up to its end.
+    /// How many references were evaluated, those before this expansion included.
     pub references: usize,
-    /// Whether `$?` was among them.
+    /// Whether `$?` or one of its forms was evaluated.
     pub varying: bool,
 }
 
-/// The expansion of a text with so many levels below it.
+/// Appends the expansion of a text that has `deep` levels below it. `going` are the macros whose
+/// values are being expanded; `references` is the number of references evaluated so far.
 #[cycle(append)]
 pub fn append_text(
     scope: &Scope<'_>,
@@ -74,7 +76,7 @@ pub fn append_text(
     }
 }
 
-/// What a form gives, where there is room for it.
+/// Appends the value of a form, or fails with `ValueTooLong` (15) where it is longer than `room`.
 #[cycle(append)]
 fn append_form(
     scope: &Scope<'_>,
@@ -105,7 +107,8 @@ fn append_form(
     }
 }
 
-/// What a reference gives, where there is room for it.
+/// Appends the value of a reference, or fails with `ValueTooLong` (15) where it is longer than
+/// `room`.
 #[cycle(append)]
 #[tactic(auto, unfolding(crate::specs::Expansion::reference))]
 fn append_reference(
@@ -120,7 +123,7 @@ fn append_reference(
     ensures { Appends into.old.items into.new.items result (reference_within (scope_view scope.now)
         (below deep (scope_view scope.now)) (names_in going.now) references room inside.now) }
 {
-    let parts = parts_of(scope.alloc, inside)?;
+    let parts = parse_reference(scope.alloc, inside)?;
     let name = expanded_piece(scope, deep, going, references, parts.name)?;
     let Some(ends) = parts.ends else {
         return append_named(scope, deep, going, room, &name, into);
@@ -128,14 +131,14 @@ fn append_reference(
     append_replaced(scope, deep, going, room, &name, ends, into)
 }
 
-/// The value of a name, where there is room for it.
+/// Appends the value of a reference without a substitution, whose name has been expanded.
 #[cycle(append)]
 fn append_named(
     scope: &Scope<'_>,
     deep: usize,
     going: &Going<'_>,
     room: usize,
-    name: &Piece<'_>,
+    name: &ExpandedPart<'_>,
     into: &mut Vec<u8>,
 ) -> Result<Used, MacroFault>
     ensures { Appends into.old.items into.new.items result (behind_name (scope_view scope.now)
@@ -159,20 +162,20 @@ fn append_named(
     })
 }
 
-/// The value of a name with its words replaced, where there is room for it.
+/// Appends the value of a reference with a substitution, whose name has been expanded.
 #[cycle(append)]
 fn append_replaced(
     scope: &Scope<'_>,
     deep: usize,
     going: &Going<'_>,
     room: usize,
-    name: &Piece<'_>,
-    ends: Ends<'_>,
+    name: &ExpandedPart<'_>,
+    ends: Substitution<'_>,
     into: &mut Vec<u8>,
 ) -> Result<Used, MacroFault>
     ensures { Appends into.old.items into.new.items result (behind_name (scope_view scope.now)
         (below deep (scope_view scope.now)) (names_in going.now) room (piece_view name.now)
-        (Some (ends_view ends.entry))) }
+        (Some (substitution_view ends.entry))) }
 {
     let old = expanded_piece(scope, deep, going, name.used.references, ends.old)?;
     let new = expanded_piece(scope, deep, going, old.used.references, ends.new)?;
@@ -192,7 +195,7 @@ fn append_replaced(
     })
 }
 
-/// The value of a name.
+/// Appends the value of a name: of an internal macro or of a macro in the table.
 #[cycle(append)]
 fn append_value(
     scope: &Scope<'_>,
@@ -219,7 +222,7 @@ fn append_value(
     append_macro(scope, deep, going, references, name, into)
 }
 
-/// The value of an internal macro.
+/// Appends the value of an internal macro.
 fn append_internal(
     scope: &Scope<'_>,
     references: usize,
@@ -242,7 +245,8 @@ fn append_internal(
     })
 }
 
-/// The value of a macro whose name isn't in progress.
+/// Appends the value of a macro whose value isn't being expanded already. An undefined macro is
+/// empty.
 #[cycle(append)]
 fn append_macro(
     scope: &Scope<'_>,
@@ -273,7 +277,8 @@ fn append_macro(
     append_deeper(scope, deep, &under, references, &found.text, into)
 }
 
-/// The expansion of a text one level deeper, for itself.
+/// The expansion of a text one level deeper. Where the text holds no `$`, the result borrows from
+/// it.
 #[cycle(append)]
 fn expanded_piece<'a>(
     scope: &Scope<'_>,
@@ -281,7 +286,7 @@ fn expanded_piece<'a>(
     going: &Going<'_>,
     references: usize,
     text: &'a [u8],
-) -> Result<Piece<'a>, MacroFault>
+) -> Result<ExpandedPart<'a>, MacroFault>
     ensures { Gives piece_view result (below deep (scope_view scope.now)
         (names_in going.now) references text.now) }
 {
@@ -291,13 +296,14 @@ fn expanded_piece<'a>(
     }
     let mut bytes = Vec::new(scope.alloc);
     let used = append_deeper(scope, deep, going, references, text, &mut bytes)?;
-    Ok(Piece {
+    Ok(ExpandedPart {
         text: CowSlice::Owned(bytes),
         used,
     })
 }
 
-/// The expansion of a text one level deeper.
+/// Appends the expansion of a text one level deeper, or fails with `TooManyReferences` (14) where
+/// there is no deeper level.
 #[cycle(append)]
 fn append_deeper(
     scope: &Scope<'_>,

@@ -1,12 +1,12 @@
-//! The blanks at the ends of a text.
+//! Removes blanks from both ends of a text.
 
 ghost use Rattle.std.specs.Prelude.{◌≡◌};
 ghost use Rattle.mk_macros.specs.Definitions.{without_blanks};
 
 use mk_lines::{is_blank, trimmed};
 
-/// The text without the blanks at its ends, spaces and tabs: as the name of a macro is taken (the
-/// standard's `make`, "Macros").
+/// The text without blanks, spaces and tabs, at its ends, as the standard's `make` reads the name
+/// of a macro ("Macros").
 pub fn without_blanks(text: &[u8]) -> &[u8]
     ensures { result.now ≡ without_blanks text.now }
 {

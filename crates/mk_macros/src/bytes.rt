@@ -1,4 +1,4 @@
-//! Where bytes stand in a text, and what it begins and ends with.
+//! Positions of bytes, and tests of how a text begins and ends.
 
 ghost use Rattle.std.specs.Prelude.{◌≡◌, ◌≤◌, length};
 ghost use Rattle.std.specs.List.{position_or_len};
@@ -6,7 +6,7 @@ ghost use Rattle.mk_lines.specs.Bytes.{is_byte};
 ghost use Rattle.mk_lines.specs.Bytes.{begins_with};
 ghost use Rattle.mk_macros.specs.Substitution.{ends_with};
 
-/// Where a byte first stands in a text, or the text's length where it doesn't.
+/// The position of the first such byte, or the text's length where it has none.
 pub fn first_place(byte: u8, text: &[u8]) -> usize
     ensures within { result ≤ length text.now }
     ensures place { result ≡ position_or_len (is_byte byte) text.now }
@@ -17,14 +17,14 @@ pub fn first_place(byte: u8, text: &[u8]) -> usize
     }
 }
 
-/// Whether a text begins with another.
+/// Whether a text begins with `front`.
 pub fn begins_with(front: &[u8], text: &[u8]) -> bool
     ensures { result ≡ begins_with front.now text.now }
 {
     text.starts_with(front)
 }
 
-/// Whether a text ends with another.
+/// Whether a text ends with `back`.
 pub fn ends_with(back: &[u8], text: &[u8]) -> bool
     ensures { result ≡ ends_with back.now text.now }
 {

@@ -2,32 +2,32 @@
 
 ghost use Rattle.mk_macros.specs.Laws.{OperandsFix, OperandsLeaveOthers, OperandsWin, AppendingToNothing, AppendingToDelayed, AppendingToImmediate};
 
-/// What an operand sets is fixed.
+/// An operand fixes the macro that it sets.
 pub fn operands_fix()
     ensures { OperandsFix }
 {}
 
-/// An operand leaves every macro that it doesn't set.
+/// An operand changes no other macro than the one that it sets.
 pub fn operands_leave_others()
     ensures { OperandsLeaveOthers }
 {}
 
-/// What an operand has fixed wins over every later definition of its name: it stays as it is.
+/// A macro that an operand has fixed isn't changed by any later definition of its name.
 pub fn operands_win()
     ensures { OperandsWin }
 {}
 
-/// `+=` on an undefined macro is `=`.
+/// `+=` on an undefined macro acts as `=`.
 pub fn appending_to_nothing()
     ensures { AppendingToNothing }
 {}
 
-/// `+=` on a delayed macro puts one space and the text behind its text.
+/// `+=` on a delayed macro appends a space and the text.
 pub fn appending_to_delayed()
     ensures { AppendingToDelayed }
 {}
 
-/// `+=` on an immediate macro puts one space and the expansion of the text behind its value.
+/// `+=` on an immediate macro appends a space and the expansion of the text.
 pub fn appending_to_immediate()
     ensures { AppendingToImmediate }
 {}

@@ -1,4 +1,4 @@
-//! Definitions of macros, by the lines of a makefile and by operands.
+//! Definitions of macros, in a makefile and by operands.
 
 ghost use Rattle.std.specs.Prelude.{◌≡◌, false, None, IfOk, OnErr};
 ghost use Rattle.mk_macros.specs.declared.op.Op.TheVariants.{Now, Double};
@@ -33,8 +33,8 @@ fn doubled(alloc: Global, text: &[u8]) -> Result<Vec<u8>, AllocError>
     Ok(made)
 }
 
-/// The operator of an operand, and what stands before it: `:::=` and `::=` by the colons before the
-/// `=`.
+/// The operator of an operand and the text before it, from what precedes the first `=`: `:::=`
+/// where that ends with `:::`, `::=` where it ends with `::`, else `=`.
 fn operator_of(before: &[u8]) -> (Op, &[u8])
     ensures op { result.0 ≡ (operator_of before.now).0 }
     ensures name { result.1.now ≡ (operator_of before.now).1 }
@@ -49,7 +49,7 @@ fn operator_of(before: &[u8]) -> (Op, &[u8])
 }
 
 impl MacroTable {
-    /// The value of a text that is no command.
+    /// The expansion of a text outside commands.
     fn value_of(&self, text: &[u8]) -> Result<Vec<u8>, MacroFault>
         ensures { Gives (λ value.
             value.items) result (value_text (expansion self.now None text.now)) }
@@ -58,7 +58,8 @@ impl MacroTable {
         Ok(found.text.into_owned(self.alloc)?)
     }
 
-    /// Puts a macro of at most 1,048,576 bytes into the table.
+    /// Stores a macro, in place of one of the same name. Fails with `ValueTooLong` (15) where its
+    /// text is longer than 1,048,576 bytes; the table is unchanged after any error.
     fn store(&mut self, name: &[u8], entry: Macro) -> Result<(), MacroFault>
         ensures exact { Gives (λ _. self.new) result (stored self.old (macro_of name.now entry)) }
         ensures unchanged { OnErr result (self.new ≡ self.old) }
@@ -70,7 +71,7 @@ impl MacroTable {
         Ok(())
     }
 
-    /// Stores a copy of a text that is expanded at each use.
+    /// Stores a copy of the text as a delayed macro: one that is expanded at each use.
     fn delay(&mut self, name: &[u8], text: &[u8], fixed: bool) -> Result<(), MacroFault>
         ensures exact { Gives (λ _.
             self.new) result (stored self.old (record {
@@ -97,7 +98,7 @@ impl MacroTable {
 }
 
 impl MacroTable {
-    /// Whether an operand has fixed the macro of a name.
+    /// Whether the name is that of a macro that an operand has fixed.
     fn is_fixed(&self, name: &[u8]) -> bool
         ensures { result ≡ is_fixed (macro_named self.now name.now) }
     {
@@ -107,8 +108,9 @@ impl MacroTable {
         }
     }
 
-    /// Puts a space and more text behind the text of a macro, where it is defined and both are of
-    /// at most 1,048,576 bytes.
+    /// Appends a space and `more` to the text of a macro. Does nothing where the macro is
+    /// undefined; fails with `ValueTooLong` (15) where the text would be longer than 1,048,576
+    /// bytes.
     fn store_more(&mut self, name: &[u8], more: &[u8]) -> Result<(), MacroFault>
         ensures exact { Gives (λ _.
             self.new) result (more_stored self.old more.now (macro_named self.old name.now)) }
@@ -124,7 +126,7 @@ impl MacroTable {
         Ok(())
     }
 
-    /// Takes a text with `+=`.
+    /// Defines a macro with `+=`.
     fn set_more(&mut self, name: &[u8], text: &[u8]) -> Result<(), MacroFault>
         ensures exact { Gives (λ _.
             self.new) result (with_more self.old name.now text.now
@@ -141,7 +143,7 @@ impl MacroTable {
         self.store_more(name, &value)
     }
 
-    /// Takes a text with `?=`.
+    /// Defines a macro with `?=`.
     fn set_if_unset(&mut self, name: &[u8], text: &[u8]) -> Result<(), MacroFault>
         ensures exact { Gives (λ _.
             self.new) result (if_unset self.old name.now text.now (macro_named self.old name.now)) }
@@ -153,7 +155,7 @@ impl MacroTable {
         self.delay(name, text, false)
     }
 
-    /// Takes a text with `::=`.
+    /// Defines a macro with `::=`.
     fn set_now(&mut self, name: &[u8], text: &[u8], fixed: bool) -> Result<(), MacroFault>
         ensures exact { Gives (λ _. self.new) result (set self.old name.now fixed Now text.now) }
         ensures unchanged { OnErr result (self.new ≡ self.old) }
@@ -169,7 +171,7 @@ impl MacroTable {
         )
     }
 
-    /// Takes a text with `:::=`.
+    /// Defines a macro with `:::=`.
     fn set_doubled(&mut self, name: &[u8], text: &[u8], fixed: bool) -> Result<(), MacroFault>
         ensures exact { Gives (λ _. self.new) result (set self.old name.now fixed Double text.now) }
         ensures unchanged { OnErr result (self.new ≡ self.old) }
@@ -186,7 +188,7 @@ impl MacroTable {
         )
     }
 
-    /// Takes a definition of a good name that isn't fixed, or that a later operand sets.
+    /// Defines a macro whose name is valid and which the definition may change.
     fn set(&mut self, name: &[u8], by_operand: bool, op: Op, text: &[u8]) -> Result<(), MacroFault>
         ensures exact { Gives (λ _.
             self.new) result (set self.old name.now by_operand op text.now) }
@@ -201,13 +203,13 @@ impl MacroTable {
         }
     }
 
-    /// Takes a definition of the makefile (the standard's `make`, "Macros").
+    /// Applies a definition in a makefile to the table (the standard's `make`, "Macros"). Does
+    /// nothing where an operand has fixed the name, whatever the text.
     ///
-    /// `BadMacroName` where the name isn't one or more of `A-Z a-z 0-9 . _ -`. A definition of a
-    /// name that an operand has fixed is passed over, whatever its text. Then the first fault of
-    /// the text, where the operator has it expanded at once, and `ValueTooLong` where more than
-    /// 1,048,576 bytes would be stored. The table stays as it was after any fault, want of memory
-    /// too.
+    /// Fails with `BadMacroName` (11) where the name isn't one or more of `A-Z a-z 0-9 . _ -`; else
+    /// with the first fault of expanding the text, where the operator expands it at once; else with
+    /// `ValueTooLong` (15) where the stored text would be longer than 1,048,576 bytes. It can also
+    /// fail with `Memory`, out of memory. The table is unchanged after any error.
     #[tactic(auto, unfolding(crate::specs::Definitions::defined))]
     pub fn define(&mut self, name: &[u8], op: Op, text: &[u8]) -> Result<(), MacroFault>
         ensures exact { Gives (λ _. self.new) result (defined self.old name.now op text.now) }
@@ -222,12 +224,13 @@ impl MacroTable {
         self.set(name, false, op, text)
     }
 
-    /// Takes a macro operand, which no later definition of the makefile overrides: a name, `=`,
-    /// `::=` or `:::=`, and a text, whose leading blanks are dropped (the standard's `make`,
-    /// "Operands" and "Macros").
+    /// Applies a macro operand to the table, and fixes the macro: later definitions in the makefile
+    /// don't change it. An operand is a name, one of `=`, `::=` and `:::=`, and a text, whose
+    /// leading blanks are dropped (the standard's `make`, "Operands" and "Macros").
     ///
-    /// `BadMacroName` where the operand has no `=`, or what stands before the operator, without the
-    /// blanks at its ends, is no macro name. Then as `define`.
+    /// Fails with `BadMacroName` (11) where the operand has no `=`, or where the text before the
+    /// operator, without the blanks at its ends, is no macro name; then as `define` does. The table
+    /// is unchanged after any error.
     #[tactic(auto, unfolding(crate::specs::Definitions::with_operand))]
     pub fn fix(&mut self, operand: &[u8]) -> Result<(), MacroFault>
         ensures exact { Gives (λ _. self.new) result (with_operand self.old operand.now) }

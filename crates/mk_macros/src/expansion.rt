@@ -1,10 +1,10 @@
-//! The expansion of a text.
+//! The expansion of a text with the macros of a table.
 
 ghost use Rattle.std.specs.Prelude.{◌≡◌, true, not, List, Option, IfOk};
 ghost use Rattle.std.specs.List.{list_any};
 ghost use Rattle.mk_lines.specs.Bytes.{is_byte};
 ghost use Rattle.mk_lines.specs.Borrowed.{is_borrowed};
-ghost use Rattle.mk_macros.specs.Expansion.{expansion, told};
+ghost use Rattle.mk_macros.specs.Expansion.{expansion, text_and_variation};
 ghost use Rattle.mk_macros.specs.Views.{expansion_view};
 ghost use Rattle.mk_macros.specs.Forms.{IsPlain};
 ghost use Rattle.mk_macros.specs.Locals.{Recipe, recipe_of};
@@ -21,28 +21,29 @@ use crate::table::MacroTable;
 use std::alloc::Global;
 use std::borrow::CowSlice;
 
-/// What a text expands to.
+/// The expansion of a text.
 #[derive(Debug, Drop)]
 pub struct Expansion<'a> {
-    /// The text: a slice of what was expanded, where that holds no `$`.
+    /// The expanded text. It borrows from the text that was expanded where that holds no `$`.
     pub text: CowSlice<'a, u8>,
-    /// Whether `$?` or one of its forms was met, so that the text varies from run to run.
+    /// Whether `$?` or one of its forms was evaluated, so that the text differs from run to run.
     pub varying: bool,
 }
 
-/// The levels below the text that is expanded: a reference 256 levels deep is refused.
+/// How many levels references may nest: a reference at level 256 is refused.
 const LEVELS: usize = 256;
 
 impl MacroTable {
-    /// What a text expands to, or the first fault from left to right (the standard's `make`,
-    /// "Macros").
+    /// The expansion of a text (the standard's `make`, "Macros"). On an error nothing is returned;
+    /// the error is the first fault from left to right, or `Memory`, out of memory.
     pub fn expand<'a>(
         &self,
         alloc: Global,
         text: &'a [u8],
         locals: &Locals,
     ) -> Result<Expansion<'a>, MacroFault>
-        ensures exact { Gives expansion_view result (told (expansion self.now (recipe_of locals.now)
+        ensures exact { Gives expansion_view result
+            (text_and_variation (expansion self.now (recipe_of locals.now)
             text.now)) }
         ensures lends { IfOk result (λ found. is_borrowed found.text ≡
             not (list_any (is_byte 36) text.now)) }
@@ -65,11 +66,11 @@ impl MacroTable {
     }
 }
 
-/// A text without `$` as its own expansion.
+/// The expansion of a text without `$`, which is the text itself.
 fn lent(text: &[u8]) -> Result<Expansion<'_>, MacroFault>
     requires { IsPlain text.now }
     ensures exact { (table : List Macro) → (recipe : Option Recipe) →
-        Gives expansion_view result (told (expansion table recipe text.now)) }
+        Gives expansion_view result (text_and_variation (expansion table recipe text.now)) }
     ensures lends { IfOk result (λ found. is_borrowed found.text ≡ true) }
 {
     if text.len() > MAX_LENGTH {

@@ -1,4 +1,4 @@
-//! Why a text has no expansion, or a definition is refused.
+//! Why a text can't be expanded, or a definition is refused.
 
 ghost use Rattle.std.specs.Prelude.{◌≡◌};
 ghost use Rattle.mk_macros.specs.declared.fault.MacroFault.TheVariants.{Memory};
@@ -7,34 +7,36 @@ use crate::macro_name::MacroName;
 use std::alloc::{AllocError, AllocFailed};
 use thiserror::Error;
 
-/// Why a text has no expansion, or a definition is refused: the first fault from left to right.
+/// Why a text can't be expanded, or a definition is refused: the first fault from left to right.
 #[derive(Debug, Drop, Error)]
 pub enum MacroFault {
-    /// A name isn't one or more of `A-Z a-z 0-9 . _ -`, a reference has a `:` and no `=` behind it,
-    /// or an operand has no `=`, `::=` or `:::=` (fault 11).
-    #[error("a bad macro name")]
+    /// `BadMacroName` (11): a name isn't one or more of `A-Z a-z 0-9 . _ -`, a reference has a `:`
+    /// and no `=` after it, or an operand has no `=`.
+    #[error("bad macro name")]
     BadMacroName,
-    /// A macro is met inside its own value (fault 12).
-    #[error("a macro is met inside its own value")]
+    /// `Recursive` (12): a macro refers to itself while its value is expanded.
+    #[error("a macro refers to itself")]
     Recursive(MacroName),
-    /// A reference has no end (fault 13).
-    #[error("a reference has no end")]
+    /// `Unclosed` (13): a reference isn't closed.
+    #[error("unclosed reference")]
     Unclosed,
-    /// The 65,537th reference of an expansion, or one at level 256 (fault 14).
+    /// `TooManyReferences` (14): the 65,537th reference of an expansion, or a reference at level
+    /// 256.
     #[error("too many references")]
     TooManyReferences,
-    /// A text that is expanded on the way, or a value to store, is over 1,048,576 bytes (fault 15).
-    #[error("a value is over 1,048,576 bytes")]
+    /// `ValueTooLong` (15): an expanded text, also inside a reference, or a text to store is longer
+    /// than 1,048,576 bytes.
+    #[error("value over 1,048,576 bytes")]
     ValueTooLong,
-    /// A `$` at the end, or before a byte that is no byte of a name, no internal macro, and none of
-    /// `$`, `(` and `{` (fault 16).
-    #[error("a lone dollar")]
+    /// `LoneDollar` (16): a `$` at the end of a text, or before a byte that is no `$`, `(` or `{`,
+    /// can't be part of a macro's name, and is no internal macro.
+    #[error("lone dollar")]
     LoneDollar,
-    /// `$%`, `$(%D)` or `$(%F)`, which stand for an archive's member (fault 17).
-    #[error("a macro of an archive's member")]
+    /// `MemberMacro` (17): `$%`, `$(%D)` or `$(%F)`, which stand for a member of an archive.
+    #[error("macro of an archive member")]
     MemberMacro,
-    /// A growth was refused, which may come in place of any answer.
-    #[error("memory ran out")]
+    /// Out of memory. It can come in place of any result.
+    #[error("out of memory")]
     Memory,
 }
 

@@ -1,10 +1,10 @@
-//! The forms of a text.
+//! Parses references and other forms that begin with `$`.
 
 ghost use Rattle.std.specs.Prelude.{◌≡◌, ◌<◌, length, take, drop, suc, IfOk, IfSome};
 ghost use Rattle.std.specs.Option.{option_map};
 ghost use Rattle.mk_lines.specs.Bytes.{is_byte};
 ghost use Rattle.mk_lines.specs.References.{first_outside};
-ghost use Rattle.mk_macros.specs.Forms.{IsCut, closed_at, dollar_form, parts_of, round};
+ghost use Rattle.mk_macros.specs.Forms.{IsCut, closed_at, dollar_form, parse_reference, round};
 ghost use Rattle.mk_macros.specs.Views.{form_view, pair_view, parts_view, texts_of};
 ghost use Rattle.mk_macros.specs.Steps.{Gives};
 
@@ -15,20 +15,20 @@ use crate::macro_name::is_name_byte;
 use mk_lines::first_outside;
 use std::alloc::{AllocError, Global};
 
-/// A form that begins with a `$`.
+/// A form that begins with `$`.
 #[derive(Clone, Copy, Debug)]
 pub enum Form<'a> {
     /// `$$`.
     Dollars,
-    /// `$(..)`, `${..}` or `$c`, with what stands inside it.
+    /// `$(..)`, `${..}` or `$c`, with the text inside it.
     Reference(&'a [u8]),
-    /// A reference without an end.
+    /// A reference that isn't closed.
     Endless,
-    /// A `$` that begins none of these.
+    /// A `$` that begins none of the others.
     Lone,
 }
 
-/// The text up to its first `$`, and what follows that.
+/// The text before the first `$`, and the text after that `$`: `None` where there is no `$`.
 pub fn cut_at_dollar(text: &[u8]) -> (&[u8], Option<&[u8]>)
     ensures { IsCut text.now result.0.now (texts_of result.1) }
 {
@@ -36,11 +36,11 @@ pub fn cut_at_dollar(text: &[u8]) -> (&[u8], Option<&[u8]>)
     if at == text.len() {
         return (text, None);
     }
-    let (run, behind) = halves(text, at);
+    let (run, behind) = split_around(text, at);
     (run, Some(behind))
 }
 
-/// The form that begins with a `$` before this text, and the text behind it.
+/// The form whose `$` directly precedes this text, and the text after the form.
 pub fn dollar_form(alloc: Global, text: &[u8]) -> Result<(Form<'_>, &[u8]), AllocError>
     ensures { IfOk result (λ found. (form_view found.0, found.1.now) ≡ dollar_form text.now) }
 {
@@ -56,7 +56,8 @@ pub fn dollar_form(alloc: Global, text: &[u8]) -> Result<(Form<'_>, &[u8]), Allo
     }
 }
 
-/// A reference up to its closing byte, and the text behind it.
+/// A reference whose text inside ends before the first closing byte outside inner references, and
+/// the text after it.
 fn closed_at(alloc: Global, close: u8, text: &[u8]) -> Result<(Form<'_>, &[u8]), AllocError>
     ensures { IfOk result (λ found. (form_view found.0, found.1.now) ≡
         closed_at text.now (first_outside (is_byte close) text.now)) }
@@ -67,7 +68,8 @@ fn closed_at(alloc: Global, close: u8, text: &[u8]) -> Result<(Form<'_>, &[u8]),
     Ok((Form::Reference(inside), behind))
 }
 
-/// What stands before a byte and behind it, where it first stands outside references.
+/// The texts before and after the first such byte outside references, or `None` where there is
+/// none.
 fn cut_outside(alloc: Global, byte: u8, text: &[u8]) -> Result<Option<(&[u8], &[u8])>, AllocError>
     ensures { IfOk result (λ found. option_map pair_view found ≡
         round text.now (first_outside (is_byte byte) text.now)) }
@@ -75,11 +77,11 @@ fn cut_outside(alloc: Global, byte: u8, text: &[u8]) -> Result<Option<(&[u8], &[
     let Some(at) = place_outside(alloc, byte, text)? else {
         return Ok(None);
     };
-    Ok(Some(halves(text, at)))
+    Ok(Some(split_around(text, at)))
 }
 
-/// Where a byte first stands outside references. Where no `$` stands before its first place, that
-/// is the one.
+/// The position of the first such byte outside references. Where no `$` precedes the first such
+/// byte, references needn't be parsed.
 fn place_outside(alloc: Global, byte: u8, text: &[u8]) -> Result<Option<usize>, AllocError>
     ensures exact { IfOk result (λ at. at ≡ first_outside (is_byte byte) text.now) }
     ensures within { IfOk result (λ at. IfSome at (λ k. k < length text.now)) }
@@ -94,8 +96,8 @@ fn place_outside(alloc: Global, byte: u8, text: &[u8]) -> Result<Option<usize>, 
     Ok(Some(at))
 }
 
-/// What stands before a place of a text, and behind it.
-fn halves(text: &[u8], at: usize) -> (&[u8], &[u8])
+/// The texts before and after the byte at a position.
+fn split_around(text: &[u8], at: usize) -> (&[u8], &[u8])
     requires { at < length text.now }
     ensures before { result.0.now ≡ take at text.now }
     ensures behind { result.1.now ≡ drop (suc at) text.now }
@@ -103,30 +105,32 @@ fn halves(text: &[u8], at: usize) -> (&[u8], &[u8])
     (&text[..at], &text[at + 1..])
 }
 
-/// What stands inside a reference.
+/// The parts of the text inside a reference.
 #[derive(Clone, Copy, Debug)]
-pub struct Parts<'a> {
-    /// The text of the name.
+pub struct ReferenceParts<'a> {
+    /// The name, before its expansion.
     pub name: &'a [u8],
-    /// The two texts behind the colon, where there is one.
-    pub ends: Option<Ends<'a>>,
+    /// The two texts of a substitution, if there is one.
+    pub ends: Option<Substitution<'a>>,
 }
 
-/// The two texts of a substitution.
+/// The two texts of a substitution `:old=new`, before their expansion.
 #[derive(Clone, Copy, Debug)]
-pub struct Ends<'a> {
-    /// The text before the `=`.
+pub struct Substitution<'a> {
+    /// What a word ends with, or a pattern.
     pub old: &'a [u8],
-    /// The text behind it.
+    /// What replaces it.
     pub new: &'a [u8],
 }
 
-/// The parts of what stands inside a reference.
-pub fn parts_of(alloc: Global, inside: &[u8]) -> Result<Parts<'_>, MacroFault>
-    ensures { Gives parts_view result (parts_of inside.now) }
+/// Splits the text inside a reference: the first `:` outside inner references ends the name, and
+/// the first later `=` outside them separates the two texts. Fails with `BadMacroName` (11) where a
+/// `:` has no `=` after it, or with `Memory`, out of memory.
+pub fn parse_reference(alloc: Global, inside: &[u8]) -> Result<ReferenceParts<'_>, MacroFault>
+    ensures { Gives parts_view result (parse_reference inside.now) }
 {
     let Some((name, rest)) = cut_outside(alloc, b':', inside)? else {
-        return Ok(Parts {
+        return Ok(ReferenceParts {
             name: inside,
             ends: None,
         });
@@ -134,8 +138,8 @@ pub fn parts_of(alloc: Global, inside: &[u8]) -> Result<Parts<'_>, MacroFault>
     let Some((old, new)) = cut_outside(alloc, b'=', rest)? else {
         return Err(MacroFault::BadMacroName);
     };
-    Ok(Parts {
+    Ok(ReferenceParts {
         name,
-        ends: Some(Ends { old, new }),
+        ends: Some(Substitution { old, new }),
     })
 }

@@ -1,4 +1,4 @@
-//! Macros: the table of their definitions, and the expansion of a text.
+//! Macros: the table of definitions, and the expansion of texts.
 #![tactic(auto)]
 
 mod appending;
@@ -6,6 +6,7 @@ mod blanks;
 mod bytes;
 pub mod definition_laws;
 mod definitions;
+mod expanded_part;
 mod expansion;
 mod fault;
 mod forms;
@@ -14,7 +15,6 @@ pub mod laws;
 mod locals;
 mod macro_name;
 mod op;
-mod piece;
 mod room;
 mod substitution;
 mod table;

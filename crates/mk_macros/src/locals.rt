@@ -1,4 +1,4 @@
-//! The internal macros of commands: `$@ $* $< $^ $+`, with their directory and file parts.
+//! The internal macros `$@ $* $< $^ $+`, with their directory and file parts.
 
 ghost use Rattle.std.specs.Prelude.{◌≡◌, ◌∷◌, ◌++◌, map, IfOk, OnOk, if◌then◌else◌};
 ghost use Rattle.std.specs.List.{slice_split, join_with_byte};
@@ -10,33 +10,33 @@ use crate::bytes::first_place;
 use indexmap::IndexSet;
 use std::alloc::{AllocError, Global};
 
-/// What the internal macros speak of.
+/// The values of the internal macros.
 #[derive(Debug, Drop)]
 pub enum Locals<'a> {
-    /// A text that is no command: the internal macros are empty.
+    /// For a text outside commands: all internal macros are empty.
     Empty,
-    /// A command.
+    /// For a command.
     Recipe {
-        /// The target, `$@`.
+        /// `$@`: the target.
         target: &'a str,
-        /// The target without its known suffix, `$*`.
+        /// `$*`: the target without its known suffix.
         stem: &'a str,
-        /// The inferred prerequisite or, in a target rule, the first one: `$<`.
+        /// `$<`: the inferred prerequisite; in a target rule, the first prerequisite.
         first: Option<&'a str>,
-        /// All prerequisites: `$+`, and without repeats `$^`.
+        /// `$+`: all prerequisites. `$^` is these without repetition.
         all: &'a [&'a str],
     },
 }
 
-/// Which part of a name is meant.
+/// Which part of a name a reference takes.
 #[derive(Debug, Clone, Copy, PartialEq, Eq)]
 pub enum Part {
-    /// The name as it stands.
+    /// The whole name.
     Whole,
-    /// What stands before the last slash, `D`: `.` without a slash, `/` where the only one stands
-    /// at the front.
+    /// `D`: the directory, before the last slash. It is `.` where there is no slash, and `/` where
+    /// the only slash is the first byte.
     Directory,
-    /// What stands behind the last slash, `F`: the whole name without one.
+    /// `F`: the file name, after the last slash; the whole name where there is no slash.
     File,
 }
 
@@ -47,8 +47,8 @@ pub fn is_internal(byte: u8) -> bool
     matches!(byte, b'@' | b'*' | b'<' | b'^' | b'+' | b'?' | b'%')
 }
 
-/// Which internal macro, and which part of its names, the name in a reference means: one of
-/// `@ * < ^ + ? %`, alone or with `D` or `F` behind it. None for any other name.
+/// The internal macro and the part that a name means: one of `@ * < ^ + ? %`, alone or followed by
+/// `D` or `F`. `None` for any other name.
 pub fn internal_of(name: &[u8]) -> Option<(u8, Part)>
     ensures { result ≡ internal_of name.now }
 {
@@ -64,7 +64,7 @@ pub fn internal_of(name: &[u8]) -> Option<(u8, Part)>
     Some((byte, part))
 }
 
-/// What stands behind the last slash of a name.
+/// The text after the last slash of a name.
 fn file(name: &[u8]) -> &[u8]
     ensures { result.now ≡ file name.now }
 {
@@ -78,8 +78,8 @@ fn file(name: &[u8]) -> &[u8]
     }
 }
 
-/// What stands before the last slash of a name: `.` without one, and `/` where the only one stands
-/// at the front.
+/// The text before the last slash of a name: `.` where there is no slash, and `/` where the only
+/// slash is the first byte.
 fn directory(name: &[u8]) -> &[u8]
     ensures { result.now ≡ directory name.now }
 {
@@ -91,7 +91,7 @@ fn directory(name: &[u8]) -> &[u8]
     }
 }
 
-/// A part of a name.
+/// The given part of a name.
 fn part_of(part: Part, name: &[u8]) -> &[u8]
     ensures { result.now ≡ part_of part name.now }
 {
@@ -102,7 +102,7 @@ fn part_of(part: Part, name: &[u8]) -> &[u8]
     }
 }
 
-/// Appends a word, with a space before it where it isn't the first.
+/// Appends a word, after a space where it isn't the first.
 fn push_next(into: &mut Vec<u8>, is_first: bool, word: &[u8]) -> Result<(), AllocError>
     ensures { OnOk result (into.new.items ≡
         into.old.items ++ (if is_first then word.now else 32 ∷ word.now)) }
@@ -114,7 +114,7 @@ fn push_next(into: &mut Vec<u8>, is_first: bool, word: &[u8]) -> Result<(), Allo
     Ok(())
 }
 
-/// The parts of names, with a space between each two.
+/// The given part of each name, separated by one space.
 fn joined(alloc: Global, names: &[&str], part: Part) -> Result<Vec<u8>, AllocError>
     ensures { IfOk result (λ value. value.items ≡
         join_with_byte 32 (map (part_of part) (map (λ name. name.now) names.now))) }
@@ -126,7 +126,7 @@ fn joined(alloc: Global, names: &[&str], part: Part) -> Result<Vec<u8>, AllocErr
     Ok(value)
 }
 
-/// The names, each where it comes first.
+/// The names without repetition, each at its first place.
 fn distinct<'a>(alloc: Global, names: &[&'a str]) -> Result<IndexSet<&'a str>, AllocError>
     ensures { IfOk result (λ set. map (λ name. name.now) set.keys ≡
         distinct (map (λ name. name.now) names.now)) }
@@ -138,9 +138,8 @@ fn distinct<'a>(alloc: Global, names: &[&'a str]) -> Result<IndexSet<&'a str>, A
     Ok(set)
 }
 
-/// The value of an internal macro: the parts of the names that it stands for, joined by one space.
-/// It is empty outside commands, and for `$?` and `$%`, which stand for no names. The error is want
-/// of memory alone.
+/// The value of an internal macro: the given part of each name that it stands for, separated by one
+/// space. It is empty outside commands, and for `$?` and `$%`. The only error is out of memory.
 pub fn internal_value(
     alloc: Global,
     locals: &Locals,

@@ -7,7 +7,7 @@ ghost use Rattle.mk_macros.specs.Names.{is_name_byte, is_macro_name};
 use std::alloc::{AllocError, Global};
 use std::marker::Model;
 
-/// The name of a macro. A contract sees its bytes.
+/// The name of a macro, seen by contracts as its bytes.
 #[derive(Debug, Drop)]
 pub struct MacroName {
     bytes: Vec<u8>,
@@ -22,7 +22,7 @@ impl Model for MacroName {
 }
 
 impl MacroName {
-    /// A name with a copy of the bytes.
+    /// A name with a copy of the bytes. The only error is out of memory.
     pub fn new(alloc: Global, bytes: &[u8]) -> Result<MacroName, AllocError>
         ensures { IfOk result (λ name. name ≡ bytes.now) }
     {
@@ -39,21 +39,21 @@ impl MacroName {
     }
 }
 
-/// Whether bytes are the name of a macro: one or more of `A-Z a-z 0-9 . _ -`.
+/// Whether bytes are a macro name: one or more of `A-Z a-z 0-9 . _ -`.
 pub fn is_macro_name(name: &[u8]) -> bool
     ensures { result ≡ is_macro_name name.now }
 {
     !name.is_empty() && has_name_bytes(name)
 }
 
-/// Whether each byte may stand in the name of a macro.
+/// Whether all bytes may be part of a macro name.
 fn has_name_bytes(name: &[u8]) -> bool
     ensures { result ≡ list_all is_name_byte name.now }
 {
     name.iter().all(|b| is_name_byte(*b))
 }
 
-/// Whether a byte may stand in the name of a macro.
+/// Whether a byte may be part of a macro name.
 pub fn is_name_byte(byte: u8) -> bool
     ensures { result ≡ is_name_byte byte }
 {

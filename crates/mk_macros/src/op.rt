@@ -1,18 +1,18 @@
-//! The operators of definitions.
+//! The operators of macro definitions.
 
-/// How a definition of a macro sets it.
+/// The operator of a macro definition.
 #[derive(Debug, Clone, Copy, PartialEq, Eq)]
 pub enum Op {
-    /// `=`: the text is kept, and expanded at each use.
+    /// `=`: stores the text, which is expanded at each use.
     Delay,
-    /// `::=`: the text is expanded at once, and its value never again.
+    /// `::=`: expands the text at once and stores the value, which is never expanded again.
     Now,
-    /// `:::=`: the text is expanded at once and each `$` of the value doubled; that is expanded at
-    /// each use.
+    /// `:::=`: expands the text at once, doubles each `$` of the value, and stores that; it is
+    /// expanded at each use.
     Double,
-    /// `?=`: as `=` where the name is undefined, else nothing.
+    /// `?=`: acts as `=` where the name is undefined, else does nothing.
     IfUnset,
-    /// `+=`: the old value, one space and the new text, which is expanded at once where the macro's
-    /// value is never expanded; as `=` where the name is undefined.
+    /// `+=`: appends a space and the text to the stored text. The text is expanded first where the
+    /// macro was defined with `::=`. Acts as `=` where the name is undefined.
     Append,
 }

@@ -1,4 +1,4 @@
-//! The words of a value, replaced.
+//! Replaces the words of a value: `$(N:old=new)`.
 
 ghost use Rattle.std.specs.Prelude.{◌≡◌, ◌⊎◌, ◌<◌, ◌≤◌, ◌∷◌, ◌++◌, length, OnOk, IfErr, if◌then◌else◌};
 ghost use Rattle.std.specs.List.{list_any, before_first, after_first};
@@ -10,16 +10,16 @@ use crate::fault::MacroFault;
 use std::alloc::AllocError;
 use std::marker::Model;
 
-/// A text with its parts round the first `%`. A contract sees the text.
+/// A text split at its first `%`, seen by contracts as the text.
 #[derive(Drop)]
-struct Cut<'a> {
+struct PatternText<'a> {
     text: &'a [u8],
     has_percent: bool,
     before: &'a [u8],
     after: &'a [u8],
 }
 
-impl<'a> Model for Cut<'a> {
+impl<'a> Model for PatternText<'a> {
     ghost use Rattle.std.specs.Prelude.{◌≡◌, List, ℕ};
     ghost use Rattle.std.specs.List.{list_any, before_first, after_first};
     ghost use Rattle.mk_macros.specs.Substitution.{is_percent};
@@ -33,21 +33,21 @@ impl<'a> Model for Cut<'a> {
         (cut.after.now ≡ after_first is_percent cut.text.now) };
 }
 
-impl<'a> Cut<'a> {
-    /// A text, cut at its first `%`.
-    fn new(text: &'a [u8]) -> Cut<'a>
+impl<'a> PatternText<'a> {
+    /// Splits a text at its first `%`.
+    fn new(text: &'a [u8]) -> PatternText<'a>
         ensures { result ≡ text.entry.now }
     {
         let at = first_place(b'%', text);
         if at == text.len() {
-            return Cut {
+            return PatternText {
                 text,
                 has_percent: false,
                 before: text,
                 after: &[],
             };
         }
-        Cut {
+        PatternText {
             text,
             has_percent: true,
             before: &text[..at],
@@ -62,21 +62,20 @@ impl<'a> Cut<'a> {
         self.has_percent
     }
 
-    /// What stands before the first `%`.
+    /// The text before the first `%`, or the whole text where there is none.
     fn before(&self) -> &[u8]
         ensures { result.now ≡ before_first is_percent self.now }
     {
         self.before
     }
 
-    /// What stands behind the first `%`.
+    /// The text after the first `%`; empty where there is none.
     fn after(&self) -> &[u8]
         ensures { result.now ≡ after_first is_percent self.now }
     {
         self.after
     }
 
-    /// The text.
     fn text(&self) -> &[u8]
         ensures { result.now ≡ self.now }
     {
@@ -84,8 +83,8 @@ impl<'a> Cut<'a> {
     }
 }
 
-/// Appends the new text, with the stem in place of its first `%`.
-fn push_with_stem(into: &mut Vec<u8>, stem: &[u8], new: &Cut) -> Result<(), AllocError>
+/// Appends the new text, with its first `%` replaced by the stem.
+fn push_with_stem(into: &mut Vec<u8>, stem: &[u8], new: &PatternText) -> Result<(), AllocError>
     ensures { OnOk result (into.new.items ≡ into.old.items ++ with_stem stem.now new.now) }
 {
     if !new.has_percent() {
@@ -98,19 +97,20 @@ fn push_with_stem(into: &mut Vec<u8>, stem: &[u8], new: &Cut) -> Result<(), Allo
     Ok(())
 }
 
-/// Whether a word begins with the front and ends with the back, without overlap.
+/// Whether a word begins with `front` and ends with `back`, without overlap.
 fn is_between(front: &[u8], back: &[u8], word: &[u8]) -> bool
     ensures { result ≡ is_between front.now back.now word.now }
 {
     front.len() + back.len() <= word.len() && begins_with(front, word) && ends_with(back, word)
 }
 
-/// Appends a word by a pattern: where it has both ends, the new text with what stands between them.
+/// Appends a word replaced by a pattern: where it begins with `front` and ends with `back`, the new
+/// text, its `%` replaced by what is between them; else the word unchanged.
 fn push_by_pattern(
     into: &mut Vec<u8>,
     front: &[u8],
     back: &[u8],
-    new: &Cut,
+    new: &PatternText,
     word: &[u8],
 ) -> Result<(), AllocError>
     ensures { OnOk result (into.new.items ≡
@@ -125,7 +125,7 @@ fn push_by_pattern(
     Ok(())
 }
 
-/// Appends a word, with its end replaced where it ends in the old text.
+/// Appends a word. Where it ends with `old`, that end is replaced by `new`.
 fn push_by_end(into: &mut Vec<u8>, old: &[u8], new: &[u8], word: &[u8]) -> Result<(), AllocError>
     ensures { OnOk result (into.new.items ≡
         into.old.items ++ with_end_replaced old.now new.now word.now) }
@@ -139,8 +139,13 @@ fn push_by_end(into: &mut Vec<u8>, old: &[u8], new: &[u8], word: &[u8]) -> Resul
     Ok(())
 }
 
-/// Appends a word, replaced or kept.
-fn push_replaced(into: &mut Vec<u8>, old: &Cut, new: &Cut, word: &[u8]) -> Result<(), AllocError>
+/// Appends a word, replaced or unchanged.
+fn push_replaced(
+    into: &mut Vec<u8>,
+    old: &PatternText,
+    new: &PatternText,
+    word: &[u8],
+) -> Result<(), AllocError>
     ensures { OnOk result (into.new.items ≡ into.old.items ++ replaced old.now new.now word.now) }
 {
     if old.has_percent() {
@@ -151,12 +156,12 @@ fn push_replaced(into: &mut Vec<u8>, old: &Cut, new: &Cut, word: &[u8]) -> Resul
     Ok(())
 }
 
-/// Appends a word, replaced or kept, with a space before it where it isn't the first.
+/// Appends a word, replaced or unchanged, after a space where it isn't the first.
 fn push_next(
     into: &mut Vec<u8>,
     is_first: bool,
-    old: &Cut,
-    new: &Cut,
+    old: &PatternText,
+    new: &PatternText,
     word: &[u8],
 ) -> Result<(), AllocError>
     ensures { OnOk result (into.new.items ≡
@@ -171,11 +176,13 @@ fn push_next(
     Ok(())
 }
 
-/// Appends the words of a value, each with its end `old` replaced by `new`, or by a pattern with
-/// `%`, joined by one space: `$(N:old=new)`. Words that don't end so stay.
+/// Appends the words of a value, separated by one space, each replaced as `$(N:old=new)` says:
+/// where a word ends with `old`, that end is replaced by `new`; where `old` has a `%`, as a
+/// pattern. Other words are unchanged.
 ///
-/// The fault is `ValueTooLong` exactly where that text is over `room` bytes, found no later than a
-/// word behind it, or want of memory. What `into` holds after a fault isn't said.
+/// Fails with `ValueTooLong` (15) exactly where the result is longer than `room` bytes, at most a
+/// word after that is known, or with `Memory`, out of memory. After an error the contents of `into`
+/// are unspecified.
 pub fn push_substituted(
     into: &mut Vec<u8>,
     room: usize,
@@ -189,8 +196,8 @@ pub fn push_substituted(
     ensures err { IfErr result (λ fault. (fault ≡ Memory) ⊎
         ((fault ≡ ValueTooLong) × (room < length (substituted old.now new.now value.now)))) }
 {
-    let old_cut = Cut::new(old);
-    let new_cut = Cut::new(new);
+    let old_cut = PatternText::new(old);
+    let new_cut = PatternText::new(new);
     let start = into.len();
     let mut is_first = true;
     for word in value.split(|b| *b == b' ' || *b == b'\t') {

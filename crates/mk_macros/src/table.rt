@@ -9,22 +9,21 @@ use indexmap::IndexMap;
 use std::alloc::{AllocError, Global};
 use std::marker::Model;
 
-/// A macro without its name.
+/// A macro of the table, without its name.
 #[derive(Debug, Drop)]
 pub(crate) struct Macro {
-    /// The text that was stored.
     pub(crate) text: Vec<u8>,
-    /// Whether the text is the value as it stands. Else it is expanded at each use.
+    /// Whether the text is the value itself; else it is expanded at each use.
     pub(crate) immediate: bool,
     /// Whether an operand has fixed it.
     pub(crate) fixed: bool,
 }
 
-/// The macros that are defined, in the order of their first definitions. A contract sees the list
-/// of them.
+/// The defined macros, in the order of their first definitions, seen by contracts as a list of
+/// macros.
 #[derive(Drop)]
 pub struct MacroTable {
-    /// The allocator of all that is stored.
+    /// The allocator of names and texts.
     pub(crate) alloc: Global,
     macros: IndexMap<Vec<u8>, Macro>,
 }
@@ -40,7 +39,7 @@ impl Model for MacroTable {
 }
 
 impl MacroTable {
-    /// A table without macros.
+    /// The empty table.
     pub fn new(alloc: Global) -> MacroTable
         ensures { result ≡ [] }
     {
@@ -50,7 +49,7 @@ impl MacroTable {
         }
     }
 
-    /// The macro of a name, where it is defined.
+    /// The macro with this name, or `None` where it is undefined.
     pub(crate) fn get(&self, name: &[u8]) -> Option<&Macro>
         ensures { option_map (λ found. macro_of name.now found.now) result ≡
             macro_named self.now name.now }
@@ -58,7 +57,8 @@ impl MacroTable {
         self.macros.get(name)
     }
 
-    /// Puts a macro in place of the one of its name, or behind all others.
+    /// Stores a macro, in place of one with the same name or else at the end. The only error is out
+    /// of memory; the table is then unchanged.
     pub(crate) fn put(&mut self, name: &[u8], entry: Macro) -> Result<(), AllocError>
         ensures ok { OnOk result (self.new ≡ with_macro self.old (macro_of name.now entry)) }
         ensures err { OnErr result (self.new ≡ self.old) }
@@ -68,8 +68,9 @@ impl MacroTable {
         Ok(())
     }
 
-    /// Puts a space and more text behind the text of the macro of a name, where it is defined. The
-    /// text grows in place, so that many appends cost no more than the text they make.
+    /// Appends a space and `more` to the text of a macro, in place, so that repeated appending
+    /// takes linear time. Does nothing where the name is undefined. The only error is out of
+    /// memory; the table is then unchanged.
     pub(crate) fn append(&mut self, name: &[u8], more: &[u8]) -> Result<(), AllocError>
         ensures ok { OnOk result (self.new ≡
             with_text_behind self.old more.now (macro_named self.old name.now)) }

@@ -1,3 +1,4 @@
+pub mod DefaultText
 mod NameSets
 mod Once
 mod SuffixLists

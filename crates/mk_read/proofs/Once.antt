@@ -1,4 +1,4 @@
--- Names that are kept once.
+-- Names without repetition.
 use Rattle.std.proofs.Common.{◌≡◌, ℕ, Bool, true, false, not, ◌&&◌, ◌||◌, cond, ◌+◌, ◌<◌, length, get_or, drop, map, String, string_bytes, List, [], ◌∷◌, ◌++◌, refl, sym, ap, ◌∙◌, append_assoc, append-nil}
 use Rattle.std.specs.Prelude.{filter, fold, ◌==◌}
 use Rattle.std.specs.Str.{bytes_eq}

@@ -1,4 +1,4 @@
--- The law of blocks: a rule line, and the command lines and lines of comments behind it.
+-- The law of blocks: a rule line, and the command lines and comment lines after it.
 use Rattle.std.specs.Prelude.{◌≡◌, ℕ, Bool, true, false, not, ◌||◌, List, [], ◌∷◌, ◌++◌, filter, map, Option, None, Some, Ok}
 use Rattle.std.specs.List.{list_all}
 use Rattle.std.specs.Option.{option_map}
@@ -15,37 +15,38 @@ use Rattle.mk_read.specs.Rules.{commands_behind}
 use Rattle.mk_read.specs.Special.{special_among}
 use Rattle.mk_read.specs.State.{Command, RuleRead, State, rules_of}
 
--- a text of the makefile
+-- A text of the makefile, not the default text.
 abbrev pub own : List ℕ → Text
 own file = record { file = file; default = false }
 
--- a command line, or a line of a comment alone
+-- The line is a command line or a comment line.
 abbrev pub is_behind : Line → Bool
 is_behind line = line.command || is_comment_line line
 
--- there are no more lines, or the next one is another line than these
+-- There are no more lines, or the next line is neither a command line nor a comment line.
 abbrev pub begins_anew : List Line → Bool
 begins_anew [] = true
 begins_anew (line ∷ lines) = not (is_behind line)
 
+-- The place of a line in a file.
 abbrev pub place_of : List ℕ → Line → Place
 place_of file line = record { file = file; line = line.first }
 
--- the commands of the command lines, in their order
+-- The commands of the command lines among these lines, in order.
 abbrev pub commands_among : List ℕ → List Line → List Command
 commands_among file lines =
     map (λ (line : Line). record { text = trimmed line.text; place = place_of file line })
     (filter (λ (line : Line). line.command) lines)
 
--- the command behind the `;`, where there is one, and then these
+-- The command after a `;`, if there is one, followed by these commands; `None` where the rule line
+-- has no `;` and there are none.
 abbrev pub with_all : Option (List Command) → List Command → Option (List Command)
 with_all None [] = None
 with_all None (command ∷ commands) = Some (command ∷ commands)
 with_all (Some first) commands = Some (first ++ commands)
 
--- A rule line in a text, whose targets and prerequisites are these names, none of them a special
--- target. Behind it stand these command lines and comments, and then another line, if there are
--- more.
+-- A block: a rule line whose targets and prerequisites are these names, no target special, with
+-- these command lines and comment lines after it, and then another line or the end of the text.
 pub record IsBlock (file : List ℕ) (state : State) (head : Line) (behind after : List Line)
     (line : RuleLine) (targets words : List (List ℕ)) : Type 0 where
   pub plain : head.command ≡ false
@@ -57,7 +58,8 @@ pub record IsBlock (file : List ℕ) (state : State) (head : Line) (behind after
   pub each : list_all is_behind behind ≡ true
   pub ends : begins_anew after ≡ true
 
--- what a block gives: its commands are the one behind the `;`, and those of its command lines
+-- The rule that a block gives: its commands are the one after the `;`, and then those of its
+-- command lines.
 abbrev pub block_rule : List ℕ → Line → List Line → RuleLine → List (List ℕ) → List (List ℕ) →
     RuleRead
 block_rule file head behind line targets words = record {
@@ -70,8 +72,8 @@ block_rule file head behind line targets words = record {
   default = false;
 }
 
--- Where a text of the makefile is read, each of its blocks gives this rule line, behind those that
--- were read before it.
+-- Where a text of the makefile is read without a fault, each block in it adds this rule line after
+-- the ones that were read before.
 abbrev pub BlocksGiveTheirRules : Type 0
 BlocksGiveTheirRules =
     (reader : Reader) → (levels : ℕ) → (file : List ℕ) → (before behind after : List Line) →

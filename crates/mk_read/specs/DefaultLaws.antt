@@ -1,17 +1,20 @@
--- What the default text says.
+-- The contents of the default text.
 use Rattle.std.specs.Prelude.{◌≡◌, ℕ, true, false, List, [], ◌∷◌, codes, filter, Option, Some, Ok}
 use Rattle.mk_macros.specs.Table.{Macro}
 use Rattle.mk_read.specs.Reading.{Reader, Makefile, counts, after_default, makefile}
 use Rattle.mk_read.specs.RuleLaws.{of_default_text}
 use Rattle.mk_read.specs.State.{Command, RuleRead, Last, State, rules_of}
 
+-- A delayed macro that isn't fixed.
 abbrev pub default_macro : List ℕ → List ℕ → Macro
 default_macro name text = record { name = name; text = text; immediate = false; fixed = false }
 
+-- A command on this line of the default text.
 abbrev pub default_command : ℕ → List ℕ → Command
 default_command line text =
     record { text = text; place = record { file = codes "(default)"; line = line } }
 
+-- A rule line of the default text with one target and no prerequisites.
 abbrev pub default_rule : ℕ → List ℕ → List Command → RuleRead
 default_rule line target commands =
     record {
@@ -23,6 +26,7 @@ default_rule line target commands =
       default = true;
     }
 
+-- What has been read after the default text.
 abbrev pub default_state : State
 default_state = record {
   table =
@@ -45,20 +49,20 @@ default_state = record {
   missing = [];
 }
 
--- The default text is read without a fault: three suffixes, four macros, and a rule line with
--- commands for each of `.c`, `.sh` and `.c.o`.
+-- The default text is read without a fault, and gives three suffixes, four macros, and a rule line
+-- with commands for each of `.c`, `.sh` and `.c.o`.
 abbrev pub DefaultTextSaysThis : Type 0
 DefaultTextSaysThis = (reader : Reader) → after_default reader true ≡ Ok default_state
 
--- The rule lines of the default text, in a makefile that is read: those three of which, by the
--- suffixes after all reading, a target is an inference name, as they stand in the default text.
+-- Where the default text was read first, its rule lines in the makefile are those with a target
+-- that is an inference name by the final suffixes, unchanged.
 abbrev pub DefaultRulesStay : Type 0
 DefaultRulesStay =
     (reader : Reader) → (file : Option (List ℕ)) → (operands : List (List ℕ)) → (m : Makefile) →
     makefile reader file true operands ≡ Ok m
     → of_default_text m.rules ≡ filter (counts m.suffixes) (rules_of default_state.read)
 
--- Without the default text there is no rule line of it.
+-- Where the default text wasn't read, the makefile has no rule line of it.
 abbrev pub NoDefaultRules : Type 0
 NoDefaultRules =
     (reader : Reader) → (file : Option (List ℕ)) → (operands : List (List ℕ)) → (m : Makefile) →

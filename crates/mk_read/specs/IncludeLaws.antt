@@ -6,7 +6,7 @@ use Rattle.mk_read.specs.PlaceLaws.{unplaced, lines_said, begins_without_command
 use Rattle.mk_read.specs.Reading.{Reader, Text, Makefile, named, makefile}
 use Rattle.mk_read.specs.State.{State}
 
--- A line `include NAME` includes the lines of the file of this name, whatever was read before it.
+-- A line `include NAME` includes the lines of the file NAME, whatever was read before it.
 abbrev pub SpelledLinesIncludeTheirFile : Type 0
 SpelledLinesIncludeTheirFile =
     (reader : Reader) → (text : Text) → (line : Line) → (name : List ℕ) → (lines : List Line) →
@@ -15,14 +15,13 @@ SpelledLinesIncludeTheirFile =
     FileHolds reader name lines
     → IncludesLines reader text line lines state
 
--- a makefile without places and the names of its texts
+-- The makefile without places and without the names of its texts.
 abbrev pub content : Makefile → Makefile
 content m = record (unplaced m) { texts = [] }
 
--- Two makefiles lie beside each other: one has an include line, and the other has in its place the
--- lines of the files that it includes. Where the first is read, so is the second, and they are the
--- same but for places and the names of texts. No read fails, and neither the files nor what follows
--- the include line begin with a command line.
+-- Replacing an include line of a makefile by the lines of the files that it includes changes only
+-- places and the names of texts, where the makefile was read without a fault, no read fails, and
+-- neither the files nor the lines after the include line begin with a command line.
 abbrev pub MakefilesMayHaveTheLinesInPlace : Type 0
 MakefilesMayHaveTheLinesInPlace =
     (reader : Reader) → (including inlined one other : List ℕ) → (defaults : Bool) →

@@ -12,32 +12,32 @@ use Rattle.mk_macros.specs.Substitution.{ends_with, without_end}
 use Rattle.mk_read.specs.declared.fault.KindFault.{KindFault}
 use Rattle.mk_read.specs.declared.fault.KindFault.TheVariants.{ShellAssign, ColonAssign, DoubleColon, TargetMacro, NotALine}
 
--- an include line: whether a file that isn't there is passed over, and the text with the names of
--- the files
+-- An include line: whether missing files are skipped, and the text with the names of the files.
 pub record IncludeLine : Type 0 where
   pub optional : Bool
   pub names : List ℕ
 
--- an assignment: the text with the name, the operator, and the text that is assigned
+-- An assignment: the text with the name, the operator, and the assigned text.
 pub record AssignmentLine : Type 0 where
   pub name : List ℕ
   pub op : Op
   pub value : List ℕ
 
--- a rule line: the text with the targets, that with the prerequisites, and the command behind the
--- `;`, where there is one
+-- A rule line: the text with the targets, the text with the prerequisites, and the command after
+-- the `;`, if there is one.
 pub record RuleLine : Type 0 where
   pub targets : List ℕ
   pub words : List ℕ
   pub command : Option (List ℕ)
 
+-- What a plain line is: a comment line, an include line, an assignment or a rule line.
 pub data Kind : Type 0 where
   Comment : Kind
   Include : IncludeLine → Kind
   Assignment : AssignmentLine → Kind
   Rule : RuleLine → Kind
 
--- a line whose first word is `include` or `-include`
+-- The line as an include line, where its first word is `include` or `-include`.
 abbrev pub include_line : List ℕ → Option IncludeLine
 include_line line =
     if bytes_eq (before_first is_blank line)
@@ -46,12 +46,13 @@ include_line line =
     (codes "-include") then Some (record { optional = true; names = after_first is_blank line })
     else None)
 
--- Blanks beside the operator are dropped, and those at the end of the text stay.
+-- An assignment without the blanks around its operator; blanks at the end of the assigned text
+-- stay.
 abbrev pub assigned : List ℕ → Op → List ℕ → Kind
 assigned name op value =
     Assignment (record { name = without_blanks name; op = op; value = trimmed value })
 
--- `=`, or with the byte before it `?=`, `+=` or `!=`, of which the last is refused
+-- An assignment with `=`, `?=` or `+=`, by the byte before the `=`; `ShellAssign` (21) for `!=`.
 abbrev pub assignment_line : List ℕ → List ℕ → Result Kind KindFault
 assignment_line before value =
     if ends_with (codes "!") before then Err ShellAssign
@@ -59,8 +60,8 @@ assignment_line before value =
     else (if ends_with (codes "+") before then Ok (assigned (without_end 1 before) Append value)
     else Ok (assigned before Delay value)))
 
--- what stands behind the colon, at the first `=` or `;` outside references: an `=` is refused, and
--- a `;` ends the prerequisites
+-- A rule line, the text after its colon split at the position of the first `=` or `;` outside
+-- references: `TargetMacro` (24) for `=`; the text after `;` is a command.
 abbrev pub words_and_command : List ℕ → List ℕ → Option ℕ → Result RuleLine KindFault
 words_and_command targets rest None =
     Ok (record { targets = targets; words = rest; command = None })
@@ -72,21 +73,22 @@ words_and_command targets rest (Some at) =
       command = Some (trimmed (drop (suc at) rest));
     })
 
--- `=` or `;`
+-- The byte is `=` or `;`.
 abbrev pub is_end_of_words : ℕ → Bool
 is_end_of_words b = b == 61 || b == 59
 
--- a rule line has some text before its colon
+-- The rule line, or `NotALine` (25) where it has no text before its colon.
 abbrev pub with_targets : Result RuleLine KindFault → Result Kind KindFault
 with_targets (Err fault) = Err fault
 with_targets (Ok rule) = if length rule.targets == 0 then Err NotALine else Ok (Rule rule)
 
+-- The rule line with these texts before and after its colon, or its fault.
 abbrev pub rule_line : List ℕ → List ℕ → Result Kind KindFault
 rule_line targets rest =
     with_targets (words_and_command targets rest (first_outside is_end_of_words rest))
 
--- A line by what stands before its first `=`, `:` or `;` outside references, and by what begins
--- there.
+-- The kind of a line, from the text before the first `=`, `:` or `;` outside references, and from
+-- what begins there.
 abbrev pub by_parts : List ℕ → List ℕ → Result Kind KindFault
 by_parts before from =
     if begins_with (codes "=") from then assignment_line before (drop 1 from)
@@ -97,19 +99,22 @@ by_parts before from =
     else (if begins_with (codes ":") from then rule_line before (drop 1 from)
     else Err NotALine)))))
 
+-- The kind of a line, from the position of the first `=`, `:` or `;` outside references; `NotALine`
+-- (25) without one.
 abbrev pub by_byte : List ℕ → Option ℕ → Result Kind KindFault
 by_byte line None = Err NotALine
 by_byte line (Some at) = by_parts (take at line) (drop at line)
 
--- A line that isn't empty: its first word decides, else the first of `=`, `:`, `;` outside
+-- The kind of a line that isn't empty: an include line, else by the first of `=`, `:`, `;` outside
 -- references.
 abbrev pub by_word : List ℕ → Option IncludeLine → Result Kind KindFault
 by_word line (Some include) = Ok (Include include)
 by_word line None = by_byte line (first_outside is_decisive line)
 
+-- The kind of a line without its leading blanks; an empty one is a comment line.
 abbrev pub of_trimmed : List ℕ → Result Kind KindFault
 of_trimmed line = if length line == 0 then Ok Comment else by_word line (include_line line)
 
--- The kind of a plain line without its comment.
+-- The kind of a plain line whose comment has been removed, or the fault of a line that has none.
 unfoldable pub kind_of : List ℕ → Result Kind KindFault
 kind_of text = of_trimmed (trimmed text)

@@ -11,7 +11,7 @@ use Rattle.mk_read.specs.Needs.{is_wait, groups}
 use Rattle.mk_read.specs.State.{State}
 use Rattle.mk_read.specs.Reading.{Reader, Deeper, Text, with_lines}
 
--- A line of a comment alone changes nothing: what is read with it is what is read without it.
+-- A comment line changes nothing: reading lines with it gives what reading them without it gives.
 abbrev pub CommentLinesChangeNothing : Type 0
 CommentLinesChangeNothing =
     (reader : Reader) → (deeper : Deeper) → (text : Text) → (before after : List Line) →
@@ -20,32 +20,32 @@ CommentLinesChangeNothing =
     → with_lines reader deeper text (before ++ line ∷ after) state ≡
     with_lines reader deeper text (before ++ after) state
 
--- groups in one list
+-- The groups joined to one list.
 abbrev pub joined : List (List (List ℕ)) → List (List ℕ)
 joined groups = flat_map (λ group. group) groups
 
--- Groups hold the words in their order, without `.WAIT`.
+-- The groups hold the words in order, without `.WAIT`.
 abbrev pub GroupsKeepTheirWords : Type 0
 GroupsKeepTheirWords =
     (not_parallel : Bool) → (words : List (List ℕ)) →
     joined (groups not_parallel words) ≡ filter (λ word. not (is_wait word)) words
 
--- a rule line, or one that is refused for its targets or for its prerequisites
+-- The line is a rule line, or is refused with `TargetMacro` (24) or `NotALine` (25).
 abbrev pub IsOfRule : Result Kind KindFault → Type 0
 IsOfRule (Ok (Rule line)) = Unit {0}
 IsOfRule (Err TargetMacro) = Unit {0}
 IsOfRule (Err NotALine) = Unit {0}
 IsOfRule kind = ⊥
 
--- Which lines are rule lines is asked before the comment is known too, since it decides where one
--- may begin. Of a line without a comment both words say the same.
+-- For a line without a comment, `is_rule_line` (which decides where a comment may begin) and
+-- `kind_of` agree on which lines are rule lines, but for refused ones.
 abbrev pub RuleLinesAreOfOneKind : Type 0
 RuleLinesAreOfOneKind =
     (text : List ℕ)
     → (is_rule_line text ≡ true → IsOfRule (kind_of text))
     × ((line : RuleLine) → kind_of text ≡ Ok (Rule line) → is_rule_line text ≡ true)
 
--- So with include lines.
+-- For a line without a comment, `is_include` and `kind_of` agree on which lines are include lines.
 abbrev pub IncludeLinesAreOfOneKind : Type 0
 IncludeLinesAreOfOneKind =
     (text : List ℕ)

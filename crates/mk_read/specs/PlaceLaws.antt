@@ -1,4 +1,4 @@
--- Laws of whole readings, but for places.
+-- Laws of whole makefiles that hold but for places.
 use Rattle.std.specs.Prelude.{◌≡◌, ◌<◌, ℕ, Bool, true, false, not, List, [], ◌∷◌, ◌++◌, length, map, filter, Option, None, Some, Result, Ok, Err, if◌then◌else◌, ◌&&◌}
 use Rattle.std.specs.List.{list_any}
 use Rattle.std.specs.Option.{option_map}
@@ -15,29 +15,31 @@ use Rattle.mk_read.specs.Names.{names_in}
 use Rattle.mk_read.specs.Reading.{Reader, Text, Makefile, makefile_of, with_lines, reading, makefile, max_texts}
 use Rattle.mk_read.specs.State.{Command, RuleRead, State}
 
--- the place that stands for each
+-- The place that replaces every place.
 abbrev pub nowhere : Place
 nowhere = record { file = []; line = 0 }
 
+-- The command without its place.
 abbrev pub unplaced_command : Command → Command
 unplaced_command command = record command { place = nowhere }
 
+-- The rule line without its place and those of its commands.
 abbrev pub unplaced_rule : RuleRead → RuleRead
 unplaced_rule rule =
     record rule { commands = option_map (map unplaced_command) rule.commands; place = nowhere }
 
--- a makefile without the places of its rule lines and commands
+-- The makefile without the places of its rule lines and commands.
 abbrev pub unplaced : Makefile → Makefile
 unplaced m = record m { rules = map unplaced_rule m.rules }
 
--- a fault of a line without the line's number
+-- The fault of a line without the line's number.
 abbrev pub unnumbered_fault : LineFault → LineFault
 unnumbered_fault (line.NulByte number) = line.NulByte 0
 unnumbered_fault (line.LineTooLong number) = line.LineTooLong 0
 unnumbered_fault (line.TooManyLines number) = line.TooManyLines 0
 unnumbered_fault line.Memory = line.Memory
 
--- a fault without its place
+-- The fault without its place.
 abbrev pub unplaced_fault : ReadFault → ReadFault
 unplaced_fault (fault.Line file why) = fault.Line file (unnumbered_fault why)
 unplaced_fault (fault.Macro place why) = fault.Macro nowhere why
@@ -58,42 +60,46 @@ unplaced_fault (fault.TooManyFiles place) = fault.TooManyFiles nowhere
 unplaced_fault (fault.NoMakefile name) = fault.NoMakefile name
 unplaced_fault fault.Memory = fault.Memory
 
--- a result, seen by view, or its fault without the place
+-- The view of a result, or its fault without the place.
 abbrev pub but_places : {A B : Type 0} → (A → B) → Result A ReadFault → Result B ReadFault
 but_places view (Ok x) = Ok (view x)
 but_places view (Err fault) = Err (unplaced_fault fault)
 
+-- The line is a comment line.
 abbrev pub is_comment_kind : Result Kind KindFault → Bool
 is_comment_kind (Ok Comment) = true
 is_comment_kind kind = false
 
+-- The line is an include line.
 abbrev pub is_include_kind : Result Kind KindFault → Bool
 is_include_kind (Ok (Include line)) = true
 is_include_kind kind = false
 
--- a line of a comment alone
+-- The line is a plain line with nothing but blanks and a comment.
 abbrev pub is_comment_line : Line → Bool
 is_comment_line line = not line.command && is_comment_kind (kind_of (uncomment line.text))
 
--- an include line
+-- The line is an include line.
 abbrev pub is_include_line : Line → Bool
 is_include_line line = not line.command && is_include_kind (kind_of (uncomment line.text))
 
+-- The line without its number.
 abbrev pub unnumbered : Line → Line
 unnumbered line = record line { first = 0 }
 
--- the lines of a text but for comments and numbers, or its fault but for the number
+-- The lines of a text without comment lines and line numbers, or its fault without the line's
+-- number.
 abbrev pub lines_said : Result (List Line) LineFault → Result (List Line) LineFault
 lines_said (Ok lines) =
     Ok (map unnumbered (filter (λ (line : Line). not (is_comment_line line)) lines))
 lines_said (Err why) = Err (unnumbered_fault why)
 
--- what a text says, if there is one
+-- The lines of a text, if there is one, without comment lines and line numbers.
 abbrev pub text_said : Option (List ℕ) → Option (Result (List Line) LineFault)
 text_said text = option_map (λ bytes. lines_said (logical_lines bytes)) text
 
--- Where the texts of two readers have the same lines, but for comments and for the numbers of
--- lines, both give the same makefile or the same fault, but for places.
+-- Two readers whose texts differ only in comment lines and line numbers give the same makefile or
+-- the same fault, but for places.
 abbrev pub CommentsAndNumbersChangeOnlyPlaces : Type 0
 CommentsAndNumbersChangeOnlyPlaces =
     (reader other : Reader) → (file : Option (List ℕ)) → (defaults : Bool) →
@@ -103,35 +109,35 @@ CommentsAndNumbersChangeOnlyPlaces =
     → but_places unplaced (makefile reader file defaults operands) ≡
     but_places unplaced (makefile other file defaults operands)
 
--- no line is an include line
+-- No line is an include line.
 abbrev pub includes_nothing : List Line → Bool
 includes_nothing lines = not (list_any is_include_line lines)
 
--- the first line that isn't of a comment alone, if there is one, is no command line
+-- The first line that is no comment line, if there is one, is no command line.
 unfoldable pub begins_without_command : List Line → Bool
 begins_without_command [] = true
 begins_without_command (line ∷ lines) =
     if is_comment_line line then begins_without_command lines else not line.command
 
--- the makefile that has been read so far, without places and the names of its texts
+-- What has been read so far, without places and without the names of texts.
 abbrev pub said : State → Makefile
 said state = record (unplaced (makefile_of state)) { texts = [] }
 
--- a file of these lines, that don't begin with a command line
+-- The file exists, its lines are these, and they don't begin with a command line.
 pub record FileHolds (reader : Reader) (name : List ℕ) (lines : List Line) : Type 0 where
   pub bytes : List ℕ
   pub there : reader.text name ≡ Some bytes
   pub good : logical_lines bytes ≡ Ok lines
   pub beginning : begins_without_command lines ≡ true
 
--- files that hold these lines together, in their order
+-- The files exist, and their lines together, in order, are these.
 abbrev pub FilesHold : Reader → List (List ℕ) → List Line → Type 0
 FilesHold reader [] lines = lines ≡ []
 FilesHold reader (name ∷ names) lines =
     (own : List Line) × (rest : List Line) × FileHolds reader name own × (lines ≡ own ++ rest) ×
     FilesHold reader names rest
 
--- an include line whose files hold these lines, from a state
+-- The line is an include line whose files, named with the macros of this state, hold these lines.
 pub record IncludesLines (reader : Reader) (text : Text) (line : Line) (lines : List Line)
     (state : State) : Type 0 where
   pub include : IncludeLine
@@ -144,10 +150,9 @@ pub record IncludesLines (reader : Reader) (text : Text) (line : Line) (lines : 
   }) state.table include.names ≡ Ok names
   pub files : FilesHold reader names lines
 
--- Where a text is read, an include line stands for the lines of its files: with these lines in its
--- place the text is read too, and says the same but for places and the names of texts. No read
--- fails, the files are there, and neither they nor what follows the include line begin with a
--- command line. They may include others.
+-- Replacing an include line by the lines of its files changes only places and the names of texts,
+-- where the text was read without a fault, no read fails, the files exist, and neither they nor the
+-- lines after the include line begin with a command line. The files may include others.
 abbrev pub IncludeLinesStandForTheirLines : Type 0
 IncludeLinesStandForTheirLines =
     (reader : Reader) → (levels : ℕ) → (text : Text) → (before lines after : List Line) →
@@ -162,7 +167,8 @@ IncludeLinesStandForTheirLines =
     (with_lines reader (Some (reading levels reader)) text (before ++ lines ++ after) start ≡
     Ok same) × (said same ≡ said read)
 
--- an include line that names one file, from a state where that can be read
+-- The line is an include line that names just this file, and one more text may be read in this
+-- state.
 pub record NamesOneFile (reader : Reader) (text : Text) (line : Line) (name : List ℕ)
     (state : State) : Type 0 where
   pub include : IncludeLine
@@ -174,15 +180,14 @@ pub record NamesOneFile (reader : Reader) (text : Text) (line : Line) (name : Li
   }) state.table include.names ≡ Ok (name ∷ [])
   pub not_too_many : length state.texts < max_texts
 
--- lines that can stand elsewhere: they include nothing, and don't begin with a command line
+-- The lines include nothing, and don't begin with a command line.
 pub record StandAlone (lines : List Line) : Type 0 where
   pub including : includes_nothing lines ≡ true
   pub beginning : begins_without_command lines ≡ true
 
--- Faults too: a text in which an include line stands for the lines of its file reads as the text
--- with those lines in its place, or has the same fault, but for places and the names of texts. Here
--- the file includes nothing itself, nor does what follows the include line; neither begins with a
--- command line; no read fails.
+-- Replacing an include line by the lines of its one file gives the same state or the same fault,
+-- but for places and the names of texts, where no read fails, and neither the file nor the lines
+-- after the include line include anything or begin with a command line.
 abbrev pub IncludeLinesFailAsTheirLines : Type 0
 IncludeLinesFailAsTheirLines =
     (reader : Reader) → (levels : ℕ) → (text : Text) → (before lines after : List Line) →

@@ -1,7 +1,7 @@
--- The reading of a makefile.
+-- How a makefile is read.
 --
--- Lines are read one after another over a state: what has been defined, listed and read so far. An
--- include line stands for the lines of its files. The first fault is the answer.
+-- Lines are read in order, each changing the state: what has been defined, listed and read so far.
+-- An include line is replaced by the lines of its files. The first fault is the result.
 use Rattle.std.specs.Prelude.{ℕ, zero, suc, ◌+◌, ◌==◌, Bool, true, false, not, ◌||◌, List, [], ◌∷◌, ◌++◌, codes, length, filter, nat_le, Option, None, Some, Result, Ok, Err, if◌then◌else◌}
 use Rattle.std.specs.List.{list_any, flat_map}
 use Rattle.std.specs.Str.{bytes_eq}
@@ -20,43 +20,45 @@ use Rattle.mk_read.specs.State.{RuleRead, State, nothing_read, rules_of, parted}
 use Rattle.mk_read.specs.Rules.{command_line, assignment, rule}
 use Rattle.mk_read.specs.Steps.{◌>>=◌, in_file, at_place, of_kind}
 
--- a reader of files: the text of each name that has one, and the number of the read that fails, if
--- one does
+-- A reader of files: the text of each file that exists, and the number of the read that fails, if
+-- one does.
 pub record Reader : Type 0 where
   pub text : List ℕ → Option (List ℕ)
   pub failing : Option ℕ
 
--- how many reads went well
+-- How many reads have succeeded.
 abbrev pub reads : State → ℕ
 reads state = length state.texts + length state.missing
 
+-- The number, if there is one, is n.
 abbrev pub is_number : Option ℕ → ℕ → Bool
 is_number None n = false
 is_number (Some k) n = k == n
 
--- the next read, counted from 1, is the one that fails
+-- The next read, counted from 1, is the one that fails.
 abbrev pub fails : Reader → State → Bool
 fails reader state = is_number reader.failing (suc (reads state))
 
--- a text: the name of its file, and whether it is the default text
+-- A text: the name of its file, and whether it is the default text.
 pub record Text : Type 0 where
   pub file : List ℕ
   pub default : Bool
 
--- How the text of a file is read that an include line names: none is, at the last level.
+-- How the text of an included file is read; `None` at the last level, where no file may be
+-- included.
 abbrev pub Deeper : Type 0
 Deeper = Option (List ℕ → List ℕ → State → Result State ReadFault)
 
--- the level of include lines at which none is read
+-- The level at which an include line is refused.
 abbrev pub max_levels : ℕ
 max_levels = 16
 
--- the most texts that are read
+-- The most texts that are read.
 abbrev pub max_texts : ℕ
 max_texts = 1024
 
--- A file that an include line names, or nothing in its place where it isn't there and may be passed
--- over.
+-- The state after a file of an include line was looked for: its text is read where it exists; a
+-- missing file is skipped where that is allowed, else `IncludeMissing` (32).
 abbrev pub found : (List ℕ → List ℕ → State → Result State ReadFault) → Place → Bool → State →
     List ℕ → Option (List ℕ) → Result State ReadFault
 found read place optional state name None =
@@ -70,6 +72,8 @@ found read place optional state name (Some text) =
           name ∷ [];
     }) >>= λ after. Ok (parted after)
 
+-- The state after one file of an include line: `TooManyFiles` (36), else `ReadFailed` (35), else as
+-- `found` says.
 unfoldable pub one_file : Reader → (List ℕ → List ℕ → State → Result State ReadFault) → Place →
     Bool → State → List ℕ → Result State ReadFault
 one_file reader read place optional state name =
@@ -77,27 +81,30 @@ one_file reader read place optional state name =
     else (if fails reader state then Err (ReadFailed (Some place) name)
     else found read place optional state name (reader.text name))
 
--- the files of an include line, in order
+-- The state after the files of an include line, in order.
 unfoldable pub files : Reader → (List ℕ → List ℕ → State → Result State ReadFault) → Place → Bool →
     List (List ℕ) → State → Result State ReadFault
 files reader read place optional [] state = Ok state
 files reader read place optional (name ∷ names) state =
     one_file reader read place optional state name >>= files reader read place optional names
 
+-- The state after an include line: `IncludeDepth` (33) at the last level; then its names are
+-- expanded; `IncludeEmpty` (34) without names. No command line after it belongs to a rule line
+-- before it.
 abbrev pub include : Reader → Deeper → Place → State → IncludeLine → Result State ReadFault
 include reader None place state line = Err (IncludeDepth place)
 include reader (Some read) place state line = names_in place state.table line.names >>= λ names.
     if is_empty names then Err (IncludeEmpty place)
     else files reader read place line.optional names (parted state)
 
--- A plain line by its kind. A line of a comment alone changes nothing.
+-- The state after a plain line of this kind; a comment line changes nothing.
 abbrev pub plain_line : Reader → Deeper → Bool → Place → State → Kind → Result State ReadFault
 plain_line reader deeper default place state Comment = Ok state
 plain_line reader deeper default place state (Include line) = include reader deeper place state line
 plain_line reader deeper default place state (Assignment line) = assignment place state line
 plain_line reader deeper default place state (Rule line) = rule default place state line
 
--- what is read after one more line
+-- The state after one more line.
 unfoldable pub with_line : Reader → Deeper → Text → State → Line → Result State ReadFault
 with_line reader deeper text state line =
     let place : Place = record { file = text.file; line = line.first } in
@@ -106,18 +113,18 @@ with_line reader deeper text state line =
     else (of_kind place (kind_of (uncomment line.text))
     >>= plain_line reader deeper text.default place state)
 
--- what is read after these lines
+-- The state after these lines.
 unfoldable pub with_lines : Reader → Deeper → Text → List Line → State → Result State ReadFault
 with_lines reader deeper text [] state = Ok state
 with_lines reader deeper text (line ∷ lines) state =
     with_line reader deeper text state line >>= with_lines reader deeper text lines
 
--- what is read after a text: its lines' faults come before its lines
+-- The state after a text; faults of splitting it into lines come before any line is read.
 abbrev pub with_text : Reader → Deeper → Text → List ℕ → State → Result State ReadFault
 with_text reader deeper text bytes state =
     in_file text.file (logical_lines bytes) >>= λ lines. with_lines reader deeper text lines state
 
--- the same for a text of the makefile, with so many levels of include lines below it
+-- The state after a text of the makefile, where this many levels of include lines are left.
 unfoldable pub reading : ℕ → Reader → List ℕ → List ℕ → State → Result State ReadFault
 reading zero reader file bytes state =
     with_text reader None (record { file = file; default = false }) bytes state
@@ -125,7 +132,7 @@ reading (suc levels) reader file bytes state =
     with_text reader (Some (reading levels reader))
     (record { file = file; default = false }) bytes state
 
--- The default text, a line each.
+-- The lines of the default text.
 abbrev pub default_lines : List (List ℕ)
 default_lines =
     codes ".SUFFIXES: .o .c .sh" ∷ codes "MAKE = make" ∷ codes "CC = c17" ∷ codes "CFLAGS = -O1" ∷
@@ -133,9 +140,11 @@ default_lines =
     codes ".sh:" ∷ (9 ∷ codes "cp $< $@") ∷ (9 ∷ codes "chmod a+x $@") ∷
     codes ".c.o:" ∷ (9 ∷ codes "$(CC) $(CFLAGS) -c $<") ∷ []
 
+-- The default text, each line with its newline.
 abbrev pub default_text : List ℕ
 default_text = flat_map (λ line. line ++ 10 ∷ []) default_lines
 
+-- The state after the default text, or the empty state where it isn't read.
 unfoldable pub after_default : Reader → Bool → Result State ReadFault
 after_default reader defaults =
     if defaults then with_text reader None (record {
@@ -144,25 +153,29 @@ after_default reader defaults =
     }) default_text nothing_read
     else Ok nothing_read
 
--- the table with the operands from this number on
+-- The table after the macro operands, numbered from this number on.
 unfoldable pub with_operands : ℕ → List (List ℕ) → List Macro → Result (List Macro) ReadFault
 with_operands number [] table = Ok table
 with_operands number (operand ∷ operands) table = do
   after ← at_place (record { file = codes "operand"; line = number }) (with_operand table operand)
   with_operands (number + 1) operands after
 
--- The makefile's own text, where it is there.
+-- The state after the makefile's text where the file exists, else `other`.
 abbrev pub text_or : Reader → State → List ℕ → Result State ReadFault → Option (List ℕ) →
     Result State ReadFault
 text_or reader state name other None = other
 text_or reader state name other (Some bytes) =
     reading max_levels reader name bytes (record (parted state) { texts = name ∷ [] })
 
+-- The state after the makefile with this name: `ReadFailed` (35), or `other` where the file doesn't
+-- exist.
 unfoldable pub own_text : Reader → State → List ℕ → Result State ReadFault → Result State ReadFault
 own_text reader state name other =
     if fails reader state then Err (ReadFailed None name)
     else text_or reader state name other (reader.text name)
 
+-- The state after the makefile with the given name or, without a name, after `makefile` or else
+-- `Makefile`; `NoMakefile` (37) where it doesn't exist.
 unfoldable pub from_named : Reader → State → Option (List ℕ) → Result State ReadFault
 from_named reader state (Some name) = own_text reader state name (Err (NoMakefile (Some name)))
 from_named reader state None =
@@ -172,19 +185,21 @@ from_named reader state None =
           [];
     }) (codes "Makefile") (Err (NoMakefile None)))
 
--- the name of the makefile is a plain path, and not `-`
+-- The name of the makefile, if one is given, or `BadMakefileName` (27) where it is no plain path or
+-- is `-`.
 abbrev pub named : Option (List ℕ) → Result (Option (List ℕ)) ReadFault
 named None = Ok None
 named (Some name) =
     if not (is_plain_path name) ||
     bytes_eq name (codes "-") then Err (BadMakefileName name) else Ok (Some name)
 
--- A rule line of the default text counts where one of its targets is an inference name, by the
--- suffixes after all reading.
+-- The rule line belongs to the makefile: it isn't from the default text, or one of its targets is
+-- an inference name by these suffixes.
 abbrev pub counts : List (List ℕ) → RuleRead → Bool
 counts suffixes rule = not rule.default || list_any (is_inference_name suffixes) rule.targets
 
--- What a makefile says.
+-- The contents of a makefile: rule lines, suffixes, phony names, whether it has `.NOTPARALLEL`,
+-- macros, the names of the texts that were read, and those of missing files that were skipped.
 pub record Makefile : Type 0 where
   pub rules : List RuleRead
   pub suffixes : List (List ℕ)
@@ -194,6 +209,7 @@ pub record Makefile : Type 0 where
   pub texts : List (List ℕ)
   pub passed_over : List (List ℕ)
 
+-- The makefile of a state, when all has been read.
 abbrev pub makefile_of : State → Makefile
 makefile_of state =
     record {
@@ -207,8 +223,8 @@ makefile_of state =
       passed_over = state.missing;
     }
 
--- The makefile of this name, or a usual one, behind the default text, where it is asked for, and
--- the operands.
+-- The makefile with this name, or a usual name, read after the default text, where that is wanted,
+-- and after the operands; or the first fault.
 unfoldable pub makefile : Reader → Option (List ℕ) → Bool → List (List ℕ) →
     Result Makefile ReadFault
 makefile reader name defaults operands = do

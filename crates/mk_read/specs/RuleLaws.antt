@@ -13,8 +13,8 @@ use Rattle.mk_read.specs.Rules.{gives_commands, is_commanded}
 use Rattle.mk_read.specs.Special.{is_special, is_suffix}
 use Rattle.mk_read.specs.State.{RuleRead, State}
 
--- Of two rule lines of a makefile that is read, at most one gives a name its commands: where one
--- does, none behind it does.
+-- At most one of the makefile's own rule lines gives commands to a name: where one does, no later
+-- one does.
 abbrev pub OneLineHasTheCommands : Type 0
 OneLineHasTheCommands =
     (reader : Reader) → (file : Option (List ℕ)) → (defaults : Bool) → (operands : List (List ℕ)) →
@@ -23,7 +23,7 @@ OneLineHasTheCommands =
     m.rules ≡ before ++ one ∷ between ++ other ∷ after
     → gives_commands name one ≡ true → gives_commands name other ≡ false
 
--- The commands of a name are those of the rule line of the makefile that gives it any.
+-- The commands of a name are those of the makefile's own rule line that gives it commands.
 abbrev pub CommandsAreOfTheOneLine : Type 0
 CommandsAreOfTheOneLine =
     (reader : Reader) → (file : Option (List ℕ)) → (defaults : Bool) → (operands : List (List ℕ)) →
@@ -32,32 +32,33 @@ CommandsAreOfTheOneLine =
     m.rules ≡ before ++ rule ∷ after
     → gives_commands name rule ≡ true → commands_of m.rules name ≡ rule.commands
 
--- the rule lines of the default text
+-- The rule lines of the default text.
 abbrev pub of_default_text : List RuleRead → List RuleRead
 of_default_text rules = filter (λ (rule : RuleRead). rule.default) rules
 
--- Where no rule line of the makefile gives a name commands, it has those that the default text
--- gives it.
+-- A name to which none of the makefile's own rule lines gives commands has those that the default
+-- text gives it.
 abbrev pub ElseCommandsAreOfTheDefaultText : Type 0
 ElseCommandsAreOfTheDefaultText =
     (rules : List RuleRead) → (name : List ℕ) → is_commanded rules name ≡ false →
     commands_of rules name ≡ commands_of (of_default_text rules) name
 
--- The prerequisites of a name by two lists of rule lines are those by the one, then those by the
--- other.
+-- The prerequisites of a name from two lists of rule lines are those from the first, followed by
+-- those from the second.
 abbrev pub WordsComeFromAllLines : Type 0
 WordsComeFromAllLines =
     (before after : List RuleRead) → (name : List ℕ) →
     words_of (before ++ after) name ≡ words_of before name ++ words_of after name
 
--- A rule line that doesn't name it gives a name no prerequisites.
+-- A rule line that doesn't have a name as a target gives it no prerequisites.
 abbrev pub OtherLinesGiveNoWords : Type 0
 OtherLinesGiveNoWords =
     (before after : List RuleRead) → (rule : RuleRead) → (name : List ℕ) →
     has_name rule.targets name ≡ false
     → words_of (before ++ rule ∷ after) name ≡ words_of (before ++ after) name
 
--- A rule line that names it gives a name its words, in its place.
+-- A rule line that has a name as a target gives it its prerequisites, in the line's place in the
+-- order.
 abbrev pub NamingLinesGiveTheirWords : Type 0
 NamingLinesGiveTheirWords =
     (before after : List RuleRead) → (rule : RuleRead) → (name : List ℕ) →
@@ -65,7 +66,7 @@ NamingLinesGiveTheirWords =
     → words_of (before ++ rule ∷ after) name ≡
     words_of before name ++ (rule.words ++ words_of after name)
 
--- A macro that stands fixed behind the operands stands in the makefile as it is.
+-- A macro that is fixed when the operands have been applied is unchanged in the makefile.
 abbrev pub OperandsWinOverMakefiles : Type 0
 OperandsWinOverMakefiles =
     (reader : Reader) → (file : Option (List ℕ)) → (defaults : Bool) → (operands : List (List ℕ)) →
@@ -75,12 +76,12 @@ OperandsWinOverMakefiles =
     → (name : List ℕ) → (macro : Macro) → macro_named table name ≡ Some macro → macro.fixed ≡ true
     → macro_named m.macros name ≡ Some macro
 
--- the operand sets this name
+-- The operand sets this name.
 abbrev pub sets : List ℕ → List ℕ → Bool
 sets name operand = bytes_eq name (operand_name operand)
 
--- A macro that an operand sets, and no later one does, stands in the makefile as that operand set
--- it, whatever the makefile assigns.
+-- A macro that an operand sets, and no later operand, is in the makefile as that operand set it,
+-- whatever the makefile assigns.
 abbrev pub LastOperandWins : Type 0
 LastOperandWins =
     (reader : Reader) → (file : Option (List ℕ)) → (defaults : Bool) → (operands : List (List ℕ)) →
@@ -92,22 +93,21 @@ LastOperandWins =
     list_any (sets (operand_name operand)) after ≡ false
     → macro_named m.macros (operand_name operand) ≡ macro_named set (operand_name operand)
 
--- The rule line has a target, its targets and its prerequisites are names, and no target is
--- special.
+-- The rule line has a target, its targets and prerequisites are names, and no target is special.
 abbrev pub is_well_named : RuleRead → Bool
 is_well_named rule =
     not (is_empty rule.targets) &&
     (list_all is_make_name rule.targets &&
     (list_all is_make_name rule.words && not (list_any is_special rule.targets)))
 
--- So is each rule line of a makefile that is read.
+-- Each rule line of a makefile is well named.
 abbrev pub RuleLinesAreWellNamed : Type 0
 RuleLinesAreWellNamed =
     (reader : Reader) → (file : Option (List ℕ)) → (defaults : Bool) → (operands : List (List ℕ)) →
     (m : Makefile) → makefile reader file defaults operands ≡ Ok m
     → list_all is_well_named m.rules ≡ true
 
--- The words that a makefile lists as suffixes are suffixes.
+-- Each word that a makefile lists as a suffix is one.
 abbrev pub SuffixesAreSuffixes : Type 0
 SuffixesAreSuffixes =
     (reader : Reader) → (file : Option (List ℕ)) → (defaults : Bool) → (operands : List (List ℕ)) →

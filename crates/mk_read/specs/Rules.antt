@@ -1,4 +1,4 @@
--- What the lines of a text do, those that include another text aside.
+-- What each kind of line does, include lines aside.
 use Rattle.std.specs.Prelude.{ℕ, ◌==◌, Bool, true, false, not, ◌&&◌, ◌||◌, List, [], ◌∷◌, ◌++◌, codes, length, find, slice_index, Option, None, Some, Result, Ok, Err, if◌then◌else◌}
 use Rattle.std.specs.List.{list_all, list_any}
 use Rattle.std.specs.Option.{option_map}
@@ -16,43 +16,46 @@ use Rattle.mk_read.specs.Special.{special_among, is_unknown_special, is_suffix, 
 use Rattle.mk_read.specs.State.{Command, RuleRead, Owner, Nobody, Last, SpecialTarget, PassedOver, Read, State, rules_of, owned, parted}
 use Rattle.mk_read.specs.Steps.{◌>>=◌, at_place}
 
+-- The option has a value.
 abbrev pub has_some : {A : Type 0} → Option A → Bool
 has_some None = false
 has_some (Some x) = true
 
--- The makefile's rule line has commands and names the target. Those of the default text don't
--- count.
+-- The rule line is the makefile's own, has commands, and has the name as a target.
 abbrev pub gives_commands : List ℕ → RuleRead → Bool
 gives_commands name rule =
     not rule.default && (has_some rule.commands && has_name rule.targets name)
 
--- one of the rule lines does
+-- One of the rule lines gives commands to the name.
 abbrev pub is_commanded : List RuleRead → List ℕ → Bool
 is_commanded rules name = list_any (gives_commands name) rules
 
--- the first target for which an earlier rule line has commands
+-- The first target of the rule line to which an earlier line gives commands already; none where the
+-- rule line is from the default text.
 abbrev pub taken : List RuleRead → RuleRead → Option (List ℕ)
 taken earlier rule = if rule.default then None else find (is_commanded earlier) rule.targets
 
--- the rule line has commands from here on
+-- The rule line is the last one, or `TwoRecipes` (31) where a target has commands already.
 abbrev pub unless_taken : Option (List ℕ) → RuleRead → List RuleRead → Result Read ReadFault
 unless_taken (Some target) rule earlier = Err (TwoRecipes rule.place target)
 unless_taken None rule earlier = Ok (record { earlier = earlier; owner = Last rule })
 
--- the commands with one more
+-- The commands with one more at the end.
 abbrev pub with_command : Option (List Command) → Command → List Command
 with_command None command = command ∷ []
 with_command (Some commands) command = commands ++ command ∷ []
 
--- the rule line with a command more
+-- The rule line with one more command.
 abbrev pub commanded : RuleRead → Command → RuleRead
 commanded rule command = record rule { commands = Some (with_command rule.commands command) }
 
--- the first non-blank byte is `#`
+-- The first byte that isn't blank is `#`.
 abbrev pub is_comment : List ℕ → Bool
 is_comment text = slice_index (trimmed text) 0 == 35
 
--- A command line, without the blanks that lead it.
+-- What has been read after a command line, by what it belongs to: it adds a command to the last
+-- rule line. Where it belongs to nothing, it is a comment or else `StrayCommand` (26); a special
+-- target's is `SpecialShape` (30); a skipped rule line's is ignored.
 unfoldable pub command_line : Place → List ℕ → List RuleRead → Owner → Result Read ReadFault
 command_line place text earlier Nobody =
     if is_comment text then Ok (record {
@@ -66,14 +69,15 @@ command_line place text earlier (Last rule) =
     if has_some rule.commands then Ok (record { earlier = earlier; owner = Last more })
     else unless_taken (taken earlier rule) more earlier
 
--- An assignment: its name is expanded first.
+-- The state after an assignment, whose name is expanded first.
 unfoldable pub assignment : Place → State → AssignmentLine → Result State ReadFault
 assignment place state line = do
   name ← at_place place (expansion state.table None line.name)
   table ← at_place place (defined state.table (without_blanks name.text) line.op line.value)
   Ok (record (parted state) { table = table })
 
--- What a special target does with its words.
+-- The state after a special target with these prerequisites, or `SpecialShape` (30) where they
+-- don't fit it.
 abbrev pub special_words : Place → State → List (List ℕ) → Special → Result State ReadFault
 special_words place state words Suffixes =
     if list_all is_suffix words then Ok (record state { suffixes = listed state.suffixes words })
@@ -85,7 +89,8 @@ special_words place state words Wordless =
     if is_empty words then Ok state else Err (SpecialShape place)
 special_words place state words Unread = Ok state
 
--- a special target stands alone, without commands and without `.WAIT`
+-- The state after a rule line of a special target: `SpecialShape` (30) where it has other targets,
+-- commands, or `.WAIT`.
 unfoldable pub special_rule : Place → State → List (List ℕ) → List (List ℕ) → Bool → Special →
     Result State ReadFault
 special_rule place state targets words commands special =
@@ -93,18 +98,18 @@ special_rule place state targets words commands special =
     (commands || has_name words (codes ".WAIT")) then Err (SpecialShape place)
     else special_words place (record state { read = owned SpecialTarget state.read }) words special
 
--- a rule line more
+-- What has been read after one more rule line.
 unfoldable pub new_rule : RuleRead → Read → Result Read ReadFault
 new_rule rule read =
     if has_some rule.commands then unless_taken (taken (rules_of read) rule) rule (rules_of read)
     else Ok (owned (Last rule) read)
 
--- a command behind a `;`, where it has some text
+-- The command after a `;`, or no command where the text is empty.
 abbrev pub commands_behind : Place → List ℕ → List Command
 commands_behind place text =
     if is_empty text then [] else record { text = text; place = place } ∷ []
 
--- A rule line by its names.
+-- The state after a rule line with these names: of a special target, or of other targets.
 abbrev pub by_special : Bool → Place → State → List (List ℕ) → List (List ℕ) → Option (List ℕ) →
     Option Special → Result State ReadFault
 by_special default place state targets words command (Some special) =
@@ -118,19 +123,23 @@ by_special default place state targets words command None =
       default = default;
     }) state.read >>= λ read. Ok (record state { read = read })
 
+-- The state after a rule line with these names: `UnknownSpecial` (29) where a target looks like a
+-- special one and is unknown.
 unfoldable pub by_names : Bool → Place → State → List (List ℕ) → Option (List ℕ) → List (List ℕ) →
     Result State ReadFault
 by_names default place state targets command words =
     if list_any is_unknown_special targets then Err (UnknownSpecial place)
     else by_special default place state targets words command (special_among targets)
 
--- Where the targets expand to nothing, the rest of the line is passed over unexpanded.
+-- The state after a rule line with these targets. Without targets the line is skipped, its
+-- prerequisites unexpanded.
 abbrev pub by_targets : Bool → Place → State → RuleLine → List (List ℕ) → Result State ReadFault
 by_targets default place state line targets =
     if is_empty targets then Ok (record state { read = owned PassedOver state.read })
     else (names_in place state.table line.words
     >>= by_names default place state targets line.command)
 
+-- The state after a rule line, whose targets are expanded first.
 unfoldable pub rule : Bool → Place → State → RuleLine → Result State ReadFault
 rule default place state line =
     names_in place state.table line.targets >>= by_targets default place state line

@@ -1,4 +1,4 @@
--- Laws of what texts say.
+-- Laws of texts.
 use Rattle.std.specs.Prelude.{◌≡◌, ◌⊎◌, ℕ, Bool, true, false, not, List, [], ◌∷◌, ◌++◌, ◌&&◌, ◌||◌, Option, Some, Ok}
 use Rattle.std.specs.List.{list_any}
 use Rattle.std.specs.Str.{bytes_eq}
@@ -9,31 +9,30 @@ use Rattle.mk_read.specs.Kinds.{kind_of}
 use Rattle.mk_read.specs.PlaceLaws.{unplaced, but_places, is_comment_kind, text_said}
 use Rattle.mk_read.specs.Reading.{Reader, makefile}
 
--- nothing, or a text that ends at a newline that isn't escaped
+-- The text is empty, or ends with a newline that isn't escaped.
 abbrev pub EndsALine : List ℕ → Type 0
 EndsALine text =
     (text ≡ []) ⊎ ((lines : List ℕ) × (text ≡ lines ++ 10 ∷ []) × (escapes lines ≡ false))
 
--- a physical line that holds no newline and doesn't go on in the next one: of blanks alone, or a
--- plain one of a comment alone
-abbrev pub is_silent : List ℕ → Bool
-is_silent line =
+-- The physical line has no newline, doesn't go on in the next line, and is blank or a comment line.
+abbrev pub is_blank_or_comment : List ℕ → Bool
+is_blank_or_comment line =
     not (list_any (is_byte 10) line) &&
     (not (escapes line) &&
     (is_blank_alone line || (not (is_command line) && is_comment_kind (kind_of (uncomment line)))))
 
--- A line of blanks or of a comment alone says nothing: put behind a line of a text it leaves what
--- the text says, where no limit of lines is met.
+-- A blank line or a comment line that is inserted into a text between two lines doesn't change what
+-- the text says, where no limit of lines is exceeded.
 abbrev pub SilentLinesSayNothing : Type 0
 SilentLinesSayNothing =
     (front line other : List ℕ) → (without having : List Line) → EndsALine front →
-    is_silent line ≡ true
+    is_blank_or_comment line ≡ true
     → logical_lines (front ++ other) ≡ Ok without →
     logical_lines (front ++ ((line ++ 10 ∷ []) ++ other)) ≡ Ok having
     → text_said (Some (front ++ ((line ++ 10 ∷ []) ++ other))) ≡ text_said (Some (front ++ other))
 
--- Two readers whose texts are the same, but that the text of one file has a line of blanks or of a
--- comment alone more in it, give the same makefile or the same fault, but for places.
+-- Two readers whose texts differ only in a blank line or a comment line that is inserted into one
+-- text give the same makefile or the same fault, but for places.
 abbrev pub SilentLinesChangeOnlyPlaces : Type 0
 SilentLinesChangeOnlyPlaces =
     (reader other : Reader) → (file : Option (List ℕ)) → (defaults : Bool) →
@@ -41,7 +40,7 @@ SilentLinesChangeOnlyPlaces =
     → reader.failing ≡ other.failing →
     ((name : List ℕ) → bytes_eq name changed ≡ false → reader.text name ≡ other.text name)
     → reader.text changed ≡ Some (front ++ ((line ++ 10 ∷ []) ++ rest)) →
-    other.text changed ≡ Some (front ++ rest) → EndsALine front → is_silent line ≡ true
+    other.text changed ≡ Some (front ++ rest) → EndsALine front → is_blank_or_comment line ≡ true
     → logical_lines (front ++ rest) ≡ Ok without →
     logical_lines (front ++ ((line ++ 10 ∷ []) ++ rest)) ≡ Ok having
     → but_places unplaced (makefile reader file defaults operands) ≡

@@ -1,7 +1,7 @@
-//! Why a line is none that is read, and why a makefile is refused.
+//! Why a plain line is refused, and why a makefile is refused.
 
 ghost use Rattle.std.specs.Prelude.{◌≡◌};
-ghost use Rattle.mk_read.specs.Steps.{is_want_of_memory};
+ghost use Rattle.mk_read.specs.Steps.{is_out_of_memory};
 ghost use Rattle.mk_read.specs.declared.fault.KindFault.TheVariants.{Memory};
 ghost use Rattle.mk_read.specs.declared.fault.ReadFault.TheVariants.{Memory as NoMemory};
 
@@ -10,27 +10,27 @@ use mk_macros::MacroFault;
 use std::alloc::{AllocError, AllocFailed};
 use thiserror::Error;
 
-/// Why a plain line is of no kind: of several, the lowest number.
+/// Why a plain line has no kind: the fault with the lowest number.
 #[derive(Debug, Drop, Error)]
 pub enum KindFault {
-    /// The operator is `!=`, whose value would come from a shell (fault 21).
-    #[error("an assignment from a shell")]
+    /// `ShellAssign` (21): the operator is `!=`, whose value would come from a shell.
+    #[error("shell assignment")]
     ShellAssign,
-    /// The operator is `:=`, on which makes differ (fault 22).
-    #[error("an assignment by `:=`")]
+    /// `ColonAssign` (22): the operator is `:=`, whose meaning differs between makes.
+    #[error("assignment with `:=`")]
     ColonAssign,
-    /// The first colon of a rule line has another one behind it (fault 23).
-    #[error("a rule line has a double colon")]
+    /// `DoubleColon` (23): a second colon directly follows the first colon of a rule line.
+    #[error("double-colon rule")]
     DoubleColon,
-    /// An `=` stands outside references among the prerequisites (fault 24).
-    #[error("a macro of a target")]
+    /// `TargetMacro` (24): an `=` stands outside references among the prerequisites.
+    #[error("target-specific macro")]
     TargetMacro,
-    /// The line has none of `=` and `:` that could decide what it is, or no text before its colon
-    /// (fault 25).
-    #[error("a line is none that is known")]
+    /// `NotALine` (25): outside references the line has none of `=` and `:` before a `;`, or no
+    /// text before its colon.
+    #[error("unknown kind of line")]
     NotALine,
-    /// A growth was refused, which may come in place of any answer.
-    #[error("memory ran out")]
+    /// Out of memory. It can come in place of any result.
+    #[error("out of memory")]
     Memory,
 }
 
@@ -50,77 +50,81 @@ impl<T: Drop> From<AllocFailed<T>> for KindFault {
     }
 }
 
-/// A line of a file. Among macro operands the file is `operand`, and the line counts the operands
-/// as given, from 1.
+/// A line of a file. For a macro operand the file is `operand`, and the line is the number of the
+/// operand on the command line, from 1.
 #[derive(Debug, Drop)]
 pub struct Place {
-    /// The file's name.
+    /// The name of the file.
     pub file: Name,
-    /// The first physical line of the line, counted from 1.
+    /// The number of the line's first physical line, counted from 1.
     pub line: usize,
 }
 
-/// Why a makefile is refused: the first fault in the order in which texts are read.
+/// Why a makefile is refused: the first fault in the order of reading.
 #[derive(Debug, Drop, Error)]
 pub enum ReadFault {
-    /// The text of this file has a faulty line (faults 1 to 3).
+    /// Faults 1 to 3: the text of this file has a faulty line.
     #[error("{1}")]
     Line(Name, LineFault),
-    /// A text here has no expansion, or a definition is refused (faults 11 to 17).
+    /// Faults 11 to 17: a text at this place can't be expanded, or a definition is refused.
     #[error("{1}")]
     Macro(Place, MacroFault),
-    /// A plain line is of no kind (faults 21 to 25).
+    /// Faults 21 to 25: a plain line has no kind.
     #[error("{1}")]
     Kind(Place, KindFault),
-    /// A command line belongs to no rule line and is no comment (fault 26).
-    #[error("a command line without a rule")]
+    /// `StrayCommand` (26): a command line belongs to no rule line, and is no comment.
+    #[error("command line without a rule")]
     StrayCommand(Place),
-    /// A word is no name of a target or a file (fault 27).
-    #[error("a word is no name")]
+    /// `BadName` (27): a word is no name of a target or a file.
+    #[error("bad name")]
     BadName(Place),
-    /// The makefile's name is no plain path, or `-` (fault 27).
-    #[error("the makefile's name is no plain path")]
+    /// `BadMakefileName` (27): the name of the makefile is no plain path, or is `-`.
+    #[error("bad makefile name")]
     BadMakefileName(Name),
-    /// A word holds `(` or `)` (fault 28).
-    #[error("a word names an archive's member")]
+    /// `ArchiveMember` (28): a word contains `(` or `)`.
+    #[error("archive member")]
     ArchiveMember(Place),
-    /// A target of a dot and three or more of `A-Z` and `_` that isn't known (fault 29).
-    #[error("an unknown special target")]
+    /// `UnknownSpecial` (29): a target is a dot and three or more of `A-Z` and `_`, and is no known
+    /// special target.
+    #[error("unknown special target")]
     UnknownSpecial(Place),
-    /// A special target beside another one, with commands, or with words that it can't have
-    /// (fault 30). For a command line the place is its own.
-    #[error("a special target of another shape")]
+    /// `SpecialShape` (30): a special target has another target beside it, has commands, or has
+    /// words that it can't have. Where it has a command line, the place is that line.
+    #[error("bad special target")]
     SpecialShape(Place),
-    /// A second rule line has commands for the target (fault 31). The place is that rule line.
-    #[error("a second rule line with commands for a target")]
+    /// `TwoRecipes` (31): a second rule line has commands for the target. The place is that of the
+    /// second line.
+    #[error("second recipe for a target")]
     TwoRecipes(Place, Name),
-    /// A file that an include line names isn't there (fault 32).
-    #[error("an included file isn't there")]
+    /// `IncludeMissing` (32): a file that an include line names doesn't exist.
+    #[error("included file missing")]
     IncludeMissing(Place, Name),
-    /// An include line stands 16 levels deep (fault 33).
-    #[error("include lines are too deep")]
+    /// `IncludeDepth` (33): an include line is 16 levels deep.
+    #[error("include nested too deeply")]
     IncludeDepth(Place),
-    /// An include line has no names (fault 34).
-    #[error("an include line without names")]
+    /// `IncludeEmpty` (34): an include line names no files.
+    #[error("include without names")]
     IncludeEmpty(Place),
-    /// The reader failed in this call (fault 35). The makefile itself has no include line.
-    #[error("a read failed")]
+    /// `ReadFailed` (35): reading this file failed. The place is that of the include line; the
+    /// makefile itself has none.
+    #[error("read failed")]
     ReadFailed(Option<Place>, Name),
-    /// The 1,025th text would be read (fault 36).
+    /// `TooManyFiles` (36): more than 1,024 texts would be read.
     #[error("too many files")]
     TooManyFiles(Place),
-    /// The named makefile isn't there, or neither usual one is (fault 37).
-    #[error("there is no makefile")]
+    /// `NoMakefile` (37): the named makefile doesn't exist; without a name, neither `makefile` nor
+    /// `Makefile` exists.
+    #[error("no makefile")]
     NoMakefile(Option<Name>),
-    /// A growth was refused, which may come in place of any answer.
-    #[error("memory ran out")]
+    /// Out of memory. It can come in place of any result.
+    #[error("out of memory")]
     Memory,
 }
 
 impl ReadFault {
-    /// Whether a growth was refused, which may come in place of any answer.
-    pub fn is_want_of_memory(&self) -> bool
-        ensures { result ≡ is_want_of_memory self.now }
+    /// Whether this fault, or the fault that it wraps, is out of memory.
+    pub fn is_out_of_memory(&self) -> bool
+        ensures { result ≡ is_out_of_memory self.now }
     {
         matches!(
             self,

@@ -1,8 +1,8 @@
-//! Readers of files.
+//! Readers of files, which a caller implements over a disk or over memory.
 
-ghost use Rattle.std.specs.Prelude.{◌≡◌, ℕ, ◌<◌, ◌^◌, ◌-◌, Option, OnOk, IfOk, IfSome, IsErrOf};
+ghost use Rattle.std.specs.Prelude.{◌≡◌, ℕ, ◌<◌, ◌^◌, ◌-◌, OnOk, IfOk, IsErrOf};
 ghost use Rattle.std.specs.Option.{option_map};
-ghost use Rattle.mk_read.specs.Files.{Told, text_at};
+ghost use Rattle.mk_read.specs.Files.{IfFits, Keeps, Told, text_at};
 ghost use Rattle.mk_read.specs.declared.files.FilesError.TheVariants.{Memory};
 
 use std::alloc::{AllocError, Global};
@@ -11,11 +11,11 @@ use thiserror::Error;
 /// Why a file was not read.
 #[derive(Clone, Copy, Debug, PartialEq, Eq, Error)]
 pub enum FilesError {
-    /// The reader failed, and has counted it.
-    #[error("a read failed")]
+    /// Reading the file failed. The reader has counted this failure.
+    #[error("read failed")]
     ReadFailed,
-    /// A growth was refused.
-    #[error("memory ran out")]
+    /// Out of memory.
+    #[error("out of memory")]
     Memory,
 }
 
@@ -27,22 +27,23 @@ impl From<AllocError> for FilesError {
     }
 }
 
-/// A reader of files: a fixed map from names to texts, and a count of failed reads. A reader may
-/// leave its map untold, as the disk's does; then nothing is claimed of the texts.
+/// A reader of files, and a count of failed reads. A contract says which maps from names to texts
+/// fit what the reader has answered so far, and claims what it says of the texts for each of them.
 pub trait Files {
-    /// The map, or `None` where it is untold.
-    ghost told: { Self → Option Told };
+    /// Whether a map fits: each text that was answered is the map's text of that name, and a name
+    /// that was answered as missing has no text in it.
+    ghost fits: { Self → Told → Type 0 };
 
     /// How many reads have failed.
     ghost failed: { Self → ℕ };
 
-    /// The text of the file, or `None` where there is no such file. A failed read is counted, and
-    /// nothing else is.
+    /// The text of a file, or `None` where the file doesn't exist. Fails with `ReadFailed`, which
+    /// the reader counts, or with `Memory`, out of memory, which it doesn't count.
     fn read(&mut self, alloc: Global, name: &str) -> Result<Option<Vec<u8>>, FilesError>
         requires { failed self.old < 2 ^ 64 - 1 }
-        ensures map { told self.new ≡ told self.old }
-        ensures text { IfOk result (λ text. IfSome (told self.old)
-            (λ files. option_map (λ bytes. bytes.items) text ≡ text_at files name.now)) }
+        ensures keeps { Keeps (fits self.old) (fits self.new) }
+        ensures text { IfOk result (λ text. IfFits (fits self.new)
+            (λ told. option_map (λ bytes. bytes.items) text ≡ text_at told name.now)) }
         ensures ok { OnOk result (failed self.new ≡ failed self.old) }
         ensures memory { IsErrOf result FilesError.Memory → failed self.new ≡ failed self.old }
         ensures counted { IsErrOf result FilesError.ReadFailed

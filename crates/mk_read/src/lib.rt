@@ -1,7 +1,8 @@
-//! What makefiles say, and the definitions of how they are read, over which the crates above are
-//! proved.
+//! What a makefile says, and the definitions of how makefiles are read, against which mk_read_parse
+//! is proved.
 #![tactic(auto)]
 
+pub mod default_text;
 mod fault;
 mod files;
 mod makefile;

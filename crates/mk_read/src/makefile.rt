@@ -1,4 +1,4 @@
-//! What a makefile says.
+//! The contents of a makefile that has been read.
 
 ghost use Rattle.std.specs.Prelude.{◌≡◌, true, map};
 ghost use Rattle.std.specs.List.{list_all};
@@ -10,12 +10,12 @@ use crate::suffix_list::SuffixList;
 use mk_macros::MacroTable;
 use std::marker::Model;
 
-/// A command as it is written, before expansion. A contract sees its bytes and its place.
+/// A command before its expansion, seen by contracts as its bytes and its place.
 #[derive(Debug, Drop)]
 pub struct Command {
-    /// The text, without the blanks that lead it.
+    /// The text, without its leading blanks.
     pub text: Vec<u8>,
-    /// Where it stands.
+    /// Where the command stands.
     pub place: Place,
 }
 
@@ -27,19 +27,19 @@ impl Model for Command {
     ghost view = { λ c. record { text = c.text.items; place = c.place } };
 }
 
-/// A rule line. A contract sees lists.
+/// A rule line that is no special target's, seen by contracts as lists.
 #[derive(Debug, Drop)]
 pub struct Rule {
     /// Its targets.
     pub targets: Vec<String>,
-    /// Its prerequisites, `.WAIT` among them.
+    /// Its prerequisites, `.WAIT` included.
     pub words: Vec<String>,
-    /// Its commands, where it has any. The command of a `;` without a text behind it isn't among
-    /// them.
+    /// Its commands, or `None` where it has neither a `;` nor a command line. A `;` without a text
+    /// after it counts, but adds no command.
     pub commands: Option<Vec<Command>>,
-    /// Where it stands.
+    /// Where the rule line stands.
     pub place: Place,
-    /// Whether it is of the default text.
+    /// Whether the rule line is from the default text.
     pub default: bool,
 }
 
@@ -61,7 +61,7 @@ impl Model for Rule {
         } };
 }
 
-/// What a makefile says. A contract sees lists.
+/// The contents of a makefile that has been read, seen by contracts as lists.
 #[derive(Drop)]
 pub struct Makefile {
     rules: Vec<Rule>,
@@ -93,7 +93,7 @@ impl Model for Makefile {
 }
 
 impl Makefile {
-    /// A makefile that says this.
+    /// The makefile with these contents.
     pub fn new(
         rules: Vec<Rule>,
         suffixes: SuffixList,
@@ -125,15 +125,15 @@ impl Makefile {
         }
     }
 
-    /// The rule lines, in order, those of special targets aside. One of the default text is among
-    /// them where a target of it is an inference name.
+    /// The rule lines, in order, without those of special targets. A rule line of the default text
+    /// is among them only where one of its targets is an inference name.
     pub fn rules(&self) -> &[Rule]
         ensures { result.now ≡ self.now.rules }
     {
         self.rules.as_slice()
     }
 
-    /// The known suffixes, in the order in which they were listed.
+    /// The known suffixes, in order.
     pub fn suffixes(&self) -> &[String]
         ensures exact { map string_bytes result.now ≡ self.now.suffixes }
         ensures suffixes { list_all is_suffix self.now.suffixes ≡ true }
@@ -141,7 +141,7 @@ impl Makefile {
         self.suffixes.as_slice()
     }
 
-    /// The words of `.PHONY`, in order, with their repeats.
+    /// The prerequisites of `.PHONY`, in order, repetitions kept.
     pub fn phony(&self) -> &[String]
         ensures { map string_bytes result.now ≡ self.now.phony }
     {
@@ -155,23 +155,23 @@ impl Makefile {
         self.not_parallel
     }
 
-    /// The macros after all reading.
+    /// The macros as they are when all has been read.
     pub fn macros(&self) -> &MacroTable
         ensures { result.now ≡ self.now.macros }
     {
         &self.macros
     }
 
-    /// The names of the texts that were read, each as often as it was read. The default text isn't
-    /// among them.
+    /// The names of the texts that were read, in order, each as often as it was read. The default
+    /// text isn't among them.
     pub fn texts(&self) -> &[String]
         ensures { map string_bytes result.now ≡ self.now.texts }
     {
         self.texts.as_slice()
     }
 
-    /// The names of missing files that were passed over: those of `-include`, and `makefile` where
-    /// `Makefile` was read.
+    /// The names of missing files that were skipped: those of `-include` lines, and `makefile`
+    /// where `Makefile` was read.
     pub fn passed_over(&self) -> &[String]
         ensures { map string_bytes result.now ≡ self.now.passed_over }
     {

@@ -1,4 +1,4 @@
-//! Names, each once, in the order in which they came.
+//! Sets of names, in order of insertion.
 
 ghost use Rattle.std.specs.Prelude.{◌≡◌, ◌++◌, [], map, IfOk, OnOk, OnErr};
 ghost use Rattle.std.specs.String.{string_bytes};
@@ -8,7 +8,7 @@ use indexmap::IndexSet;
 use std::alloc::{AllocError, Global};
 use std::marker::Model;
 
-/// Names, each once, in the order in which they came. A contract sees a list of names.
+/// A set of names, in order of insertion, seen by contracts as a list of names without repetition.
 #[derive(Drop)]
 pub struct NameSet {
     names: IndexSet<String>,
@@ -27,7 +27,7 @@ impl Model for NameSet {
 }
 
 impl NameSet {
-    /// No names.
+    /// The empty set.
     pub fn new(alloc: Global) -> NameSet
         ensures { result ≡ [] }
     {
@@ -36,7 +36,8 @@ impl NameSet {
         }
     }
 
-    /// Adds a name at the end, unless it is there already.
+    /// Adds a name at the end, unless the set has it. The only error is out of memory; the set is
+    /// then unchanged.
     pub fn insert(&mut self, name: String) -> Result<(), AllocError>
         ensures ok { OnOk result (self.new ≡ with_name self.old (string_bytes name)) }
         ensures err { OnErr result (self.new ≡ self.old) }
@@ -45,7 +46,7 @@ impl NameSet {
         Ok(())
     }
 
-    /// The set with these names behind it, each once.
+    /// The set with these names added in order. The only error is out of memory.
     pub fn with_all(self, alloc: Global, names: &[String]) -> Result<NameSet, AllocError>
         ensures { IfOk result (λ all. all ≡ once (self ++ map string_bytes names.now)) }
     {
@@ -56,14 +57,14 @@ impl NameSet {
         Ok(NameSet { names: all })
     }
 
-    /// Whether the name is there.
+    /// Whether the set has the name.
     pub fn contains(&self, name: &str) -> bool
         ensures { result ≡ has_name self.now name.now }
     {
         self.names.contains(name)
     }
 
-    /// The names as a slice.
+    /// The names, in order of insertion.
     pub fn as_slice(&self) -> &[String]
         ensures { map string_bytes result.now ≡ self.now }
     {

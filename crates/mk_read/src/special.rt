@@ -1,16 +1,17 @@
 //! Special targets.
 
-/// What a special target does.
+/// The special targets, by what they do.
 #[derive(Debug, Clone, Copy, PartialEq, Eq)]
 pub enum Special {
-    /// `.SUFFIXES` lists suffixes or, without words, clears their list.
+    /// `.SUFFIXES`: its prerequisites are added to the list of suffixes; without any the list is
+    /// cleared.
     Suffixes,
-    /// `.PHONY` lists names that are no files.
+    /// `.PHONY`: its prerequisites are phony, that is, no files.
     Phony,
-    /// `.NOTPARALLEL` lets nothing run side by side, and has no words.
+    /// `.NOTPARALLEL`: nothing is made in parallel. It has no prerequisites.
     NotParallel,
-    /// `.POSIX` and `.WAIT` as targets change nothing, and have no words.
+    /// `.POSIX` and `.WAIT` as targets: no effect, and no prerequisites.
     Wordless,
-    /// `.IGNORE`, `.SILENT` and `.PRECIOUS` change nothing.
+    /// `.IGNORE`, `.SILENT` and `.PRECIOUS`: no effect, and any prerequisites.
     Unread,
 }

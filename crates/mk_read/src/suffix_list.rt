@@ -1,4 +1,4 @@
-//! Suffixes, each once, in the order in which they came.
+//! Lists of suffixes.
 
 ghost use Rattle.std.specs.Prelude.{◌≡◌, ◌++◌, [], true, map, IfOk};
 ghost use Rattle.std.specs.List.{list_all};
@@ -10,7 +10,7 @@ use crate::name_set::NameSet;
 use std::alloc::{AllocError, Global};
 use std::marker::Model;
 
-/// Suffixes, each once, in the order in which they came. A contract sees a list of suffixes.
+/// A set of suffixes, in order of insertion, seen by contracts as a list of suffixes.
 #[derive(Drop)]
 pub struct SuffixList {
     names: NameSet,
@@ -29,7 +29,7 @@ impl Model for SuffixList {
 }
 
 impl SuffixList {
-    /// No suffixes.
+    /// The empty list.
     pub fn new(alloc: Global) -> SuffixList
         ensures { result ≡ [] }
     {
@@ -38,7 +38,8 @@ impl SuffixList {
         }
     }
 
-    /// The list with these suffixes behind it, each once.
+    /// The list with these suffixes added in order, each unless it is there. The only error is out
+    /// of memory.
     pub fn with_all(self, alloc: Global, words: &[String]) -> Result<SuffixList, AllocError>
         requires { list_all is_suffix (map string_bytes words.now) ≡ true }
         ensures { IfOk result (λ all. all ≡ once (self ++ map string_bytes words.now)) }
@@ -49,7 +50,7 @@ impl SuffixList {
         })
     }
 
-    /// The suffixes as a slice.
+    /// The suffixes, in order.
     pub fn as_slice(&self) -> &[String]
         ensures exact { map string_bytes result.now ≡ self.now }
         ensures suffixes { list_all is_suffix self.now ≡ true }

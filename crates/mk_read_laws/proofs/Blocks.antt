@@ -92,7 +92,10 @@ module _ (reader : Reader) (deeper : Deeper) (file : List ℕ) where
       → next ≡ owning state earlier (commanded last (record { text = trimmed line.text; place = place_of file line }))
   unfolding with_line
   command_read state earlier last line next is h =
-      let step = subst (λ (b : Bool). cond b (command_line (place_of file line) line.text earlier (Last last) >>= λ (read : Read). Ok (record state { read = read })) (of_kind (place_of file line) (kind_of (uncomment line.text)) >>= plain_line reader deeper false (place_of file line) (owning state earlier last)) ≡ Ok next) is h in
+      let step = subst (λ (b : Bool). cond b (command_line (place_of file line) line.text earlier (Last last)
+      >>= λ (read : Read). Ok (record state { read = read }))
+      (of_kind (place_of file line) (kind_of (uncomment line.text)) >>= plain_line reader deeper false
+      (place_of file line) (owning state earlier last)) ≡ Ok next) is h in
       let r = went_well (command_line (place_of file line) line.text earlier (Last last)) _ next step in
       sym (same_value _ next r.2) ∙ ap (λ (read : Read). record state { read = read }) (command_gives (place_of file line) line.text earlier last r.0 r.1)
 
@@ -243,7 +246,10 @@ module _ (reader : Reader) (levels : ℕ) (file : List ℕ) (state : State) (ear
       let here = owning state earlier last in
       let deeper = below levels reader in
       let same = ap (λ (r : Result State ReadFault). r >>= with_lines reader deeper (own file) after) (parted_line reader deeper (own file) here line parts.0 parts.1) in
-      let all : Holds (StandFirst front) (with_lines reader deeper (own file) (line ∷ after) (parted here)) = by_lines (StandFirst front) (λ default. Unit {0}) (they_stand front) reader deeper (keeps_below front reader levels) (own file) tt (line ∷ after) (parted here) ([], sym (append-nil front)) in
+      let all : Holds (StandFirst front) (with_lines reader deeper (own file) (line ∷ after) (parted here)) =
+      by_lines (StandFirst front) (λ default. Unit {0}) (they_stand front) reader deeper
+      (keeps_below front reader levels) (own file) tt (line ∷ after) (parted here)
+      ([], sym (append-nil front)) in
       let stands = stand_owned front end (subst (Holds (StandFirst front)) (same ∙ h) all) in
       (stands.0, stands.1 ∙ append_assoc earlier (last ∷ []) stands.0)
 

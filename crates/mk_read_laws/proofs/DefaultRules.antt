@@ -24,7 +24,7 @@ use Rattle.mk_read.specs.Steps.{◌>>=◌, at_place}
 use Rattle.mk_read_laws.proofs.Kept.{Holds, holds_step, holds_if, IsKept, by_named}
 use Rattle.mk_read_laws.proofs.OneLine.{parts_of}
 use Rattle.mk_read_laws.proofs.Parting.{owned_twice}
-use Rattle.mk_read_laws.proofs.DefaultText.{default_text_says_this}
+use Rattle.mk_read.proofs.DefaultText.{default_text_says_this}
 
 -- command lines belong to no rule line of the default text
 abbrev OwnsOwn : Owner → Type 0
@@ -127,7 +127,11 @@ module _ (defaults : List RuleRead) where
     by_rule : (line : RuleLine) → IsSettled state → Holds IsSettled (rule default place state line)
     unfolding rule
     by_rule line settled =
-        holds_step IsSettled (names_in place state.table line.targets) _ (λ targets. holds_if IsSettled (is_empty targets) _ _ (settled_owned PassedOver state.read refl tt settled) (holds_step IsSettled (names_in place state.table line.words) _ (λ words. by_all_names targets line.command words settled)))
+        holds_step IsSettled (names_in place state.table line.targets) _
+        (λ targets. holds_if IsSettled (is_empty targets) _ _
+        (settled_owned PassedOver state.read refl tt settled)
+        (holds_step IsSettled (names_in place state.table line.words) _
+        (λ words. by_all_names targets line.command words settled)))
 
   stays : IsKept IsSettled (λ default. default ≡ false)
   stays = record {
@@ -156,7 +160,7 @@ parted_named reader state None =
     parted_own reader state (codes "makefile") (own_text reader (record (parted state) { missing = codes "makefile" ∷ [] }) (codes "Makefile") (Err (NoMakefile None)))
     ∙ ap (own_text reader state (codes "makefile")) (parted_own reader (record state { missing = codes "makefile" ∷ [] }) (codes "Makefile") (Err (NoMakefile None)))
 
--- what counts of some is some of what counts
+-- filtering in either order gives the same
 both_filtered : (p q : RuleRead → Bool) (rules : List RuleRead) → filter p (filter q rules) ≡ filter q (filter p rules)
 both_filtered p q [] = refl
 both_filtered p q (rule ∷ rules) = at (p rule) refl (q rule) refl (both_filtered p q rules)

@@ -1,4 +1,4 @@
--- An include line stands for the lines of its file.
+-- An include line may be replaced by the lines of its file.
 use Rattle.std.proofs.Common.{◌≡◌, ◌<◌, ℕ, zero, suc, ◌+◌, Bool, true, false, not, cond, List, [], ◌∷◌, ◌++◌, length, map, filter, Option, None, Some, Result, Ok, Err, refl, sym, ap, ◌∙◌, append-nil, append_assoc}
 use Rattle.std.specs.Prelude.{nat_le}
 use Rattle.std.specs.List.{list_any}
@@ -136,7 +136,8 @@ module _ (reader : Reader) (levels : ℕ) (text : Text) (line : Line) (name byte
       step_but_places (stripped forgotten) (stripped forgotten) (with_lines reader Deep Own lines (opened state)) _ _ _ (lines_stripped reader Deep None Own lines (opened state) (not-true (list_any is_include_line lines) none) ∙ ap (bare lines) (stripped_parted forgotten state))
       (λ next. ap (λ (s : State). Ok s) (stripped_parted forgotten next))
 
-  -- lines that stand alone don't ask what command lines belong to, whatever follows that doesn't
+  -- lines that stand alone don't depend on what command lines belong to, where what follows doesn't
+  -- either
   alone : {B : Type 0} (next : State → Result B ReadFault) → ((state : State) → next (parted state) ≡ next state) → (list : List Line) → StandAlone list → (state : State) → (bare list (parted state) >>= next) ≡ (bare list state >>= next)
   alone next blind list stands state =
       blind_lines reader None Bare next blind (map unnumbered list) state (unnumbered_begins list ∙ stands.beginning)

@@ -13,7 +13,7 @@ use Rattle.mk_read.specs.Rules.{command_line, assignment, rule}
 use Rattle.mk_read.specs.Reading.{Reader, Text, Deeper, fails, found, one_file, files, include, plain_line, with_line, with_lines, with_text, reading, default_text, after_default, text_or, own_text, from_named}
 use Rattle.mk_read.specs.Steps.{◌>>=◌, in_file, of_kind}
 
--- where a state comes out, it has the property
+-- where a state results, it has the property
 abbrev pub Holds : (State → Type 0) → Result State ReadFault → Type 0
 Holds P (Ok state) = P state
 Holds P (Err fault) = Unit {0}
@@ -30,8 +30,8 @@ pub holds_if : (P : State → Type 0) (b : Bool) (r s : Result State ReadFault) 
 holds_if P true r s p q = p
 holds_if P false r s p q = q
 
--- Each line but an include line keeps the property, and so does what stands between texts. It may be that the property is
--- kept by the makefile's texts alone, and not by the default text.
+-- Each line but an include line keeps the property, and so does what stands between texts. It may
+-- be that the property is kept by the makefile's texts alone, and not by the default text.
 pub record IsKept (P : State → Type 0) (Allows : Bool → Type 0) : Type 0 where
   pub own : Allows false
   pub by_assignment : (place : Place) (state : State) (line : AssignmentLine) → P state → Holds P (assignment place state line)

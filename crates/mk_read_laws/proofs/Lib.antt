@@ -14,7 +14,6 @@ mod LastOperands
 mod SilentLines
 mod Spelled
 mod Makefiles
-mod DefaultText
 mod DefaultRules
 mod WellNamed
 mod ListedSuffixes

@@ -1,4 +1,4 @@
--- Where a text is read, an include line stands for the lines of its files.
+-- An include line may be replaced by the lines of its files.
 use Rattle.std.proofs.Common.{◌≡◌, ◌<◌, ◌≤◌, ℕ, zero, suc, ◌+◌, Bool, true, false, not, cond, List, [], ◌∷◌, ◌++◌, length, Option, None, Some, Result, Ok, Err, refl, sym, ap, subst, ◌∙◌, inl, inr, append_assoc, arith, length-append}
 use Rattle.std.specs.Prelude.{nat_le}
 use Rattle.std.proofs.lemmas.Bool.{cases_Bool, and_parts, cond-true, cond-false, not-true, leb-false, lt-leb}
@@ -62,7 +62,7 @@ names_like p q a b text names e is =
     at (Ok others) e = e
     at (Err fault) e = absurd cc
 
--- how include lines are read with so many levels below
+-- how include lines are read with this many levels below
 abbrev deep : Reader → ℕ → Deeper
 deep reader zero = None
 deep reader (suc levels) = Some (reading levels reader)
@@ -113,9 +113,21 @@ module _ (reader : Reader) (never : reader.failing ≡ None) where
           | inr room ↦
               let few : length a.texts < 1024 = leb-false 1024 (length a.texts) room in
               let fewer : length b.texts < 1024 = omega (arith, few, like.fewer) in
-              let left : found read p optional a name (reader.text name) ≡ Ok x = sym (cond-false (fails reader a) (Err (ReadFailed (Some p) name)) (found read p optional a name (reader.text name)) (works a)) ∙ (sym (cond-false (nat_le 1024 (length a.texts)) (Err (TooManyFiles p)) (cond (fails reader a) (Err (ReadFailed (Some p) name)) (found read p optional a name (reader.text name))) room) ∙ e) in
-              let right = found_like name (reader.text name) a b like x left in
-              (right.0, cond-false (nat_le 1024 (length b.texts)) (Err (TooManyFiles q)) (cond (fails reader b) (Err (ReadFailed (Some q) name)) (found reads q optional b name (reader.text name))) (lt-leb 1024 (length b.texts) fewer) ∙ (cond-false (fails reader b) (Err (ReadFailed (Some q) name)) (found reads q optional b name (reader.text name)) (works b) ∙ right.1), right.2)
+              let left : found read p optional a name (reader.text name)
+              ≡ Ok x = sym (cond-false (fails reader a) (Err (ReadFailed (Some p) name))
+              (found read p optional a name (reader.text name)) (works a))
+              ∙ (sym (cond-false (nat_le 1024 (length a.texts)) (Err (TooManyFiles p))
+              (cond (fails reader a) (Err (ReadFailed (Some p) name))
+              (found read p optional a name (reader.text name))) room) ∙ e) in
+              let right = found_like name (reader.text name) a b like x left in (
+                right.0,
+                cond-false (nat_le 1024 (length b.texts)) (Err (TooManyFiles q))
+                    (cond (fails reader b) (Err (ReadFailed (Some q) name))
+                    (found reads q optional b name (reader.text name))) (lt-leb 1024 (length b.texts) fewer)
+                    ∙ (cond-false (fails reader b) (Err (ReadFailed (Some q) name))
+                    (found reads q optional b name (reader.text name)) (works b) ∙ right.1),
+                right.2,
+              )
         ]
 
     files_like : (names : List (List ℕ)) (a b : State) → Like a b → Follows (files reader read p optional names a) (files reader reads q optional names b)
@@ -202,7 +214,12 @@ module _ (reader : Reader) (never : reader.failing ≡ None) where
       elim (cases_Bool (nat_le 1024 (length a.texts))) [
         | inl full ↦ let no : Err (TooManyFiles place) ≡ Ok x = sym (cond-true (nat_le 1024 (length a.texts)) (Err (TooManyFiles place)) (cond (fails reader a) (Err (ReadFailed (Some place) name)) (found read place optional a name (reader.text name))) full) ∙ e in absurd cc
         | inr room ↦
-            let here : found read place optional a name (reader.text name) ≡ Ok x = sym (cond-false (fails reader a) (Err (ReadFailed (Some place) name)) (found read place optional a name (reader.text name)) (works a)) ∙ (sym (cond-false (nat_le 1024 (length a.texts)) (Err (TooManyFiles place)) (cond (fails reader a) (Err (ReadFailed (Some place) name)) (found read place optional a name (reader.text name))) room) ∙ e) in
+            let here : found read place optional a name (reader.text name)
+            ≡ Ok x = sym (cond-false (fails reader a) (Err (ReadFailed (Some place) name))
+            (found read place optional a name (reader.text name)) (works a))
+            ∙ (sym (cond-false (nat_le 1024 (length a.texts)) (Err (TooManyFiles place))
+            (cond (fails reader a) (Err (ReadFailed (Some place) name))
+            (found read place optional a name (reader.text name))) room) ∙ e) in
             let there : (read name holds.bytes c >>= λ after. Ok (parted after)) ≡ Ok x = sym (ap (found read place optional a name) holds.there) ∙ here in
             let parts = bind_ok (read name holds.bytes c) (λ after. Ok (parted after)) x there in
             let right = file_like levels text default name own holds c b (record { is = like.is; fewer = omega (arith, length-append a.texts (name ∷ []), like.fewer) }) parts.0 parts.1 in

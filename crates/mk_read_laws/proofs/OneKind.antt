@@ -1,4 +1,4 @@
--- Rule lines and include lines, told by two words.
+-- Rule lines and include lines, recognized by two definitions.
 use Rattle.std.proofs.Common.{◌≡◌, ℕ, ◌+◌, suc, Bool, true, false, not, ◌&&◌, ◌||◌, cond, eqb, List, [], ◌∷◌, length, get_or, take, drop, Option, Some, None, Result, Ok, Err, refl, sym, ap, subst, ◌∙◌, inl, inr, ◌⊎◌, arith}
 use Rattle.std.specs.Prelude.{codes}
 use Rattle.std.specs.List.{before_first, after_first, prefix_len}
@@ -157,7 +157,13 @@ colon_alone (b ∷ c ∷ text) h k l = alone (eqb b 58) (eqb c 58) (eqb c 61) l 
 
 parts_rule : (before from : Bytes) → IsRule (by_parts before from) → begins_with_rule_colon from ≡ true
 parts_rule before from h =
-    let last = only_last (begins_with (codes "=") from) (begins_with (codes ":::=") from) (begins_with (codes "::=") from) (begins_with (codes ":=") from) (begins_with (codes "::") from) (begins_with (codes ":") from) (assignment_line before (drop 1 from)) (rule_line before (drop 1 from)) (Assignment (record { name = without_blanks before; op = Double; value = trimmed (drop 4 from) })) (Assignment (record { name = without_blanks before; op = Now; value = trimmed (drop 3 from) })) (by_assignment (λ r. IsRule r → ⊥) (λ fault i. i) (λ line i. i) before (drop 1 from)) (λ i. i) (λ i. i) h in
+    let last = only_last (begins_with (codes "=") from) (begins_with (codes ":::=") from)
+    (begins_with (codes "::=") from) (begins_with (codes ":=") from) (begins_with (codes "::") from)
+    (begins_with (codes ":") from) (assignment_line before (drop 1 from)) (rule_line before (drop 1 from))
+    (Assignment (record { name = without_blanks before; op = Double; value = trimmed (drop 4 from) }))
+    (Assignment (record { name = without_blanks before; op = Now; value = trimmed (drop 3 from) }))
+    (by_assignment (λ r. IsRule r → ⊥) (λ fault i. i) (λ line i. i) before (drop 1 from)) (λ i. i)
+    (λ i. i) h in
     colon_alone from last.0 last.1.0 last.1.1
 
 -- ---- lines without leading blanks
@@ -185,7 +191,11 @@ rule_of : (line : Bytes) → includes line ≡ false → is_rule_colon_at line (
 unfolding first_from
 rule_of [] h k = absurd (both_ways false refl k)
 rule_of (b ∷ rest) h k =
-    subst IsOfRule (sym (by_words b rest)) (subst (λ found. IsOfRule (by_word (b ∷ rest) found)) (sym (none_included (is_plain_include (b ∷ rest)) (is_optional_include (b ∷ rest)) (record { optional = false; names = after_first is_blank (b ∷ rest) }) (record { optional = true; names = after_first is_blank (b ∷ rest) }) h)) (by_byte_rule (b ∷ rest) (first_outside is_decisive (b ∷ rest)) k))
+    subst IsOfRule (sym (by_words b rest)) (subst (λ found. IsOfRule (by_word (b ∷ rest) found))
+    (sym (none_included (is_plain_include (b ∷ rest)) (is_optional_include (b ∷ rest))
+    (record { optional = false; names = after_first is_blank (b ∷ rest) })
+    (record { optional = true; names = after_first is_blank (b ∷ rest) }) h))
+    (by_byte_rule (b ∷ rest) (first_outside is_decisive (b ∷ rest)) k))
 
 -- a line that is a rule line by its kind
 back_by_byte : (line : Bytes) (at : Option ℕ) → IsRule (by_byte line at) → is_rule_colon_at line at ≡ true
@@ -231,7 +241,10 @@ included line false false x y h = absurd (both_ways false refl h)
 
 include_of : (line : Bytes) → includes line ≡ true → (found : IncludeLine) × (of_trimmed line ≡ Ok (Include found))
 include_of [] h = absurd (both_ways false refl h)
-include_of (b ∷ rest) h = let found = included (b ∷ rest) (is_plain_include (b ∷ rest)) (is_optional_include (b ∷ rest)) (record { optional = false; names = after_first is_blank (b ∷ rest) }) (record { optional = true; names = after_first is_blank (b ∷ rest) }) h in (found.0, by_words b rest ∙ found.1)
+include_of (b ∷ rest) h = let found = included (b ∷ rest) (is_plain_include (b ∷ rest))
+    (is_optional_include (b ∷ rest)) (record { optional = false; names = after_first is_blank (b ∷ rest) })
+    (record { optional = true; names = after_first is_blank (b ∷ rest) }) h in
+    (found.0, by_words b rest ∙ found.1)
 
 bytes_include_nothing : (line : Bytes) (at : Option ℕ) → IsIncluding (by_byte line at) → ⊥
 bytes_include_nothing line None h = h

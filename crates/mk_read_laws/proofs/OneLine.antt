@@ -39,8 +39,13 @@ Alone (rule ∷ rules) = Leave rules rule × Alone rules
 -- one more at the end, that has no name with another one
 alone_more : (rules : List RuleRead) (rule : RuleRead) → Alone rules → Leave rules rule → Alone (rules ++ rule ∷ [])
 alone_more [] rule alone leave = ((λ name gives. refl), tt)
-alone_more (first ∷ rules) rule alone leave =
-    ((λ name gives. list_any-append (gives_commands name) rules (rule ∷ []) ∙ or_from (is_commanded rules name) (is_commanded (rule ∷ []) name) (alone.0 name gives) (or_from (gives_commands name rule) false (other name gives) refl)), alone_more rules rule alone.1 (λ name gives. (or_parts (gives_commands name first) (is_commanded rules name) (leave name gives)).1))
+alone_more (first ∷ rules) rule alone leave = (
+  (λ name gives. list_any-append (gives_commands name) rules (rule ∷ [])
+      ∙ or_from (is_commanded rules name) (is_commanded (rule ∷ []) name) (alone.0 name gives)
+      (or_from (gives_commands name rule) false (other name gives) refl)),
+  alone_more rules rule alone.1
+      (λ name gives. (or_parts (gives_commands name first) (is_commanded rules name) (leave name gives)).1),
+)
   where
     other : (name : List ℕ) → gives_commands name first ≡ true → gives_commands name rule ≡ false
     other name gives = ⊎_elim (λ t. absurd (both_ways (gives_commands name first) ((or_parts (gives_commands name first) (is_commanded rules name) (leave name t)).0) gives)) (λ f. f) (cases_Bool (gives_commands name rule))
@@ -54,7 +59,10 @@ alone_front (first ∷ rules) rule alone = ((λ name gives. (or_parts (is_comman
 alone_end : (rules : List RuleRead) (rule : RuleRead) → Alone (rules ++ rule ∷ []) → Leave rules rule
 alone_end [] rule alone = λ name gives. refl
 alone_end (first ∷ rules) rule alone = λ name gives. or_from (gives_commands name first) (is_commanded rules name)
-    (⊎_elim (λ t. absurd (both_ways (is_commanded (rules ++ rule ∷ []) name) (alone.0 name t) (list_any-append (gives_commands name) rules (rule ∷ []) ∙ or_right (is_commanded rules name) (is_commanded (rule ∷ []) name) (or_left (gives_commands name rule) false gives)))) (λ f. f) (cases_Bool (gives_commands name first)))
+    (⊎_elim (λ t. absurd (both_ways (is_commanded (rules ++ rule ∷ []) name) (alone.0 name t)
+    (list_any-append (gives_commands name) rules (rule ∷ [])
+    ∙ or_right (is_commanded rules name) (is_commanded (rule ∷ []) name)
+    (or_left (gives_commands name rule) false gives)))) (λ f. f) (cases_Bool (gives_commands name first)))
     (alone_end rules rule alone.1 name gives)
 
 -- what isn't found among names has none of them
@@ -66,14 +74,14 @@ not_found test (first ∷ names) name none has = at (test first) refl none (not_
     at true t k more = absurd cc
     at false f k more = ⊎_elim (λ same. ap test ((bytes_eq-Decides name first).0 same) ∙ f) (λ rest. more k rest) (or_cases (bytes_eq name first) (has_name names name) has)
 
--- where the way is free, no other rule line gives a name commands that this one gives
+-- where no target is taken, no other rule line gives commands to a name of this one
 free : (earlier : List RuleRead) (rule : RuleRead) → taken earlier rule ≡ None → Leave earlier rule
 free earlier rule none name gives =
     let parts = and_parts (not rule.default) (has_some rule.commands && has_name rule.targets name) gives in
     let found : find (is_commanded earlier) rule.targets ≡ None = sym (cond-false rule.default None (find (is_commanded earlier) rule.targets) (not-true rule.default parts.0)) ∙ none in
     not_found (is_commanded earlier) rule.targets name found ((and_parts (has_some rule.commands) (has_name rule.targets name) parts.1).1)
 
--- what has been read is without two such lines
+-- what has been read has no two such lines
 abbrev pub IsAlone : State → Type 0
 IsAlone state = Alone (rules_of state.read)
 

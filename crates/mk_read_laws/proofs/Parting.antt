@@ -1,4 +1,4 @@
--- What command lines belong to, and lines that don't ask for it.
+-- What command lines belong to, and lines that don't depend on it.
 use Rattle.std.proofs.Common.{◌≡◌, ℕ, Bool, true, false, not, cond, List, [], ◌∷◌, ◌++◌, length, Option, None, Some, Result, Ok, Err, refl, sym, ap, ◌∙◌, inl, inr, append-nil}
 use Rattle.std.specs.Prelude.{◌&&◌, ◌||◌, ◌==◌, codes}
 use Rattle.std.specs.List.{list_any}
@@ -97,7 +97,7 @@ module _ (reader : Reader) (deeper : Deeper) (text : Text) where
   parted_plain place state (Ok (Rule line)) other = parted_rule place state text.default line
   parted_plain place state (Err fault) other = refl
 
-  -- but for command lines and comments, lines don't ask what command lines belong to
+  -- lines other than command lines and comment lines don't depend on what command lines belong to
   pub parted_line : (state : State) (line : Line) → line.command ≡ false → is_comment_line line ≡ false → with_line reader deeper text (parted state) line ≡ with_line reader deeper text state line
   unfolding with_line
   parted_line state line plain other = at line.command plain other
@@ -120,7 +120,7 @@ module _ (reader : Reader) (deeper : Deeper) (text : Text) where
       let parts = and_parts (not line.command) (is_comment_kind (kind_of (uncomment line.text))) is in
       rw (not-true line.command parts.0, comment_is (kind_of (uncomment line.text)) parts.1) refl
 
-  -- lines that don't begin with a command line don't ask, where what follows doesn't
+  -- lines that don't begin with a command line don't depend on it, where what follows doesn't
   pub blind_lines : {B : Type 0} (next : State → Result B ReadFault) → ((state : State) → next (parted state) ≡ next state) → (lines : List Line) (state : State)
       → begins_without_command lines ≡ true → (with_lines reader deeper text lines (parted state) >>= next) ≡ (with_lines reader deeper text lines state >>= next)
   unfolding with_lines begins_without_command

@@ -1,4 +1,5 @@
--- Readers whose texts have the same lines, but for comments and for the numbers of lines, read alike but for places.
+-- Readers whose texts differ only in comment lines and line numbers give the same result, but for
+-- places.
 use Rattle.std.proofs.Common.{◌≡◌, ℕ, zero, suc, ◌+◌, Bool, true, false, not, cond, List, [], ◌∷◌, ◌++◌, codes, length, map, filter, Option, None, Some, Result, Ok, Err, refl, sym, ap, ◌∙◌, inl, inr}
 use Rattle.std.specs.Prelude.{nat_le}
 use Rattle.std.proofs.lemmas.Bool.{cases_Bool, true≢false, and_parts, not-true}
@@ -21,7 +22,7 @@ use Rattle.mk_read_laws.proofs.InPlace.{filter_stripped}
 
 -- ---- results
 
--- two steps that are alike but for places, with what follows them
+-- two steps that are the same but for places, with what follows them
 step_both : {A B C D : Type 0} (view : A → B) (next : C → D) (r s : Result A ReadFault) (f g : A → Result C ReadFault)
     → but_places view r ≡ but_places view s → ((x y : A) → view x ≡ view y → but_places next (f x) ≡ but_places next (g y)) → but_places next (r >>= f) ≡ but_places next (s >>= g)
 step_both view next (Ok x) (Ok y) f g e h = h x y cc
@@ -58,7 +59,7 @@ parted_alike a b e = stripped_parted same a ∙ (ap parted e ∙ sym (stripped_p
 names_alike : (p q : Place) (a b : State) (text : List ℕ) → Alike a b → but_places same (names_in p a.table text) ≡ but_places same (names_in q b.table text)
 names_alike p q a b text e = placed_names_in p a.table text ∙ (ap (λ (s : State). names_in nowhere s.table text) e ∙ sym (placed_names_in q b.table text))
 
--- texts with the same lines, read from states that are alike
+-- texts with the same lines, read from states that are the same but for places
 abbrev pub Agree : (List ℕ → List ℕ → State → Result State ReadFault) → (List ℕ → List ℕ → State → Result State ReadFault) → Type 0
 Agree read other = (name bytes others : List ℕ) (a b : State) → lines_said (logical_lines bytes) ≡ lines_said (logical_lines others) → Alike a b → AlikeResults (read name bytes a) (other name others b)
 
@@ -85,7 +86,10 @@ module _ (reader other : Reader) (failing : reader.failing ≡ other.failing) (t
 
   module _ (read reads : List ℕ → List ℕ → State → Result State ReadFault) (agree : Agree read reads) (p q : Place) (optional : Bool) where
     found_alike : (name : List ℕ) (t u : Option (List ℕ)) (a b : State) → text_said t ≡ text_said u → Alike a b → AlikeResults (found read p optional a name t) (found reads q optional b name u)
-    found_alike name None None a b is e = if_both bare optional optional (Ok (record a { missing = a.missing ++ name ∷ [] })) (Err (IncludeMissing p name)) (Ok (record b { missing = b.missing ++ name ∷ [] })) (Err (IncludeMissing q name)) refl (ap (λ (s : State). Ok (record s { missing = s.missing ++ name ∷ [] })) e) refl
+    found_alike name None None a b is e = if_both bare optional optional
+        (Ok (record a { missing = a.missing ++ name ∷ [] })) (Err (IncludeMissing p name))
+        (Ok (record b { missing = b.missing ++ name ∷ [] })) (Err (IncludeMissing q name)) refl
+        (ap (λ (s : State). Ok (record s { missing = s.missing ++ name ∷ [] })) e) refl
     found_alike name None (Some others) a b is e = absurd cc
     found_alike name (Some bytes) None a b is e = absurd cc
     found_alike name (Some bytes) (Some others) a b is e =

@@ -11,8 +11,8 @@ use Rattle.std.proofs.lemmas.List.Splits.{slice_split-cons_yes, slice_split-cons
 use Rattle.mk_lines.specs.Bytes.{is_byte, is_blank_alone}
 use Rattle.mk_lines.specs.Comments.{uncomment}
 use Rattle.mk_lines.specs.declared.fault.LineFault.{LineFault}
-use Rattle.mk_lines.specs.Laws.{LinesOfTwoTexts, moved_on}
-use Rattle.mk_lines.specs.Lines.{Line, Run, escapes, goes_on_in, runs, plain_text, command_text, is_command, numbered, line_of, is_kept, runs_of, lines_of, unless, first_fault, logical_lines}
+use Rattle.mk_lines.specs.Laws.{LinesOfTwoTexts, renumbered}
+use Rattle.mk_lines.specs.Lines.{Line, PieceRun, escapes, with_piece_in_front, runs, plain_text, command_text, is_command, number_runs, line_of, is_kept, runs_of, lines_of, unless, first_fault, logical_lines}
 use Rattle.mk_read.specs.Kinds.{kind_of}
 use Rattle.mk_read.specs.PlaceLaws.{is_comment_kind, is_comment_line, unnumbered, lines_said, text_said}
 use Rattle.mk_read.specs.TextLaws.{EndsALine, SilentLinesSayNothing, SilentLinesChangeOnlyPlaces}
@@ -25,24 +25,24 @@ told lines = map unnumbered (filter (λ (line : Line). not (is_comment_line line
 told_both : (lines others : List Line) → told (lines ++ others) ≡ told lines ++ told others
 told_both lines others = ap (map unnumbered) (filter-append (λ (line : Line). not (is_comment_line line)) lines others) ∙ map-append unnumbered (filter (λ (line : Line). not (is_comment_line line)) lines) (filter (λ (line : Line). not (is_comment_line line)) others)
 
-told_moved : (by : ℕ) (lines : List Line) → told (map (moved_on by) lines) ≡ told lines
+told_moved : (by : ℕ) (lines : List Line) → told (map (renumbered by) lines) ≡ told lines
 told_moved by [] = refl
 told_moved by (line ∷ lines) = at (not (is_comment_line line)) (told_moved by lines)
   where
-    at : (b : Bool) → told (map (moved_on by) lines) ≡ told lines
-        → map unnumbered (cond b (moved_on by line ∷ filter (λ (line : Line). not (is_comment_line line)) (map (moved_on by) lines)) (filter (λ (line : Line). not (is_comment_line line)) (map (moved_on by) lines)))
+    at : (b : Bool) → told (map (renumbered by) lines) ≡ told lines
+        → map unnumbered (cond b (renumbered by line ∷ filter (λ (line : Line). not (is_comment_line line)) (map (renumbered by) lines)) (filter (λ (line : Line). not (is_comment_line line)) (map (renumbered by) lines)))
         ≡ map unnumbered (cond b (line ∷ filter (λ (line : Line). not (is_comment_line line)) lines) (filter (λ (line : Line). not (is_comment_line line)) lines))
     at true e = ap (λ (l : List Line). unnumbered line ∷ l) e
     at false e = e
 
 -- a text behind one that ends a line
 told_behind : LinesOfTwoTexts → (front other : List ℕ) → EndsALine front → told (lines_of (front ++ other)) ≡ told (lines_of front) ++ told (lines_of other)
-unfolding runs_of runs numbered plain_text
+unfolding runs_of runs number_runs plain_text
 told_behind two front other (inl none) = ap (λ (f : List ℕ). told (lines_of (f ++ other))) none ∙ sym (ap (λ (f : List ℕ). told (lines_of f) ++ told (lines_of other)) none)
 told_behind two front other (inr ends) =
     ap (λ (f : List ℕ). told (lines_of (f ++ other))) ends.1
     ∙ (ap told (two ends.0 other ends.2)
-    ∙ (told_both (lines_of (ends.0 ++ 10 ∷ [])) (map (moved_on (length (slice_split (is_byte 10) ends.0))) (lines_of other))
+    ∙ (told_both (lines_of (ends.0 ++ 10 ∷ [])) (map (renumbered (length (slice_split (is_byte 10) ends.0))) (lines_of other))
     ∙ (ap (λ (l : List Line). told (lines_of (ends.0 ++ 10 ∷ [])) ++ l) (told_moved (length (slice_split (is_byte 10) ends.0)) (lines_of other))
     ∙ sym (ap (λ (f : List ℕ). told (lines_of f) ++ told (lines_of other)) ends.1))))
 
@@ -55,14 +55,14 @@ cut_once (b ∷ line) none =
     slice_split-cons_no (is_byte 10) b (line ++ 10 ∷ []) parts.0 ∙ ap (onto_first b) (cut_once line parts.1)
 
 -- the first run of a text of one line
-abbrev alone : List ℕ → Run
+abbrev alone : List ℕ → PieceRun
 alone line = record { first = 1; pieces = line ∷ [] }
 
 lines_of_one : (line : List ℕ) → list_any (is_byte 10) line ≡ false → escapes line ≡ false → lines_of (line ++ 10 ∷ []) ≡ map line_of (cond (is_kept (alone line)) (alone line ∷ []) [])
-unfolding runs_of runs numbered plain_text command_text
+unfolding runs_of runs number_runs plain_text command_text
 lines_of_one line none ends =
-    ap (λ (pieces : List (List ℕ)). map line_of (filter is_kept (numbered 1 (runs pieces)))) (cut_once line none)
-    ∙ ap (λ b. map line_of (filter is_kept (numbered 1 (cond b (goes_on_in line (([] ∷ []) ∷ [])) ((line ∷ []) ∷ ([] ∷ []) ∷ []))))) ends
+    ap (λ (pieces : List (List ℕ)). map line_of (filter is_kept (number_runs 1 (runs pieces)))) (cut_once line none)
+    ∙ ap (λ b. map line_of (filter is_kept (number_runs 1 (cond b (with_piece_in_front line (([] ∷ []) ∷ [])) ((line ∷ []) ∷ ([] ∷ []) ∷ []))))) ends
 
 -- without the first byte a text of blanks is one
 fewer_blanks : (line : List ℕ) → is_blank_alone line ≡ true → is_blank_alone (drop 1 line) ≡ true
@@ -73,7 +73,7 @@ dropped : (b : Bool) (l : Line) → is_blank_alone l.text ≡ b → (b ≡ false
 dropped true l is comment = refl
 dropped false l is comment = ap (λ c. map unnumbered (cond (not c) (l ∷ []) [])) (comment refl)
 
-through : (b : Bool) (run : Run) → map line_of (cond b (run ∷ []) []) ≡ cond b (line_of run ∷ []) []
+through : (b : Bool) (run : PieceRun) → map line_of (cond b (run ∷ []) []) ≡ cond b (line_of run ∷ []) []
 through true run = refl
 through false run = refl
 

@@ -29,7 +29,8 @@ use Rattle.mk_read.specs.Steps.{◌>>=◌, at_place, of_kind}
 
 -- ---- results
 
--- Seen but for places, a step with what follows it is the same step without places, with what follows it without them.
+-- Without places, a step and what follows it are the step without places and what follows it
+-- without places.
 pub step_but_places : {A B C D : Type 0} (view : A → B) (next : C → D) (r : Result A ReadFault) (s : Result B ReadFault) (f : A → Result C ReadFault) (g : B → Result D ReadFault)
     → but_places view r ≡ s → ((x : A) → but_places next (f x) ≡ g (view x)) → but_places next (r >>= f) ≡ (s >>= g)
 step_but_places view next (Ok x) s f g e h = h x ∙ ap (λ t. t >>= g) e
@@ -225,6 +226,9 @@ module _ (kept : List (List ℕ) → List (List ℕ)) (reader other : Reader) (d
 
       at : (b : Bool) → (not b && is_include_kind (kind_of (uncomment line.text))) ≡ false
           → but_places (stripped kept) (cond b (command_line place line.text state.read.earlier state.read.owner >>= λ (read : Read). Ok (record state { read = read })) (of_kind place (kind_of (uncomment line.text)) >>= plain_line reader deeper text.default place state))
-          ≡ cond b (command_line nowhere line.text (map unplaced_rule state.read.earlier) (stripped_owner state.read.owner) >>= λ (read : Read). Ok (record (stripped kept state) { read = read })) (of_kind nowhere (kind_of (uncomment line.text)) >>= plain_line other others text.default nowhere (stripped kept state))
+          ≡ cond b (command_line nowhere line.text (map unplaced_rule state.read.earlier)
+          (stripped_owner state.read.owner) >>= λ (read : Read). Ok
+          (record (stripped kept state) { read = read })) (of_kind nowhere (kind_of (uncomment line.text))
+          >>= plain_line other others text.default nowhere (stripped kept state))
       at true none = read_stripped kept place state (command_line place line.text state.read.earlier state.read.owner) _ (command_stripped place line.text state.read.earlier state.read.owner)
       at false none = plain_stripped place state (kind_of (uncomment line.text)) none

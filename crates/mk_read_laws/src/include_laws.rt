@@ -5,7 +5,7 @@ ghost use Rattle.mk_read.specs.IncludeLaws.{SpelledLinesIncludeTheirFile, Makefi
 use mk_lines::laws::nothing_to_uncomment;
 use mk_macros::laws::plain_texts_stay;
 
-/// A line `include NAME` includes the lines of the file of this name.
+/// A line `include NAME` includes the lines of the file NAME.
 pub fn spelled_lines_include_their_file()
     ensures { SpelledLinesIncludeTheirFile }
 {
@@ -13,8 +13,8 @@ pub fn spelled_lines_include_their_file()
     plain_texts_stay();
 }
 
-/// A makefile that has in the place of an include line the lines of its files is read as the one
-/// with the include line, but for places and the names of texts.
+/// Replacing an include line of a makefile by the lines of its files changes only places and the
+/// names of texts.
 pub fn makefiles_may_have_the_lines_in_place()
     ensures { MakefilesMayHaveTheLinesInPlace }
 {}

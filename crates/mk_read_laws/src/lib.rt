@@ -1,4 +1,4 @@
-//! Laws of the reading of makefiles, about the definitions alone.
+//! Laws of how makefiles are read, which speak only of the definitions.
 #![tactic(auto)]
 
 pub mod default_laws;

@@ -1,17 +1,17 @@
-//! Laws of what texts say.
+//! Laws of texts.
 
 ghost use Rattle.mk_read.specs.TextLaws.{SilentLinesSayNothing, SilentLinesChangeOnlyPlaces};
 
 use mk_lines::laws::lines_of_two_texts;
 
-/// A line of blanks or of a comment alone leaves what a text says.
+/// A blank line or a comment line doesn't change what a text says.
 pub fn silent_lines_say_nothing()
     ensures { SilentLinesSayNothing }
 {
     lines_of_two_texts();
 }
 
-/// A line of blanks or of a comment alone that is put into the text of a file changes only places.
+/// A blank line or a comment line that is inserted into the text of a file changes only places.
 pub fn silent_lines_change_only_places()
     ensures { SilentLinesChangeOnlyPlaces }
 {

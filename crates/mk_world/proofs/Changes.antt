@@ -10,10 +10,10 @@ use Rattle.mk_graph.specs.Lists.{has_left, has_right}
 use Rattle.mk_graph.specs.Graph.{Graph, node, IsGraph}
 use Rattle.mk_graph.specs.Setting.{FileName, reads, writes}
 use Rattle.mk_graph.specs.World.{Disk, Busy, changed, outcome}
-use Rattle.mk_graph.specs.Turns.{Wanted, goal, onward, InOpenGroup, HasAll, IsPart}
+use Rattle.mk_graph.specs.Schedules.{Wanted, goal, onward, InOpenGroup, HasAll, IsPart}
 use Rattle.mk_world.specs.Steps.{Takes}
-use Rattle.mk_graph.specs.Schedule.{changed_at, looked, has_put, HasSeenAll, HasPutAll, HasPutWhatIsKnown, seen_by, put_by}
-use Rattle.mk_graph.specs.Schedule as model
+use Rattle.mk_graph.specs.Steps.{changed_at, looked, has_put, HasSeenAll, HasPutAll, HasPutWhatIsKnown, seen_by, put_by}
+use Rattle.mk_graph.specs.Steps as model
 use Rattle.mk_world.specs.Tables.{look}
 use Rattle.mk_world.specs.State.{Scene, MakeState, RunState, setting, making_of, run_at, no_run, begun, finished, start_of, DiskState, disk_of, busy, world_in, HasLooked, HasPut}
 use Rattle.mk_world.specs.Fits.{Fits}
@@ -128,7 +128,10 @@ put_fits scene m new t names f c fits runs h =
 pub finished_fits : (scene : Scene) (m : MakeState) (t : ℕ) → Fits scene m → t < length scene.graph.nodes → Fits scene (finished m t)
 finished_fits scene m t fits low = with_fits scene m fits (t ∷ m.done) (filter (λ n. not (nat_eq t n)) m.running) t no_run low (λ n k apart. (left t m.running n k).0) (λ k. absurd ((left t m.running t k).1 refl))
 
-pub begun_fits : (scene : Scene) (m : MakeState) (t : ℕ) (run : RunState) (i j : ℕ) → Fits scene m → t < length scene.graph.nodes → run ≡ record { looks = replicate i None; puts = replicate j None } → i ≡ length (reads scene.graph (setting scene) t) → j ≡ length (writes scene.graph (setting scene) t) → Fits scene (begun m t run)
+pub begun_fits : (scene : Scene) (m : MakeState) (t : ℕ) (run : RunState) (i j : ℕ) → Fits scene m
+    → t < length scene.graph.nodes → run ≡ record { looks = replicate i None; puts = replicate j None } → i
+    ≡ length (reads scene.graph (setting scene) t) → j ≡ length (writes scene.graph (setting scene) t)
+    → Fits scene (begun m t run)
 begun_fits scene m t run i j fits low e is js =
     with_fits scene m fits m.done (t ∷ m.running) t run low (λ n k apart. elim k [ inl same ↦ absurd (apart (sym same)) | inr r ↦ r ])
     (λ k. (ap (λ (r : RunState). length r.looks) e ∙ (length-replicate i None ∙ is), ap (λ (r : RunState). length r.puts) e ∙ (length-replicate j None ∙ js)))
@@ -160,13 +163,19 @@ some_of P Q e h = subst (λ o. MatchOption o P Q) e h
 pub seen_is : (scene : Scene) (m : MakeState) (t : ℕ) (names : List FileName) (values : List (Option (Option ℕ))) (xs : List (Option ℕ)) → names ≡ reads scene.graph (setting scene) t → values ≡ (run_at m.runs t).looks → map (look names values) names ≡ map (λ x. Some x) xs
     → HasSeenAll scene.graph (setting scene) (making_of scene m) t × (seen_by scene.graph (setting scene) (making_of scene m) t ≡ xs)
 seen_is scene m t names values xs is_names is_values e =
-    all_known (look (reads scene.graph (setting scene) t) (run_at m.runs t).looks) option_flatten (λ x. refl) (reads scene.graph (setting scene) t) xs (ap (λ (l : List FileName). map (look l (run_at m.runs t).looks) l) (sym is_names) ∙ (ap (λ (vs : List (Option (Option ℕ))). map (look names vs) names) (sym is_values) ∙ e))
+    all_known (look (reads scene.graph (setting scene) t) (run_at m.runs t).looks) option_flatten (λ x. refl)
+    (reads scene.graph (setting scene) t) xs (ap (λ (l : List FileName). map
+    (look l (run_at m.runs t).looks) l) (sym is_names) ∙ (ap
+    (λ (vs : List (Option (Option ℕ))). map (look names vs) names) (sym is_values) ∙ e))
 
 -- what it has put, where it has put all
 pub put_is : (scene : Scene) (m : MakeState) (t : ℕ) (names : List FileName) (values : List (Option ℕ)) (xs : List ℕ) → names ≡ writes scene.graph (setting scene) t → values ≡ (run_at m.runs t).puts → map (look names values) names ≡ map (λ x. Some x) xs
     → HasPutAll scene.graph (setting scene) (making_of scene m) t × (put_by scene.graph (setting scene) (making_of scene m) t ≡ xs)
 put_is scene m t names values xs is_names is_values e =
-    all_known (look (writes scene.graph (setting scene) t) (run_at m.runs t).puts) (λ o. unwrap_or o 0) (λ x. refl) (writes scene.graph (setting scene) t) xs (ap (λ (l : List FileName). map (look l (run_at m.runs t).puts) l) (sym is_names) ∙ (ap (λ (vs : List (Option ℕ)). map (look names vs) names) (sym is_values) ∙ e))
+    all_known (look (writes scene.graph (setting scene) t) (run_at m.runs t).puts) (λ o. unwrap_or o 0)
+    (λ x. refl) (writes scene.graph (setting scene) t) xs
+    (ap (λ (l : List FileName). map (look l (run_at m.runs t).puts) l) (sym is_names)
+    ∙ (ap (λ (vs : List (Option ℕ)). map (look names vs) names) (sym is_values) ∙ e))
 
 -- what is known, where this was seen and put
 pub to_known : (scene : Scene) (m : MakeState) (d : Disk) (t : ℕ) (xs : List (Option ℕ)) (ys : List ℕ) → seen_by scene.graph (setting scene) (making_of scene m) t ≡ xs → put_by scene.graph (setting scene) (making_of scene m) t ≡ ys

@@ -17,7 +17,7 @@ use Rattle.mk_graph.specs.Graph.{Graph, node, no_node}
 use Rattle.mk_graph.specs.declared.node.Node.{Node}
 use Rattle.mk_graph.specs.Setting.{FileName}
 use Rattle.mk_graph.specs.World as world
-use Rattle.mk_graph.specs.World.{numbered, IsFirst, IsOfWorld}
+use Rattle.mk_graph.specs.World.{numbered_disk, IsFirstDisk, IsOfWorld}
 use Rattle.mk_world.specs.declared.file.File.{File}
 use Rattle.mk_world.specs.Tables.{look}
 use Rattle.mk_world.specs.State.{disk_of, file_of, setting_of}
@@ -61,7 +61,7 @@ first_from s n (h ∷ names) f = at (recorded.is_given s h) refl (first_from s (
     ]
 
 -- it is the disk on which the given names are numbered
-pub first_is : (s : recorded.Setting) (names : List FileName) → disk_of (first_disk s names) ≡ numbered (given_among s names)
+pub first_is : (s : recorded.Setting) (names : List FileName) → disk_of (first_disk s names) ≡ numbered_disk (given_among s names)
 first_is s names =
     let at : (f : FileName) → option_map file_of (look names (first_files s 0 names) f) ≡ option_map numbered_file (place_from 1 (given_among s names) f) = λ f. first_from s 0 names f in
     λ i. record { files = λ f. at f i; clock = length (given_among s names); known = [] }
@@ -76,7 +76,7 @@ given_has s (h ∷ names) f = at (recorded.is_given s h) refl (given_has s names
     at false g ih = (λ k. (inr (ih.0 k).0, (ih.0 k).1), λ k. elim k.0 [ inl e ↦ absurd (true≢false (sym k.1 ∙ (ap (recorded.is_given s) (sym e) ∙ g))) | inr r ↦ ih.1 (r, k.1) ])
 
 -- So the first disk of a world is a first one.
-pub is_first : (g : Graph) (s : recorded.Setting) (names : List FileName) → AreSorted names → ((f : FileName) → Has names f ↔ IsOfWorld g (setting_of s) f) → IsFirst g (setting_of s) (disk_of (first_disk s names))
+pub is_first : (g : Graph) (s : recorded.Setting) (names : List FileName) → AreSorted names → ((f : FileName) → Has names f ↔ IsOfWorld g (setting_of s) f) → IsFirstDisk g (setting_of s) (disk_of (first_disk s names))
 is_first g s names sorted all =
     record {
       names = given_among s names;
@@ -94,11 +94,21 @@ texts_left texts i z lt = rest_is (λ (text : Bor FileName). text.now) texts i z
 
 pub files_pass : (s : recorded.Setting) (n : ℕ) (name : FileName) (texts rest : List FileName) (old new all : List (Option File)) → texts ≡ name ∷ rest → recorded.is_given s name ≡ false → new ≡ old ++ None ∷ [] → old ++ first_files s n texts ≡ all → new ++ first_files s n rest ≡ all
 files_pass s n name texts rest old new all is g e so_far =
-    ap (λ l. l ++ first_files s n rest) e ∙ (append_assoc old (None ∷ []) (first_files s n rest) ∙ (ap (λ l. old ++ l) (sym (cond-false (recorded.is_given s name) (Some (record { content = n + 1; stamp = n + 1 }) ∷ first_files s (n + 1) rest) (None ∷ first_files s n rest) g)) ∙ (ap (λ t. old ++ first_files s n t) (sym is) ∙ so_far)))
+    ap (λ l. l ++ first_files s n rest) e ∙ (append_assoc old (None ∷ []) (first_files s n rest)
+    ∙ (ap (λ l. old ++ l) (sym (cond-false (recorded.is_given s name)
+    (Some (record { content = n + 1; stamp = n + 1 }) ∷ first_files s (n + 1) rest)
+    (None ∷ first_files s n rest) g)) ∙ (ap (λ t. old ++ first_files s n t) (sym is) ∙ so_far)))
 
-pub files_take : (s : recorded.Setting) (n : ℕ) (name : FileName) (texts rest : List FileName) (old new all : List (Option File)) → texts ≡ name ∷ rest → recorded.is_given s name ≡ true → new ≡ old ++ Some (record { content = n + 1; stamp = n + 1 }) ∷ [] → old ++ first_files s n texts ≡ all → new ++ first_files s (n + 1) rest ≡ all
+pub files_take : (s : recorded.Setting) (n : ℕ) (name : FileName) (texts rest : List FileName)
+    (old new all : List (Option File)) → texts ≡ name ∷ rest → recorded.is_given s name ≡ true → new ≡ old
+    ++ Some (record { content = n + 1; stamp = n + 1 }) ∷ [] → old ++ first_files s n texts ≡ all → new
+    ++ first_files s (n + 1) rest ≡ all
 files_take s n name texts rest old new all is g e so_far =
-    ap (λ l. l ++ first_files s (n + 1) rest) e ∙ (append_assoc old (Some (record { content = n + 1; stamp = n + 1 }) ∷ []) (first_files s (n + 1) rest) ∙ (ap (λ l. old ++ l) (sym (cond-true (recorded.is_given s name) (Some (record { content = n + 1; stamp = n + 1 }) ∷ first_files s (n + 1) rest) (None ∷ first_files s n rest) g)) ∙ (ap (λ t. old ++ first_files s n t) (sym is) ∙ so_far)))
+    ap (λ l. l ++ first_files s (n + 1) rest) e ∙ (append_assoc old
+    (Some (record { content = n + 1; stamp = n + 1 }) ∷ []) (first_files s (n + 1) rest)
+    ∙ (ap (λ l. old ++ l) (sym (cond-true (recorded.is_given s name)
+    (Some (record { content = n + 1; stamp = n + 1 }) ∷ first_files s (n + 1) rest)
+    (None ∷ first_files s n rest) g)) ∙ (ap (λ t. old ++ first_files s n t) (sym is) ∙ so_far)))
 
 pub count_pass : (s : recorded.Setting) (n many : ℕ) (name : FileName) (texts rest : List FileName) → texts ≡ name ∷ rest → recorded.is_given s name ≡ false → n + length (given_among s texts) ≡ many → n + length (given_among s rest) ≡ many
 count_pass s n many name texts rest is g so_far = ap (λ l. n + length l) (sym (cond-false (recorded.is_given s name) (name ∷ given_among s rest) (given_among s rest) g)) ∙ (ap (λ t. n + length (given_among s t)) (sym is) ∙ so_far)
@@ -118,7 +128,9 @@ many_first s n (h ∷ names) = at (recorded.is_given s h) (many_first s (n + 1) 
     at false e k = ap suc k
 
 -- the names with those of a node
-pub node_named : (s : recorded.Setting) (n : Node) (old first second new : List FileName) (name : FileName) (reads writes : List FileName) → name ≡ n.name → reads ≡ reads_of s n → writes ≡ writes_of s n → first ≡ with_name old name → second ≡ fold with_name first reads → new ≡ fold with_name second writes
+pub node_named : (s : recorded.Setting) (n : Node) (old first second new : List FileName) (name : FileName)
+    (reads writes : List FileName) → name ≡ n.name → reads ≡ reads_of s n → writes ≡ writes_of s n → first
+    ≡ with_name old name → second ≡ fold with_name first reads → new ≡ fold with_name second writes
     → (f : FileName) → Has new f ↔ (Has old f ⊎ IsNameOf s n f)
 node_named s n old first second new name reads writes is_name is_reads is_writes one two three f =
     let to_first : Has first f ↔ (Has old f ⊎ (n.name ≡ f)) = rw (one, is_name) (one_has old n.name f) in

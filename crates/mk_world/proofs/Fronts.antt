@@ -6,13 +6,13 @@ use Rattle.mk_graph.specs.Graph.{Graph}
 use Rattle.mk_graph.specs.Serial.{serial_order}
 use Rattle.mk_graph.specs.Setting.{Setting}
 use Rattle.mk_graph.specs.World.{World, Disk, Making, Idle, Busy, disk_of}
-use Rattle.mk_graph.specs.Schedule as model
-use Rattle.mk_graph.specs.Schedule.{IsLegal, after, after_all, finished}
+use Rattle.mk_graph.specs.Steps as model
+use Rattle.mk_graph.specs.Steps.{IsLegal, after, after_all, finished}
 use Rattle.mk_world.specs.NamedStep as code
 use Rattle.mk_world.specs.declared.fault.StepFault.{StepFault}
 use Rattle.mk_world.specs.declared.fault.StepFault.TheVariants as faults
-use Rattle.mk_world.specs.declared.plan.Order.{Order}
-use Rattle.mk_world.specs.declared.plan.Order.TheVariants.{Make, Stop, Begin, Look, Put, Done, Finish, Run, Pass, End, Edit}
+use Rattle.mk_world.specs.declared.plan.PlanCommand.{PlanCommand}
+use Rattle.mk_world.specs.declared.plan.PlanCommand.TheVariants.{Make, Stop, Begin, Look, Put, Done, Finish, Run, Pass, End, Edit}
 use Rattle.mk_world.specs.State.{State, Scene, setting, world_of}
 use Rattle.mk_world.specs.Steps.{step_of}
 use Rattle.mk_world.specs.Faults.{Check, checks, AllHold, FirstFails}
@@ -96,7 +96,7 @@ passes_in_one : (g : Graph) (old a b : World) → PassesAllIn g old a → Passes
 passes_in_one g (Idle d) a b h j = h ∙ sym j
 passes_in_one g (Busy m d) a b h j = passes_all_one g m d a b h j
 
-pub before_one : (g : Graph) (order : Order) (old a b : World) → PassesBefore g order old a → PassesBefore g order old b → a ≡ b
+pub before_one : (g : Graph) (order : PlanCommand) (old a b : World) → PassesBefore g order old a → PassesBefore g order old b → a ≡ b
 before_one g (Make jobs goals) old a b h j = h ∙ sym j
 before_one g Stop old a b h j = h ∙ sym j
 before_one g (Begin t) old a b h j = passes_in_one g old a b h j
@@ -120,7 +120,7 @@ takes_legal g s old new (x ∷ steps) h = elim h [
     no_error : (fault : StepFault) → let ok : Result (Unit {0}) StepFault = Ok tt in ok ≡ Err fault → ⊥
     no_error fault e = cc
 
--- legal steps are refused for want of memory alone
+-- legal steps are refused only on out of memory
 legal_or : (g : Graph) (s : Setting) (old new : World) (steps : List model.Step) (fault : StepFault) → TakesInTurn g s old new steps (Err fault) → ¬ (fault ≡ faults.Memory) → IsLegal g s old steps → ⊥
 legal_or g s old new [] fault h not legal = no_value h.1
   where
@@ -138,13 +138,13 @@ legal_or g s old new (x ∷ steps) fault h not legal = elim h [
     same a b e = cc
 
 -- a line that is followed leaves one world, and isn't refused
-pub follows_one : (stage : Stage) (old a b : World) (order : Order) → Follows stage old a order (Ok tt) → Follows stage old b order (Ok tt) → a ≡ b
+pub follows_one : (stage : Stage) (old a b : World) (order : PlanCommand) → Follows stage old a order (Ok tt) → Follows stage old b order (Ok tt) → a ≡ b
 follows_one stage old a b order h j =
     let same = before_one stage.graph order old j.behind h.behind j.passes h.passes in
     let takes = subst (λ (w : World). TakesInTurn stage.graph stage.setting w b (own_steps stage.graph stage.setting (disk_of w) order) (Ok tt)) same j.takes in
     (takes_legal stage.graph stage.setting h.behind a _ h.takes).1 ∙ sym (takes_legal stage.graph stage.setting h.behind b _ takes).1
 
-pub follows_or : (stage : Stage) (old a b : World) (order : Order) (fault : StepFault) → Follows stage old a order (Ok tt) → IsRefusal stage old b order fault → ⊥
+pub follows_or : (stage : Stage) (old a b : World) (order : PlanCommand) (fault : StepFault) → Follows stage old a order (Ok tt) → IsRefusal stage old b order fault → ⊥
 follows_or stage old a b order fault h refusal = elim refusal [
   | inl unknown ↦ false≢true (sym unknown.unknown ∙ h.known)
   | inr fails ↦

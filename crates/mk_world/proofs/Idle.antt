@@ -7,12 +7,12 @@ use Rattle.mk_graph.specs.Graph.{Graph, IsGraph}
 use Rattle.mk_graph.specs.Serial.{serial_order}
 use Rattle.mk_graph.specs.Setting.{Setting}
 use Rattle.mk_graph.specs.World.{Making, Disk, Busy}
-use Rattle.mk_graph.specs.Schedule.{Pass, IsLegal, after_all, finished}
+use Rattle.mk_graph.specs.Steps.{Pass, IsLegal, after_all, finished}
 use Rattle.mk_world.specs.State.{Scene, MakeState, making_of}
 use Rattle.mk_world.specs.State as lists
 use Rattle.mk_world.specs.Fits.{Fits}
 use Rattle.mk_world.proofs.Changes.{wanted_low, finished_leaves}
-use Rattle.mk_world.specs.Running.{IsIdle, IsFirstIdle, AreNotIdle, Passes, Leads}
+use Rattle.mk_world.specs.Running.{IsIdle, IsFirstIdle, AreNotIdle, Passes, LeadsTo}
 
 next_is : (xs : List ℕ) (i : ℕ) → i < length xs → drop i xs ≡ get_or xs i 0 ∷ drop (i + 1) xs
 next_is xs i lt = at_drop_more (λ l. l) xs i 0 lt
@@ -49,7 +49,7 @@ pub passes_leave : (g : Graph) (s : Setting) (d : Disk) (m : Making) (ns : List 
 passes_leave g s d m [] end h = ap (λ k. Busy k d) h
 passes_leave g s d m (n ∷ ns) end h = passes_leave g s d (finished m n) ns end h.1
 
-pub passes_lead : (g : Graph) (s : Setting) (d : Disk) (m : Making) (ns : List ℕ) (end : Making) → Passes g m ns end → Leads g s (Busy m d) (Busy end d)
+pub passes_lead : (g : Graph) (s : Setting) (d : Disk) (m : Making) (ns : List ℕ) (end : Making) → Passes g m ns end → LeadsTo g s (Busy m d) (Busy end d)
 passes_lead g s d m ns end h = record { steps = map (λ n. Pass n) ns; legal = passes_legal g s d m ns end h; leaves = passes_leave g s d m ns end h }
 
 -- how many of the first numbers aren't in a list
@@ -118,7 +118,10 @@ idle_fewer scene m n is fits first =
     fewer_missing (length scene.graph.nodes) n m.done (idle_low scene m n is fits first) (first_is_idle scene.graph (making_of scene m) (serial_order scene.graph) n first).0.0.not_done
 
 -- in lists one more is passed
-pub passed_more : (scene : Scene) (old m : MakeState) (n : ℕ) → IsGraph scene.graph → Fits scene m → IsFirstIdle scene.graph (making_of scene m) (serial_order scene.graph) n → (ns : List ℕ) × Passes scene.graph (making_of scene old) ns (making_of scene m) → (ns : List ℕ) × Passes scene.graph (making_of scene old) ns (making_of scene (lists.finished m n))
+pub passed_more : (scene : Scene) (old m : MakeState) (n : ℕ) → IsGraph scene.graph → Fits scene m
+    → IsFirstIdle scene.graph (making_of scene m) (serial_order scene.graph) n → (ns : List ℕ)
+    × Passes scene.graph (making_of scene old) ns (making_of scene m) → (ns : List ℕ)
+    × Passes scene.graph (making_of scene old) ns (making_of scene (lists.finished m n))
 passed_more scene old m n is fits first (ns, passes) =
     let low = idle_low scene m n is fits first in
     let leaves = finished_leaves scene m n (rw fits.many low) in

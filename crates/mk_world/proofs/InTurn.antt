@@ -4,12 +4,12 @@ use Rattle.std.specs.Prelude.{OnErr}
 use Rattle.mk_graph.specs.Graph.{Graph}
 use Rattle.mk_graph.specs.Setting.{Setting}
 use Rattle.mk_graph.specs.World.{World}
-use Rattle.mk_graph.specs.Schedule.{Step, IsLegal, after, after_all}
+use Rattle.mk_graph.specs.Steps.{Step, IsLegal, after, after_all}
 use Rattle.mk_world.specs.declared.fault.StepFault.{StepFault}
 use Rattle.mk_world.specs.declared.fault.StepFault.TheVariants.{Memory}
 use Rattle.mk_world.specs.State.{Scene, setting}
 use Rattle.mk_world.specs.Steps.{Judges}
-use Rattle.mk_world.specs.Running.{TakesInTurn, Leads}
+use Rattle.mk_world.specs.Running.{TakesInTurn, LeadsTo}
 
 -- a step that is taken, before others
 pub turn_next : (scene : Scene) (old mid new : World) (one : Step) (steps : List Step) (r : Result (Unit {0}) StepFault) → Judges scene old mid one (Ok tt) → TakesInTurn scene.graph (setting scene) mid new steps r → TakesInTurn scene.graph (setting scene) old new (one ∷ steps) r
@@ -50,7 +50,7 @@ turn_short g s old [] some = absurd (omega arith)
 turn_short g s old (one ∷ steps) some = inr (record { fault = Memory; is = refl; first = inl refl; unchanged = refl })
 
 -- steps that are taken in turn lead somewhere
-pub turn_leads : (g : Graph) (s : Setting) (old new : World) (steps : List Step) (r : Result (Unit {0}) StepFault) → TakesInTurn g s old new steps r → Leads g s old new
+pub turn_leads : (g : Graph) (s : Setting) (old new : World) (steps : List Step) (r : Result (Unit {0}) StepFault) → TakesInTurn g s old new steps r → LeadsTo g s old new
 turn_leads g s old new [] r h = record { steps = []; legal = tt; leaves = h.0 }
 turn_leads g s old new (one ∷ steps) r h = elim h [
   | inl t ↦
@@ -60,11 +60,11 @@ turn_leads g s old new (one ∷ steps) r h = elim h [
 ]
 
 -- what leads on from where steps led
-pub leads_on : (g : Graph) (s : Setting) (old mid new : World) → Leads g s old mid → Leads g s mid new → Leads g s old new
+pub leads_on : (g : Graph) (s : Setting) (old mid new : World) → LeadsTo g s old mid → LeadsTo g s mid new → LeadsTo g s old new
 leads_on g s old mid new first next = at first.steps old first.legal first.leaves
   where
-    at : (steps : List Step) (w : World) → IsLegal g s w steps → mid ≡ after_all g s w steps → Leads g s w new
-    at [] w legal is = subst (λ (k : World). Leads g s k new) is next
+    at : (steps : List Step) (w : World) → IsLegal g s w steps → mid ≡ after_all g s w steps → LeadsTo g s w new
+    at [] w legal is = subst (λ (k : World). LeadsTo g s k new) is next
     at (one ∷ steps) w legal is =
         let rest = at steps (after g s w one) legal.1 is in
         record { steps = one ∷ rest.steps; legal = (legal.0, rest.legal); leaves = rest.leaves }
@@ -79,7 +79,10 @@ finish_short g s old looks puts end =
     turn_short g s old (looks ++ (puts ++ end ∷ [])) (subst (λ (l : List Step). 0 < length l) (append_assoc looks puts (end ∷ [])) (some_steps (looks ++ puts) end))
 
 -- a run is finished: looks, puts, and the end
-pub finish_all : (g : Graph) (s : Setting) (old mid late new : World) (looks puts : List Step) (end : Step) (r : Result (Unit {0}) StepFault) → TakesInTurn g s old mid looks (Ok tt) → TakesInTurn g s mid late puts (Ok tt) → TakesInTurn g s late new (end ∷ []) r → TakesInTurn g s old new (looks ++ (puts ++ end ∷ [])) r
+pub finish_all : (g : Graph) (s : Setting) (old mid late new : World) (looks puts : List Step) (end : Step)
+    (r : Result (Unit {0}) StepFault) → TakesInTurn g s old mid looks (Ok tt)
+    → TakesInTurn g s mid late puts (Ok tt) → TakesInTurn g s late new (end ∷ []) r
+    → TakesInTurn g s old new (looks ++ (puts ++ end ∷ [])) r
 finish_all g s old mid late new looks puts end r h k j =
     turn_append g s old mid new looks (puts ++ end ∷ []) r h (turn_append g s mid late new puts (end ∷ []) r k j)
 

@@ -7,7 +7,7 @@ use Rattle.mk_graph.specs.Membership.{Has}
 use Rattle.mk_graph.specs.Graph.{Graph, node, no_node, prerequisites}
 use Rattle.mk_graph.specs.Setting.{name}
 use Rattle.mk_graph.specs.World.{Disk, File, HasStamp}
-use Rattle.mk_graph.specs.Schedule.{MustRun}
+use Rattle.mk_graph.specs.Steps.{MustRun}
 use Rattle.mk_world.specs.Fits.{Forces}
 
 -- the node at a number

@@ -3,15 +3,15 @@ use Rattle.std.proofs.Common.{◌≡◌, ℕ, ◌<◌, true, false, List, [], �
 use Rattle.std.proofs.lemmas.Bool.{true≢false}
 use Rattle.mk_graph.specs.Membership.{Has}
 use Rattle.mk_graph.specs.Graph.{Graph, node}
-use Rattle.mk_graph.specs.GrowthLaws.{TurnsStay}
-use Rattle.mk_graph.specs.Schedule.{Step, Edit, Make, Begin, Look, Put, End, Pass, Stop, EndMake, looked, has_put}
+use Rattle.mk_graph.specs.GrowthLaws.{CanStartStays}
+use Rattle.mk_graph.specs.Steps.{Step, Edit, Make, Begin, Look, Put, End, Pass, Stop, EndMake, looked, has_put}
 use Rattle.mk_graph.specs.SerialMake.{puts, rest_of_run}
 use Rattle.mk_graph.specs.Setting.{FileName, Setting, reads, writes}
 use Rattle.mk_graph.specs.Serial.{serial_order}
-use Rattle.mk_graph.specs.Turns.{MayTurn}
+use Rattle.mk_graph.specs.Schedules.{CanStart}
 use Rattle.mk_graph.specs.World.{Disk, Making, World, Idle, Busy, content, written}
-use Rattle.mk_ready.specs.Progress.{Progress, IsBlank, Starts, GoesOn}
-use Rattle.mk_ready.specs.Progress as ready
+use Rattle.mk_graph_ready.specs.Progress.{Progress, IsBlank, Starts, GoesOn}
+use Rattle.mk_graph_ready.specs.Progress as ready
 use Rattle.mk_world.specs.declared.fault.StepFault.{StepFault}
 use Rattle.mk_world.specs.State.{Scene, MakeState, DiskState, setting, making_of, disk_of, busy, start_of}
 use Rattle.mk_world.specs.State as lists
@@ -48,13 +48,13 @@ module _ (scene : Scene) where
   kept_started m p q jobs goals many same s is =
       subst (λ (w : MakeState). IsKept scene w q) (sym is) (record { graph = s.graph ∙ same; goals = s.names; done = λ n. (s.done n, λ h. absurd h); recipes = λ t h. absurd h })
 
-  module _ (stay : TurnsStay) (m : MakeState) (p : Progress) (k : IsKept scene m p) where
+  module _ (stay : CanStartStays) (m : MakeState) (p : Progress) (k : IsKept scene m p) where
     -- whose turn may come by what is kept
-    pub turn_from : (n : ℕ) → MayTurn p.graph p.goals p.done n → MayTurn scene.graph m.goals m.done n
-    turn_from n h = stay scene.graph p.goals m.goals p.done m.done (λ x a. (k.goals x).0 a) (λ x a. (k.done x).0 a) n (λ d. h.not_done ((k.done n).1 d)) (subst (λ (g : Graph). MayTurn g p.goals p.done n) k.graph h)
+    pub turn_from : (n : ℕ) → CanStart p.graph p.goals p.done n → CanStart scene.graph m.goals m.done n
+    turn_from n h = stay scene.graph p.goals m.goals p.done m.done (λ x a. (k.goals x).0 a) (λ x a. (k.done x).0 a) n (λ d. h.not_done ((k.done n).1 d)) (subst (λ (g : Graph). CanStart g p.goals p.done n) k.graph h)
 
-    pub turn_to : (n : ℕ) → MayTurn scene.graph m.goals m.done n → MayTurn p.graph p.goals p.done n
-    turn_to n h = subst (λ (g : Graph). MayTurn g p.goals p.done n) (sym k.graph) (stay scene.graph m.goals p.goals m.done p.done (λ x a. (k.goals x).1 a) (λ x a. (k.done x).1 a) n (λ d. h.not_done ((k.done n).0 d)) h)
+    pub turn_to : (n : ℕ) → CanStart scene.graph m.goals m.done n → CanStart p.graph p.goals p.done n
+    turn_to n h = subst (λ (g : Graph). CanStart g p.goals p.done n) (sym k.graph) (stay scene.graph m.goals p.goals m.done p.done (λ x a. (k.goals x).1 a) (λ x a. (k.done x).1 a) n (λ d. h.not_done ((k.done n).0 d)) h)
 
     -- and what is idle
     idle_from : (n : ℕ) → ready.IsIdle p n → IsIdle scene.graph (making_of scene m) n

@@ -10,8 +10,6 @@ pub mod Ascending
 pub mod FirstDisk
 pub mod Listings
 pub mod StepTests
-pub mod Orders
-pub mod PlanTexts
 pub mod Idle
 pub mod InTurn
 pub mod Stamps

@@ -12,8 +12,8 @@ use Rattle.mk_graph.specs.Graph.{Graph}
 use Rattle.mk_graph.specs.Setting.{FileName, Setting, reads, writes}
 use Rattle.mk_graph.specs.World.{World, Disk, Idle, Busy}
 use Rattle.mk_graph.specs.World as model
-use Rattle.mk_graph.specs.Turns.{HasAll, IsPart}
-use Rattle.mk_graph.specs.Schedule.{Look, End}
+use Rattle.mk_graph.specs.Schedules.{HasAll, IsPart}
+use Rattle.mk_graph.specs.Steps.{Look, End}
 use Rattle.mk_graph.specs.SerialMake.{puts, rest_of_run}
 use Rattle.mk_world.specs.declared.fault.StepFault.{StepFault}
 use Rattle.mk_world.specs.declared.fault.StepFault.TheVariants.{NoMake, Memory, ClockSpent, OtherOutcome, MakeRuns, NotReady, NoJobFree, OutOfDate, NotRunning, NotInFootprint, NotAllDone, PlanLine, NotEditable, NotAGoal}
@@ -22,8 +22,8 @@ use Rattle.mk_world.specs.declared.file.Listed.{Listed}
 use Rattle.mk_world.specs.State.{State, DiskState, MakeState, Scene, setting, disk_of, world_of, world_in, number_of, file_of}
 use Rattle.mk_world.specs.Tables.{look}
 use Rattle.mk_world.specs.Listing.{there_among, entry, listing, listed_as}
-use Rattle.mk_world.specs.Running.{TakesInTurn, is_node, listed_at, files_text, file_text, steps_of, own_steps, Follows, Stage, stage_of, is_known, Prepares, AnswersInTurn, AnswersLine, IsRefusal, RunsTo, printed, Leads}
-use Rattle.mk_world.specs.declared.plan.Order.{Order}
+use Rattle.mk_world.specs.Running.{TakesInTurn, is_node, listed_at, files_text, file_text, steps_of, own_steps, Follows, Stage, stage_of, is_known, Prepares, AnswersInTurn, AnswersLine, IsRefusal, RunsTo, printed, LeadsTo}
+use Rattle.mk_world.specs.declared.plan.PlanCommand.{PlanCommand}
 use Rattle.mk_world.specs.declared.plan.PlanLine as planned
 use Rattle.mk_world.proofs.InTurn.{turn_leads, leads_on}
 use Rattle.mk_world.proofs.Tables.{unplaced}
@@ -92,7 +92,7 @@ pub text_more : {A : Type 0} (F : A → List ℕ) (so_far piece whole : List ℕ
 text_more F so_far piece whole items i d lt is h =
     append_assoc so_far piece (flat_map F (drop (i + 1) items)) ∙ (ap (λ p. so_far ++ (p ++ flat_map F (drop (i + 1) items))) is ∙ (ap (λ l. so_far ++ flat_map F l) (sym (drop_more items i d lt)) ∙ h))
 
--- a fault is want of memory, or isn't
+-- a fault is out of memory, or isn't
 memory_or : (fault : StepFault) → (fault ≡ Memory) ⊎ (¬ (fault ≡ Memory))
 memory_or Memory = inl refl
 memory_or ClockSpent = inr (λ e. cc)
@@ -109,7 +109,7 @@ memory_or PlanLine = inr (λ e. cc)
 memory_or NotEditable = inr (λ e. cc)
 memory_or NotAGoal = inr (λ e. cc)
 
-follows : (old mid new : State) (order : Order) (r : Result (Unit {0}) StepFault) → is_known old.scene.graph old.disk.names order ≡ true → Prepares old mid order (Ok tt) → AnswersInTurn mid new (steps_of mid order) r → Follows (stage_of old) (world_of old) (world_of new) order r
+follows : (old mid new : State) (order : PlanCommand) (r : Result (Unit {0}) StepFault) → is_known old.scene.graph old.disk.names order ≡ true → Prepares old mid order (Ok tt) → AnswersInTurn mid new (steps_of mid order) r → Follows (stage_of old) (world_of old) (world_of new) order r
 follows old mid new order r known before own =
     let takes = subst (λ (d : Disk). TakesInTurn mid.scene.graph (setting mid.scene) (world_of mid) (world_of new) (own_steps mid.scene.graph (setting mid.scene) d order) r) (sym (same_disk mid)) own.takes in
     record {
@@ -120,7 +120,7 @@ follows old mid new order r known before own =
     }
 
 -- a line that is followed
-pub line_followed : (old mid new : State) (order : Order) (r : Result (Unit {0}) StepFault) → is_known old.scene.graph old.disk.names order ≡ true → Prepares old mid order (Ok tt) → AnswersInTurn mid new (steps_of mid order) r → AnswersLine old new order r
+pub line_followed : (old mid new : State) (order : PlanCommand) (r : Result (Unit {0}) StepFault) → is_known old.scene.graph old.disk.names order ≡ true → Prepares old mid order (Ok tt) → AnswersInTurn mid new (steps_of mid order) r → AnswersLine old new order r
 unfolding follows
 line_followed old mid new order r known before own =
     let all = follows old mid new order r known before own in
@@ -148,7 +148,10 @@ pub nothing_run : (stage : Stage) (first : World) (all : List planned.PlanLine) 
 nothing_run stage first all text none = record { each = λ later refused new h. subst (λ (t : List ℕ). RunsTo stage first all (t ++ later) refused new) (sym none) h }
 
 -- a line is followed
-pub one_run : (stage : Stage) (first now behind : World) (all left rest : List planned.PlanLine) (line : planned.PlanLine) (text more : List ℕ) → LinesLeft stage first now all left text → left ≡ line ∷ rest → Follows stage now behind line.order (Ok tt) → more ≡ text ++ printed stage.names line.order behind → LinesLeft stage first behind all rest more
+pub one_run : (stage : Stage) (first now behind : World) (all left rest : List planned.PlanLine)
+    (line : planned.PlanLine) (text more : List ℕ) → LinesLeft stage first now all left text → left ≡ line
+    ∷ rest → Follows stage now behind line.order (Ok tt) → more ≡ text
+    ++ printed stage.names line.order behind → LinesLeft stage first behind all rest more
 one_run stage first now behind all left rest line text more so_far is follow prints =
     record {
       each = λ later refused new h.
@@ -158,7 +161,10 @@ one_run stage first now behind all left rest line text more so_far is follow pri
     }
 
 -- a line is refused
-pub one_refused : (stage : Stage) (first now new : World) (all left rest : List planned.PlanLine) (line : planned.PlanLine) (text : List ℕ) (fault : StepFault) → LinesLeft stage first now all left text → left ≡ line ∷ rest → IsRefusal stage now new line.order fault → RunsTo stage first all text (Some (line.number, fault)) new
+pub one_refused : (stage : Stage) (first now new : World) (all left rest : List planned.PlanLine)
+    (line : planned.PlanLine) (text : List ℕ) (fault : StepFault) → LinesLeft stage first now all left text
+    → left ≡ line ∷ rest → IsRefusal stage now new line.order fault
+    → RunsTo stage first all text (Some (line.number, fault)) new
 one_refused stage first now new all left rest line text fault so_far is refusal =
     let taken = subst (λ (l : List planned.PlanLine). RunsTo stage now l [] (Some (line.number, fault)) new) (sym is) (inr (fault, refusal, refl, refl)) in
     subst (λ (t : List ℕ). RunsTo stage first all t (Some (line.number, fault)) new) (append-nil text) (so_far.each [] (Some (line.number, fault)) new taken)
@@ -173,18 +179,30 @@ same_stage : (first now : State) → now.scene ≡ first.scene → now.disk.name
 same_stage first now scene names = λ i. record { graph = (scene i).graph; setting = setting (scene i); names = names i }
 
 -- steps that lead on from where lines led
-pub leads_further : (first now new : State) → now.scene ≡ first.scene → Leads first.scene.graph (setting first.scene) (world_of first) (world_of now) → Leads now.scene.graph (setting now.scene) (world_of now) (world_of new) → Leads first.scene.graph (setting first.scene) (world_of first) (world_of new)
+pub leads_further : (first now new : State) → now.scene ≡ first.scene
+    → LeadsTo first.scene.graph (setting first.scene) (world_of first) (world_of now)
+    → LeadsTo now.scene.graph (setting now.scene) (world_of now) (world_of new)
+    → LeadsTo first.scene.graph (setting first.scene) (world_of first) (world_of new)
 leads_further first now new scene before on =
-    leads_on first.scene.graph (setting first.scene) (world_of first) (world_of now) (world_of new) before (subst (λ (k : Scene). Leads k.graph (setting k) (world_of now) (world_of new)) scene on)
+    leads_on first.scene.graph (setting first.scene) (world_of first) (world_of now) (world_of new) before (subst (λ (k : Scene). LeadsTo k.graph (setting k) (world_of now) (world_of new)) scene on)
 
 -- a line that is followed, and one that is refused, in lists
-pub line_run : (first now new : State) (all left rest : List planned.PlanLine) (line : planned.PlanLine) (text more : List ℕ) → now.scene ≡ first.scene → now.disk.names ≡ first.disk.names → new.disk.names ≡ now.disk.names → LinesLeft (stage_of first) (world_of first) (world_of now) all left text → left ≡ line ∷ rest → Follows (stage_of now) (world_of now) (world_of new) line.order (Ok tt) → more ≡ text ++ printed new.disk.names line.order (world_of new) → LinesLeft (stage_of first) (world_of first) (world_of new) all rest more
+pub line_run : (first now new : State) (all left rest : List planned.PlanLine) (line : planned.PlanLine)
+    (text more : List ℕ) → now.scene ≡ first.scene → now.disk.names ≡ first.disk.names → new.disk.names
+    ≡ now.disk.names → LinesLeft (stage_of first) (world_of first) (world_of now) all left text → left ≡ line
+    ∷ rest → Follows (stage_of now) (world_of now) (world_of new) line.order (Ok tt) → more ≡ text
+    ++ printed new.disk.names line.order (world_of new) → LinesLeft (stage_of first) (world_of first)
+    (world_of new) all rest more
 line_run first now new all left rest line text more scene names after so_far is follow prints =
     one_run (stage_of first) (world_of first) (world_of now) (world_of new) all left rest line text more so_far is
     (subst (λ (k : Stage). Follows k (world_of now) (world_of new) line.order (Ok tt)) (same_stage first now scene names) follow)
     (prints ∙ ap (λ (ns : List FileName). text ++ printed ns line.order (world_of new)) (after ∙ names))
 
-pub line_refused : (first now new : State) (all left rest : List planned.PlanLine) (line : planned.PlanLine) (text : List ℕ) (fault : StepFault) → now.scene ≡ first.scene → now.disk.names ≡ first.disk.names → LinesLeft (stage_of first) (world_of first) (world_of now) all left text → left ≡ line ∷ rest → IsRefusal (stage_of now) (world_of now) (world_of new) line.order fault → RunsTo (stage_of first) (world_of first) all text (Some (line.number, fault)) (world_of new)
+pub line_refused : (first now new : State) (all left rest : List planned.PlanLine) (line : planned.PlanLine)
+    (text : List ℕ) (fault : StepFault) → now.scene ≡ first.scene → now.disk.names ≡ first.disk.names
+    → LinesLeft (stage_of first) (world_of first) (world_of now) all left text → left ≡ line ∷ rest
+    → IsRefusal (stage_of now) (world_of now) (world_of new) line.order fault
+    → RunsTo (stage_of first) (world_of first) all text (Some (line.number, fault)) (world_of new)
 line_refused first now new all left rest line text fault scene names so_far is refusal =
     one_refused (stage_of first) (world_of first) (world_of now) (world_of new) all left rest line text fault so_far is
     (subst (λ (k : Stage). IsRefusal k (world_of now) (world_of new) line.order fault) (same_stage first now scene names) refusal)

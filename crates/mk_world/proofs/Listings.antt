@@ -24,7 +24,10 @@ list_pass at f texts rest old all is none so_far = ap (λ o. old ++ before o (th
 list_take : (at : FileName → Option Listed) (f : FileName) (texts rest : List FileName) (old new all : List Listed) (x : Listed) → texts ≡ f ∷ rest → at f ≡ Some x → new ≡ old ++ x ∷ [] → old ++ there_among at texts ≡ all → new ++ there_among at rest ≡ all
 list_take at f texts rest old new all x is found e so_far = ap (λ l. l ++ there_among at rest) e ∙ (append_assoc old (x ∷ []) (there_among at rest) ∙ (ap (λ o. old ++ before o (there_among at rest)) (sym found) ∙ (ap (λ t. old ++ there_among at t) (sym is) ∙ so_far)))
 
-pub one_listed : (d : DiskState) (names : List (Bor FileName)) (i : ℕ) (z : Bor FileName) (name copy : FileName) (values : List (Option File)) (file : File) (old new all : List Listed) → i < length names → name ≡ (get_or names i z).now → values ≡ d.files → Some file ≡ look d.names values name → copy ≡ name
+pub one_listed : (d : DiskState) (names : List (Bor FileName)) (i : ℕ) (z : Bor FileName)
+    (name copy : FileName) (values : List (Option File)) (file : File) (old new all : List Listed)
+    → i < length names → name ≡ (get_or names i z).now → values ≡ d.files → Some file
+    ≡ look d.names values name → copy ≡ name
     → new ≡ old ++ listed_as copy file ∷ [] → old ++ there_among (entry d) (spelled (drop i names)) ≡ all → new ++ there_among (entry d) (spelled (drop (i + 1) names)) ≡ all
 one_listed d names i z name copy values file old new all lt is same found copied e so_far =
     let known : entry d name ≡ Some (listed_as copy file) = ap (λ vs. option_map (listed_as name) (look d.names vs name)) (sym same) ∙ (ap (option_map (listed_as name)) (sym found) ∙ ap (λ n. Some (listed_as n file)) (sym copied)) in

@@ -10,7 +10,7 @@ use Rattle.mk_graph.specs.Membership.{Has}
 use Rattle.mk_graph.specs.Graph.{Graph}
 use Rattle.mk_graph.specs.Setting.{FileName, Setting, reads}
 use Rattle.mk_graph.specs.World.{Disk, Making, World, Idle, Busy, content, changed, written}
-use Rattle.mk_graph.specs.Schedule.{Look, End, changed_at, looked, has_put}
+use Rattle.mk_graph.specs.Steps.{Look, End, changed_at, looked, has_put}
 use Rattle.mk_graph.specs.SerialMake.{puts}
 use Rattle.mk_world.specs.declared.fault.StepFault.{StepFault}
 use Rattle.mk_world.specs.declared.fault.StepFault.TheVariants.{NotRunning}
@@ -94,7 +94,13 @@ all_looked d names (f ∷ fs) within =
     let first : look names (map (λ (c : Option ℕ). Some c) (map (content d) names)) f ≡ Some (content d f) = look_all d names f ∙ cond-true (has_name names f) (Some (content d f)) None (there_name names f (within f (inl refl))) in
     λ i. first i ∷ all_looked d names fs (λ h k. within h (inr k)) i
 
-module _ (scene : Scene) (m new : MakeState) (d : DiskState) (t : ℕ) (seen : List (Option ℕ)) (low : t < length m.runs) (sees : seen ≡ map (content (disk_of d)) (reads scene.graph (setting scene) t)) (becomes : new ≡ with_run m t (record { looks = map (λ (c : Option ℕ). Some c) seen; puts = (run_at m.runs t).puts })) where
+module _ (scene : Scene) (m new : MakeState) (d : DiskState) (t : ℕ) (seen : List (Option ℕ))
+    (low : t < length m.runs) (sees : seen ≡ map (content (disk_of d)) (reads scene.graph (setting scene) t))
+    (becomes : new ≡ with_run m t (record {
+      looks = map (λ (c : Option ℕ). Some c) seen;
+      puts =
+          (run_at m.runs t).puts;
+    })) where
   -- looks at all files that a recipe reads are taken where it runs,
   pub looks_taken : Has m.running t → TakesInTurn scene.graph (setting scene) (busy scene m d) (busy scene new d) (map (λ f. Look t f) (reads scene.graph (setting scene) t)) (Ok tt)
   looks_taken runs =
@@ -105,8 +111,22 @@ module _ (scene : Scene) (m new : MakeState) (d : DiskState) (t : ℕ) (seen : L
       let first : seeing g s t (disk_of d) old (old.seen t) ≡ old = λ i. record { jobs = m.jobs; goals = m.goals; done = m.done; running = m.running; seen = unchanged_at old.seen t i; put = old.put } in
       let looks : look files (map (λ (c : Option ℕ). Some c) seen) ≡ saw (disk_of d) files (old.seen t) = ap (λ (l : List (Option ℕ)). look files (map (λ (c : Option ℕ). Some c) l)) sees ∙ (λ i h. alike h i) in
       let run : RunState = record { looks = map (λ (c : Option ℕ). Some c) seen; puts = (run_at m.runs t).puts } in
-      let leaves = ap (making_of scene) becomes ∙ (making_with scene m m.done m.running t run (saw (disk_of d) files (old.seen t)) (old.put t) low looks refl ∙ (λ i. record { jobs = m.jobs; goals = m.goals; done = m.done; running = m.running; seen = changed_at old.seen t (saw (disk_of d) files (old.seen t)); put = unchanged_at old.put t i })) in
-      subst (λ (n : Making). TakesInTurn g s (Busy n (disk_of d)) (busy scene new d) (map (λ f. Look t f) files) (Ok tt)) first (subst (λ (n : Making). TakesInTurn g s (Busy (seeing g s t (disk_of d) old (old.seen t)) (disk_of d)) (Busy n (disk_of d)) (map (λ f. Look t f) files) (Ok tt)) (sym leaves) (takes g s t (disk_of d) old runs files (old.seen t) (λ f h. h)))
+      let leaves = ap (making_of scene) becomes ∙ (making_with scene m m.done m.running t run
+      (saw (disk_of d) files (old.seen t)) (old.put t) low looks refl
+      ∙ (λ i. record {
+        jobs = m.jobs;
+        goals = m.goals;
+        done = m.done;
+        running = m.running;
+        seen =
+            changed_at old.seen t (saw (disk_of d) files (old.seen t));
+        put = unchanged_at old.put t i;
+      })) in
+      subst (λ (n : Making). TakesInTurn g s (Busy n (disk_of d)) (busy scene new d)
+      (map (λ f. Look t f) files) (Ok tt)) first (subst (λ (n : Making). TakesInTurn g s
+      (Busy (seeing g s t (disk_of d) old (old.seen t)) (disk_of d)) (Busy n (disk_of d))
+      (map (λ f. Look t f) files) (Ok tt)) (sym leaves) (takes g s t (disk_of d) old runs files
+      (old.seen t) (λ f h. h)))
     where
       alike : (h : FileName) → look (reads scene.graph (setting scene) t) (map (λ (c : Option ℕ). Some c) (map (content (disk_of d)) (reads scene.graph (setting scene) t))) h ≡ saw (disk_of d) (reads scene.graph (setting scene) t) ((making_of scene m).seen t) h
       alike h =
@@ -124,7 +144,11 @@ module _ (scene : Scene) (m new : MakeState) (d : DiskState) (t : ℕ) (seen : L
       let files = reads scene.graph (setting scene) t in
       let run : RunState = record { looks = map (λ (c : Option ℕ). Some c) seen; puts = (run_at m.runs t).puts } in
       let own : run_at new.runs t ≡ run = ap (λ (k : MakeState). run_at k.runs t) becomes ∙ get_or-set_same m.runs t run no_run low in
-      let known : map (look files (map (λ (c : Option ℕ). Some c) seen)) files ≡ map (λ (c : Option ℕ). Some c) seen = ap (λ (l : List (Option ℕ)). map (look files (map (λ (c : Option ℕ). Some c) l)) files) sees ∙ (all_looked (disk_of d) files files (λ f h. h) ∙ ap (map (λ (c : Option ℕ). Some c)) (sym sees)) in
+      let known : map (look files (map (λ (c : Option ℕ). Some c) seen)) files
+      ≡ map (λ (c : Option ℕ). Some c) seen = ap (λ (l : List (Option ℕ)). map
+      (look files (map (λ (c : Option ℕ). Some c) l)) files) sees
+      ∙ (all_looked (disk_of d) files files (λ f h. h) ∙ ap (map (λ (c : Option ℕ). Some c)) (sym sees))
+      in
       let both = seen_is scene new t files (map (λ (c : Option ℕ). Some c) seen) seen refl (sym (ap (λ (r : RunState). r.looks) own)) known in
       record { all = both.0; is = both.1 }
 

@@ -5,8 +5,8 @@ use Rattle.std.specs.List.{list_any}
 use Rattle.std.proofs.lemmas.List.{get_or-set_same, get_or-set_other, get_or_default, take_more}
 use Rattle.std.proofs.lemmas.Bool.{cases_Bool, eqb-true, eq-eqb, cond-true, cond-false}
 use Rattle.mk_graph.specs.Membership.{Has, IsWithin}
-use Rattle.mk_graph.specs.Turns.{HasAll}
-use Rattle.mk_graph.specs.Schedule.{changed_at}
+use Rattle.mk_graph.specs.Schedules.{HasAll}
+use Rattle.mk_graph.specs.Steps.{changed_at}
 use Rattle.mk_world.specs.State.{RunState, no_run, run_at}
 
 -- what the test finds stands in the list

@@ -11,7 +11,7 @@ use Rattle.std.proofs.lemmas.Cmp.{nat_list_cmp_total}
 use Rattle.mk_graph.specs.Graph.{Graph}
 use Rattle.mk_graph.specs.Membership.{Has}
 use Rattle.mk_graph.specs.Setting as model
-use Rattle.mk_graph.specs.World.{Disk, Idle, AreAscending, IsFirst, numbered}
+use Rattle.mk_graph.specs.World.{Disk, Idle, AreAscending, IsFirstDisk, numbered_disk}
 use Rattle.mk_world.specs.First.{AreNamesOf, AreSorted}
 use Rattle.mk_world.specs.OneRun.{FirstWorldIsOne}
 use Rattle.mk_world.specs.Running.{Stage}
@@ -71,10 +71,10 @@ sorted [] h = h
 sorted (f ∷ []) h = (tt, tt)
 sorted (f ∷ k ∷ names) h = let rest = sorted (k ∷ names) h.1 in ((h.0, above f k names h.0 rest.0), rest)
 
-pub one_disk : (g : Graph) (s : model.Setting) (d e : Disk) → IsFirst g s d → IsFirst g s e → d ≡ e
+pub one_disk : (g : Graph) (s : model.Setting) (d e : Disk) → IsFirstDisk g s d → IsFirstDisk g s e → d ≡ e
 one_disk g s d e h j =
     let same = one_sorted h.names j.names (sorted h.names h.ascending) (sorted j.names j.ascending) (λ f. (λ k. (j.given f).1 ((h.given f).0 k), λ k. (h.given f).1 ((j.given f).0 k))) in
-    h.disk ∙ (ap numbered same ∙ sym j.disk)
+    h.disk ∙ (ap numbered_disk same ∙ sym j.disk)
 
 -- the names of a world are one list
 one_list : (scene : Scene) (xs ys : List (List ℕ)) → AreNamesOf scene xs → AreNamesOf scene ys → xs ≡ ys

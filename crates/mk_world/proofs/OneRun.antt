@@ -4,10 +4,10 @@ use Rattle.std.proofs.lemmas.Bool.{false≢true}
 use Rattle.mk_graph.specs.Graph.{Graph}
 use Rattle.mk_graph.specs.Setting.{Setting}
 use Rattle.mk_graph.specs.World.{World, disk_of}
-use Rattle.mk_graph.specs.Schedule as model
+use Rattle.mk_graph.specs.Steps as model
 use Rattle.mk_world.specs.declared.fault.StepFault.{StepFault}
 use Rattle.mk_world.specs.declared.fault.StepFault.TheVariants as faults
-use Rattle.mk_world.specs.declared.plan.Order.{Order}
+use Rattle.mk_world.specs.declared.plan.PlanCommand.{PlanCommand}
 use Rattle.mk_world.specs.Faults.{Check, checks, FirstFails}
 use Rattle.mk_world.specs.Steps.{IsFaultOf}
 use Rattle.mk_world.specs.Running.{Stage, Refuses, TakesInTurn, IsRefusal, RunsTo, own_steps, printed}
@@ -28,7 +28,7 @@ same_fault a b e = cc
 no_value : (a : StepFault) → (let failed : Result (Unit {0}) StepFault = Err a in failed ≡ Ok tt) → ⊥
 no_value a e = cc
 
--- which isn't want of memory
+-- which isn't out of memory
 tested : (g : Graph) (s : Setting) (w : World) (one : model.Step) (a b : StepFault) → a ≡ b → ¬ (a ≡ faults.Memory) → IsFaultOf g s w one b → FirstFails (checks g s w one) a
 tested g s w one a b e not h = elim h [
   | inl memory ↦ absurd (not (e ∙ memory))
@@ -57,7 +57,7 @@ module _ (g : Graph) (s : Setting) (new other : World) (a b : StepFault) (not : 
   ]
 
 -- so has a line
-refusal_one : (stage : Stage) (old new other : World) (order : Order) (a b : StepFault) → IsRefusal stage old new order a → IsRefusal stage old other order b → (a ≡ b) × (new ≡ other)
+refusal_one : (stage : Stage) (old new other : World) (order : PlanCommand) (a b : StepFault) → IsRefusal stage old new order a → IsRefusal stage old other order b → (a ≡ b) × (new ≡ other)
 refusal_one stage old new other order a b h j = elim h [
   | inl m ↦ elim j [
     | inl k ↦ (m.is ∙ sym k.is, m.unchanged ∙ sym k.unchanged)

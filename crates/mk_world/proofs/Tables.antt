@@ -84,7 +84,10 @@ unfolding place_from
 unplaced_from A n [] f e = (refl, no_names f)
 unplaced_from A n (h ∷ names) f e = at (bytes_eq f h) refl e (unplaced_from A (n + 1) names f)
   where
-    at : (b : Bool) → bytes_eq f h ≡ b → cond b (Some n) (place_from (n + 1) names f) ≡ None → (place_from (n + 1) names f ≡ None → (has_name names f ≡ false) × ((xs : List (Option A)) → look names xs f ≡ None)) → (has_name (h ∷ names) f ≡ false) × ((xs : List (Option A)) → look (h ∷ names) xs f ≡ None)
+    at : (b : Bool) → bytes_eq f h ≡ b → cond b (Some n) (place_from (n + 1) names f) ≡ None
+        → (place_from (n + 1) names f ≡ None → (has_name names f ≡ false)
+        × ((xs : List (Option A)) → look names xs f ≡ None)) → (has_name (h ∷ names) f ≡ false)
+        × ((xs : List (Option A)) → look (h ∷ names) xs f ≡ None)
     at true t k ih = absurd cc
     at false t k ih =
         let rest = ih k in

@@ -3,7 +3,7 @@ use Rattle.std.proofs.Common.{◌≡◌, List, [], ◌∷◌, Result, Ok, Err, s
 use Rattle.mk_graph.specs.Graph.{Graph}
 use Rattle.mk_graph.specs.Setting.{Setting}
 use Rattle.mk_graph.specs.World.{World}
-use Rattle.mk_graph.specs.Schedule.{Step, IsLegal, after, after_all}
+use Rattle.mk_graph.specs.Steps.{Step, IsLegal, after, after_all}
 use Rattle.mk_world.specs.declared.fault.StepFault.{StepFault}
 use Rattle.mk_world.specs.declared.fault.StepFault.TheVariants.{Memory}
 use Rattle.mk_world.specs.Running.{TakesInTurn}

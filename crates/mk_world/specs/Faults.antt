@@ -1,24 +1,25 @@
--- Why steps are refused: what each asks, in the order in which it is tested.
+-- Why steps are refused: the tests of each step, in order.
 use Rattle.std.specs.Prelude.{◌≡◌, ◌<◌, List, [], ◌∷◌, length, true, false, ◌⊎◌}
 use Rattle.mk_graph.specs.Membership.{Has}
 use Rattle.mk_graph.specs.Graph.{Graph, node}
 use Rattle.mk_graph.specs.Setting.{Setting, is_editable, reads, writes}
 use Rattle.mk_graph.specs.World.{World, Idle, Busy, last_stamp}
-use Rattle.mk_graph.specs.Turns.{HasAll, IsPart}
-use Rattle.mk_graph.specs.Schedule.{Step, Edit, Make, Begin, Look, Put, End, Pass, Stop, EndMake, Ready, MustRun, HasSeenAll, HasPutAll, HasPutWhatIsKnown}
+use Rattle.mk_graph.specs.Schedules.{HasAll, IsPart}
+use Rattle.mk_graph.specs.Steps.{Step, Edit, Make, Begin, Look, Put, End, Pass, Stop, EndMake, Ready, MustRun, HasSeenAll, HasPutAll, HasPutWhatIsKnown}
 use Rattle.mk_world.specs.declared.fault.StepFault.{StepFault}
 use Rattle.mk_world.specs.declared.fault.StepFault.TheVariants.{ClockSpent, OtherOutcome, NoMake, MakeRuns, NotReady, NoJobFree, OutOfDate, NotRunning, NotInFootprint, NotAllDone, NotEditable, NotAGoal}
 
--- what is asked, and the fault where it doesn't hold
+-- A condition, and the fault if it doesn't hold.
 pub record Check : Type 1 where
   pub holds : Type 0
   pub fault : StepFault
 
 infixl 20 ◌otherwise◌
+-- A test: P must hold, otherwise the step has this fault.
 abbrev pub ◌otherwise◌ : Type 0 → StepFault → Check
 P otherwise fault = record { holds = P; fault = fault }
 
--- what a step asks of a world, in the order of the tests
+-- The tests of a step in a world, in order.
 abbrev pub checks : Graph → Setting → World → Step → List Check
 checks g s (Idle d) (Edit f c) =
     ((is_editable s f ≡ true) otherwise NotEditable) ∷
@@ -47,12 +48,12 @@ checks g s (Busy m d) EndMake =
     ((HasAll m.done m.goals × (m.running ≡ [])) otherwise NotAllDone) ∷ []
 checks g s (Idle d) other = (⊥ otherwise NoMake) ∷ []
 
--- all that is asked holds
+-- All tests hold.
 abbrev pub AllHold : List Check → Type 0
 AllHold [] = Unit {0}
 AllHold (c ∷ cs) = c.holds × AllHold cs
 
--- the first of these that doesn't hold has this fault
+-- The first test that doesn't hold has this fault.
 abbrev pub FirstFails : List Check → StepFault → Type 0
 FirstFails [] fault = ⊥
 FirstFails (c ∷ cs) fault =

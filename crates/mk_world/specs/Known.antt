@@ -1,23 +1,23 @@
--- How a table of outcomes stands for a list of them.
+-- How a table of outcomes represents a list of outcomes.
 use Rattle.std.specs.Prelude.{◌≡◌, ℕ, List, Option, map, reverse, option_map, nat_eq, ◌&&◌, Bool, Vec}
 use Rattle.std.specs.declared.alloc.Global.{Global}
 use Rattle.std.specs.Map.{lookup}
 use Rattle.mk_graph.specs.World.{Outcome, outcome, same_seen}
 use Rattle.mk_world.specs.declared.outcomes.Sight.{Sight}
 
--- the outcome that an entry of the table tells
+-- The outcome that an entry of the table represents.
 abbrev pub outcome_of : Sight × Vec ℕ Global → Outcome
 outcome_of e = record { recipe = e.0.recipe; seen = e.0.seen.items; written = e.1.items }
 
--- the outcomes of a table, the last one first
+-- The outcomes of a table, the last one first.
 abbrev pub outcomes_of : List (Sight × Vec ℕ Global) → List Outcome
 outcomes_of entries = reverse (map outcome_of entries)
 
--- whether a recipe saw the same
+-- Whether the key is of this recipe, having read this.
 abbrev pub is_same : (t : ℕ) → List (Option ℕ) → Sight → Bool
 is_same t seen k = nat_eq t k.recipe && same_seen seen k.seen.items
 
--- what is looked up is what is known
+-- A lookup in the table finds the known outcome.
 abbrev pub AreFound : List (Sight × Vec ℕ Global) → Type 0
 AreFound entries =
     (t : ℕ) (seen : List (Option ℕ)) →

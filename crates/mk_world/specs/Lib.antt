@@ -10,7 +10,6 @@ pub mod Faults
 pub mod NamedStep
 pub mod Steps
 pub mod StepLaws
-pub mod Plans
 pub mod Running
 pub mod RunLaws
 pub mod OneRun

@@ -1,10 +1,10 @@
--- Steps of builds, by names.
+-- Steps of builds that refer to nodes by name.
 use Rattle.std.specs.Prelude.{ℕ, List, map}
 use Rattle.mk_graph.specs.Setting.{FileName}
 use Rattle.mk_world.specs.declared.step.Step as code
 use Rattle.mk_world.specs.declared.step.Step.TheVariants as variant
 
--- A step, with the names of nodes and files.
+-- A step of a build, with names for nodes.
 pub data Step : Type 0 where
   Edit : (file : FileName) (content : ℕ) → Step
   Make : (jobs : ℕ) (goals : List FileName) → Step
@@ -16,7 +16,7 @@ pub data Step : Type 0 where
   Stop : Step
   EndMake : Step
 
--- a step of the code, whose names are lent
+-- The step that a step of the code, which borrows its names, represents.
 abbrev pub step_view : code.Step → Step
 step_view (variant.Edit f c) = Edit f.now c
 step_view (variant.Make jobs goals) = Make jobs (map (λ goal. goal.now) goals.items)

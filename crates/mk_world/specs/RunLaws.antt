@@ -1,7 +1,7 @@
--- Laws of steps that are asked for one after another, and of the runs of plans.
+-- Laws of sequences of steps, and of runs of plans.
 use Rattle.std.specs.Prelude.{◌≡◌, ℕ, List, [], ◌∷◌, ◌++◌, map, Option, None, Result, Ok, Err, ◌⊎◌, ◌↔◌}
 use Rattle.mk_graph.specs.World.{World}
-use Rattle.mk_graph.specs.Schedule.{IsLegal, after_all}
+use Rattle.mk_graph.specs.Steps.{IsLegal, after_all}
 use Rattle.mk_world.specs.NamedStep.{Step}
 use Rattle.mk_world.specs.declared.fault.StepFault.{StepFault}
 use Rattle.mk_world.specs.declared.fault.StepFault.TheVariants.{Memory}
@@ -10,7 +10,7 @@ use Rattle.mk_world.specs.State.{State, setting, world_of}
 use Rattle.mk_world.specs.Steps.{Answers, step_of}
 use Rattle.mk_world.specs.Running.{Stage, RunsTo}
 
--- Steps are asked for one after another, all of them or up to the first that isn't taken.
+-- The steps are requested one after another, all of them or up to the first that is refused.
 abbrev pub Asks : (old new : State) → List Step → Result (Unit {0}) StepFault → Type 0
 Asks old new [] result = (new ≡ old) × (result ≡ Ok tt)
 Asks old new (next ∷ steps) result =
@@ -19,12 +19,12 @@ Asks old new (next ∷ steps) result =
     ((fault : StepFault) × Answers old new (step_of old.scene.graph next) (Err fault) ×
     (result ≡ Err fault))
 
--- the steps form a legal history of this world
+-- The steps are a trace from this world.
 abbrev pub AreLegal : State → List Step → Type 0
 AreLegal w steps =
     IsLegal w.scene.graph (setting w.scene) (world_of w) (map (step_of w.scene.graph) steps)
 
--- Steps that are taken one after another are a legal history, which leaves the world that is left.
+-- Steps that are all taken one after another are a trace, and the trace leaves the resulting world.
 abbrev pub TakenStepsAreLegal : Type 0
 TakenStepsAreLegal =
     (old new : State) (steps : List Step) → Asks old new steps (Ok tt) →
@@ -32,14 +32,15 @@ TakenStepsAreLegal =
     (world_of new ≡ after_all old.scene.graph (setting old.scene) (world_of old)
     (map (step_of old.scene.graph) steps))
 
--- The steps of a legal history are all taken, unless memory runs out.
+-- The steps of a trace are all taken, except on out of memory.
 abbrev pub LegalStepsAreTaken : Type 0
 LegalStepsAreTaken =
     (old new : State) (steps : List Step) (result : Result (Unit {0}) StepFault) →
     Asks old new steps result → AreLegal old steps → (result ≡ Ok tt) ⊎ (result ≡ Err Memory)
 
--- Where the run of the front of a plan isn't refused, the run of the whole prints first what that
--- run prints, and is then the run of the rest from the world that the front leaves.
+-- If the run of the first part of a plan isn't refused, the run of the whole plan is that run
+-- followed by the run of the rest: it prints what both print, and continues from the world that the
+-- first part leaves.
 abbrev pub FrontsRunFirst : Type 0
 FrontsRunFirst =
     (stage : Stage) (old mid : World) (front rest : List PlanLine) (text : List ℕ) →

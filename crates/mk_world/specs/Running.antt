@@ -1,4 +1,4 @@
--- Runs of plans: which steps their lines stand for, and what is printed.
+-- Runs of plans: the steps of each line, and what is printed.
 use Rattle.std.specs.Prelude.{◌≡◌, ℕ, ◌+◌, Bool, true, false, ◌&&◌, List, [], ◌∷◌, ◌++◌, map, min, Option, None, Some, option_map, unwrap_or, Result, Ok, Err, OnOk, IfErr, ◌⊎◌}
 use Rattle.std.specs.declared.alloc.AllocError.{AllocError}
 use Rattle.std.specs.List.{list_all, flat_map}
@@ -11,35 +11,36 @@ use Rattle.mk_graph.specs.Serial.{serial_order}
 use Rattle.mk_graph.specs.Setting.{FileName, Setting, reads, writes}
 use Rattle.mk_graph.specs.World.{Disk, Making, World, Idle, Busy, disk_of, content, last_stamp, outcome}
 use Rattle.mk_graph.specs.World as world
-use Rattle.mk_graph.specs.Schedule as model
+use Rattle.mk_graph.specs.Steps as model
 use Rattle.mk_graph.specs.SerialMake.{rest_of_run, whole_run}
 use Rattle.mk_world.specs.declared.fault.StepFault.{StepFault}
 use Rattle.mk_world.specs.declared.fault.StepFault.TheVariants.{PlanLine, Memory}
 use Rattle.mk_world.specs.declared.file.Listed.{Listed}
-use Rattle.mk_world.specs.declared.plan.Order.{Order}
-use Rattle.mk_world.specs.declared.plan.Order.TheVariants.{Make, Stop, Begin, Look, Put, Done, Finish, Run, Pass, End, Edit}
+use Rattle.mk_world.specs.declared.plan.PlanCommand.{PlanCommand}
+use Rattle.mk_world.specs.declared.plan.PlanCommand.TheVariants.{Make, Stop, Begin, Look, Put, Done, Finish, Run, Pass, End, Edit}
 use Rattle.mk_world.specs.declared.plan.PlanLine as line
 use Rattle.mk_world.specs.State as state
 use Rattle.mk_world.specs.State.{State, number_of, setting, world_of}
 use Rattle.mk_world.specs.Listing.{there_among}
 use Rattle.mk_world.specs.Steps.{IsFaultOf}
 
--- what no step changes: the graph, the setting, and the names of the world in the order of their
--- bytes
+-- What no step changes: the graph, the build inputs, and the names of the world in the order of
+-- their bytes.
 pub record Stage : Type 0 where
   pub graph : Graph
   pub setting : Setting
   pub names : List FileName
 
+-- What no step changes in a state.
 abbrev pub stage_of : State → Stage
 stage_of w = record { graph = w.scene.graph; setting = setting w.scene; names = w.disk.names }
 
--- the name is a node's
+-- Whether the name is that of a node.
 abbrev pub is_node : Graph → FileName → Bool
 is_node g t = has_name (map (λ (n : Node). n.name) g.nodes) t
 
--- all names in an order are known
-abbrev pub is_known : Graph → (names : List FileName) → Order → Bool
+-- Whether all names in a command are known.
+abbrev pub is_known : Graph → (names : List FileName) → PlanCommand → Bool
 is_known g names (Make jobs goals) = list_all (is_node g) goals
 is_known g names Stop = true
 is_known g names (Begin t) = is_node g t
@@ -52,26 +53,27 @@ is_known g names (Pass t) = is_node g t
 is_known g names End = true
 is_known g names (Edit f c) = has_name names f
 
--- A node without recipe is ready.
+-- The node is idle: it is ready and has no recipe.
 abbrev pub IsIdle : Graph → Making → ℕ → Type 0
 IsIdle g m n = model.Ready g m n × ((node g n).recipe ≡ false)
 
--- it is the first such one of these nodes
+-- The node is the first idle one of these nodes.
 abbrev pub IsFirstIdle : Graph → Making → List ℕ → ℕ → Type 0
 IsFirstIdle g m [] n = ⊥
 IsFirstIdle g m (next ∷ ns) n =
     (IsIdle g m next × (n ≡ next)) ⊎ ((¬ (IsIdle g m next)) × IsFirstIdle g m ns n)
 
--- none of these nodes is one
+-- None of these nodes is idle.
 abbrev pub AreNotIdle : Graph → Making → List ℕ → Type 0
 AreNotIdle g m ns = (n : ℕ) → Has ns n → ¬ (IsIdle g m n)
 
--- Ready nodes without recipe are passed, each time the first in the serial order.
+-- These idle nodes are passed in order; each is the first idle node in the serial order at that
+-- point.
 abbrev pub Passes : Graph → Making → List ℕ → Making → Type 0
 Passes g m [] end = end ≡ m
 Passes g m (n ∷ ns) end = IsFirstIdle g m (serial_order g) n × Passes g (model.finished m n) ns end
 
--- They are passed until none is left.
+-- Idle nodes are passed until there is none.
 pub record PassesAll (g : Graph) (m : Making) (d : Disk) (behind : World) : Type 0 where
   pub nodes : List ℕ
   pub end : Making
@@ -79,45 +81,46 @@ pub record PassesAll (g : Graph) (m : Making) (d : Disk) (behind : World) : Type
   pub none_left : AreNotIdle g end (serial_order g)
   pub leaves : behind ≡ Busy end d
 
--- all that can be passed is passed, if a make is in progress
+-- If a make is in progress, its idle nodes are passed until there is none.
 abbrev pub PassesAllIn : Graph → (old behind : World) → Type 0
 PassesAllIn g (Idle d) behind = behind ≡ Idle d
 PassesAllIn g (Busy m d) behind = PassesAll g m d behind
 
--- This is done before `begin`, `run`, `pass` and `end`.
-abbrev pub PassesBefore : Graph → Order → (old behind : World) → Type 0
+-- Before `begin`, `run`, `pass` and `end` the idle nodes are passed.
+abbrev pub PassesBefore : Graph → PlanCommand → (old behind : World) → Type 0
 PassesBefore g (Begin t) old behind = PassesAllIn g old behind
 PassesBefore g (Run t) old behind = PassesAllIn g old behind
 PassesBefore g (Pass t) old behind = PassesAllIn g old behind
 PassesBefore g End old behind = PassesAllIn g old behind
 PassesBefore g order old behind = behind ≡ old
 
--- the stamp that comes next, or the last one where none comes
+-- The next stamp, or the last one if there is no further stamp.
 abbrev pub new_stamp : (clock : ℕ) → ℕ
 new_stamp clock = min (clock + 1) last_stamp
 
--- for each of these files the stamp that it takes where all are written in turn
+-- The stamps that these files take if they are written in order.
 abbrev pub new_stamps : (clock : ℕ) → List FileName → List ℕ
 new_stamps clock [] = []
 new_stamps clock (f ∷ files) = new_stamp clock ∷ new_stamps (clock + 1) files
 
--- what a recipe is finished with: what is known of a run that sees what is there, else new stamps
+-- What `finish` writes for a recipe: the known outcome for what its reads contain now, or, if none
+-- is known, the new stamps.
 abbrev pub contents_of : Graph → Setting → Disk → ℕ → List ℕ
 contents_of g s d t =
     unwrap_or (outcome d.known t (map (content d) (reads g s t)))
     (new_stamps d.clock (writes g s t))
 
--- the content that is written in a line, else the new stamp
+-- The content that the line gives, or else the new stamp.
 abbrev pub content_or_stamp : Disk → Option ℕ → ℕ
 content_or_stamp d c = unwrap_or c (new_stamp d.clock)
 
--- the goals that are named, or all
+-- The numbers of the goals that the line names, or all goals if it names none.
 abbrev pub goals_among : Graph → List FileName → List ℕ
 goals_among g [] = g.goals
 goals_among g (goal ∷ goals) = map (number_of g) (goal ∷ goals)
 
--- the steps that a line stands for where the disk is this
-abbrev pub own_steps : Graph → Setting → Disk → Order → List model.Step
+-- The steps of a command on this disk, without the passes of idle nodes before it.
+abbrev pub own_steps : Graph → Setting → Disk → PlanCommand → List model.Step
 own_steps g s d (Make jobs goals) = model.Make jobs (goals_among g goals) ∷ []
 own_steps g s d Stop = model.Stop ∷ []
 own_steps g s d (Begin t) = model.Begin (number_of g t) ∷ []
@@ -130,7 +133,7 @@ own_steps g s d (Pass t) = model.Pass (number_of g t) ∷ []
 own_steps g s d End = model.EndMake ∷ []
 own_steps g s d (Edit f c) = model.Edit f (content_or_stamp d c) ∷ []
 
--- the step is refused, and nothing changes
+-- The step is refused with this fault, and nothing changes.
 pub record Refuses (g : Graph) (s : Setting) (old new : World) (step : model.Step)
     (result : Result (Unit {0}) StepFault) : Type 0 where
   pub fault : StepFault
@@ -138,7 +141,7 @@ pub record Refuses (g : Graph) (s : Setting) (old new : World) (step : model.Ste
   pub first : IsFaultOf g s old step fault
   pub unchanged : new ≡ old
 
--- Steps are taken one after another, all of them or up to the first that is refused.
+-- The steps are taken one after another, all of them or up to the first that is refused.
 abbrev pub TakesInTurn : Graph → Setting → (old new : World) → List model.Step →
     Result (Unit {0}) StepFault → Type 0
 TakesInTurn g s old new [] result = (new ≡ old) × (result ≡ Ok tt)
@@ -146,7 +149,8 @@ TakesInTurn g s old new (next ∷ steps) result =
     (model.Allowed g s old next × TakesInTurn g s (model.after g s old next) new steps result) ⊎
     Refuses g s old new next result
 
--- What asking for steps in turn does: the graph, the setting and the names of the world stay.
+-- The result of taking these steps one after another; the graph, the build inputs and the names of
+-- the world don't change.
 pub record AnswersInTurn (old new : State) (steps : List model.Step)
     (result : Result (Unit {0}) StepFault) : Type 0 where
   pub scene : new.scene ≡ old.scene
@@ -154,35 +158,37 @@ pub record AnswersInTurn (old new : State) (steps : List model.Step)
   pub takes : TakesInTurn old.scene.graph (setting old.scene) (world_of old) (world_of new) steps
       result
 
--- steps that are allowed lead from one world to the other
-pub record Leads (g : Graph) (s : Setting) (old new : World) : Type 0 where
+-- A trace leads from the first world to the second.
+pub record LeadsTo (g : Graph) (s : Setting) (old new : World) : Type 0 where
   pub steps : List model.Step
   pub legal : model.IsLegal g s old steps
   pub leaves : new ≡ model.after_all g s old steps
 
--- What taking steps does that are all allowed: the graph, the setting and the names of the world
--- stay, and the world is what the steps leave; or memory runs out, behind some of them.
+-- The result of taking allowed steps: the world is what the steps leave, or, if memory runs out,
+-- what some of them leave. The graph, the build inputs and the names of the world don't change.
 pub record TakesAllAllowed (old new : State) (steps : List model.Step)
     (result : Result (Unit {0}) AllocError) : Type 0 where
   pub scene : new.scene ≡ old.scene
   pub names : new.disk.names ≡ old.disk.names
   pub leaves : OnOk result (world_of new ≡
       model.after_all old.scene.graph (setting old.scene) (world_of old) steps)
-  pub leads : Leads old.scene.graph (setting old.scene) (world_of old) (world_of new)
+  pub leads : LeadsTo old.scene.graph (setting old.scene) (world_of old) (world_of new)
 
--- the steps that a line stands for in a world, those of `finish` and `run` among them
-abbrev pub steps_of : State → Order → List model.Step
+-- The steps of a command in this state, without the passes of idle nodes before it.
+abbrev pub steps_of : State → PlanCommand → List model.Step
 steps_of w order = own_steps w.scene.graph (setting w.scene) (state.disk_of w.disk) order
 
+-- The steps of `finish T` in this state.
 abbrev pub finish_steps : State → FileName → List model.Step
 finish_steps w t = steps_of w (Finish t)
 
+-- The steps of `run T` in this state.
 abbrev pub run_steps : State → FileName → List model.Step
 run_steps w t = steps_of w (Run t)
 
--- A line is followed: its names are known, nodes are passed, and its own steps are taken, all of
--- them or up to the first that is refused.
-pub record Follows (stage : Stage) (old new : World) (order : Order)
+-- A line is executed: its names are known, idle nodes are passed if the command needs that, and its
+-- steps are taken, all of them or up to the first that is refused.
+pub record Follows (stage : Stage) (old new : World) (order : PlanCommand)
     (result : Result (Unit {0}) StepFault) : Type 0 where
   pub known : is_known stage.graph stage.names order ≡ true
   pub behind : World
@@ -190,20 +196,21 @@ pub record Follows (stage : Stage) (old new : World) (order : Order)
   pub takes : TakesInTurn stage.graph stage.setting behind new
       (own_steps stage.graph stage.setting (disk_of behind) order) result
 
--- a name in the line isn't known, so nothing is done
-pub record Misnames (stage : Stage) (old new : World) (order : Order) (fault : StepFault) : Type 0
+-- A name in the line isn't known, and nothing is done.
+pub record Misnames (stage : Stage) (old new : World) (order : PlanCommand) (fault : StepFault) :
+    Type 0
   where
     pub unknown : is_known stage.graph stage.names order ≡ false
     pub is : fault ≡ PlanLine
     pub unchanged : new ≡ old
 
--- why a line isn't followed to its end
-abbrev pub IsRefusal : Stage → (old new : World) → Order → StepFault → Type 0
+-- The line is refused with this fault: a name in it isn't known, or one of its steps is refused.
+abbrev pub IsRefusal : Stage → (old new : World) → PlanCommand → StepFault → Type 0
 IsRefusal stage old new order fault =
     Misnames stage old new order fault ⊎
     ((¬ (fault ≡ Memory)) × Follows stage old new order (Err fault))
 
--- the file of a name, if it is there
+-- The file with this name, if it exists.
 abbrev pub listed_at : Disk → FileName → Option Listed
 listed_at d f =
     option_map (λ (file : world.File). record {
@@ -212,45 +219,47 @@ listed_at d f =
       stamp = file.stamp;
     }) (d.files f)
 
--- `name content stamp` and a newline
+-- The text `name content stamp` and a newline.
 abbrev pub file_text : Listed → List ℕ
 file_text x = x.name ++ 32 ∷ (decimal x.content ++ 32 ∷ (decimal x.stamp ++ 10 ∷ []))
 
--- the files that are there, by the bytes of their names
+-- The lines of all files that exist, by the bytes of their names.
 abbrev pub files_text : (names : List FileName) → Disk → List ℕ
 files_text names d = flat_map file_text (there_among (listed_at d) names)
 
--- what is printed behind a line: the files behind an `end`
-abbrev pub printed : (names : List FileName) → Order → World → List ℕ
+-- What is printed after a command: the files after an `end`, and nothing after the others.
+abbrev pub printed : (names : List FileName) → PlanCommand → World → List ℕ
 printed names End w = files_text names (disk_of w)
 printed names order w = []
 
--- What passing all that can be passed does, or want of memory, which comes behind some steps.
+-- The result of passing all idle nodes; on out of memory some of them have been passed.
 pub record PassesIdle (old new : State) (result : Result (Unit {0}) AllocError) : Type 0 where
   pub scene : new.scene ≡ old.scene
   pub names : new.disk.names ≡ old.disk.names
   pub ok : OnOk result (PassesAllIn old.scene.graph (world_of old) (world_of new))
-  pub leads : Leads old.scene.graph (setting old.scene) (world_of old) (world_of new)
+  pub leads : LeadsTo old.scene.graph (setting old.scene) (world_of old) (world_of new)
 
--- What making ready for a line does, or want of memory, which comes behind some steps.
-pub record Prepares (old new : State) (order : Order) (result : Result (Unit {0}) AllocError) :
+-- The result of preparing for a command; on out of memory some idle nodes have been passed.
+pub record Prepares (old new : State) (order : PlanCommand)
+    (result : Result (Unit {0}) AllocError) :
     Type 0 where
   pub scene : new.scene ≡ old.scene
   pub names : new.disk.names ≡ old.disk.names
   pub ok : OnOk result (PassesBefore old.scene.graph order (world_of old) (world_of new))
-  pub leads : Leads old.scene.graph (setting old.scene) (world_of old) (world_of new)
+  pub leads : LeadsTo old.scene.graph (setting old.scene) (world_of old) (world_of new)
 
--- What following a line of a world does, or want of memory, which comes behind some steps.
-pub record AnswersLine (old new : State) (order : Order) (result : Result (Unit {0}) StepFault) :
+-- The result of executing a line; on out of memory some of its steps have been taken.
+pub record AnswersLine (old new : State) (order : PlanCommand)
+    (result : Result (Unit {0}) StepFault) :
     Type 0 where
   pub scene : new.scene ≡ old.scene
   pub names : new.disk.names ≡ old.disk.names
   pub ok : OnOk result (Follows (stage_of old) (world_of old) (world_of new) order (Ok tt))
   pub err : IfErr result (λ fault. (fault ≡ Memory) ⊎
       IsRefusal (stage_of old) (world_of old) (world_of new) order fault)
-  pub leads : Leads old.scene.graph (setting old.scene) (world_of old) (world_of new)
+  pub leads : LeadsTo old.scene.graph (setting old.scene) (world_of old) (world_of new)
 
--- The run of lines, one after another: all of them, or up to the first that is refused.
+-- The run of these lines, one after another, all of them or up to the first that is refused.
 abbrev pub RunsTo : Stage → World → List line.PlanLine → (text : List ℕ) →
     (refused : Option (ℕ × StepFault)) → World → Type 0
 RunsTo stage old [] text refused new = (text ≡ []) × (refused ≡ None) × (new ≡ old)

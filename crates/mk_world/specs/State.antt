@@ -1,4 +1,4 @@
--- The state of a world in lists, and the world that it stands for.
+-- The state of a world as lists, and the world that it represents.
 use Rattle.std.specs.Prelude.{◌≡◌, ℕ, List, [], ◌∷◌, map, max, filter, not, nat_eq, length, replicate, Option, None, Some, option_map, slice_index_or, slice_set, unwrap_or}
 use Rattle.mk_lines.specs.Names.{place_from}
 use Rattle.mk_foot.specs.Setting as recorded
@@ -10,13 +10,13 @@ use Rattle.mk_graph.specs.World as world
 use Rattle.mk_world.specs.declared.file.File.{File}
 use Rattle.mk_world.specs.Tables.{look}
 
--- the graph and what is recorded, which no step changes
+-- The graph and the recorded inputs, which no step changes.
 pub record Scene : Type 0 where
   pub graph : Graph
   pub recorded : recorded.Setting
 
--- the setting of builds that the records give: by names, with the same sources, texts and fixed
--- prefixes
+-- The build inputs that are recorded: footprints by target name, and the same sources, texts and
+-- fixed prefixes.
 abbrev pub setting_of : recorded.Setting → model.Setting
 setting_of s =
     record {
@@ -27,23 +27,24 @@ setting_of s =
       fixed = s.fixed;
     }
 
+-- The build inputs of a scene.
 abbrev pub setting : Scene → model.Setting
 setting scene = setting_of scene.recorded
 
--- The names of the world in the order of their bytes, and beside each its file, if it is there; the
--- last stamp that was given; and the outcomes that are known.
+-- The names of the world in the order of their bytes, each with its file, if it exists; the last
+-- stamp that was given out; and the known outcomes.
 pub record DiskState : Type 0 where
   pub names : List model.FileName
   pub files : List (Option File)
   pub clock : ℕ
   pub known : List Outcome
 
--- what a recipe has seen beside the names that it reads, and put beside those that it writes
+-- What a recipe has read, for each file that it reads, and written, for each file that it writes.
 pub record RunState : Type 0 where
   pub looks : List (Option (Option ℕ))
   pub puts : List (Option ℕ)
 
--- the make in progress: its runs stand at the numbers of the nodes
+-- The make in progress, with a run for each node number.
 pub record MakeState : Type 0 where
   pub jobs : ℕ
   pub goals : List ℕ
@@ -51,23 +52,25 @@ pub record MakeState : Type 0 where
   pub running : List ℕ
   pub runs : List RunState
 
+-- The state of a world: the scene, the disk, and the make in progress, if there is one.
 pub record State : Type 0 where
   pub scene : Scene
   pub disk : DiskState
   pub make : Option MakeState
 
+-- The run of a recipe that isn't running.
 abbrev pub no_run : RunState
 no_run = record { looks = []; puts = [] }
 
--- the run of a recipe
+-- The run of a recipe.
 abbrev pub run_at : List RunState → ℕ → RunState
 run_at runs t = slice_index_or runs t no_run
 
--- the same file, as the model has it
+-- The file of the model that a file of the code represents.
 abbrev pub file_of : File → world.File
 file_of f = record { content = f.content; stamp = f.stamp }
 
--- the disk that its state stands for
+-- The disk that a state represents.
 abbrev pub disk_of : DiskState → Disk
 disk_of d =
     record {
@@ -76,7 +79,7 @@ disk_of d =
       known = d.known;
     }
 
--- the disk where time has run on to this stamp, if it wasn't there yet
+-- The disk with its clock advanced to this stamp, unless it is already there or later.
 abbrev pub aged : DiskState → ℕ → DiskState
 aged d stamp =
     record {
@@ -86,7 +89,7 @@ aged d stamp =
       known = d.known;
     }
 
--- the make that its state stands for
+-- The make that a state represents.
 abbrev pub making_of : Scene → MakeState → Making
 making_of scene m =
     record {
@@ -98,25 +101,25 @@ making_of scene m =
       put = λ t. look (model.writes scene.graph (setting scene) t) (run_at m.runs t).puts;
     }
 
--- the world in which this make is in progress
+-- The world with this make in progress.
 abbrev pub busy : Scene → MakeState → DiskState → World
 busy scene m d = Busy (making_of scene m) (disk_of d)
 
--- the world with this make, or with none
+-- The world with this make in progress, or with none.
 abbrev pub world_in : Scene → DiskState → Option MakeState → World
 world_in scene d None = Idle (disk_of d)
 world_in scene d (Some m) = busy scene m d
 
--- the world that a state stands for
+-- The world that a state represents.
 abbrev pub world_of : State → World
 world_of w = world_in w.scene w.disk w.make
 
--- the number of a name: its node's, or, where it is no node's, how many nodes there are
+-- The number of the node with this name, or the number of nodes if there is none.
 abbrev pub number_of : Graph → model.FileName → ℕ
 number_of g f =
     unwrap_or (place_from 0 (map (λ (n : Node). n.name) g.nodes) f) (length g.nodes)
 
--- a make at its begin, in a graph of so many nodes
+-- A make that has just begun, in a graph with this many nodes.
 abbrev pub start_of : (jobs : ℕ) (goals : List ℕ) (nodes : ℕ) → MakeState
 start_of jobs goals nodes =
     record {
@@ -127,11 +130,11 @@ start_of jobs goals nodes =
       runs = replicate nodes no_run;
     }
 
--- the make after a recipe began, with this as its run
+-- The make after a recipe began with this run.
 abbrev pub begun : MakeState → ℕ → RunState → MakeState
 begun m t run = record m { running = t ∷ m.running; runs = slice_set m.runs t run }
 
--- the make after a node was done
+-- The make after a node was done.
 abbrev pub finished : MakeState → ℕ → MakeState
 finished m t =
     record m {
@@ -140,11 +143,11 @@ finished m t =
       runs = slice_set m.runs t no_run;
     }
 
--- the make after one run became another
+-- The make with the run of one recipe replaced.
 abbrev pub with_run : MakeState → ℕ → RunState → MakeState
 with_run m t run = record m { runs = slice_set m.runs t run }
 
--- A recipe has looked at one of the files that it reads.
+-- The recipe has read this content of a file, and nothing else changes.
 pub record HasLooked (old new : MakeState) (t : ℕ) (names : List model.FileName)
     (f : model.FileName) (c : Option ℕ) : Type 0 where
   pub run : RunState
@@ -154,7 +157,7 @@ pub record HasLooked (old new : MakeState) (t : ℕ) (names : List model.FileNam
   pub looks : look names run.looks ≡
       world.changed (look names (run_at old.runs t).looks) f (Some c)
 
--- A recipe has put a content into one of the files that it writes.
+-- The recipe has written this content into a file, and nothing else changes.
 pub record HasPut (old new : MakeState) (t : ℕ) (names : List model.FileName)
     (f : model.FileName) (c : ℕ) : Type 0 where
   pub run : RunState

@@ -3,10 +3,10 @@ use Rattle.std.specs.Prelude.{◌↔◌}
 use Rattle.mk_graph.specs.Graph.{Graph}
 use Rattle.mk_graph.specs.Setting.{Setting}
 use Rattle.mk_graph.specs.World.{World}
-use Rattle.mk_graph.specs.Schedule.{Step, Allowed}
+use Rattle.mk_graph.specs.Steps.{Step, Allowed}
 use Rattle.mk_world.specs.Faults.{checks, AllHold}
 
--- A step is allowed exactly where all that it is asked holds.
+-- A step is allowed exactly if all its tests hold.
 abbrev pub AllowedWhereAllHolds : Type 0
 AllowedWhereAllHolds =
     (g : Graph) (s : Setting) (w : World) (step : Step) →

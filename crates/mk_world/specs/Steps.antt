@@ -1,11 +1,11 @@
--- Steps by names, and what becomes of a world where one is asked for.
+-- Steps by names, and what requesting a step does.
 use Rattle.std.specs.Prelude.{◌≡◌, List, map, None, Result, Ok, Err, OnOk, OnErr, ◌⊎◌}
 use Rattle.std.specs.declared.alloc.AllocError.{AllocError}
 use Rattle.mk_foot.specs.Setting as recorded
 use Rattle.mk_graph.specs.Graph.{Graph}
 use Rattle.mk_graph.specs.Setting.{Setting}
-use Rattle.mk_graph.specs.World.{World, IsFirst}
-use Rattle.mk_graph.specs.Schedule as model
+use Rattle.mk_graph.specs.World.{World, IsFirstDisk}
+use Rattle.mk_graph.specs.Steps as model
 use Rattle.mk_world.specs.NamedStep.{Step, Edit, Make, Begin, Look, Put, End, Pass, Stop, EndMake}
 use Rattle.mk_world.specs.declared.fault.StepFault.{StepFault}
 use Rattle.mk_world.specs.declared.fault.StepFault.TheVariants.{Memory}
@@ -13,7 +13,7 @@ use Rattle.mk_world.specs.State.{State, Scene, setting, setting_of, disk_of, wor
 use Rattle.mk_world.specs.Faults.{checks, FirstFails}
 use Rattle.mk_world.specs.First.{AreNamesOf}
 
--- the step with numbers for the names of nodes
+-- The step with numbers for the names of nodes.
 abbrev pub step_of : Graph → Step → model.Step
 step_of g (Edit f c) = model.Edit f c
 step_of g (Make jobs goals) = model.Make jobs (map (number_of g) goals)
@@ -25,22 +25,22 @@ step_of g (Pass n) = model.Pass (number_of g n)
 step_of g Stop = model.Stop
 step_of g EndMake = model.EndMake
 
--- the step is allowed in the first world, and leaves the second one
+-- The step is allowed in the first world and leaves the second.
 pub record Takes (g : Graph) (s : Setting) (old new : World) (step : model.Step) : Type 0 where
   pub allowed : model.Allowed g s old step
   pub leaves : new ≡ model.after g s old step
 
--- memory ran out, or the fault is that of the first test which fails
+-- The fault is out of memory or that of the first test that fails.
 abbrev pub IsFaultOf : Graph → Setting → World → model.Step → StepFault → Type 0
 IsFaultOf g s w step fault = (fault ≡ Memory) ⊎ FirstFails (checks g s w step) fault
 
--- the step is taken, or its fault is answered
+-- The step is taken, or the result is its fault.
 abbrev pub Judges : Scene → (old new : World) → model.Step → Result Unit StepFault → Type 0
 Judges scene old new step (Ok done) = Takes scene.graph (setting scene) old new step
 Judges scene old new step (Err fault) = IsFaultOf scene.graph (setting scene) old step fault
 
--- What asking for a step does: where it is taken the graph, the setting and the names of the world
--- stay, and where it isn't nothing changes.
+-- The result of requesting a step: the step is taken or its fault is returned. A refused step
+-- changes nothing, and no step changes the graph, the build inputs or the names of the world.
 pub record Answers (old new : State) (step : model.Step) (result : Result Unit StepFault) : Type 0
   where
     pub scene : new.scene ≡ old.scene
@@ -48,16 +48,16 @@ pub record Answers (old new : State) (step : model.Step) (result : Result Unit S
     pub judged : Judges old.scene (world_of old) (world_of new) step result
     pub unchanged : OnErr result (new ≡ old)
 
--- the step is allowed in the world of this state
+-- The step is allowed in the world of this state.
 abbrev pub MayTake : State → model.Step → Type 0
 MayTake w step = model.Allowed w.scene.graph (setting w.scene) (world_of w) step
 
--- the steps are all allowed, each in the world that those before it leave
+-- The steps are a trace from the world of this state.
 abbrev pub MayTakeAll : State → List model.Step → Type 0
 MayTakeAll w steps = model.IsLegal w.scene.graph (setting w.scene) (world_of w) steps
 
--- What taking an allowed step does: the graph, the setting and the names of the world stay, and the
--- world is what the step leaves; or memory runs out, and nothing changes.
+-- The result of taking an allowed step: the world is what the step leaves, or memory runs out and
+-- nothing changes. The graph, the build inputs and the names of the world don't change.
 pub record TakesAllowed (old new : State) (step : model.Step) (result : Result Unit AllocError) :
     Type 0 where
   pub scene : new.scene ≡ old.scene
@@ -66,10 +66,10 @@ pub record TakesAllowed (old new : State) (step : model.Step) (result : Result U
       (world_of new ≡ model.after old.scene.graph (setting old.scene) (world_of old) step)
   pub unchanged : OnErr result (new ≡ old)
 
--- The world of a graph and what is recorded at its beginning: no make is in progress, the disk is a
--- first one, and the names are those of the world, in the order of their bytes.
+-- The first world of a graph and recorded inputs: no make is in progress, the disk is the first
+-- disk, and the names are those of the world in the order of their bytes.
 pub record IsFirstOf (g : Graph) (s : recorded.Setting) (w : State) : Type 0 where
   pub scene : w.scene ≡ record { graph = g; recorded = s }
   pub idle : w.make ≡ None
-  pub first : IsFirst g (setting_of s) (disk_of w.disk)
+  pub first : IsFirstDisk g (setting_of s) (disk_of w.disk)
   pub names : AreNamesOf w.scene w.disk.names

@@ -1,8 +1,8 @@
--- Tables: names, with what is known of each beside them.
+-- Tables: names, each with a value or without one.
 use Rattle.std.specs.Prelude.{List, [], ◌∷◌, Option, None, if◌then◌else◌, bytes_eq}
 use Rattle.mk_graph.specs.Setting.{FileName}
 
--- what is known of a name: what stands beside its first place
+-- The value of a name in the table: the one at its first position.
 abbrev pub look : {A : Type 0} → List FileName → List (Option A) → FileName → Option A
 look names [] f = None
 look [] (x ∷ xs) f = None

@@ -1,4 +1,4 @@
-//! What is there, how old it is, and what recipes are known to give.
+//! The files of a world, and the known outcomes.
 
 ghost use Rattle.std.specs.Prelude.{◌≡◌, ◌<◌, ◌↔◌, List, length, true, map, option_map, IfOk, IfSome, OnOk, OnErr};
 ghost use Rattle.mk_lines.specs.Names.{has_name};
@@ -6,7 +6,7 @@ ghost use Rattle.mk_world.specs.First.{first_disk};
 ghost use Rattle.mk_world.specs.Listing.{listing};
 ghost use Rattle.mk_graph.specs.Graph.{max_nodes};
 ghost use Rattle.mk_graph.specs.World.{content, written, last_stamp, outcome};
-ghost use Rattle.mk_graph.specs.Schedule.{noted};
+ghost use Rattle.mk_graph.specs.Steps.{noted};
 ghost use Rattle.mk_graph.specs.Setting.{FileName};
 ghost use Rattle.mk_world.specs.Places.{content_at, place_among};
 ghost use Rattle.mk_world.specs.State.{aged, disk_of, finished};
@@ -17,14 +17,14 @@ use crate::making::Making;
 use crate::outcomes::{Outcomes, Sight};
 use crate::table::{get, set};
 use mk_foot::Setting;
-use mk_lines::{Name, NameSet};
+use mk_lines::{BorrowedNames, Name};
 use std::alloc::{AllocError, Global};
 use std::marker::Model;
 
-/// What is there, how old it is, and what recipes are known to give.
+/// The files of a world with their stamps, the clock, and the known outcomes.
 #[derive(Drop)]
 pub struct Disk<'a> {
-    names: NameSet<'a>,
+    names: BorrowedNames<'a>,
     files: Vec<Option<File>>,
     clock: u64,
     known: Outcomes,
@@ -47,7 +47,7 @@ impl<'a> Model for Disk<'a> {
     ghost invariant = { λ d. length d.files.items ≡ length d.names };
 }
 
-/// What the file at a place holds, if it is there.
+/// The content of the file at a place, if it exists.
 fn content_at(files: &[Option<File>], place: usize) -> Option<u64>
     ensures { result ≡ content_at files.now place }
 {
@@ -58,12 +58,12 @@ fn content_at(files: &[Option<File>], place: usize) -> Option<u64>
 }
 
 impl<'a> Disk<'a> {
-    /// A first disk: just the given ones of these names are there, each with its number among them
-    /// as content and stamp.
+    /// The first disk of a world with these names: exactly the given files exist, each with its
+    /// number among them as content and stamp. The only error is out of memory.
     pub fn first(
         alloc: Global,
         setting: &Setting,
-        names: NameSet<'a>,
+        names: BorrowedNames<'a>,
     ) -> Result<Disk<'a>, AllocError>
         ensures { IfOk result (λ d. d ≡ first_disk setting.now names.entry) }
     {
@@ -76,35 +76,35 @@ impl<'a> Disk<'a> {
         })
     }
 
-    /// Whether the name is one of the world.
+    /// Whether the name belongs to the world.
     pub fn has(&self, file: &str) -> bool
         ensures { result ≡ has_name self.now.names file.now }
     {
         self.names.contains(file)
     }
 
-    /// Whether a stamp is left.
+    /// Whether there is a further stamp.
     pub fn has_stamp(&self) -> bool
         ensures { (result ≡ true) ↔ (self.now.clock < last_stamp) }
     {
         self.clock < u64::MAX
     }
 
-    /// The last stamp that was given.
+    /// The last stamp that was given out.
     pub fn clock(&self) -> u64
         ensures { result ≡ self.now.clock }
     {
         self.clock
     }
 
-    /// Time runs on to this stamp.
+    /// Advances the clock to this stamp, unless it is already there or later.
     pub fn age(&mut self, stamp: u64)
         ensures { self.new ≡ aged self.old stamp }
     {
         self.clock = self.clock.max(stamp);
     }
 
-    /// What a recipe is known to write where it saw this, if that is known.
+    /// What the recipe is known to write after reading this, or `None` if that isn't known.
     pub fn known(&self, sight: &Sight) -> Option<&[u64]>
         ensures { option_map (λ written. written.now) result ≡
             outcome self.now.known sight.now.recipe sight.now.seen.items }
@@ -112,7 +112,7 @@ impl<'a> Disk<'a> {
         self.known.get(sight)
     }
 
-    /// What a file holds, if it is there.
+    /// The content of a file, if it exists.
     pub fn content(&self, file: &str) -> Option<u64>
         ensures { result ≡ content (disk_of self.now) file.now }
     {
@@ -122,14 +122,15 @@ impl<'a> Disk<'a> {
         }
     }
 
-    /// The place of a name among those of the world, or how many these are where it is none.
+    /// The place of a name among those of the world, or their number if it isn't there.
     pub fn place(&self, file: &str) -> usize
         ensures { result ≡ place_among self.now.names file.now }
     {
         self.names.number_of(file)
     }
 
-    /// What the files at these places hold, of each that is there.
+    /// The content of the file at each of these places, if it exists. The only error is out of
+    /// memory.
     pub fn contents_at(
         &self,
         alloc: Global,
@@ -146,7 +147,7 @@ impl<'a> Disk<'a> {
         Ok(seen)
     }
 
-    /// The stamp of a file's last writing, if it is there.
+    /// The stamp of the last write of a file, if it exists.
     pub fn stamp(&self, file: &str) -> Option<u64>
         ensures { result ≡ option_map (λ found. found.stamp) ((disk_of self.now).files file.now) }
     {
@@ -156,7 +157,7 @@ impl<'a> Disk<'a> {
         }
     }
 
-    /// The files that are there, by the bytes of their names.
+    /// The files that exist, by the bytes of their names. The only error is out of memory.
     pub fn files(&self, alloc: Global) -> Result<Vec<Listed>, AllocError>
         ensures { IfOk result (λ files. files.items ≡ listing self.now) }
     {
@@ -175,7 +176,8 @@ impl<'a> Disk<'a> {
         Ok(files)
     }
 
-    /// Writes a content into a file, which takes the next stamp.
+    /// Writes a content into a file, which takes the next stamp. There must be a further stamp, and
+    /// the name must belong to the world.
     pub fn write(&mut self, file: &str, content: u64)
         requires stamp { self.old.clock < last_stamp }
         requires name { has_name self.old.names file.now ≡ true }
@@ -187,7 +189,8 @@ impl<'a> Disk<'a> {
         let entry = File { content, stamp };
         set(&self.names, &mut self.files, file, entry);
     }
-    /// Whether a recipe put what is known of a run that saw the same, if that is known.
+    /// Whether the recipe wrote what it is known to write after reading this. True if that isn't
+    /// known.
     pub fn agrees(&self, sight: &Sight, written: &[u64]) -> bool
         ensures { (result ≡ true) ↔ IfSome (outcome self.now.known sight.now.recipe
             sight.now.seen.items) (λ known. known ≡ written.now) }
@@ -198,7 +201,8 @@ impl<'a> Disk<'a> {
         }
     }
 
-    /// Notes what a recipe wrote, unless that is known, as it ends.
+    /// Ends the run of a recipe: records the outcome, unless it is known, and marks the node as
+    /// done. The only error is out of memory, which changes nothing.
     pub fn end(
         &mut self,
         sight: Sight,

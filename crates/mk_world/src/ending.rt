@@ -3,7 +3,7 @@
 ghost use Rattle.std.specs.Prelude.{◌≡◌, ◌<◌, ◌⊎◌, length, map, Some, None, IfOk, OnOk, OnErr, MatchOption};
 ghost use Rattle.mk_graph.specs.Membership.{Has};
 ghost use Rattle.mk_graph.specs.Setting.{FileName};
-ghost use Rattle.mk_graph.specs.Schedule as model;
+ghost use Rattle.mk_graph.specs.Steps as model;
 ghost use Rattle.mk_world.specs.Tables.{look};
 ghost use Rattle.mk_world.specs.State.{busy};
 ghost use Rattle.mk_world.specs.Fits.{Fits, HasSeen};
@@ -17,7 +17,7 @@ use crate::outcomes::Sight;
 use crate::scene::Scene;
 use std::alloc::{AllocError, Global};
 
-/// What is known of each name, if something is known of all.
+/// The values of all names, or `None` if a name has no value. The only error is out of memory.
 fn all_of<T: Copy + Drop>(
     alloc: Global,
     names: &LentNames<'_>,
@@ -38,7 +38,9 @@ fn all_of<T: Copy + Drop>(
     Ok(Some(all))
 }
 
-/// A running recipe that has seen this ends.
+/// Ends a running recipe that has read this. `NotAllDone` (68) if it hasn't written all its files;
+/// then `OtherOutcome` (60) if it is known to write something else after reading this; or out of
+/// memory. An error changes nothing.
 pub fn end_seeing(
     alloc: Global,
     scene: &Scene,
@@ -68,7 +70,9 @@ pub fn end_seeing(
     Ok(())
 }
 
-/// A running recipe ends.
+/// Ends a running recipe. `NotRunning` (66) if it isn't running; then `NotAllDone` (68) if it
+/// hasn't read and written all its files; then `OtherOutcome` (60) if it is known to write
+/// something else after reading this; or out of memory. An error changes nothing.
 pub fn end(
     alloc: Global,
     scene: &Scene,

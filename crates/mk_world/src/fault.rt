@@ -1,4 +1,4 @@
-//! Why a step isn't taken.
+//! Why a step is refused.
 
 ghost use Rattle.std.specs.Prelude.{◌≡◌, ◌↔◌, true};
 ghost use Rattle.mk_world.specs.declared.fault.StepFault.TheVariants.{Memory};
@@ -6,56 +6,56 @@ ghost use Rattle.mk_world.specs.declared.fault.StepFault.TheVariants.{Memory};
 use std::alloc::{AllocError, AllocFailed};
 use thiserror::Error;
 
-/// Why a step isn't taken: the first test that fails.
+/// Why a step is refused: the first test that fails.
 #[derive(Debug, Drop, Error)]
 pub enum StepFault {
-    /// The last stamp was given (fault 59).
-    #[error("the last stamp was given")]
+    /// `ClockSpent` (59): no stamp is left.
+    #[error("no stamp is left")]
     ClockSpent,
-    /// What the recipe put differs from the known outcome of a run that saw the same (fault 60).
-    #[error("the recipe puts what differs from a known outcome")]
+    /// `OtherOutcome` (60): the recipe has read the same before and wrote something else.
+    #[error("another outcome is known")]
     OtherOutcome,
-    /// No make is in progress (fault 61).
+    /// `NoMake` (61): no make is in progress.
     #[error("no make is in progress")]
     NoMake,
-    /// A make is in progress (fault 62).
+    /// `MakeRuns` (62): a make is in progress.
     #[error("a make is in progress")]
     MakeRuns,
-    /// The node isn't ready, or is to begin and has no recipe (fault 63).
+    /// `NotReady` (63): the node isn't ready, or it is to begin and has no recipe.
     #[error("the node isn't ready")]
     NotReady,
-    /// As many recipes run as there are jobs, or a make is to have no job (fault 64).
+    /// `NoJobFree` (64): as many recipes run as there are jobs, or the new make has no jobs.
     #[error("no job is free")]
     NoJobFree,
-    /// The recipe must run (fault 65).
+    /// `OutOfDate` (65): the recipe must run and can't be passed.
     #[error("the recipe must run")]
     OutOfDate,
-    /// The node isn't running (fault 66).
-    #[error("the node isn't running")]
+    /// `NotRunning` (66): the recipe isn't running.
+    #[error("the recipe isn't running")]
     NotRunning,
-    /// The recipe doesn't read the file that it is to look at, or doesn't write the one that it is
-    /// to put (fault 67).
+    /// `NotInFootprint` (67): the recipe isn't recorded to read the file that it looks at, or to
+    /// write the file that it puts.
     #[error("the file isn't in the footprint")]
     NotInFootprint,
-    /// A recipe is to end before all its looks and puts, or a make before all its goals are done or
-    /// while a recipe runs (fault 68).
-    #[error("not all is done")]
+    /// `NotAllDone` (68): a recipe ends before all its reads and writes; a make is stopped while a
+    /// recipe runs; or a make ends while a recipe runs or a goal isn't done.
+    #[error("something isn't done")]
     NotAllDone,
-    /// A name in a line of a plan is no node's, or none of the world (fault 69).
-    #[error("a name isn't known")]
+    /// `PlanLine` (69): a line of a plan names a node or a file that doesn't exist in the world.
+    #[error("unknown name")]
     PlanLine,
-    /// The file isn't editable (fault 70).
+    /// `NotEditable` (70): the file isn't editable.
     #[error("the file isn't editable")]
     NotEditable,
-    /// A make is to have no goal, or one that is no goal of the graph (fault 77).
-    #[error("a goal is missing, or is none of the graph")]
+    /// `NotAGoal` (77): the make has no goal, or one that isn't a goal of the graph.
+    #[error("not a goal of the graph")]
     NotAGoal,
-    /// A growth was refused, which may come in place of any answer.
-    #[error("memory ran out")]
+    /// Out of memory. It may replace any other result.
+    #[error("out of memory")]
     Memory,
 }
 
-/// Whether a fault is want of memory.
+/// Whether a fault is out of memory.
 pub fn is_memory(fault: &StepFault) -> bool
     ensures { (result ≡ true) ↔ (fault.now ≡ StepFault.Memory) }
 {

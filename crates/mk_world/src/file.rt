@@ -1,23 +1,23 @@
-//! What a file of a world holds.
+//! The files of a world.
 
 use mk_lines::Name;
 
-/// What a file holds, as a number, and the stamp of its last writing.
+/// A file: its content, as a number, and the stamp of its last write.
 #[derive(Clone, Copy, Debug, Drop)]
 pub struct File {
-    /// What it holds.
+    /// The content.
     pub content: u64,
-    /// The stamp of its last writing. Of two stamps the greater is the later.
+    /// The stamp of its last write. A greater stamp is later.
     pub stamp: u64,
 }
 
-/// A file of a world with its name.
+/// A file with its name.
 #[derive(Debug, Drop)]
 pub struct Listed {
     /// Its name.
     pub name: Name,
-    /// What it holds.
+    /// The content.
     pub content: u64,
-    /// The stamp of its last writing.
+    /// The stamp of its last write.
     pub stamp: u64,
 }

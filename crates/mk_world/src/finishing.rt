@@ -1,4 +1,4 @@
-//! The finishing of a running recipe.
+//! Finishing a running recipe.
 
 ghost use Rattle.std.specs.Prelude.{◌≡◌, ◌<◌, ℕ, [], ◌∷◌, ◌++◌, length, map, true, unwrap_or, IfOk};
 ghost use Rattle.mk_lines.specs.Names.{has_name};
@@ -22,7 +22,7 @@ use crate::recipes::put;
 use crate::scene::Scene;
 use std::alloc::{AllocError, Global};
 
-/// What a recipe sees that looks at all that it reads.
+/// What the recipe reads if it reads all its files now. The only error is out of memory.
 pub fn sight_of(
     alloc: Global,
     places: &Places,
@@ -41,7 +41,7 @@ pub fn sight_of(
     })
 }
 
-/// The stamps that files take where all are written in turn.
+/// The stamps that these files take if they are written in order. The only error is out of memory.
 fn stamps_for(alloc: Global, disk: &Disk, files: &[String]) -> Result<Vec<u64>, AllocError>
     ensures { IfOk result (λ stamps. stamps.items ≡
         new_stamps disk.now.clock (map string_bytes files.now)) }
@@ -55,8 +55,8 @@ fn stamps_for(alloc: Global, disk: &Disk, files: &[String]) -> Result<Vec<u64>, 
     Ok(stamps)
 }
 
-/// What a recipe that sees this is finished with: what is known of a run that saw the same, else
-/// new stamps.
+/// What `finish` writes for a recipe that has read this: the known outcome, or else the new stamps.
+/// The only error is out of memory.
 fn contents_seeing(
     alloc: Global,
     scene: &Scene,
@@ -75,7 +75,8 @@ fn contents_seeing(
     }
 }
 
-/// What a recipe is finished with: what is known of a run that sees what is there, else new stamps.
+/// What `finish` writes for a recipe: the known outcome for what its reads contain now, or, if none
+/// is known, the new stamps. The only error is out of memory.
 pub fn contents_of(
     alloc: Global,
     scene: &Scene,
@@ -92,7 +93,7 @@ pub fn contents_of(
     contents_seeing(alloc, scene, disk, &sight)
 }
 
-/// A look at each file, of which this is seen.
+/// The record of reading these contents. The only error is out of memory.
 fn looks_of(alloc: Global, seen: &[Option<u64>]) -> Result<Vec<Option<Option<u64>>>, AllocError>
     ensures { IfOk result (λ looks. looks.items ≡ map (λ content. Some content) seen.now) }
 {
@@ -103,7 +104,8 @@ fn looks_of(alloc: Global, seen: &[Option<u64>]) -> Result<Vec<Option<Option<u64
     Ok(looks)
 }
 
-/// A running recipe puts these contents into the files that it writes.
+/// Writes these contents into the files that a running recipe writes, in order. `NotRunning` (66)
+/// if it isn't running; `ClockSpent` (59) if no stamp is left. An error keeps the writes before it.
 fn put_all(
     scene: &Scene,
     disk: &mut Disk,
@@ -132,8 +134,9 @@ fn put_all(
     Ok(())
 }
 
-/// A running recipe that sees this looks at each file that it reads, puts these contents into those
-/// that it writes, and ends.
+/// Finishes a recipe that reads this: it reads its files, writes these contents into those that it
+/// writes, and ends. `NotRunning` (66) if it isn't running; otherwise the errors of `put_all` and
+/// `end_seeing`. An error keeps the steps before it.
 pub fn finish_seeing(
     alloc: Global,
     scene: &Scene,
@@ -165,8 +168,8 @@ pub fn finish_seeing(
     end_seeing(alloc, scene, disk, making, sight)
 }
 
-/// A running recipe looks at each file that it reads, puts these contents into those that it
-/// writes, and ends.
+/// Finishes a recipe: it reads its files, writes these contents into those that it writes, and
+/// ends. Errors are as for `finish_seeing`.
 pub fn finish_with(
     alloc: Global,
     scene: &Scene,
@@ -191,8 +194,8 @@ pub fn finish_with(
     finish_seeing(alloc, scene, disk, making, sight, contents)
 }
 
-/// A running recipe looks at each file that it reads, puts what it is finished with into those that
-/// it writes, and ends.
+/// Finishes a recipe: it reads its files, writes the known outcome or else the new stamps, and
+/// ends. Errors are as for `finish_seeing`.
 pub fn finish(
     alloc: Global,
     scene: &Scene,

@@ -10,15 +10,15 @@ use crate::file::File;
 use crate::sorted::in_order;
 use mk_foot::Setting;
 use mk_graph::{Graph, Node};
-use mk_lines::NameSet;
+use mk_lines::BorrowedNames;
 use std::alloc::{AllocError, Global};
 
-/// The files of a first disk: each given one has its number among the given ones as content and
-/// stamp.
+/// The files of a first disk, and their number: each given file has its number among the given ones
+/// as content and stamp. The only error is out of memory.
 pub fn first_files(
     alloc: Global,
     setting: &Setting,
-    names: &NameSet,
+    names: &BorrowedNames,
 ) -> Result<(Vec<Option<File>>, u64), AllocError>
     ensures files { IfOk result (λ r. r.0.items ≡ first_files setting.now 0 names.now) }
     ensures clock { IfOk result (λ r. r.1 ≡ length (given_among setting.now names.now)) }
@@ -40,9 +40,10 @@ pub fn first_files(
     Ok((files, clock))
 }
 
-/// Adds the name of a node, and of the files that its recipe reads and writes.
+/// Adds the name of a node, and of the files that its recipe reads and writes. The only error is
+/// out of memory.
 fn add_node<'a>(
-    names: &mut NameSet<'a>,
+    names: &mut BorrowedNames<'a>,
     setting: &'a Setting,
     node: &'a Node,
 ) -> Result<(), AllocError>
@@ -60,17 +61,17 @@ fn add_node<'a>(
     names.insert_all(&record.writes)
 }
 
-/// The names of a world, in the order of their bytes. The error is want of memory alone.
+/// The names of a world, in the order of their bytes. The only error is out of memory.
 pub fn names_of<'a>(
     alloc: Global,
     graph: &'a Graph,
     setting: &'a Setting,
-) -> Result<NameSet<'a>, AllocError>
+) -> Result<BorrowedNames<'a>, AllocError>
     ensures sorted { IfOk result (λ names. AreSorted names) }
     ensures all { IfOk result (λ names. (f : List ℕ) → Has names f ↔
         IsOfWorld graph.entry.now (setting_of setting.entry.now) f) }
 {
-    let mut names = NameSet::new(alloc);
+    let mut names = BorrowedNames::new(alloc);
     names.insert_all(setting.sources().as_slice())?;
     for node in graph.nodes() {
         add_node(&mut names, setting, node)?;

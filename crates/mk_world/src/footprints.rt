@@ -1,4 +1,4 @@
-//! What recipes read and write.
+//! The footprints of recipes.
 
 ghost use Rattle.std.specs.Prelude.{◌≡◌, map, IfOk};
 ghost use Rattle.mk_graph.specs.declared.node.Node as declared;
@@ -10,7 +10,7 @@ use mk_foot::Setting;
 use mk_graph::Node;
 use std::alloc::{AllocError, Global};
 
-/// What the recipe of a node reads and writes.
+/// The files that the recipe of a node reads and writes.
 #[derive(Drop)]
 pub struct Footprint<'a> {
     pub reads: LentNames<'a>,
@@ -27,7 +27,7 @@ fn empty<'a>(alloc: Global) -> Result<Footprint<'a>, AllocError>
     })
 }
 
-/// The footprint of a node.
+/// The footprint of a node, empty if it has no recipe or no record.
 fn footprint_of<'a>(
     alloc: Global,
     setting: &'a Setting,
@@ -50,7 +50,7 @@ fn footprint_of<'a>(
     }
 }
 
-/// The footprints of nodes.
+/// The footprints of these nodes. The only error is out of memory.
 pub fn footprints_of<'a>(
     alloc: Global,
     setting: &'a Setting,

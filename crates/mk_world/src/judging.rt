@@ -1,17 +1,17 @@
-//! What a step asks of nodes and files.
+//! Whether a node is out of date.
 
 ghost use Rattle.std.specs.Prelude.{◌≡◌, ◌<◌, ◌↔◌, ◌⊎◌, length, true, Some};
 ghost use Rattle.mk_graph.specs.Graph.{node};
 ghost use Rattle.mk_graph.specs.World.{HasStamp};
-ghost use Rattle.mk_graph.specs.Schedule.{MustRun};
+ghost use Rattle.mk_graph.specs.Steps.{MustRun};
 ghost use Rattle.mk_world.specs.State.{disk_of};
 ghost use Rattle.mk_world.specs.Fits.{Forces};
 
 use crate::disk::Disk;
 use mk_graph::{Graph, Node};
 
-/// Whether a direct prerequisite makes a node out of date whose file has this stamp: it is phony,
-/// or there with a greater one.
+/// Whether this direct prerequisite makes a node with this stamp out of date: it is phony, or its
+/// file has a greater stamp.
 fn forces(before: &Node, disk: &Disk, stamp: u64) -> bool
     ensures { (result ≡ true) ↔ Forces before.now (disk_of disk.now) stamp }
 {
@@ -24,8 +24,8 @@ fn forces(before: &Node, disk: &Disk, stamp: u64) -> bool
     }
 }
 
-/// Whether a node is out of date: it is always made, is absent, or is older than a direct
-/// prerequisite that is there (IEEE Std 1003.1-2024, XCU make, "Target Rules").
+/// Whether a node is out of date: it is always made, its file is absent, or its file is older than
+/// that of a direct prerequisite (IEEE Std 1003.1-2024, XCU make, "Target Rules").
 pub fn must_run(graph: &Graph, disk: &Disk, number: usize) -> bool
     requires { number < length graph.now.nodes }
     ensures { (result ≡ true) ↔ MustRun graph.now (disk_of disk.now) number }

@@ -1,4 +1,4 @@
-//! Names that are lent, and looked up.
+//! Borrowed names, with a lookup.
 
 ghost use Rattle.std.specs.Prelude.{◌≡◌, ◌<◌, length, map, true, Some, None, IfOk, IfSome, OnOk};
 ghost use Rattle.std.specs.Bool.{OnTrue, OnFalse};
@@ -11,11 +11,11 @@ use mk_lines::NameTable;
 use std::alloc::{AllocError, Global};
 use std::marker::Model;
 
-/// So many names are gone through where one is looked up; more of them stand in a table.
+/// Up to this many names, a lookup scans the list; for more names there is a table.
 const FEW: usize = 16;
 
-/// Names that are lent, in their order, and looked up. A contract sees a list of names. Most
-/// recipes have few files, of which no table is made.
+/// Borrowed names in order, with a lookup. Contracts see a list of names. Most recipes have few
+/// files, for which there is no table.
 #[derive(Drop)]
 pub struct LentNames<'a> {
     names: &'a [String],
@@ -33,7 +33,7 @@ impl<'a> Model for LentNames<'a> {
     ghost invariant = { λ l. IfSome l.table (λ table. table.value ≡ map string_bytes l.names.now) };
 }
 
-/// A table of names.
+/// A table of these names. The only error is out of memory.
 fn table_of(alloc: Global, names: &[String]) -> Result<NameTable, AllocError>
     ensures { IfOk result (λ table. table ≡ map string_bytes names.now) }
 {
@@ -44,7 +44,7 @@ fn table_of(alloc: Global, names: &[String]) -> Result<NameTable, AllocError>
     NameTable::new(alloc, copies)
 }
 
-/// The place at which a name first stands among these.
+/// The first position of a name in the list.
 fn place_among(names: &[String], name: &str) -> Option<usize>
     ensures place { result ≡ place_from 0 (map string_bytes names.now) name.now }
     ensures within { IfSome result (λ place. place < length (map string_bytes names.now)) }
@@ -58,7 +58,7 @@ fn place_among(names: &[String], name: &str) -> Option<usize>
 }
 
 impl<'a> LentNames<'a> {
-    /// These names. The error is want of memory alone.
+    /// Borrows these names. The only error is out of memory.
     pub fn new(alloc: Global, names: &'a [String]) -> Result<LentNames<'a>, AllocError>
         ensures { IfOk result (λ lent. lent ≡ map string_bytes names.entry.now) }
     {
@@ -72,7 +72,7 @@ impl<'a> LentNames<'a> {
         })
     }
 
-    /// The place at which a name first stands.
+    /// The first position of a name.
     pub fn place(&self, name: &str) -> Option<usize>
         ensures place { result ≡ place_from 0 self.now name.now }
         ensures within { IfSome result (λ place. place < length self.now) }
@@ -83,7 +83,7 @@ impl<'a> LentNames<'a> {
         }
     }
 
-    /// Whether a name is there.
+    /// Whether the name is in the list.
     pub fn contains(&self, name: &str) -> bool
         ensures { result ≡ has_name self.now name.now }
     {
@@ -93,7 +93,7 @@ impl<'a> LentNames<'a> {
         }
     }
 
-    /// The names in their order.
+    /// The names in order.
     pub fn as_slice(&self) -> &'a [String]
         ensures { map string_bytes result.now ≡ self.now }
     {
@@ -101,7 +101,7 @@ impl<'a> LentNames<'a> {
     }
 }
 
-/// What is known of a name.
+/// The value of a name.
 pub fn get<T: Copy>(names: &LentNames<'_>, values: &[Option<T>], name: &str) -> Option<T>
     requires { length values.now ≡ length names.now }
     ensures { result ≡ look names.now values.now name.now }
@@ -112,7 +112,7 @@ pub fn get<T: Copy>(names: &LentNames<'_>, values: &[Option<T>], name: &str) -> 
     }
 }
 
-/// Notes what is known of a name that is there. Answers whether it is.
+/// Sets the value of a name, if the name is in the list. Returns whether it is.
 pub fn set<T: Copy>(
     names: &LentNames<'_>,
     values: &mut Vec<Option<T>>,

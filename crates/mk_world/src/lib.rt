@@ -1,4 +1,5 @@
-//! Worlds in which steps of builds are taken, and plans of such steps.
+//! The state of a build in progress, the steps that change it, and runs of plans, which consist of
+//! such steps.
 #![tactic(auto)]
 
 mod disk;
@@ -9,18 +10,15 @@ mod finishing;
 mod first;
 mod footprints;
 mod judging;
-mod keyword;
 pub mod laws;
 mod lent;
 mod making;
 mod names;
-mod ordering;
 mod outcomes;
 mod passing;
 mod places;
 mod plan;
 mod progress;
-mod reading;
 mod recipes;
 mod running;
 mod scene;
@@ -31,8 +29,7 @@ mod world;
 
 pub use fault::StepFault;
 pub use file::Listed;
-pub use plan::{Order, Plan, PlanFault, PlanLine};
-pub use reading::read_plan;
+pub use plan::{Plan, PlanCommand, PlanFault, PlanLine};
 pub use running::{Run, print_files, run_plan};
 pub use step::Step;
 pub use world::World;

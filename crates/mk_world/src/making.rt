@@ -5,14 +5,14 @@ ghost use Rattle.std.specs.Bool.{OnTrue, OnFalse};
 ghost use Rattle.mk_lines.specs.Names.{has_name};
 ghost use Rattle.mk_graph.specs.Graph.{max_nodes};
 ghost use Rattle.mk_graph.specs.Membership.{Has};
-ghost use Rattle.mk_graph.specs.Turns.{MayTurn, HasAll};
+ghost use Rattle.mk_graph.specs.Schedules.{CanStart, HasAll};
 ghost use Rattle.mk_world.specs.Kept.{IsKept};
 ghost use Rattle.mk_world.specs.State.{Scene, begun, finished, run_at, no_run, start_of, with_run, HasLooked, HasPut};
 
 use crate::lent::LentNames;
-use crate::progress::Run;
+use crate::progress::RunningRecipe;
 use mk_graph::{NodeSet, growth_laws};
-use mk_ready::Readiness;
+use mk_graph_ready::Readiness;
 use std::alloc::{AllocError, Global};
 use std::marker::Model;
 
@@ -24,7 +24,7 @@ pub struct Making {
     done: Vec<usize>,
     is_done: NodeSet,
     running: Vec<usize>,
-    runs: Vec<Run>,
+    runs: Vec<RunningRecipe>,
 }
 
 impl Model for Making {
@@ -46,26 +46,27 @@ impl Model for Making {
     ghost invariant = { λ m. (n : ℕ) → Has m.is_done n ↔ Has (reverse m.done.items) n };
 }
 
-/// Takes out a number.
+/// Removes a number from the list.
 fn take_out(numbers: &mut Vec<usize>, number: usize)
     ensures { numbers.new.items ≡ filter (λ n. not (nat_eq number n)) numbers.old.items }
 {
     numbers.retain(move |n| number != *n);
 }
 
-/// So many recipes that don't run.
-fn no_runs(alloc: Global, many: usize) -> Result<Vec<Run>, AllocError>
+/// The runs of this many recipes, none of which is running. The only error is out of memory.
+fn no_runs(alloc: Global, many: usize) -> Result<Vec<RunningRecipe>, AllocError>
     ensures { IfOk result (λ runs. runs.items ≡ replicate many no_run) }
 {
     let mut runs = Vec::with_capacity(alloc, many)?;
     for _ in 0..many {
-        runs.push(Run::none(alloc))?;
+        runs.push(RunningRecipe::none(alloc))?;
     }
     Ok(runs)
 }
 
 impl Making {
-    /// A make of these goals at its begin, in a graph of so many nodes.
+    /// A make of these goals that has just begun, in a graph with this many nodes. The only error
+    /// is out of memory.
     pub fn new(
         alloc: Global,
         jobs: usize,
@@ -84,21 +85,21 @@ impl Making {
         })
     }
 
-    /// Whether the recipe of a node runs.
+    /// Whether the recipe of a node is running.
     pub fn is_running(&self, number: usize) -> bool
         ensures { (result ≡ true) ↔ Has self.now.running number }
     {
         self.running.contains(&number)
     }
 
-    /// Whether one more recipe may run.
+    /// Whether a job is free.
     pub fn has_job(&self) -> bool
         ensures { (result ≡ true) ↔ (length self.now.running < self.now.jobs) }
     {
         self.running.len() < self.jobs
     }
 
-    /// Whether nothing runs.
+    /// Whether no recipe is running.
     pub fn is_quiet(&self) -> bool
         ensures { (result ≡ true) ↔ (self.now.running ≡ []) }
     {
@@ -112,26 +113,27 @@ impl Making {
         self.is_done.has_all(&self.goals)
     }
 
-    /// Whether a node's turn may come and it isn't running, by what is kept of the make.
+    /// Whether a node can start and isn't running. `readiness` must follow this make.
     pub fn is_ready(&self, readiness: &Readiness, number: usize) -> bool
         ensures { (scene : Scene) → IsKept scene self.now readiness.now → ((result ≡ true) ↔
-            (MayTurn scene.graph self.now.goals self.now.done number ×
+            (CanStart scene.graph self.now.goals self.now.done number ×
             (¬ (Has self.now.running number)))) }
     {
-        growth_laws::turns_stay();
-        readiness.may_turn(number) && !self.is_running(number)
+        growth_laws::can_start_stays();
+        readiness.can_start(number) && !self.is_running(number)
     }
 
     /// The run of a node's recipe.
-    pub fn run(&self, number: usize) -> &Run
+    pub fn run(&self, number: usize) -> &RunningRecipe
         requires { number < length self.now.runs }
         ensures { result.now ≡ run_at self.now.runs number }
     {
         &self.runs[number]
     }
 
-    /// Notes that a recipe begins, and what it has seen and put.
-    pub fn begin(&mut self, number: usize, run: Run) -> Result<(), AllocError>
+    /// Marks a recipe as running, with this run. The only error is out of memory, which changes
+    /// nothing.
+    pub fn begin(&mut self, number: usize, run: RunningRecipe) -> Result<(), AllocError>
         requires { number < length self.old.runs }
         ensures ok { OnOk result (self.new ≡ begun self.old number run) }
         ensures err { OnErr result (self.new ≡ self.old) }
@@ -141,7 +143,8 @@ impl Making {
         Ok(())
     }
 
-    /// Notes that a node is done.
+    /// Marks a node as done, and no longer running. The only error is out of memory, which changes
+    /// nothing.
     pub fn finish(&mut self, number: usize) -> Result<(), AllocError>
         requires node { number < length self.old.runs }
         requires small { number < max_nodes }
@@ -155,7 +158,8 @@ impl Making {
         Ok(())
     }
 
-    /// Notes a look at a file, if the recipe reads it. Answers whether it does.
+    /// Records that a recipe read this content of a file, if it is recorded to read the file.
+    /// Returns whether it is; if not, nothing changes.
     pub fn look(
         &mut self,
         number: usize,
@@ -173,7 +177,7 @@ impl Making {
         self.runs[number].look(reads, file, content)
     }
 
-    /// Notes looks at all files that the recipe reads, in their order.
+    /// Records that a recipe read all its files, with these contents in order.
     pub fn look_at_all(&mut self, number: usize, looks: Vec<Option<Option<u64>>>)
         requires { number < length self.old.runs }
         ensures { self.new ≡ with_run self.old number (record {
@@ -184,7 +188,8 @@ impl Making {
         self.runs[number].look_at_all(looks);
     }
 
-    /// Notes what was put into a file, if the recipe writes it. Answers whether it does.
+    /// Records that a recipe wrote this content into a file, if it is recorded to write the file.
+    /// Returns whether it is; if not, nothing changes.
     pub fn put(&mut self, number: usize, writes: &LentNames<'_>, file: &str, content: u64) -> bool
         requires node { number < length self.old.runs }
         requires len { length (run_at self.old.runs number).puts ≡ length writes.now }

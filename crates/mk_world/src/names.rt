@@ -1,14 +1,14 @@
-//! Names of a world, and numbers of goals.
+//! The numbers of goals by their names.
 
 ghost use Rattle.std.specs.Prelude.{◌≡◌, map, IfOk, MatchOption};
-ghost use Rattle.mk_graph.specs.Turns.{IsPart};
+ghost use Rattle.mk_graph.specs.Schedules.{IsPart};
 ghost use Rattle.mk_world.specs.State.{number_of};
 
 use crate::scene::Scene;
 use mk_graph::NodeSet;
 use std::alloc::{AllocError, Global};
 
-/// The numbers of names.
+/// The numbers of the nodes with these names. The only error is out of memory.
 fn numbers_of(alloc: Global, scene: &Scene, names: &[&str]) -> Result<Vec<usize>, AllocError>
     ensures { IfOk result (λ numbers. numbers.items ≡
         map (number_of scene.now.graph) (map (λ name. name.now) names.now)) }
@@ -20,7 +20,8 @@ fn numbers_of(alloc: Global, scene: &Scene, names: &[&str]) -> Result<Vec<usize>
     Ok(numbers)
 }
 
-/// The numbers of these names, if they are goals of the graph and one at least.
+/// The numbers of these names, or `None` if there are no names or one isn't a goal of the graph.
+/// The only error is out of memory.
 pub fn goals_of(
     alloc: Global,
     scene: &Scene,

@@ -1,4 +1,4 @@
-//! What recipes are known to give.
+//! The known outcomes of recipes.
 
 ghost use Rattle.std.specs.Prelude.{◌≡◌, ◌∷◌, [], ◌<◌, length, IfOk, OnOk, OnErr, None, Option, option_map};
 ghost use Rattle.mk_graph.specs.Graph.{max_nodes};
@@ -10,14 +10,14 @@ use indexmap::IndexMap;
 use std::alloc::{AllocError, Global};
 use std::marker::Model;
 
-/// A recipe, and what it saw of each file that it reads.
+/// A recipe, and what it read of each of its files.
 #[derive(Drop, PartialEq, Eq, Hash)]
 pub struct Sight {
     pub recipe: usize,
     pub seen: Vec<Option<u64>>,
 }
 
-/// What recipes are known to give, looked up by what they saw. A contract sees a list of outcomes,
+/// The known outcomes of recipes, looked up by what they read. Contracts see a list of outcomes,
 /// the last one first.
 #[derive(Drop)]
 pub struct Outcomes {
@@ -46,7 +46,7 @@ impl Outcomes {
         }
     }
 
-    /// What a recipe is known to write where it saw this, if that is known.
+    /// What the recipe is known to write after reading this, or `None` if that isn't known.
     pub fn get(&self, sight: &Sight) -> Option<&[u64]>
         ensures { option_map (λ written. written.now) result ≡
             outcome self.now sight.now.recipe sight.now.seen.items }
@@ -57,7 +57,8 @@ impl Outcomes {
         }
     }
 
-    /// Notes what a recipe wrote, of which nothing was known, as it ends.
+    /// Adds an outcome that wasn't known, and marks the node as done. The only error is out of
+    /// memory, which changes nothing.
     pub fn note(
         &mut self,
         sight: Sight,

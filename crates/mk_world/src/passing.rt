@@ -1,19 +1,20 @@
-//! The passing of nodes without recipe.
+//! Passing nodes without a recipe.
 
 ghost use Rattle.std.specs.Prelude.{◌≡◌, OnOk};
 ghost use Rattle.mk_world.specs.State.{DiskState, busy, disk_of, making_of, setting};
 ghost use Rattle.mk_world.specs.Fits.{Fits};
 ghost use Rattle.mk_world.specs.Kept.{IsKept};
-ghost use Rattle.mk_world.specs.Running.{PassesAll, Leads};
+ghost use Rattle.mk_world.specs.Running.{PassesAll, LeadsTo};
 
 use crate::making::Making;
 use crate::scene::Scene;
 use mk_graph::growth_laws;
-use mk_ready::Readiness;
+use mk_graph_ready::Readiness;
 use std::alloc::AllocError;
 
-/// All ready nodes without recipe are passed, each time the first in the serial order, until none
-/// is left.
+/// Passes idle nodes, that is, ready nodes without a recipe, each time the first in the serial
+/// order, until there is none. The only error is out of memory; the nodes passed before it stay
+/// done.
 pub fn pass_idle(
     scene: &Scene,
     making: &mut Making,
@@ -25,13 +26,13 @@ pub fn pass_idle(
     ensures kept { IsKept scene.now making.new readiness.new }
     ensures ok { (d : DiskState) → OnOk result (PassesAll scene.now.graph
         (making_of scene.now making.old) (disk_of d) (busy scene.now making.new d)) }
-    ensures leads { (d : DiskState) → Leads scene.now.graph (setting scene.now)
+    ensures leads { (d : DiskState) → LeadsTo scene.now.graph (setting scene.now)
         (busy scene.now making.old d) (busy scene.now making.new d) }
 {
-    growth_laws::turns_stay();
+    growth_laws::can_start_stays();
     while let Some(number) = readiness.next_idle() {
         making.finish(number)?;
-        readiness.note_done(number);
+        readiness.mark_done(number);
     }
     Ok(())
 }

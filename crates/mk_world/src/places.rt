@@ -1,4 +1,4 @@
-//! The places of files in the table of the names of a world.
+//! The places of files among the names of a world.
 
 ghost use Rattle.std.specs.Prelude.{◌≡◌, [], map, slice_index_or, IfOk};
 ghost use Rattle.std.specs.String.{string_bytes};
@@ -9,8 +9,8 @@ use crate::scene::Scene;
 use std::alloc::{AllocError, Global};
 use std::marker::Model;
 
-/// For each node the places of the files that its recipe reads, so that these aren't looked up by
-/// name again in each run. A contract sees lists of places.
+/// For each node, the places of the files that its recipe reads, so that a run needn't look them up
+/// by name. Contracts see lists of places.
 #[derive(Drop)]
 pub struct Places {
     reads: Vec<Vec<usize>>,
@@ -24,7 +24,7 @@ impl Model for Places {
     ghost view = { λ p. map (λ places. places.items) p.reads.items };
 }
 
-/// The places of files.
+/// The places of these files. The only error is out of memory.
 fn places_of(alloc: Global, disk: &Disk, files: &[String]) -> Result<Vec<usize>, AllocError>
     ensures { IfOk result (λ places. places.items ≡
         map (place_among disk.now.names) (map string_bytes files.now)) }
@@ -37,8 +37,8 @@ fn places_of(alloc: Global, disk: &Disk, files: &[String]) -> Result<Vec<usize>,
 }
 
 impl Places {
-    /// The places of what the recipes of a scene read, on a disk. The error is want of memory
-    /// alone.
+    /// The places of the files that the recipes of a scene read, on a disk. The only error is out
+    /// of memory.
     pub fn new(alloc: Global, scene: &Scene, disk: &Disk) -> Result<Places, AllocError>
         ensures { IfOk result (λ places. ArePlaces scene.now disk.now.names places) }
     {
@@ -51,7 +51,7 @@ impl Places {
         Ok(Places { reads })
     }
 
-    /// The places of what the recipe of a node reads.
+    /// The places of the files that the recipe of a node reads.
     pub fn of(&self, number: usize) -> &[usize]
         ensures { result.now ≡ slice_index_or self.now number [] }
     {

@@ -1,4 +1,4 @@
-//! Plans: the lines of a text that order steps.
+//! Plans: commands, one to a line.
 
 ghost use Rattle.std.specs.Prelude.{◌≡◌};
 ghost use Rattle.mk_world.specs.declared.plan.PlanFault.TheVariants.{Memory};
@@ -8,38 +8,38 @@ use std::alloc::{AllocError, AllocFailed};
 use std::marker::Model;
 use thiserror::Error;
 
-/// What a line of a plan orders. Nodes and files are names; a content that isn't written is the
-/// stamp that the file takes.
+/// The command of a plan line. Nodes and files are given by name. A missing content means the stamp
+/// that the file takes.
 #[derive(Debug, Drop)]
-pub enum Order {
-    /// `make N G..`: a make with so many jobs starts.
+pub enum PlanCommand {
+    /// `make N G..`: begins a make with N jobs.
     Make {
         /// How many recipes may run at once, from 1 to 4,096.
         jobs: usize,
-        /// The goals that it names, or none where it names all.
+        /// The goals, empty for all goals of the graph.
         goals: Names,
     },
-    /// `stop`: the make is given up.
+    /// `stop`: gives up the make.
     Stop,
     /// `begin T`: a recipe begins.
     Begin {
         /// Its node.
         node: Name,
     },
-    /// `look T F`: a running recipe looks at a file.
+    /// `look T F`: a running recipe reads a file.
     Look {
         /// Its node.
         node: Name,
         /// The file.
         file: Name,
     },
-    /// `put T F` or `put T F N`: a running recipe puts a content into a file.
+    /// `put T F` or `put T F N`: a running recipe writes a content into a file.
     Put {
         /// Its node.
         node: Name,
         /// The file.
         file: Name,
-        /// What it holds then, where that is written.
+        /// The new content, if the line gives one.
         content: Option<u64>,
     },
     /// `done T`: a running recipe ends.
@@ -47,12 +47,12 @@ pub enum Order {
         /// Its node.
         node: Name,
     },
-    /// `finish T`: a running recipe looks at all that it reads, puts all that it writes, and ends.
+    /// `finish T`: a running recipe reads all its files, writes all its files, and ends.
     Finish {
         /// Its node.
         node: Name,
     },
-    /// `run T`: a recipe begins, and is finished.
+    /// `run T`: a recipe begins and is finished.
     Run {
         /// Its node.
         node: Name,
@@ -68,21 +68,21 @@ pub enum Order {
     Edit {
         /// The file.
         file: Name,
-        /// What it holds then, where that is written.
+        /// The new content, if the line gives one.
         content: Option<u64>,
     },
 }
 
-/// A line of a plan that orders something.
+/// A line of a plan with a command.
 #[derive(Debug, Drop)]
 pub struct PlanLine {
-    /// Its number among all lines of the plan's text, counted from 1.
+    /// Its number among all lines of the text, counted from 1.
     pub number: usize,
-    /// What it orders.
-    pub order: Order,
+    /// Its command.
+    pub order: PlanCommand,
 }
 
-/// A plan: its lines that order something, in their order. A contract sees their list.
+/// A plan: its lines with commands, in order. Contracts see their list.
 #[derive(Debug, Drop)]
 pub struct Plan {
     lines: Vec<PlanLine>,
@@ -113,14 +113,15 @@ impl Plan {
     }
 }
 
-/// Why a text is no plan.
+/// Why a text isn't a plan.
 #[derive(Debug, Drop, Error)]
 pub enum PlanFault {
-    /// The line of this number is the first that is malformed, or the 65,537th (fault 69).
-    #[error("a line of the plan is malformed, or one too many: {0}")]
+    /// `PlanLine` (69): the line with this number is the first that is malformed, or it is the
+    /// 65,537th.
+    #[error("bad line of the plan: {0}")]
     Line(usize),
-    /// A growth was refused, which may come in place of any answer.
-    #[error("memory ran out")]
+    /// Out of memory. It may replace any other result.
+    #[error("out of memory")]
     Memory,
 }
 

@@ -1,4 +1,4 @@
-//! What a running recipe has seen and put.
+//! What a running recipe has read and written.
 
 ghost use Rattle.std.specs.Prelude.{◌≡◌, IfOk, length, replicate, None, Some};
 ghost use Rattle.mk_lines.specs.Names.{has_name};
@@ -11,15 +11,15 @@ use crate::lent::{LentNames, set};
 use std::alloc::{AllocError, Global};
 use std::marker::Model;
 
-/// What a running recipe has seen, beside the names that it reads, and put, beside those that it
+/// What a running recipe has read, for each file that it reads, and written, for each file that it
 /// writes.
 #[derive(Drop)]
-pub struct Run {
+pub struct RunningRecipe {
     looks: Vec<Option<Option<u64>>>,
     puts: Vec<Option<u64>>,
 }
 
-impl Model for Run {
+impl Model for RunningRecipe {
     ghost use Rattle.mk_world.specs.State as state;
 
     ghost Value = { state.RunState };
@@ -27,42 +27,44 @@ impl Model for Run {
     ghost view = { λ r. record { looks = r.looks.items; puts = r.puts.items } };
 }
 
-impl Run {
-    /// The run of a recipe that doesn't run.
-    pub fn none(alloc: Global) -> Run
+impl RunningRecipe {
+    /// The run of a recipe that isn't running.
+    pub fn none(alloc: Global) -> RunningRecipe
         ensures { result ≡ no_run }
     {
-        Run {
+        RunningRecipe {
             looks: Vec::new(alloc),
             puts: Vec::new(alloc),
         }
     }
 
-    /// A run that has seen and put nothing, of a recipe that reads and writes so many files.
-    pub fn new(alloc: Global, reads: usize, writes: usize) -> Result<Run, AllocError>
+    /// A run that has read and written nothing yet, of a recipe with this many files to read and to
+    /// write. The only error is out of memory.
+    pub fn new(alloc: Global, reads: usize, writes: usize) -> Result<RunningRecipe, AllocError>
         ensures { IfOk result (λ run. run ≡
             record { looks = replicate reads None; puts = replicate writes None }) }
     {
-        Ok(Run {
+        Ok(RunningRecipe {
             looks: vec![in alloc; None; reads]?,
             puts: vec![in alloc; None; writes]?,
         })
     }
-    /// What it has seen.
+    /// What it has read.
     pub fn looks(&self) -> &[Option<Option<u64>>]
         ensures { result.now ≡ self.now.looks }
     {
         self.looks.as_slice()
     }
 
-    /// What it has put.
+    /// What it has written.
     pub fn puts(&self) -> &[Option<u64>]
         ensures { result.now ≡ self.now.puts }
     {
         self.puts.as_slice()
     }
 
-    /// Notes a look at a file, if the recipe reads it. Answers whether it does.
+    /// Records that it read this content of a file, if the recipe is recorded to read the file.
+    /// Returns whether it is; if not, nothing changes.
     pub fn look(&mut self, reads: &LentNames<'_>, file: &str, content: Option<u64>) -> bool
         requires { length self.old.looks ≡ length reads.now }
         ensures there { result ≡ has_name reads.now file.now }
@@ -75,14 +77,15 @@ impl Run {
         set(reads, &mut self.looks, file, content)
     }
 
-    /// Notes looks at all files that the recipe reads, in their order.
+    /// Records that it read all files, with these contents in order.
     pub fn look_at_all(&mut self, looks: Vec<Option<Option<u64>>>)
         ensures { self.new ≡ record { looks = looks.items; puts = self.old.puts } }
     {
         self.looks = looks;
     }
 
-    /// Notes what was put into a file, if the recipe writes it. Answers whether it does.
+    /// Records that it wrote this content into a file, if the recipe is recorded to write the file.
+    /// Returns whether it is; if not, nothing changes.
     pub fn put(&mut self, writes: &LentNames<'_>, file: &str, content: u64) -> bool
         requires { length self.old.puts ≡ length writes.now }
         ensures there { result ≡ has_name writes.now file.now }
@@ -94,7 +97,7 @@ impl Run {
     {
         set(writes, &mut self.puts, file, content)
     }
-    /// Forgets what it has seen and put.
+    /// Forgets what it has read and written.
     pub fn clear(&mut self)
         ensures { self.new ≡ no_run }
     {

@@ -2,7 +2,7 @@
 
 ghost use Rattle.std.specs.Prelude.{◌≡◌, ◌<◌, length, true, OnOk, OnErr};
 ghost use Rattle.mk_lines.specs.Names.{has_name};
-ghost use Rattle.mk_graph.specs.Schedule as model;
+ghost use Rattle.mk_graph.specs.Steps as model;
 ghost use Rattle.mk_graph.specs.Setting.{FileName, writes};
 ghost use Rattle.mk_graph.specs.Membership.{Has};
 ghost use Rattle.mk_world.specs.State.{DiskState, busy, setting};
@@ -14,12 +14,13 @@ use crate::disk::Disk;
 use crate::fault::StepFault;
 use crate::judging::must_run;
 use crate::making::Making;
-use crate::progress::Run;
+use crate::progress::RunningRecipe;
 use crate::scene::Scene;
-use mk_ready::Readiness;
+use mk_graph_ready::Readiness;
 use std::alloc::Global;
 
-/// A recipe begins.
+/// Begins a recipe. `NotReady` (63) if the node isn't ready or has no recipe; then `NoJobFree` (64)
+/// if as many recipes run as there are jobs; or out of memory. An error changes nothing.
 pub fn begin(
     alloc: Global,
     scene: &Scene,
@@ -47,7 +48,7 @@ pub fn begin(
         return Err(StepFault::NoJobFree);
     }
     let footprint = scene.footprint(number);
-    let run = Run::new(
+    let run = RunningRecipe::new(
         alloc,
         footprint.reads.as_slice().len(),
         footprint.writes.as_slice().len(),
@@ -56,7 +57,8 @@ pub fn begin(
     Ok(())
 }
 
-/// A running recipe looks at a file.
+/// Lets a running recipe read a file. `NotRunning` (66) if it isn't running; then `NotInFootprint`
+/// (67) if it isn't recorded to read the file. An error changes nothing.
 pub fn look(
     scene: &Scene,
     disk: &Disk,
@@ -80,7 +82,9 @@ pub fn look(
     Ok(())
 }
 
-/// A running recipe puts a content into a file.
+/// Lets a running recipe write a content into a file. `NotRunning` (66) if it isn't running; then
+/// `NotInFootprint` (67) if it isn't recorded to write the file; then `ClockSpent` (59) if no stamp
+/// is left. An error changes nothing.
 pub fn put(
     scene: &Scene,
     disk: &mut Disk,
@@ -114,7 +118,8 @@ pub fn put(
     Ok(())
 }
 
-/// A node is passed.
+/// Passes a node. `NotReady` (63) if it isn't ready; then `OutOfDate` (65) if it has a recipe that
+/// must run; or out of memory. An error changes nothing.
 pub fn pass(
     scene: &Scene,
     disk: &Disk,

@@ -5,54 +5,54 @@ ghost use Rattle.std.specs.List.{list_all};
 ghost use Rattle.std.specs.String.{string_bytes};
 ghost use Rattle.mk_graph.specs.World.{disk_of};
 ghost use Rattle.mk_world.specs.State.{setting, world_of};
-ghost use Rattle.mk_graph.specs.Schedule as model;
+ghost use Rattle.mk_graph.specs.Steps as model;
 ghost use Rattle.mk_world.specs.Steps.{Answers};
 ghost use Rattle.mk_world.specs.State as state;
-ghost use Rattle.mk_world.specs.Running.{is_known, is_node, goals_among, steps_of, run_steps, content_or_stamp, AnswersInTurn, AnswersLine, Prepares, file_text, files_text, printed, RunsTo, Leads, stage_of};
+ghost use Rattle.mk_world.specs.Running.{is_known, is_node, goals_among, steps_of, run_steps, content_or_stamp, AnswersInTurn, AnswersLine, Prepares, file_text, files_text, printed, RunsTo, LeadsTo, stage_of};
 
 use crate::fault::{StepFault, is_memory};
 use crate::file::Listed;
-use crate::plan::{Order, Plan};
+use crate::plan::{Plan, PlanCommand};
 use crate::world::World;
 use mk_lines::Name;
 use std::alloc::{AllocError, Global};
 
-/// What the run of a plan printed, and why it ended before the plan's end, if it did.
+/// What the run of a plan printed, and which line was refused, if one was.
 #[derive(Debug, Drop)]
 pub struct Run {
-    /// The files at each `end`, by the bytes of their names: a line `name content stamp` for each.
+    /// The files at each `end`: a line `name content stamp` for each, by the bytes of their names.
     pub text: String,
-    /// The number of the line that was refused, and its fault.
+    /// The number of the refused line, and its fault.
     pub refused: Option<(usize, StepFault)>,
 }
 
-/// Whether all of these names are of nodes.
+/// Whether all these names are names of nodes.
 fn are_nodes(world: &World, names: &[Name]) -> bool
     ensures { result ≡ list_all (is_node world.now.scene.graph) names.now }
 {
     names.iter().all(|name| world.has_node(name.as_str()))
 }
 
-/// Whether all names in an order are known.
-fn knows(world: &World, order: &Order) -> bool
+/// Whether all names in a command are known.
+fn knows(world: &World, order: &PlanCommand) -> bool
     ensures { result ≡ is_known world.now.scene.graph world.now.disk.names order.now }
 {
     match order {
-        Order::Make { goals, .. } => are_nodes(world, goals.as_slice()),
-        Order::Begin { node }
-        | Order::Done { node }
-        | Order::Finish { node }
-        | Order::Run { node }
-        | Order::Pass { node } => world.has_node(node.as_str()),
-        Order::Look { node, file } | Order::Put { node, file, .. } => {
+        PlanCommand::Make { goals, .. } => are_nodes(world, goals.as_slice()),
+        PlanCommand::Begin { node }
+        | PlanCommand::Done { node }
+        | PlanCommand::Finish { node }
+        | PlanCommand::Run { node }
+        | PlanCommand::Pass { node } => world.has_node(node.as_str()),
+        PlanCommand::Look { node, file } | PlanCommand::Put { node, file, .. } => {
             world.has_node(node.as_str()) && world.has_file(file.as_str())
         }
-        Order::Edit { file, .. } => world.has_file(file.as_str()),
-        Order::Stop | Order::End => true,
+        PlanCommand::Edit { file, .. } => world.has_file(file.as_str()),
+        PlanCommand::Stop | PlanCommand::End => true,
     }
 }
 
-/// The content that is written, or the new stamp.
+/// The content that the line gives, or else the new stamp.
 fn content_or_stamp(world: &World, content: Option<u64>) -> u64
     ensures { result ≡ content_or_stamp (state.disk_of world.now.disk) content }
 {
@@ -62,7 +62,7 @@ fn content_or_stamp(world: &World, content: Option<u64>) -> u64
     }
 }
 
-/// These names, as they are lent.
+/// Borrows these names. The only error is out of memory.
 fn lent<'a>(alloc: Global, names: &'a [Name]) -> Result<Vec<&'a str>, AllocError>
     ensures { IfOk result (λ lent. map (λ name. name.now) lent.items ≡ names.entry.now) }
 {
@@ -73,7 +73,7 @@ fn lent<'a>(alloc: Global, names: &'a [Name]) -> Result<Vec<&'a str>, AllocError
     Ok(lent)
 }
 
-/// A make of these goals starts, or of all where none is named.
+/// Begins a make of these goals, or of all goals if none is named.
 fn start(alloc: Global, world: &mut World, jobs: usize, goals: &[Name]) -> Result<(), StepFault>
     ensures { Answers world.old world.new
         (model.Make jobs (goals_among world.old.scene.graph goals.now)) result }
@@ -85,7 +85,7 @@ fn start(alloc: Global, world: &mut World, jobs: usize, goals: &[Name]) -> Resul
     world.start(jobs, &goals)
 }
 
-/// A recipe begins, and is finished.
+/// Runs a recipe whole.
 fn run_whole(world: &mut World, node: &str) -> Result<(), StepFault>
     requires { is_node world.old.scene.graph node.now ≡ true }
     ensures { AnswersInTurn world.old world.new (run_steps world.old node.now) result }
@@ -94,17 +94,17 @@ fn run_whole(world: &mut World, node: &str) -> Result<(), StepFault>
     world.finish(node)
 }
 
-/// The steps that a line stands for are taken in turn.
-fn obey(alloc: Global, world: &mut World, order: &Order) -> Result<(), StepFault>
+/// Takes the steps of a command, one after another.
+fn obey(alloc: Global, world: &mut World, order: &PlanCommand) -> Result<(), StepFault>
     requires { is_known world.old.scene.graph world.old.disk.names order.now ≡ true }
     ensures { AnswersInTurn world.old world.new (steps_of world.old order.now) result }
 {
     match order {
-        Order::Make { jobs, goals } => start(alloc, world, *jobs, goals.as_slice()),
-        Order::Stop => world.stop(),
-        Order::Begin { node } => world.begin(node.as_str()),
-        Order::Look { node, file } => world.look(node.as_str(), file.as_str()),
-        Order::Put {
+        PlanCommand::Make { jobs, goals } => start(alloc, world, *jobs, goals.as_slice()),
+        PlanCommand::Stop => world.stop(),
+        PlanCommand::Begin { node } => world.begin(node.as_str()),
+        PlanCommand::Look { node, file } => world.look(node.as_str(), file.as_str()),
+        PlanCommand::Put {
             node,
             file,
             content,
@@ -112,32 +112,33 @@ fn obey(alloc: Global, world: &mut World, order: &Order) -> Result<(), StepFault
             let content = content_or_stamp(world, *content);
             world.put(node.as_str(), file.as_str(), content)
         }
-        Order::Done { node } => world.end(node.as_str()),
-        Order::Finish { node } => world.finish(node.as_str()),
-        Order::Run { node } => run_whole(world, node.as_str()),
-        Order::Pass { node } => world.pass(node.as_str()),
-        Order::End => world.end_make(),
-        Order::Edit { file, content } => {
+        PlanCommand::Done { node } => world.end(node.as_str()),
+        PlanCommand::Finish { node } => world.finish(node.as_str()),
+        PlanCommand::Run { node } => run_whole(world, node.as_str()),
+        PlanCommand::Pass { node } => world.pass(node.as_str()),
+        PlanCommand::End => world.end_make(),
+        PlanCommand::Edit { file, content } => {
             let content = content_or_stamp(world, *content);
             world.edit(file.as_str(), content)
         }
     }
 }
 
-/// Before some lines all ready nodes without recipe are passed.
-fn prepare(world: &mut World, order: &Order) -> Result<(), AllocError>
+/// Passes the idle nodes, if the command needs that.
+fn prepare(world: &mut World, order: &PlanCommand) -> Result<(), AllocError>
     ensures { Prepares world.old world.new order.now result }
 {
     match order {
-        Order::Begin { .. } | Order::Run { .. } | Order::Pass { .. } | Order::End => {
-            world.pass_idle()
-        }
+        PlanCommand::Begin { .. }
+        | PlanCommand::Run { .. }
+        | PlanCommand::Pass { .. }
+        | PlanCommand::End => { world.pass_idle() }
         _ => Ok(()),
     }
 }
 
-/// A line is followed.
-fn follow(alloc: Global, world: &mut World, order: &Order) -> Result<(), StepFault>
+/// Executes a command: tests its names, passes idle nodes if it needs that, and takes its steps.
+fn follow(alloc: Global, world: &mut World, order: &PlanCommand) -> Result<(), StepFault>
     ensures { AnswersLine world.old world.new order.now result }
 {
     if !knows(world, order) {
@@ -147,7 +148,7 @@ fn follow(alloc: Global, world: &mut World, order: &Order) -> Result<(), StepFau
     obey(alloc, world, order)
 }
 
-/// The line of a file.
+/// The line of a file. The only error is out of memory.
 fn file_text(alloc: Global, file: &Listed) -> Result<String, AllocError>
     ensures { IfOk result (λ text. string_bytes text ≡ file_text file.now) }
 {
@@ -157,8 +158,8 @@ fn file_text(alloc: Global, file: &Listed) -> Result<String, AllocError>
     format!(in alloc; "{name} {content} {stamp}\n")
 }
 
-/// Adds the files of a world by the bytes of their names, a line `name content stamp` for each. The
-/// error is want of memory alone.
+/// Appends the files of a world: a line `name content stamp` for each, by the bytes of their names.
+/// The only error is out of memory.
 pub fn print_files(alloc: Global, world: &World, text: &mut String) -> Result<(), AllocError>
     ensures { OnOk result (string_bytes text.new ≡ string_bytes text.old ++
         files_text world.now.disk.names (disk_of (world_of world.now))) }
@@ -169,34 +170,40 @@ pub fn print_files(alloc: Global, world: &World, text: &mut String) -> Result<()
     Ok(())
 }
 
-/// Adds what is printed behind a line.
-fn print(alloc: Global, world: &World, order: &Order, text: &mut String) -> Result<(), AllocError>
+/// Appends what is printed after a command.
+fn print(
+    alloc: Global,
+    world: &World,
+    order: &PlanCommand,
+    text: &mut String,
+) -> Result<(), AllocError>
     ensures { OnOk result (string_bytes text.new ≡ string_bytes text.old ++
         printed world.now.disk.names order.now (world_of world.now)) }
 {
     match order {
-        Order::End => print_files(alloc, world, text),
+        PlanCommand::End => print_files(alloc, world, text),
         _ => Ok(()),
     }
 }
 
-/// Runs a plan in a world, line after line, up to the first that is refused.
+/// Runs a plan in a world, line by line, up to the first line that is refused. Returns what it
+/// printed and the refusal. The only error is out of memory; the steps taken before it remain.
 ///
-/// Before `begin`, `run`, `pass` and `end`, where a make is in progress, every ready node without
-/// recipe is passed, each time the first in the serial order, until none is ready. `finish` looks
-/// at all that the recipe reads, puts all that it writes, with the contents that are known of a run
-/// that saw the same, else the new stamps, and ends; `run` begins first. `make` without goals names
-/// all. At each `end` the files are printed. A line is refused with the fault of its first step
-/// that isn't allowed, and the steps before it stay done; or, before anything is passed for it,
-/// with fault 69, where it names a node that isn't one, or a file that is no name of the world.
+/// Before `begin`, `run`, `pass` and `end`, if a make is in progress, every ready node without a
+/// recipe is passed, each time the first in the serial order, until there is none. `finish` reads
+/// all files that the recipe reads, writes all files that it writes, and ends; the contents are the
+/// known outcome for what it read, or else the new stamps. `run` begins the recipe first. `make`
+/// without goals makes all goals. The files are printed at each `end`.
 ///
-/// The error is want of memory alone. The world is then the one that the steps taken leave.
+/// A line is refused with the fault of its first step that isn't allowed, and the steps before that
+/// one remain. A line that names an unknown node or file is refused with `PlanLine` (69) before
+/// anything is done for it.
 pub fn run_plan(alloc: Global, world: &mut World, plan: &Plan) -> Result<Run, AllocError>
     ensures scene { world.new.scene ≡ world.old.scene }
     ensures names { world.new.disk.names ≡ world.old.disk.names }
     ensures ran { IfOk result (λ run. RunsTo (stage_of world.old) (world_of world.old) plan.now
         (string_bytes run.text) run.refused (world_of world.new)) }
-    ensures leads { Leads world.old.scene.graph (setting world.old.scene) (world_of world.old)
+    ensures leads { LeadsTo world.old.scene.graph (setting world.old.scene) (world_of world.old)
         (world_of world.new) }
 {
     let mut text = String::new(alloc);

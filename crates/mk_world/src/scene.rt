@@ -1,4 +1,4 @@
-//! The graph and what is recorded, which no step changes.
+//! The graph and the recorded inputs, which no step changes.
 
 ghost use Rattle.std.specs.Prelude.{◌≡◌, ◌<◌, ◌≤◌, length, map, true, IfOk};
 ghost use Rattle.mk_foot.specs.Setting as recorded;
@@ -11,17 +11,17 @@ ghost use Rattle.mk_world.specs.Running.{is_node};
 use crate::footprints::{Footprint, footprints_of};
 use mk_foot::Setting;
 use mk_graph::Graph;
-use mk_lines::NameSet;
+use mk_lines::BorrowedNames;
 use std::alloc::{AllocError, Global};
 use std::marker::Model;
 
-/// The graph and what is recorded, with the numbers of nodes by their names, and the footprints by
-/// numbers.
+/// The graph and the recorded inputs, with a lookup of nodes by name, and the footprint of each
+/// node.
 #[derive(Drop)]
 pub struct Scene<'a> {
     graph: &'a Graph,
     recorded: &'a Setting,
-    numbers: NameSet<'a>,
+    numbers: BorrowedNames<'a>,
     footprints: Vec<Footprint<'a>>,
 }
 
@@ -41,13 +41,13 @@ impl<'a> Model for Scene<'a> {
         AreFootprints s.graph.now (state.setting_of s.recorded.now) s.footprints.items };
 }
 
-/// The names of the nodes of a graph, each at its number. The error is want of memory alone.
-fn numbers_of<'a>(alloc: Global, graph: &'a Graph) -> Result<NameSet<'a>, AllocError>
+/// The names of a graph's nodes, each at its number. The only error is out of memory.
+fn numbers_of<'a>(alloc: Global, graph: &'a Graph) -> Result<BorrowedNames<'a>, AllocError>
     ensures { IfOk result (λ names. names ≡
         map (λ (n : declared.Node). n.name) graph.entry.now.nodes) }
 {
     let nodes = graph.nodes();
-    let mut names = NameSet::with_capacity(alloc, nodes.len())?;
+    let mut names = BorrowedNames::with_capacity(alloc, nodes.len())?;
     for node in nodes {
         names.insert(node.name.as_str())?;
     }
@@ -55,7 +55,7 @@ fn numbers_of<'a>(alloc: Global, graph: &'a Graph) -> Result<NameSet<'a>, AllocE
 }
 
 impl<'a> Scene<'a> {
-    /// The scene of a graph and what is recorded. The error is want of memory alone.
+    /// The scene of a graph and recorded inputs. The only error is out of memory.
     pub fn new(
         alloc: Global,
         graph: &'a Graph,
@@ -79,7 +79,7 @@ impl<'a> Scene<'a> {
         self.graph
     }
 
-    /// Whether a name is a node's.
+    /// Whether a node has this name.
     pub fn has_node(&self, name: &str) -> bool
         ensures { result ≡ is_node self.now.graph name.now }
     {
@@ -93,7 +93,7 @@ impl<'a> Scene<'a> {
         self.recorded.is_editable(file)
     }
 
-    /// The number of a node by its name, or, where it is no node's, how many nodes there are.
+    /// The number of the node with this name, or the number of nodes if there is none.
     pub fn number(&self, name: &str) -> usize
         ensures { result ≡ number_of self.now.graph name.now }
     {

@@ -1,21 +1,21 @@
-//! Steps of builds, by names.
+//! Steps of builds that refer to nodes by name.
 
-/// One step of a build. Nodes and files are names, which are lent; one that the world hasn't is
-/// never ready or running, in no footprint and not editable.
+/// One step of a build. Nodes and files are given by borrowed names. An unknown name is allowed: it
+/// is never ready or running, in no footprint, and not editable.
 #[derive(Debug, Drop)]
 pub enum Step<'a> {
     /// A source is edited.
     Edit {
         /// The file.
         file: &'a str,
-        /// What it holds then.
+        /// The new content.
         content: u64,
     },
-    /// A make of some of the goals starts.
+    /// A make of some of the goals begins.
     Make {
         /// How many recipes may run at once.
         jobs: usize,
-        /// The goals that it names.
+        /// Its goals.
         goals: Vec<&'a str>,
     },
     /// A recipe begins.
@@ -23,20 +23,20 @@ pub enum Step<'a> {
         /// Its node.
         node: &'a str,
     },
-    /// A running recipe looks at a file.
+    /// A running recipe reads a file.
     Look {
         /// Its node.
         node: &'a str,
         /// The file.
         file: &'a str,
     },
-    /// A running recipe puts a content into a file.
+    /// A running recipe writes a content into a file.
     Put {
         /// Its node.
         node: &'a str,
         /// The file.
         file: &'a str,
-        /// What it holds then.
+        /// The new content.
         content: u64,
     },
     /// A running recipe ends.

@@ -1,4 +1,4 @@
-//! Tables: names, with what is known of each beside them.
+//! Tables: names, each with a value or without one.
 
 ghost use Rattle.std.specs.Prelude.{◌≡◌, length, true, Some, OnOk, IfOk, None};
 ghost use Rattle.std.specs.Bool.{OnTrue, OnFalse};
@@ -6,10 +6,10 @@ ghost use Rattle.mk_lines.specs.Names.{has_name};
 ghost use Rattle.mk_graph.specs.World.{changed};
 ghost use Rattle.mk_world.specs.Tables.{look};
 
-use mk_lines::NameSet;
+use mk_lines::BorrowedNames;
 
-/// What is known of a name.
-pub fn get<T: Copy>(names: &NameSet, values: &[Option<T>], name: &str) -> Option<T>
+/// The value of a name.
+pub fn get<T: Copy>(names: &BorrowedNames, values: &[Option<T>], name: &str) -> Option<T>
     requires { length values.now ≡ length names.now }
     ensures { result ≡ look names.now values.now name.now }
 {
@@ -19,8 +19,13 @@ pub fn get<T: Copy>(names: &NameSet, values: &[Option<T>], name: &str) -> Option
     }
 }
 
-/// Notes what is known of a name that is there. Answers whether it is.
-pub fn set<T: Copy>(names: &NameSet, values: &mut Vec<Option<T>>, name: &str, value: T) -> bool
+/// Sets the value of a name, if the name is in the table. Returns whether it is.
+pub fn set<T: Copy>(
+    names: &BorrowedNames,
+    values: &mut Vec<Option<T>>,
+    name: &str,
+    value: T,
+) -> bool
     requires { length values.old.items ≡ length names.now }
     ensures there { result ≡ has_name names.now name.now }
     ensures len { length values.new.items ≡ length values.old.items }

@@ -1,8 +1,8 @@
-//! Worlds, in which steps are taken.
+//! The world in which steps are taken.
 
 ghost use Rattle.std.specs.Prelude.{◌≡◌, ◌<◌, length, map, true, IfOk, None};
 ghost use Rattle.std.specs.String.{string_bytes};
-ghost use Rattle.mk_graph.specs.Schedule as model;
+ghost use Rattle.mk_graph.specs.Steps as model;
 ghost use Rattle.mk_graph.specs.Setting.{reads, writes};
 ghost use Rattle.mk_graph.specs.SerialMake.{rest_of_run, whole_run};
 ghost use Rattle.mk_world.specs.NamedStep.{step_view};
@@ -26,13 +26,12 @@ use crate::step::Step;
 use crate::{ending, finishing, passing, recipes};
 use mk_foot::Setting;
 use mk_graph::Graph;
-use mk_ready::Readiness;
+use mk_graph_ready::Readiness;
 use std::alloc::{AllocError, Global};
 use std::marker::Model;
 
-/// A world: what is there, how old it is, what recipes are known to give, and the make in progress,
-/// if one is. A contract sees its parts as lists, of which `specs.State` makes the world of
-/// mk_graph.
+/// A world: its files with their stamps, the known outcomes, and the make in progress, if there is
+/// one. Contracts see its parts as lists; `specs.State` maps them to the world of mk_graph.
 #[derive(Drop)]
 pub struct World<'a> {
     alloc: Global,
@@ -59,7 +58,7 @@ impl<'a> Model for World<'a> {
         IsKeptIn w.scene w.make w.readiness × ArePlaces w.scene w.disk.names w.places };
 }
 
-/// The world of a scene and a disk, with no make in progress. The error is want of memory alone.
+/// A world with this scene and disk, and no make in progress. The only error is out of memory.
 fn in_scene<'a>(alloc: Global, scene: Scene<'a>, disk: Disk<'a>) -> Result<World<'a>, AllocError>
     requires { AreNamesOf scene disk.names }
     ensures scene { IfOk result (λ w. w.scene ≡ scene.entry) }
@@ -79,10 +78,12 @@ fn in_scene<'a>(alloc: Global, scene: Scene<'a>, disk: Disk<'a>) -> Result<World
 }
 
 impl<'a> World<'a> {
-    /// The world of a graph and what is recorded, with no make in progress: its names are those of
-    /// nodes and sources, and those that recipes of the graph read or write. Just the given ones
-    /// are there, and in the order of their bytes the first has content and stamp 1, the next 2,
-    /// and so on. The error is want of memory alone.
+    /// The first world of a graph and recorded inputs, with no make in progress. The only error is
+    /// out of memory.
+    ///
+    /// Its names are those of nodes and sources, and of the files that recipes of the graph read or
+    /// write. Exactly the given files exist. In the order of their bytes the first has content and
+    /// stamp 1, the next 2, and so on.
     pub fn new(
         alloc: Global,
         graph: &'a Graph,
@@ -97,7 +98,7 @@ impl<'a> World<'a> {
         Ok(world)
     }
 
-    /// The files that are there, by the bytes of their names. The error is want of memory alone.
+    /// The files that exist, by the bytes of their names. The only error is out of memory.
     pub fn files(&self) -> Result<Vec<Listed>, AllocError>
         ensures listed { IfOk result (λ files. files.items ≡ listing self.now.disk) }
         ensures ascending { IfOk result (λ files. AreSorted (map (λ file. file.name) files.items)) }
@@ -105,17 +106,23 @@ impl<'a> World<'a> {
         self.disk.files(self.alloc)
     }
 
-    /// Takes a step, if it is allowed. Else the fault is that of the first test that fails, and
-    /// nothing changes. The tests and their order: an edit asks that no make is in progress (fault
-    /// 62), that the file is editable (70) and that a stamp is left (59). A make asks that none is
-    /// in progress (62), that it has a job (64), and that it names goals of the graph only, one at
-    /// least (77). All other steps ask first that a make is in progress (61). The begin of a recipe
-    /// asks that its node is ready (63) and that a job is free (64); a look that the recipe runs
-    /// (66) and reads the file (67); a put that it runs (66) and writes the file (67), and that a
-    /// stamp is left (59); an end that it runs (66), has looked at and put all (68), and has put
-    /// what is known of a run that saw the same (60); a pass that the node is ready (63) and has no
-    /// recipe or isn't out of date (65); a stop that nothing runs (68), and the end of a make that
-    /// its goals are done too (68).
+    /// Takes a step, if it is allowed. Otherwise returns the fault of the first test that fails, or
+    /// out of memory, and nothing changes. The tests, in order:
+    ///
+    /// - Edit: `MakeRuns` (62) if a make is in progress; `NotEditable` (70); `ClockSpent` (59) if
+    ///   no stamp is left.
+    /// - Make: `MakeRuns` (62) if a make is in progress; `NoJobFree` (64) if it has no jobs;
+    ///   `NotAGoal` (77) if it has no goals or one that isn't a goal of the graph.
+    /// - Every other step: `NoMake` (61) if no make is in progress.
+    /// - Begin: `NotReady` (63) if the node isn't ready or has no recipe; `NoJobFree` (64).
+    /// - Look: `NotRunning` (66); `NotInFootprint` (67) if the recipe doesn't read the file.
+    /// - Put: `NotRunning` (66); `NotInFootprint` (67) if the recipe doesn't write the file;
+    ///   `ClockSpent` (59).
+    /// - End: `NotRunning` (66); `NotAllDone` (68) if it hasn't read and written all its files;
+    ///   `OtherOutcome` (60) if it has read the same before and wrote something else.
+    /// - Pass: `NotReady` (63); `OutOfDate` (65) if the node has a recipe that must run.
+    /// - Stop: `NotAllDone` (68) if a recipe runs.
+    /// - EndMake: `NotAllDone` (68) if a goal isn't done or a recipe runs.
     pub fn step(&mut self, step: Step<'_>) -> Result<(), StepFault>
         ensures { Answers self.old self.new
             (step_of self.old.scene.graph (step_view step.entry)) result }
@@ -123,8 +130,8 @@ impl<'a> World<'a> {
         self.ask(&step)
     }
 
-    /// Takes a step that is allowed, and leaves it to the caller. The error is want of memory alone,
-    /// and nothing changes then.
+    /// Takes a step that the caller guarantees to be allowed. The only error is out of memory,
+    /// which changes nothing.
     pub fn take_allowed(&mut self, step: &Step<'_>) -> Result<(), AllocError>
         requires { MayTake self.old (step_of self.old.scene.graph (step_view step.now)) }
         ensures { TakesAllowed self.old self.new
@@ -137,9 +144,9 @@ impl<'a> World<'a> {
         }
     }
 
-    /// Runs the recipe of a node whole where each step of the run is allowed, and leaves that to the
-    /// caller: it begins, looks at all that it reads, puts these contents into what it writes, and
-    /// ends. The error is want of memory alone, behind some of the steps.
+    /// Runs the recipe of a node whole: it begins, reads all its files, writes these contents into
+    /// those that it writes, and ends. The caller guarantees that each step is allowed. The only
+    /// error is out of memory; the steps taken before it remain.
     pub fn run_allowed(&mut self, number: usize, contents: &[u64]) -> Result<(), AllocError>
         requires node { number < length self.old.scene.graph.nodes }
         requires allowed { MayTakeAll self.old (whole_run self.old.scene.graph
@@ -158,7 +165,7 @@ impl<'a> World<'a> {
         }
     }
 
-    /// Takes a step, if it is allowed, as `step` does.
+    /// Takes a step as `step` does, without consuming it.
     fn ask(&mut self, step: &Step<'_>) -> Result<(), StepFault>
         ensures { Answers self.old self.new
             (step_of self.old.scene.graph (step_view step.now)) result }
@@ -180,15 +187,15 @@ impl<'a> World<'a> {
         }
     }
 
-    /// The last stamp that was given; where no step was taken, how many files are given.
+    /// The last stamp that was given out. Before the first step it is the number of given files.
     pub fn clock(&self) -> u64
         ensures { result ≡ self.now.disk.clock }
     {
         self.disk.clock()
     }
 
-    /// Time runs on to this stamp, if it wasn't there yet: what is written next has a later one. No
-    /// file changes.
+    /// Advances the clock to this stamp, unless it is already there or later. The next write has a
+    /// later stamp. No file changes.
     pub fn age(&mut self, stamp: u64)
         ensures { self.new ≡ record {
           scene = self.old.scene;
@@ -199,8 +206,8 @@ impl<'a> World<'a> {
         self.disk.age(stamp);
     }
 
-    /// What a recipe is finished with where a plan leaves it open: what is known of a run that sees
-    /// what is there, else the stamps that follow one another. The error is want of memory alone.
+    /// What `finish` writes for a recipe: the known outcome for what its reads contain now, or, if
+    /// none is known, the new stamps. The only error is out of memory.
     pub fn contents_for(&self, number: usize) -> Result<Vec<u64>, AllocError>
         requires { number < length self.now.scene.graph.nodes }
         ensures { IfOk result (λ contents. contents.items ≡
@@ -210,7 +217,7 @@ impl<'a> World<'a> {
         finishing::contents_of(self.alloc, &self.scene, &self.places, &self.disk, number)
     }
 
-    /// The files that the recipe of a node reads, and those that it writes. It takes no memory.
+    /// The files that the recipe of a node reads, and those that it writes. It allocates nothing.
     pub fn files_of(&self, number: usize) -> (&'a [String], &'a [String])
         requires { number < length self.now.scene.graph.nodes }
         ensures reads { map string_bytes result.0.now ≡
@@ -222,7 +229,7 @@ impl<'a> World<'a> {
         (footprint.reads.as_slice(), footprint.writes.as_slice())
     }
 
-    /// A source is edited.
+    /// Edits a source. Errors are those of `step` for this step.
     pub(crate) fn edit(&mut self, file: &str, content: u64) -> Result<(), StepFault>
         ensures { Answers self.old self.new (model.Edit file.now content) result }
     {
@@ -239,7 +246,7 @@ impl<'a> World<'a> {
         Ok(())
     }
 
-    /// A make starts.
+    /// Begins a make. Errors are those of `step` for this step.
     pub(crate) fn start(&mut self, jobs: usize, goals: &[&str]) -> Result<(), StepFault>
         ensures { Answers self.old self.new (model.Make jobs
             (map (number_of self.old.scene.graph) (map (λ goal. goal.now) goals.now))) result }
@@ -260,7 +267,7 @@ impl<'a> World<'a> {
         Ok(())
     }
 
-    /// A recipe begins.
+    /// Begins a recipe. Errors are those of `step` for this step.
     pub(crate) fn begin(&mut self, node: &str) -> Result<(), StepFault>
         ensures { Answers self.old self.new
             (model.Begin (number_of self.old.scene.graph node.now)) result }
@@ -269,7 +276,7 @@ impl<'a> World<'a> {
         self.begin_number(number)
     }
 
-    /// The recipe of the node with this number begins.
+    /// Begins the recipe of the node with this number.
     fn begin_number(&mut self, number: usize) -> Result<(), StepFault>
         ensures { Answers self.old self.new (model.Begin number) result }
     {
@@ -279,7 +286,7 @@ impl<'a> World<'a> {
         recipes::begin(self.alloc, &self.scene, making, &self.readiness, number)
     }
 
-    /// A running recipe looks at a file.
+    /// Lets a running recipe read a file. Errors are those of `step` for this step.
     pub(crate) fn look(&mut self, node: &str, file: &str) -> Result<(), StepFault>
         ensures { Answers self.old self.new
             (model.Look (number_of self.old.scene.graph node.now) file.now) result }
@@ -291,7 +298,7 @@ impl<'a> World<'a> {
         recipes::look(&self.scene, &self.disk, making, number, file)
     }
 
-    /// A running recipe puts a content into a file.
+    /// Lets a running recipe write a content into a file. Errors are those of `step` for this step.
     pub(crate) fn put(&mut self, node: &str, file: &str, content: u64) -> Result<(), StepFault>
         ensures { Answers self.old self.new
             (model.Put (number_of self.old.scene.graph node.now) file.now content) result }
@@ -303,7 +310,7 @@ impl<'a> World<'a> {
         recipes::put(&self.scene, &mut self.disk, making, number, file, content)
     }
 
-    /// A running recipe ends.
+    /// Ends a running recipe. Errors are those of `step` for this step.
     pub(crate) fn end(&mut self, node: &str) -> Result<(), StepFault>
         ensures { Answers self.old self.new
             (model.End (number_of self.old.scene.graph node.now)) result }
@@ -313,11 +320,11 @@ impl<'a> World<'a> {
         };
         let number = self.scene.number(node);
         ending::end(self.alloc, &self.scene, &mut self.disk, making, number)?;
-        self.readiness.note_done(number);
+        self.readiness.mark_done(number);
         Ok(())
     }
 
-    /// A node is passed.
+    /// Passes a node. Errors are those of `step` for this step.
     pub(crate) fn pass(&mut self, node: &str) -> Result<(), StepFault>
         ensures { Answers self.old self.new
             (model.Pass (number_of self.old.scene.graph node.now)) result }
@@ -327,11 +334,11 @@ impl<'a> World<'a> {
         };
         let number = self.scene.number(node);
         recipes::pass(&self.scene, &self.disk, making, &self.readiness, number)?;
-        self.readiness.note_done(number);
+        self.readiness.mark_done(number);
         Ok(())
     }
 
-    /// The make is given up.
+    /// Gives up the make. Errors are those of `step` for this step.
     pub(crate) fn stop(&mut self) -> Result<(), StepFault>
         ensures { Answers self.old self.new model.Stop result }
     {
@@ -345,7 +352,7 @@ impl<'a> World<'a> {
         Ok(())
     }
 
-    /// The make ends.
+    /// Ends the make. Errors are those of `step` for this step.
     pub(crate) fn end_make(&mut self) -> Result<(), StepFault>
         ensures { Answers self.old self.new model.EndMake result }
     {
@@ -359,7 +366,7 @@ impl<'a> World<'a> {
         Ok(())
     }
 
-    /// A make of all goals starts.
+    /// Begins a make of all goals. Errors are those of `step` for this step.
     pub(crate) fn start_all(&mut self, jobs: usize) -> Result<(), StepFault>
         ensures { Answers self.old self.new
             (model.Make jobs self.old.scene.graph.goals) result }
@@ -381,7 +388,8 @@ impl<'a> World<'a> {
         Ok(())
     }
 
-    /// A running recipe looks at all that it reads, puts all that it writes, and ends.
+    /// Finishes a running recipe: it reads all its files, writes all its files, and ends. An error
+    /// is that of the first step that is refused; the steps before it remain.
     pub(crate) fn finish(&mut self, node: &str) -> Result<(), StepFault>
         requires { is_node self.old.scene.graph node.now ≡ true }
         ensures { AnswersInTurn self.old self.new (finish_steps self.old node.now) result }
@@ -398,12 +406,11 @@ impl<'a> World<'a> {
             making,
             number,
         )?;
-        self.readiness.note_done(number);
+        self.readiness.mark_done(number);
         Ok(())
     }
 
-    /// A running recipe looks at all that it reads, puts these contents into what it writes, and
-    /// ends.
+    /// Finishes a running recipe, which writes these contents.
     fn finish_with(&mut self, number: usize, contents: &[u64]) -> Result<(), StepFault>
         requires { number < length self.old.scene.graph.nodes }
         ensures { AnswersInTurn self.old self.new (rest_of_run self.old.scene.graph
@@ -421,12 +428,11 @@ impl<'a> World<'a> {
             number,
             contents,
         )?;
-        self.readiness.note_done(number);
+        self.readiness.mark_done(number);
         Ok(())
     }
 
-    /// A recipe begins, looks at all that it reads, puts these contents into what it writes, and
-    /// ends.
+    /// Runs a recipe whole, which writes these contents.
     fn run_with(&mut self, number: usize, contents: &[u64]) -> Result<(), StepFault>
         requires { number < length self.old.scene.graph.nodes }
         ensures { AnswersInTurn self.old self.new (whole_run self.old.scene.graph
@@ -436,7 +442,8 @@ impl<'a> World<'a> {
         self.finish_with(number, contents)
     }
 
-    /// All ready nodes without recipe are passed, if a make is in progress.
+    /// Passes all ready nodes without a recipe, if a make is in progress. The only error is out of
+    /// memory; the nodes passed before it stay done.
     pub(crate) fn pass_idle(&mut self) -> Result<(), AllocError>
         ensures { PassesIdle self.old self.new result }
     {
@@ -446,21 +453,21 @@ impl<'a> World<'a> {
         passing::pass_idle(&self.scene, making, &mut self.readiness)
     }
 
-    /// Whether a name is a node's.
+    /// Whether a node has this name.
     pub(crate) fn has_node(&self, name: &str) -> bool
         ensures { result ≡ is_node self.now.scene.graph name.now }
     {
         self.scene.has_node(name)
     }
 
-    /// Whether a name is one of the world.
+    /// Whether the name belongs to the world.
     pub(crate) fn has_file(&self, name: &str) -> bool
         ensures { result ≡ has_name self.now.disk.names name.now }
     {
         self.disk.has(name)
     }
 
-    /// The stamp that comes next, or the last one where none comes.
+    /// The next stamp, or the last one if there is no further stamp.
     pub(crate) fn new_stamp(&self) -> u64
         ensures { result ≡ new_stamp self.now.disk.clock }
     {

@@ -1,13 +1,13 @@
-//! The makefile checker: reads the words of its command line, and answers them.
+//! The program `mkcheck`: runs the command that its command line gives.
 #![tactic(auto)]
 
-use mk_host::{Disk, conclude, keep_pages};
-use mk_run::ran;
+use mkcheck_host::{Disk, conclude, keep_pages};
+use mkcheck_run::run_arguments;
 use std::env::Env;
 use std::process::ExitCode;
 use std::{env, io};
 
-// The words behind the program's name.
+// The words of the command line after the program's name.
 fn words<R: Env + AllocGlobal>(rt: &R) -> io::Result<Vec<String>> {
     let mut args = env::args(rt)?;
     let _ = args.next();
@@ -16,6 +16,6 @@ fn words<R: Env + AllocGlobal>(rt: &R) -> io::Result<Vec<String>> {
 
 fn main(rt: HostRuntime) -> ExitCode {
     keep_pages(rt.alloc());
-    let ran = ran(rt.alloc(), &mut Disk::new(&rt), words(&rt));
-    conclude(&mut rt.stdout(), &mut rt.stderr(), &ran)
+    let run_arguments = run_arguments(rt.alloc(), &mut Disk::new(&rt), words(&rt));
+    conclude(&mut rt.stdout(), &mut rt.stderr(), &run_arguments)
 }

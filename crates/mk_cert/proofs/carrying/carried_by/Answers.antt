@@ -5,7 +5,7 @@ use Rattle.std.proofs.lemmas.List.{take_more}
 use Rattle.mk_graph.specs.Graph.{Graph, prerequisites}
 use Rattle.mk_graph.specs.Membership.{Has}
 use Rattle.mk_cert.specs.Subject.{name_of}
-use Rattle.mk_cert.specs.Entry.{writers_of}
+use Rattle.mk_cert.specs.NodeRow.{writers_of}
 use Rattle.mk_cert.proofs.Rows.{at}
 use Rattle.mk_cert.proofs.carrying.carried_by.Goals as goal
 

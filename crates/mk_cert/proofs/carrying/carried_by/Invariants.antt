@@ -1,7 +1,7 @@
 use Rattle.std.proofs.Common.{◌≡◌, take}
 use Rattle.std.specs.List.{flat_map}
 use Rattle.mk_cert.specs.Subject.{name_of}
-use Rattle.mk_cert.specs.Entry.{writers_of}
+use Rattle.mk_cert.specs.NodeRow.{writers_of}
 use Rattle.mk_cert.proofs.carrying.carried_by.Given as goal
 
 -- the prerequisites so far

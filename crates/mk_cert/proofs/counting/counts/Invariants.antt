@@ -1,14 +1,14 @@
 use Rattle.std.proofs.Common.{◌≡◌, ◌*◌, ◌^◌, ◌≤◌, take, length}
 use Rattle.std.specs.Prelude.{filter, sum_by}
-use Rattle.mk_cert.specs.Entry.{Entry}
+use Rattle.mk_cert.specs.NodeRow.{NodeRow}
 use Rattle.mk_cert.specs.Subject.{reads_of}
 use Rattle.mk_cert.proofs.counting.counts.Given as goal
 
 -- the entries so far
 abbrev pub invariant-loop-entry : goal.invariant-loop-entry
 invariant-loop-entry l = record {
-  recipes : l.recipes ≡ length (filter (λ (e : Entry). e.node.recipe) (take l.entry-index l.entry-items));
+  recipes : l.recipes ≡ length (filter (λ (e : NodeRow). e.node.recipe) (take l.entry-index l.entry-items));
   few : l.recipes ≤ l.entry-index;
-  reads : l.reads ≡ sum_by (λ (e : Entry). length (reads_of l.subject e.number)) (take l.entry-index l.entry-items);
+  reads : l.reads ≡ sum_by (λ (e : NodeRow). length (reads_of l.subject e.number)) (take l.entry-index l.entry-items);
   small : l.reads ≤ l.entry-index * 2 ^ 64;
 }

@@ -7,7 +7,7 @@ use Rattle.mk_graph.specs.Graph.{IsGraph}
 use Rattle.mk_graph.specs.Laws.{SerialReachesEachOnce}
 use Rattle.mk_graph.specs.Membership.{Has, has}
 use Rattle.mk_graph.specs.Serial.{serial_order}
-use Rattle.mk_cert.specs.Entry.{Entry, entry_writes, writers_of}
+use Rattle.mk_cert.specs.NodeRow.{NodeRow, entry_writes, writers_of}
 use Rattle.mk_cert.specs.Subject.{Subject, writes_of}
 use Rattle.mk_cert.specs.Target.{Target}
 use Rattle.mk_cert.proofs.Decided.{has_decides}
@@ -27,7 +27,7 @@ returns-then-writers-le-FEW-clause-own c =
     let f = c.args.file.now.file in
     let ns = c.writers-writers.result.now in
     let n = c.entry.inside.number in
-    let number : n ≡ t = ap (λ (e : Entry). e.number) c.entry.view_is in
+    let number : n ≡ t = ap (λ (e : NodeRow). e.number) c.entry.view_is in
     let writers : ns ≡ writers_of x f = c.writers-writers.ensures ∙ ap (λ (k : Target). k.known.writers) c.requires.file in
     let other = not_written x t f ns n c.graph-graph.ensures.graph c.serial_reaches_each_once.ensures writers number in (
       λ yes. own_there x t f ns n writers number (sym c.has_number.ensures ∙ yes),

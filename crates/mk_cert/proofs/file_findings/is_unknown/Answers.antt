@@ -2,8 +2,8 @@
 use Rattle.std.proofs.Common.{◌≡◌, ◌∙◌, Bool, true, false, not, ap, sym}
 use Rattle.std.specs.Prelude.{◌↔◌}
 use Rattle.mk_foot.specs.Setting.{is_given}
-use Rattle.mk_cert.specs.Entry.{writers_of}
-use Rattle.mk_cert.specs.Known.{Known}
+use Rattle.mk_cert.specs.NodeRow.{writers_of}
+use Rattle.mk_cert.specs.FileInfo.{FileInfo}
 use Rattle.mk_cert.specs.Target.{Target}
 use Rattle.mk_cert.proofs.FileDecided.{written_decides}
 use Rattle.mk_cert.proofs.file_findings.is_unknown.Goals as goal
@@ -18,7 +18,7 @@ returns-then-not-known c =
     let x = c.args.subject.now in
     let f = c.args.file.now.file in
     let known = c.known.view_is ∙ (ap (λ (t : Target). t.known) c.file.view_is ∙ ap (λ (t : Target). t.known) c.requires) in
-    let given : is_given x.setting f ≡ false = sym (ap (λ (k : Known). k.given) known) ∙ c.if-not-known.true in
+    let given : is_given x.setting f ≡ false = sym (ap (λ (k : FileInfo). k.given) known) ∙ c.if-not-known.true in
     let writers : c.writers.result.now ≡ writers_of x f = c.writers.ensures ∙ ap (λ (t : Target). t.known.writers) c.requires in
     let decides = contrary c.is_empty.result (written_decides x f c.writers.result.now c.is_empty.result c.graph-graph.ensures.graph c.serial_reaches_each_once.ensures writers c.is_empty.ensures) in
     ((λ t. (given, λ o wrote. decides.0 t (o, wrote))), (λ h. decides.1 (λ w. h.1 w.0 w.1)))

@@ -1,7 +1,7 @@
 use Rattle.std.proofs.Common.{◌≡◌, ◌<◌, ◌≤◌, ◌∷◌, [], ℕ, List, ap, sym, subst, length, map, drop, arith}
 use Rattle.mk_cert.specs.Subject.{writes_of}
 use Rattle.mk_cert.specs.Candidates.{given_written}
-use Rattle.mk_cert.specs.Entry.{Entry}
+use Rattle.mk_cert.specs.NodeRow.{NodeRow}
 use Rattle.mk_cert.specs.Listed.{Adds}
 use Rattle.mk_cert.proofs.Adding.{drop_past, leads_map, leads_done}
 use Rattle.mk_cert.proofs.Targets.{by_name, is_written, written_at}
@@ -15,7 +15,7 @@ note_taken-requires c =
     let x = c.args.subject.now in
     let e = c.args.entry.now in
     let i = c.loop-place.place in
-    let number : c.entry.inside.number ≡ e.number = ap (λ (k : Entry). k.number) c.entry.view_is in
+    let number : c.entry.inside.number ≡ e.number = ap (λ (k : NodeRow). k.number) c.entry.view_is in
     let low : i < length (writes_of x e.number) = omega (arith, c.loop-place-test.true, c.count_of_written-place-end.ensures, ap (λ n. length (writes_of x n)) number) in
     record {
       entry = c.requires;
@@ -28,7 +28,7 @@ loop-place-preserved c =
     let x = c.args.subject.now in
     let e = c.args.entry.now in
     let i = c.loop-place.place in
-    let number : c.entry.inside.number ≡ e.number = ap (λ (k : Entry). k.number) c.entry.view_is in
+    let number : c.entry.inside.number ≡ e.number = ap (λ (k : NodeRow). k.number) c.entry.view_is in
     let low : i < length (writes_of x e.number) = omega (arith, c.loop-place-test.true, c.count_of_written-place-end.ensures, ap (λ n. length (writes_of x n)) number) in
     let is = written_at x c.written-file.result c.entry.inside.number e.number i number c.written-file.ensures in
     leads_map x (λ f. given_written e.number f) (writes_of x e.number) i [] _ c.loop-place.found.items c.note_taken.new.found.items c.args.found.now.items low c.loop-place.invariant
@@ -40,6 +40,6 @@ returns c =
     let e = c.args.entry.now in
     let i = c.loop-place.place in
     let files = writes_of x e.number in
-    let number : c.entry.inside.number ≡ e.number = ap (λ (k : Entry). k.number) c.entry.view_is in
+    let number : c.entry.inside.number ≡ e.number = ap (λ (k : NodeRow). k.number) c.entry.view_is in
     let past : length files ≤ i = omega (arith, c.loop-place-test.false, c.count_of_written-place-end.ensures, ap (λ n. length (writes_of x n)) number) in
     leads_done x (map (λ f. given_written e.number f) (drop i files)) _ c.loop-place.found.items c.args.found.now.items (ap (map (λ f. given_written e.number f)) (drop_past files i past)) c.loop-place.invariant

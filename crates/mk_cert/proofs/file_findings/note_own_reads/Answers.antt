@@ -3,8 +3,8 @@ use Rattle.std.proofs.Common.{◌≡◌, ◌∷◌, [], ℕ, List, ap, subst, ma
 use Rattle.std.specs.Prelude.{not}
 use Rattle.mk_cert.specs.Subject.{reads_of}
 use Rattle.mk_cert.specs.Candidates.{own_read}
-use Rattle.mk_cert.specs.Entry.{Entry}
-use Rattle.mk_cert.specs.Known.{known_of}
+use Rattle.mk_cert.specs.NodeRow.{NodeRow}
+use Rattle.mk_cert.specs.FileInfo.{known_of}
 use Rattle.mk_cert.specs.Listed.{Adds}
 use Rattle.mk_cert.specs.Settled.{is_settled}
 use Rattle.mk_cert.specs.Target.{unsettled_of}
@@ -23,7 +23,7 @@ note_own-requires-clause-written c = c.loop-place.invariant.written
 
 pub note_own-requires-clause-read : goal.note_own-requires-clause-read
 note_own-requires-clause-read c =
-    let number : c.entry.inside.number ≡ c.args.entry.now.number = ap (λ (e : Entry). e.number) c.entry.view_is in
+    let number : c.entry.inside.number ≡ c.args.entry.now.number = ap (λ (e : NodeRow). e.number) c.entry.view_is in
     (open_at c.args.subject.now c.entry.inside.number c.args.entry.now.number c.loop-place.place c.count_of_unsettled-place-end.result c.unsettled-file.result number c.count_of_unsettled-place-end.ensures (omega arith) c.unsettled-file.ensures).read
 
 pub loop-place-preserved : goal.loop-place-preserved
@@ -31,7 +31,7 @@ loop-place-preserved c =
     let x = c.args.subject.now in
     let e = c.args.entry.now in
     let i = c.loop-place.place in
-    let number : c.entry.inside.number ≡ e.number = ap (λ (k : Entry). k.number) c.entry.view_is in
+    let number : c.entry.inside.number ≡ e.number = ap (λ (k : NodeRow). k.number) c.entry.view_is in
     let at = open_at x c.entry.inside.number e.number i c.count_of_unsettled-place-end.result c.unsettled-file.result number c.count_of_unsettled-place-end.ensures (omega arith) c.unsettled-file.ensures in
     let candidate = λ (f : List ℕ). own_read e.number f in
     record {
@@ -45,7 +45,7 @@ returns c =
     let x = c.args.subject.now in
     let e = c.args.entry.now in
     let i = c.loop-place.place in
-    let number : c.entry.inside.number ≡ e.number = ap (λ (k : Entry). k.number) c.entry.view_is in
+    let number : c.entry.inside.number ≡ e.number = ap (λ (k : NodeRow). k.number) c.entry.view_is in
     let left = unsettled_of x e.number in
     let none = none_left x c.entry.inside.number e.number i c.count_of_unsettled-place-end.result number c.count_of_unsettled-place-end.ensures (omega arith) in
     let candidate = λ (f : List ℕ). own_read e.number f in

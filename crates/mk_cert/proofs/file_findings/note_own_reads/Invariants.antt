@@ -1,5 +1,5 @@
 use Rattle.std.proofs.Common.{◌≡◌, IfSome, map, drop}
-use Rattle.mk_cert.specs.Entry.{entry_writes}
+use Rattle.mk_cert.specs.NodeRow.{entry_writes}
 use Rattle.mk_cert.specs.Candidates.{own_read}
 use Rattle.mk_cert.specs.Target.{unsettled_of}
 use Rattle.mk_cert.proofs.Adding.{Leads}

@@ -3,7 +3,7 @@ use Rattle.mk_cert.specs.declared.finding.Finding.TheVariants.{GivenWritten}
 use Rattle.mk_cert.specs.Subject.{name_of}
 use Rattle.mk_cert.specs.Candidates.{given_written}
 use Rattle.mk_cert.specs.FileTests.{is_taken}
-use Rattle.mk_cert.specs.Known.{Known}
+use Rattle.mk_cert.specs.FileInfo.{FileInfo}
 use Rattle.mk_cert.specs.Target.{Target}
 use Rattle.mk_cert.proofs.Adding.{adds_one, adds_none}
 use Rattle.mk_cert.proofs.Decided.{name_is}
@@ -15,7 +15,7 @@ returns-then-not-known c =
     let x = c.args.subject.now in
     let n = c.args.entry.now.number in
     let f = c.args.file.now.file in
-    let taken : c.known.inside.taken ≡ is_taken x f = ap (λ (k : Known). k.taken) c.known.view_is ∙ ap (λ (t : Target). t.known.taken) (c.file.view_is ∙ c.requires.file) in
+    let taken : c.known.inside.taken ≡ is_taken x f = ap (λ (k : FileInfo). k.taken) c.known.view_is ∙ ap (λ (t : Target). t.known.taken) (c.file.view_is ∙ c.requires.file) in
     adds_none x (given_written n f) c.args.found.now.items (not_taken x n f (sym taken ∙ c.if-not-known.true))
 
 pub returns : goal.returns
@@ -24,7 +24,7 @@ returns c =
     let e = c.args.entry.now in
     let f = c.args.file.now.file in
     let old = c.args.found.now.items in
-    let taken : c.known.inside.taken ≡ is_taken x f = ap (λ (k : Known). k.taken) c.known.view_is ∙ ap (λ (t : Target). t.known.taken) (c.file.view_is ∙ c.requires.file) in
+    let taken : c.known.inside.taken ≡ is_taken x f = ap (λ (k : FileInfo). k.taken) c.known.view_is ∙ ap (λ (t : Target). t.known.taken) (c.file.view_is ∙ c.requires.file) in
     let recipe = ap (λ (k : List ℕ). old ++ GivenWritten k c.in_ok-file.file ∷ []) (name_is x e c.in_ok-recipe.recipe c.requires.entry c.in_ok-recipe.ensures) in
     adds_one x (given_written e.number f) old c.push.new.self.items (taken_there x e.number f c.requires.written (sym taken ∙ c.if-not-known.false))
     (c.in_ok-push.ensures.items ∙ (recipe ∙ ap (λ (k : List ℕ). old ++ GivenWritten (name_of x e.number) k ∷ []) c.in_ok-file.ensures))

@@ -3,8 +3,8 @@ use Rattle.std.proofs.Common.{◌≡◌, ◌∷◌, [], ℕ, List, ap, subst, ma
 use Rattle.std.specs.Prelude.{not}
 use Rattle.mk_cert.specs.Subject.{reads_of}
 use Rattle.mk_cert.specs.Candidates.{unknown_read}
-use Rattle.mk_cert.specs.Entry.{Entry}
-use Rattle.mk_cert.specs.Known.{known_of}
+use Rattle.mk_cert.specs.NodeRow.{NodeRow}
+use Rattle.mk_cert.specs.FileInfo.{known_of}
 use Rattle.mk_cert.specs.Listed.{Adds}
 use Rattle.mk_cert.specs.Settled.{is_settled}
 use Rattle.mk_cert.specs.Target.{unsettled_of}
@@ -17,7 +17,7 @@ loop-place-init c = λ last h. h
 
 pub note_unknown-requires-clause-read : goal.note_unknown-requires-clause-read
 note_unknown-requires-clause-read c =
-    let number : c.entry.inside.number ≡ c.args.entry.now.number = ap (λ (e : Entry). e.number) c.entry.view_is in
+    let number : c.entry.inside.number ≡ c.args.entry.now.number = ap (λ (e : NodeRow). e.number) c.entry.view_is in
     (open_at c.args.subject.now c.entry.inside.number c.args.entry.now.number c.loop-place.place c.count_of_unsettled-place-end.result c.unsettled-file.result number c.count_of_unsettled-place-end.ensures (omega arith) c.unsettled-file.ensures).read
 
 pub loop-place-preserved : goal.loop-place-preserved
@@ -25,7 +25,7 @@ loop-place-preserved c =
     let x = c.args.subject.now in
     let e = c.args.entry.now in
     let i = c.loop-place.place in
-    let number : c.entry.inside.number ≡ e.number = ap (λ (k : Entry). k.number) c.entry.view_is in
+    let number : c.entry.inside.number ≡ e.number = ap (λ (k : NodeRow). k.number) c.entry.view_is in
     let at = open_at x c.entry.inside.number e.number i c.count_of_unsettled-place-end.result c.unsettled-file.result number c.count_of_unsettled-place-end.ensures (omega arith) c.unsettled-file.ensures in
     let candidate = λ (f : List ℕ). unknown_read e.number f in
     leads_map x candidate (unsettled_of x e.number) i [] _ c.loop-place.found.items c.note_unknown.new.found.items c.args.found.now.items at.low c.loop-place.invariant
@@ -36,7 +36,7 @@ returns c =
     let x = c.args.subject.now in
     let e = c.args.entry.now in
     let i = c.loop-place.place in
-    let number : c.entry.inside.number ≡ e.number = ap (λ (k : Entry). k.number) c.entry.view_is in
+    let number : c.entry.inside.number ≡ e.number = ap (λ (k : NodeRow). k.number) c.entry.view_is in
     let left = unsettled_of x e.number in
     let none = none_left x c.entry.inside.number e.number i c.count_of_unsettled-place-end.result number c.count_of_unsettled-place-end.ensures (omega arith) in
     let candidate = λ (f : List ℕ). unknown_read e.number f in

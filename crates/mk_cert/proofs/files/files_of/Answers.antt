@@ -7,7 +7,7 @@ use Rattle.mk_graph.specs.Graph.{Graph}
 use Rattle.mk_graph.specs.Setting as build
 use Rattle.mk_foot.specs.Setting as foot
 use Rattle.mk_read.specs.Reading.{Makefile}
-use Rattle.mk_cert.specs.Known.{AreKnown, Known, StandAt, known_by}
+use Rattle.mk_cert.specs.FileInfo.{AreKnown, FileInfo, StandAt, known_by}
 use Rattle.mk_cert.specs.Subject.{footprints}
 use Rattle.mk_cert.specs.Writers.{numbers_at}
 use Rattle.mk_cert.proofs.KnownFiles.{keys_more, spelled}
@@ -20,14 +20,17 @@ grown_rows : (keys rest new : List (Bor (List ℕ))) (files : ℕ → List (List
 grown_rows keys rest new files rows grown held t low = keys_more keys rest new (get_or rows t []) (files t) grown (held t low)
 
 -- a row more
-one_more : (names : List (List ℕ)) (files : ℕ → List (List ℕ)) (rows new : List (List ℕ)) (row : List ℕ) (listed : List (List ℕ)) (n : ℕ) → new ≡ rows ++ row ∷ [] → length rows ≡ n → listed ≡ files n → StandAt names row listed → RowsHold (λ (t : ℕ) (row : List ℕ). StandAt names row (files t)) rows [] → RowsHold (λ (t : ℕ) (row : List ℕ). StandAt names row (files t)) new []
+one_more : (names : List (List ℕ)) (files : ℕ → List (List ℕ)) (rows new : List (List ℕ)) (row : List ℕ)
+    (listed : List (List ℕ)) (n : ℕ) → new ≡ rows ++ row ∷ [] → length rows ≡ n → listed ≡ files n
+    → StandAt names row listed → RowsHold (λ (t : ℕ) (row : List ℕ). StandAt names row (files t)) rows []
+    → RowsHold (λ (t : ℕ) (row : List ℕ). StandAt names row (files t)) new []
 one_more names files rows new row listed n pushed many same here held = rows_push (λ (t : ℕ) (places : List ℕ). StandAt names places (files t)) rows new row [] n pushed (sym many) held (subst (λ (fs : List (List ℕ)). StandAt names row fs) same here)
 
 longer : (rows new : List (List ℕ)) (row : List ℕ) (n m : ℕ) → new ≡ rows ++ row ∷ [] → length rows ≡ n → m ≡ n + 1 → length new ≡ m
 longer rows new row n m pushed many next = omega (arith, ap (λ (l : List (List ℕ)). length l) pushed, length-append rows (row ∷ []))
 
 -- what is known by a setting is known by one that is the same
-turned : (makefile : Makefile) (writers : List ℕ → List ℕ) (names : List (List ℕ)) (s other : foot.Setting) (keys : List (Bor (List ℕ))) (known : List Known) → s ≡ other → AreKnown (known_by makefile s writers names) keys known → AreKnown (known_by makefile other writers names) keys known
+turned : (makefile : Makefile) (writers : List ℕ → List ℕ) (names : List (List ℕ)) (s other : foot.Setting) (keys : List (Bor (List ℕ))) (known : List FileInfo) → s ≡ other → AreKnown (known_by makefile s writers names) keys known → AreKnown (known_by makefile other writers names) keys known
 turned makefile writers names s other keys known same h =
     subst (λ (k : foot.Setting). AreKnown (known_by makefile k writers names) keys known) same h
 
@@ -77,7 +80,7 @@ returns c =
     let s = footprints c.args.records.now.setting in
     let inv = c.loop-number.invariant in
     let keys = c.loop-number.files.keys in
-    let by : List ℕ → Known = known_by c.args.table.now c.args.records.now.setting (numbers_at c.args.writers.now) c.args.names.now in
+    let by : List ℕ → FileInfo = known_by c.args.table.now c.args.records.now.setting (numbers_at c.args.writers.now) c.args.names.now in
     let many : length g.nodes ≤ c.loop-number.number = omega (arith, c.loop-number-test.false, ap (λ (l : List Node). length l) c.nodes-count.ensures.value, ap (λ (h : Graph). length h.nodes) c.graph-graph.ensures) in
     record {
       known_held = inv.all ∙ spelled_map by keys;
@@ -86,6 +89,6 @@ returns c =
       reads_held = rows_all (λ (t : ℕ) (places : List ℕ). StandAt (spelled keys) places (build.reads g s t)) c.loop-number.reads [] inv.read (λ t high. subst (λ (fs : List (List ℕ)). StandAt (spelled keys) [] fs) (sym (nothing_read g s t (omega (arith, inv.many_read)))) refl);
     }
   where
-    spelled_map : (by : List ℕ → Known) (ks : List (Bor (List ℕ))) → map (λ (k : Bor (List ℕ)). by k.now) ks ≡ map by (spelled ks)
+    spelled_map : (by : List ℕ → FileInfo) (ks : List (Bor (List ℕ))) → map (λ (k : Bor (List ℕ)). by k.now) ks ≡ map by (spelled ks)
     spelled_map by [] = refl
-    spelled_map by (k ∷ ks) = ap (λ (l : List Known). by k.now ∷ l) (spelled_map by ks)
+    spelled_map by (k ∷ ks) = ap (λ (l : List FileInfo). by k.now ∷ l) (spelled_map by ks)

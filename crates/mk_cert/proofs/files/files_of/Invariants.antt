@@ -1,7 +1,7 @@
 use Rattle.std.proofs.Common.{◌≡◌, ℕ, List, [], length, map}
 use Rattle.mk_graph.specs.declared.node.Node.{Node}
 use Rattle.mk_graph.specs.Setting as build
-use Rattle.mk_cert.specs.Known.{StandAt, known_by}
+use Rattle.mk_cert.specs.FileInfo.{StandAt, known_by}
 use Rattle.mk_cert.specs.Subject.{footprints}
 use Rattle.mk_cert.specs.Writers.{numbers_at}
 use Rattle.mk_cert.proofs.KnownFiles.{spelled}

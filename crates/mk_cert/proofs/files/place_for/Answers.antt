@@ -2,7 +2,7 @@
 use Rattle.std.proofs.Common.{◌≡◌, ◌∙◌, ◌++◌, ◌∷◌, [], ℕ, List, Bool, true, false, not, cond, map, ap, sym, append-nil}
 use Rattle.std.specs.Borrow.{Bor}
 use Rattle.std.proofs.lemmas.List.{map_push}
-use Rattle.mk_cert.specs.Known.{Known, known_by}
+use Rattle.mk_cert.specs.FileInfo.{FileInfo, known_by}
 use Rattle.mk_cert.specs.Writers.{numbers_at}
 use Rattle.mk_cert.proofs.KnownFiles.{met}
 use Rattle.mk_cert.proofs.files.place_for.Goals as goal
@@ -19,21 +19,21 @@ put_last false keys more new added a t e = e
 
 pub returns-in_ok-push : goal.returns-in_ok-push
 returns-in_ok-push c =
-    let by : List ℕ → Known = known_by c.args.sources.now.table.now c.args.sources.now.setting.now (numbers_at c.args.sources.now.writers.now) c.args.sources.now.names.now in
-    let so : Bor (List ℕ) → Known = λ (g : Bor (List ℕ)). by g.now in
+    let by : List ℕ → FileInfo = known_by c.args.sources.now.table.now c.args.sources.now.setting.now (numbers_at c.args.sources.now.writers.now) c.args.sources.now.names.now in
+    let so : Bor (List ℕ) → FileInfo = λ (g : Bor (List ℕ)). by g.now in
     let (k, at, same) = c.in_ok-place.ensures.stored in
     let keys = c.args.files.now.keys in
     let last = put_last _ keys (keys ++ c.args.file ∷ []) c.insert_full.new.self.keys c.in_ok-place.is_new c.in_ok-place.ensures.added c.if-is_new.true c.in_ok-place.ensures.keys in
     record {
-      all = c.in_ok-push.ensures.items ∙ (ap (λ (l : List Known). l ++ c.in_ok-known_by.field-0 ∷ []) c.requires ∙ (ap (λ (v : Known). map so keys ++ v ∷ []) c.in_ok-known_by.ensures ∙ (sym (map_push so keys c.args.file) ∙ ap (map so) (sym last))));
+      all = c.in_ok-push.ensures.items ∙ (ap (λ (l : List FileInfo). l ++ c.in_ok-known_by.field-0 ∷ []) c.requires ∙ (ap (λ (v : FileInfo). map so keys ++ v ∷ []) c.in_ok-known_by.ensures ∙ (sym (map_push so keys c.args.file) ∙ ap (map so) (sym last))));
       more = (c.args.file ∷ [], last);
       here = met c.insert_full.new.self.keys c.in_ok-place.place c.args.file.now k at same;
     }
 
 pub returns-else-is_new : goal.returns-else-is_new
 returns-else-is_new c =
-    let by : List ℕ → Known = known_by c.args.sources.now.table.now c.args.sources.now.setting.now (numbers_at c.args.sources.now.writers.now) c.args.sources.now.names.now in
-    let so : Bor (List ℕ) → Known = λ (g : Bor (List ℕ)). by g.now in
+    let by : List ℕ → FileInfo = known_by c.args.sources.now.table.now c.args.sources.now.setting.now (numbers_at c.args.sources.now.writers.now) c.args.sources.now.names.now in
+    let so : Bor (List ℕ) → FileInfo = λ (g : Bor (List ℕ)). by g.now in
     let (k, at, same) = c.in_ok-place.ensures.stored in
     let keys = c.args.files.now.keys in
     let kept = kept_keys _ keys (keys ++ c.args.file ∷ []) c.insert_full.new.self.keys c.in_ok-place.is_new c.in_ok-place.ensures.added c.if-is_new.false c.in_ok-place.ensures.keys in

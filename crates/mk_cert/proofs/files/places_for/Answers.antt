@@ -3,7 +3,7 @@ use Rattle.std.proofs.Common.{◌≡◌, ◌∙◌, ◌+◌, ◌<◌, ◌≤◌,
 use Rattle.std.specs.Borrow.{Bor}
 use Rattle.std.specs.String.{string_bytes}
 use Rattle.std.proofs.lemmas.List.{take_more, take_all, map_push}
-use Rattle.mk_cert.specs.Known.{StandAt}
+use Rattle.mk_cert.specs.FileInfo.{StandAt}
 use Rattle.mk_cert.proofs.KnownFiles.{keys_more, spelled, stand_push}
 use Rattle.mk_cert.proofs.files.places_for.Goals as goal
 
@@ -17,7 +17,11 @@ loop-file-preserved c =
     let lt : i < length listed = c.loop-file-test.true in
     let f = c.as_str.result.now in
     let before = map string_bytes (take i listed) in
-    let after : map string_bytes (take (i + 1) listed) ≡ before ++ f ∷ [] = ap (map string_bytes) (take_more listed i c.file-item.result lt) ∙ (map_push string_bytes (take i listed) (get_or listed i c.file-item.result) ∙ ap (λ (g : List ℕ). before ++ g ∷ []) (ap string_bytes (sym c.file-item.is) ∙ sym c.as_str.ensures.value)) in
+    let after : map string_bytes (take (i + 1) listed) ≡ before ++ f
+    ∷ [] = ap (map string_bytes) (take_more listed i c.file-item.result lt)
+    ∙ (map_push string_bytes (take i listed) (get_or listed i c.file-item.result)
+    ∙ ap (λ (g : List ℕ). before ++ g ∷ []) (ap string_bytes (sym c.file-item.is)
+    ∙ sym c.as_str.ensures.value)) in
     let inv = c.loop-file.invariant in
     let keys = c.place_for.new.files.keys in
     let (rest, grown) = c.in_ok-place.ensures.more in

@@ -1,7 +1,7 @@
 use Rattle.std.proofs.Common.{◌≡◌, ◌++◌, ℕ, List, map, take}
 use Rattle.std.specs.Borrow.{Bor}
 use Rattle.std.specs.String.{string_bytes}
-use Rattle.mk_cert.specs.Known.{StandAt, known_by}
+use Rattle.mk_cert.specs.FileInfo.{StandAt, known_by}
 use Rattle.mk_cert.specs.Writers.{numbers_at}
 use Rattle.mk_cert.proofs.KnownFiles.{spelled}
 use Rattle.mk_cert.proofs.files.places_for.Given as goal

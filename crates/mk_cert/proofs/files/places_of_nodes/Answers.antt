@@ -2,7 +2,7 @@
 use Rattle.std.proofs.Common.{◌≡◌, ◌∙◌, ◌+◌, ◌<◌, ◌≤◌, ◌++◌, ◌∷◌, [], ℕ, List, ap, sym, subst, get_or, length, map, take}
 use Rattle.std.proofs.lemmas.List.{take_more, take_all, map_push}
 use Rattle.mk_graph.specs.declared.node.Node.{Node}
-use Rattle.mk_cert.specs.Known.{StandAt}
+use Rattle.mk_cert.specs.FileInfo.{StandAt}
 use Rattle.mk_cert.proofs.KnownFiles.{keys_more, spelled, stand_push}
 use Rattle.mk_cert.proofs.files.places_of_nodes.Goals as goal
 

@@ -1,6 +1,6 @@
 use Rattle.std.proofs.Common.{◌≡◌, map, take}
 use Rattle.mk_graph.specs.declared.node.Node.{Node}
-use Rattle.mk_cert.specs.Known.{StandAt, known_by}
+use Rattle.mk_cert.specs.FileInfo.{StandAt, known_by}
 use Rattle.mk_cert.specs.Writers.{numbers_at}
 use Rattle.mk_cert.proofs.KnownFiles.{spelled}
 use Rattle.mk_cert.proofs.files.places_of_nodes.Given as goal

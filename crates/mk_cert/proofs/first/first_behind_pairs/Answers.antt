@@ -1,13 +1,13 @@
 use Rattle.std.proofs.Common.{List, subst}
 use Rattle.mk_cert.specs.declared.finding.Finding.{Finding}
 use Rattle.mk_cert.specs.Listed.{Adds}
-use Rattle.mk_cert.specs.Questions.{asked_behind_pairs}
+use Rattle.mk_cert.specs.NodeChecks.{candidates_after_pairs}
 use Rattle.mk_cert.proofs.Found.{tells_of}
 use Rattle.mk_cert.proofs.first.first_behind_pairs.Goals as goal
 
 pub returns : goal.returns
 returns c =
     let x = c.args.subject.now in
-    let all = asked_behind_pairs x in
-    let found = c.ask_behind_pairs.new.found.items in
-    tells_of x all found c.first_of.result (subst (λ (old : List Finding). Adds x all old found) c.new-found.ensures.items c.in_ok-ask_behind_pairs.ensures) c.first_of.ensures
+    let all = candidates_after_pairs x in
+    let found = c.run_checks_after_pairs.new.found.items in
+    tells_of x all found c.first_of.result (subst (λ (old : List Finding). Adds x all old found) c.new-found.ensures.items c.in_ok-run_checks_after_pairs.ensures) c.first_of.ensures

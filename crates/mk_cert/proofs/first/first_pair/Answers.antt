@@ -3,15 +3,15 @@ use Rattle.std.specs.Prelude.{Option, Some}
 use Rattle.std.specs.List.{flat_map}
 use Rattle.std.proofs.lemmas.List.{get_or-map, length-map, drop_more}
 use Rattle.std.proofs.lemmas.List.Elements.{All-get_or}
-use Rattle.mk_cert.specs.Entry.{Entry, IsEntry, behind}
+use Rattle.mk_cert.specs.NodeRow.{NodeRow, IsEntry, behind}
 use Rattle.mk_graph.specs.Membership.{IsDistinct}
 use Rattle.mk_graph.specs.Serial.{serial_order}
 use Rattle.mk_cert.specs.declared.finding.Finding.{Finding}
 use Rattle.mk_cert.specs.Subject.{Subject, writes_of}
-use Rattle.mk_cert.specs.Candidates.{Candidate, Holds, pairs_of_writers, two_writers}
-use Rattle.mk_cert.specs.Checks.{TellsFirst}
+use Rattle.mk_cert.specs.Candidates.{Candidate, IsFinding, pairs_of_writers, two_writers}
+use Rattle.mk_cert.specs.Checks.{IsFirstFinding}
 use Rattle.mk_cert.specs.Listing.{Lists}
-use Rattle.mk_cert.specs.Questions.{pairs_with}
+use Rattle.mk_cert.specs.NodeChecks.{pairs_with}
 use Rattle.mk_cert.proofs.Adding.{drop_past}
 use Rattle.mk_cert.proofs.Behind.{behind_after}
 use Rattle.mk_cert.proofs.FirstOf.{Left, left_all, left_in, left_part, left_none}
@@ -22,20 +22,20 @@ pub loop-entry-init : goal.loop-entry-init
 loop-entry-init c =
     let x = c.args.subject.now in
     let all = pairs_of_writers x (serial_order x.graph) in
-    subst (λ (ns : List ℕ). Left (Holds x) (pairs_of_writers x ns) all) (sym c.entries-entries.ensures.in_order) (left_all (Holds x) all)
+    subst (λ (ns : List ℕ). Left (IsFinding x) (pairs_of_writers x ns) all) (sym c.entries-entries.ensures.in_order) (left_all (IsFinding x) all)
 
 pub first_pair_with-requires : goal.first_pair_with-requires
 first_pair_with-requires c =
     let x = c.args.subject.now in
     let entries = c.entries-entries.result.now in
     let lt : c.loop-entry.entry-index < length entries = omega arith in
-    subst (λ (e : Entry). IsEntry x e) (sym c.entry-item.is) (All-get_or (IsEntry x) entries c.loop-entry.entry-index c.entry-item.result lt c.entries-entries.ensures.right)
+    subst (λ (e : NodeRow). IsEntry x e) (sym c.entry-item.is) (All-get_or (IsEntry x) entries c.loop-entry.entry-index c.entry-item.result lt c.entries-entries.ensures.right)
 
 -- those of the recipe that is looked at, and of those behind it
-parts : (x : Subject) (entries : List Entry) (i : ℕ) (e : Entry) → e ≡ get_or entries i e → i < length entries → IsDistinct (serial_order x.graph) → map (λ (k : Entry). k.number) entries ≡ serial_order x.graph
-    → pairs_of_writers x (drop i (map (λ (k : Entry). k.number) entries)) ≡ pairs_with x e.number ++ pairs_of_writers x (drop (i + 1) (map (λ (k : Entry). k.number) entries))
+parts : (x : Subject) (entries : List NodeRow) (i : ℕ) (e : NodeRow) → e ≡ get_or entries i e → i < length entries → IsDistinct (serial_order x.graph) → map (λ (k : NodeRow). k.number) entries ≡ serial_order x.graph
+    → pairs_of_writers x (drop i (map (λ (k : NodeRow). k.number) entries)) ≡ pairs_with x e.number ++ pairs_of_writers x (drop (i + 1) (map (λ (k : NodeRow). k.number) entries))
 parts x entries i e here lt distinct same =
-    let number = λ (k : Entry). k.number in
+    let number = λ (k : NodeRow). k.number in
     let order = map number entries in
     let low : i < length order = omega (arith, length-map entries number) in
     let is : e.number ≡ get_or order i 0 = sym (get_or-map number entries i e 0 lt ∙ ap number (sym here)) in
@@ -52,11 +52,11 @@ returns-in-Some c =
     let i = c.loop-entry.entry-index in
     let e = c.entry-item.result in
     let lt : i < length entries = omega arith in
-    let rest = pairs_of_writers x (drop (i + 1) (map (λ (k : Entry). k.number) entries)) in
+    let rest = pairs_of_writers x (drop (i + 1) (map (λ (k : NodeRow). k.number) entries)) in
     let cut = parts x entries i e c.entry-item.is lt (c.serial_reaches_each_once.ensures x.graph c.graph-graph.ensures.graph.no_cycle).0 c.entries-entries.ensures.in_order in
-    let left : Left (Holds x) (pairs_with x e.number ++ rest) all = subst (λ (l : List Candidate). Left (Holds x) l all) cut c.loop-entry.invariant in
-    let told : TellsFirst x (pairs_with x e.number) (Some c.in-Some.finding) = subst (λ (r : Option Finding). TellsFirst x (pairs_with x e.number) r) c.in-Some.is c.in_ok-finding.ensures in
-    (told.0, left_in (Holds x) (pairs_with x e.number) rest all told.0 left told.1, told.2)
+    let left : Left (IsFinding x) (pairs_with x e.number ++ rest) all = subst (λ (l : List Candidate). Left (IsFinding x) l all) cut c.loop-entry.invariant in
+    let told : IsFirstFinding x (pairs_with x e.number) (Some c.in-Some.finding) = subst (λ (r : Option Finding). IsFirstFinding x (pairs_with x e.number) r) c.in-Some.is c.in_ok-finding.ensures in
+    (told.0, left_in (IsFinding x) (pairs_with x e.number) rest all told.0 left told.1, told.2)
 
 pub loop-entry-preserved : goal.loop-entry-preserved
 loop-entry-preserved c =
@@ -66,17 +66,17 @@ loop-entry-preserved c =
     let i = c.loop-entry.entry-index in
     let e = c.entry-item.result in
     let lt : i < length entries = omega arith in
-    let rest = pairs_of_writers x (drop (i + 1) (map (λ (k : Entry). k.number) entries)) in
+    let rest = pairs_of_writers x (drop (i + 1) (map (λ (k : NodeRow). k.number) entries)) in
     let cut = parts x entries i e c.entry-item.is lt (c.serial_reaches_each_once.ensures x.graph c.graph-graph.ensures.graph.no_cycle).0 c.entries-entries.ensures.in_order in
-    let left : Left (Holds x) (pairs_with x e.number ++ rest) all = subst (λ (l : List Candidate). Left (Holds x) l all) cut c.loop-entry.invariant in
-    let none : Lists x (pairs_with x e.number) [] = subst (λ (r : Option Finding). TellsFirst x (pairs_with x e.number) r) c.in_default.is c.in_ok-finding.ensures in
-    left_part (Holds x) (pairs_with x e.number) rest all left (nothing_holds x (pairs_with x e.number) none)
+    let left : Left (IsFinding x) (pairs_with x e.number ++ rest) all = subst (λ (l : List Candidate). Left (IsFinding x) l all) cut c.loop-entry.invariant in
+    let none : Lists x (pairs_with x e.number) [] = subst (λ (r : Option Finding). IsFirstFinding x (pairs_with x e.number) r) c.in_default.is c.in_ok-finding.ensures in
+    left_part (IsFinding x) (pairs_with x e.number) rest all left (nothing_holds x (pairs_with x e.number) none)
 
 pub returns : goal.returns
 returns c =
     let x = c.args.subject.now in
     let all = pairs_of_writers x (serial_order x.graph) in
-    let number = λ (k : Entry). k.number in
+    let number = λ (k : NodeRow). k.number in
     let entries = c.entries-entries.result.now in
     let past : length (map number entries) ≤ c.loop-entry.entry-index = omega (arith, length-map entries number) in
-    lists_nothing x all (left_none (Holds x) all (subst (λ (ns : List ℕ). Left (Holds x) (pairs_of_writers x ns) all) (drop_past (map number entries) c.loop-entry.entry-index past) c.loop-entry.invariant))
+    lists_nothing x all (left_none (IsFinding x) all (subst (λ (ns : List ℕ). Left (IsFinding x) (pairs_of_writers x ns) all) (drop_past (map number entries) c.loop-entry.entry-index past) c.loop-entry.invariant))

@@ -1,7 +1,7 @@
 use Rattle.std.proofs.Common.{List, subst}
 use Rattle.mk_cert.specs.declared.finding.Finding.{Finding}
 use Rattle.mk_cert.specs.Listed.{Adds}
-use Rattle.mk_cert.specs.Questions.{pairs_with}
+use Rattle.mk_cert.specs.NodeChecks.{pairs_with}
 use Rattle.mk_cert.proofs.Found.{tells_of}
 use Rattle.mk_cert.proofs.first.first_pair_with.Goals as goal
 

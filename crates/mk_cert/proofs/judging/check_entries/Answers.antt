@@ -1,6 +1,6 @@
 use Rattle.std.proofs.Common.{◌≡◌, ◌+◌, ◌<◌, ◌≤◌, ◌∷◌, Bool, true, false, List, [], Err, inr, refl, sym, subst, get_or, length, take, drop, arith}
 use Rattle.std.proofs.lemmas.List.{drop_more, take_all}
-use Rattle.mk_ways.specs.Certificate.{Way}
+use Rattle.mk_cert_text.specs.Certificate.{Way}
 use Rattle.mk_cert.specs.declared.fault.CertFault.{CertFault}
 use Rattle.mk_cert.specs.Checks.{AnswersEntries, Judges}
 use Rattle.mk_cert.specs.Verdict.{IsFirstBad}
@@ -17,8 +17,18 @@ returns-then-not-branch-clause-answer c =
     let lt : i < length ways = omega arith in
     let rest : drop i ways ≡ get_or ways i w ∷ drop (i + 1) ways = drop_more ways i w lt in
     let so_far : JudgedSoFar x ways (take i ways) (get_or ways i w ∷ drop (i + 1) ways) c.loop-place.seen.items = subst (λ (l : List Way). JudgedSoFar x ways (take i ways) l c.loop-place.seen.items) rest c.loop-place.invariant.judged in
-    let judged : Judges x (get_or ways i w) c.loop-place.seen.items c.note_good.new.seen.items false = subst (λ (v : Way). Judges x v c.loop-place.seen.items c.note_good.new.seen.items false) c.at-way.ensures (subst (λ (b : Bool). Judges x w c.loop-place.seen.items c.note_good.new.seen.items b) c.if-not-branch.true c.in_ok-note_good.ensures.judged) in
-    inr (subst (λ (f : CertFault). AnswersEntries x ways (Err f)) (sym c.in_ok-bad_way.ensures) (w, subst (λ (v : Way). IsFirstBad x [] ways v) (sym c.at-way.ensures) (judged_bad x ways (take i ways) (drop (i + 1) ways) (get_or ways i w) c.loop-place.seen.items c.note_good.new.seen.items so_far judged), refl, refl))
+    let judged : Judges x (get_or ways i w) c.loop-place.seen.items c.note_good.new.seen.items false = subst
+    (λ (v : Way). Judges x v c.loop-place.seen.items c.note_good.new.seen.items false) c.at-way.ensures
+    (subst (λ (b : Bool). Judges x w c.loop-place.seen.items c.note_good.new.seen.items b)
+    c.if-not-branch.true c.in_ok-note_good.ensures.judged) in
+    inr (subst (λ (f : CertFault). AnswersEntries x ways (Err f)) (sym c.in_ok-bad_way.ensures) (
+      w,
+      subst (λ (v : Way). IsFirstBad x [] ways v) (sym c.at-way.ensures)
+          (judged_bad x ways (take i ways) (drop (i + 1) ways) (get_or ways i w) c.loop-place.seen.items
+          c.note_good.new.seen.items so_far judged),
+      refl,
+      refl,
+    ))
 
 pub loop-place-preserved : goal.loop-place-preserved
 loop-place-preserved c =
@@ -29,7 +39,10 @@ loop-place-preserved c =
     let lt : i < length ways = omega arith in
     let rest : drop i ways ≡ get_or ways i w ∷ drop (i + 1) ways = drop_more ways i w lt in
     let so_far : JudgedSoFar x ways (take i ways) (get_or ways i w ∷ drop (i + 1) ways) c.loop-place.seen.items = subst (λ (l : List Way). JudgedSoFar x ways (take i ways) l c.loop-place.seen.items) rest c.loop-place.invariant.judged in
-    let judged : Judges x (get_or ways i w) c.loop-place.seen.items c.note_good.new.seen.items true = subst (λ (v : Way). Judges x v c.loop-place.seen.items c.note_good.new.seen.items true) c.at-way.ensures (subst (λ (b : Bool). Judges x w c.loop-place.seen.items c.note_good.new.seen.items b) c.if-not-branch.false c.in_ok-note_good.ensures.judged) in
+    let judged : Judges x (get_or ways i w) c.loop-place.seen.items c.note_good.new.seen.items true = subst
+    (λ (v : Way). Judges x v c.loop-place.seen.items c.note_good.new.seen.items true) c.at-way.ensures
+    (subst (λ (b : Bool). Judges x w c.loop-place.seen.items c.note_good.new.seen.items b)
+    c.if-not-branch.false c.in_ok-note_good.ensures.judged) in
     record {
       judged = judged_on x ways (take i ways) (take (i + 1) ways) (drop (i + 1) ways) (get_or ways i w) c.loop-place.seen.items c.note_good.new.seen.items so_far judged c.in_ok-note_good.ensures.sets (λ v. in_take_more ways i w v lt);
       lists = c.in_ok-note_good.ensures.lists;

@@ -1,5 +1,5 @@
 use Rattle.std.proofs.Common.{◌≡◌, ap}
-use Rattle.mk_ways.specs.Certificate.{Way}
+use Rattle.mk_cert_text.specs.Certificate.{Way}
 use Rattle.mk_cert.proofs.Judged.{judged_told}
 use Rattle.mk_cert.proofs.judging.note_good.Goals as goal
 

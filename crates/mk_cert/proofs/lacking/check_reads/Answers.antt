@@ -8,8 +8,8 @@ use Rattle.mk_graph.specs.Membership.{Has}
 use Rattle.mk_graph.specs.Serial.{serial_order}
 use Rattle.mk_cert.specs.declared.fault.CertFault.{CertFault}
 use Rattle.mk_cert.specs.Subject.{reads_of}
-use Rattle.mk_cert.specs.Entry.{Entry, IsEntry}
-use Rattle.mk_cert.specs.Verdict.{IsFirst, Read, LacksWay, all_reads}
+use Rattle.mk_cert.specs.NodeRow.{NodeRow, IsEntry}
+use Rattle.mk_cert.specs.Verdict.{IsFirstIn, Read, LacksWay, all_reads}
 use Rattle.mk_cert.specs.Checks.{AnswersReads, reads_by}
 use Rattle.mk_cert.proofs.Adding.{drop_past}
 use Rattle.mk_cert.proofs.Decided.{name_is}
@@ -29,12 +29,12 @@ first_lacking-requires c =
     let x = c.args.subject.now in
     let entries = c.entries-entries.result.now in
     let lt : c.loop-entry.entry-index < length entries = omega arith in
-    subst (λ (e : Entry). IsEntry x e) (sym c.entry-item.is) (All-get_or (IsEntry x) entries c.loop-entry.entry-index c.entry-item.result lt c.entries-entries.ensures.right)
+    subst (λ (e : NodeRow). IsEntry x e) (sym c.entry-item.is) (All-get_or (IsEntry x) entries c.loop-entry.entry-index c.entry-item.result lt c.entries-entries.ensures.right)
 
 pub returns-in-Some : goal.returns-in-Some
 returns-in-Some c = λ ways seen.
     let x = c.args.subject.now in
-    let number = λ (e : Entry). e.number in
+    let number = λ (e : NodeRow). e.number in
     let entries = c.entries-entries.result.now in
     let numbers = map number entries in
     let i = c.loop-entry.entry-index in
@@ -42,17 +42,17 @@ returns-in-Some c = λ ways seen.
     let lt : i < length entries = omega arith in
     let low : i < length numbers = omega (arith, length-map entries number) in
     let is : get_or numbers i 0 ≡ e.number = get_or-map number entries i e 0 lt ∙ ap number (sym c.entry-item.is) in
-    let it : IsEntry x e = subst (λ (k : Entry). IsEntry x k) (sym c.entry-item.is) (All-get_or (IsEntry x) entries i e lt c.entries-entries.ensures.right) in
+    let it : IsEntry x e = subst (λ (k : NodeRow). IsEntry x k) (sym c.entry-item.is) (All-get_or (IsEntry x) entries i e lt c.entries-entries.ensures.right) in
     let left : Left (LacksWay x ways) (reads_by x (get_or numbers i 0) ++ flat_map (reads_by x) (drop (i + 1) numbers)) (all_reads x) = subst (λ (ns : List ℕ). Left (LacksWay x ways) (flat_map (reads_by x) ns) (all_reads x)) (drop_more numbers i 0 low) (c.loop-entry.invariant ways seen) in
     let read : Read = record { recipe = e.number; file = c.in-Some.file.now } in
-    let first : IsFirst (LacksWay x ways) (reads_by x (get_or numbers i 0)) read = subst (λ (n : ℕ). IsFirst (LacksWay x ways) (reads_by x n) read) (sym is) (c.in-Some.ensures ways seen) in
+    let first : IsFirstIn (LacksWay x ways) (reads_by x (get_or numbers i 0)) read = subst (λ (n : ℕ). IsFirstIn (LacksWay x ways) (reads_by x n) read) (sym is) (c.in-Some.ensures ways seen) in
     inr (subst (λ (f : CertFault). AnswersReads x ways (Err f)) (sym c.in_ok-no_way.ensures)
     (read, left_in (LacksWay x ways) (reads_by x (get_or numbers i 0)) (flat_map (reads_by x) (drop (i + 1) numbers)) (all_reads x) read left first, name_is x e e.node.name it refl, refl))
 
 pub loop-entry-preserved : goal.loop-entry-preserved
 loop-entry-preserved c = λ ways seen.
     let x = c.args.subject.now in
-    let number = λ (e : Entry). e.number in
+    let number = λ (e : NodeRow). e.number in
     let entries = c.entries-entries.result.now in
     let numbers = map number entries in
     let i = c.loop-entry.entry-index in
@@ -67,7 +67,7 @@ loop-entry-preserved c = λ ways seen.
 pub returns : goal.returns
 returns c = λ ways seen.
     let x = c.args.subject.now in
-    let number = λ (e : Entry). e.number in
+    let number = λ (e : NodeRow). e.number in
     let numbers = map number c.entries-entries.result.now in
     let i = c.loop-entry.entry-index in
     let is = c.graph-graph.ensures.graph in

@@ -1,8 +1,8 @@
 use Rattle.std.proofs.Common.{List, map, drop}
 use Rattle.std.specs.List.{flat_map}
-use Rattle.mk_ways.specs.Certificate.{Way}
-use Rattle.mk_cert.specs.Entry.{Entry}
-use Rattle.mk_cert.specs.Links.{AreSeen}
+use Rattle.mk_cert_text.specs.Certificate.{Way}
+use Rattle.mk_cert.specs.NodeRow.{NodeRow}
+use Rattle.mk_cert.specs.WayTables.{AreSeen}
 use Rattle.mk_cert.specs.Verdict.{LacksWay, all_reads}
 use Rattle.mk_cert.specs.Checks.{reads_by}
 use Rattle.mk_cert.proofs.FirstOf.{Left}
@@ -10,4 +10,4 @@ use Rattle.mk_cert.proofs.lacking.check_reads.Given as goal
 
 -- the recipes that are left
 abbrev pub invariant-loop-entry : goal.invariant-loop-entry
-invariant-loop-entry l = (ways : List Way) → AreSeen l.subject ways l.seen → Left (LacksWay l.subject ways) (flat_map (reads_by l.subject) (drop l.entry-index (map (λ (e : Entry). e.number) l.entries))) (all_reads l.subject)
+invariant-loop-entry l = (ways : List Way) → AreSeen l.subject ways l.seen → Left (LacksWay l.subject ways) (flat_map (reads_by l.subject) (drop l.entry-index (map (λ (e : NodeRow). e.number) l.entries))) (all_reads l.subject)

@@ -4,11 +4,11 @@ use Rattle.std.specs.Prelude.{not}
 use Rattle.std.proofs.lemmas.Bool.{true≢false}
 use Rattle.std.proofs.lemmas.List.{drop_more}
 use Rattle.mk_cert.specs.Subject.{reads_of}
-use Rattle.mk_cert.specs.Entry.{Entry}
-use Rattle.mk_cert.specs.Known.{known_of}
+use Rattle.mk_cert.specs.NodeRow.{NodeRow}
+use Rattle.mk_cert.specs.FileInfo.{known_of}
 use Rattle.mk_cert.specs.Settled.{is_settled}
 use Rattle.mk_cert.specs.Target.{Target, unsettled_of}
-use Rattle.mk_cert.specs.Verdict.{IsFirst, Read, LacksWay}
+use Rattle.mk_cert.specs.Verdict.{IsFirstIn, Read, LacksWay}
 use Rattle.mk_cert.specs.Checks.{reads_by}
 use Rattle.mk_cert.proofs.FirstOf.{Left, left_here, left_on, left_none, left_passing}
 use Rattle.mk_cert.proofs.SettledReads.{cannot_change, open_at, none_left, settled}
@@ -23,7 +23,7 @@ loop-place-init c = λ ways seen.
 
 pub lacks-requires-clause-read : goal.lacks-requires-clause-read
 lacks-requires-clause-read c =
-    let number : c.entry.inside.number ≡ c.args.entry.now.number = ap (λ (e : Entry). e.number) c.entry.view_is in
+    let number : c.entry.inside.number ≡ c.args.entry.now.number = ap (λ (e : NodeRow). e.number) c.entry.view_is in
     (open_at c.args.subject.now c.entry.inside.number c.args.entry.now.number c.loop-place.place c.count_of_unsettled-place-end.result c.unsettled-file.result number c.count_of_unsettled-place-end.ensures (omega arith) c.unsettled-file.ensures).read
 
 pub returns-then-lacks : goal.returns-then-lacks
@@ -31,14 +31,14 @@ returns-then-lacks c = λ ways seen.
     let x = c.args.subject.now in
     let e = c.args.entry.now in
     let i = c.loop-place.place in
-    let number : c.entry.inside.number ≡ e.number = ap (λ (k : Entry). k.number) c.entry.view_is in
+    let number : c.entry.inside.number ≡ e.number = ap (λ (k : NodeRow). k.number) c.entry.view_is in
     let at = open_at x c.entry.inside.number e.number i c.count_of_unsettled-place-end.result c.unsettled-file.result number c.count_of_unsettled-place-end.ensures (omega arith) c.unsettled-file.ensures in
     let all = unsettled_of x e.number in
     let read = λ (f : List ℕ). let r : Read = record { recipe = e.number; file = f } in r in
     let left : Left (LacksWay x ways) (read (get_or all i []) ∷ map read (drop (i + 1) all)) (reads_by x e.number) = subst (λ (fs : List (List ℕ)). Left (LacksWay x ways) (map read fs) (reads_by x e.number)) (drop_more all i [] at.low) (c.loop-place.invariant ways seen) in
     let lacking = subst (λ (f : List ℕ). LacksWay x ways (read f)) at.file ((c.lacks.ensures ways seen).0 c.if-lacks.true) in
     let named = ap (λ (t : Target). t.file) c.file.view_is in
-    subst (λ (f : List ℕ). IsFirst (LacksWay x ways) (reads_by x e.number) (read f)) (sym (named ∙ at.file))
+    subst (λ (f : List ℕ). IsFirstIn (LacksWay x ways) (reads_by x e.number) (read f)) (sym (named ∙ at.file))
     (left_here (LacksWay x ways) (read (get_or all i [])) (map read (drop (i + 1) all)) (reads_by x e.number) left lacking)
 
 pub loop-place-preserved : goal.loop-place-preserved
@@ -46,7 +46,7 @@ loop-place-preserved c = λ ways seen.
     let x = c.args.subject.now in
     let e = c.args.entry.now in
     let i = c.loop-place.place in
-    let number : c.entry.inside.number ≡ e.number = ap (λ (k : Entry). k.number) c.entry.view_is in
+    let number : c.entry.inside.number ≡ e.number = ap (λ (k : NodeRow). k.number) c.entry.view_is in
     let at = open_at x c.entry.inside.number e.number i c.count_of_unsettled-place-end.result c.unsettled-file.result number c.count_of_unsettled-place-end.ensures (omega arith) c.unsettled-file.ensures in
     let all = unsettled_of x e.number in
     let read = λ (f : List ℕ). let r : Read = record { recipe = e.number; file = f } in r in
@@ -59,7 +59,7 @@ returns c = λ ways seen.
     let x = c.args.subject.now in
     let e = c.args.entry.now in
     let i = c.loop-place.place in
-    let number : c.entry.inside.number ≡ e.number = ap (λ (k : Entry). k.number) c.entry.view_is in
+    let number : c.entry.inside.number ≡ e.number = ap (λ (k : NodeRow). k.number) c.entry.view_is in
     let none = none_left x c.entry.inside.number e.number i c.count_of_unsettled-place-end.result number c.count_of_unsettled-place-end.ensures (omega arith) in
     let read = λ (f : List ℕ). let r : Read = record { recipe = e.number; file = f } in r in
     left_none (LacksWay x ways) (reads_by x e.number) (subst (λ (fs : List (List ℕ)). Left (LacksWay x ways) (map read fs) (reads_by x e.number)) none (c.loop-place.invariant ways seen))

@@ -1,6 +1,6 @@
 use Rattle.std.proofs.Common.{List, map, drop}
-use Rattle.mk_ways.specs.Certificate.{Way}
-use Rattle.mk_cert.specs.Links.{AreSeen}
+use Rattle.mk_cert_text.specs.Certificate.{Way}
+use Rattle.mk_cert.specs.WayTables.{AreSeen}
 use Rattle.mk_cert.specs.Target.{unsettled_of}
 use Rattle.mk_cert.specs.Verdict.{Read, LacksWay}
 use Rattle.mk_cert.specs.Checks.{reads_by}

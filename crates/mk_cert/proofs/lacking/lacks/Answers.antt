@@ -2,7 +2,7 @@
 use Rattle.std.proofs.Common.{◌≡◌, ◌∙◌, ◌<◌, [], ℕ, List, Bool, not, ⊎_elim, ap, sym, get_or, length}
 use Rattle.std.proofs.lemmas.Bool.{true≢false, cases_Bool, cases_lt, not-true}
 use Rattle.mk_lines.specs.Names.{has_name}
-use Rattle.mk_cert.specs.Entry.{Entry}
+use Rattle.mk_cert.specs.NodeRow.{NodeRow}
 use Rattle.mk_cert.specs.Subject.{footprints}
 use Rattle.mk_cert.specs.Target.{Target}
 use Rattle.mk_cert.proofs.Past.{past_reads}
@@ -16,7 +16,7 @@ returns-then-can_change c = λ ways seen.
     let sets = c.args.seen.now in
     let read = c.requires.read in
     let node : e.number < length x.graph.nodes = ⊎_elim (λ less. less) (λ past. absurd (past_reads x.graph (footprints x.setting) e.number past f read)) (cases_lt e.number (length x.graph.nodes)) in
-    let number : c.entry.inside.number ≡ e.number = ap (λ (k : Entry). k.number) c.entry.view_is in
+    let number : c.entry.inside.number ≡ e.number = ap (λ (k : NodeRow). k.number) c.entry.view_is in
     let named : c.file.inside.file.now ≡ f = ap (λ (t : Target). t.file) c.file.view_is in
     let told : c.stands_at.result ≡ has_name (get_or sets e.number []) f =
     c.stands_at.ensures ∙ (ap (λ (n : ℕ). has_name (get_or sets n []) c.file.inside.file.now) number ∙ ap (λ (g : List ℕ). has_name (get_or sets e.number []) g) named) in

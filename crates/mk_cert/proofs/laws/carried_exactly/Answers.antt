@@ -1,6 +1,6 @@
 -- Who writes a file stands among its writers.
 use Rattle.mk_graph.specs.Graph.{prerequisites}
-use Rattle.mk_cert.specs.Entry.{writers_of}
+use Rattle.mk_cert.specs.NodeRow.{writers_of}
 use Rattle.mk_cert.specs.Subject.{name_of}
 use Rattle.std.proofs.Common.{refl}
 use Rattle.mk_cert.proofs.CarriedNodes.{listed}

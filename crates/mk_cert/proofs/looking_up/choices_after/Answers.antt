@@ -14,4 +14,8 @@ returns c =
     let g = c.args.records.now.graph in
     let x = subject_of c.args.table.now c.args.there.now g c.args.records.now.setting in
     let written : c.in_ok-names.names ≡ all_writes x = c.in_ok-names.ensures ∙ (c.in_ok-writes.ensures ∙ ap (flat_map (build.writes g (footprints c.args.records.now.setting))) c.requires.order) in
-    IfOk-weaker c.choices_with.result _ _ (λ chosen e. e ∙ (ap (λ (k : Graph). map (λ n. choice c.args.table.now (with_more c.args.there.now c.in_ok-names.names) (node k n).name) c.args.order.now) c.graph.ensures ∙ ap (λ (ws : List (List ℕ)). map (λ n. choice c.args.table.now (with_more c.args.there.now ws) (node g n).name) c.args.order.now) written)) c.choices_with.ensures
+    IfOk-weaker c.choices_with.result _ _ (λ chosen e. e ∙ (ap
+    (λ (k : Graph). map (λ n. choice c.args.table.now (with_more c.args.there.now c.in_ok-names.names)
+    (node k n).name) c.args.order.now) c.graph.ensures ∙ ap
+    (λ (ws : List (List ℕ)). map (λ n. choice c.args.table.now (with_more c.args.there.now ws)
+    (node g n).name) c.args.order.now) written)) c.choices_with.ensures

@@ -6,10 +6,10 @@ use Rattle.mk_graph.specs.Membership.{Has}
 use Rattle.mk_graph.specs.Serial.{serial_order}
 use Rattle.mk_graph.specs.Setting as build
 use Rattle.mk_infer.specs.There.{is_there}
-use Rattle.mk_choice.specs.Choosing.{Looked}
+use Rattle.mk_infer.specs.Choosing.{Looked}
 use Rattle.mk_cert.specs.Conditions.{all_writes}
 use Rattle.mk_cert.specs.Subject.{commands_of, footprints, name_of, subject_of, writes_of}
-use Rattle.mk_cert.specs.Entry.{Entry, AreEntriesOf, IsEntry, StaysChosen}
+use Rattle.mk_cert.specs.NodeRow.{NodeRow, AreEntriesOf, IsEntry, StaysChosen}
 use Rattle.mk_cert.proofs.Stays.{in_lists, same_choice, same_there}
 use Rattle.mk_cert.proofs.Staying.{AreStaying, all_stay, first_behind, none_yet, staying_more}
 use Rattle.mk_cert.proofs.looking_up.entries_that_stay.Goals as goal
@@ -18,7 +18,7 @@ pub loop-number-init : goal.loop-number-init
 loop-number-init c =
     let x = subject_of c.args.table.now c.args.there.now c.args.records.now.graph c.args.records.now.setting in
     record {
-      staying = subst (λ (es : List Entry). AreStaying x [] es) (sym c.in_ok-entries.ensures.items) (none_yet x);
+      staying = subst (λ (es : List NodeRow). AreStaying x [] es) (sym c.in_ok-entries.ensures.items) (none_yet x);
       there = λ f h. absurd h;
     }
 

@@ -1,7 +1,7 @@
 use Rattle.std.proofs.Common.{◌≡◌, ◌<◌, ◌∙◌, ℕ, List, Option, None, ap, length, get_or, inl, inr, ⊎_elim, arith}
 use Rattle.std.proofs.lemmas.List.{get_or-map, get_or_default, length-map}
 use Rattle.std.proofs.lemmas.Result.{err_from_is_err_and}
-use Rattle.mk_cert.specs.Entry.{choice_after}
+use Rattle.mk_cert.specs.NodeRow.{choice_after}
 use Rattle.mk_cert.specs.Subject.{subject_of}
 use Rattle.mk_cert.proofs.Entries.{entry_more, first_fault}
 use Rattle.mk_cert.proofs.looking_up.entries_with.Goals as goal

@@ -1,6 +1,6 @@
 use Rattle.std.proofs.Common.{take}
 use Rattle.mk_cert.specs.Subject.{subject_of}
-use Rattle.mk_cert.specs.Entry.{AreEntriesOf}
+use Rattle.mk_cert.specs.NodeRow.{AreEntriesOf}
 use Rattle.mk_cert.proofs.looking_up.entries_with.Given as goal
 
 -- the nodes so far

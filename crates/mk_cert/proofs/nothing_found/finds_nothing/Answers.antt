@@ -2,7 +2,7 @@ use Rattle.std.proofs.Common.{◌≡◌, ◌∙◌, ◌<◌, ◌≤◌, ℕ, Lis
 use Rattle.std.proofs.lemmas.Bool.{true≢false}
 use Rattle.std.proofs.lemmas.List.{get_or-map, length-map, drop_more}
 use Rattle.std.proofs.lemmas.List.Elements.{All-get_or}
-use Rattle.mk_cert.specs.Entry.{Entry, IsEntry}
+use Rattle.mk_cert.specs.NodeRow.{NodeRow, IsEntry}
 use Rattle.mk_cert.proofs.Adding.{drop_past}
 use Rattle.mk_cert.proofs.NothingFound.{Each, FindsNothingOf, each_at, nothing_found, nothing_of_each}
 use Rattle.mk_cert.proofs.nothing_found.finds_nothing.Goals as goal
@@ -15,12 +15,12 @@ finds_nothing_of-requires c =
     let x = c.args.subject.now in
     let entries = c.entries-entries.result.now in
     let lt : c.loop-entry.entry-index < length entries = omega arith in
-    subst (λ (e : Entry). IsEntry x e) (sym c.entry-item.is) (All-get_or (IsEntry x) entries c.loop-entry.entry-index c.entry-item.result lt c.entries-entries.ensures.right)
+    subst (λ (e : NodeRow). IsEntry x e) (sym c.entry-item.is) (All-get_or (IsEntry x) entries c.loop-entry.entry-index c.entry-item.result lt c.entries-entries.ensures.right)
 
 pub loop-entry-preserved : goal.loop-entry-preserved
 loop-entry-preserved c = λ rest.
     let x = c.args.subject.now in
-    let number = λ (e : Entry). e.number in
+    let number = λ (e : NodeRow). e.number in
     let entries = c.entries-entries.result.now in
     let i = c.loop-entry.entry-index in
     let lt : i < length entries = omega arith in
@@ -32,7 +32,7 @@ loop-entry-preserved c = λ rest.
 pub returns-then-not-branch : goal.returns-then-not-branch
 returns-then-not-branch c =
     let x = c.args.subject.now in
-    let number = λ (e : Entry). e.number in
+    let number = λ (e : NodeRow). e.number in
     let entries = c.entries-entries.result.now in
     let i = c.loop-entry.entry-index in
     let lt : i < length entries = omega arith in
@@ -48,7 +48,7 @@ returns-then-not-branch c =
 pub returns : goal.returns
 returns c =
     let x = c.args.subject.now in
-    let number = λ (e : Entry). e.number in
+    let number = λ (e : NodeRow). e.number in
     let entries = c.entries-entries.result.now in
     let i = c.loop-entry.entry-index in
     let past : length (map number entries) ≤ i = omega (arith, length-map entries number) in (

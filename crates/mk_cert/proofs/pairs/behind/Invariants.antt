@@ -1,5 +1,5 @@
 use Rattle.std.proofs.Common.{◌≡◌, drop}
-use Rattle.mk_cert.specs.Entry.{behind}
+use Rattle.mk_cert.specs.NodeRow.{behind}
 use Rattle.mk_cert.proofs.pairs.behind.Given as goal
 
 -- what is left decides

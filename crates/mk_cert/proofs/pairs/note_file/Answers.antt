@@ -8,7 +8,7 @@ use Rattle.mk_lines.specs.Names.{has_name}
 use Rattle.mk_cert.specs.Subject.{writes_of}
 use Rattle.mk_cert.specs.Candidates.{two_writers}
 use Rattle.mk_cert.specs.Listed.{Adds}
-use Rattle.mk_cert.specs.Entry.{Entry, behind, writers_of}
+use Rattle.mk_cert.specs.NodeRow.{NodeRow, behind, writers_of}
 use Rattle.mk_cert.specs.Target.{Target}
 use Rattle.mk_cert.proofs.Adding.{adds_lifted}
 use Rattle.mk_cert.proofs.Behind.{behind_other, behind_filter}
@@ -24,8 +24,11 @@ note_pairs_with-requires c =
     let order = serial_order x.graph in
     let writes = λ (t : ℕ). has_name (writes_of x t) f in
     let writers : c.writers-writers.result.now ≡ writers_of x f = c.writers-writers.ensures ∙ ap (λ (k : Target). k.known.writers) c.requires.file in
-    let number : c.entry.inside.number ≡ e.number = ap (λ (k : Entry). k.number) c.entry.view_is in
-    let same : c.behind-others.result.now ≡ filter writes (behind e.number order) = c.behind-others.ensures ∙ (ap (λ n. behind n c.writers-writers.result.now) number ∙ (ap (behind e.number) writers ∙ behind_filter writes e.number order ((has_decides (writes_of x e.number) f).1 c.requires.written))) in
+    let number : c.entry.inside.number ≡ e.number = ap (λ (k : NodeRow). k.number) c.entry.view_is in
+    let same : c.behind-others.result.now ≡ filter writes (behind e.number order) = c.behind-others.ensures
+    ∙ (ap (λ n. behind n c.writers-writers.result.now) number
+    ∙ (ap (behind e.number) writers ∙ behind_filter writes e.number order
+    ((has_decides (writes_of x e.number) f).1 c.requires.written))) in
     let distinct = (c.serial_reaches_each_once.ensures x.graph c.graph-graph.ensures.graph.no_cycle).0 in
     record {
       entry = c.requires.entry;
@@ -42,8 +45,11 @@ returns c =
     let order = serial_order x.graph in
     let writes = λ (t : ℕ). has_name (writes_of x t) f in
     let writers : c.writers-writers.result.now ≡ writers_of x f = c.writers-writers.ensures ∙ ap (λ (k : Target). k.known.writers) c.requires.file in
-    let number : c.entry.inside.number ≡ e.number = ap (λ (k : Entry). k.number) c.entry.view_is in
-    let same : c.behind-others.result.now ≡ filter writes (behind e.number order) = c.behind-others.ensures ∙ (ap (λ n. behind n c.writers-writers.result.now) number ∙ (ap (behind e.number) writers ∙ behind_filter writes e.number order ((has_decides (writes_of x e.number) f).1 c.requires.written))) in
+    let number : c.entry.inside.number ≡ e.number = ap (λ (k : NodeRow). k.number) c.entry.view_is in
+    let same : c.behind-others.result.now ≡ filter writes (behind e.number order) = c.behind-others.ensures
+    ∙ (ap (λ n. behind n c.writers-writers.result.now) number
+    ∙ (ap (behind e.number) writers ∙ behind_filter writes e.number order
+    ((has_decides (writes_of x e.number) f).1 c.requires.written))) in
     let old = c.args.found.now.items in
     let new = c.note_pairs_with.new.found.items in
     on_ok_weaker c.note_pairs_with.result

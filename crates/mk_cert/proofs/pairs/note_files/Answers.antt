@@ -3,7 +3,7 @@ use Rattle.std.specs.List.{flat_map}
 use Rattle.mk_graph.specs.Serial.{serial_order}
 use Rattle.mk_cert.specs.Subject.{writes_of}
 use Rattle.mk_cert.specs.Candidates.{two_writers}
-use Rattle.mk_cert.specs.Entry.{Entry, behind}
+use Rattle.mk_cert.specs.NodeRow.{NodeRow, behind}
 use Rattle.mk_cert.specs.Listed.{Adds}
 use Rattle.mk_cert.proofs.Adding.{drop_past, leads_each, leads_done}
 use Rattle.mk_cert.proofs.Targets.{by_name, is_written, written_at}
@@ -17,7 +17,7 @@ note_file-requires c =
     let x = c.args.subject.now in
     let e = c.args.entry.now in
     let i = c.loop-place.place in
-    let number : c.entry.inside.number ≡ e.number = ap (λ (k : Entry). k.number) c.entry.view_is in
+    let number : c.entry.inside.number ≡ e.number = ap (λ (k : NodeRow). k.number) c.entry.view_is in
     let low : i < length (writes_of x e.number) = omega (arith, c.loop-place-test.true, c.count_of_written-place-end.ensures, ap (λ n. length (writes_of x n)) number) in
     record {
       entry = c.requires;
@@ -30,7 +30,7 @@ loop-place-preserved c =
     let x = c.args.subject.now in
     let e = c.args.entry.now in
     let i = c.loop-place.place in
-    let number : c.entry.inside.number ≡ e.number = ap (λ (k : Entry). k.number) c.entry.view_is in
+    let number : c.entry.inside.number ≡ e.number = ap (λ (k : NodeRow). k.number) c.entry.view_is in
     let low : i < length (writes_of x e.number) = omega (arith, c.loop-place-test.true, c.count_of_written-place-end.ensures, ap (λ n. length (writes_of x n)) number) in
     let is = written_at x c.written-file.result c.entry.inside.number e.number i number c.written-file.ensures in
     leads_each x (λ f. map (λ t. two_writers e.number t f) (behind e.number (serial_order x.graph))) (writes_of x e.number) i [] _ c.loop-place.found.items c.note_file.new.found.items c.args.found.now.items low c.loop-place.invariant
@@ -42,6 +42,9 @@ returns c =
     let e = c.args.entry.now in
     let i = c.loop-place.place in
     let files = writes_of x e.number in
-    let number : c.entry.inside.number ≡ e.number = ap (λ (k : Entry). k.number) c.entry.view_is in
+    let number : c.entry.inside.number ≡ e.number = ap (λ (k : NodeRow). k.number) c.entry.view_is in
     let past : length files ≤ i = omega (arith, c.loop-place-test.false, c.count_of_written-place-end.ensures, ap (λ n. length (writes_of x n)) number) in
-    leads_done x (flat_map (λ f. map (λ t. two_writers e.number t f) (behind e.number (serial_order x.graph))) (drop i files)) _ c.loop-place.found.items c.args.found.now.items (ap (flat_map (λ f. map (λ t. two_writers e.number t f) (behind e.number (serial_order x.graph)))) (drop_past files i past)) c.loop-place.invariant
+    leads_done x (flat_map (λ f. map (λ t. two_writers e.number t f) (behind e.number (serial_order x.graph)))
+    (drop i files)) _ c.loop-place.found.items c.args.found.now.items
+    (ap (flat_map (λ f. map (λ t. two_writers e.number t f) (behind e.number (serial_order x.graph))))
+    (drop_past files i past)) c.loop-place.invariant

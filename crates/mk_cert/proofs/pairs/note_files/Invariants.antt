@@ -3,7 +3,7 @@ use Rattle.std.specs.List.{flat_map}
 use Rattle.mk_graph.specs.Serial.{serial_order}
 use Rattle.mk_cert.specs.Subject.{writes_of}
 use Rattle.mk_cert.specs.Candidates.{two_writers}
-use Rattle.mk_cert.specs.Entry.{behind}
+use Rattle.mk_cert.specs.NodeRow.{behind}
 use Rattle.mk_cert.proofs.Adding.{Leads}
 use Rattle.mk_cert.proofs.pairs.note_files.Given as goal
 

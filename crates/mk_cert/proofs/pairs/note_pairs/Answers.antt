@@ -2,7 +2,7 @@ use Rattle.std.proofs.Common.{◌≡◌, ◌∙◌, ◌<◌, ◌≤◌, ℕ, ◌
 use Rattle.std.specs.List.{flat_map}
 use Rattle.std.proofs.lemmas.List.{get_or-map, length-map, drop_more}
 use Rattle.std.proofs.lemmas.List.Elements.{All-get_or}
-use Rattle.mk_cert.specs.Entry.{Entry, IsEntry, behind}
+use Rattle.mk_cert.specs.NodeRow.{NodeRow, IsEntry, behind}
 use Rattle.mk_cert.specs.Listed.{Adds}
 use Rattle.mk_graph.specs.Membership.{IsDistinct}
 use Rattle.mk_graph.specs.Serial.{serial_order}
@@ -22,12 +22,12 @@ note_files-requires c =
     let x = c.args.subject.now in
     let entries = c.entries-entries.result.now in
     let lt : c.loop-entry.entry-index < length entries = omega arith in
-    subst (λ (e : Entry). IsEntry x e) (sym c.entry-item.is) (All-get_or (IsEntry x) entries c.loop-entry.entry-index c.entry-item.result lt c.entries-entries.ensures.right)
+    subst (λ (e : NodeRow). IsEntry x e) (sym c.entry-item.is) (All-get_or (IsEntry x) entries c.loop-entry.entry-index c.entry-item.result lt c.entries-entries.ensures.right)
 
 pub loop-entry-preserved : goal.loop-entry-preserved
 loop-entry-preserved c =
     let x = c.args.subject.now in
-    let number = λ (e : Entry). e.number in
+    let number = λ (e : NodeRow). e.number in
     let entries = c.entries-entries.result.now in
     let order = map number entries in
     let i = c.loop-entry.entry-index in
@@ -45,7 +45,7 @@ loop-entry-preserved c =
 pub returns : goal.returns
 returns c =
     let x = c.args.subject.now in
-    let number = λ (e : Entry). e.number in
+    let number = λ (e : NodeRow). e.number in
     let entries = c.entries-entries.result.now in
     let i = c.loop-entry.entry-index in
     let past : length (map number entries) ≤ i = omega (arith, length-map entries number) in

@@ -1,10 +1,10 @@
 use Rattle.std.proofs.Common.{map, drop}
 use Rattle.mk_graph.specs.Serial.{serial_order}
 use Rattle.mk_cert.specs.Candidates.{pairs_of_writers}
-use Rattle.mk_cert.specs.Entry.{Entry}
+use Rattle.mk_cert.specs.NodeRow.{NodeRow}
 use Rattle.mk_cert.proofs.Adding.{Leads}
 use Rattle.mk_cert.proofs.pairs.note_pairs.Given as goal
 
 -- the recipes that are left
 abbrev pub invariant-loop-entry : goal.invariant-loop-entry
-invariant-loop-entry l = Leads l.subject (pairs_of_writers l.subject (drop l.entry-index (map (λ (e : Entry). e.number) l.entries))) (pairs_of_writers l.subject (serial_order l.subject.graph)) l.found.items l.initial.found.items
+invariant-loop-entry l = Leads l.subject (pairs_of_writers l.subject (drop l.entry-index (map (λ (e : NodeRow). e.number) l.entries))) (pairs_of_writers l.subject (serial_order l.subject.graph)) l.found.items l.initial.found.items

@@ -20,4 +20,7 @@ loop-other-preserved c =
 pub returns : goal.returns
 returns c =
     let past : length c.args.others.now ≤ c.loop-other.other-index = omega arith in
-    leads_done c.args.subject.now (map (λ t. two_writers c.args.entry.now.number t c.args.file.now.file) (drop c.loop-other.other-index c.args.others.now)) _ c.loop-other.found.items c.args.found.now.items (ap (map (λ t. two_writers c.args.entry.now.number t c.args.file.now.file)) (drop_past c.args.others.now c.loop-other.other-index past)) c.loop-other.invariant
+    leads_done c.args.subject.now (map (λ t. two_writers c.args.entry.now.number t c.args.file.now.file)
+    (drop c.loop-other.other-index c.args.others.now)) _ c.loop-other.found.items c.args.found.now.items
+    (ap (map (λ t. two_writers c.args.entry.now.number t c.args.file.now.file))
+    (drop_past c.args.others.now c.loop-other.other-index past)) c.loop-other.invariant

@@ -4,7 +4,7 @@ use Rattle.std.proofs.lemmas.List.{nil_from_length}
 use Rattle.std.proofs.lemmas.Result.{on_ok_weaker}
 use Rattle.mk_graph.specs.Serial.{serial_order}
 use Rattle.mk_lines.specs.Names.{has_name}
-use Rattle.mk_cert.specs.Entry.{Entry, writers_of}
+use Rattle.mk_cert.specs.NodeRow.{NodeRow, writers_of}
 use Rattle.mk_cert.specs.Subject.{Subject, writes_of}
 use Rattle.mk_cert.specs.Candidates.{race}
 use Rattle.mk_cert.specs.Listed.{Adds}
@@ -42,7 +42,7 @@ note_races_with-requires c =
     record {
       entry = c.requires.entry;
       graph = c.turn_to.ensures.graph ∙ c.requires.graph;
-      number = c.turn_to.ensures.number ∙ ap (λ (k : Entry). k.number) c.entry.view_is;
+      number = c.turn_to.ensures.number ∙ ap (λ (k : NodeRow). k.number) c.entry.view_is;
       read = c.requires.read;
       written = λ o h. writers_write x f ns writers o h;
     }

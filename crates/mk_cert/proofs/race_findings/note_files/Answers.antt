@@ -5,8 +5,8 @@ use Rattle.std.specs.List.{flat_map}
 use Rattle.mk_graph.specs.Serial.{serial_order}
 use Rattle.mk_cert.specs.Subject.{reads_of}
 use Rattle.mk_cert.specs.Candidates.{race}
-use Rattle.mk_cert.specs.Entry.{Entry}
-use Rattle.mk_cert.specs.Known.{known_of}
+use Rattle.mk_cert.specs.NodeRow.{NodeRow}
+use Rattle.mk_cert.specs.FileInfo.{known_of}
 use Rattle.mk_cert.specs.Listed.{Adds}
 use Rattle.mk_cert.specs.Settled.{is_settled}
 use Rattle.mk_cert.specs.Target.{unsettled_of}
@@ -19,7 +19,7 @@ loop-place-init c = record { leads = λ last h. h; graph = refl }
 
 pub note_file-requires-clause-read : goal.note_file-requires-clause-read
 note_file-requires-clause-read c =
-    let number : c.entry.inside.number ≡ c.args.entry.now.number = ap (λ (e : Entry). e.number) c.entry.view_is in
+    let number : c.entry.inside.number ≡ c.args.entry.now.number = ap (λ (e : NodeRow). e.number) c.entry.view_is in
     (open_at c.args.subject.now c.entry.inside.number c.args.entry.now.number c.loop-place.place c.count_of_unsettled-place-end.result c.unsettled-file.result number c.count_of_unsettled-place-end.ensures (omega arith) c.unsettled-file.ensures).read
 
 pub note_file-requires-clause-graph : goal.note_file-requires-clause-graph
@@ -30,7 +30,7 @@ loop-place-preserved c =
     let x = c.args.subject.now in
     let e = c.args.entry.now in
     let i = c.loop-place.place in
-    let number : c.entry.inside.number ≡ e.number = ap (λ (k : Entry). k.number) c.entry.view_is in
+    let number : c.entry.inside.number ≡ e.number = ap (λ (k : NodeRow). k.number) c.entry.view_is in
     let at = open_at x c.entry.inside.number e.number i c.count_of_unsettled-place-end.result c.unsettled-file.result number c.count_of_unsettled-place-end.ensures (omega arith) c.unsettled-file.ensures in
     let races = λ (f : List ℕ). map (λ o. race e.number o f) (serial_order x.graph) in
     record {
@@ -44,7 +44,7 @@ returns-clause-found c =
     let x = c.args.subject.now in
     let e = c.args.entry.now in
     let i = c.loop-place.place in
-    let number : c.entry.inside.number ≡ e.number = ap (λ (k : Entry). k.number) c.entry.view_is in
+    let number : c.entry.inside.number ≡ e.number = ap (λ (k : NodeRow). k.number) c.entry.view_is in
     let left = unsettled_of x e.number in
     let none = none_left x c.entry.inside.number e.number i c.count_of_unsettled-place-end.result number c.count_of_unsettled-place-end.ensures (omega arith) in
     let races = λ (f : List ℕ). map (λ o. race e.number o f) (serial_order x.graph) in

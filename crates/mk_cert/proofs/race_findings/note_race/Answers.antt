@@ -1,11 +1,11 @@
 use Rattle.std.proofs.Common.{◌≡◌, ◌∙◌, ◌∷◌, ◌++◌, [], ℕ, List, ap, sym, subst}
 use Rattle.std.proofs.lemmas.Bool.{true≢false}
 use Rattle.mk_graph.specs.Graph.{Graph}
-use Rattle.mk_graph.specs.Turns.{Before}
+use Rattle.mk_graph.specs.Schedules.{Before}
 use Rattle.mk_cert.specs.declared.finding.Finding.TheVariants.{Race}
 use Rattle.mk_cert.specs.Subject.{name_of}
 use Rattle.mk_cert.specs.Candidates.{race}
-use Rattle.mk_cert.specs.Entry.{Entry}
+use Rattle.mk_cert.specs.NodeRow.{NodeRow}
 use Rattle.mk_cert.specs.Target.{Target}
 use Rattle.mk_cert.proofs.Adding.{adds_one, adds_none}
 use Rattle.mk_cert.proofs.Decided.{name_is}
@@ -15,7 +15,7 @@ use Rattle.mk_cert.proofs.race_findings.note_race.Goals as goal
 pub returns-then-other-entry-clause-found : goal.returns-then-other-entry-clause-found
 returns-then-other-entry-clause-found c =
     let e = c.args.entry.now in
-    let number : c.entry.inside.number ≡ e.number = ap (λ (k : Entry). k.number) c.entry.view_is in
+    let number : c.entry.inside.number ≡ e.number = ap (λ (k : NodeRow). k.number) c.entry.view_is in
     adds_none c.args.subject.now (race e.number c.args.other c.args.file.now.file) c.args.found.now.items (λ h. h.0 (c.if-other-entry.true ∙ number))
 
 pub returns-then-before-clause-found : goal.returns-then-before-clause-found
@@ -36,9 +36,17 @@ returns-clause-found c =
     let f = c.args.file.now.file in
     let at = c.args.earlier.now in
     let old = c.args.found.now.items in
-    let number : c.entry.inside.number ≡ e.number = ap (λ (k : Entry). k.number) c.entry.view_is in
+    let number : c.entry.inside.number ≡ e.number = ap (λ (k : NodeRow). k.number) c.entry.view_is in
     let recipe = ap (λ (k : List ℕ). old ++ Race k c.in_ok-writer.writer c.in_ok-file.file ∷ []) (name_is x e c.in_ok-recipe.recipe c.requires.entry c.in_ok-recipe.ensures) in
     let writer = ap (λ (k : List ℕ). old ++ Race (name_of x e.number) k c.in_ok-file.file ∷ []) (c.in_ok-writer.ensures ∙ ap (λ (t : Target). t.file) c.file_of_node.ensures) in
-    adds_one x (race e.number c.args.other f) old c.push.new.self.items
-    ((λ same. c.if-other-entry.false (same ∙ sym number)), c.requires.read, c.requires.written, λ before. true≢false (sym (c.in_ok-before.ensures.before.1 (subst (λ (g : Graph). Before g c.args.other at.number) (sym c.requires.graph) (subst (λ (n : ℕ). Before x.graph c.args.other n) (sym c.requires.number) before))) ∙ c.if-before.false))
+    adds_one x (race e.number c.args.other f) old c.push.new.self.items (
+      (λ same. c.if-other-entry.false (same ∙ sym number)),
+      c.requires.read,
+      c.requires.written,
+      λ before.
+          true≢false (sym (c.in_ok-before.ensures.before.1 (subst
+          (λ (g : Graph). Before g c.args.other at.number) (sym c.requires.graph)
+          (subst (λ (n : ℕ). Before x.graph c.args.other n) (sym c.requires.number) before)))
+          ∙ c.if-before.false),
+    )
     (c.in_ok-push.ensures.items ∙ (recipe ∙ (writer ∙ ap (λ (k : List ℕ). old ++ Race (name_of x e.number) (name_of x c.args.other) k ∷ []) c.in_ok-file.ensures)))

@@ -2,7 +2,7 @@ use Rattle.std.proofs.Common.{◌≡◌, ◌∙◌, ◌<◌, ◌≤◌, ℕ, Lis
 use Rattle.std.specs.List.{flat_map}
 use Rattle.std.proofs.lemmas.List.{get_or-map, length-map}
 use Rattle.std.proofs.lemmas.List.Elements.{All-get_or}
-use Rattle.mk_cert.specs.Entry.{Entry, IsEntry}
+use Rattle.mk_cert.specs.NodeRow.{NodeRow, IsEntry}
 use Rattle.mk_cert.specs.Listed.{Adds}
 use Rattle.mk_cert.specs.Candidates.{race}
 use Rattle.mk_cert.specs.Subject.{reads_of}
@@ -26,12 +26,12 @@ note_files-requires-clause-entry c =
     let x = c.args.subject.now in
     let entries = c.entries-entries.result.now in
     let lt : c.loop-entry.entry-index < length entries = omega arith in
-    subst (λ (e : Entry). IsEntry x e) (sym c.entry-item.is) (All-get_or (IsEntry x) entries c.loop-entry.entry-index c.entry-item.result lt c.entries-entries.ensures.right)
+    subst (λ (e : NodeRow). IsEntry x e) (sym c.entry-item.is) (All-get_or (IsEntry x) entries c.loop-entry.entry-index c.entry-item.result lt c.entries-entries.ensures.right)
 
 pub loop-entry-preserved : goal.loop-entry-preserved
 loop-entry-preserved c =
     let x = c.args.subject.now in
-    let number = λ (e : Entry). e.number in
+    let number = λ (e : NodeRow). e.number in
     let entries = c.entries-entries.result.now in
     let i = c.loop-entry.entry-index in
     let lt : i < length entries = omega arith in
@@ -46,8 +46,11 @@ loop-entry-preserved c =
 pub returns : goal.returns
 returns c =
     let x = c.args.subject.now in
-    let number = λ (e : Entry). e.number in
+    let number = λ (e : NodeRow). e.number in
     let entries = c.entries-entries.result.now in
     let i = c.loop-entry.entry-index in
     let past : length (map number entries) ≤ i = omega (arith, length-map entries number) in
-    leads_done x (flat_map (λ t. flat_map (λ f. map (λ o. race t o f) (serial_order x.graph)) (reads_of x t)) (drop i (map number entries))) _ c.loop-entry.found.items c.args.found.now.items (ap (flat_map (λ t. flat_map (λ f. map (λ o. race t o f) (serial_order x.graph)) (reads_of x t))) (drop_past (map number entries) i past)) c.loop-entry.invariant.leads
+    leads_done x (flat_map (λ t. flat_map (λ f. map (λ o. race t o f) (serial_order x.graph)) (reads_of x t))
+    (drop i (map number entries))) _ c.loop-entry.found.items c.args.found.now.items
+    (ap (flat_map (λ t. flat_map (λ f. map (λ o. race t o f) (serial_order x.graph)) (reads_of x t)))
+    (drop_past (map number entries) i past)) c.loop-entry.invariant.leads

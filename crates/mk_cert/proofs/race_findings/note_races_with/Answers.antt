@@ -1,6 +1,6 @@
 use Rattle.std.proofs.Common.{◌<◌, ◌≤◌, ◌∙◌, ap, refl, length, map, drop, arith}
 use Rattle.mk_cert.specs.Candidates.{race}
-use Rattle.mk_cert.specs.Earlier.{Place}
+use Rattle.mk_cert.specs.HappensBefore.{NodeInGraph}
 use Rattle.mk_cert.proofs.Adding.{drop_past, leads_map, leads_done}
 use Rattle.mk_cert.proofs.FileDecided.{number_at}
 use Rattle.mk_cert.proofs.race_findings.note_races_with.Goals as goal
@@ -9,10 +9,10 @@ pub loop-writer-init : goal.loop-writer-init
 loop-writer-init c = record { leads = λ last h. h; same = refl }
 
 pub note_race-requires-clause-graph : goal.note_race-requires-clause-graph
-note_race-requires-clause-graph c = ap (λ (p : Place). p.graph) c.loop-writer.invariant.same ∙ c.requires.graph
+note_race-requires-clause-graph c = ap (λ (p : NodeInGraph). p.graph) c.loop-writer.invariant.same ∙ c.requires.graph
 
 pub note_race-requires-clause-number : goal.note_race-requires-clause-number
-note_race-requires-clause-number c = ap (λ (p : Place). p.number) c.loop-writer.invariant.same ∙ c.requires.number
+note_race-requires-clause-number c = ap (λ (p : NodeInGraph). p.number) c.loop-writer.invariant.same ∙ c.requires.number
 
 pub note_race-requires-clause-written : goal.note_race-requires-clause-written
 note_race-requires-clause-written c =
@@ -30,4 +30,7 @@ loop-writer-preserved c =
 pub returns-clause-found : goal.returns-clause-found
 returns-clause-found c =
     let past : length c.args.writers.now ≤ c.loop-writer.writer-index = omega arith in
-    leads_done c.args.subject.now (map (λ o. race c.args.entry.now.number o c.args.file.now.file) (drop c.loop-writer.writer-index c.args.writers.now)) _ c.loop-writer.found.items c.args.found.now.items (ap (map (λ o. race c.args.entry.now.number o c.args.file.now.file)) (drop_past c.args.writers.now c.loop-writer.writer-index past)) c.loop-writer.invariant.leads
+    leads_done c.args.subject.now (map (λ o. race c.args.entry.now.number o c.args.file.now.file)
+    (drop c.loop-writer.writer-index c.args.writers.now)) _ c.loop-writer.found.items
+    c.args.found.now.items (ap (map (λ o. race c.args.entry.now.number o c.args.file.now.file))
+    (drop_past c.args.writers.now c.loop-writer.writer-index past)) c.loop-writer.invariant.leads

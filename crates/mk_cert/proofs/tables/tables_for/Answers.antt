@@ -5,14 +5,14 @@ use Rattle.mk_lines.specs.Names.{has_name}
 use Rattle.mk_graph.specs.declared.node.Node.{Node}
 use Rattle.mk_graph.specs.Graph.{IsGraph}
 use Rattle.mk_graph.specs.Setting as build
-use Rattle.mk_cert.specs.Known.{Known, AreFiles, all_names, known_by, known_of}
+use Rattle.mk_cert.specs.FileInfo.{FileInfo, AreFiles, all_names, known_by, known_of}
 use Rattle.mk_cert.specs.Records.{Recorded, recorded_of}
 use Rattle.mk_infer.specs.There.{Exists}
 use Rattle.mk_infer.specs.declared.fault.InferFault.{InferFault}
 use Rattle.mk_read.specs.Reading.{Makefile}
 use Rattle.mk_cert.specs.Subject.{footprints, reads_of, subject_of, writes_of}
 use Rattle.mk_cert.specs.Writers.{numbers_at}
-use Rattle.mk_cert.specs.Entry.{AreEntries, Entry, IsFaultOf, entry_writes, writers_of}
+use Rattle.mk_cert.specs.NodeRow.{AreEntries, NodeRow, IsFaultOf, entry_writes, writers_of}
 use Rattle.mk_cert.proofs.Entries.{all_told, writers_are}
 use Rattle.mk_cert.proofs.KnownFiles.{known_is, spelled}
 use Rattle.mk_cert.proofs.tables.tables_for.Goals as goal
@@ -55,13 +55,21 @@ returns c =
     let recorded = c.in_ok-records.ensures in
     let held : AreEntries x entries = subst (λ (r : Recorded). AreEntries (subject_of m e r.graph r.setting) entries) recorded c.in_ok-entries.ensures.entries in
     let is_graph : IsGraph x.graph = subst (λ (r : Recorded). IsGraph r.graph) recorded c.in_ok-entries.ensures.graph in
-    let writers : (file : List ℕ) → numbers_at c.in_ok-writers.writers file ≡ writers_of x file = λ file. c.in_ok-writers.ensures file ∙ (ap (λ (es : List Entry). map (λ (e : Entry). e.number) (filter (λ (e : Entry). has_name (entry_writes e) file) es)) c.deref.ensures.value ∙ writers_are x file entries held) in
+    let writers : (file : List ℕ) → numbers_at c.in_ok-writers.writers file
+    ≡ writers_of x file = λ file. c.in_ok-writers.ensures file
+    ∙ (ap (λ (es : List NodeRow). map (λ (e : NodeRow). e.number)
+    (filter (λ (e : NodeRow). has_name (entry_writes e) file) es)) c.deref.ensures.value
+    ∙ writers_are x file entries held) in
     let names : c.in_ok-names.names ≡ all_names x = c.in_ok-names.ensures in
     let files = c.in_ok-files.files in
     let texts = spelled files.names.keys in
     let by = λ (r : Recorded). known_by m r.setting (numbers_at c.in_ok-writers.writers) c.in_ok-names.names in
     let files_of_it = subst (λ (r : Recorded). AreFiles (by r) (map (λ (n : Node). n.name) r.graph.nodes) (build.writes r.graph (footprints r.setting)) (build.reads r.graph (footprints r.setting)) texts files.known.items files.nodes.items files.writes files.reads) recorded c.in_ok-files.ensures in
-    let kept : AreFiles (known_of x) (all_names x) (writes_of x) (reads_of x) texts files.known.items files.nodes.items files.writes files.reads = subst (λ (by : List ℕ → Known). AreFiles by (all_names x) (writes_of x) (reads_of x) texts files.known.items files.nodes.items files.writes files.reads) (known_is x (numbers_at c.in_ok-writers.writers) c.in_ok-names.names writers names) files_of_it in
+    let kept : AreFiles (known_of x) (all_names x) (writes_of x) (reads_of x) texts files.known.items
+    files.nodes.items files.writes files.reads = subst (λ (by : List ℕ → FileInfo). AreFiles by
+    (all_names x) (writes_of x) (reads_of x) texts files.known.items files.nodes.items files.writes
+    files.reads) (known_is x (numbers_at c.in_ok-writers.writers) c.in_ok-names.names writers names)
+    files_of_it in
     record {
       tables = record {
         is_graph = is_graph;

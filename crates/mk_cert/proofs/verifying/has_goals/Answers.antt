@@ -39,7 +39,10 @@ returns-then-ne c =
     let lt : i < length goals = omega arith in
     let less : i < length names = omega arith in
     let low : n < length c.nodes-nodes.result.now = omega (arith, c.goals-goals.ensures.graph.sound.goals n (subst (λ (l : List ℕ). Has l n) c.goals-goals.ensures.value (at goals i 0 lt)), ap (λ (l : List Node). length l) c.nodes-nodes.ensures.value) in
-    let this : get_or c.nodes-nodes.result.now n c.index-nodes-goal.result ≡ node x.graph n = get_or_default c.nodes-nodes.result.now n c.index-nodes-goal.result no_node low ∙ (ap (λ (l : List Node). get_or l n no_node) c.nodes-nodes.ensures.value ∙ ap (λ (g : Graph). node g n) c.graph-graph.ensures.value) in
+    let this : get_or c.nodes-nodes.result.now n c.index-nodes-goal.result
+    ≡ node x.graph n = get_or_default c.nodes-nodes.result.now n c.index-nodes-goal.result no_node low
+    ∙ (ap (λ (l : List Node). get_or l n no_node) c.nodes-nodes.ensures.value
+    ∙ ap (λ (g : Graph). node g n) c.graph-graph.ensures.value) in
     let left : c.at.result.now ≡ a = c.at.ensures in
     let right : c.as_str.result.now ≡ name n = c.as_str.ensures ∙ ap (λ (v : Node). v.name) this in
     let differ : bytes_eq c.at.result.now c.as_str.result.now ≡ false = not-true (bytes_eq c.at.result.now c.as_str.result.now) (sym c.ne.ensures ∙ c.if-ne.true) in (
@@ -61,7 +64,10 @@ loop-place-preserved c =
     let lt : i < length goals = omega arith in
     let less : i < length names = omega arith in
     let low : n < length c.nodes-nodes.result.now = omega (arith, c.goals-goals.ensures.graph.sound.goals n (subst (λ (l : List ℕ). Has l n) c.goals-goals.ensures.value (at goals i 0 lt)), ap (λ (l : List Node). length l) c.nodes-nodes.ensures.value) in
-    let this : get_or c.nodes-nodes.result.now n c.index-nodes-goal.result ≡ node x.graph n = get_or_default c.nodes-nodes.result.now n c.index-nodes-goal.result no_node low ∙ (ap (λ (l : List Node). get_or l n no_node) c.nodes-nodes.ensures.value ∙ ap (λ (g : Graph). node g n) c.graph-graph.ensures.value) in
+    let this : get_or c.nodes-nodes.result.now n c.index-nodes-goal.result
+    ≡ node x.graph n = get_or_default c.nodes-nodes.result.now n c.index-nodes-goal.result no_node low
+    ∙ (ap (λ (l : List Node). get_or l n no_node) c.nodes-nodes.ensures.value
+    ∙ ap (λ (g : Graph). node g n) c.graph-graph.ensures.value) in
     let left : c.at.result.now ≡ a = c.at.ensures in
     let right : c.as_str.result.now ≡ name n = c.as_str.ensures ∙ ap (λ (v : Node). v.name) this in
     let equal : bytes_eq c.at.result.now c.as_str.result.now ≡ true = not-false (bytes_eq c.at.result.now c.as_str.result.now) (sym c.ne.ensures ∙ c.if-ne.false) in

@@ -1,6 +1,6 @@
 use Rattle.std.proofs.Common.{◌≡◌, ◌∙◌, List, Err, ◌⊎◌, ⊎_elim, ap, sym, subst}
 use Rattle.mk_graph.specs.Right.{IsRight}
-use Rattle.mk_ways.specs.Certificate.{Way, Certificate}
+use Rattle.mk_cert_text.specs.Certificate.{Way, Certificate}
 use Rattle.mk_cert.specs.declared.fault.CertFault.TheVariants.{Memory}
 use Rattle.mk_cert.specs.Laws.{IsRightOnce}
 use Rattle.mk_cert.specs.Subject.{footprints}

@@ -3,9 +3,9 @@ use Rattle.std.proofs.lemmas.Bool.{cases_Bool}
 use Rattle.mk_lines.specs.Names.{has_name}
 use Rattle.mk_graph.specs.Membership.{Has, has}
 use Rattle.mk_graph.specs.Serial.{serial_order}
-use Rattle.mk_ways.specs.declared.certificate.Finish.{Finish}
+use Rattle.mk_cert_text.specs.declared.certificate.Finish.{Finish}
 use Rattle.mk_cert.specs.Subject.{footprints, writes_of}
-use Rattle.mk_cert.specs.Entry.{writers_of}
+use Rattle.mk_cert.specs.NodeRow.{writers_of}
 use Rattle.mk_cert.specs.Target.{Target}
 use Rattle.mk_cert.specs.Paths.{EndsAt}
 use Rattle.mk_cert.proofs.Decided.{has_decides}

@@ -1,10 +1,10 @@
 use Rattle.std.proofs.Common.{◌≡◌, ◌∙◌, [], ℕ, List, true, length, drop, length-drop, arith, ap, sym, subst}
 use Rattle.std.proofs.lemmas.Bool.{true≢false}
 use denote.Enum.Bare.{sameb}
-use Rattle.mk_ways.specs.contracts.certificate.Finish.{the_type}
-use Rattle.mk_ways.specs.Certificate.{Way}
-use Rattle.mk_ways.specs.declared.certificate.Finish.{Finish}
-use Rattle.mk_ways.specs.declared.certificate.Finish.TheVariants.{Written}
+use Rattle.mk_cert_text.specs.contracts.certificate.Finish.{the_type}
+use Rattle.mk_cert_text.specs.Certificate.{Way}
+use Rattle.mk_cert_text.specs.declared.certificate.Finish.{Finish}
+use Rattle.mk_cert_text.specs.declared.certificate.Finish.TheVariants.{Written}
 use Rattle.mk_cert.specs.Subject.{footprints}
 use Rattle.mk_cert.specs.Paths.{EndsAt}
 use Rattle.mk_cert.specs.Target.{Target, target_of}

@@ -3,7 +3,7 @@ use Rattle.mk_lines.specs.Names.{number_of}
 use Rattle.mk_graph.specs.Graph.{prerequisites}
 use Rattle.mk_graph.specs.Membership.{Has}
 use Rattle.mk_cert.specs.Target.{Target}
-use Rattle.mk_cert.specs.Known.{Known, all_names}
+use Rattle.mk_cert.specs.FileInfo.{FileInfo, all_names}
 use Rattle.mk_cert.proofs.Numbers.{number_is, number_names}
 use Rattle.mk_cert.proofs.walking.needs.Goals as goal
 
@@ -14,7 +14,7 @@ returns c =
     let f = c.args.file.now.file in
     let is = c.graph-graph.ensures.graph in
     let rows : c.deref.result.now ≡ c.args.ends.now.needed.items = c.deref.ensures.value in
-    let number : c.known.inside.number ≡ number_of (all_names x) f = ap (λ (k : Known). k.number) c.known.view_is ∙ ap (λ (v : Target). v.known.number) (c.file.view_is ∙ c.requires.file) in (
+    let number : c.known.inside.number ≡ number_of (all_names x) f = ap (λ (k : FileInfo). k.number) c.known.view_is ∙ ap (λ (v : Target). v.known.number) (c.file.view_is ∙ c.requires.file) in (
       λ t_yes.
           let here : Has (prerequisites x.graph t) c.known.inside.number = (c.requires.ends.needed_held t c.known.inside.number).0 (subst (λ (l : List (List ℕ)). Has (get_or l t []) c.known.inside.number) rows (c.has_at.ensures.0 t_yes)) in
           let at : Has (prerequisites x.graph t) (number_of (all_names x) f) = subst (λ (n : ℕ). Has (prerequisites x.graph t) n) number here in

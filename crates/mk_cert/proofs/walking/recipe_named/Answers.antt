@@ -5,7 +5,7 @@ use Rattle.mk_graph.specs.declared.node.Node.{Node}
 use Rattle.mk_graph.specs.Graph.{Graph, node, no_node}
 use Rattle.mk_cert.specs.Subject.{name_of}
 use Rattle.mk_cert.proofs.Walks.{recipe_is_node}
-use Rattle.mk_cert.specs.Known.{all_names}
+use Rattle.mk_cert.specs.FileInfo.{all_names}
 use Rattle.mk_cert.proofs.Numbers.{number_is, number_names}
 use Rattle.mk_cert.proofs.walking.recipe_named.Goals as goal
 

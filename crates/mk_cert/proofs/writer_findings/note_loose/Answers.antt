@@ -8,7 +8,7 @@ use Rattle.mk_lines.specs.Names.{has_name}
 use Rattle.mk_cert.specs.Subject.{name_of, writes_of}
 use Rattle.mk_cert.specs.Candidates.{loose}
 use Rattle.mk_cert.specs.Listed.{Adds}
-use Rattle.mk_cert.specs.Entry.{Entry, writers_of}
+use Rattle.mk_cert.specs.NodeRow.{NodeRow, writers_of}
 use Rattle.mk_cert.proofs.Adding.{adds_lifted, adds_none_of}
 use Rattle.mk_cert.proofs.Decided.{has_decides}
 use Rattle.mk_cert.proofs.FileDecided.{writers_write}
@@ -18,7 +18,7 @@ pub returns-then-entry : goal.returns-then-entry
 returns-then-entry c =
     let x = c.args.subject.now in
     let e = c.args.entry.now in
-    let recipe : (node x.graph e.number).recipe ≡ true = sym (ap (λ (n : Node). n.recipe) c.requires.same_node) ∙ (sym (ap (λ (k : Entry). k.node.recipe) c.entry.view_is) ∙ (sym c.entry.invariant ∙ c.if-entry.true)) in
+    let recipe : (node x.graph e.number).recipe ≡ true = sym (ap (λ (n : Node). n.recipe) c.requires.same_node) ∙ (sym (ap (λ (k : NodeRow). k.node.recipe) c.entry.view_is) ∙ (sym c.entry.invariant ∙ c.if-entry.true)) in
     adds_none_of x (λ o. loose e.number o) (serial_order x.graph) c.args.found.now.items (λ o h. true≢false (sym recipe ∙ h.0))
 
 pub note_loose_writers-requires : goal.note_loose_writers-requires
@@ -28,7 +28,7 @@ note_loose_writers-requires c =
     let same : c.writers_for-writers.result.now ≡ writers_of x (name_of x e.number) = c.writers_for-writers.ensures in
     record {
       entry = c.requires;
-      bare = sym (ap (λ (k : Entry). k.node.recipe) c.entry.view_is) ∙ (sym c.entry.invariant ∙ c.if-entry.false);
+      bare = sym (ap (λ (k : NodeRow). k.node.recipe) c.entry.view_is) ∙ (sym c.entry.invariant ∙ c.if-entry.false);
       written = λ o h. writers_write x (name_of x e.number) c.writers_for-writers.result.now same o h;
     }
 

@@ -5,7 +5,7 @@ use Rattle.mk_graph.specs.Membership.{Has}
 use Rattle.mk_cert.specs.declared.finding.Finding.TheVariants.{Loose}
 use Rattle.mk_cert.specs.Subject.{name_of}
 use Rattle.mk_cert.specs.Candidates.{loose}
-use Rattle.mk_cert.specs.Entry.{Entry}
+use Rattle.mk_cert.specs.NodeRow.{NodeRow}
 use Rattle.mk_cert.specs.Target.{Target}
 use Rattle.mk_cert.proofs.Adding.{adds_one, adds_none}
 use Rattle.mk_cert.proofs.Decided.{name_is}
@@ -16,7 +16,7 @@ pub returns-then-has_number : goal.returns-then-has_number
 returns-then-has_number c =
     let x = c.args.subject.now in
     let e = c.args.entry.now in
-    let number : c.entry.inside.number ≡ e.number = ap (λ (k : Entry). k.number) c.entry.view_is in
+    let number : c.entry.inside.number ≡ e.number = ap (λ (k : NodeRow). k.number) c.entry.view_is in
     let needs : c.prerequisites.result.now ≡ prerequisites x.graph e.number = c.prerequisites.ensures ∙ (ap (λ (g : Graph). prerequisites g c.entry.inside.number) c.graph.ensures.value ∙ ap (prerequisites x.graph) number) in
     adds_none x (loose e.number c.args.writer) c.args.found.now.items (λ h. h.2 (subst (λ (l : List ℕ). Has l c.args.writer) needs (number_in c.prerequisites.result.now c.args.writer (sym c.if-has_number.ensures))))
 
@@ -29,7 +29,7 @@ returns c =
     let e = c.args.entry.now in
     let old = c.args.found.now.items in
     let is = c.requires.entry in
-    let number : c.entry.inside.number ≡ e.number = ap (λ (k : Entry). k.number) c.entry.view_is in
+    let number : c.entry.inside.number ≡ e.number = ap (λ (k : NodeRow). k.number) c.entry.view_is in
     let needs : c.prerequisites.result.now ≡ prerequisites x.graph e.number = c.prerequisites.ensures ∙ (ap (λ (g : Graph). prerequisites g c.entry.inside.number) c.graph.ensures.value ∙ ap (prerequisites x.graph) number) in
     let bare : (node x.graph e.number).recipe ≡ false = sym (ap (λ (n : Node). n.recipe) is.same_node) ∙ c.requires.bare in
     let named = ap (λ (k : List ℕ). old ++ Loose k c.in_ok-writer.writer ∷ []) (name_is x e c.in_ok-name.name is c.in_ok-name.ensures) in

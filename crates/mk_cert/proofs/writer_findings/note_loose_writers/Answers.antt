@@ -20,4 +20,7 @@ loop-writer-preserved c =
 pub returns : goal.returns
 returns c =
     let past : length c.args.writers.now ≤ c.loop-writer.writer-index = omega arith in
-    leads_done c.args.subject.now (map (λ o. loose c.args.entry.now.number o) (drop c.loop-writer.writer-index c.args.writers.now)) _ c.loop-writer.found.items c.args.found.now.items (ap (map (λ o. loose c.args.entry.now.number o)) (drop_past c.args.writers.now c.loop-writer.writer-index past)) c.loop-writer.invariant
+    leads_done c.args.subject.now (map (λ o. loose c.args.entry.now.number o)
+    (drop c.loop-writer.writer-index c.args.writers.now)) _ c.loop-writer.found.items
+    c.args.found.now.items (ap (map (λ o. loose c.args.entry.now.number o))
+    (drop_past c.args.writers.now c.loop-writer.writer-index past)) c.loop-writer.invariant

@@ -1,13 +1,13 @@
 use Rattle.std.proofs.Common.{◌≡◌, ◌∙◌, ap}
 use Rattle.mk_cert.specs.Subject.{name_of}
-use Rattle.mk_cert.specs.Entry.{Entry, writers_of}
+use Rattle.mk_cert.specs.NodeRow.{NodeRow, writers_of}
 use Rattle.mk_cert.proofs.Decided.{name_is}
 use Rattle.mk_cert.proofs.writer_findings.writers_for.Goals as goal
 
 pub returns-then-entry-nodes : goal.returns-then-entry-nodes
 returns-then-entry-nodes c =
     let x = c.args.subject.now in
-    let number : c.entry.inside.number ≡ c.args.entry.now.number = ap (λ (k : Entry). k.number) c.entry.view_is in
+    let number : c.entry.inside.number ≡ c.args.entry.now.number = ap (λ (k : NodeRow). k.number) c.entry.view_is in
     c.writers_of_node.ensures ∙ ap (λ n. writers_of x (name_of x n)) number
 
 pub returns : goal.returns

@@ -1,4 +1,3 @@
-use Rattle.mk_core.proofs.Faults.{some_with}
 use Rattle.mk_core.proofs.checking.check.Goals as goal
 
 pub returns-clause-answer : goal.returns-clause-answer
@@ -6,4 +5,4 @@ returns-clause-answer g c = c.answer_judged.ensures.answer
 
 pub returns-clause-right : goal.returns-clause-right
 returns-clause-right g c =
-    some_with (g.F.Files.told c.args.files.now) c.answer_judged.ensures.answer (λ told a agreed. c.yes_is_right.ensures told c.args.request.now c.answer_judged.result a agreed)
+    λ told fits agreed. c.yes_is_right.ensures told c.args.request.now c.answer_judged.result (c.answer_judged.ensures.answer told fits) agreed

@@ -5,9 +5,8 @@ use Rattle.mk_infer.specs.Selection.{Selects}
 use Rattle.mk_infer.specs.There.{Exists}
 use Rattle.mk_read.specs.Reading.{Makefile}
 use Rattle.mk_core.specs.Judging.{AnswersTold}
-use Rattle.mk_print.specs.declared.fault.Fault.TheVariants.{Memory}
+use Rattle.mk_core_text.specs.declared.fault.Fault.TheVariants.{Memory}
 use Rattle.mk_core.proofs.Builds.{as_goals, same_subject, told_well}
-use Rattle.mk_core.proofs.Faults.{some_with}
 use Rattle.mk_core.proofs.judging.judge_graph.Goals as goal
 
 pub new-requires-clause-selected : goal.new-requires-clause-selected
@@ -27,5 +26,6 @@ returns-clause-answer g c =
     let found = c.judge-answer.result in
     let same = same_subject _ ready.makefile _ _ graph _ ready.setting c.table.ensures c.recorded.ensures c.setting.ensures in
     let is = c.in_ok-subject.ensures.value ∙ same in
-    some_with (g.F.Files.told c.args.files.now) c.judge-answer.ensures.answer
-    (λ told a. subst (λ (x : Subject). (found ≡ Err Memory) ⊎ AnswersTold (judges told) x found) is (told_well (judges told) c.in_ok-subject.subject c.graph-graph.ensures.graph c.in_ok-subject.ensures.subject found a))
+    λ told fits. subst (λ (x : Subject). (found ≡ Err Memory) ⊎ AnswersTold (judges told) x found) is
+    (told_well (judges told) c.in_ok-subject.subject c.graph-graph.ensures.graph
+    c.in_ok-subject.ensures.subject found (c.judge-answer.ensures.answer told fits))

@@ -2,9 +2,8 @@ use Rattle.std.proofs.Common.{◌≡◌, List, ℕ, Ok, refl, subst}
 use Rattle.std.proofs.lemmas.Result.{err_from_is_err_and}
 use Rattle.mk_infer.specs.Goals.{goal_names}
 use Rattle.mk_infer.specs.Steps as inferring
-use Rattle.mk_core.specs.Views.{Finds, ready_over, ready_with}
 use Rattle.mk_core.proofs.Answering.{goals_fail, goals_found}
-use Rattle.mk_core.proofs.Faults.{plain_infer, some_all, some_with, stays_infer}
+use Rattle.mk_core.proofs.Faults.{plain_infer, stays_infer}
 use Rattle.mk_core.proofs.ready.ready_over.Goals as goal
 
 pub returns-in_err-goals-clause-ready : goal.returns-in_err-goals-clause-ready
@@ -12,7 +11,7 @@ returns-in_err-goals-clause-ready g c =
     let p = err_from_is_err_and c.from_residual.result c.from_residual.ensures.1 in
     let fault = c.in_err-goals.field-0.0 in
     let fails = subst (λ (words : List (List ℕ)). inferring.Fails fault (goal_names c.args.table.now words)) c.as_slice.ensures c.in_err-goals.ensures in
-    rw (p.1, p.2) (some_all (g.F.Files.told c.args.files.now) (λ told. goals_fail told c.args.request.now c.args.table.now fault fails))
+    rw (p.1, p.2) (λ told fits. goals_fail told c.args.request.now c.args.table.now fault fails)
 
 pub returns-in_err-goals-clause-memory : goal.returns-in_err-goals-clause-memory
 returns-in_err-goals-clause-memory g c =
@@ -30,5 +29,4 @@ returns-clause-ready g c =
     let table = c.args.table.now in
     let goals = c.in_ok-goals.goals in
     let named : goal_names table request.goals ≡ Ok goals = subst (λ (words : List (List ℕ)). goal_names table words ≡ Ok goals) c.as_slice.ensures c.in_ok-goals.ensures in
-    some_with {P = λ told. Finds (λ failing. ready_with told failing request table goals) c.ready_with.result} {Q = λ told. Finds (λ failing. ready_over told failing request table) c.ready_with.result} (g.F.Files.told c.args.files.now) c.ready_with.ensures.ready
-    (λ told h. goals_found told request table goals named c.ready_with.result h)
+    λ told fits. goals_found told request table goals named c.ready_with.result (c.ready_with.ensures.ready told fits)

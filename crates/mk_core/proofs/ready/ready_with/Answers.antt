@@ -1,10 +1,8 @@
-use Rattle.std.proofs.Common.{◌∙◌, Err, Ok, ap}
+use Rattle.std.proofs.Common.{◌∙◌, ap}
 use Rattle.std.proofs.lemmas.Result.{err_from_is_err_and}
 use Rattle.std.specs.Option.{option_copied}
-use Rattle.mk_core.specs.Ready.{book_for}
-use Rattle.mk_core.specs.Views.{Finds}
 use Rattle.mk_core.proofs.Answering.{book_fails, book_found, made_with}
-use Rattle.mk_core.proofs.Faults.{some_with, turned}
+use Rattle.mk_core.proofs.Faults.{turned}
 use Rattle.mk_core.proofs.ready.ready_with.Goals as goal
 
 pub returns-in_err-book-clause-ready : goal.returns-in_err-book-clause-ready
@@ -12,13 +10,11 @@ returns-in_err-book-clause-ready g c =
     let p = err_from_is_err_and c.from_residual.result c.from_residual.ensures.1 in
     let name = option_copied c.as_ref.result in
     let fault = c.in_err-book.field-0.0 in
-    rw (p.1, p.2) (some_with {P = λ told. Finds (λ failing. book_for told failing name c.args.goals) (Err fault)} (g.F.Files.told c.args.files.now) c.in_err-book.ensures.book
-    (λ told h. book_fails told c.args.request.now c.args.table.now c.args.goals name c.as_ref.ensures.value fault h))
+    rw (p.1, p.2) (λ told fits. book_fails told c.args.request.now c.args.table.now c.args.goals name c.as_ref.ensures.value fault (c.in_err-book.ensures.book told fits))
 
 pub returns-clause-ready : goal.returns-clause-ready
 returns-clause-ready g c =
     let name = option_copied c.as_ref.result in
     let book = c.in_ok-book.book in
     let leaf = ap (λ any_leaf. made_with c.args.table.now c.args.goals book any_leaf) (turned _ c.is_none-any_leaf.result c.is_none-any_leaf.ensures) in
-    some_with {P = λ told. Finds (λ failing. book_for told failing name c.args.goals) (Ok book)} (g.F.Files.told c.args.files.now) c.in_ok-book.ensures.book
-    (λ told h. book_found told c.args.request.now c.args.table.now c.args.goals name c.as_ref.ensures.value book c.in_ok-ready.ready h (c.in_ok-ready.ensures ∙ leaf))
+    λ told fits. book_found told c.args.request.now c.args.table.now c.args.goals name c.as_ref.ensures.value book c.in_ok-ready.ready (c.in_ok-book.ensures.book told fits) (c.in_ok-ready.ensures ∙ leaf)

@@ -1,9 +1,9 @@
-use Rattle.std.proofs.Common.{IfSome, Ok, Err, refl, subst}
+use Rattle.std.proofs.Common.{Ok, Err, refl, subst}
 use Rattle.std.proofs.lemmas.Result.{err_from_is_err_and}
 use Rattle.mk_foot.specs.Setting.{Setting}
 use Rattle.mk_infer.specs.There.{Exists}
 use Rattle.mk_core.specs.Views.{RunsTextOver, Selected}
-use Rattle.mk_core.proofs.Faults.{plain_infer, some_all, some_with, stays_infer}
+use Rattle.mk_core.proofs.Faults.{plain_infer, stays_infer}
 use Rattle.mk_core.proofs.Simulating.{no_graph, over_graph}
 use Rattle.mk_core.proofs.simulation.simulated.Goals as goal
 
@@ -13,7 +13,7 @@ returns-in_err-graph-clause-answer g c =
     let ready = c.args.ready.now in
     let fault = c.in_err-graph.field-0.0 in
     let selected = subst (λ (e : Exists). Selected e ready (Err fault)) c.exists.ensures c.in_err-graph.ensures in
-    rw (p.1, p.2) (some_all (g.F.Files.told c.args.files.now) (λ told. no_graph told c.args.plan.now ready fault selected))
+    rw (p.1, p.2) (λ told fits. no_graph told c.args.plan.now ready fault selected)
 
 pub returns-in_err-graph-clause-memory : goal.returns-in_err-graph-clause-memory
 returns-in_err-graph-clause-memory g c =
@@ -31,6 +31,6 @@ returns-clause-answer g c =
     let ready = c.args.ready.now in
     let graph = c.in_ok-graph.graph in
     let found = c.run_file.result in
-    let over_it = subst (λ (s : Setting). IfSome (g.F.Files.told c.args.files.now) (λ told. RunsTextOver told plan graph s found)) c.setting.ensures c.run_file.ensures.answer in
     let selected = subst (λ (e : Exists). Selected e ready (Ok graph)) c.exists.ensures c.in_ok-graph.ensures in
-    some_with {P = λ told. RunsTextOver told plan graph ready.setting found} (g.F.Files.told c.args.files.now) over_it (λ told h. over_graph told plan ready graph selected found h)
+    λ told fits. over_graph told plan ready graph selected found
+    (subst (λ (s : Setting). RunsTextOver told plan graph s found) c.setting.ensures (c.run_file.ensures.answer told fits))

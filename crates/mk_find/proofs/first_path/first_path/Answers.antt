@@ -18,7 +18,10 @@ returns-in-Some-finish_at-clause-found c =
     let place = c.loop-number.place in
     let at = ended x c.loop-number.search first c.loop-number.invariant.0 c.requires.rows place c.in_ok-number.field-0 c.in-Some.number c.in-Some.is c.in_ok-number.ensures.found in
     let goes = gone x c.visit.new.self first (c.in_ok-number.ensures.same ∙ c.loop-number.invariant.0) c.requires.rows place c.in_ok-nodes.field-0 c.in-Some-2.nodes c.in-Some-2.is c.in_ok-nodes.ensures.found in
-    path_found c.carried_exactly.ensures c.first_by_places.ensures c.one_way_at_a_place.ensures x c.graph-graph.ensures.graph c.args.file.now.file first.start place c.in-Some.number c.in-Some-finish_at.finish c.in-Some-2.nodes.items c.requires.out c.loop-number.invariant.1 at c.in-Some-finish_at.ensures goes
+    path_found c.carried_exactly.ensures c.first_by_places.ensures c.one_way_at_a_place.ensures x
+    c.graph-graph.ensures.graph c.args.file.now.file first.start place c.in-Some.number
+    c.in-Some-finish_at.finish c.in-Some-2.nodes.items c.requires.out c.loop-number.invariant.1 at
+    c.in-Some-finish_at.ensures goes
 
 pub overflow_add-place : goal.overflow_add-place
 overflow_add-place c =

@@ -1,4 +1,5 @@
--- Where nothing static is found, the races and the stale reads are listed one after the other; where neither are, there is an entry for each read.
+-- Where nothing static is found, the races and the stale reads are listed one after the other;
+-- where neither are, there is an entry for each read.
 use Rattle.std.proofs.Common.{◌≡◌, ◌∙◌, [], List, length, map, vec_len, inr, ap, sym, subst, eqb-true, arith}
 use Rattle.std.proofs.lemmas.List.{nil_from_length}
 use Rattle.mk_graph.specs.Graph.{Graph}
@@ -32,7 +33,13 @@ returns-clause-nothing c =
     let found = c.judge_all.new.found in
     let few : vec_len found ≡ 0 = eqb-true (vec_len found) 0 (sym c.if-not-is_empty-2.ensures) in
     let long : length found.items ≡ 0 = omega (arith, found.ok.0) in
-    subst (λ (l : List Finding). AreFindings x l) (nil_from_length found.items long) (inr (nothing_added x (static_candidates x) c.in_ok-first.first.items c.in_ok-first.ensures.found none, adds_append x (race_candidates x) (stale_candidates x) [] c.in_ok-found.found.items found.items c.in_ok-found.ensures c.in_ok-ways.ensures.found))
+    subst (λ (l : List Finding). AreFindings x l) (nil_from_length found.items long)
+    (inr (
+      nothing_added x (static_candidates x) c.in_ok-first.first.items c.in_ok-first.ensures.found
+          none,
+      adds_append x (race_candidates x) (stale_candidates x) [] c.in_ok-found.found.items found.items
+          c.in_ok-found.ensures c.in_ok-ways.ensures.found,
+    ))
 
 pub returns-clause-certificate : goal.returns-clause-certificate
 returns-clause-certificate c =

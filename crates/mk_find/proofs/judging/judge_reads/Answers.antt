@@ -3,17 +3,17 @@ use Rattle.std.proofs.Common.{◌≡◌, ◌∙◌, ◌<◌, ◌≤◌, ◌+◌,
 use Rattle.std.proofs.lemmas.List.{take_more, take_all}
 use Rattle.mk_lines.specs.Names.{has_name, once}
 use Rattle.mk_graph.specs.Membership.{Has}
-use Rattle.mk_search.specs.Places.{Task}
-use Rattle.mk_search.specs.Ways.{successors}
+use Rattle.mk_graph_search.specs.Places.{SearchInput}
+use Rattle.mk_graph_search.specs.Ways.{successors}
 use Rattle.mk_find.specs.declared.first_path.FirstPath.{FirstPath}
-use Rattle.mk_find.specs.FirstPaths.{GoesFirst}
+use Rattle.mk_find.specs.FirstPaths.{IsAlongFirstPath}
 use Rattle.mk_cert.specs.Candidates.{stale}
 use Rattle.mk_cert.specs.Carried.{carried}
-use Rattle.mk_cert.specs.Entry.{Entry}
+use Rattle.mk_cert.specs.NodeRow.{NodeRow}
 use Rattle.mk_cert.specs.Listed.{Adds}
 use Rattle.mk_cert.specs.Subject.{reads_of}
 use Rattle.mk_cert.specs.Target.{Target, target_of}
-use Rattle.mk_find.specs.Certifying.{Needs, AddsEntries}
+use Rattle.mk_find.specs.Certifying.{ReadNeedsWay, AddsEntries}
 use Rattle.mk_find.proofs.Adding.{drop_past, leads_map, leads_done}
 use Rattle.mk_find.proofs.AddingEntries.{reads_of_files, adds_no_entries, nothing_before}
 use Rattle.mk_find.proofs.Noting.{at_place, same_reads}
@@ -27,7 +27,7 @@ loop-place-init c = (refl, λ last h. h, (λ none many g needs. ap (λ (names : 
 pub read-file-requires-clause-place : goal.read-file-requires-clause-place
 read-file-requires-clause-place c =
     let x = c.args.subject.now in
-    let count = c.count_of_reads-place-end.ensures ∙ ap (λ (k : Entry). length (reads_of x k.number)) c.entry.view_is in
+    let count = c.count_of_reads-place-end.ensures ∙ ap (λ (k : NodeRow). length (reads_of x k.number)) c.entry.view_is in
     omega (arith, c.loop-place-test.true, count, ap (λ (l : List (List ℕ)). length l) (same_reads x c.args.entry.now c.requires.entry))
 
 pub judge_read-requires-clause-file : goal.judge_read-requires-clause-file
@@ -36,18 +36,18 @@ judge_read-requires-clause-file c =
 
 pub judge_read-requires-clause-rows : goal.judge_read-requires-clause-rows
 judge_read-requires-clause-rows c =
-    subst (λ (task : Task). (t : ℕ) → successors task.rows t ≡ carried c.args.subject.now t) (sym c.loop-place.invariant.0) c.requires.rows
+    subst (λ (task : SearchInput). (t : ℕ) → successors task.rows t ≡ carried c.args.subject.now t) (sym c.loop-place.invariant.0) c.requires.rows
 
 pub judge_read-requires-clause-start : goal.judge_read-requires-clause-start
 judge_read-requires-clause-start c =
-    ap (λ (task : Task). task.start) c.loop-place.invariant.0 ∙ c.requires.start
+    ap (λ (task : SearchInput). task.start) c.loop-place.invariant.0 ∙ c.requires.start
 
 pub judge_read-requires-clause-read : goal.judge_read-requires-clause-read
 judge_read-requires-clause-read c =
     let x = c.args.subject.now in
     let e = c.args.entry.now in
     let i = c.loop-place.place in
-    let count = c.count_of_reads-place-end.ensures ∙ ap (λ (k : Entry). length (reads_of x k.number)) c.entry.view_is in
+    let count = c.count_of_reads-place-end.ensures ∙ ap (λ (k : NodeRow). length (reads_of x k.number)) c.entry.view_is in
     let low : i < length (reads_of x e.number) = omega (arith, c.loop-place-test.true, count) in
     subst (λ (v : Target). Has (reads_of x e.number) v.file) (sym c.read-file.ensures) (at_place (reads_of x e.number) i [] low)
 
@@ -60,16 +60,16 @@ push_once-requires c =
     let g = get_or (reads_of x t) i [] in
     let f = c.read-file.result.file in
     let is : f ≡ g = ap (λ (v : Target). v.file) c.read-file.ensures in
-    let count = c.count_of_reads-place-end.ensures ∙ ap (λ (k : Entry). length (reads_of x k.number)) c.entry.view_is in
-    let told = λ (o : Option FirstPath). MatchOption o (c.judge_read.new.found.items ≡ [] → ¬ (Needs x (record { recipe = t; file = f }))) (λ path. (c.judge_read.new.found.items ≡ []) × Needs x (record { recipe = t; file = f }) × GoesFirst x f t path.nodes.items path.finish) in
+    let count = c.count_of_reads-place-end.ensures ∙ ap (λ (k : NodeRow). length (reads_of x k.number)) c.entry.view_is in
+    let told = λ (o : Option FirstPath). MatchOption o (c.judge_read.new.found.items ≡ [] → ¬ (ReadNeedsWay x (record { recipe = t; file = f }))) (λ path. (c.judge_read.new.found.items ≡ []) × ReadNeedsWay x (record { recipe = t; file = f }) × IsAlongFirstPath x f t path.nodes.items path.finish) in
     let (none, needs, first) = subst told c.in-Some.is c.in_ok-path.ensures.path in
-    let needed = subst (λ (k : List ℕ). Needs x (record { recipe = t; file = k })) is needs in
+    let needed = subst (λ (k : List ℕ). ReadNeedsWay x (record { recipe = t; file = k })) is needs in
     record {
       entry = c.requires.entry;
       place = omega (arith, c.loop-place-test.true, count, ap (λ (l : List (List ℕ)). length l) (same_reads x e c.requires.entry));
       seen = λ many. c.loop-place.invariant.2 (nothing_before x (stale t f ∷ []) c.loop-place.found.items c.judge_read.new.found.items c.in_ok-path.ensures.found none) many g needed;
       needs = needed;
-      first = subst (λ (k : List ℕ). GoesFirst x k t c.in-Some.path.nodes.items c.in-Some.path.finish) is first;
+      first = subst (λ (k : List ℕ). IsAlongFirstPath x k t c.in-Some.path.nodes.items c.in-Some.path.finish) is first;
     }
 
 pub loop-place-preserved : goal.loop-place-preserved
@@ -82,15 +82,15 @@ loop-place-preserved c =
     let f = c.read-file.result.file in
     let before = take i files in
     let is : f ≡ g = ap (λ (v : Target). v.file) c.read-file.ensures in
-    let count = c.count_of_reads-place-end.ensures ∙ ap (λ (k : Entry). length (reads_of x k.number)) c.entry.view_is in
+    let count = c.count_of_reads-place-end.ensures ∙ ap (λ (k : NodeRow). length (reads_of x k.number)) c.entry.view_is in
     let low : i < length files = omega (arith, c.loop-place-test.true, count) in
     let after : take (i + 1) files ≡ before ++ g ∷ [] = take_more files i [] low in
     let inv = c.loop-place.invariant in
     let found = c.judge_read.new.found.items in
     let added = c.in_ok-path.ensures.found in
     let earlier : found ≡ [] → c.loop-place.found.items ≡ [] = λ none. nothing_before x (stale t f ∷ []) c.loop-place.found.items found added none in
-    let told = λ (o : Option FirstPath). MatchOption o (found ≡ [] → ¬ (Needs x (record { recipe = t; file = f }))) (λ path. (found ≡ []) × Needs x (record { recipe = t; file = f }) × GoesFirst x f t path.nodes.items path.finish) in
-    let out : (found ≡ [] → ¬ (Needs x (record { recipe = t; file = f }))) → found ≡ [] → ¬ (Needs x (record { recipe = t; file = g })) = λ h none. subst (λ (k : List ℕ). ¬ (Needs x (record { recipe = t; file = k }))) is (h none) in
+    let told = λ (o : Option FirstPath). MatchOption o (found ≡ [] → ¬ (ReadNeedsWay x (record { recipe = t; file = f }))) (λ path. (found ≡ []) × ReadNeedsWay x (record { recipe = t; file = f }) × IsAlongFirstPath x f t path.nodes.items path.finish) in
+    let out : (found ≡ [] → ¬ (ReadNeedsWay x (record { recipe = t; file = f }))) → found ≡ [] → ¬ (ReadNeedsWay x (record { recipe = t; file = g })) = λ h none. subst (λ (k : List ℕ). ¬ (ReadNeedsWay x (record { recipe = t; file = k }))) is (h none) in
     let knows : found ≡ [] → 4 < length files → Knows x t (take (i + 1) files) c.match-path.seen = λ none many.
     subst (λ (l : List (List ℕ)). Knows x t l c.match-path.seen) (sym after)
     (elim c.match-path.branch [
@@ -113,7 +113,7 @@ returns-clause-found c =
     let x = c.args.subject.now in
     let e = c.args.entry.now in
     let i = c.loop-place.place in
-    let count = c.count_of_reads-place-end.ensures ∙ ap (λ (k : Entry). length (reads_of x k.number)) c.entry.view_is in
+    let count = c.count_of_reads-place-end.ensures ∙ ap (λ (k : NodeRow). length (reads_of x k.number)) c.entry.view_is in
     let past : length (reads_of x e.number) ≤ i = omega (arith, c.loop-place-test.false, count) in
     leads_done x (map (λ f. stale e.number f) (drop i (reads_of x e.number))) _ c.loop-place.found.items c.args.found.now.items (ap (λ (fs : List (List ℕ)). map (λ f. stale e.number f) fs) (drop_past (reads_of x e.number) i past)) c.loop-place.invariant.1
 
@@ -122,6 +122,6 @@ returns-clause-ways c none =
     let x = c.args.subject.now in
     let e = c.args.entry.now in
     let i = c.loop-place.place in
-    let count = c.count_of_reads-place-end.ensures ∙ ap (λ (k : Entry). length (reads_of x k.number)) c.entry.view_is in
+    let count = c.count_of_reads-place-end.ensures ∙ ap (λ (k : NodeRow). length (reads_of x k.number)) c.entry.view_is in
     let past : length (reads_of x e.number) ≤ i = omega (arith, c.loop-place-test.false, count) in
     subst (λ (l : List (List ℕ)). AddsEntries x (reads_of_files e.number (once l)) c.args.ways.now c.loop-place.ways) (take_all i (reads_of x e.number) past) (c.loop-place.invariant.3 none)

@@ -16,8 +16,8 @@ returns-clause-ways c =
     let files = reads_of x t in
     let i = c.args.place in
     let f = get_or files i [] in
-    let told = c.in_ok-is_read_before.ensures in
-    let is : c.in_ok-is_read_before.field-0 ≡ has_name (take i files) f = answered (length files) c.in_ok-is_read_before.field-0 (has_name c.args.seen.now f) (has_name (take i files) f) told.few told.many c.requires.seen in
+    let told = c.in_ok-is_repeated_read.ensures in
+    let is : c.in_ok-is_repeated_read.field-0 ≡ has_name (take i files) f = answered (length files) c.in_ok-is_repeated_read.field-0 (has_name c.args.seen.now f) (has_name (take i files) f) told.few told.many c.requires.seen in
     let lacks : has_name (take i files) f ≡ false = sym is ∙ c.if-branch.false in
     let file : c.read-2.inside.file.now ≡ f = ap (λ (v : Target). v.file) (c.read-2.view_is ∙ c.read.ensures) in
     on_ok_weaker c.push.result

@@ -1,5 +1,5 @@
 -- A read has one entry.
-use Rattle.mk_find.proofs.Entries as lemmas
+use Rattle.mk_find.proofs.EntryLaws as lemmas
 use Rattle.mk_find.proofs.laws.certificate_is_one.Goals as goal
 
 pub returns : goal.returns

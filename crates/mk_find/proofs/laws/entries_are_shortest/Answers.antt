@@ -1,5 +1,5 @@
 -- An entry has the first path.
-use Rattle.mk_find.proofs.Entries as lemmas
+use Rattle.mk_find.proofs.EntryLaws as lemmas
 use Rattle.mk_find.proofs.laws.entries_are_shortest.Goals as goal
 
 pub returns : goal.returns

@@ -1,7 +1,7 @@
 use Rattle.std.proofs.Common.{List, length}
 use Rattle.serde_json.specs.Data.{Data}
 use Rattle.mk_json.specs.Tokens.{ItemsRead}
-use Rattle.mk_foot.specs.PartsRead.{text_of, GivesTexts}
+use Rattle.mk_foot.specs.ReaderParts.{text_of, GivesTexts}
 use Rattle.mk_foot.specs.Steps.{each}
 use Rattle.mk_foot.proofs.fields.read_list.Given as goal
 

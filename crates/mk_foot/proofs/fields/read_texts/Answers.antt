@@ -5,7 +5,7 @@ use Rattle.mk_json.specs.Kinds as json
 use Rattle.mk_json.specs.Kinds.{array_of}
 use Rattle.mk_foot.specs.declared.fault.FootFault.TheVariants.{Shape}
 use Rattle.mk_foot.specs.declared.key.Key.{Key}
-use Rattle.mk_foot.specs.Kinds.{texts_of}
+use Rattle.mk_foot.specs.Fields.{texts_of}
 use Rattle.mk_foot.proofs.Grown.{texts_listed}
 use Rattle.mk_foot.proofs.Read.{array_read, moved}
 use Rattle.mk_foot.proofs.fields.read_texts.Goals as goal

@@ -1,6 +1,6 @@
 use Rattle.std.proofs.Common.{map, string_bytes}
 use Rattle.std.proofs.lemmas.Result.{err_from_is_err_and}
-use Rattle.mk_foot.specs.PartsRead.{text_of}
+use Rattle.mk_foot.specs.ReaderParts.{text_of}
 use Rattle.mk_foot.proofs.Grown.{fails_before, fails_last, has_text}
 use Rattle.mk_foot.proofs.fields.with_text.Goals as goal
 

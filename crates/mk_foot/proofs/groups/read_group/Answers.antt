@@ -3,7 +3,7 @@ use Rattle.serde_json.specs.Data.{Data}
 use Rattle.serde_json.specs.Find.{as_object}
 use Rattle.mk_foot.specs.declared.fault.FootFault.TheVariants.{Shape}
 use Rattle.mk_foot.specs.declared.key.Key.TheVariants as keys
-use Rattle.mk_foot.specs.Footprints.{group_in}
+use Rattle.mk_foot.specs.FootprintFile.{group_in}
 use Rattle.mk_foot.proofs.groups.read_group.Goals as goal
 
 no_object : (value : Data) → as_object value ≡ None → group_in value ≡ Err (Shape keys.Groups)

@@ -1,7 +1,7 @@
 use Rattle.std.proofs.Common.{List, length}
 use Rattle.serde_json.specs.Data.{Data}
 use Rattle.mk_json.specs.Tokens.{ItemsRead}
-use Rattle.mk_foot.specs.Footprints.{group_in}
+use Rattle.mk_foot.specs.FootprintFile.{group_in}
 use Rattle.mk_foot.specs.Steps.{Gives, each}
 use Rattle.mk_foot.proofs.groups.read_list.Given as goal
 

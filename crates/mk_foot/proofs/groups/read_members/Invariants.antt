@@ -1,7 +1,7 @@
 use Rattle.std.proofs.Common.{length}
 use Rattle.serde_json.specs.Data.{Members, object}
 use Rattle.mk_json.specs.Tokens.{MembersRead}
-use Rattle.mk_foot.specs.PartsRead.{IsOfGroup}
+use Rattle.mk_foot.specs.ReaderParts.{IsOfGroup}
 use Rattle.mk_foot.proofs.groups.read_members.Given as goal
 
 -- the parts that the members so far give

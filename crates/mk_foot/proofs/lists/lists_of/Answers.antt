@@ -2,8 +2,8 @@ use Rattle.std.proofs.Common.{List, ◌∷◌, String, Vec, Global, Result, sym,
 use Rattle.std.proofs.lemmas.Result.{err_from_is_err_and}
 use Rattle.mk_json.specs.Kinds.{pairs}
 use Rattle.mk_foot.specs.declared.fault.FootFault.{FootFault}
-use Rattle.mk_foot.specs.Footprints.{list_in}
-use Rattle.mk_foot.specs.PartsRead.{AreLists}
+use Rattle.mk_foot.specs.FootprintFile.{list_in}
+use Rattle.mk_foot.specs.ReaderParts.{AreLists}
 use Rattle.mk_foot.specs.Steps.{each}
 use Rattle.mk_foot.proofs.Members.{Found}
 use Rattle.mk_foot.proofs.SharedLists.{list_next, list_stops, lists_end}

@@ -1,8 +1,8 @@
 use Rattle.std.proofs.Common.{◌≡◌}
 use Rattle.serde_json.specs.Data.{Members}
 use Rattle.mk_json.specs.Kinds.{pairs}
-use Rattle.mk_foot.specs.Footprints.{list_in}
-use Rattle.mk_foot.specs.PartsRead.{AreLists}
+use Rattle.mk_foot.specs.FootprintFile.{list_in}
+use Rattle.mk_foot.specs.ReaderParts.{AreLists}
 use Rattle.mk_foot.specs.Steps.{each}
 use Rattle.mk_foot.proofs.Steps.{with_front}
 use Rattle.mk_foot.proofs.lists.lists_of.Given as goal

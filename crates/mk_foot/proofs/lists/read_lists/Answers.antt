@@ -3,7 +3,7 @@ use Rattle.serde_json.specs.Data.{Data}
 use Rattle.serde_json.specs.Find.{as_object}
 use Rattle.mk_foot.specs.declared.fault.FootFault.TheVariants.{Shape}
 use Rattle.mk_foot.specs.declared.key.Key.TheVariants as keys
-use Rattle.mk_foot.specs.PartsRead.{lists_from}
+use Rattle.mk_foot.specs.ReaderParts.{lists_from}
 use Rattle.mk_foot.proofs.lists.read_lists.Goals as goal
 
 no_object : (value : Data) → as_object value ≡ None → lists_from value ≡ Err (Shape keys.Lists)

@@ -5,12 +5,12 @@ use Rattle.mk_foot.proofs.Read.{refused_members}
 use Rattle.mk_foot.proofs.lists.read_members.Goals as goal
 
 pub members-init : goal.members-init
-members-init c = (no_members, c.members_in_turn.ensures.begins c.args.depth c.args.reader.now, rw c.new.ensures.empty tt)
+members-init c = (no_members, c.members_are_read_in_order.ensures.begins c.args.depth c.args.reader.now, rw c.new.ensures.empty tt)
 
 pub returns-in_err-name : goal.returns-in_err-name
 returns-in_err-name c =
     let l = c.members in
-    refused_members _ _ _ _ _ c.from_residual.ensures.0 (c.members_in_turn.ensures.has_no_key c.args.depth c.args.reader.now l.invariant.0 l.reader l.invariant.1 c.in_err-name.ensures.value)
+    refused_members _ _ _ _ _ c.from_residual.ensures.0 (c.members_are_read_in_order.ensures.has_no_key c.args.depth c.args.reader.now l.invariant.0 l.reader l.invariant.1 c.in_err-name.ensures.value)
 
 pub members-preserved : goal.members-preserved
 members-preserved c =
@@ -19,7 +19,7 @@ members-preserved c =
     let named : read_key l.reader ≡ Some (Some key, c.next_key.new.self) = grind arith in
     let found = c.in_ok-names.ensures in (
       put key found.0 l.invariant.0,
-      c.members_in_turn.ensures.goes_on c.args.depth c.args.reader.now l.invariant.0 key found.0 l.reader c.next_key.new.self c.read_texts.new.reader l.invariant.1 named found.1,
+      c.members_are_read_in_order.ensures.goes_on c.args.depth c.args.reader.now l.invariant.0 key found.0 l.reader c.next_key.new.self c.read_texts.new.reader l.invariant.1 named found.1,
       c.with_list-lists.ensures l.invariant.0 found.0 l.invariant.2 found.2,
     )
 
@@ -28,10 +28,10 @@ returns-in_err-names c =
     let l = c.members in
     let key = c.in-Some.name.now in
     let named : read_key l.reader ≡ Some (Some key, c.next_key.new.self) = grind arith in
-    refused_members _ _ _ _ _ c.from_residual-in_err-names.ensures.0 (c.members_in_turn.ensures.fails c.args.depth c.args.reader.now l.invariant.0 key l.reader c.next_key.new.self l.invariant.1 named c.in_err-names.ensures)
+    refused_members _ _ _ _ _ c.from_residual-in_err-names.ensures.0 (c.members_are_read_in_order.ensures.fails c.args.depth c.args.reader.now l.invariant.0 key l.reader c.next_key.new.self l.invariant.1 named c.in_err-names.ensures)
 
 pub returns : goal.returns
 returns c =
     let l = c.members in
     let closed : read_key l.reader ≡ Some (None, c.next_key.new.self) = grind arith in
-    (l.invariant.0, c.members_in_turn.ensures.ends c.args.depth c.args.reader.now l.invariant.0 l.reader c.next_key.new.self l.invariant.1 closed, l.invariant.2)
+    (l.invariant.0, c.members_are_read_in_order.ensures.ends c.args.depth c.args.reader.now l.invariant.0 l.reader c.next_key.new.self l.invariant.1 closed, l.invariant.2)

@@ -2,7 +2,7 @@ use Rattle.std.proofs.Common.{length}
 use Rattle.std.specs.Prelude.{IfOk}
 use Rattle.serde_json.specs.Data.{Members}
 use Rattle.mk_json.specs.Tokens.{MembersRead}
-use Rattle.mk_foot.specs.PartsRead.{AreLists}
+use Rattle.mk_foot.specs.ReaderParts.{AreLists}
 use Rattle.mk_foot.proofs.lists.read_members.Given as goal
 
 -- the lists of the members so far

@@ -1,4 +1,4 @@
-use Rattle.mk_foot.specs.PartsRead.{AreLists}
+use Rattle.mk_foot.specs.ReaderParts.{AreLists}
 use Rattle.mk_foot.proofs.Members.{put_lists}
 use Rattle.mk_foot.proofs.lists.with_list.Goals as goal
 

@@ -5,9 +5,9 @@ use Rattle.serde_json.specs.Data.{Data}
 use Rattle.mk_json.specs.Reading.{json_of}
 use Rattle.mk_foot.specs.declared.fault.FootFault.{FootFault}
 use Rattle.mk_foot.specs.declared.fault.FootFault.TheVariants.{NotJson}
-use Rattle.mk_foot.specs.Footprints.{footprints_in}
-use Rattle.mk_foot.specs.Parts.{Footprints}
-use Rattle.mk_foot.specs.PartsRead.{footprints_from, book_of_file}
+use Rattle.mk_foot.specs.FootprintFile.{footprints_in}
+use Rattle.mk_foot.specs.Parts.{FootprintFile}
+use Rattle.mk_foot.specs.ReaderParts.{footprints_from, book_of_file}
 use Rattle.mk_foot.specs.Reading.{book_in, book_from}
 use Rattle.mk_foot.specs.Steps.{◌>>=◌}
 use Rattle.mk_foot.proofs.Read.{moved}
@@ -26,7 +26,7 @@ of_parts goals bytes = of_value goals (json_of bytes)
 
 stopped : (goals : List (List ℕ)) (bytes : List ℕ) (fault : FootFault) → Fails fault (footprints_from bytes) → Fails fault (book_from goals bytes)
 stopped goals bytes fault (inl memory) = inl memory
-stopped goals bytes fault (inr e) = inr (of_parts goals bytes ∙ ap (λ (r : Result Footprints FootFault). r >>= book_of_file goals) e)
+stopped goals bytes fault (inr e) = inr (of_parts goals bytes ∙ ap (λ (r : Result FootprintFile FootFault). r >>= book_of_file goals) e)
 
 pub returns-in_err-file : goal.returns-in_err-file
 returns-in_err-file c =
@@ -34,4 +34,4 @@ returns-in_err-file c =
     rw (p.1, p.2) (stopped c.args.goals.now c.args.bytes.now c.in_err-file.field-0.0 c.in_err-file.ensures)
 
 pub returns : goal.returns
-returns c = moved (λ book. book) c.book_of.result _ _ c.book_of.ensures (of_parts c.args.goals.now c.args.bytes.now ∙ ap (λ (r : Result Footprints FootFault). r >>= book_of_file c.args.goals.now) c.in_ok-file.ensures)
+returns c = moved (λ book. book) c.book_of.result _ _ c.book_of.ensures (of_parts c.args.goals.now c.args.bytes.now ∙ ap (λ (r : Result FootprintFile FootFault). r >>= book_of_file c.args.goals.now) c.in_ok-file.ensures)

@@ -1,6 +1,6 @@
 use Rattle.std.proofs.Common.{inr, refl}
 use Rattle.mk_json.specs.Kinds.{has_only}
-use Rattle.mk_foot.specs.Kinds.{text_at, texts_at}
+use Rattle.mk_foot.specs.Fields.{text_at, texts_at}
 use Rattle.mk_foot.proofs.records.no_entry_parts.Goals as goal
 
 pub returns : goal.returns

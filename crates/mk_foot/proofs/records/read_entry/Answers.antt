@@ -4,7 +4,7 @@ use Rattle.serde_json.specs.Find.{as_object}
 use Rattle.mk_foot.specs.declared.fault.FootFault.TheVariants.{Shape}
 use Rattle.mk_foot.specs.declared.format.Format.{Format}
 use Rattle.mk_foot.specs.declared.key.Key.TheVariants as keys
-use Rattle.mk_foot.specs.Footprints.{entry_in}
+use Rattle.mk_foot.specs.FootprintFile.{entry_in}
 use Rattle.mk_foot.proofs.records.read_entry.Goals as goal
 
 no_object : (format : Format) (value : Data) → as_object value ≡ None → entry_in format value ≡ Err (Shape keys.Records)

@@ -1,7 +1,7 @@
 use Rattle.std.proofs.Common.{List, length}
 use Rattle.serde_json.specs.Data.{Data}
 use Rattle.mk_json.specs.Tokens.{ItemsRead}
-use Rattle.mk_foot.specs.Footprints.{entry_in}
+use Rattle.mk_foot.specs.FootprintFile.{entry_in}
 use Rattle.mk_foot.specs.Steps.{Gives, each}
 use Rattle.mk_foot.proofs.records.read_list.Given as goal
 

@@ -7,7 +7,7 @@ use Rattle.mk_foot.proofs.records.read_members.Goals as goal
 pub returns-in_err-key : goal.returns-in_err-key
 returns-in_err-key c =
     let l = c.members in
-    refused_members _ _ _ _ _ c.from_residual.ensures.0 (c.members_in_turn.ensures.has_no_key c.args.depth c.args.reader.now l.invariant.0 l.reader l.invariant.1 c.in_err-key.ensures.value)
+    refused_members _ _ _ _ _ c.from_residual.ensures.0 (c.members_are_read_in_order.ensures.has_no_key c.args.depth c.args.reader.now l.invariant.0 l.reader l.invariant.1 c.in_err-key.ensures.value)
 
 pub members-preserved : goal.members-preserved
 members-preserved c =
@@ -16,7 +16,7 @@ members-preserved c =
     let named : read_key l.reader ≡ Some (Some key, c.next_key.new.self) = grind arith in
     let found = c.in_ok-read_entry_part.ensures in (
       put key found.0 l.invariant.0,
-      c.members_in_turn.ensures.goes_on c.args.depth c.args.reader.now l.invariant.0 key found.0 l.reader c.next_key.new.self c.read_entry_part.new.reader l.invariant.1 named found.1,
+      c.members_are_read_in_order.ensures.goes_on c.args.depth c.args.reader.now l.invariant.0 key found.0 l.reader c.next_key.new.self c.read_entry_part.new.reader l.invariant.1 named found.1,
       found.2 l.invariant.0 l.invariant.2,
     )
 
@@ -25,10 +25,10 @@ returns-in_err-read_entry_part c =
     let l = c.members in
     let key = c.in-Some.key.now in
     let named : read_key l.reader ≡ Some (Some key, c.next_key.new.self) = grind arith in
-    refused_members _ _ _ _ _ c.from_residual-in_err-read_entry_part.ensures.0 (c.members_in_turn.ensures.fails c.args.depth c.args.reader.now l.invariant.0 key l.reader c.next_key.new.self l.invariant.1 named c.in_err-read_entry_part.ensures)
+    refused_members _ _ _ _ _ c.from_residual-in_err-read_entry_part.ensures.0 (c.members_are_read_in_order.ensures.fails c.args.depth c.args.reader.now l.invariant.0 key l.reader c.next_key.new.self l.invariant.1 named c.in_err-read_entry_part.ensures)
 
 pub returns : goal.returns
 returns c =
     let l = c.members in
     let closed : read_key l.reader ≡ Some (None, c.next_key.new.self) = grind arith in
-    (l.invariant.0, c.members_in_turn.ensures.ends c.args.depth c.args.reader.now l.invariant.0 l.reader c.next_key.new.self l.invariant.1 closed, l.invariant.2)
+    (l.invariant.0, c.members_are_read_in_order.ensures.ends c.args.depth c.args.reader.now l.invariant.0 l.reader c.next_key.new.self l.invariant.1 closed, l.invariant.2)

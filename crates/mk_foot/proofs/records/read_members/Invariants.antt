@@ -1,7 +1,7 @@
 use Rattle.std.proofs.Common.{length}
 use Rattle.serde_json.specs.Data.{Members, object}
 use Rattle.mk_json.specs.Tokens.{MembersRead}
-use Rattle.mk_foot.specs.PartsRead.{IsOfEntry}
+use Rattle.mk_foot.specs.ReaderParts.{IsOfEntry}
 use Rattle.mk_foot.proofs.records.read_members.Given as goal
 
 -- the parts that the members so far give

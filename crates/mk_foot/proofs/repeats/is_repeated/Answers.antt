@@ -15,7 +15,7 @@ returns-then-names-le-FEW-clause-repeated c =
     let names = c.args.names.now in
     let i = c.args.place in
     let here = c.as_str-name.ensures.value ∙ name_at names i c.index-names-place.result c.requires.place c.index-names-place.is in
-    c.has_among.ensures ∙ (ap (λ (l : List (List ℕ)). has_name l c.as_str-name.result.now) (sym (take-map string_bytes i names)) ∙ ap (λ (name : List ℕ). has_name (take i (map string_bytes names)) name) here)
+    c.contains_by_scan.ensures ∙ (ap (λ (l : List (List ℕ)). has_name l c.as_str-name.result.now) (sym (take-map string_bytes i names)) ∙ ap (λ (name : List ℕ). has_name (take i (map string_bytes names)) name) here)
 
 pub returns-clause-seen : goal.returns-clause-seen
 returns-clause-seen c = λ many.

@@ -1,7 +1,7 @@
 use Rattle.std.proofs.Common.{inr, refl}
 use Rattle.mk_json.specs.Kinds.{has_only}
-use Rattle.mk_foot.specs.Footprints.{lists_in}
-use Rattle.mk_foot.specs.Kinds.{texts_at, elements_at, members_at, format_in}
+use Rattle.mk_foot.specs.FootprintFile.{lists_in}
+use Rattle.mk_foot.specs.Fields.{texts_at, elements_at, members_at, format_in}
 use Rattle.mk_foot.proofs.shapes.no_parts.Goals as goal
 
 pub returns : goal.returns

@@ -3,7 +3,7 @@ use Rattle.serde_json.specs.Data.{Data}
 use Rattle.serde_json.specs.Find.{as_object}
 use Rattle.mk_foot.specs.declared.fault.FootFault.TheVariants.{Shape}
 use Rattle.mk_foot.specs.declared.key.Key.TheVariants as keys
-use Rattle.mk_foot.specs.Footprints.{footprints_in}
+use Rattle.mk_foot.specs.FootprintFile.{footprints_in}
 use Rattle.mk_foot.proofs.shapes.read_footprints.Goals as goal
 
 no_object : (value : Data) → as_object value ≡ None → footprints_in value ≡ Err (Shape keys.Top)

@@ -93,4 +93,9 @@ loop-place-preserved c =
 pub returns-clause-gates : goal.returns-clause-gates
 returns-clause-gates c =
     let at_start : c.loop-place.place ≡ 0 = omega (arith, c.loop-place-test.false) in
-    all_gates c.args.graph.now c.nodes-nodes.ensures.graph c.order-order.result.now c.order-order.ensures.value (RowLacks c.args.stride c.args.first.now) (RowLacks c.args.stride c.args.done.now) (RowLacks c.args.stride c.loop-place.first) (subst (λ k. IsPassedFrom c.args.graph.now c.order-order.result.now (RowLacks c.args.stride c.args.first.now) (RowLacks c.args.stride c.args.done.now) k (RowLacks c.args.stride c.loop-place.first)) at_start c.loop-place.invariant.1)
+    all_gates c.args.graph.now c.nodes-nodes.ensures.graph c.order-order.result.now
+    c.order-order.ensures.value (RowLacks c.args.stride c.args.first.now)
+    (RowLacks c.args.stride c.args.done.now) (RowLacks c.args.stride c.loop-place.first)
+    (subst (λ k. IsPassedFrom c.args.graph.now c.order-order.result.now
+    (RowLacks c.args.stride c.args.first.now) (RowLacks c.args.stride c.args.done.now) k
+    (RowLacks c.args.stride c.loop-place.first)) at_start c.loop-place.invariant.1)

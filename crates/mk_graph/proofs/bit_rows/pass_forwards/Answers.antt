@@ -80,4 +80,7 @@ loop-n-preserved c =
     targets_more g is order c.loop-n.n-index inside low first old now new c.loop-n.invariant (subst (λ (l : List (List ℕ)). (n o : ℕ) → new n o ↔ (now n o ⊎ ((n ≡ this) × (first this o × (¬ (o ≡ this)) × ((p : ℕ) → Has (joined l) p → now p o))))) groups c.pass_target.ensures)
 
 pub returns-clause-targets : goal.returns-clause-targets
-returns-clause-targets c = all_targets c.args.graph.now c.nodes-nodes.ensures.graph c.order-n-items.result.now c.order-n-items.ensures.value (RowLacks c.args.stride c.args.first.now) (RowLacks c.args.stride c.args.done.now) (RowLacks c.args.stride c.loop-n.done) c.loop-n.n-index c.loop-n-test.false c.loop-n.invariant
+returns-clause-targets c = all_targets c.args.graph.now c.nodes-nodes.ensures.graph c.order-n-items.result.now
+    c.order-n-items.ensures.value (RowLacks c.args.stride c.args.first.now)
+    (RowLacks c.args.stride c.args.done.now) (RowLacks c.args.stride c.loop-n.done) c.loop-n.n-index
+    c.loop-n-test.false c.loop-n.invariant

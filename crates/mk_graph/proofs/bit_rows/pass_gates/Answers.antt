@@ -25,4 +25,18 @@ loop-place-preserved c =
     let place = c.loop-place.place in
     let numbers = c.deref.result.now in
     let gate = c.loop-place.gate in
-    elim c.if-place-groups.branch [ then-place-groups w ↦ rw w.gate-is (let same : w.deref-then-place-groups.result.now ≡ numbers = w.deref-then-place-groups.ensures.value ∙ sym c.deref.ensures.value in gate_goes_on groups place c.index-groups-place.result numbers c.loop-place-test.true c.index-groups-place.is c.deref.ensures.value done (RowLacks stride first) (RowLacks stride c.loop-place.first) (RowLacks stride c.meet_rows.new.words) (RowLacks stride first c.args.number) (Lacks gate) c.meet_rows.ensures c.loop-place.invariant (Lacks w.unite_rows.new.gate) (subst (λ (l : List ℕ). (o : ℕ) → Lacks w.unite_rows.new.gate o ↔ (Lacks gate o × ((m : ℕ) → Has l m → done m o))) same w.unite_rows.ensures)) | else-place-groups w ↦ rw w.gate-is (gate_ends groups place c.index-groups-place.result numbers c.loop-place-test.true c.index-groups-place.is c.deref.ensures.value done (RowLacks stride first) (RowLacks stride c.loop-place.first) (RowLacks stride c.meet_rows.new.words) (RowLacks stride first c.args.number) (Lacks gate) c.meet_rows.ensures c.loop-place.invariant w.if-place-groups.false) ]
+    elim c.if-place-groups.branch [
+      | then-place-groups w ↦ rw w.gate-is
+          (let same : w.deref-then-place-groups.result.now ≡ numbers = w.deref-then-place-groups.ensures.value
+          ∙ sym c.deref.ensures.value in gate_goes_on groups place c.index-groups-place.result numbers
+          c.loop-place-test.true c.index-groups-place.is c.deref.ensures.value done (RowLacks stride first)
+          (RowLacks stride c.loop-place.first) (RowLacks stride c.meet_rows.new.words)
+          (RowLacks stride first c.args.number) (Lacks gate) c.meet_rows.ensures c.loop-place.invariant
+          (Lacks w.unite_rows.new.gate) (subst (λ (l : List ℕ). (o : ℕ) → Lacks w.unite_rows.new.gate o
+          ↔ (Lacks gate o × ((m : ℕ) → Has l m → done m o))) same w.unite_rows.ensures))
+      | else-place-groups w ↦ rw w.gate-is (gate_ends groups place c.index-groups-place.result numbers
+          c.loop-place-test.true c.index-groups-place.is c.deref.ensures.value done (RowLacks stride first)
+          (RowLacks stride c.loop-place.first) (RowLacks stride c.meet_rows.new.words)
+          (RowLacks stride first c.args.number) (Lacks gate) c.meet_rows.ensures c.loop-place.invariant
+          w.if-place-groups.false)
+    ]

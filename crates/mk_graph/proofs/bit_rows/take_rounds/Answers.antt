@@ -23,7 +23,10 @@ returns-then-after-before-clause-settled c =
     let same_done : new_done ≡ done = of_done.1 (omega arith) in
     record {
       goals = λ n o h. c.pass_backwards.ensures.stays n o (c.loop-before.invariant.goals n o h);
-      gates = subst (λ (l : List ℕ). PassesGates g (RowLacks stride new_first) (RowLacks stride l) (RowLacks stride new_first)) (sym same_done) (subst (λ (l : List ℕ). PassesGates g (RowLacks stride l) (RowLacks stride done) (RowLacks stride new_first)) (sym same_first) c.pass_backwards.ensures.gates);
+      gates = subst (λ (l : List ℕ). PassesGates g (RowLacks stride new_first) (RowLacks stride l)
+          (RowLacks stride new_first)) (sym same_done) (subst
+          (λ (l : List ℕ). PassesGates g (RowLacks stride l) (RowLacks stride done)
+          (RowLacks stride new_first)) (sym same_first) c.pass_backwards.ensures.gates);
       targets = subst (λ (l : List ℕ). PassesTargets g (RowLacks stride new_first) (RowLacks stride l) (RowLacks stride new_done)) (sym same_done) c.pass_forwards.ensures.targets;
       wanted = c.pass_backwards.ensures.wanted;
       free = c.pass_forwards.ensures.free;

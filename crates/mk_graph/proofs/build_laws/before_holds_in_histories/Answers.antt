@@ -2,8 +2,8 @@
 use Rattle.std.proofs.Common.{◌≡◌, ℕ, true}
 use Rattle.mk_graph.specs.Graph.{Graph, node}
 use Rattle.mk_graph.specs.World.{World, Idle, Busy}
-use Rattle.mk_graph.specs.Turns.{Before}
-use Rattle.mk_graph.specs.Schedule.{after_all}
+use Rattle.mk_graph.specs.Schedules.{Before}
+use Rattle.mk_graph.specs.Steps.{after_all}
 use Rattle.mk_graph.specs.BuildLaws.{IsDoneWhenReady}
 use Rattle.mk_graph.proofs.InOrder.{GoesInOrder, goes_in_order}
 use Rattle.mk_graph.proofs.build_laws.before_holds_in_histories.Goals as goal

@@ -1,4 +1,4 @@
--- It can be told of each recipe whether it is reached.
+-- It is decidable of each recipe whether a recipe reaches it by carrying.
 use Rattle.mk_graph.proofs.StaleExists.{stale_exists}
 use Rattle.mk_graph.proofs.build_laws.stale_history_exists.Goals as goal
 

@@ -7,4 +7,13 @@ use Rattle.mk_graph.proofs.walk.closed_path_from.Goals.{in-Some+in_ok-push+then-
 
 pub returns : goal.returns
 returns c =
-    elim c.match-pop.branch [ in-Some+in_ok-push+then-frame-node w ↦ rw (c.reverse.ensures.items, w.path-is, w.in_ok-push.ensures.items) (collected_some _ _ _ _ _ w.in-Some.frame w.in-Some.ensures.items c.loop-frame.invariant w.if-frame-node.true) | in_default w ↦ rw (c.reverse.ensures.items, w.path-is) (collected_all c.args.node _ c.loop-frame.path.items c.loop-frame.frames.items (nil_from_length c.loop-frame.frames.items (let none = w.in_default.ensures.cases.0 in omega (arith, c.loop-frame.frames.ok.0))) c.loop-frame.invariant) ]
+    elim c.match-pop.branch [
+      | in-Some+in_ok-push+then-frame-node w ↦ rw
+          (c.reverse.ensures.items, w.path-is, w.in_ok-push.ensures.items)
+          (collected_some _ _ _ _ _ w.in-Some.frame w.in-Some.ensures.items c.loop-frame.invariant
+          w.if-frame-node.true)
+      | in_default w ↦ rw (c.reverse.ensures.items, w.path-is)
+          (collected_all c.args.node _ c.loop-frame.path.items c.loop-frame.frames.items
+          (nil_from_length c.loop-frame.frames.items (let none = w.in_default.ensures.cases.0 in omega
+          (arith, c.loop-frame.frames.ok.0))) c.loop-frame.invariant)
+    ]

@@ -22,7 +22,11 @@ loop-goal-preserved c =
     let are = subst (λ o. IfNone o (AreMarks c.walk_from.new.marks [] (reverse c.walk_from.new.order.items))) c.in_default.is c.in_ok-path.ensures.marks in
     let size : length c.walk_from.new.marks ≡ c.loop-goal.marks.len = omega (arith, c.loop-goal.marks.ok.0) in
     let same : length c.walk_from.new.marks ≡ length c.loop-goal.marks.items = omega (arith, c.loop-goal.marks.ok.0) in
-    subst (λ (l : List Mark). HasWalked c.args.rows.now c.args.goals.now (c.loop-goal.goal-index + 1) l c.walk_from.new.order.items) (sym (with_items_is c.loop-goal.marks c.walk_from.new.marks size)) (one_more c.args.rows.now c.args.goals.now c.loop-goal.goal-index c.loop-goal.marks.items c.walk_from.new.marks c.loop-goal.order.items c.walk_from.new.order.items c.loop-goal-test.true c.loop-goal.invariant w are same)
+    subst (λ (l : List Mark). HasWalked c.args.rows.now c.args.goals.now (c.loop-goal.goal-index + 1) l
+    c.walk_from.new.order.items) (sym (with_items_is c.loop-goal.marks c.walk_from.new.marks size))
+    (one_more c.args.rows.now c.args.goals.now c.loop-goal.goal-index c.loop-goal.marks.items
+    c.walk_from.new.marks c.loop-goal.order.items c.walk_from.new.order.items c.loop-goal-test.true
+    c.loop-goal.invariant w are same)
 
 pub returns : goal.returns
 returns c = all_walked c.args.rows.now c.args.goals.now c.loop-goal.goal-index c.loop-goal.marks.items c.loop-goal.order.items (omega arith) c.loop-goal.invariant

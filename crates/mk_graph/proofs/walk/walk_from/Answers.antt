@@ -52,19 +52,33 @@ pub loop-frame-smaller-in_ok-enter-in-New : goal.loop-frame-smaller-in_ok-enter-
 loop-frame-smaller-in_ok-enter-in-New c =
     let a = (goal.at.loop-frame-smaller-in_ok-enter-in-New c).After-as_slice-needs in
     let low = next_is_low a c.if-frame-needs.true in
-    rw (c.in_ok-enter-in-New.ensures.frames, c.in_ok-enter-in-New.ensures.marks, c.in_ok-push.ensures.items) (down_less c.args.rows.now _ _ _ _ _ c.in-Some.frame _ c.in-Some.ensures.items c.loop-frame.invariant (sizes a) _ (rw (needs_are a) c.if-frame-needs.true) (next_is a) c.in-New.is (subst (λ k. get_or c.as_slice-needs.result.now c.in-Some.frame.walked 0 < k) (sym (sizes a)) low) low)
+    rw (c.in_ok-enter-in-New.ensures.frames, c.in_ok-enter-in-New.ensures.marks, c.in_ok-push.ensures.items)
+    (down_less c.args.rows.now _ _ _ _ _ c.in-Some.frame _ c.in-Some.ensures.items c.loop-frame.invariant
+    (sizes a) _ (rw (needs_are a) c.if-frame-needs.true) (next_is a) c.in-New.is
+    (subst (λ k. get_or c.as_slice-needs.result.now c.in-Some.frame.walked 0 < k) (sym (sizes a)) low)
+    low)
 
 pub loop-frame-preserved-in_ok-enter-in-New : goal.loop-frame-preserved-in_ok-enter-in-New
 loop-frame-preserved-in_ok-enter-in-New c =
     let a = (goal.at.loop-frame-preserved-in_ok-enter-in-New c).After-as_slice-needs in
     let low = next_is_low a c.if-frame-needs.true in
-    rw (c.in_ok-enter-in-New.ensures.frames, c.in_ok-enter-in-New.ensures.marks, c.in_ok-push.ensures.items) (down_step c.args.rows.now _ _ _ _ _ c.in-Some.frame _ c.in-Some.ensures.items c.loop-frame.invariant (sizes a) _ (rw (needs_are a) c.if-frame-needs.true) (next_is a) c.in-New.is (subst (λ k. get_or c.as_slice-needs.result.now c.in-Some.frame.walked 0 < k) (sym (sizes a)) low) low)
+    rw (c.in_ok-enter-in-New.ensures.frames, c.in_ok-enter-in-New.ensures.marks, c.in_ok-push.ensures.items)
+    (down_step c.args.rows.now _ _ _ _ _ c.in-Some.frame _ c.in-Some.ensures.items c.loop-frame.invariant
+    (sizes a) _ (rw (needs_are a) c.if-frame-needs.true) (next_is a) c.in-New.is
+    (subst (λ k. get_or c.as_slice-needs.result.now c.in-Some.frame.walked 0 < k) (sym (sizes a)) low)
+    low)
 
 pub returns-in-UnderWay : goal.returns-in-UnderWay
 returns-in-UnderWay c =
     let a = (goal.at.returns-in-UnderWay c).After-as_slice-needs in
     let low = next_is_low a c.if-frame-needs.true in
-    record { end = rw (c.in_ok-closed_path_from-in-UnderWay.ensures, c.in_ok-push.ensures.items) (close_step c.args.rows.now _ _ _ _ _ c.in-Some.frame _ c.in-Some.ensures.items c.loop-frame.invariant (sizes a) _ (rw (needs_are a) c.if-frame-needs.true) (next_is a) c.in-UnderWay.is (subst (λ k. get_or c.as_slice-needs.result.now c.in-Some.frame.walked 0 < k) (sym (sizes a)) low)); marks = tt }
+    record {
+      end = rw (c.in_ok-closed_path_from-in-UnderWay.ensures, c.in_ok-push.ensures.items)
+          (close_step c.args.rows.now _ _ _ _ _ c.in-Some.frame _ c.in-Some.ensures.items c.loop-frame.invariant
+          (sizes a) _ (rw (needs_are a) c.if-frame-needs.true) (next_is a) c.in-UnderWay.is
+          (subst (λ k. get_or c.as_slice-needs.result.now c.in-Some.frame.walked 0 < k) (sym (sizes a)) low));
+      marks = tt;
+    }
 
 pub loop-frame-smaller-in-Finished-marks : goal.loop-frame-smaller-in-Finished-marks
 loop-frame-smaller-in-Finished-marks c =
@@ -75,7 +89,10 @@ pub loop-frame-preserved-in-Finished-marks : goal.loop-frame-preserved-in-Finish
 loop-frame-preserved-in-Finished-marks c =
     let a = (goal.at.loop-frame-preserved-in-Finished-marks c).After-as_slice-needs in
     let low = next_is_low a c.if-frame-needs.true in
-    rw c.in_ok-push.ensures.items (pass_step c.args.rows.now _ _ _ _ _ c.in-Some.frame _ c.in-Some.ensures.items c.loop-frame.invariant (sizes a) _ (rw (needs_are a) c.if-frame-needs.true) (next_is a) c.in-Finished-marks.is (subst (λ k. get_or c.as_slice-needs.result.now c.in-Some.frame.walked 0 < k) (sym (sizes a)) low))
+    rw c.in_ok-push.ensures.items (pass_step c.args.rows.now _ _ _ _ _ c.in-Some.frame _
+    c.in-Some.ensures.items c.loop-frame.invariant (sizes a) _ (rw (needs_are a) c.if-frame-needs.true)
+    (next_is a) c.in-Finished-marks.is (subst (λ k. get_or c.as_slice-needs.result.now
+    c.in-Some.frame.walked 0 < k) (sym (sizes a)) low))
 
 pub loop-frame-smaller : goal.loop-frame-smaller
 loop-frame-smaller c =

@@ -1,7 +1,7 @@
 use Rattle.std.proofs.Common.{ℕ, drop, ◌⊎◌}
 use Rattle.std.specs.Prelude.{◌↔◌}
 use Rattle.mk_graph.specs.Membership.{Has}
-use Rattle.mk_graph.specs.Turns.{InOpenGroup}
+use Rattle.mk_graph.specs.Schedules.{InOpenGroup}
 use Rattle.mk_graph.proofs.Loops.{lists}
 use Rattle.mk_graph.proofs.wanted.want_open.Given as goal
 

@@ -4,7 +4,7 @@ use Rattle.std.specs.Prelude.{◌↔◌}
 use Rattle.std.proofs.lemmas.Bool.{false≢true}
 use Rattle.mk_graph.specs.Membership.{Has}
 use Rattle.mk_graph.specs.Graph.{node}
-use Rattle.mk_graph.specs.Turns.{InOpenGroup}
+use Rattle.mk_graph.specs.Schedules.{InOpenGroup}
 use Rattle.mk_graph.specs.Without.{joined}
 use Rattle.mk_graph.proofs.Loops.{lists}
 use Rattle.mk_graph.proofs.Rounds.{AreWantedFrom, at_place, goals_wanted, opens_this, passes_this, all_wanted, groups_are}
@@ -58,8 +58,13 @@ loop-place-preserved-then-has c =
     let inside : place < length order = omega arith in
     let low : this < length c.nodes-nodes.result.now = rw c.nodes-nodes.ensures.value (at_place g is order c.order-order.ensures.value place inside) in
     let groups : lists c.as_slice.result.now ≡ (node g this).groups = groups_are g c.nodes-nodes.result.now this c.index-nodes-n.result (lists c.as_slice.result.now) c.nodes-nodes.ensures.value low c.as_slice.ensures in
-    let before : AreWantedFrom g c.args.goals.now order c.args.done.now (place + 1) c.loop-place.wanted = subst (λ k. AreWantedFrom g c.args.goals.now order c.args.done.now k c.loop-place.wanted) (omega arith) c.loop-place.invariant.1 in
-    (omega arith, opens_this g is order c.order-order.ensures.value c.args.goals.now c.args.done.now place inside c.loop-place.wanted c.want_open.new.wanted before (c.if-has.ensures.0 refl) (subst (λ (l : List (List ℕ)). (n : ℕ) → Has c.want_open.new.wanted n ↔ (InOpenGroup c.args.done.now l n ⊎ Has c.loop-place.wanted n)) groups c.want_open.ensures))
+    let before : AreWantedFrom g c.args.goals.now order c.args.done.now (place + 1) c.loop-place.wanted = subst (λ k. AreWantedFrom g c.args.goals.now order c.args.done.now k c.loop-place.wanted) (omega arith) c.loop-place.invariant.1 in (
+      omega arith,
+      opens_this g is order c.order-order.ensures.value c.args.goals.now c.args.done.now place
+          inside c.loop-place.wanted c.want_open.new.wanted before (c.if-has.ensures.0 refl)
+          (subst (λ (l : List (List ℕ)). (n : ℕ) → Has c.want_open.new.wanted n
+          ↔ (InOpenGroup c.args.done.now l n ⊎ Has c.loop-place.wanted n)) groups c.want_open.ensures),
+    )
 
 pub loop-place-preserved : goal.loop-place-preserved
 loop-place-preserved c =
@@ -74,4 +79,7 @@ loop-place-preserved c =
 pub returns : goal.returns
 returns c =
     let at_start : c.loop-place.place ≡ 0 = omega (arith, c.loop-place-test.false) in
-    all_wanted c.args.graph.now c.nodes-nodes.ensures.graph c.order-order.result.now c.order-order.ensures.value c.args.goals.now c.args.done.now c.loop-place.wanted (subst (λ k. AreWantedFrom c.args.graph.now c.args.goals.now c.order-order.result.now c.args.done.now k c.loop-place.wanted) at_start c.loop-place.invariant.1)
+    all_wanted c.args.graph.now c.nodes-nodes.ensures.graph c.order-order.result.now
+    c.order-order.ensures.value c.args.goals.now c.args.done.now c.loop-place.wanted
+    (subst (λ k. AreWantedFrom c.args.graph.now c.args.goals.now c.order-order.result.now c.args.done.now
+    k c.loop-place.wanted) at_start c.loop-place.invariant.1)

@@ -14,4 +14,7 @@ pub returns : goal.returns
 returns c =
     let m = c.args.makefile.now in
     let held = subst (λ (rules : List RuleRead). HoldsDotted [] (commanded_in rules) c.in_ok-names.names) c.rules.ensures c.in_ok-names.ensures in
-    if_ok c.sources_by.result (λ sources are. are_sources m c.suffixes.ensures.suffixes c.in_ok-names.names held (texts_at c.in_ok-backs.backs) c.in_ok-backs.ensures (texts_at sources) (λ name. are name ∙ ap (sources_by (texts_at c.in_ok-backs.backs) name) c.suffixes.ensures.exact)) c.sources_by.ensures
+    if_ok c.sources_by.result (λ sources are. are_sources m c.suffixes.ensures.suffixes c.in_ok-names.names
+    held (texts_at c.in_ok-backs.backs) c.in_ok-backs.ensures (texts_at sources)
+    (λ name. are name ∙ ap (sources_by (texts_at c.in_ok-backs.backs) name) c.suffixes.ensures.exact))
+    c.sources_by.ensures

@@ -2,7 +2,7 @@ use Rattle.std.proofs.Common.{◌≡◌, length}
 use Rattle.mk_lines.specs.Comments.{has_escaped_hash}
 use Rattle.mk_lines.proofs.comments.has_escaped_hash.Given as goal
 
--- the rest of the text decides
+-- The result depends on the rest of the text.
 abbrev pub invariant-loop-rest : goal.invariant-loop-rest
 invariant-loop-rest l = has_escaped_hash l.rest ≡ has_escaped_hash l.text
 

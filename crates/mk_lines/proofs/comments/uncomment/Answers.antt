@@ -1,6 +1,6 @@
 use Rattle.std.proofs.Common.{◌≡◌, ◌≤◌, ◌++◌, false, length, take, drop, unwrap_or, sym, ap, ◌∙◌, arith}
 use Rattle.std.proofs.lemmas.List.{length-take}
-use Rattle.mk_lines.specs.Comments.{read_part, spared_part, unescaped, has_escaped_hash}
+use Rattle.mk_lines.specs.Comments.{searched_part, unchanged_part, unescaped, has_escaped_hash}
 use Rattle.mk_lines.proofs.NoComment.{nothing_to_uncomment}
 use Rattle.mk_lines.proofs.Uncommenting.{unwrapped_within, with_comment, with_no_comment, nothing_changes, unescaped_same}
 use Rattle.mk_lines.proofs.comments.uncomment.Goals as goal
@@ -18,7 +18,7 @@ pub returns-then-not-has_escaped_hash-clause-exact : goal.returns-then-not-has_e
 returns-then-not-has_escaped_hash-clause-exact c =
     let text = c.args.text.now in
     let part = c.split_at.result.0.now in
-    let read : part ≡ read_part text = c.split_at.ensures.front ∙ ap (λ n. take n text) c.in_ok-spared_at.ensures.exact in
+    let read : part ≡ searched_part text = c.split_at.ensures.front ∙ ap (λ n. take n text) c.in_ok-unchanged_from.ensures.exact in
     let none : has_escaped_hash (take c.unwrap_or.result part) ≡ false = sym (c.if-not-has_escaped_hash.ensures) in
     elim c.if-is_some.branch [
       | then-is_some w ↦
@@ -31,12 +31,17 @@ pub returns-clause-exact : goal.returns-clause-exact
 returns-clause-exact c =
     let text = c.args.text.now in
     let part = c.split_at.result.0.now in
-    let read : part ≡ read_part text = c.split_at.ensures.front ∙ ap (λ n. take n text) c.in_ok-spared_at.ensures.exact in
-    let spared : c.split_at.result.1.now ≡ spared_part text = c.split_at.ensures.back ∙ ap (λ n. drop n text) c.in_ok-spared_at.ensures.exact in
+    let read : part ≡ searched_part text = c.split_at.ensures.front ∙ ap (λ n. take n text) c.in_ok-unchanged_from.ensures.exact in
+    let spared : c.split_at.result.1.now ≡ unchanged_part text = c.split_at.ensures.back ∙ ap (λ n. drop n text) c.in_ok-unchanged_from.ensures.exact in
     let pushed : c.push_unescaped.new.into.items ≡ unescaped (take c.unwrap_or.result part) = c.in_ok-push_unescaped.ensures ∙ ap (λ xs. xs ++ unescaped (take c.unwrap_or.result part)) c.new-line.ensures.items in
     elim c.if-is_none.branch [
       | then-is_none+in_ok-extend_from_slice w ↦
-          ap (λ line. line.items) w.line-is ∙ (w.in_ok-extend_from_slice.ensures.items ∙ (ap (λ front. front ++ c.split_at.result.1.now) (pushed ∙ ap (λ n. unescaped (take n part)) c.unwrap_or.ensures) ∙ (ap (λ rest. unescaped (take (unwrap_or c.comment_at-comment.result (length part)) part) ++ rest) spared ∙ with_no_comment text part c.comment_at-comment.result read c.comment_at-comment.ensures.exact w.if-is_none.ensures)))
+          ap (λ line. line.items) w.line-is ∙ (w.in_ok-extend_from_slice.ensures.items
+          ∙ (ap (λ front. front ++ c.split_at.result.1.now)
+          (pushed ∙ ap (λ n. unescaped (take n part)) c.unwrap_or.ensures)
+          ∙ (ap (λ rest. unescaped (take (unwrap_or c.comment_at-comment.result (length part)) part)
+          ++ rest) spared ∙ with_no_comment text part c.comment_at-comment.result read
+          c.comment_at-comment.ensures.exact w.if-is_none.ensures)))
       | else-is_none w ↦
           ap (λ line. line.items) w.line-is ∙ (pushed ∙ (ap (λ n. unescaped (take n part)) c.unwrap_or.ensures ∙ with_comment text part c.comment_at-comment.result read c.comment_at-comment.ensures.exact w.if-is_none.ensures))
     ]

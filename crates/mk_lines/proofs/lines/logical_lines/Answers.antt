@@ -9,7 +9,7 @@ use Rattle.mk_lines.proofs.TextLeft.{size_left, still_counted}
 use Rattle.mk_lines.proofs.Pieces.{pieces, some_piece}
 use Rattle.mk_lines.proofs.RunsLeft.{Left, nothing_read, one_kept, one_dropped, one_faulty, all_read, all_lent, tested_well, tested_ill}
 use Rattle.mk_lines.proofs.lines.logical_lines.Goals as goal
-use Rattle.mk_lines.proofs.lines.logical_lines.Goals.{then-not-is_blank_alone+in_ok-test_line+in_ok-push, else-not-is_blank_alone}
+use Rattle.mk_lines.proofs.lines.logical_lines.Goals.{then-not-is_blank_alone+in_ok-check_line+in_ok-push, else-not-is_blank_alone}
 
 -- the runs of what is left of the text
 abbrev left_of : Option (Bor (List ℕ)) → List (List (List ℕ))
@@ -61,11 +61,11 @@ loop-rest-preserved c =
     let counted = still_counted (length c.in-Some.text.now) count c.take_run-count.result.1 c.take_run-count.ensures.shorter in
     let left : Left c.if-not-is_blank_alone.lines.items (first + count) rest text =
     elim c.if-not-is_blank_alone.branch [
-      | then-not-is_blank_alone+in_ok-test_line+in_ok-push w ↦
+      | then-not-is_blank_alone+in_ok-check_line+in_ok-push w ↦
           subst (λ lines. Left lines (first + count) rest text) (sym (ap (λ lines. lines.items) w.lines-is ∙ w.in_ok-push.ensures.items))
           (one_kept items line text first count run here rest c.loop-rest.invariant.left step c.in_ok-line.ensures.exact c.in_ok-line.ensures.lends c.take_run-count.ensures.count
           (ap is_blank_alone (sym c.deref.ensures.value) ∙ sym w.if-not-is_blank_alone.ensures)
-          (ap (λ before. line_fault before (line_view line)) (size ∙ sym w.len.ensures) ∙ tested_well (line_fault w.len.result (line_view line)) _ w.in_ok-test_line.ensures.exact))
+          (ap (λ before. line_fault before (line_view line)) (size ∙ sym w.len.ensures) ∙ tested_well (line_fault w.len.result (line_view line)) _ w.in_ok-check_line.ensures.exact))
       | else-not-is_blank_alone w ↦
           subst (λ lines. Left lines (first + count) rest text) (sym (ap (λ lines. lines.items) w.lines-is))
           (one_dropped items line text first count run here rest c.loop-rest.invariant.left step c.in_ok-line.ensures.exact c.take_run-count.ensures.count
@@ -89,11 +89,11 @@ loop-rest-preserved-after-not-is_blank_alone c =
     let counted = still_counted (length c.in-Some.text.now) count c.take_run-count.result.1 c.take_run-count.ensures.shorter in
     let left : Left c.if-not-is_blank_alone.lines.items (first + count) rest text =
     elim c.if-not-is_blank_alone.branch [
-      | then-not-is_blank_alone+in_ok-test_line+in_ok-push w ↦
+      | then-not-is_blank_alone+in_ok-check_line+in_ok-push w ↦
           subst (λ lines. Left lines (first + count) rest text) (sym (ap (λ lines. lines.items) w.lines-is ∙ w.in_ok-push.ensures.items))
           (one_kept items line text first count run here rest c.loop-rest.invariant.left step c.in_ok-line.ensures.exact c.in_ok-line.ensures.lends c.take_run-count.ensures.count
           (ap is_blank_alone (sym c.deref.ensures.value) ∙ sym w.if-not-is_blank_alone.ensures)
-          (ap (λ before. line_fault before (line_view line)) (size ∙ sym w.len.ensures) ∙ tested_well (line_fault w.len.result (line_view line)) _ w.in_ok-test_line.ensures.exact))
+          (ap (λ before. line_fault before (line_view line)) (size ∙ sym w.len.ensures) ∙ tested_well (line_fault w.len.result (line_view line)) _ w.in_ok-check_line.ensures.exact))
       | else-not-is_blank_alone w ↦
           subst (λ lines. Left lines (first + count) rest text) (sym (ap (λ lines. lines.items) w.lines-is))
           (one_dropped items line text first count run here rest c.loop-rest.invariant.left step c.in_ok-line.ensures.exact c.take_run-count.ensures.count
@@ -117,11 +117,11 @@ loop-rest-preserved-after-not-is_blank_alone-2 c =
     let counted = still_counted (length c.in-Some.text.now) count c.take_run-count.result.1 c.take_run-count.ensures.shorter in
     let left : Left c.if-not-is_blank_alone.lines.items (first + count) rest text =
     elim c.if-not-is_blank_alone.branch [
-      | then-not-is_blank_alone+in_ok-test_line+in_ok-push w ↦
+      | then-not-is_blank_alone+in_ok-check_line+in_ok-push w ↦
           subst (λ lines. Left lines (first + count) rest text) (sym (ap (λ lines. lines.items) w.lines-is ∙ w.in_ok-push.ensures.items))
           (one_kept items line text first count run here rest c.loop-rest.invariant.left step c.in_ok-line.ensures.exact c.in_ok-line.ensures.lends c.take_run-count.ensures.count
           (ap is_blank_alone (sym c.deref.ensures.value) ∙ sym w.if-not-is_blank_alone.ensures)
-          (ap (λ before. line_fault before (line_view line)) (size ∙ sym w.len.ensures) ∙ tested_well (line_fault w.len.result (line_view line)) _ w.in_ok-test_line.ensures.exact))
+          (ap (λ before. line_fault before (line_view line)) (size ∙ sym w.len.ensures) ∙ tested_well (line_fault w.len.result (line_view line)) _ w.in_ok-check_line.ensures.exact))
       | else-not-is_blank_alone w ↦
           subst (λ lines. Left lines (first + count) rest text) (sym (ap (λ lines. lines.items) w.lines-is))
           (one_dropped items line text first count run here rest c.loop-rest.invariant.left step c.in_ok-line.ensures.exact c.take_run-count.ensures.count
@@ -129,8 +129,8 @@ loop-rest-preserved-after-not-is_blank_alone-2 c =
     ] in
     record { left = left; counted = omega (arith, counted, long, c.loop-rest.invariant.counted) }
 
-pub returns-in_err-test_line-clause-exact : goal.returns-in_err-test_line-clause-exact
-returns-in_err-test_line-clause-exact c =
+pub returns-in_err-check_line-clause-exact : goal.returns-in_err-check_line-clause-exact
+returns-in_err-check_line-clause-exact c =
     let text = c.args.text.now in
     let items = c.loop-rest.lines.items in
     let size : length items ≡ vec_len c.loop-rest.lines = omega arith in
@@ -141,10 +141,10 @@ returns-in_err-test_line-clause-exact c =
     let here = left_of c.loop-rest.rest in
     let rest = left_of c.take_run-count.result.1 in
     let step : here ≡ run ∷ rest = ap left_of c.in-Some.is ∙ c.take_run-count.ensures.first in
-    let p = err_from_is_err_and c.from_residual-in_err-test_line.result c.from_residual-in_err-test_line.ensures.1 in
+    let p = err_from_is_err_and c.from_residual-in_err-check_line.result c.from_residual-in_err-check_line.ensures.1 in
     rw (p.1, p.2) (inr (one_faulty items line text first count run here rest _ c.loop-rest.invariant.left step c.in_ok-line.ensures.exact c.take_run-count.ensures.count
     (ap is_blank_alone (sym c.deref.ensures.value) ∙ sym (c.if-not-is_blank_alone.ensures))
-    (ap (λ before. line_fault before (line_view line)) (size ∙ sym c.len.ensures) ∙ tested_ill (line_fault c.len.result (line_view line)) _ c.in_err-test_line.ensures.exact)))
+    (ap (λ before. line_fault before (line_view line)) (size ∙ sym c.len.ensures) ∙ tested_ill (line_fault c.len.result (line_view line)) _ c.in_err-check_line.ensures.exact)))
 
 pub returns-clause-exact : goal.returns-clause-exact
 returns-clause-exact c = all_read c.loop-rest.lines.items c.args.text.now c.loop-rest.first (left_of c.loop-rest.rest) c.loop-rest.invariant.left (ap left_of c.in_default.is)

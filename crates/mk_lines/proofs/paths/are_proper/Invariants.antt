@@ -6,7 +6,7 @@ use Rattle.mk_lines.specs.Paths.{is_proper}
 use Rattle.mk_lines.proofs.TextLeft.{size_left}
 use Rattle.mk_lines.proofs.paths.are_proper.Given as goal
 
--- the components that are left decide
+-- The result depends on the remaining components.
 abbrev pub invariant-loop-rest : goal.invariant-loop-rest
 invariant-loop-rest l = list_all is_proper (parts_left 47 (option_map (λ r. r.now) l.rest)) ≡ list_all is_proper (slice_split (is_byte 47) l.name)
 

@@ -1,6 +1,6 @@
 use Rattle.std.proofs.Common.{◌<◌, ◌≤◌, ◌≡◌, ◌&&◌, eqb, true, false, length, get_or, sym, ap, refl, ◌∙◌, arith}
 use Rattle.mk_lines.specs.References.{is_one_of, first_outside, first_from}
-use Rattle.mk_lines.specs.Views.{place_view}
+use Rattle.mk_lines.specs.Views.{reference_state_view}
 use Rattle.mk_lines.proofs.Found.{moved, moved_zero, found_here, found_more, found_end}
 use Rattle.mk_lines.proofs.NoReference.{found_without_references}
 use Rattle.mk_lines.proofs.references.first_outside.Goals as goal
@@ -16,17 +16,17 @@ loop-at-init c =
 pub loop-at-preserved : goal.loop-at-preserved
 loop-at-preserved c =
     let lt : c.loop-at.at < length c.args.text.now = omega arith in
-    let passes : (eqb (length (place_view c.loop-at.place).ends) 0 && is_one_of c.args.wanted.now (get_or c.args.text.now c.loop-at.at 0)) ≡ false =
+    let passes : (eqb (length (reference_state_view c.loop-at.place).ends) 0 && is_one_of c.args.wanted.now (get_or c.args.text.now c.loop-at.at 0)) ≡ false =
     elim c.else-is_outside.branch [ else-is_outside-via-then-is_outside+else-contains w ↦ rw (sym w.if-is_outside.ensures) (sym w.if-contains.ensures.value) | else-is_outside-via-else-is_outside w ↦ rw (sym w.if-is_outside.ensures) refl ] in
-    rw (c.in_ok-pass.ensures) (sym (found_more (is_one_of c.args.wanted.now) (place_view c.loop-at.place) c.args.text.now c.loop-at.at lt passes) ∙ c.loop-at.invariant)
+    rw (c.in_ok-pass.ensures) (sym (found_more (is_one_of c.args.wanted.now) (reference_state_view c.loop-at.place) c.args.text.now c.loop-at.at lt passes) ∙ c.loop-at.invariant)
 
 pub returns-then-contains-clause-exact : goal.returns-then-contains-clause-exact
 returns-then-contains-clause-exact c =
     let lt : c.loop-at.at < length c.args.text.now = omega arith in
-    let found : (eqb (length (place_view c.loop-at.place).ends) 0 && is_one_of c.args.wanted.now (get_or c.args.text.now c.loop-at.at 0)) ≡ true = rw (sym c.if-is_outside.ensures) (sym c.if-contains.ensures.value) in
-    sym (found_here (is_one_of c.args.wanted.now) (place_view c.loop-at.place) c.args.text.now c.loop-at.at lt found) ∙ c.loop-at.invariant
+    let found : (eqb (length (reference_state_view c.loop-at.place).ends) 0 && is_one_of c.args.wanted.now (get_or c.args.text.now c.loop-at.at 0)) ≡ true = rw (sym c.if-is_outside.ensures) (sym c.if-contains.ensures.value) in
+    sym (found_here (is_one_of c.args.wanted.now) (reference_state_view c.loop-at.place) c.args.text.now c.loop-at.at lt found) ∙ c.loop-at.invariant
 
 pub returns-clause-exact : goal.returns-clause-exact
 returns-clause-exact c =
     let le : length c.args.text.now ≤ c.loop-at.at = omega arith in
-    sym (found_end (is_one_of c.args.wanted.now) (place_view c.loop-at.place) c.args.text.now c.loop-at.at le) ∙ c.loop-at.invariant
+    sym (found_end (is_one_of c.args.wanted.now) (reference_state_view c.loop-at.place) c.args.text.now c.loop-at.at le) ∙ c.loop-at.invariant

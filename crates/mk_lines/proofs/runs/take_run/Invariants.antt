@@ -3,7 +3,8 @@ use Rattle.mk_lines.proofs.Pieces.{pieces}
 use Rattle.mk_lines.proofs.RunsFound.{first_run, behind_run}
 use Rattle.mk_lines.proofs.runs.take_run.Given as goal
 
--- The rest of the text, from end on, begins with the rest of the first run, behind so many pieces of it.
+-- The rest of the text, from `end` on, begins with the rest of the first run, `count` pieces of
+-- which precede it.
 abbrev pub invariant-loop-after : goal.invariant-loop-after
 invariant-loop-after l = record {
   rest : l.rest ≡ drop l.end l.text;

@@ -17,14 +17,22 @@ loop-part-init c = (rw (c.new-spans.ensures.items) refl, (let e = room_split is_
 pub overflow_add-end : goal.overflow_add-end
 overflow_add-end c =
     let parts = slice_split is_blank c.args.text.now in
-    let t : (length c.loop-part.yielded < length parts) × (c.in-Some.part.now ≡ get_or parts (length c.loop-part.yielded) c.in-Some.part.now) = YieldsList-turn (YieldsList-from_slice_split _ is_blank c.args.text.now (cc) (cc) refl (λ x r q k. search (rules, tests))) c.loop-part.yielded _ c.loop-part.yielded_by _ _ c.in-Some.part c.in-Some.is c.next.ensures.steps in
+    let t : (length c.loop-part.yielded < length parts) × (c.in-Some.part.now
+    ≡ get_or parts (length c.loop-part.yielded) c.in-Some.part.now) = YieldsList-turn
+    (YieldsList-from_slice_split _ is_blank c.args.text.now (cc) (cc) refl
+    (λ x r q k. search (rules, tests))) c.loop-part.yielded _ c.loop-part.yielded_by _ _ c.in-Some.part
+    c.in-Some.is c.next.ensures.steps in
     let e = room_at parts (length c.loop-part.yielded) c.in-Some.part.now t in
     omega (arith, e, c.loop-part.invariant.1)
 
 pub overflow_add-at : goal.overflow_add-at
 overflow_add-at c =
     let parts = slice_split is_blank c.args.text.now in
-    let t : (length c.loop-part.yielded < length parts) × (c.in-Some.part.now ≡ get_or parts (length c.loop-part.yielded) c.in-Some.part.now) = YieldsList-turn (YieldsList-from_slice_split _ is_blank c.args.text.now (cc) (cc) refl (λ x r q k. search (rules, tests))) c.loop-part.yielded _ c.loop-part.yielded_by _ _ c.in-Some.part c.in-Some.is c.next.ensures.steps in
+    let t : (length c.loop-part.yielded < length parts) × (c.in-Some.part.now
+    ≡ get_or parts (length c.loop-part.yielded) c.in-Some.part.now) = YieldsList-turn
+    (YieldsList-from_slice_split _ is_blank c.args.text.now (cc) (cc) refl
+    (λ x r q k. search (rules, tests))) c.loop-part.yielded _ c.loop-part.yielded_by _ _ c.in-Some.part
+    c.in-Some.is c.next.ensures.steps in
     let e = room_at parts (length c.loop-part.yielded) c.in-Some.part.now t in
     omega (arith, e, c.loop-part.invariant.1)
 
@@ -38,7 +46,11 @@ loop-part-preserved c =
     let n = length_push c.loop-part.yielded c.in-Some.part in
     let found : c.if-not-is_empty.spans.items ++ words_left (c.loop-part.at + length part + 1) (drop (k + 1) parts) ≡ word_spans c.args.text.now =
     elim c.if-not-is_empty.branch [
-      | then-not-is_empty+in_ok-push w ↦ ap (λ spans. spans.items ++ words_left (c.loop-part.at + length part + 1) (drop (k + 1) parts)) w.spans-is ∙ rw (w.in_ok-push.ensures.items) (words_more c.loop-part.spans.items c.loop-part.at parts k part t (let ne = eqb-false (length part) 0 (sym w.if-not-is_empty.ensures) in omega arith) ∙ c.loop-part.invariant.0)
+      | then-not-is_empty+in_ok-push w ↦ ap (λ spans. spans.items
+          ++ words_left (c.loop-part.at + length part + 1) (drop (k + 1) parts)) w.spans-is
+          ∙ rw (w.in_ok-push.ensures.items) (words_more c.loop-part.spans.items c.loop-part.at parts k part t
+          (let ne = eqb-false (length part) 0 (sym w.if-not-is_empty.ensures) in omega arith)
+          ∙ c.loop-part.invariant.0)
       | else-not-is_empty w ↦ ap (λ spans. spans.items ++ words_left (c.loop-part.at + length part + 1) (drop (k + 1) parts)) w.spans-is ∙ (words_skip c.loop-part.spans.items c.loop-part.at parts k part t (eqb-true (length part) 0 (sym w.if-not-is_empty.ensures)) ∙ c.loop-part.invariant.0)
     ] in
     (rw n found, rw n (omega (arith, e, c.loop-part.invariant.1)))

@@ -8,4 +8,4 @@ returns-then-at-text c = cut_nowhere c.args.text.now c.first_place-at.result c.f
 pub returns : goal.returns
 returns c =
     let lt : c.first_place-at.result < length c.args.text.now = omega (arith, c.first_place-at.ensures.within) in
-    cut_found c.args.text.now c.halves.result.0.now c.halves.result.1.now c.first_place-at.result c.first_place-at.ensures.place lt c.halves.ensures.before c.halves.ensures.behind
+    cut_found c.args.text.now c.split_around.result.0.now c.split_around.result.1.now c.first_place-at.result c.first_place-at.ensures.place lt c.split_around.ensures.before c.split_around.ensures.behind

@@ -55,7 +55,11 @@ returns-then-len-start-clause-err c =
     let f = replaced c.new-old_cut.result c.new-new_cut.result in
     let t : (n < length parts) × (c.in-Some.word.now ≡ get_or parts n c.in-Some.word.now) = part_given parts c.loop-word.yielded _ c.loop-word.yielded_by _ _ c.in-Some.word c.in-Some.is c.next.ensures.steps
     (YieldsList-at c.into_iter-word-iterator.ensures.into_iter_gives (YieldsList-from_slice_split _ is_blank c.args.value.now c.split-word-items.ensures.rest c.split-word-items.ensures.done c.split-word-items.ensures.closure (λ x r q k. search (rules, tests)))) in
-    let made : c.push_next.new.into.items ≡ c.args.into.now.items ++ so_far f parts (n + 1) = so_far_next f parts n c.in-Some.word.now c.in-Some.word.now c.loop-word.is_first c.args.into.now.items c.loop-word.into.items c.push_next.new.into.items t.0 t.1 (sym c.is_empty.ensures ∙ c.if-is_empty.false) c.loop-word.invariant.first c.loop-word.invariant.made c.in_ok-push_next.ensures in
+    let made : c.push_next.new.into.items ≡ c.args.into.now.items
+    ++ so_far f parts (n + 1) = so_far_next f parts n c.in-Some.word.now c.in-Some.word.now
+    c.loop-word.is_first c.args.into.now.items c.loop-word.into.items c.push_next.new.into.items t.0 t.1
+    (sym c.is_empty.ensures ∙ c.if-is_empty.false) c.loop-word.invariant.first c.loop-word.invariant.made
+    c.in_ok-push_next.ensures in
     let long : c.args.room < length c.push_next.new.into.items - c.len-start.result = omega (arith, c.push_next.new.into.ok.0) in
     inr (
       refl,
@@ -71,7 +75,11 @@ loop-word-preserved c =
     let t : (n < length parts) × (c.in-Some.word.now ≡ get_or parts n c.in-Some.word.now) = part_given parts c.loop-word.yielded _ c.loop-word.yielded_by _ _ c.in-Some.word c.in-Some.is c.next.ensures.steps
     (YieldsList-at c.into_iter-word-iterator.ensures.into_iter_gives (YieldsList-from_slice_split _ is_blank c.args.value.now c.split-word-items.ensures.rest c.split-word-items.ensures.done c.split-word-items.ensures.closure (λ x r q k. search (rules, tests)))) in
     let more : length (c.loop-word.yielded ++ c.in-Some.word ∷ []) ≡ n + 1 = length_push c.loop-word.yielded c.in-Some.word in
-    let made : c.push_next.new.into.items ≡ c.args.into.now.items ++ so_far f parts (n + 1) = so_far_next f parts n c.in-Some.word.now c.in-Some.word.now c.loop-word.is_first c.args.into.now.items c.loop-word.into.items c.push_next.new.into.items t.0 t.1 (sym c.is_empty.ensures ∙ c.if-is_empty.false) c.loop-word.invariant.first c.loop-word.invariant.made c.in_ok-push_next.ensures in
+    let made : c.push_next.new.into.items ≡ c.args.into.now.items
+    ++ so_far f parts (n + 1) = so_far_next f parts n c.in-Some.word.now c.in-Some.word.now
+    c.loop-word.is_first c.args.into.now.items c.loop-word.into.items c.push_next.new.into.items t.0 t.1
+    (sym c.is_empty.ensures ∙ c.if-is_empty.false) c.loop-word.invariant.first c.loop-word.invariant.made
+    c.in_ok-push_next.ensures in
     let short : length c.push_next.new.into.items - c.len-start.result ≤ c.args.room = omega (arith, c.push_next.new.into.ok.0) in
     record {
       next = search rules;

@@ -4,7 +4,7 @@ use Rattle.mk_graph.specs.World.{Busy}
 use Rattle.mk_world.specs.State.{making_of, disk_of}
 use Rattle.mk_world.specs.Fits.{Fits}
 use Rattle.mk_world.proofs.Changes.{finished_leaves, finished_fits, put_is, some_of, to_known, from_known}
-use Rattle.mk_graph.specs.Schedule.{noted}
+use Rattle.mk_graph.specs.Steps.{noted}
 use Rattle.mk_world.proofs.ending.end_seeing.Goals as goal
 
 pub returns-then-not-agrees-clause-judged : goal.returns-then-not-agrees-clause-judged

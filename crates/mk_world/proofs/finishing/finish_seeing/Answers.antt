@@ -2,7 +2,7 @@ use Rattle.std.proofs.Common.{◌≡◌, ◌<◌, List, Option, Some, ℕ, lengt
 use Rattle.std.proofs.lemmas.Bool.{false≢true}
 use Rattle.std.proofs.lemmas.Result.{err_from_is_err_and}
 use Rattle.mk_graph.specs.Membership.{Has}
-use Rattle.mk_graph.specs.Schedule.{Look, End}
+use Rattle.mk_graph.specs.Steps.{Look, End}
 use Rattle.mk_graph.specs.SerialMake.{puts}
 use Rattle.mk_graph.specs.Setting.{reads, writes}
 use Rattle.mk_world.specs.State.{busy, setting, making_of, disk_of, MakeState, DiskState, run_at, with_run}

@@ -1,6 +1,6 @@
 use Rattle.std.proofs.Common.{ℕ, map, subst}
 use Rattle.std.proofs.lemmas.Result.{err_from_is_err_and}
-use Rattle.mk_graph.specs.Schedule.{Look, End}
+use Rattle.mk_graph.specs.Steps.{Look, End}
 use Rattle.mk_graph.specs.SerialMake.{puts, rest_of_run}
 use Rattle.mk_graph.specs.Setting.{reads, writes}
 use Rattle.mk_world.specs.State.{busy, setting}

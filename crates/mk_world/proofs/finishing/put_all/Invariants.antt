@@ -13,5 +13,9 @@ abbrev pub invariant-loop-file : goal.invariant-loop-file
 invariant-loop-file l = record {
   fits : Fits l.scene l.making;
   names : l.disk.names ≡ l.fn.disk.names;
-  left : (new : World) (r : Result (Unit {0}) StepFault) → TakesInTurn l.scene.graph (setting l.scene) (busy l.scene l.making l.disk) new (puts l.number (map string_bytes (drop l.file-index l.file-items)) l.rest) r → TakesInTurn l.scene.graph (setting l.scene) (busy l.scene l.fn.making l.fn.disk) new (puts l.number (writes l.scene.graph (setting l.scene) l.number) l.fn.contents) r;
+  left : (new : World) (r : Result (Unit {0}) StepFault)
+      → TakesInTurn l.scene.graph (setting l.scene) (busy l.scene l.making l.disk) new
+      (puts l.number (map string_bytes (drop l.file-index l.file-items)) l.rest) r
+      → TakesInTurn l.scene.graph (setting l.scene) (busy l.scene l.fn.making l.fn.disk) new
+      (puts l.number (writes l.scene.graph (setting l.scene) l.number) l.fn.contents) r;
 }

@@ -25,4 +25,7 @@ returns c =
     let n = c.args.node.now in
     let reads : map string_bytes c.deref.result.now ≡ reads_of s n = search rules in
     let writes : map string_bytes c.deref-2.result.now ≡ writes_of s n = search rules in
-    on_ok c.insert_all-2.result (λ e. node_named s n c.args.names.now c.insert.new.self c.insert_all.new.self c.insert_all-2.new.self c.as_str.result.now (map string_bytes c.deref.result.now) (map string_bytes c.deref-2.result.now) c.as_str.ensures reads writes c.in_ok-insert.ensures.ok c.in_ok-insert_all.ensures e) c.insert_all-2.ensures
+    on_ok c.insert_all-2.result (λ e. node_named s n c.args.names.now c.insert.new.self c.insert_all.new.self
+    c.insert_all-2.new.self c.as_str.result.now (map string_bytes c.deref.result.now)
+    (map string_bytes c.deref-2.result.now) c.as_str.ensures reads writes c.in_ok-insert.ensures.ok
+    c.in_ok-insert_all.ensures e) c.insert_all-2.ensures

@@ -14,7 +14,10 @@ loop-name-preserved-then-not-is_given c = record {
 pub loop-name-preserved : goal.loop-name-preserved
 loop-name-preserved c = record {
   few = omega (arith, c.loop-name.invariant.few);
-  files = files_take c.args.setting.now c.loop-name.clock _ _ _ c.loop-name.files.items c.push-in-loop-name.new.self.items _ (texts_left c.as_slice-names.result.now c.loop-name.name-index _ c.loop-name-test.true) (sym c.if-not-is_given.ensures) c.in_ok-push-2.ensures.items c.loop-name.invariant.files;
+  files = files_take c.args.setting.now c.loop-name.clock _ _ _ c.loop-name.files.items
+      c.push-in-loop-name.new.self.items _ (texts_left c.as_slice-names.result.now c.loop-name.name-index _
+      c.loop-name-test.true) (sym c.if-not-is_given.ensures) c.in_ok-push-2.ensures.items
+      c.loop-name.invariant.files;
   clock = count_take c.args.setting.now c.loop-name.clock _ _ _ _ (texts_left c.as_slice-names.result.now c.loop-name.name-index _ c.loop-name-test.true) (sym c.if-not-is_given.ensures) c.loop-name.invariant.clock;
 }
 

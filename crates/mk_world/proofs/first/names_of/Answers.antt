@@ -22,7 +22,10 @@ loop-node-init c = λ f.
 pub loop-node-preserved : goal.loop-node-preserved
 loop-node-preserved c = λ f.
     let this = node_is c.args.graph.now c.nodes-node-items.result.now c.loop-node.node-index c.node-item.result c.nodes-node-items.ensures.value c.loop-node-test.true c.node-item.is in
-    next_node (λ n. IsNameOf c.args.setting.now (node c.args.graph.now n) f) (Has c.loop-node.names f) (Has c.add_node.new.names f) (Has c.args.setting.now.sources f) c.loop-node.node-index (subst (λ (v : Node). Has c.add_node.new.names f ↔ (Has c.loop-node.names f ⊎ IsNameOf c.args.setting.now v f)) this (c.in_ok-add_node.ensures f)) (c.loop-node.invariant f)
+    next_node (λ n. IsNameOf c.args.setting.now (node c.args.graph.now n) f) (Has c.loop-node.names f)
+    (Has c.add_node.new.names f) (Has c.args.setting.now.sources f) c.loop-node.node-index
+    (subst (λ (v : Node). Has c.add_node.new.names f ↔ (Has c.loop-node.names f
+    ⊎ IsNameOf c.args.setting.now v f)) this (c.in_ok-add_node.ensures f)) (c.loop-node.invariant f)
 
 pub returns-clause-sorted : goal.returns-clause-sorted
 returns-clause-sorted c = c.in_order.ensures.sorted

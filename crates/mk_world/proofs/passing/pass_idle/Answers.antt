@@ -14,7 +14,7 @@ finish-requires-clause-node c =
     let m = c.loop-number.making in
     let k = c.loop-number.invariant.kept in
     let is = subst IsGraph k.graph c.in-Some.ensures.graph in
-    let first = first_from scene c.turns_stay.ensures m c.loop-number.readiness k c.in-Some.number c.in-Some.ensures.found in
+    let first = first_from scene c.can_start_stays.ensures m c.loop-number.readiness k c.in-Some.number c.in-Some.ensures.found in
     rw c.loop-number.invariant.fits.many (idle_low scene m c.in-Some.number is c.loop-number.invariant.fits first)
 
 pub finish-requires-clause-small : goal.finish-requires-clause-small
@@ -23,18 +23,18 @@ finish-requires-clause-small c =
     let m = c.loop-number.making in
     let k = c.loop-number.invariant.kept in
     let is = subst IsGraph k.graph c.in-Some.ensures.graph in
-    let first = first_from scene c.turns_stay.ensures m c.loop-number.readiness k c.in-Some.number c.in-Some.ensures.found in
+    let first = first_from scene c.can_start_stays.ensures m c.loop-number.readiness k c.in-Some.number c.in-Some.ensures.found in
     let low = idle_low scene m c.in-Some.number is c.loop-number.invariant.fits first in
     let few = is.few in
     omega arith
 
-pub note_done-requires : goal.note_done-requires
-note_done-requires c =
+pub mark_done-requires : goal.mark_done-requires
+mark_done-requires c =
     let scene = c.args.scene.now in
     let m = c.loop-number.making in
     let k = c.loop-number.invariant.kept in
     let is = subst IsGraph k.graph c.in-Some.ensures.graph in
-    let first = first_from scene c.turns_stay.ensures m c.loop-number.readiness k c.in-Some.number c.in-Some.ensures.found in
+    let first = first_from scene c.can_start_stays.ensures m c.loop-number.readiness k c.in-Some.number c.in-Some.ensures.found in
     rw k.graph (idle_low scene m c.in-Some.number is c.loop-number.invariant.fits first)
 
 pub loop-number-smaller : goal.loop-number-smaller
@@ -43,7 +43,7 @@ loop-number-smaller c =
     let m = c.loop-number.making in
     let k = c.loop-number.invariant.kept in
     let is = subst IsGraph k.graph c.in-Some.ensures.graph in
-    let first = first_from scene c.turns_stay.ensures m c.loop-number.readiness k c.in-Some.number c.in-Some.ensures.found in
+    let first = first_from scene c.can_start_stays.ensures m c.loop-number.readiness k c.in-Some.number c.in-Some.ensures.found in
     let fewer = idle_fewer scene m c.in-Some.number is c.loop-number.invariant.fits first in
     subst (λ (w : lists.MakeState). missing (length scene.graph.nodes) w.done < missing (length scene.graph.nodes) m.done) (sym c.in_ok-finish.ensures.ok) fewer
 
@@ -53,11 +53,11 @@ loop-number-preserved c =
     let m = c.loop-number.making in
     let k = c.loop-number.invariant.kept in
     let is = subst IsGraph k.graph c.in-Some.ensures.graph in
-    let first = first_from scene c.turns_stay.ensures m c.loop-number.readiness k c.in-Some.number c.in-Some.ensures.found in
+    let first = first_from scene c.can_start_stays.ensures m c.loop-number.readiness k c.in-Some.number c.in-Some.ensures.found in
     let low = idle_low scene m c.in-Some.number is c.loop-number.invariant.fits first in
     record {
       fits = subst (Fits scene) (sym c.in_ok-finish.ensures.ok) (finished_fits scene m c.in-Some.number c.loop-number.invariant.fits low);
-      kept = kept_done scene m c.finish.new.self c.loop-number.readiness c.note_done.new.self c.in-Some.number k c.note_done.ensures c.in_ok-finish.ensures.ok;
+      kept = kept_done scene m c.finish.new.self c.loop-number.readiness c.mark_done.new.self c.in-Some.number k c.mark_done.ensures c.in_ok-finish.ensures.ok;
       passes = rw c.in_ok-finish.ensures.ok (passed_more scene c.args.making.now m c.in-Some.number is c.loop-number.invariant.fits first c.loop-number.invariant.passes);
     }
 
@@ -72,7 +72,7 @@ returns-in_err-finish-clause-leads c =
 pub returns-clause-ok : goal.returns-clause-ok
 returns-clause-ok c =
     let scene = c.args.scene.now in
-    let none = none_from scene c.turns_stay.ensures c.loop-number.making c.loop-number.readiness c.loop-number.invariant.kept c.in_default.ensures.found in
+    let none = none_from scene c.can_start_stays.ensures c.loop-number.making c.loop-number.readiness c.loop-number.invariant.kept c.in_default.ensures.found in
     λ d. record { nodes = c.loop-number.invariant.passes.0; end = making_of scene c.loop-number.making; passes = c.loop-number.invariant.passes.1; none_left = none; leaves = refl }
 
 pub returns-clause-leads : goal.returns-clause-leads

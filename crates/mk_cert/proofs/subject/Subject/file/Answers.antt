@@ -4,7 +4,7 @@ use Rattle.std.specs.Borrow.{Bor}
 use Rattle.std.specs.Str.{bytes_eq}
 use Rattle.std.proofs.lemmas.List.{length-map}
 use Rattle.std.proofs.lemmas.Option.{slice_get_within}
-use Rattle.mk_cert.specs.Known.{Known, known_of}
+use Rattle.mk_cert.specs.FileInfo.{FileInfo, known_of}
 use Rattle.mk_cert.proofs.KnownFiles.{met, found_passes, not_spelled, spelled, stand_among}
 use Rattle.mk_cert.proofs.TablesOf.{files_held}
 use Rattle.mk_cert.proofs.subject.Subject.file.Goals as goal
@@ -16,7 +16,7 @@ target_at-requires c =
     let held = files_held _ x t c.self.view_is c.self.invariant in
     let keys = t.files.names.keys in
     let low : c.in-Some.at < length keys = slice_get_within keys c.in-Some.at _ c.in-Some.ensures.stored in
-    omega (arith, low, ap (λ (l : List Known). length l) held.known_held, length-map (spelled keys) (known_of x), length-map keys (λ (key : Bor (List ℕ)). key.now))
+    omega (arith, low, ap (λ (l : List FileInfo). length l) held.known_held, length-map (spelled keys) (known_of x), length-map keys (λ (key : Bor (List ℕ)). key.now))
 
 pub returns-in-Some : goal.returns-in-Some
 returns-in-Some c =

@@ -4,7 +4,7 @@ use Rattle.std.specs.Prelude.{slice_get}
 use Rattle.std.proofs.lemmas.List.{get_or-map, get_or_default, length-map}
 use Rattle.mk_graph.specs.declared.node.Node.{Node}
 use Rattle.mk_graph.specs.Graph.{no_node}
-use Rattle.mk_cert.specs.Known.{all_names, known_of}
+use Rattle.mk_cert.specs.FileInfo.{all_names, known_of}
 use Rattle.mk_cert.specs.Subject.{name_of}
 use Rattle.mk_cert.proofs.KnownFiles.{FileAt, file_at, spelled}
 use Rattle.mk_cert.proofs.TablesOf.{files_held}

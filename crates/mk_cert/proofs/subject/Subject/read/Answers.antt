@@ -1,8 +1,8 @@
 -- The file at the place of a read.
 use Rattle.std.proofs.Common.{◌≡◌, ◌∙◌, ◌<◌, [], ℕ, List, ap, get_or, length, arith}
 use Rattle.std.specs.Prelude.{slice_get}
-use Rattle.mk_cert.specs.Entry.{Entry}
-use Rattle.mk_cert.specs.Known.{known_of}
+use Rattle.mk_cert.specs.NodeRow.{NodeRow}
+use Rattle.mk_cert.specs.FileInfo.{known_of}
 use Rattle.mk_cert.specs.Subject.{reads_of}
 use Rattle.mk_cert.specs.Target.{target_of}
 use Rattle.mk_cert.proofs.Entries.{same_reads}
@@ -16,7 +16,7 @@ bounds-at-place c =
     let e = c.args.entry.now in
     let t = c.self.inside.tables in
     let n = c.entry.inside.number in
-    let number : n ≡ e.number = ap (λ (k : Entry). k.number) c.entry.view_is in
+    let number : n ≡ e.number = ap (λ (k : NodeRow). k.number) c.entry.view_is in
     let held = files_held _ x t c.self.view_is c.self.invariant in
     let names = spelled t.files.names.keys in
     let row = get_or t.files.reads n [] in
@@ -31,7 +31,7 @@ target_at-requires c =
     let e = c.args.entry.now in
     let t = c.self.inside.tables in
     let n = c.entry.inside.number in
-    let number : n ≡ e.number = ap (λ (k : Entry). k.number) c.entry.view_is in
+    let number : n ≡ e.number = ap (λ (k : NodeRow). k.number) c.entry.view_is in
     let held = files_held _ x t c.self.view_is c.self.invariant in
     let names = spelled t.files.names.keys in
     let row = get_or t.files.reads n [] in
@@ -46,7 +46,7 @@ returns c =
     let e = c.args.entry.now in
     let t = c.self.inside.tables in
     let n = c.entry.inside.number in
-    let number : n ≡ e.number = ap (λ (k : Entry). k.number) c.entry.view_is in
+    let number : n ≡ e.number = ap (λ (k : NodeRow). k.number) c.entry.view_is in
     let held = files_held _ x t c.self.view_is c.self.invariant in
     let names = spelled t.files.names.keys in
     let row = get_or t.files.reads n [] in

@@ -1,6 +1,6 @@
 use Rattle.std.proofs.Common.{◌≡◌, ◌∙◌, [], ℕ, List, ap, get_or, length, arith}
 use Rattle.std.specs.Prelude.{slice_get}
-use Rattle.mk_cert.specs.Known.{known_of}
+use Rattle.mk_cert.specs.FileInfo.{known_of}
 use Rattle.mk_cert.proofs.KnownFiles.{FileAt, file_at, spelled}
 use Rattle.mk_cert.proofs.TablesOf.{files_held, unsettled_held}
 use Rattle.mk_cert.specs.Target.{unsettled_of}

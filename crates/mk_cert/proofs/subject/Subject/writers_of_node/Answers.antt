@@ -3,7 +3,7 @@ use Rattle.std.proofs.Common.{◌≡◌, ◌∙◌, ◌<◌, [], ℕ, List, ap, 
 use Rattle.std.proofs.lemmas.List.{get_or-map, get_or_default, length-map}
 use Rattle.mk_graph.specs.declared.node.Node.{Node}
 use Rattle.mk_graph.specs.Graph.{no_node}
-use Rattle.mk_cert.specs.Known.{Known, all_names, known_of}
+use Rattle.mk_cert.specs.FileInfo.{FileInfo, all_names, known_of}
 use Rattle.mk_cert.specs.Subject.{name_of}
 use Rattle.mk_cert.proofs.KnownFiles.{FileAt, file_at, known_at, spelled}
 use Rattle.mk_cert.proofs.TablesOf.{files_held}
@@ -46,5 +46,8 @@ returns c =
     let at : FileAt names t.files.known.items nodes (all_names x) n = file_at (known_of x) names t.files.known.items nodes (all_names x) n held.known_held held.nodes_held low in
     let place : c.index-at.result.now ≡ get_or nodes n 0 = c.index-at.ensures ∙ get_or_default nodes n c.index-at.result.now 0 at.place in
     let named : get_or (all_names x) n [] ≡ name_of x n = get_or-map (λ (k : Node). k.name) x.graph.nodes n no_node [] c.requires in
-    let known : c.index.result.now ≡ known_of x (get_or (all_names x) n []) = c.index.ensures ∙ (ap (λ (k : ℕ). get_or t.files.known.items k c.index.result.now) place ∙ known_at (known_of x) names t.files.known.items (get_or nodes n 0) (get_or (all_names x) n []) c.index.result.now held.known_held at.here) in
-    c.as_slice.ensures ∙ (ap (λ (k : Known). k.writers) (c.behind-self.view_is ∙ known) ∙ ap (λ (f : List ℕ). (known_of x f).writers) named)
+    let known : c.index.result.now ≡ known_of x (get_or (all_names x) n []) = c.index.ensures
+    ∙ (ap (λ (k : ℕ). get_or t.files.known.items k c.index.result.now) place
+    ∙ known_at (known_of x) names t.files.known.items (get_or nodes n 0) (get_or (all_names x) n [])
+    c.index.result.now held.known_held at.here) in
+    c.as_slice.ensures ∙ (ap (λ (k : FileInfo). k.writers) (c.behind-self.view_is ∙ known) ∙ ap (λ (f : List ℕ). (known_of x f).writers) named)

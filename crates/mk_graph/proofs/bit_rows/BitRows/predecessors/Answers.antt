@@ -34,7 +34,12 @@ returns c o =
     let low : c.args.t < length g.nodes = rw c.nodes.ensures.value at found.0 in
     let words = c.join_rows.new.words in
     let own : c.row-first.result.now ≡ row it.stride it.first.items c.args.t = c.row-first.ensures.value ∙ ap (λ (l : List ℕ). row it.stride l c.args.t) c.deref.ensures.value in
-    let rows : Lacks words o ↔ (first c.args.t o × ((p : ℕ) → Has (joined (node g c.args.t).groups) p → done p o)) = subst (λ (l : List (List ℕ)). Lacks words o ↔ (first c.args.t o × ((p : ℕ) → Has (joined l) p → done p o))) groups (subst (λ (l : List ℕ). Lacks words o ↔ (Lacks l o × ((p : ℕ) → Has (joined (lists c.as_slice.result.now)) p → done p o))) own (rw c.deref-2.ensures.value at c.join_rows.ensures o)) in
+    let rows : Lacks words o ↔ (first c.args.t o × ((p : ℕ) → Has (joined (node g c.args.t).groups) p
+    → done p o)) = subst (λ (l : List (List ℕ)). Lacks words o
+    ↔ (first c.args.t o × ((p : ℕ) → Has (joined l) p → done p o))) groups
+    (subst (λ (l : List ℕ). Lacks words o ↔ (Lacks l o × ((p : ℕ)
+    → Has (joined (lists c.as_slice.result.now)) p → done p o))) own
+    (rw c.deref-2.ensures.value at c.join_rows.ensures o)) in
     let has = c.of.ensures o in
     rw (← c.self.view_is) (
       λ h. is_before_by_rows g c.nodes.ensures.graph first done c.self.invariant.settled o c.args.t (λ both. false≢true (sym (rows.1 both) ∙ has.0 h)),

@@ -1,6 +1,6 @@
 use Rattle.std.proofs.Common.{drop}
 use Rattle.std.specs.Prelude.{◌↔◌}
-use Rattle.mk_graph.specs.Turns.{HasAll}
+use Rattle.mk_graph.specs.Schedules.{HasAll}
 use Rattle.mk_graph.proofs.node_set.NodeSet.has_all.Given as goal
 
 abbrev pub invariant-loop-number : goal.invariant-loop-number

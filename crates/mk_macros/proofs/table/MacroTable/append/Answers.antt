@@ -24,4 +24,7 @@ pub returns-clause-ok : goal.returns-clause-ok
 returns-clause-ok c =
     let w = record c.in-Some.entry.now { text = c.extend_from_slice.new.self } in
     written_more c.args.name.now c.args.more.now c.self.inside.macros.entries (c.get_mut.follows.lender w).entries c.in-Some.entry.now w c.args.self.now (c.get_mut.follows.holds w).0 (sym c.get_mut.ensures.value ∙ ap option_copied_mut c.in-Some.is) c.self.view_is
-    (ap (λ (t : List ℕ). record (macro_of c.args.name.now c.in-Some.entry.now) { text = t }) (c.in_ok-extend_from_slice.ensures.items ∙ (ap (λ (t : List ℕ). t ++ c.args.more.now) (c.in_ok-push.ensures.items ∙ ap (λ (t : List ℕ). t ++ 32 ∷ []) c.reserve.ensures.items) ∙ append_assoc c.in-Some.entry.now.text.items (32 ∷ []) c.args.more.now)))
+    (ap (λ (t : List ℕ). record (macro_of c.args.name.now c.in-Some.entry.now) { text = t })
+    (c.in_ok-extend_from_slice.ensures.items ∙ (ap (λ (t : List ℕ). t ++ c.args.more.now)
+    (c.in_ok-push.ensures.items ∙ ap (λ (t : List ℕ). t ++ 32 ∷ []) c.reserve.ensures.items)
+    ∙ append_assoc c.in-Some.entry.now.text.items (32 ∷ []) c.args.more.now)))

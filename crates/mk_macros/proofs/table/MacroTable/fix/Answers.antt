@@ -14,6 +14,8 @@ pub returns-clause-exact : goal.returns-clause-exact
 returns-clause-exact c =
     let below : c.first_place-at.result < length c.args.operand.now = omega arith in
     let good : is_macro_name c.without_blanks-name.result.now ≡ true = sym c.is_macro_name.ensures ∙ c.if-not-is_macro_name.false in
-    let same = operand_is c.args.self.now c.args.operand.now c.first_place-at.result c.operator_of-op.result.0 c.operator_of-op.result.1.now c.without_blanks-name.result.now c.first_place-at.ensures.place below c.operator_of-op.ensures.op c.operator_of-op.ensures.name c.without_blanks-name.ensures good in
+    let same = operand_is c.args.self.now c.args.operand.now c.first_place-at.result c.operator_of-op.result.0
+    c.operator_of-op.result.1.now c.without_blanks-name.result.now c.first_place-at.ensures.place below
+    c.operator_of-op.ensures.op c.operator_of-op.ensures.name c.without_blanks-name.ensures good in
     let text = ap (λ (t : List ℕ). set c.args.self.now c.without_blanks-name.result.now true c.operator_of-op.result.0 t) c.trimmed.ensures in
     subst (λ (made : Result (List Macro) MacroFault). Gives (λ _. c.set.new.self) c.set.result made) (text ∙ sym same) c.set.ensures.exact

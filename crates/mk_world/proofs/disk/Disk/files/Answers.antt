@@ -15,7 +15,10 @@ loop-name-preserved c =
     let inside = c.self.inside in
     let d : DiskState = record { names = inside.names; files = inside.files.items; clock = inside.clock; known = inside.known } in
     let so_far = rw (← c.self.view_is) at c.loop-name.invariant in
-    rw (← c.self.view_is) (one_listed d c.as_slice-name-items.result.now c.loop-name.name-index _ _ c.in_ok-copy.copy c.deref.result.now c.in-Some.file c.loop-name.files.items c.push.new.self.items _ c.loop-name-test.true refl c.deref.ensures.value (sym c.in-Some.is ∙ c.get.ensures) c.in_ok-copy.ensures c.in_ok-push.ensures.items so_far)
+    rw (← c.self.view_is) (one_listed d c.as_slice-name-items.result.now c.loop-name.name-index _ _
+    c.in_ok-copy.copy c.deref.result.now c.in-Some.file c.loop-name.files.items c.push.new.self.items _
+    c.loop-name-test.true refl c.deref.ensures.value (sym c.in-Some.is ∙ c.get.ensures)
+    c.in_ok-copy.ensures c.in_ok-push.ensures.items so_far)
 
 pub returns : goal.returns
 returns c = sym (append-nil c.loop-name.files.items) ∙ (ap (λ t. c.loop-name.files.items ++ there_among (entry c.args.self.now) t) (sym (nothing_left (λ (t : Bor (List ℕ)). t.now) c.as_slice-name-items.result.now c.loop-name.name-index c.loop-name-test.false)) ∙ c.loop-name.invariant)

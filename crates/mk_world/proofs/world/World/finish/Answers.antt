@@ -30,12 +30,30 @@ pub invariant_of-self-in_err-finish : goal.invariant_of-self-in_err-finish
 invariant_of-self-in_err-finish c =
     let scene = c.self.inside.scene in
     let k = subst (λ (o : Option MakeState). IsKeptIn scene o c.self.inside.readiness) c.in-Some.is c.self.invariant.2 in
-    let cs = contents_of scene.graph (setting scene) (disk_of c.self.inside.disk) c.number-number.result in
-    (c.in_err-finish.ensures.fits, subst (λ (ns : List FileName). AreNamesOf scene ns) (sym c.in_err-finish.ensures.names) c.self.invariant.1, kept_unfinished scene c.in-Some.making c.finish.new.making c.self.inside.disk c.finish.new.disk c.number-number.result cs c.self.inside.readiness k c.in_err-finish.field-0.0 c.in_err-finish.ensures.takes, subst (λ (ns : List FileName). ArePlaces scene ns c.self.inside.places) (sym c.in_err-finish.ensures.names) c.self.invariant.3)
+    let cs = contents_of scene.graph (setting scene) (disk_of c.self.inside.disk) c.number-number.result in (
+      c.in_err-finish.ensures.fits,
+      subst (λ (ns : List FileName). AreNamesOf scene ns)
+          (sym c.in_err-finish.ensures.names) c.self.invariant.1,
+      kept_unfinished scene c.in-Some.making
+          c.finish.new.making c.self.inside.disk c.finish.new.disk c.number-number.result cs
+          c.self.inside.readiness k c.in_err-finish.field-0.0 c.in_err-finish.ensures.takes,
+      subst
+          (λ (ns : List FileName). ArePlaces scene ns c.self.inside.places) (sym c.in_err-finish.ensures.names)
+          c.self.invariant.3,
+    )
 
 pub invariant_of-self-2 : goal.invariant_of-self-2
 invariant_of-self-2 c =
     let scene = c.self.inside.scene in
     let k = subst (λ (o : Option MakeState). IsKeptIn scene o c.self.inside.readiness) c.in-Some.is c.self.invariant.2 in
-    let cs = contents_of scene.graph (setting scene) (disk_of c.self.inside.disk) c.number-number.result in
-    (c.in_ok-finish.ensures.fits, subst (λ (ns : List FileName). AreNamesOf scene ns) (sym c.in_ok-finish.ensures.names) c.self.invariant.1, kept_finish scene c.in-Some.making c.finish.new.making c.self.inside.disk c.finish.new.disk c.number-number.result cs c.self.inside.readiness k c.note_done.new.self c.in_ok-finish.ensures.takes c.note_done.ensures, subst (λ (ns : List FileName). ArePlaces scene ns c.self.inside.places) (sym c.in_ok-finish.ensures.names) c.self.invariant.3)
+    let cs = contents_of scene.graph (setting scene) (disk_of c.self.inside.disk) c.number-number.result in (
+      c.in_ok-finish.ensures.fits,
+      subst (λ (ns : List FileName). AreNamesOf scene ns)
+          (sym c.in_ok-finish.ensures.names) c.self.invariant.1,
+      kept_finish scene c.in-Some.making
+          c.finish.new.making c.self.inside.disk c.finish.new.disk c.number-number.result cs
+          c.self.inside.readiness k c.mark_done.new.self c.in_ok-finish.ensures.takes c.mark_done.ensures,
+      subst
+          (λ (ns : List FileName). ArePlaces scene ns c.self.inside.places) (sym c.in_ok-finish.ensures.names)
+          c.self.invariant.3,
+    )

@@ -30,12 +30,29 @@ pub invariant_of-self-in_err-finish_with : goal.invariant_of-self-in_err-finish_
 invariant_of-self-in_err-finish_with c =
     let scene = c.self.inside.scene in
     let k = subst (λ (o : Option MakeState). IsKeptIn scene o c.self.inside.readiness) c.in-Some.is c.self.invariant.2 in
-    let cs = c.args.contents.now in
-    (c.in_err-finish_with.ensures.fits, subst (λ (ns : List FileName). AreNamesOf scene ns) (sym c.in_err-finish_with.ensures.names) c.self.invariant.1, kept_unfinished scene c.in-Some.making c.finish_with.new.making c.self.inside.disk c.finish_with.new.disk c.args.number cs c.self.inside.readiness k c.in_err-finish_with.field-0.0 c.in_err-finish_with.ensures.takes, subst (λ (ns : List FileName). ArePlaces scene ns c.self.inside.places) (sym c.in_err-finish_with.ensures.names) c.self.invariant.3)
+    let cs = c.args.contents.now in (
+      c.in_err-finish_with.ensures.fits,
+      subst (λ (ns : List FileName). AreNamesOf scene ns)
+          (sym c.in_err-finish_with.ensures.names) c.self.invariant.1,
+      kept_unfinished scene c.in-Some.making
+          c.finish_with.new.making c.self.inside.disk c.finish_with.new.disk c.args.number cs
+          c.self.inside.readiness k c.in_err-finish_with.field-0.0 c.in_err-finish_with.ensures.takes,
+      subst
+          (λ (ns : List FileName). ArePlaces scene ns c.self.inside.places)
+          (sym c.in_err-finish_with.ensures.names) c.self.invariant.3,
+    )
 
 pub invariant_of-self-2 : goal.invariant_of-self-2
 invariant_of-self-2 c =
     let scene = c.self.inside.scene in
     let k = subst (λ (o : Option MakeState). IsKeptIn scene o c.self.inside.readiness) c.in-Some.is c.self.invariant.2 in
-    let cs = c.args.contents.now in
-    (c.in_ok-finish_with.ensures.fits, subst (λ (ns : List FileName). AreNamesOf scene ns) (sym c.in_ok-finish_with.ensures.names) c.self.invariant.1, kept_finish scene c.in-Some.making c.finish_with.new.making c.self.inside.disk c.finish_with.new.disk c.args.number cs c.self.inside.readiness k c.note_done.new.self c.in_ok-finish_with.ensures.takes c.note_done.ensures, subst (λ (ns : List FileName). ArePlaces scene ns c.self.inside.places) (sym c.in_ok-finish_with.ensures.names) c.self.invariant.3)
+    let cs = c.args.contents.now in (
+      c.in_ok-finish_with.ensures.fits,
+      subst (λ (ns : List FileName). AreNamesOf scene ns)
+          (sym c.in_ok-finish_with.ensures.names) c.self.invariant.1,
+      kept_finish scene c.in-Some.making
+          c.finish_with.new.making c.self.inside.disk c.finish_with.new.disk c.args.number cs
+          c.self.inside.readiness k c.mark_done.new.self c.in_ok-finish_with.ensures.takes c.mark_done.ensures,
+      subst (λ (ns : List FileName). ArePlaces scene ns c.self.inside.places)
+          (sym c.in_ok-finish_with.ensures.names) c.self.invariant.3,
+    )

@@ -1,5 +1,5 @@
 use Rattle.std.proofs.Common.{sym, subst, ◌∙◌}
-use Rattle.mk_graph.specs.World.{IsFirst}
+use Rattle.mk_graph.specs.World.{IsFirstDisk}
 use Rattle.mk_world.specs.State.{Scene, DiskState, setting_of, disk_of}
 use Rattle.mk_world.specs.First.{AreNamesOf}
 use Rattle.mk_world.proofs.Tables.{name_there, there_name}
@@ -22,7 +22,7 @@ returns c =
     record {
       scene = scene;
       idle = c.in_ok-world.ensures.idle;
-      first = subst (λ (d : DiskState). IsFirst c.args.graph.now (setting_of c.args.setting.now) (disk_of d)) (sym disk) (is_first c.args.graph.now c.args.setting.now c.in_ok-names.names c.in_ok-names.ensures.sorted c.in_ok-names.ensures.all);
+      first = subst (λ (d : DiskState). IsFirstDisk c.args.graph.now (setting_of c.args.setting.now) (disk_of d)) (sym disk) (is_first c.args.graph.now c.args.setting.now c.in_ok-names.names c.in_ok-names.ensures.sorted c.in_ok-names.ensures.all);
       names = subst (λ (sc : Scene). AreNamesOf sc c.in_ok-world.world.disk.names) (sym scene) (
           subst (λ (d : DiskState). AreNamesOf (record { graph = c.args.graph.now; recorded = c.args.setting.now }) d.names) (sym disk)
           (record { sorted = c.in_ok-names.ensures.sorted; all = λ f. (λ e. (all f).0 (name_there _ f e), λ w. there_name _ f ((all f).1 w)) }));

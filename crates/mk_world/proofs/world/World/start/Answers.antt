@@ -1,7 +1,7 @@
 use Rattle.std.proofs.Common.{◌<◌, List, ℕ, map, length, refl, sym, subst, arith}
 use Rattle.mk_graph.specs.Membership.{Has}
-use Rattle.mk_graph.specs.Schedule as model
-use Rattle.mk_ready.specs.Progress.{Starts}
+use Rattle.mk_graph.specs.Steps as model
+use Rattle.mk_graph_ready.specs.Progress.{Starts}
 use Rattle.mk_world.specs.State.{MakeState, setting, world_in, busy, start_of, number_of}
 use Rattle.mk_world.specs.Fits.{Fits}
 use Rattle.mk_world.specs.Steps.{Takes}
@@ -39,7 +39,9 @@ returns c =
     let none = is_none make (sym c.if-is_some.ensures) in
     let many = length c.nodes-many.result.now in
     let some : 0 < c.args.jobs = omega (arith, c.if-jobs-eq0.false) in
-    let takes = subst (λ (gs : List ℕ). Takes scene.graph (setting scene) (world_in scene disk make) (busy scene (start_of c.args.jobs c.in-Some.numbers.items many) disk) (model.Make c.args.jobs gs)) found.0 (started_takes scene disk make c.args.jobs c.in-Some.numbers.items many none some found.1) in
+    let takes = subst (λ (gs : List ℕ). Takes scene.graph (setting scene) (world_in scene disk make)
+    (busy scene (start_of c.args.jobs c.in-Some.numbers.items many) disk) (model.Make c.args.jobs gs))
+    found.0 (started_takes scene disk make c.args.jobs c.in-Some.numbers.items many none some found.1) in
     rw (← c.self.view_is) (record {
       scene = refl;
       names = refl;

@@ -1,7 +1,0 @@
-use Rattle.std.proofs.Common.{ℕ, ◌<◌, length}
-use Rattle.mk_graph.specs.Membership.{Has}
-use Rattle.mk_build_tests.specs.Rows.{row}
-use Rattle.mk_build_tests.proofs.graph_fixtures.are_rows.Given as goal
-
-abbrev pub invariant-loop-numbers : goal.invariant-loop-numbers
-invariant-loop-numbers l = (n : ℕ) → n < l.numbers-index → (p : ℕ) → Has (row l.rows n) p → p < length l.rows

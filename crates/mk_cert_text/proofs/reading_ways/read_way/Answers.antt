@@ -1,0 +1,16 @@
+use Rattle.std.proofs.Common.{◌≡◌, None, Err, inr, refl}
+use Rattle.serde_json.specs.Data.{Data}
+use Rattle.serde_json.specs.Find.{as_object}
+use Rattle.mk_cert_text.specs.declared.fault.CertTextFault.TheVariants.{Shape}
+use Rattle.mk_cert_text.specs.declared.key.Key.TheVariants.{Ways}
+use Rattle.mk_cert_text.specs.Reading.{way_in}
+use Rattle.mk_cert_text.proofs.reading_ways.read_way.Goals as goal
+
+no_object : (value : Data) → as_object value ≡ None → way_in value ≡ Err (Shape Ways)
+unfolding way_in
+no_object value none = rw none refl
+
+pub returns-then-not-branch : goal.returns-then-not-branch
+returns-then-not-branch c =
+    let passed = rw c.if-not-branch.true at c.in_ok-enter_object.ensures in
+    (passed.0, passed.1, inr (no_object passed.0 passed.2))

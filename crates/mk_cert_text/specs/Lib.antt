@@ -1,0 +1,9 @@
+pub mod Certificate
+pub mod Packing
+pub mod Keys
+pub mod Words
+pub mod Steps
+pub mod Reading
+pub mod CertificateParts
+pub mod Writing
+pub mod Laws

@@ -1,8 +1,0 @@
-use Rattle.std.proofs.Common.{take}
-use Rattle.mk_choice.specs.Choosing.{IsLeast, chosen_by, fits_by}
-use Rattle.mk_choice.proofs.NameLists.{texts}
-use Rattle.mk_choice.proofs.inference.least_fitting.Given as goal
-
--- the least of the suffixes so far
-abbrev pub invariant-loop-suffix : goal.invariant-loop-suffix
-invariant-loop-suffix l = IsLeast (fits_by l.table l.exists l.stem l.ending) (chosen_by l.table l.stem l.ending) l.table.suffixes (texts (take l.suffix-index l.suffixes)) l.least

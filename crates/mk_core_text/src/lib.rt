@@ -1,0 +1,14 @@
+//! The printed text of graphs, verdicts and refusals.
+#![tactic(auto)]
+
+mod fault;
+mod printing;
+mod rendering;
+mod verdict;
+mod wording;
+
+pub use fault::Fault;
+pub use printing::text_of;
+pub use rendering::{render, yes_line};
+pub use verdict::{Findings, Verdict};
+pub use wording::{fault_text, step_fault_text};

@@ -1,0 +1,60 @@
+//! Whether a read needs a way and has one.
+
+ghost use Rattle.std.specs.Prelude.{◌≡◌, [], ℕ, IfOk};
+ghost use Rattle.mk_graph.specs.Membership.{Has};
+ghost use Rattle.mk_graph_search.specs.Ways.{successors};
+ghost use Rattle.mk_cert.specs.Candidates.{static_candidates};
+ghost use Rattle.mk_cert.specs.Carried.{carried};
+ghost use Rattle.mk_cert.specs.WayTables.{AreEnds};
+ghost use Rattle.mk_cert.specs.Listing.{Lists};
+ghost use Rattle.mk_cert.specs.Subject.{reads_of};
+ghost use Rattle.mk_find.specs.ReadStatus.{IsReadStatus};
+ghost use Rattle.mk_cert.specs.Target.{target_of};
+
+use crate::first_path::{FirstPath, first_path};
+use mk_cert::laws::{nothing_found_is_sound, paths_are_ways};
+use mk_cert::{EndTables, Subject, Target};
+use mk_graph_search::Search;
+use std::alloc::{AllocError, Global};
+
+/// Whether a read needs a way and has one.
+#[derive(Debug, Drop)]
+pub(crate) enum ReadStatus {
+    /// The file can't change, so the read needs no way.
+    Fixed,
+    /// The file can change, and this is the first path to it.
+    HasWay(FirstPath),
+    /// The file can change, and no path leads to it.
+    Stale,
+}
+
+/// Judges the read of `file` by the recipe at the start of `search`. The only error is out of
+/// memory.
+pub(crate) fn read_status_of(
+    alloc: Global,
+    subject: &Subject<'_>,
+    ends: &EndTables<'_>,
+    search: &mut Search<'_>,
+    file: &Target<'_>,
+) -> Result<ReadStatus, AllocError>
+    requires ends { AreEnds subject.now ends.now.needed.items
+        ends.now.always.items }
+    requires rows { (t : ℕ) → successors search.old.rows t ≡ carried subject.now t }
+    requires nothing { Lists subject.now (static_candidates subject.now) [] }
+    requires file { file.now ≡ target_of subject.now file.now.file }
+    requires read { Has (reads_of subject.now search.old.start) file.now.file }
+    ensures same { search.new ≡ search.old }
+    ensures standing { IfOk result (λ standing.
+        IsReadStatus subject.now search.old.start file.now.file standing) }
+{
+    nothing_found_is_sound();
+    paths_are_ways();
+    let _graph = subject.graph();
+    if !file.can_change(subject) {
+        return Ok(ReadStatus::Fixed);
+    }
+    match first_path(alloc, subject, ends, search, file)? {
+        Some(path) => Ok(ReadStatus::HasWay(path)),
+        None => Ok(ReadStatus::Stale),
+    }
+}

@@ -1,7 +1,0 @@
-use Rattle.std.proofs.Common.{◌≡◌, ◌++◌, drop}
-use Rattle.mk_graph.specs.Without.{opened}
-use Rattle.mk_graph.proofs.Loops.{lists}
-use Rattle.mk_graph.proofs.turn_list.open_row.Given as goal
-
-abbrev pub invariant-loop-group : goal.invariant-loop-group
-invariant-loop-group l = l.row.items ++ opened l.free (lists (drop l.group-index l.groups)) ≡ opened l.free (lists l.groups)

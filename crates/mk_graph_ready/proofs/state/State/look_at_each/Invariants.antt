@@ -1,0 +1,10 @@
+use Rattle.std.proofs.Common.{◌≡◌}
+use Rattle.mk_graph_ready.specs.State.{Stands}
+use Rattle.mk_graph_ready.proofs.state.State.look_at_each.Given as goal
+
+abbrev pub invariant-loop-number : goal.invariant-loop-number
+invariant-loop-number l = record {
+  stands : Stands l.layout l.self;
+  goals : l.self.goals ≡ l.fn.self.goals;
+  done : l.self.done ≡ l.fn.self.done;
+}

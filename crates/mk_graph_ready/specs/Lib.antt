@@ -1,0 +1,7 @@
+pub mod Rest
+pub mod RemainingGroups
+pub mod Blocks
+pub mod Layout
+pub mod Progress
+pub mod Stages
+pub mod State

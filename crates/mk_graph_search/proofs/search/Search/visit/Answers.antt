@@ -1,0 +1,29 @@
+-- The visit at the place ends its way, or there are no more.
+use Rattle.std.proofs.Common.{◌<◌, ◌≤◌, ℕ, length, IfOk, MatchOption, ap, subst, sym}
+use Rattle.mk_graph_search.specs.declared.visits.Visit.{Visit}
+use Rattle.mk_graph_search.specs.Ways.{successors}
+use Rattle.mk_graph_search.specs.Places.{SearchInput, EndsAt, HasAtMost}
+use Rattle.mk_graph_search.proofs.Going.{ends_at, no_more, all_looked}
+use Rattle.mk_graph_search.proofs.search.Search.visit.Goals as goal
+use Rattle.mk_graph_search.proofs.search.Search.visit.Goals.{then-place-len, else-place-len}
+
+pub returns-clause-found : goal.returns-clause-found
+returns-clause-found c =
+    let now = c.go_on_to.new.self in
+    let succ = successors c.self.inside.rows.now in
+    let start = c.self.inside.progress.start in
+    let place = c.args.place in
+    let stands = c.in_ok-go_on_to.ensures.stands in
+    subst (λ (task : SearchInput). IfOk c.if-place-len.result
+    (λ found. MatchOption found (HasAtMost (successors task.rows) task.start place)
+    (λ node. EndsAt (successors task.rows) task.start place node))) c.self.view_is
+    (elim c.if-place-len.branch [
+      | then-place-len w ↦ rw w.result-is
+          (subst (λ (n : ℕ). EndsAt succ start place n) (ap (λ (visit : Visit). visit.node) (sym w.at.ensures))
+          (ends_at succ start now.visits now.at now.looked place stands
+          (subst (λ (n : ℕ). place < n) c.len.ensures w.if-place-len.true)))
+      | else-place-len w ↦ rw w.result-is (let past : length now.visits ≤ place = subst
+          (λ (n : ℕ). n ≤ place) c.len.ensures w.if-place-len.false in no_more succ start now.visits now.at
+          now.looked place stands (all_looked place (length now.visits) now.at c.in_ok-go_on_to.ensures.reached
+          past) past)
+    ])

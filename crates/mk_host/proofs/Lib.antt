@@ -1,2 +1,0 @@
-mod EndingLemmas
-mod ReaderLemmas

@@ -1,4 +1,0 @@
-pub mod Outcome
-pub mod Disk
-pub mod Reading
-pub mod Ending

@@ -1,5 +1,0 @@
-use Rattle.mk_laws.proofs.EvidenceRuns.{evidence_runs_as_written}
-use Rattle.mk_laws.proofs.plan_laws.evidence_runs_as_written.Goals as goal
-
-pub returns : goal.returns
-returns c = evidence_runs_as_written c.names_of_world_are_plain.ensures c.plain_paths_are_well_spelled.ensures c.legal_steps_are_readable.ensures c.text_is_read.ensures c.written_history_runs.ensures

@@ -1,5 +1,0 @@
-use Rattle.mk_lines.proofs.LineNumbers.{first_lines_grow}
-use Rattle.mk_lines.proofs.laws.first_lines_grow.Goals as goal
-
-pub returns : goal.returns
-returns c = first_lines_grow

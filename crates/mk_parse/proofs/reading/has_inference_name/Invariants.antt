@@ -1,8 +1,0 @@
-use Rattle.std.proofs.Common.{◌≡◌, drop, map, string_bytes}
-use Rattle.std.specs.List.{list_any}
-use Rattle.mk_read.specs.Special.{is_inference_name}
-use Rattle.mk_parse.proofs.reading.has_inference_name.Given as goal
-
--- the targets that are left decide
-abbrev pub invariant-loop-target : goal.invariant-loop-target
-invariant-loop-target l = list_any (is_inference_name (map string_bytes l.suffixes)) (map string_bytes (drop l.target-index l.targets)) ≡ list_any (is_inference_name (map string_bytes l.suffixes)) (map string_bytes l.targets)

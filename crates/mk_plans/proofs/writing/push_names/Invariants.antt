@@ -1,7 +1,0 @@
-use Rattle.std.proofs.Common.{◌≡◌, ◌++◌, map, take, string_bytes}
-use Rattle.mk_plans.specs.PlanText.{names_text}
-use Rattle.mk_plans.proofs.writing.push_names.Given as goal
-
--- the names so far
-abbrev pub invariant-loop-name : goal.invariant-loop-name
-invariant-loop-name l = string_bytes l.line ≡ string_bytes l.initial.line ++ names_text (map (λ name. name.now) (take l.name-index l.names))

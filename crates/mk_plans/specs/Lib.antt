@@ -1,3 +1,0 @@
-pub mod PlanText
-pub mod Spelling
-pub mod PlanLaws

@@ -1,7 +1,0 @@
-use Rattle.std.proofs.Common.{◌≡◌, ◌++◌, map, take}
-use Rattle.mk_print.specs.GraphText.{commands_text}
-use Rattle.mk_print.proofs.printing.push_commands.Given as goal
-
--- the commands so far
-abbrev pub invariant-loop-line : goal.invariant-loop-line
-invariant-loop-line l = l.out.items ≡ l.initial.out.items ++ commands_text (map (λ line. line.items) (take l.line-index l.lines))

@@ -1,7 +1,0 @@
-use Rattle.std.proofs.Common.{◌≡◌, ◌++◌, take}
-use Rattle.mk_print.specs.GraphText.{names_text}
-use Rattle.mk_print.proofs.printing.push_names.Given as goal
-
--- the names so far
-abbrev pub invariant-loop-number : goal.invariant-loop-number
-invariant-loop-number l = l.out.items ≡ l.initial.out.items ++ names_text l.graph (take l.number-index l.numbers)

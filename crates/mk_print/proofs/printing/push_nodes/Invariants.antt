@@ -1,9 +1,0 @@
-use Rattle.std.proofs.Common.{◌≡◌, ℕ, List, ◌++◌, drop}
-use Rattle.mk_print.specs.GraphText.{nodes_text, shown_lines}
-use Rattle.mk_print.proofs.NodeTexts.{behind}
-use Rattle.mk_print.proofs.printing.push_nodes.Given as goal
-
--- the nodes so far, and those that are left
-abbrev pub invariant-loop-number : goal.invariant-loop-number
-invariant-loop-number l = (done : List ℕ) × (l.out.items ≡ l.initial.out.items ++ done)
-    × (behind done (nodes_text (shown_lines l.asked l.choices.makefile l.choices.exists) l.graph (drop l.number-index l.numbers)) ≡ nodes_text (shown_lines l.asked l.choices.makefile l.choices.exists) l.graph l.numbers)

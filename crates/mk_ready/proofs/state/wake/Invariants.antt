@@ -1,7 +1,0 @@
-use Rattle.std.proofs.Common.{take}
-use Rattle.mk_ready.specs.Stages.{Wakes}
-use Rattle.mk_ready.proofs.state.wake.Given as goal
-
--- the nodes so far are to be looked at
-abbrev pub invariant-loop-number : goal.invariant-loop-number
-invariant-loop-number l = Wakes l.fn.stages l.stages (take l.number-index l.numbers)

@@ -1,7 +1,0 @@
-pub mod Rest
-pub mod Left
-pub mod Blocks
-pub mod Layout
-pub mod Progress
-pub mod Stages
-pub mod State

@@ -1,6 +1,0 @@
--- What comes later isn't shorter.
-use Rattle.mk_search.proofs.Firsts.{first_is_shortest}
-use Rattle.mk_search.proofs.laws.first_is_shortest.Goals as goal
-
-pub returns : goal.returns
-returns c = first_is_shortest

@@ -1,8 +1,0 @@
-use Rattle.std.proofs.Common.{map, drop, string_bytes}
-use Rattle.mk_graph.specs.SerialMake.{puts}
-use Rattle.mk_show.proofs.Notes.{NotesLeft}
-use Rattle.mk_show.proofs.history.History.note_puts.Given as goal
-
--- the first puts are noted, and the others are left
-abbrev pub invariant-loop-file : goal.invariant-loop-file
-invariant-loop-file l = NotesLeft l.fn.self l.self (puts l.number (map string_bytes l.files) l.fn.contents) (puts l.number (map string_bytes (drop l.file-index l.files)) l.rest)

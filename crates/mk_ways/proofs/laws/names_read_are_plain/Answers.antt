@@ -1,5 +1,0 @@
-use Rattle.mk_ways.proofs.PlainNames.{names_read_are_plain}
-use Rattle.mk_ways.proofs.laws.names_read_are_plain.Goals as goal
-
-pub returns : goal.returns
-returns c = names_read_are_plain

@@ -1,8 +1,0 @@
-use Rattle.mk_world.proofs.PlanTexts.{line_cut, line_whole}
-use Rattle.mk_world.proofs.reading.first_line.Goals as goal
-
-pub returns-in-Some-clause-lines : goal.returns-in-Some-clause-lines
-returns-in-Some-clause-lines c = line_cut c.args.text.now c.in-Some.at c.in-Some.ensures
-
-pub returns-in-None-clause-lines : goal.returns-in-None-clause-lines
-returns-in-None-clause-lines c = line_whole c.args.text.now c.requires c.in-None.ensures

@@ -1,0 +1,12 @@
+pub mod Sets
+pub mod Goals
+pub mod Spelling
+pub mod ReadBack
+pub mod CommandWords
+pub mod PlanTexts
+pub mod Numbers
+pub mod Agreeing
+pub mod Following
+pub mod Passing
+pub mod Running
+pub mod Readable

@@ -1,0 +1,4 @@
+pub mod PlanReading
+pub mod PlanText
+pub mod Spelling
+pub mod PlanLaws

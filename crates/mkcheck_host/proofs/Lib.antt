@@ -1,0 +1,4 @@
+mod EndingLemmas
+mod ReaderLemmas
+mod SomeFits
+mod Walks

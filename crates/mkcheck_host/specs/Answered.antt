@@ -1,0 +1,26 @@
+-- Which maps fit the answers of a reader.
+use Rattle.std.specs.Prelude.{◌≡◌, ◌⊎◌, ℕ, List, [], ◌∷◌, Option}
+use Rattle.mk_read.specs.Files.{Told, text_at}
+
+-- Each text that was answered is the map's text of that name, and a name that was answered as
+-- missing has no text in the map.
+abbrev pub Fits : List (List ℕ × Option (List ℕ)) → Told → Type 0
+Fits [] told = Unit {0}
+Fits ((name, found) ∷ given) told = (found ≡ text_at told name) × Fits given told
+
+-- This is an answer for this name.
+abbrev pub WasAnswered : List (List ℕ × Option (List ℕ)) → List ℕ → Option (List ℕ) → Type 0
+WasAnswered [] asked answer = ⊥
+WasAnswered ((name, found) ∷ given) asked answer =
+    ((name ≡ asked) × (found ≡ answer)) ⊎ WasAnswered given asked answer
+
+-- No name was answered in two ways.
+abbrev pub IsSteady : List (List ℕ × Option (List ℕ)) → Type 0
+IsSteady given =
+    (name : List ℕ) (one other : Option (List ℕ)) →
+    WasAnswered given name one → WasAnswered given name other → one ≡ other
+
+-- If no name was answered in two ways, some map fits the answers.
+abbrev pub SomeMapFits : Type 0
+SomeMapFits =
+    (given : List (List ℕ × Option (List ℕ))) → IsSteady given → (told : Told) × Fits given told

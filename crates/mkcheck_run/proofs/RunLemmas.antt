@@ -1,0 +1,88 @@
+-- What the parts of a run make together.
+use Rattle.std.proofs.Common.{◌≡◌, ◌⊎◌, ◌∙◌, ℕ, Bool, true, true≢false, nat_eq, List, Option, Some, None, refl, sym, ap, ap₂, subst, inl, inr, Result, Ok, Err, IfOk, arith}
+use Rattle.std.specs.Prelude.{unwrap_or}
+use Rattle.std.specs.Option.{option_map}
+use Rattle.clap.specs.Words.{IsAmong, Kinds, Row, Text, is_simple, is_simple_and_free}
+use Rattle.clap.specs.declared.error.ErrorKind.{ErrorKind}
+use Rattle.clap.specs.declared.error.ErrorKind.TheVariants.{OutOfMemory}
+use Rattle.clap.proofs.OnLiterals.{clap_on_literals}
+use Rattle.mk_core.specs.Answer.{Answers, Counts}
+use Rattle.mk_core.specs.CheckAnswer.{AnswersCheck}
+use Rattle.mk_core_evidence.specs.EvidenceAnswer.{AnswersEvidence, HasVerdict, plan_in}
+use Rattle.mk_core.specs.Files.{Told}
+use Rattle.mk_core.specs.Steps.{seen}
+use Rattle.mk_core_text.specs.declared.fault.Fault.{Fault}
+use Rattle.mk_core_text.specs.declared.fault.Fault.TheVariants.{Memory}
+use Rattle.mk_core.specs.declared.request.Request.{Request}
+use Rattle.mk_core_evidence.specs.declared.showing.Evidence.{Evidence}
+use Rattle.mk_core_evidence.specs.declared.showing.Evidence.TheVariants.{Plan, NoPlan}
+use Rattle.mk_core_text.specs.declared.verdict.Verdict.TheVariants.{Yes, No}
+use Rattle.mkcheck_run.specs.declared.invocation.Invocation.{Invocation}
+use Rattle.mkcheck_run.specs.declared.invocation.Invocation.TheVariants.{Check}
+use Rattle.mkcheck_run.specs.CommandLine.{command_line}
+use Rattle.mkcheck_host.specs.Outcome.{Written}
+use Rattle.mkcheck_run.specs.Run.{AnswersInvocation, Explains, Promises, Response, Shows, evidence_response}
+
+-- the port says which words the command line takes
+pub is_simple_line : is_simple_and_free command_line ≡ true
+unfolding clap_on_literals
+is_simple_line = refl
+
+-- what is explained is one of the kinds, and not out of memory
+pub explained_kind : (kind : ErrorKind) (kinds : Kinds) (w : Written) → Explains kind w → (kind ≡ OutOfMemory) ⊎ IsAmong kind kinds → IsAmong kind kinds
+explained_kind kind kinds w h (inl e) = absurd (subst (λ k. Explains k w) e h)
+explained_kind kind kinds w h (inr among) = among
+
+-- a fact of each outcome is one of an `Ok`
+pub IfOk-each : {X E : Type 0} (r : Result X E) (P : X → Type 0) → ((x : X) → P x) → IfOk r P
+IfOk-each (Ok x) P h = h x
+IfOk-each (Err e) P h = tt
+
+pub is_simple_command : is_simple command_line ≡ true
+unfolding clap_on_literals
+is_simple_command = refl
+
+-- the count with a result is the count with its view
+pub counts_seen : {X Y : Type 0} (view : X → Y) (old new : ℕ) (r : Result X Fault) → Counts old new r → Counts old new (seen view r)
+counts_seen view old new (Ok x) h = h
+counts_seen view old new (Err fault) h = h
+
+-- out of memory is a response to a request for a verdict
+pub no_memory_answers : (told : Told) (request : Request) (only_certificate : Bool) → AnswersInvocation told (Check request only_certificate None) (Err Memory)
+no_memory_answers told request only_certificate = (Err Memory, tt, refl)
+
+-- and to one for a plan
+pub no_memory_shows : (told : Told) (request : Request) (only_certificate : Bool) (number : ℕ) → AnswersInvocation told (Check request only_certificate (Some number)) (Err Memory)
+no_memory_shows told request only_certificate number = (Err Memory, tt, refl)
+
+module _ (told : Told) (request : Request) (only_certificate : Bool) (number : ℕ) where
+  -- a plan is shown, or the verdict where there is none
+  evidence_shows : (evidence : Evidence) → Answers told request (AnswersEvidence number) (Ok (plan_in evidence)) → HasVerdict (Answers told request AnswersCheck) (Ok evidence)
+      → AnswersInvocation told (Check request only_certificate (Some number)) (Ok (evidence_response only_certificate evidence))
+  evidence_shows (Plan plan) a v = (Ok (Some plan.items), a, refl)
+  evidence_shows (NoPlan verdict) a v = (Ok None, a, (Ok verdict, v, refl))
+
+  pub evidence_answers : (evidence : Evidence) (shown : Response) → Answers told request (AnswersEvidence number) (Ok (plan_in evidence)) → HasVerdict (Answers told request AnswersCheck) (Ok evidence)
+      → shown ≡ evidence_response only_certificate evidence → AnswersInvocation told (Check request only_certificate (Some number)) (Ok shown)
+  evidence_answers evidence shown a v e =
+      subst (λ (s : Response). AnswersInvocation told (Check request only_certificate (Some number)) (Ok s)) (sym e) (evidence_shows evidence a v)
+
+-- what status 0 of an answer promises, it promises where it is written
+pub promised : (told : Told) (asked : Invocation) (answer : Result Response Fault) (w : Written)
+    → IfOk answer (λ shown. shown.status ≡ 0 → Promises told asked) → Shows answer w → w.status ≡ 0 → Promises told asked
+promised told asked (Ok shown) w h shows e = h (sym (ap (λ (x : Written). x.status) shows) ∙ e)
+promised told asked (Err fault) w h shows e =
+    let bad : 2 ≡ 0 = sym (ap (λ (x : Written). x.status) shows.1) ∙ e in absurd (true≢false (ap (λ (n : ℕ). nat_eq n 2) bad))
+
+-- the subcommand that was found is the one whose name and values are given
+module _ {P B : Type 0} (n : P → Text) (r : P → List Row) (name : B → Text) (rows : B → List Row) where
+  abbrev met_in : Option B → Option (Text × List Row)
+  met_in o = option_map {U = Text × List Row} (λ b. (name b, rows b)) o
+
+  pub met_found : (o : Option B) (found : Option P) (p : P) → option_map n found ≡ option_map name o → option_map r found ≡ option_map (λ (q : Text × List Row). q.1) (met_in o) → found ≡ Some p
+      → met_in o ≡ Some (n p, r p)
+  met_found None found p hn hr e = let k : Some (n p) ≡ None = ap (option_map n) (sym e) ∙ hn in absurd cc
+  met_found (Some b) found p hn hr e =
+      let same_name : name b ≡ n p = sym (ap (λ (x : Option Text). unwrap_or x (n p)) (ap (option_map n) (sym e) ∙ hn)) in
+      let same_rows : rows b ≡ r p = sym (ap (λ (x : Option (List Row)). unwrap_or x (r p)) (ap (option_map r) (sym e) ∙ hr)) in
+      ap₂ (λ (x : Text) (y : List Row). Some (x, y)) same_name same_rows

@@ -1,0 +1,146 @@
+-- The command line as data.
+use Rattle.std.specs.Prelude.{◌≡◌, ℕ, ◌==◌, Bool, true, false, List, [], ◌∷◌, Option, None, Some, codes}
+use Rattle.std.specs.List.{list_any}
+use Rattle.std.specs.Option.{option_map_or}
+use Rattle.clap.specs.declared.builder.action.ArgAction.TheVariants.{Count}
+use Rattle.clap.specs.declared.builder.value_parser.ValueParser.TheVariants.{Unsigned}
+use Rattle.clap.specs.Words.{App, Rule, new_app, new_rule, with_rule, with_subcommand}
+
+-- `-f F`, at most once.
+abbrev pub makefile_option : Rule
+makefile_option = record (new_rule (codes "makefile")) { short = Some 102; value_names = 1 }
+
+-- `-r`, any number of times.
+abbrev pub no_defaults_option : Rule
+no_defaults_option =
+    record (new_rule (codes "no-defaults")) { short = Some 114; action = Some Count }
+
+-- `-b BOOK`, at most once.
+abbrev pub book_option : Rule
+book_option = record (new_rule (codes "book")) { short = Some 98; value_names = 1 }
+
+-- `-c` of `graph`, any number of times.
+abbrev pub commands_option : Rule
+commands_option = record (new_rule (codes "commands")) { short = Some 99; action = Some Count }
+
+-- `-b BOOK`, exactly once.
+abbrev pub needed_book_option : Rule
+needed_book_option = record book_option { required = true }
+
+-- `-c` of `check`, any number of times.
+abbrev pub only_certificate_option : Rule
+only_certificate_option =
+    record (new_rule (codes "only-certificate")) { short = Some 99; action = Some Count }
+
+-- `-e N`, at most once, with a whole number from 1 on, below 2 to the 64th.
+abbrev pub evidence_option : Rule
+evidence_option =
+    record (new_rule (codes "evidence")) {
+      short = Some 101;
+      value_names = 1;
+      parser = Some (Unsigned 1 18446744073709551615);
+    }
+
+-- `-k CERT`, exactly once.
+abbrev pub certificate_option : Rule
+certificate_option =
+    record (new_rule (codes "certificate")) { short = Some 107; value_names = 1; required = true }
+
+-- `-p PLAN`, exactly once.
+abbrev pub plan_option : Rule
+plan_option =
+    record (new_rule (codes "plan")) { short = Some 112; value_names = 1; required = true }
+
+-- `[WORD..]`
+abbrev pub words_argument : Rule
+words_argument =
+    record (new_rule (codes "words")) {
+      range = Some (record { start_inclusive = 0; end_inclusive = 18446744073709551615 });
+      value_names = 1;
+    }
+
+-- The subcommand `graph`, without its options.
+abbrev pub named_graph : App
+named_graph = new_app (codes "graph")
+
+-- The subcommand `check`, without its options.
+abbrev pub named_check : App
+named_check = new_app (codes "check")
+
+-- The subcommand `verify`, without its options.
+abbrev pub named_verify : App
+named_verify = new_app (codes "verify")
+
+-- The subcommand `simulate`, without its options.
+abbrev pub named_simulate : App
+named_simulate = new_app (codes "simulate")
+
+-- A subcommand with `[-f F] [-r]`.
+abbrev pub with_reading : App → App
+with_reading app = with_rule (with_rule app makefile_option) no_defaults_option
+
+-- `graph [-f F] [-r] [-b BOOK] [-c] [WORD..]`
+abbrev pub graph_command : App
+graph_command =
+    with_rule (with_rule (with_rule (with_reading named_graph) book_option) commands_option)
+    words_argument
+
+-- `check [-f F] [-r] -b BOOK [-c] [-e N] [WORD..]`
+abbrev pub check_command : App
+check_command =
+    with_rule (with_rule (with_rule (with_rule (with_reading named_check) needed_book_option)
+    only_certificate_option) evidence_option) words_argument
+
+-- `verify [-f F] [-r] -b BOOK -k CERT [WORD..]`
+abbrev pub verify_command : App
+verify_command =
+    with_rule (with_rule (with_rule (with_reading named_verify) needed_book_option)
+    certificate_option) words_argument
+
+-- `simulate [-f F] [-r] -b BOOK -p PLAN [WORD..]`
+abbrev pub simulate_command : App
+simulate_command =
+    with_rule (with_rule (with_rule (with_reading named_simulate) needed_book_option) plan_option)
+    words_argument
+
+-- The program `mkcheck`, which has a version.
+abbrev pub named_program : App
+named_program =
+    let app = new_app (codes "mkcheck") in record app {
+      top = record (app.top)
+          { has_version = true };
+    }
+
+-- The program, whose words come without its name, and which requires a subcommand and has no `help`
+-- subcommand.
+abbrev pub program : App
+program =
+    record named_program {
+      top = record (named_program.top)
+          { no_binary_name = true; subcommand_required = true; disable_help_subcommand = true };
+    }
+
+-- A program with `check` and `verify`.
+abbrev pub with_judging : App → App
+with_judging app = with_subcommand (with_subcommand app check_command.top) verify_command.top
+
+-- `mkcheck` with its four subcommands.
+abbrev pub command_line : App
+command_line =
+    with_subcommand (with_judging (with_subcommand program graph_command.top)) simulate_command.top
+
+-- The word is read as an option or as `--`: it is a `-` and at least one more byte.
+abbrev pub is_option : List ℕ → Bool
+is_option [] = false
+is_option (b ∷ []) = false
+is_option (b ∷ c ∷ rest) = b == 45
+
+-- The words `graph [-f F] WORD..`.
+abbrev pub graph_words : Option (List ℕ) → List (List ℕ) → List (List ℕ)
+graph_words None words = codes "graph" ∷ words
+graph_words (Some name) words = codes "graph" ∷ codes "-f" ∷ name ∷ words
+
+-- Neither the makefile's name nor one of the words is read as an option.
+pub record HasNoOption (makefile : Option (List ℕ)) (given : List (List ℕ)) : Type 0 where
+  pub name : option_map_or is_option makefile false ≡ false
+  pub words : list_any is_option given ≡ false

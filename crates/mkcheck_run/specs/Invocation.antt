@@ -1,0 +1,86 @@
+-- The command that the words of a command line give.
+use Rattle.std.specs.Prelude.{ℕ, ◌^◌, Bool, true, false, not, ◌&&◌, nat_lt, List, None, Some, [], Option, option_and_then, codes, length, unwrap_or, if◌then◌else◌}
+use Rattle.std.specs.Char.{is_ascii_digit}
+use Rattle.std.specs.List.{list_all}
+use Rattle.std.specs.Str.{bytes_eq}
+use Rattle.std.specs.Str.Parse.{digits_value, without_leading_plus}
+use Rattle.clap.specs.Words.{Kinds, Row, Text, all_of, count_of, fault_of, first_of, subcommand_of}
+use Rattle.mk_core.specs.declared.request.Request.{Request}
+use Rattle.mk_core.specs.Words.{goals_of, operands_of}
+use Rattle.mkcheck_run.specs.declared.invocation.Invocation.{Invocation}
+use Rattle.mkcheck_run.specs.declared.invocation.Invocation.TheVariants.{Graph, Check, Verify, Simulate}
+use Rattle.mkcheck_run.specs.CommandLine.{command_line}
+
+-- The kinds of fault that the command line finds in the words; none where it accepts them.
+abbrev pub faults_of : List Text → Kinds
+faults_of words = fault_of command_line words
+
+-- The request for this makefile, with the macro operands and goals among these words, with the
+-- default text, without footprints and without commands; memory may be leaked at exit.
+abbrev pub asking : Option (List ℕ) → List Text → Request
+asking makefile words =
+    record {
+      makefile = makefile;
+      defaults = true;
+      operands = operands_of words;
+      goals = goals_of words;
+      book = None;
+      commands = false;
+      leaves_memory = true;
+    }
+
+-- The option is given, once or more.
+abbrev pub is_set : Text → List Row → Bool
+is_set id rows = nat_lt 0 (count_of id rows)
+
+-- The request that the values of the options and of `WORD..` make.
+abbrev pub requested : List Row → Request
+requested rows =
+    record (asking (first_of (codes "makefile") rows)
+    (unwrap_or (all_of (codes "words") rows) [])) {
+      defaults = not (is_set (codes "no-defaults") rows);
+      book = first_of (codes "book") rows;
+      commands = is_set (codes "commands") rows;
+    }
+
+-- The value of a required option.
+abbrev pub needed : Text → List Row → List ℕ
+needed id rows = unwrap_or (first_of id rows) []
+
+-- The digits, at least one, are a number below 2 to the 64th.
+abbrev pub is_number : List ℕ → Bool
+is_number digits =
+    list_all is_ascii_digit digits &&
+    (nat_lt 0 (length digits) && nat_lt (digits_value 10 digits) (2 ^ 64))
+
+-- The number that a text is, after an optional plus sign.
+abbrev pub number_in : Text → Option ℕ
+number_in text =
+    let digits = without_leading_plus text in
+    if is_number digits then Some (digits_value 10 digits) else None
+
+-- The number that an option gives, if it is given.
+abbrev pub number_at : Text → List Row → Option ℕ
+number_at id rows = option_and_then number_in (first_of id rows)
+
+-- The command for the subcommand with this name and these values.
+abbrev pub invocation_by : Text → List Row → Invocation
+invocation_by name rows =
+    if bytes_eq name (codes "check")
+    then Check (requested rows) (is_set (codes "only-certificate") rows)
+    (number_at (codes "evidence") rows) else
+    (if bytes_eq name (codes "verify")
+    then Verify (requested rows) (needed (codes "certificate") rows) else
+    (if bytes_eq name (codes "simulate")
+    then Simulate (requested rows) (needed (codes "plan") rows)
+    else Graph (requested rows)))
+
+-- The command for the subcommand that the words name. Words without a subcommand are never
+-- accepted, so that case is arbitrary.
+abbrev pub asked_with : Option (Text × List Row) → Invocation
+asked_with None = Graph (requested [])
+asked_with (Some met) = invocation_by met.0 met.1
+
+-- The command that the words give.
+abbrev pub invocation_of : List Text → Invocation
+invocation_of words = asked_with (subcommand_of command_line words)

@@ -1,0 +1,136 @@
+-- The outcome of a run.
+use Rattle.std.specs.Prelude.{◌≡◌, ℕ, Bool, false, List, [], ◌∷◌, ◌++◌, codes, Option, None, Some, Result, Ok, Err, if◌then◌else◌}
+use Rattle.clap.specs.Words.{IsAmong, Kinds}
+use Rattle.clap.specs.declared.error.ErrorKind.{ErrorKind}
+use Rattle.clap.specs.declared.error.ErrorKind.TheVariants.{DisplayHelp, DisplayVersion, OutOfMemory}
+use Rattle.mk_core_text.specs.declared.fault.Fault.{Fault}
+use Rattle.mk_core.specs.declared.request.Request.{Request}
+use Rattle.mk_core.specs.Answer.{Answers, Counts}
+use Rattle.mk_core.specs.CheckAnswer.{AnswersCheck}
+use Rattle.mk_core_evidence.specs.EvidenceAnswer.{AnswersEvidence}
+use Rattle.mk_core.specs.GraphAnswer.{AnswersGraph}
+use Rattle.mk_core.specs.SimulationAnswer.{AnswersSimulation}
+use Rattle.mk_core.specs.Simulation.{Simulation}
+use Rattle.mk_core_text.specs.FaultText.{fault_text}
+use Rattle.mk_core.specs.Right.{IsRightFor}
+use Rattle.mk_core.specs.Steps.{is_out_of_memory, seen}
+use Rattle.mk_core_text.specs.VerdictText.{verdict_text}
+use Rattle.mk_core.specs.VerifyAnswer.{AnswersVerify}
+use Rattle.mk_core_evidence.specs.declared.showing.Evidence.{Evidence}
+use Rattle.mk_core_evidence.specs.declared.showing.Evidence.TheVariants.{Plan, NoPlan}
+use Rattle.mk_core_text.specs.declared.verdict.Verdict.{Verdict}
+use Rattle.mk_core_text.specs.declared.verdict.Verdict.TheVariants.{Yes, No}
+use Rattle.mk_core.specs.Files.{IfFits, Told}
+use Rattle.mk_cert_text.specs.Writing.{value_of}
+use Rattle.serde_json.specs.Written.{compact_text}
+use Rattle.mkcheck_run.specs.declared.invocation.Invocation.{Invocation}
+use Rattle.mkcheck_run.specs.declared.invocation.Invocation.TheVariants.{Graph, Check, Verify, Simulate}
+use Rattle.mkcheck_host.specs.Outcome.{Written}
+
+-- The response to a command: a text for standard output, and the exit status.
+pub record Response : Type 0 where
+  pub text : List ℕ
+  pub status : ℕ
+
+-- The response with this text and status 0: for a graph, and for a certificate that is accepted.
+abbrev pub text_response : List ℕ → Response
+text_response text = record { text = text; status = 0 }
+
+-- The response with a verdict: a yes has status 0, and is its certificate alone on a line where
+-- only that is asked for; a no has status 1.
+abbrev pub verdict_response : Bool → Verdict → Response
+verdict_response only_certificate (Yes certificate recipes reads) =
+    text_response (if only_certificate then compact_text (value_of certificate) ++ 10 ∷ []
+    else verdict_text (Yes certificate recipes reads))
+verdict_response only_certificate (No found) = record { text = verdict_text (No found); status = 1 }
+
+-- The response with a plan that shows a finding: status 1.
+abbrev pub plan_response : List ℕ → Response
+plan_response plan = record { text = plan; status = 1 }
+
+-- The response where a plan alone is asked for and there is none: a yes as usual, for a no `no
+-- plan` and status 1.
+abbrev pub response_without_plan : Bool → Verdict → Response
+response_without_plan only_certificate (Yes certificate recipes reads) =
+    verdict_response only_certificate (Yes certificate recipes reads)
+response_without_plan only_certificate (No found) = plan_response (codes "no plan\n")
+
+-- The response with the plan alone or, without one, with the verdict.
+abbrev pub evidence_response : Bool → Evidence → Response
+evidence_response only_certificate (Plan plan) = plan_response plan.items
+evidence_response only_certificate (NoPlan verdict) = response_without_plan only_certificate verdict
+
+-- The response with the run of a plan: status 2 where a line was refused, else 0.
+abbrev pub run_response : Simulation → Response
+run_response run = record { text = run.text; status = if run.refused then 2 else 0 }
+
+-- The response to `check`: the verdict as it is shown, or the fault.
+abbrev pub ShowsVerdict : Told → Request → (Verdict → Response) → Result Response Fault → Type 0
+ShowsVerdict files request shown answer =
+    (verdict : Result Verdict Fault) ×
+    Answers files request AnswersCheck verdict × (answer ≡ seen shown verdict)
+
+-- The response where a plan is asked for: the plan alone, if there is one, else the verdict; or the
+-- fault.
+abbrev pub ShowsPlan : Told → Request → Bool → Result (Option (List ℕ)) Fault →
+    Result Response Fault → Type 0
+ShowsPlan files request only_certificate (Ok (Some plan)) answer = answer ≡ Ok (plan_response plan)
+ShowsPlan files request only_certificate (Ok None) answer =
+    ShowsVerdict files request (response_without_plan only_certificate) answer
+ShowsPlan files request only_certificate (Err fault) answer = answer ≡ Err fault
+
+-- Over files with this map, the response to the command, or its fault.
+abbrev pub AnswersInvocation : Told → Invocation → Result Response Fault → Type 0
+AnswersInvocation files (Graph request) answer =
+    (text : Result (List ℕ) Fault) ×
+    Answers files request (AnswersGraph request.commands) text × (answer ≡ seen text_response text)
+AnswersInvocation files (Check request only_certificate None) answer =
+    ShowsVerdict files request (verdict_response only_certificate) answer
+AnswersInvocation files (Check request only_certificate (Some number)) answer =
+    (plan : Result (Option (List ℕ)) Fault) ×
+    Answers files request (AnswersEvidence number) plan ×
+    ShowsPlan files request only_certificate plan answer
+AnswersInvocation files (Verify request certificate) answer =
+    (text : Result (List ℕ) Fault) ×
+    Answers files request (AnswersVerify files certificate) text ×
+    (answer ≡ seen text_response text)
+AnswersInvocation files (Simulate request plan) answer =
+    (run : Result Simulation Fault) ×
+    Answers files request (AnswersSimulation files plan) run × (answer ≡ seen run_response run)
+
+-- What status 0 of a command says, over files with this map: the build that `check` or `verify`
+-- judges is right.
+abbrev pub Promises : Told → Invocation → Type 0
+Promises files (Check request only_certificate evidence) = IsRightFor files request
+Promises files (Verify request certificate) = IsRightFor files request
+Promises files asked = Unit {0}
+
+-- The response is written to standard output, with its status; a fault as a refusal on a line, with
+-- status 2. Out of memory isn't written here.
+abbrev pub Shows : Result Response Fault → Written → Type 0
+Shows (Ok shown) w = w ≡ record { out = shown.text; err = []; status = shown.status }
+Shows (Err fault) w =
+    (is_out_of_memory fault ≡ false) ×
+    (w ≡ record { out = fault_text fault ++ 10 ∷ []; err = []; status = 2 })
+
+-- The outcome is that of some response or fault. It is the defined one over each map that fits what
+-- the reader has answered, and it is a failed read only where the count of failed reads rose.
+pub record IsAnswered (fits : Told → Type 0) (old new : ℕ) (asked : Invocation) (w : Written) :
+    Type 0
+  where
+    pub answer : Result Response Fault
+    pub answers : IfFits fits (λ files. AnswersInvocation files asked answer)
+    pub counts : Counts old new answer
+    pub shows : Shows answer w
+
+-- Help and the version go to standard output only, with status 0; a fault of the words goes to
+-- standard error only, with status 2.
+abbrev pub Explains : ErrorKind → Written → Type 0
+Explains DisplayHelp w = (w.err ≡ []) × (w.status ≡ 0)
+Explains DisplayVersion w = (w.err ≡ []) × (w.status ≡ 0)
+Explains OutOfMemory w = ⊥
+Explains kind w = (w.out ≡ []) × (w.status ≡ 2)
+
+-- The outcome explains one of the faults of the words.
+abbrev pub IsRefused : Kinds → Written → Type 0
+IsRefused kinds w = (kind : ErrorKind) × IsAmong kind kinds × Explains kind w

@@ -1,0 +1,208 @@
+//! Carries out a command.
+
+ghost use Rattle.std.specs.Prelude.{◌≡◌, ◌<◌, ◌-◌, ◌^◌, ◌∷◌, ◌++◌, [], None, Some, IfOk};
+ghost use Rattle.mk_core.specs.Files.{IfFits, Keeps};
+ghost use Rattle.mk_core.specs.Answer.{Counts};
+ghost use Rattle.mk_core.specs.Right.{IsRightFor};
+ghost use Rattle.mk_cert_text.specs.Writing.{value_of};
+ghost use Rattle.serde_json.specs.Written.{compact_text};
+ghost use Rattle.mkcheck_run.specs.Run.{AnswersInvocation, Promises, evidence_response, plan_response, run_response, text_response, verdict_response, response_without_plan};
+ghost use Rattle.mkcheck_run.specs.declared.invocation.Invocation.TheVariants.{Check};
+
+use crate::invocation::Invocation;
+use crate::running::{DONE, NO, REFUSED};
+use mk_cert_text::{Certificate, certificate_text};
+use mk_core::{
+    Fault, Files, Request, Simulation, Verdict, check, drop_or_leak, graph_text, render,
+    simulate_text, verify_text,
+};
+use mk_core_evidence::{Evidence, evidence_or_verdict};
+use std::alloc::{AllocError, Global};
+use std::marker::Model;
+
+/// The response to a command: a text for standard output, and the exit status.
+#[derive(Debug, Drop)]
+pub struct Response {
+    /// The text.
+    pub text: Vec<u8>,
+    /// The exit status: 0 for yes or done, 1 for no, 2 for a refusal.
+    pub status: u8,
+}
+
+impl Model for Response {
+    ghost use Rattle.mkcheck_run.specs.Run as value;
+
+    ghost Value = { value.Response };
+
+    ghost view = { λ s. record { text = s.text.items; status = s.status } };
+}
+
+// The response with this text and status 0: for a graph, and for a certificate that is accepted.
+fn text_response(text: Vec<u8>) -> Response
+    ensures { result ≡ text_response text.items }
+{
+    Response { text, status: DONE }
+}
+
+// The certificate on one line.
+fn certificate_line(alloc: Global, certificate: &Certificate) -> Result<Vec<u8>, AllocError>
+    ensures { IfOk result (λ text. text.items ≡
+        compact_text (value_of certificate.now) ++ 10 ∷ []) }
+{
+    let mut text = certificate_text(alloc, certificate)?.into_bytes();
+    text.push(b'\n')?;
+    Ok(text)
+}
+
+// The response with a verdict, or with its certificate alone.
+fn verdict_response(
+    alloc: Global,
+    verdict: &Verdict,
+    only_certificate: bool,
+) -> Result<Response, AllocError>
+    ensures { IfOk result (λ shown. shown ≡ verdict_response only_certificate verdict.now) }
+{
+    match verdict {
+        Verdict::Yes { certificate, .. } if only_certificate => {
+            Ok(text_response(certificate_line(alloc, certificate)?))
+        }
+        Verdict::Yes { .. } => Ok(text_response(render(alloc, verdict)?)),
+        Verdict::No(_) => Ok(Response {
+            text: render(alloc, verdict)?,
+            status: NO,
+        }),
+    }
+}
+
+// The response with a plan that shows a finding: status 1.
+fn plan_response(plan: Vec<u8>) -> Response
+    ensures { result ≡ plan_response plan.items }
+{
+    Response {
+        text: plan,
+        status: NO,
+    }
+}
+
+// The response with a verdict where a plan alone was asked for and there is none: a yes as usual,
+// for a no `no plan`.
+fn response_without_plan(
+    alloc: Global,
+    verdict: &Verdict,
+    only_certificate: bool,
+) -> Result<Response, AllocError>
+    ensures { IfOk result (λ shown. shown ≡ response_without_plan only_certificate verdict.now) }
+{
+    match verdict {
+        Verdict::Yes { .. } => verdict_response(alloc, verdict, only_certificate),
+        Verdict::No(_) => Ok(plan_response(Vec::from_slice(alloc, b"no plan\n")?)),
+    }
+}
+
+// The response with the run of a plan: status 2 where a line was refused.
+fn run_response(run: Simulation) -> Response
+    ensures { result ≡ run_response run }
+{
+    let status = if run.refused { REFUSED } else { DONE };
+    Response {
+        text: run.text,
+        status,
+    }
+}
+
+// Carries out `check` without `-e`.
+fn answer_check<F: Files>(
+    alloc: Global,
+    files: &mut F,
+    request: &Request,
+    only_certificate: bool,
+) -> Result<Response, Fault>
+    requires { F.failed files.old < 2 ^ 64 - 1 }
+    ensures keeps { Keeps (F.fits files.old) (F.fits files.new) }
+    ensures answer { IfFits (F.fits files.new)
+        (λ told. AnswersInvocation told (Check request.now only_certificate None) result) }
+    ensures right { IfFits (F.fits files.new)
+        (λ told. IfOk result (λ shown. shown.status ≡ 0 → IsRightFor told request.now)) }
+    ensures counted { Counts (F.failed files.old) (F.failed files.new) result }
+{
+    let verdict = check(alloc, files, request)?;
+    let shown = verdict_response(alloc, &verdict, only_certificate)?;
+    drop_or_leak(verdict, request.leaves_memory);
+    Ok(shown)
+}
+
+// The response with a plan or, where there is none, with the verdict.
+fn evidence_response(
+    alloc: Global,
+    evidence: Evidence,
+    only_certificate: bool,
+) -> Result<Response, AllocError>
+    ensures { IfOk result (λ shown. shown ≡ evidence_response only_certificate evidence) }
+{
+    match evidence {
+        Evidence::Plan(plan) => Ok(plan_response(plan)),
+        Evidence::NoPlan(verdict) => response_without_plan(alloc, &verdict, only_certificate),
+    }
+}
+
+// Carries out `check -e`: the plan that shows the finding with this number, or the verdict where
+// there is no such plan.
+fn answer_plan<F: Files>(
+    alloc: Global,
+    files: &mut F,
+    request: &Request,
+    only_certificate: bool,
+    number: u64,
+) -> Result<Response, Fault>
+    requires { F.failed files.old < 2 ^ 64 - 1 }
+    ensures keeps { Keeps (F.fits files.old) (F.fits files.new) }
+    ensures answer { IfFits (F.fits files.new)
+        (λ told. AnswersInvocation told (Check request.now only_certificate (Some number)) result) }
+    ensures right { IfFits (F.fits files.new)
+        (λ told. IfOk result (λ shown. shown.status ≡ 0 → IsRightFor told request.now)) }
+    ensures counted { Counts (F.failed files.old) (F.failed files.new) result }
+{
+    let evidence = evidence_or_verdict(alloc, files, request, number)?;
+    let shown = evidence_response(alloc, evidence, only_certificate)?;
+    Ok(shown)
+}
+
+/// Carries out a command, and returns the response. On an error nothing is returned; the error is
+/// the first fault, or `Memory`, out of memory. Status 0 for `check` and `verify` says that the
+/// build is right.
+pub fn answer<F: Files>(alloc: Global, files: &mut F, asked: &Invocation) -> Result<Response, Fault>
+    requires { F.failed files.old < 2 ^ 64 - 1 }
+    ensures keeps { Keeps (F.fits files.old) (F.fits files.new) }
+    ensures answer { IfFits (F.fits files.new) (λ told. AnswersInvocation told asked.now result) }
+    ensures right { IfFits (F.fits files.new)
+        (λ told. IfOk result (λ shown. shown.status ≡ 0 → Promises told asked.now)) }
+    ensures counted { Counts (F.failed files.old) (F.failed files.new) result }
+{
+    match asked {
+        Invocation::Graph(request) => {
+            let text = graph_text(alloc, files, request)?;
+            Ok(text_response(text))
+        }
+        Invocation::Check {
+            request,
+            only_certificate,
+            evidence: None,
+        } => answer_check(alloc, files, request, *only_certificate),
+        Invocation::Check {
+            request,
+            only_certificate,
+            evidence: Some(number),
+        } => answer_plan(alloc, files, request, *only_certificate, *number),
+        Invocation::Verify {
+            request,
+            certificate,
+        } => {
+            let text = verify_text(alloc, files, request, certificate.as_str())?;
+            Ok(text_response(text))
+        }
+        Invocation::Simulate { request, plan } => {
+            let run = simulate_text(alloc, files, request, plan.as_str())?;
+            Ok(run_response(run))
+        }
+    }
+}

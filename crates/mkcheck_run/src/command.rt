@@ -1,0 +1,293 @@
+//! Declares the command line.
+
+ghost use Rattle.std.specs.Prelude.{◌≡◌, IfOk, false};
+ghost use Rattle.clap.specs.Words.{app_of, rule_of, with_rule};
+ghost use Rattle.clap.specs.declared.builder.command.Command.TheViews.{out-Command as fields_of};
+ghost use Rattle.mkcheck_run.specs.CommandLine.{book_option, certificate_option, check_command, command_line, commands_option, evidence_option, graph_command, makefile_option, named_check, named_graph, named_program, named_simulate, named_verify, needed_book_option, no_defaults_option, only_certificate_option, plan_option, program, simulate_command, verify_command, with_judging, with_reading, words_argument};
+
+use clap::{Arg, ArgAction, Command, value_parser};
+use std::alloc::{AllocError, Global};
+
+macro_rules! with_statuses {
+    ($lead:literal) => {
+        concat!(
+            $lead,
+            "Status: 0 yes or done, 1 no, 2 refused or a fault of the command line, ",
+            "3 want of memory"
+        )
+    };
+}
+
+/// What `--version` prints behind the program's name. `tools/quick.py`, which builds the program
+/// without proving it, compiles another text in its place.
+const VERSION: &str = "0.2.0 (proved with rattle-kit-13f logic dac8208d650f15bf)";
+
+const BEHIND_ALL: &str = with_statuses!("Example: mkcheck check -b footprints.json prog\n\n");
+
+const BEHIND_GRAPH: &str = with_statuses!("Example: mkcheck graph -c -f Makefile CC=cc prog\n\n");
+
+const BEHIND_CHECK: &str = with_statuses!(
+    "Example: mkcheck check -b footprints.json prog\n\
+    Example: mkcheck check -b footprints.json -e 1 prog > plan.txt\n\n"
+);
+
+const BEHIND_VERIFY: &str = with_statuses!(
+    "Example: mkcheck verify -b footprints.json -k certificate.json prog\n\n"
+);
+
+const BEHIND_SIMULATE: &str = with_statuses!(
+    "Example: mkcheck simulate -b footprints.json -p plan.txt prog\n\n"
+);
+
+fn makefile_option<'a>(alloc: Global) -> Arg<'a>
+    ensures rule { rule_of result ≡ makefile_option }
+    ensures local { result.global ≡ false }
+{
+    Arg::new(alloc, "makefile")
+        .short('f')
+        .value_name("F")
+        .help("The makefile; without it makefile, else Makefile")
+}
+
+fn no_defaults_option<'a>(alloc: Global) -> Arg<'a>
+    ensures rule { rule_of result ≡ no_defaults_option }
+    ensures local { result.global ≡ false }
+{
+    Arg::new(alloc, "no-defaults")
+        .short('r')
+        .action(ArgAction::Count)
+        .help("Leaves out the default text: its macros, suffixes and inference rules")
+}
+
+fn book_option<'a>(alloc: Global) -> Arg<'a>
+    ensures rule { rule_of result ≡ book_option }
+    ensures local { result.global ≡ false }
+{
+    Arg::new(alloc, "book").short('b').value_name("BOOK").help(
+        "The file of recorded footprints; with it a name that nothing makes is refused",
+    )
+}
+
+fn needed_book_option<'a>(alloc: Global) -> Arg<'a>
+    ensures rule { rule_of result ≡ needed_book_option }
+    ensures local { result.global ≡ false }
+{
+    Arg::new(alloc, "book")
+        .short('b')
+        .value_name("BOOK")
+        .required(true)
+        .help("The file of recorded footprints")
+}
+
+fn only_certificate_option<'a>(alloc: Global) -> Arg<'a>
+    ensures rule { rule_of result ≡ only_certificate_option }
+    ensures local { result.global ≡ false }
+{
+    Arg::new(alloc, "only-certificate")
+        .short('c')
+        .action(ArgAction::Count)
+        .help("Prints of a yes the certificate alone, on one line")
+}
+
+fn evidence_option<'a>(alloc: Global) -> Arg<'a>
+    ensures rule { rule_of result ≡ evidence_option }
+    ensures local { result.global ≡ false }
+{
+    Arg::new(alloc, "evidence")
+        .short('e')
+        .value_name("N")
+        .value_parser(value_parser!(u64).range(1..))
+        .help("Prints of a no the plan that shows its finding N alone, or no plan")
+}
+
+fn certificate_option<'a>(alloc: Global) -> Arg<'a>
+    ensures rule { rule_of result ≡ certificate_option }
+    ensures local { result.global ≡ false }
+{
+    Arg::new(alloc, "certificate")
+        .short('k')
+        .value_name("CERT")
+        .required(true)
+        .help("The certificate: what check -c printed")
+}
+
+fn plan_option<'a>(alloc: Global) -> Arg<'a>
+    ensures rule { rule_of result ≡ plan_option }
+    ensures local { result.global ≡ false }
+{
+    Arg::new(alloc, "plan")
+        .short('p')
+        .value_name("PLAN")
+        .required(true)
+        .help(
+            "The plan: a line each of make, stop, begin, look, put, done, finish, run, pass, end, \
+            edit",
+        )
+}
+
+fn commands_option<'a>(alloc: Global) -> Arg<'a>
+    ensures rule { rule_of result ≡ commands_option }
+    ensures local { result.global ≡ false }
+{
+    Arg::new(alloc, "commands")
+        .short('c')
+        .action(ArgAction::Count)
+        .help("Prints the commands of each target behind its line, expanded")
+}
+
+fn words_argument<'a>(alloc: Global) -> Arg<'a>
+    ensures rule { rule_of result ≡ words_argument }
+    ensures local { result.global ≡ false }
+{
+    Arg::new(alloc, "words")
+        .num_args(0..)
+        .value_name("WORD")
+        .help(
+            "A macro operand, where it has an =, else a goal; without a goal the first target is \
+            one",
+        )
+}
+
+fn named_graph<'a>(alloc: Global) -> Command<'a>
+    ensures app { app_of result ≡ named_graph }
+    ensures local { (fields_of result).has_globals ≡ false }
+{
+    Command::new(alloc, "graph")
+        .about("Prints the goals, then a line for each target in serial order")
+        .override_usage("mkcheck graph [-f F] [-r] [-b BOOK] [-c] [WORD]...")
+        .after_help(BEHIND_GRAPH)
+}
+
+fn named_check<'a>(alloc: Global) -> Command<'a>
+    ensures app { app_of result ≡ named_check }
+    ensures local { (fields_of result).has_globals ≡ false }
+{
+    Command::new(alloc, "check")
+        .about("Says yes where parallel and incremental makes build right, else no and why")
+        .override_usage("mkcheck check [-f F] [-r] -b BOOK [-c] [-e N] [WORD]...")
+        .after_help(BEHIND_CHECK)
+}
+
+fn named_verify<'a>(alloc: Global) -> Command<'a>
+    ensures app { app_of result ≡ named_verify }
+    ensures local { (fields_of result).has_globals ≡ false }
+{
+    Command::new(alloc, "verify")
+        .about("Says yes where a certificate shows that makes build right, else refuses it")
+        .override_usage("mkcheck verify [-f F] [-r] -b BOOK -k CERT [WORD]...")
+        .after_help(BEHIND_VERIFY)
+}
+
+fn named_simulate<'a>(alloc: Global) -> Command<'a>
+    ensures app { app_of result ≡ named_simulate }
+    ensures local { (fields_of result).has_globals ≡ false }
+{
+    Command::new(alloc, "simulate")
+        .about("Runs a plan line by line, and prints the files at the end of each make")
+        .override_usage("mkcheck simulate [-f F] [-r] -b BOOK -p PLAN [WORD]...")
+        .after_help(BEHIND_SIMULATE)
+}
+
+// Adds the options that every subcommand has, `-f` and `-r`.
+fn with_reading<'a>(alloc: Global, command: Command<'a>) -> Result<Command<'a>, AllocError>
+    requires { (fields_of command).has_globals ≡ false }
+    ensures app { IfOk result (λ c. app_of c ≡ with_reading (app_of command.entry)) }
+    ensures local { IfOk result (λ c. (fields_of c).has_globals ≡ false) }
+{
+    command
+        .arg(makefile_option(alloc))?
+        .arg(no_defaults_option(alloc))
+}
+
+fn graph_command<'a>(alloc: Global) -> Result<Command<'a>, AllocError>
+    ensures app { IfOk result (λ c. app_of c ≡ graph_command) }
+    ensures local { IfOk result (λ c. (fields_of c).has_globals ≡ false) }
+{
+    with_reading(alloc, named_graph(alloc))?
+        .arg(book_option(alloc))?
+        .arg(commands_option(alloc))?
+        .arg(words_argument(alloc))
+}
+
+// Adds the options that select what of a verdict is printed, `-c` and `-e`.
+fn with_showing<'a>(alloc: Global, command: Command<'a>) -> Result<Command<'a>, AllocError>
+    requires { (fields_of command).has_globals ≡ false }
+    ensures app { IfOk result (λ c. app_of c ≡
+        with_rule (with_rule (app_of command.entry) only_certificate_option) evidence_option) }
+    ensures local { IfOk result (λ c. (fields_of c).has_globals ≡ false) }
+{
+    command
+        .arg(only_certificate_option(alloc))?
+        .arg(evidence_option(alloc))
+}
+
+fn check_command<'a>(alloc: Global) -> Result<Command<'a>, AllocError>
+    ensures app { IfOk result (λ c. app_of c ≡ check_command) }
+    ensures local { IfOk result (λ c. (fields_of c).has_globals ≡ false) }
+{
+    let needing = with_reading(alloc, named_check(alloc))?.arg(needed_book_option(alloc))?;
+    with_showing(alloc, needing)?.arg(words_argument(alloc))
+}
+
+fn verify_command<'a>(alloc: Global) -> Result<Command<'a>, AllocError>
+    ensures app { IfOk result (λ c. app_of c ≡ verify_command) }
+    ensures local { IfOk result (λ c. (fields_of c).has_globals ≡ false) }
+{
+    with_reading(alloc, named_verify(alloc))?
+        .arg(needed_book_option(alloc))?
+        .arg(certificate_option(alloc))?
+        .arg(words_argument(alloc))
+}
+
+fn simulate_command<'a>(alloc: Global) -> Result<Command<'a>, AllocError>
+    ensures app { IfOk result (λ c. app_of c ≡ simulate_command) }
+    ensures local { IfOk result (λ c. (fields_of c).has_globals ≡ false) }
+{
+    with_reading(alloc, named_simulate(alloc))?
+        .arg(needed_book_option(alloc))?
+        .arg(plan_option(alloc))?
+        .arg(words_argument(alloc))
+}
+
+fn named_program<'a>(alloc: Global) -> Command<'a>
+    ensures app { app_of result ≡ named_program }
+    ensures local { (fields_of result).has_globals ≡ false }
+{
+    Command::new(alloc, "mkcheck")
+        .version(VERSION)
+        .about("A checker of makefiles")
+        .after_help(BEHIND_ALL)
+}
+
+fn program<'a>(alloc: Global) -> Command<'a>
+    ensures app { app_of result ≡ program }
+    ensures local { (fields_of result).has_globals ≡ false }
+{
+    named_program(alloc)
+        .no_binary_name(true)
+        .subcommand_required(true)
+        .disable_help_subcommand(true)
+}
+
+// Adds the subcommands that judge a build, `check` and `verify`.
+fn with_judging<'a>(alloc: Global, command: Command<'a>) -> Result<Command<'a>, AllocError>
+    requires { (fields_of command).has_globals ≡ false }
+    ensures app { IfOk result (λ c. app_of c ≡ with_judging (app_of command.entry)) }
+    ensures local { IfOk result (λ c. (fields_of c).has_globals ≡ false) }
+{
+    command
+        .subcommand(check_command(alloc)?)?
+        .subcommand(verify_command(alloc)?)
+}
+
+/// The command line of the program, which reads the words after the program's name: `graph [-f F]
+/// [-r] [-b BOOK] [-c] [WORD..]`, `check [-f F] [-r] -b BOOK [-c] [-e N] [WORD..]`, `verify [-f F]
+/// [-r] -b BOOK -k CERT [WORD..]`, `simulate [-f F] [-r] -b BOOK -p PLAN [WORD..]`, `--help` and
+/// `--version`. The only error is out of memory.
+pub fn command_line<'a>(alloc: Global) -> Result<Command<'a>, AllocError>
+    ensures app { IfOk result (λ c. app_of c ≡ command_line) }
+    ensures local { IfOk result (λ c. (fields_of c).has_globals ≡ false) }
+{
+    let drawing = program(alloc).subcommand(graph_command(alloc)?)?;
+    with_judging(alloc, drawing)?.subcommand(simulate_command(alloc)?)
+}

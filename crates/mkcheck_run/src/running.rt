@@ -1,0 +1,142 @@
+//! Runs the program over the words of its command line.
+
+ghost use Rattle.std.specs.Prelude.{ℕ, List, Option, length, ◌≡◌, ◌≢◌, ◌<◌, ◌^◌, ◌-◌, [], true, map, Err, IfOk};
+ghost use Rattle.clap.specs.Words.{has_subcommand, kind_of, subcommand_rows_of};
+ghost use Rattle.mk_core.specs.Files.{IfFits, Keeps};
+ghost use Rattle.mkcheck_run.specs.Invocation.{invocation_of, asked_with, asking, faults_of};
+ghost use Rattle.mkcheck_run.specs.CommandLine.{HasNoOption, graph_words};
+ghost use Rattle.mkcheck_host.specs.Outcome.{written};
+ghost use Rattle.mkcheck_run.specs.Run.{Explains, IsAnswered, IsRefused, Promises, Shows};
+ghost use Rattle.mkcheck_run.specs.declared.invocation.Invocation.TheVariants.{Graph};
+
+use crate::answering::{Response, answer};
+use crate::command::command_line;
+use crate::invocation::invocation_by;
+use clap::error::ErrorKind;
+use clap::{ArgMatches, Error};
+use mk_core::{Fault, Files, fault_text};
+use mkcheck_host::{FAULT, Outcome};
+use std::alloc::{AllocError, Global};
+use std::convert::AsStr;
+
+/// The exit status of a yes, of any other success, of help and of the version.
+pub const DONE: u8 = 0;
+
+/// The exit status of a no.
+pub const NO: u8 = 1;
+
+/// The exit status of a refusal.
+pub const REFUSED: u8 = 2;
+
+// The outcome of a refusal. Out of memory is an error.
+fn refused(alloc: Global, fault: &Fault) -> Result<Outcome, AllocError>
+    ensures { IfOk result (λ outcome. Shows (Err fault.now) (written outcome)) }
+{
+    if fault.is_out_of_memory() {
+        return Err(AllocError);
+    }
+    let mut out = fault_text(alloc, fault)?;
+    out.push(b'\n')?;
+    Ok(Outcome {
+        out,
+        err: String::new(alloc),
+        status: REFUSED,
+    })
+}
+
+// The outcome of a response, or of the fault in its place.
+fn shown(alloc: Global, answer: Result<Response, Fault>) -> Result<Outcome, AllocError>
+    ensures { IfOk result (λ outcome. Shows answer (written outcome)) }
+{
+    match answer {
+        Ok(shown) => Ok(Outcome {
+            out: shown.text,
+            err: String::new(alloc),
+            status: shown.status,
+        }),
+        Err(fault) => refused(alloc, &fault),
+    }
+}
+
+// The outcome where the words aren't a command: help or the version with status 0, a fault of the
+// words with status 2.
+fn explained(alloc: Global, error: &Error) -> Result<Outcome, AllocError>
+    ensures { IfOk result (λ outcome. Explains (kind_of error.now) (written outcome)) }
+{
+    match error.kind() {
+        ErrorKind::OutOfMemory => Err(AllocError),
+        ErrorKind::DisplayHelp | ErrorKind::DisplayVersion => Ok(Outcome {
+            out: error.to_string(alloc)?.into_bytes(),
+            err: String::new(alloc),
+            status: DONE,
+        }),
+        _ => Ok(Outcome {
+            out: Vec::new(alloc),
+            err: error.to_string(alloc)?,
+            status: FAULT,
+        }),
+    }
+}
+
+// The outcome of the command that the matches give.
+fn answered<F: Files>(
+    alloc: Global,
+    files: &mut F,
+    matches: &ArgMatches<'_>,
+) -> Result<Outcome, AllocError>
+    requires room { F.failed files.old < 2 ^ 64 - 1 }
+    requires met { has_subcommand matches.now ≡ true }
+    ensures keeps { Keeps (F.fits files.old) (F.fits files.new) }
+    ensures answered { IfOk result (λ outcome. IsAnswered (F.fits files.new) (F.failed files.old)
+        (F.failed files.new) (asked_with (subcommand_rows_of matches.now)) (written outcome)) }
+    ensures right { IfOk result (λ outcome. outcome.status ≡ 0 → IfFits (F.fits files.new)
+        (λ told. Promises told (asked_with (subcommand_rows_of matches.now)))) }
+{
+    let (name, met) = matches.subcommand().unwrap();
+    let asked = invocation_by(alloc, name, met)?;
+    let found = answer(alloc, files, &asked);
+    shown(alloc, found)
+}
+
+/// Parses the words after the program's name, and carries out the command that they give (the
+/// standard's `make`, "Options", "Operands" and "Exit Status"). The outcome has status 0 for a yes
+/// or any other success, and for help and the version; 1 for a no; 2 for a refusal, for the run of
+/// a plan in which a line was refused, and for a fault of the words. The only error is out of
+/// memory.
+pub fn run<F: Files, S: AsStr>(
+    alloc: Global,
+    files: &mut F,
+    words: &[S],
+) -> Result<Outcome, AllocError>
+    requires { F.failed files.old < 2 ^ 64 - 1 }
+    ensures keeps { Keeps (F.fits files.old) (F.fits files.new) }
+
+    // Words without a fault give a command, which is carried out.
+    ensures taken { IfOk result (λ outcome. faults_of (map S.text words.now) ≡ [] →
+        IsAnswered (F.fits files.new) (F.failed files.old) (F.failed files.new)
+        (invocation_of (map S.text words.now)) (written outcome)) }
+
+    // Where the command judges a build, status 0 says that the build is right, for each map that
+    // fits what was read.
+    ensures right { IfOk result (λ outcome. faults_of (map S.text words.now) ≡ [] →
+        outcome.status ≡ 0 → IfFits (F.fits files.new)
+        (λ told. Promises told (invocation_of (map S.text words.now)))) }
+
+    // Without any option but `-f F`, `graph [-f F] WORD..` is the command that it says.
+    ensures plain { IfOk result (λ outcome. (makefile : Option (List ℕ)) (asked : List (List ℕ)) →
+        map S.text words.now ≡ graph_words makefile asked → HasNoOption makefile asked →
+        length asked < 2 ^ 64 →
+        IsAnswered (F.fits files.new) (F.failed files.old) (F.failed files.new)
+        (Graph (asking makefile asked)) (written outcome)) }
+
+    // Words with a fault are refused, and no failed read is counted.
+    ensures refused { IfOk result (λ outcome. faults_of (map S.text words.now) ≢ [] →
+        IsRefused (faults_of (map S.text words.now)) (written outcome)
+        × (F.failed files.new ≡ F.failed files.old)) }
+{
+    let command = command_line(alloc)?;
+    match command.try_get_matches_from(words) {
+        Ok(matches) => answered(alloc, files, &matches),
+        Err(error) => explained(alloc, &error),
+    }
+}

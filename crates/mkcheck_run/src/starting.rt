@@ -1,0 +1,52 @@
+//! Runs the program from the words of the command line, or from the error in their place.
+
+ghost use Rattle.std.specs.Prelude.{◌≡◌, ◌≢◌, ◌<◌, ◌^◌, ◌-◌, [], map, Err, IfErr, IfOk, OnOk};
+ghost use Rattle.std.specs.IoError.{error_kind};
+ghost use Rattle.mk_core.specs.Files.{IfFits};
+ghost use Rattle.mkcheck_run.specs.Invocation.{invocation_of, faults_of};
+ghost use Rattle.mkcheck_host.specs.Outcome.{written};
+ghost use Rattle.mkcheck_run.specs.Run.{IsAnswered, Promises};
+
+use crate::running::run;
+use mk_core::Files;
+use mkcheck_host::{Outcome, Stop};
+use std::alloc::Global;
+use std::convert::AsStr;
+use std::io;
+use std::io::ErrorKind;
+
+/// The outcome for the words after the program's name. Fails with `Stop::Words` where a word isn't
+/// UTF-8, and with `Stop::Memory` where memory ran out.
+pub fn run_arguments<F: Files>(
+    alloc: Global,
+    files: &mut F,
+    words: io::Result<Vec<String>>,
+) -> Result<Outcome, Stop>
+    requires { F.failed files.old < 2 ^ 64 - 1 }
+    ensures memory { IfErr words (λ error. error_kind error ≡ ErrorKind.OutOfMemory
+        → result ≡ Err Stop.Memory) }
+    ensures words { IfErr words (λ error. error_kind error ≢ ErrorKind.OutOfMemory
+        → result ≡ Err Stop.Words) }
+
+    // Words without a fault give a command, which is carried out; and status 0 of a verdict says
+    // that the build is right.
+    ensures taken { IfOk words (λ given. IfOk result (λ outcome.
+        faults_of (map ⟦<String as AsStr>⟧.text given.items) ≡ [] →
+        IsAnswered (F.fits files.new) (F.failed files.old) (F.failed files.new)
+        (invocation_of (map ⟦<String as AsStr>⟧.text given.items)) (written outcome))) }
+    ensures right { IfOk words (λ given. IfOk result (λ outcome.
+        faults_of (map ⟦<String as AsStr>⟧.text given.items) ≡ [] → outcome.status ≡ 0 →
+        IfFits (F.fits files.new)
+        (λ told. Promises told (invocation_of (map ⟦<String as AsStr>⟧.text given.items))))) }
+
+    // Where there are words, only out of memory can stand in place of an outcome.
+    ensures want { OnOk words (IfErr result (λ stop. stop ≡ Stop.Memory)) }
+{
+    match words {
+        Ok(words) => match run(alloc, files, words.as_slice()) {
+            Ok(outcome) => Ok(outcome),
+            Err(_) => Err(Stop::Memory),
+        },
+        Err(error) => Err(Stop::of(&error)),
+    }
+}

@@ -1,0 +1,378 @@
+//! What no contract says about reading and writing: which failure comes where, on the disk and
+//! elsewhere.
+
+use mk_core::{Files, FilesError, MemFiles};
+use mkcheck_host::{Disk, Ending, Outcome, Source, Stop, conclude, emit, end, slurp};
+use mkcheck_run::run_arguments;
+use std::alloc::{AllocError, Allocator, Global};
+use std::fs::{Metadata, OpenOptions};
+use std::io::{ErrorKind, Read, Write};
+use std::process::{Abort, ExitCode};
+use std::test::Fail;
+use std::{fs, io, rt};
+
+// A reader that gives `left` bytes, one at each read, and then fails or is at its end.
+#[derive(Drop)]
+struct Drops {
+    left: u32,
+    then: Option<ErrorKind>,
+}
+
+impl Read for Drops {
+    fn read(&mut self, buf: &mut [u8]) -> io::Result<usize> {
+        if self.left == 0 {
+            return match self.then {
+                Some(kind) => Err(io::Error::from(kind)),
+                None => Ok(0),
+            };
+        }
+        match buf.first_mut() {
+            Some(first) => {
+                self.left -= 1;
+                *first = b'a';
+                Ok(1)
+            }
+            None => Ok(0),
+        }
+    }
+}
+
+// A reader that is interrupted at every other read and gives one byte at each of the others.
+#[derive(Drop)]
+struct Halting {
+    left: u32,
+    halts: bool,
+}
+
+impl Read for Halting {
+    fn read(&mut self, buf: &mut [u8]) -> io::Result<usize> {
+        self.halts = !self.halts;
+        if self.halts {
+            return Err(io::Error::from(ErrorKind::Interrupted));
+        }
+        match buf.first_mut() {
+            Some(first) if self.left > 0 => {
+                self.left -= 1;
+                *first = b'a';
+                Ok(1)
+            }
+            _ => Ok(0),
+        }
+    }
+}
+
+fn is_failed(read: Result<Vec<u8>, FilesError>) -> bool {
+    matches!(&read, Err(FilesError::ReadFailed))
+}
+
+#[test]
+fn reads_to_the_end(rt: HostRuntime) -> Result<(), Fail> {
+    let alloc = rt.alloc();
+    let bytes: &[u8] = b"a: b\n";
+    assert_eq!(rt; slurp(alloc, &mut Source::new(bytes))?.as_slice(), bytes);
+    let slow = Drops {
+        left: 5_000,
+        then: None,
+    };
+    assert_eq!(rt; slurp(alloc, &mut Source::new(slow))?.len(), 5_000);
+    let halting = Halting {
+        left: 5_000,
+        halts: false,
+    };
+    assert_eq!(rt; slurp(alloc, &mut Source::new(halting))?.len(), 5_000);
+    Ok(())
+}
+
+#[test]
+fn fails_where_the_reader_fails(rt: HostRuntime) {
+    let kinds = [
+        ErrorKind::Other,
+        ErrorKind::NotFound,
+        ErrorKind::UnexpectedEof,
+        ErrorKind::OutOfMemory,
+    ];
+    for kind in kinds {
+        for left in [0, 1, 3_000] {
+            let failing = Drops {
+                left,
+                then: Some(kind),
+            };
+            assert!(rt; is_failed(slurp(rt.alloc(), &mut Source::new(failing))));
+        }
+    }
+}
+
+#[test]
+fn reads_up_to_the_limit(rt: HostRuntime) -> Result<(), Fail> {
+    let longest = io::repeat(b'a').take(16_777_216);
+    assert_eq!(rt;
+        slurp(rt.alloc(), &mut Source::new(longest))?.len(),
+        16_777_216
+    );
+    let longer = io::repeat(b'a').take(16_777_217);
+    assert!(rt; is_failed(slurp(rt.alloc(), &mut Source::new(longer))));
+    Ok(())
+}
+
+#[test]
+fn reads_a_pipe(rt: HostRuntime) -> Result<(), Fail> {
+    let (reader, mut writer) = io::pipe(&rt)?;
+    writer.write_all(b"a: b\n")?;
+    drop(writer);
+    let text = slurp(rt.alloc(), &mut Source::new(reader))?;
+    assert_eq!(rt; text.as_slice(), b"a: b\n".as_slice());
+    Ok(())
+}
+
+#[test]
+fn reads_the_disk(rt: HostRuntime) -> Result<(), Fail> {
+    let text = Disk::new(&rt).read(rt.alloc(), "/dev/null")?;
+    assert!(rt; matches!(&text, Some(text) if text.is_empty()));
+    for name in ["/dev/none", "/none/none", ""] {
+        let mut disk = Disk::new(&rt);
+        let text = disk.read(rt.alloc(), name)?;
+        assert!(rt; text.is_none());
+        assert_eq!(rt; disk.failures(), 0);
+    }
+    Ok(())
+}
+
+// A folder, an endless file, a file that can be opened but not read, and a path through a file.
+#[test]
+fn counts_what_the_disk_fails_to_read(rt: HostRuntime) {
+    for name in ["/", "/dev/zero", "/proc/self/mem", "/dev/null/x"] {
+        let mut disk = Disk::new(&rt);
+        let text = disk.read(rt.alloc(), name);
+        assert!(rt; matches!(&text, Err(FilesError::ReadFailed)));
+        assert_eq!(rt; disk.failures(), 1);
+    }
+}
+
+// Files none of which can be opened, for this cause.
+#[derive(Drop)]
+struct Closed(ErrorKind);
+
+impl Closed {
+    fn refuse<T>(&self) -> io::Result<T> {
+        Err(io::Error::from(self.0))
+    }
+}
+
+impl rt::Files for Closed {
+    type File = fs::File;
+
+    type Dir = io::Empty;
+
+    fn open_file(&self, _how: &OpenOptions, _path: &str) -> io::Result<fs::File> {
+        self.refuse()
+    }
+
+    fn open_dir(&self, _path: &str) -> io::Result<io::Empty> {
+        self.refuse()
+    }
+
+    fn metadata(&self, _path: &str) -> io::Result<Metadata> {
+        self.refuse()
+    }
+
+    fn symlink_metadata(&self, _path: &str) -> io::Result<Metadata> {
+        self.refuse()
+    }
+
+    fn copy(&self, _from: &str, _to: &str) -> io::Result<u64> {
+        self.refuse()
+    }
+
+    fn rename(&self, _from: &str, _to: &str) -> io::Result<()> {
+        self.refuse()
+    }
+
+    fn remove_file(&self, _path: &str) -> io::Result<()> {
+        self.refuse()
+    }
+
+    fn create_dir(&self, _path: &str) -> io::Result<()> {
+        self.refuse()
+    }
+
+    fn remove_dir(&self, _path: &str) -> io::Result<()> {
+        self.refuse()
+    }
+
+    fn remove_dir_all<B: Allocator>(&self, _alloc: B, _path: &str) -> io::Result<()> {
+        self.refuse()
+    }
+}
+
+fn opened(alloc: Global, kind: ErrorKind) -> (Result<Option<Vec<u8>>, FilesError>, u64) {
+    let closed = Closed(kind);
+    let mut disk = Disk::new(&closed);
+    let text = disk.read(alloc, "makefile");
+    (text, disk.failures())
+}
+
+#[test]
+fn tells_a_missing_file_from_a_closed_one(rt: HostRuntime) {
+    assert!(rt; matches!(opened(rt.alloc(), ErrorKind::NotFound), (Ok(None), 0)));
+    let wanted = opened(rt.alloc(), ErrorKind::OutOfMemory);
+    assert!(rt; matches!(wanted, (Err(FilesError::Memory), 0)));
+    for kind in [
+        ErrorKind::PermissionDenied,
+        ErrorKind::NotADirectory,
+        ErrorKind::FilesystemLoop,
+        ErrorKind::InvalidFilename,
+        ErrorKind::Interrupted,
+        ErrorKind::Other,
+    ] {
+        assert!(rt; matches!(opened(rt.alloc(), kind), (Err(FilesError::ReadFailed), 1)));
+    }
+}
+
+// A writer that takes `room` bytes, at most `width` at each write, and then fails or takes none.
+#[derive(Drop)]
+struct Narrow {
+    taken: Vec<u8>,
+    width: usize,
+    room: usize,
+    then: Option<ErrorKind>,
+}
+
+impl Write for Narrow {
+    fn write(&mut self, buf: &[u8]) -> io::Result<usize> {
+        let count = buf.len().min(self.width).min(self.room);
+        if count == 0 {
+            return match self.then {
+                Some(kind) => Err(io::Error::from(kind)),
+                None => Ok(0),
+            };
+        }
+        if self.taken.extend_from_slice(&buf[..count]).is_err() {
+            return Err(io::Error::from(ErrorKind::OutOfMemory));
+        }
+        self.room -= count;
+        Ok(count)
+    }
+
+    fn flush(&mut self) -> io::Result<()> {
+        Ok(())
+    }
+}
+
+fn writer_with(alloc: Global, room: usize, then: Option<ErrorKind>) -> Narrow {
+    Narrow {
+        taken: Vec::new(alloc),
+        width: 2,
+        room,
+        then,
+    }
+}
+
+const FAULTS: [Option<ErrorKind>; 5] = [
+    None,
+    Some(ErrorKind::Interrupted),
+    Some(ErrorKind::BrokenPipe),
+    Some(ErrorKind::StorageFull),
+    Some(ErrorKind::OutOfMemory),
+];
+
+#[test]
+fn writes_a_text_in_parts(rt: HostRuntime) {
+    for then in FAULTS {
+        let mut writer = writer_with(rt.alloc(), 5, then);
+        assert!(rt; emit(&mut writer, b"").is_ok());
+        assert!(rt; emit(&mut writer, b"parts").is_ok());
+        assert_eq!(rt; writer.taken.as_slice(), b"parts".as_slice());
+        assert!(rt; emit(&mut writer, b"").is_ok());
+        let mut writer = writer_with(rt.alloc(), 3, then);
+        assert!(rt; emit(&mut writer, b"parts").is_err());
+        assert_eq!(rt; writer.taken.as_slice(), b"par".as_slice());
+    }
+}
+
+fn outcome(alloc: Global, status: u8) -> Result<Outcome, AllocError> {
+    Ok(Outcome {
+        out: Vec::from_slice(alloc, b"out")?,
+        err: String::from_str(alloc, "err")?,
+        status,
+    })
+}
+
+#[test]
+fn ends_with_the_status_of_the_run(rt: HostRuntime) -> Result<(), Fail> {
+    let alloc = rt.alloc();
+    for status in [0, 1, 2, 3, 77] {
+        let (mut out, mut err) = (Vec::new(alloc), Vec::new(alloc));
+        let ran = Ok(outcome(alloc, status)?);
+        assert!(rt; conclude(&mut out, &mut err, &ran) == ExitCode::from(status));
+        assert_eq!(rt; out.as_slice(), b"out".as_slice());
+        assert_eq!(rt; err.as_slice(), b"err".as_slice());
+    }
+    Ok(())
+}
+
+#[test]
+fn tells_of_a_failed_write(rt: HostRuntime) -> Result<(), Fail> {
+    let alloc = rt.alloc();
+    for then in FAULTS {
+        for status in [0, 1, 3] {
+            let ran = Ok(outcome(alloc, status)?);
+            let (mut out, mut err) = (writer_with(alloc, 2, then), Vec::new(alloc));
+            assert!(rt; conclude(&mut out, &mut err, &ran) == ExitCode::from(2));
+            assert_eq!(rt; out.taken.as_slice(), b"ou".as_slice());
+            assert_eq!(rt; err.as_slice(), b"write failed\n".as_slice());
+            let (mut out, mut err) = (Vec::new(alloc), writer_with(alloc, 2, then));
+            assert!(rt; matches!(end(&mut out, &mut err, &ran), Ending::WriteFailed));
+            assert_eq!(rt; out.as_slice(), b"out".as_slice());
+            assert_eq!(rt; err.taken.as_slice(), b"er".as_slice());
+        }
+    }
+    Ok(())
+}
+
+fn expect_stop(rt: &impl Abort, alloc: Global, stop: Stop, line: &str, status: u8) {
+    let (mut out, mut err) = (Vec::new(alloc), Vec::new(alloc));
+    let ran: Result<Outcome, Stop> = Err(stop);
+    assert!(rt; conclude(&mut out, &mut err, &ran) == ExitCode::from(status));
+    assert!(rt; out.is_empty());
+    assert_eq!(rt; err.as_slice(), line.as_bytes());
+}
+
+#[test]
+fn says_why_there_is_no_outcome(rt: HostRuntime) {
+    let alloc = rt.alloc();
+    expect_stop(&rt, alloc, Stop::Memory, "want of memory\n", 3);
+    let line = "error: a word of the command line is not UTF-8\n";
+    expect_stop(&rt, alloc, Stop::Words, line, 2);
+}
+
+fn stopped(alloc: Global, kind: ErrorKind) -> Result<Outcome, Stop> {
+    run_arguments(alloc, &mut MemFiles::new(alloc), Err(io::Error::from(kind)))
+}
+
+#[test]
+fn tells_wrong_words_from_want_of_memory(rt: HostRuntime) {
+    let wanted = stopped(rt.alloc(), ErrorKind::OutOfMemory);
+    assert!(rt; matches!(&wanted, Err(Stop::Memory)));
+    for kind in [
+        ErrorKind::InvalidData,
+        ErrorKind::InvalidInput,
+        ErrorKind::Other,
+    ] {
+        let wrong = stopped(rt.alloc(), kind);
+        assert!(rt; matches!(&wrong, Err(Stop::Words)));
+    }
+}
+
+#[test]
+fn answers_the_words(rt: HostRuntime) -> Result<(), Fail> {
+    let alloc = rt.alloc();
+    let mut files = MemFiles::new(alloc);
+    let mut words = Vec::new(alloc);
+    words.push(String::from_str(alloc, "graph")?)?;
+    let (mut out, mut err) = (Vec::new(alloc), Vec::new(alloc));
+    let ran = run_arguments(alloc, &mut files, Ok(words));
+    assert!(rt; conclude(&mut out, &mut err, &ran) == ExitCode::from(2));
+    assert_eq!(rt; out.as_slice(), b"refused 37\n".as_slice());
+    assert!(rt; err.is_empty());
+    Ok(())
+}

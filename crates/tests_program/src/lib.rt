@@ -1,0 +1,11 @@
+//! Tests of mkcheck_host and mkcheck_run, by their public calls.
+#![tactic(auto)]
+
+#[cfg(test)]
+mod edges;
+#[cfg(test)]
+mod expecting;
+#[cfg(test)]
+mod graphs;
+#[cfg(test)]
+mod verdicts;
