@@ -1,4 +1,4 @@
-"""Projects for the tests of mkcheck-record: files in a folder of their own, and what was recorded of them."""
+"""Projects for the tests of mkcheck-record, and what was recorded of them."""
 
 from __future__ import annotations
 
@@ -6,6 +6,7 @@ import json
 import os
 import shutil
 import subprocess
+import sys
 import tempfile
 import unittest
 from dataclasses import dataclass, replace
@@ -14,23 +15,34 @@ from pathlib import Path
 ROOT = Path(__file__).resolve().parents[2]
 RECORDER = ROOT / "tools" / "mkcheck-record"
 MKCHECK = os.path.abspath(os.environ.get("MKCHECK", ROOT / "bin" / "mkcheck"))
+UNTESTED = (
+    "mkcheck-record: no recipe was run again (--no-replay), so nothing tests that each writes what"
+    " it wrote this time, and from its recorded reads alone\n"
+)
 SYSTEM = ("/usr/", "/lib/", "/lib64/", "/bin/", "/etc/", "/opt/")
-
 
 
 def traces() -> bool:
     """Whether strace is there, and may trace."""
     strace = shutil.which("strace")
-    return strace is not None and subprocess.run([strace, "-o", os.devnull, "true"], capture_output=True, check=False).returncode == 0
+    return (
+        strace is not None
+        and subprocess.run(
+            [strace, "-o", os.devnull, "true"], capture_output=True, check=False
+        ).returncode
+        == 0
+    )
 
 
-traced = unittest.skipUnless(traces() and os.access(MKCHECK, os.X_OK), "no strace that may trace, or no mkcheck")
+traced = unittest.skipUnless(
+    traces() and os.access(MKCHECK, os.X_OK), "no strace that may trace, or no mkcheck"
+)
 compiled = unittest.skipUnless(shutil.which("cc") and shutil.which("ar"), "no compiler")
 
 
 @dataclass(frozen=True)
 class Outcome:
-    """What the recorder left: its status, its two texts, and the footprints, where it wrote some."""
+    """What the recorder left: its status, its two texts, and footprints if it wrote some."""
 
     status: int
     output: str
@@ -48,7 +60,9 @@ class Outcome:
     def reads(self, target: str) -> list[str]:
         """All that the recipe of a target reads."""
         assert self.book is not None, self.errors
-        return next(record["reads"] for record in self.book["records"] if record["target"] == target)
+        return next(
+            record["reads"] for record in self.book["records"] if record["target"] == target
+        )
 
     def warnings(self) -> list[str]:
         """The warnings, without what stands before each."""
@@ -58,6 +72,8 @@ class Outcome:
 
 class ProjectTest(unittest.TestCase):
     """A test with a folder of its own."""
+
+    replays = False
 
     def setUp(self) -> None:
         self.scratch = Path(tempfile.mkdtemp(prefix="recorder-test-")).resolve()
@@ -83,16 +99,25 @@ class ProjectTest(unittest.TestCase):
         return replace(outcome, book=book)
 
     def record_plainly(self, *words: str, environment: dict[str, str] | None = None) -> Outcome:
-        """Runs the recorder on the folder."""
-        kept = {name: value for name, value in os.environ.items() if name not in ("MAKEFLAGS", "MAKELEVEL", "MFLAGS")}
+        """Runs the recorder on the folder.
+
+        Replays are left out, but for tests that say `replays = True`.
+        """
+        unplayed = () if self.replays or "--no-replay" in words else ("--no-replay",)
+        kept = {
+            name: value
+            for name, value in os.environ.items()
+            if name not in ("MAKEFLAGS", "MAKELEVEL", "MFLAGS")
+        }
         done = subprocess.run(
-            ["python3", str(RECORDER), "-C", str(self.folder), *words],
+            [sys.executable, str(RECORDER), "-C", str(self.folder), *unplayed, *words],
             env={**kept, "MKCHECK": MKCHECK, **(environment or {})},
             capture_output=True,
             text=True,
             check=False,
         )
-        return Outcome(done.returncode, done.stdout, done.stderr, None)
+        errors = done.stderr if not unplayed else done.stderr.replace(UNTESTED, "")
+        return Outcome(done.returncode, done.stdout, errors, None)
 
     def recorded(self, *words: str) -> Outcome:
         """Runs the recorder, which has to succeed."""

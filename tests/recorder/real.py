@@ -1,4 +1,5 @@
-"""Records the programs of examples/ anew, and compares what isn't the system's with the footprints kept there.
+"""Records the programs of examples/ anew, and compares what isn't the system's with the footprints
+kept there.
 
 Prints a line for each, also where it can't be recorded here, and ends with 1 where one differs.
 """
@@ -19,7 +20,7 @@ from project import MKCHECK, RECORDER, ROOT, SYSTEM
 
 @dataclass(frozen=True)
 class Example:
-    """A folder of examples/, the words that name its goals, and the programs without which it can't be built."""
+    """A folder of examples/, the words that name its goals, and the programs that it needs."""
 
     folder: str
     words: tuple[str, ...]
@@ -70,7 +71,11 @@ def main() -> int:
         missing = [program for program in example.needs if shutil.which(program) is None]
         difference = "" if missing else differs(example)
         failed = failed or bool(difference)
-        said = f"not recorded, there is no {' and no '.join(missing)}" if missing else difference or "the same"
+        said = (
+            f"not recorded, there is no {' and no '.join(missing)}"
+            if missing
+            else difference or "the same"
+        )
         print(f"{example.folder}: {said}", flush=True)
     return 1 if failed else 0
 

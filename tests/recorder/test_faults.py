@@ -19,18 +19,29 @@ class FaultTest(ProjectTest):
         self.assertEqual((outcome.status, outcome.book, outcome.output), (1, None, ""))
         self.assertEqual(
             outcome.errors,
-            "mkcheck-record: the recipe of b failed, status 7, at 'echo said; exit 7'\n"
-            "\techo first\n\t@echo said; exit 7\nfirst\nsaid\n",
+            (
+                "mkcheck-record: the recipe of b failed, status 7, at 'echo said; exit 7'\n"
+                "\techo first\n\t@echo said; exit 7\nfirst\nsaid\n"
+            ),
         )
 
     def test_all_that_a_failing_recipe_puts_out(self) -> None:
-        self.write({"makefile": "a:\n\techo one\n\t-echo two >&2; false\n\tprintf three; exit 3\n\techo four\n"})
+        self.write(
+            {
+                "makefile": (
+                    "a:\n\techo one\n\t-echo two >&2; false\n\tprintf three; exit 3\n\techo four\n"
+                )
+            }
+        )
         outcome = self.record()
         self.assertEqual((outcome.status, outcome.book), (1, None))
         self.assertEqual(
             outcome.errors,
-            "mkcheck-record: the recipe of a failed, status 3, at 'printf three; exit 3'\n"
-            "\techo one\n\t-echo two >&2; false\n\tprintf three; exit 3\n\techo four\none\ntwo\nthree\n",
+            (
+                "mkcheck-record: the recipe of a failed, status 3, at 'printf three; exit"
+                " 3'\n\techo one\n\t-echo two >&2; false\n\tprintf three; exit 3\n\techo"
+                " four\none\ntwo\nthree\n"
+            ),
         )
 
     def test_an_old_file_stays_where_a_recipe_fails(self) -> None:
@@ -53,7 +64,13 @@ class FaultTest(ProjectTest):
 
     def test_a_name_that_nothing_makes(self) -> None:
         self.write({"makefile": "a: b\n\tcp b a\n"})
-        self.assertEqual(self.record().errors, "mkcheck-record: mkcheck graph: refused 41 b\n")
+        self.assertEqual(
+            self.record().errors,
+            (
+                "mkcheck-record: mkcheck graph: refused 41 b: no rule makes b, and the folder has"
+                " no such file\n"
+            ),
+        )
 
     def test_without_strace(self) -> None:
         self.write({"makefile": "a:\n\techo > a\n"})
@@ -79,26 +96,39 @@ class OtherRunsTest(ProjectTest):
         self.write({"makefile": "all: a b\na:\n\tdate +%N > a\nb: a\n\techo same > b\n"})
         outcome = self.recorded("--again", "--fixed", "/proc")
         self.assertEqual(
-            outcome.warnings(), ["a differs in a second run: the recipe of a isn't a function of what it reads"]
+            outcome.warnings(),
+            ["a differs in a second run: the recipe of a isn't a function of what it reads"],
         )
         self.write({"makefile": "b:\n\tpwd > b\n"})
         self.assertEqual(self.recorded("--again").warnings(), [])
 
     def test_make_does_the_same(self) -> None:
-        self.write({"makefile": "out: a b\n\t@cat a b > out\nb: a\n\t-cp \\\n\ta b\n\ttouch c\n", "a": ""})
+        self.write(
+            {"makefile": "out: a b\n\t@cat a b > out\nb: a\n\t-cp \\\n\ta b\n\ttouch c\n", "a": ""}
+        )
         outcome = self.recorded("--make")
         self.assertEqual(outcome.warnings(), [])
         self.assertEqual(outcome.own("out"), ({"a", "b"}, {"out"}))
 
     def test_a_make_that_a_recipe_starts(self) -> None:
-        self.write({"makefile": "x: a\n\t$(MAKE) -f sub.mk x\n", "sub.mk": "x: a\n\tcat a > x\n", "a": ""})
-        outcome = self.recorded("--make")
+        self.write(
+            {"makefile": "x: a\n\t$(MAKE) -f sub.mk x\n", "sub.mk": "x: a\n\tcat a > x\n", "a": ""}
+        )
+        outcome = self.recorded("--make", "--opaque", "x")
         self.assertEqual(outcome.warnings(), [])
         self.assertEqual(outcome.own("x"), ({"sub.mk", "a"}, {"x"}))
 
     def test_make_does_another_thing(self) -> None:
-        self.write({"makefile": 'out: a\n\tif test "$$MAKELEVEL"; then cat b; fi; cat a > out\n', "a": "", "b": ""})
-        self.assertEqual(self.recorded("--make").warnings(), ["out reads b when make runs it, but not else"])
+        self.write(
+            {
+                "makefile": 'out: a\n\tif test "$$MAKELEVEL"; then cat b; fi; cat a > out\n',
+                "a": "",
+                "b": "",
+            }
+        )
+        self.assertEqual(
+            self.recorded("--make").warnings(), ["out reads b when make runs it, but not else"]
+        )
 
     def test_make_runs_other_commands(self) -> None:
         self.write({"makefile": "out:\n\techo $(MAKE_VERSION) > out\n"})

@@ -1,4 +1,4 @@
-"""What is recorded of recipes that do what recipes do: expected values are told by the recipes themselves."""
+"""What is recorded of common recipes: the recipes themselves tell what to expect."""
 
 from __future__ import annotations
 
@@ -18,8 +18,15 @@ class CompilerTest(ProjectTest):
     """Recipes that compile and link."""
 
     def test_headers_are_read(self) -> None:
-        self.write({"makefile": "p: m.o\n\tcc -o p m.o\nm.o: m.c a.h\n\tcc -c m.c\n",
-                    "m.c": MAIN, "a.h": '#include "b.h"\n#define A B\n', "b.h": "#define B 0\n", "x.h": ""})
+        self.write(
+            {
+                "makefile": "p: m.o\n\tcc -o p m.o\nm.o: m.c a.h\n\tcc -c m.c\n",
+                "m.c": MAIN,
+                "a.h": '#include "b.h"\n#define A B\n',
+                "b.h": "#define B 0\n",
+                "x.h": "",
+            }
+        )
         outcome = self.recorded()
         self.assertEqual(outcome.own("m.o"), ({"m.c", "a.h", "b.h"}, {"m.o"}))
         self.assertEqual(outcome.own("p"), ({"m.o"}, {"p"}))
@@ -35,13 +42,22 @@ class CompilerTest(ProjectTest):
         lines = self.book.read_text().splitlines()
         self.assertEqual(len(lines), 3)
         self.assertTrue(lines[0].startswith('{"format":1,"fixed":["/usr/"'), lines[0])
-        self.assertTrue(lines[1].startswith('{"target":"m.o","commands":["cc -c m.c"],"reads":['), lines[1])
+        self.assertTrue(
+            lines[1].startswith('{"target":"m.o","commands":["cc -c m.c"],"reads":['), lines[1]
+        )
         self.assertTrue(lines[2].endswith('"writes":["p"]}]}'), lines[2])
 
     def test_generated_sources(self) -> None:
-        self.write({"makefile": "p: m.o\n\tcc -o p m.o\nm.o: m.c a.h\n\tcc -c m.c\n"
-                                "a.h: make-header\n\t./make-header > a.h\n",
-                    "m.c": MAIN, "make-header": "#!/bin/sh\necho '#define A 0'\n"})
+        self.write(
+            {
+                "makefile": (
+                    "p: m.o\n\tcc -o p m.o\nm.o: m.c a.h\n\tcc -c m.c\n"
+                    "a.h: make-header\n\t./make-header > a.h\n"
+                ),
+                "m.c": MAIN,
+                "make-header": "#!/bin/sh\necho '#define A 0'\n",
+            }
+        )
         outcome = self.recorded()
         self.assertEqual(outcome.own("a.h"), ({"make-header"}, {"a.h"}))
         self.assertEqual(outcome.own("m.o"), ({"m.c", "a.h"}, {"m.o"}))
@@ -49,10 +65,17 @@ class CompilerTest(ProjectTest):
         self.assertEqual(self.check()[0].split()[0], "yes")
 
     def test_a_library_of_objects(self) -> None:
-        self.write({"makefile": "p: m.c l.a\n\tcc -o p m.c l.a\nl.a: x.o y.o\n\tar rc l.a x.o y.o\n"
-                                "x.o: x.c\n\tcc -c x.c\ny.o: y.c\n\tcc -c y.c\n",
-                    "m.c": "int x(void); int main(void) { return x(); }\n",
-                    "x.c": "int x(void) { return 0; }\n", "y.c": "int y(void) { return 0; }\n"})
+        self.write(
+            {
+                "makefile": (
+                    "p: m.c l.a\n\tcc -o p m.c l.a\nl.a: x.o y.o\n\tar rc l.a x.o y.o\n"
+                    "x.o: x.c\n\tcc -c x.c\ny.o: y.c\n\tcc -c y.c\n"
+                ),
+                "m.c": "int x(void); int main(void) { return x(); }\n",
+                "x.c": "int x(void) { return 0; }\n",
+                "y.c": "int y(void) { return 0; }\n",
+            }
+        )
         outcome = self.recorded()
         self.assertEqual(outcome.own("l.a"), ({"x.o", "y.o"}, {"l.a"}))
         self.assertEqual(outcome.own("p"), ({"m.c", "l.a"}, {"p"}))
@@ -78,17 +101,35 @@ class ShellTest(ProjectTest):
         self.assertEqual(self.check()[0].split()[0], "yes")
 
     def test_cd_and_processes_in_other_folders(self) -> None:
-        self.write({"makefile": "out: s/x s/y z\n\tcd s && cat x > ../o1 && (cd .. && ./both) & cat z; wait;"
-                                " cd s; ./tool y > ../out\n",
-                    "s/x": "", "s/y": "", "z": "", "both": "#!/bin/sh\ncd s && mv ../o1 ./o2\n",
-                    "s/tool": '#!/bin/sh\ncat "$1"\n'})
+        self.write(
+            {
+                "makefile": (
+                    "out: s/x s/y z\n\tcd s && cat x > ../o1 && (cd .. && ./both) & cat z; wait;"
+                    " cd s; ./tool y > ../out\n"
+                ),
+                "s/x": "",
+                "s/y": "",
+                "z": "",
+                "both": "#!/bin/sh\ncd s && mv ../o1 ./o2\n",
+                "s/tool": '#!/bin/sh\ncat "$1"\n',
+            }
+        )
         outcome = self.recorded()
-        self.assertEqual(outcome.own("out"), ({"s/x", "z", "both", "s/tool", "s/y"}, {"s/o2", "out"}))
+        self.assertEqual(
+            outcome.own("out"), ({"s/x", "z", "both", "s/tool", "s/y"}, {"s/o2", "out"})
+        )
 
     def test_pipes_lists_and_temporary_files(self) -> None:
-        self.write({"makefile": "out: a b\n\tcat a | sort > t1 && cat t1 b > t2\n"
-                                "\tt=$$(mktemp); cat t2 > $$t; mv $$t out; rm t1 t2\n",
-                    "a": "2\n1\n", "b": "3\n"})
+        self.write(
+            {
+                "makefile": (
+                    "out: a b\n\tcat a | sort > t1 && cat t1 b > t2\n"
+                    "\tt=$$(mktemp); cat t2 > $$t; mv $$t out; rm t1 t2\n"
+                ),
+                "a": "2\n1\n",
+                "b": "3\n",
+            }
+        )
         self.assertEqual(self.recorded().own("out"), ({"a", "b"}, {"out"}))
 
     def test_a_script_is_read_with_its_interpreters(self) -> None:
@@ -109,7 +150,14 @@ class ShellTest(ProjectTest):
         self.assertEqual(self.recorded().own("out"), ({"a"}, {"out"}))
 
     def test_a_file_that_was_just_written_is_no_read(self) -> None:
-        self.write({"makefile": "out: a\n\tcp a log\n\tcat log > out\n\t./out2 2>/dev/null || cat out\n", "a": ""})
+        self.write(
+            {
+                "makefile": (
+                    "out: a\n\tcp a log\n\tcat log > out\n\t./out2 2>/dev/null || cat out\n"
+                ),
+                "a": "",
+            }
+        )
         self.assertEqual(self.recorded().own("out"), ({"a"}, {"log", "out"}))
 
     def test_a_file_that_is_read_before_it_is_written_is_both(self) -> None:
@@ -119,31 +167,48 @@ class ShellTest(ProjectTest):
         self.assertEqual(self.check()[0], "no writers a b a")
 
     def test_appending_reads_what_was_there(self) -> None:
-        self.write({"makefile": "all: a b\nb: a\n\techo x >> a; echo > b\na:\n\techo >> a; echo >> a\n"})
+        self.write(
+            {"makefile": "all: a b\nb: a\n\techo x >> a; echo > b\na:\n\techo >> a; echo >> a\n"}
+        )
         outcome = self.recorded()
         self.assertEqual(outcome.own("a"), (set(), {"a"}))
         self.assertEqual(outcome.own("b"), ({"a"}, {"a", "b"}))
 
     def test_a_new_stamp_is_a_writing(self) -> None:
-        self.write({"makefile": "all: a b\na:\n\techo > a\nb: a\n\tcp -p a c; touch -c a; touch b\n"})
+        self.write(
+            {"makefile": "all: a b\na:\n\techo > a\nb: a\n\tcp -p a c; touch -c a; touch b\n"}
+        )
         outcome = self.recorded()
         self.assertEqual(outcome.own("b"), ({"a"}, {"a", "b", "c"}))
 
     def test_looks_folders_and_devices_are_not_recorded(self) -> None:
-        self.write({"makefile": "out: a\n\ttest -f b; ls . d > /dev/null; mkdir -p e/f\n"
-                                "\tcat a /dev/null /proc/self/stat > /dev/null; > out\n",
-                    "a": "", "b": "", "d/x": ""})
+        self.write(
+            {
+                "makefile": (
+                    "out: a\n\ttest -f b; ls . d > /dev/null; mkdir -p e/f\n"
+                    "\tcat a /dev/null /proc/self/stat > /dev/null; > out\n"
+                ),
+                "a": "",
+                "b": "",
+                "d/x": "",
+            }
+        )
         self.assertEqual(self.recorded().own("out"), ({"a"}, {"out"}))
 
     def test_a_folder_that_is_moved(self) -> None:
-        self.write({"makefile": "d/x: a\n\tmkdir t t/s; cp a t/x; cp a t/s/y; mv t d; cat d/x\n", "a": ""})
+        self.write(
+            {"makefile": "d/x: a\n\tmkdir t t/s; cp a t/x; cp a t/s/y; mv t d; cat d/x\n", "a": ""}
+        )
         self.assertEqual(self.recorded().own("d/x"), ({"a"}, {"d/x", "d/s/y"}))
 
     def test_a_folder_of_sources_that_is_moved(self) -> None:
         self.write({"makefile": "d/x:\n\tmv s d\n", "s/x": "", "s/t/y": ""})
         outcome = self.recorded()
-        self.assertEqual(outcome.own("d/x"), (set(), {"d/x", "d/t/y"}))
-        away = [f"the recipe of d/x takes away {name}, which it didn't make" for name in ("s/t/y", "s/x")]
+        self.assertEqual(outcome.own("d/x"), ({"s/x", "s/t/y"}, {"d/x", "d/t/y"}))
+        away = [
+            f"the recipe of d/x takes away {name}, which it didn't make"
+            for name in ("s/t/y", "s/x")
+        ]
         self.assertEqual(outcome.warnings(), away)
 
     def test_a_stamp_of_a_folder_is_none_of_its_files(self) -> None:
@@ -151,7 +216,13 @@ class ShellTest(ProjectTest):
         self.assertEqual(self.recorded().own("out"), ({"d/x"}, {"out"}))
 
     def test_a_copied_folder(self) -> None:
-        self.write({"makefile": "e/x: d/x d/y\n\tcp -a d e\nout: e/x\n\tcat e/y > out\n", "d/x": "", "d/y": ""})
+        self.write(
+            {
+                "makefile": "e/x: d/x d/y\n\tcp -a d e\nout: e/x\n\tcat e/y > out\n",
+                "d/x": "",
+                "d/y": "",
+            }
+        )
         outcome = self.recorded("out")
         self.assertEqual(outcome.own("e/x"), ({"d/x", "d/y"}, {"e/x", "e/y"}))
         self.assertEqual(outcome.own("out"), ({"e/y"}, {"out"}))
@@ -171,7 +242,9 @@ class ShellTest(ProjectTest):
         outcome = self.recorded()
         self.assertEqual(outcome.own("l"), (set(), {"l"}))
         self.assertEqual(outcome.own("out"), ({"l", "a"}, {"out"}))
-        self.assertEqual(outcome.warnings(), ["the recipe of out reaches a as l too, over a symbolic link"])
+        self.assertEqual(
+            outcome.warnings(), ["the recipe of out reaches a as l too, over a symbolic link"]
+        )
         self.assertEqual(self.check()[1:], ["way out l written out l", "way out a source out l"])
 
     def test_a_link_that_nobody_names_is_a_race(self) -> None:
@@ -184,7 +257,10 @@ class ShellTest(ProjectTest):
         (self.folder / "i").symlink_to("s")
         outcome = self.recorded()
         self.assertEqual(outcome.own("out"), ({"s/a.h"}, {"out"}))
-        self.assertEqual(outcome.warnings(), ["the recipe of out reaches s/a.h as i/a.h too, over a symbolic link"])
+        self.assertEqual(
+            outcome.warnings(),
+            ["the recipe of out reaches s/a.h as i/a.h too, over a symbolic link"],
+        )
 
     def test_a_second_name_of_a_file(self) -> None:
         self.write({"makefile": "b: a\n\tln a b\n", "a": ""})
@@ -193,8 +269,15 @@ class ShellTest(ProjectTest):
         self.assertEqual(outcome.warnings(), ["the recipe of b uses a and b, which are one file"])
 
     def test_a_second_name_that_another_recipe_uses(self) -> None:
-        self.write({"makefile": "all: x y z\nx: a\n\tcp a x\ny: b\n\tcp b y\nz: b\n\tcp b z\n.PHONY: all\n", "a": "",
-                    "s/c": ""})
+        self.write(
+            {
+                "makefile": (
+                    "all: x y z\nx: a\n\tcp a x\ny: b\n\tcp b y\nz: b\n\tcp b z\n.PHONY: all\n"
+                ),
+                "a": "",
+                "s/c": "",
+            }
+        )
         os.link(self.folder / "a", self.folder / "b")
         os.link(self.folder / "s" / "c", self.folder / "d")
         told = ["the recipe of y uses b, and that of x a, which are one file"]
@@ -205,10 +288,14 @@ class ShellTest(ProjectTest):
 
     def test_a_second_name_that_a_recipe_makes_for_others(self) -> None:
         self.write({"makefile": "x: a b\n\tcat b > x\nb: a\n\tln a b\n", "a": ""})
-        self.assertEqual(self.recorded().warnings(), ["the recipe of b uses a and b, which are one file"])
+        self.assertEqual(
+            self.recorded().warnings(), ["the recipe of b uses a and b, which are one file"]
+        )
 
     def test_names_that_are_one_file_no_more(self) -> None:
-        self.write({"makefile": "x: a b\n\tcat b > x\nb: a\n\tcat a > b.new; mv b.new b\n", "a": ""})
+        self.write(
+            {"makefile": "x: a b\n\tcat b > x\nb: a\n\tcat a > b.new; mv b.new b\n", "a": ""}
+        )
         os.link(self.folder / "a", self.folder / "b")
         self.assertEqual(self.recorded("--in-place").warnings(), [])
 
@@ -221,25 +308,40 @@ class ShellTest(ProjectTest):
         self.assertEqual((self.folder / "a").read_text(), "")
 
     def test_a_link_of_the_project_that_another_recipe_uses(self) -> None:
-        self.write({"makefile": "all: x y\nx: s/a\n\tcp s/a x\ny: i/a\n\tcp i/a y\n.PHONY: all\n", "s/a": ""})
+        self.write(
+            {
+                "makefile": "all: x y\nx: s/a\n\tcp s/a x\ny: i/a\n\tcp i/a y\n.PHONY: all\n",
+                "s/a": "",
+            }
+        )
         (self.folder / "i").symlink_to("s")
         outcome = self.recorded()
         self.assertEqual((outcome.own("x"), outcome.own("y")), (({"s/a"}, {"x"}), ({"s/a"}, {"y"})))
-        self.assertEqual(outcome.warnings(), ["the recipe of y reaches s/a as i/a too, over a symbolic link"])
+        self.assertEqual(
+            outcome.warnings(), ["the recipe of y reaches s/a as i/a too, over a symbolic link"]
+        )
 
     def test_a_file_that_is_taken_away(self) -> None:
         self.write({"makefile": "b: a\n\tmv a b\n", "a": ""})
         outcome = self.recorded()
-        self.assertEqual(outcome.own("b"), (set(), {"b"}))
+        self.assertEqual(outcome.own("b"), ({"a"}, {"b"}))
         self.assertEqual(outcome.warnings(), ["the recipe of b takes away a, which it didn't make"])
 
     def test_commands_of_more_lines_and_prefixes(self) -> None:
-        self.write({"makefile": "b: a\n\t@cp \\\n\t  a b\n\t-@false; cat a > c\n\t@\n\t- false\n\t+ touch d\n",
-                    "a": ""})
+        self.write(
+            {
+                "makefile": (
+                    "b: a\n\t@cp \\\n\t  a b\n\t-@false; cat a > c\n\t@\n\t- false\n\t+ touch d\n"
+                ),
+                "a": "",
+            }
+        )
         outcome = self.recorded()
         self.assertEqual(outcome.own("b"), ({"a"}, {"b", "c", "d"}))
         commands = outcome.book["records"][0]["commands"]
-        self.assertEqual(commands, ["@cp \\\n  a b", "-@false; cat a > c", "@", "- false", "+ touch d"])
+        self.assertEqual(
+            commands, ["@cp \\\n  a b", "-@false; cat a > c", "@", "- false", "+ touch d"]
+        )
         self.assertEqual(self.check()[0].split()[0], "yes")
 
     def test_names_beyond_ascii(self) -> None:
@@ -270,7 +372,9 @@ class FolderTest(ProjectTest):
         self.write({"makefile": "b: a\n\tcp a b; cp a log\n", "a": "", "log": ""})
         outcome = self.recorded()
         self.assertEqual(outcome.book["sources"], ["a"])
-        self.assertEqual(outcome.warnings(), ["log was there before, and a recipe writes it: it is no source"])
+        self.assertEqual(
+            outcome.warnings(), ["log was there before, and a recipe writes it: it is no source"]
+        )
 
     def test_a_copy_inside_the_folder(self) -> None:
         self.write({"makefile": COPY, "a": "", "tmp/kept": ""})
@@ -279,23 +383,57 @@ class FolderTest(ProjectTest):
         self.assertEqual(outcome.book["sources"], ["a"])
 
     def test_a_file_that_decides_a_rule_is_a_source(self) -> None:
-        self.write({"makefile": ".SUFFIXES:\n.SUFFIXES: .o .s .c\n.s.o:\n\tcp $< $@\n.c.o:\n\tcp $< $@\n"
-                                "x.o:\nx.c:\n\techo > x.c\n",
-                    "x.s": "", "other": ""})
+        self.write(
+            {
+                "makefile": (
+                    ".SUFFIXES:\n.SUFFIXES: .o .s .c\n.s.o:\n\tcp $< $@\n.c.o:\n\tcp $< $@\n"
+                    "x.o:\nx.c:\n\techo > x.c\n"
+                ),
+                "x.s": "",
+                "other": "",
+            }
+        )
         self.assertEqual(self.recorded("-r").book["sources"], ["x.s"])
 
     def test_a_built_file_that_decides_a_rule_is_refused(self) -> None:
-        self.write({"makefile": "all: log y.o\nlog:\n\techo | tee y.s > log\n.SUFFIXES: .s\n.s.o:\n\tcp $< $@\n",
-                    "y.s": ""})
+        self.write(
+            {
+                "makefile": (
+                    "all: log y.o\nlog:\n\techo | tee y.s > log\n.SUFFIXES: .s\n.s.o:\n\tcp $< $@\n"
+                ),
+                "y.s": "",
+            }
+        )
         outcome = self.record()
         self.assertEqual((outcome.status, outcome.book), (1, None))
-        self.assertTrue(outcome.errors.endswith("remove them, and record again:\n\ty.s\n"), outcome.errors)
+        self.assertIn(
+            "the recipe of log writes y.s, which the makefile takes for a source", outcome.errors
+        )
+
+    def test_what_was_built_beside_a_target_is_to_be_removed(self) -> None:
+        self.write(
+            {
+                "makefile": (
+                    ".SUFFIXES:\n.SUFFIXES: .o .s .c\nall: log y.o\nlog:\n\techo | tee y.s > log\n"
+                    ".s.o:\n\tcp $< $@\n.c.o:\n\tcp $< $@\n"
+                ),
+                "y.s": "",
+                "y.c": "",
+            }
+        )
+        outcome = self.record("-r")
+        self.assertEqual((outcome.status, outcome.book), (1, None))
+        self.assertTrue(
+            outcome.errors.endswith("remove them, and record again:\n\ty.s\n"), outcome.errors
+        )
 
     def test_a_source_that_a_recipe_writes_is_refused(self) -> None:
         self.write({"makefile": "b: a\n\ttouch a; cp a b\n", "a": ""})
         outcome = self.record()
         self.assertEqual((outcome.status, outcome.book), (1, None))
-        self.assertTrue(outcome.errors.endswith("\n\ta\n"), outcome.errors)
+        self.assertIn(
+            "the recipe of b writes a, which the makefile takes for a source", outcome.errors
+        )
 
     def test_a_file_outside_is_named(self) -> None:
         self.write({"makefile": f"b:\n\tcat {self.scratch}/x/y > b\n"})
@@ -334,7 +472,10 @@ class FolderTest(ProjectTest):
         self.write({"m.mk": "b:\n\techo > b\nc:\n\techo > c\n"})
         outcome = self.recorded("-f", "m.mk", "-r", "c")
         self.assertEqual([record["target"] for record in outcome.book["records"]], ["c"])
-        self.assertEqual(self.check("-f", "m.mk", "c"), ["yes 1 recipes " + str(len(outcome.reads("c"))) + " reads"])
+        self.assertEqual(
+            self.check("-f", "m.mk", "c"),
+            ["yes 1 recipes " + str(len(outcome.reads("c"))) + " reads"],
+        )
 
     def test_without_a_file_for_them_footprints_are_printed(self) -> None:
         self.write({"makefile": "b:\n\techo > b; echo said\n"})

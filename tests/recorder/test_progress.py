@@ -14,7 +14,7 @@ from project import MKCHECK, RECORDER, ROOT, ProjectTest, traced
 
 sys.path.insert(0, str(ROOT / "tools"))
 
-from mkcheck_record.progress import CLEAR, SECONDS_APART, Progress  # noqa: E402
+from mkcheck_record.progress import CLEAR, SECONDS_APART, Progress, duration  # noqa: E402
 
 
 def read_all(terminal: int) -> str:
@@ -31,39 +31,66 @@ def read_all(terminal: int) -> str:
 class LinesTest(unittest.TestCase):
     """What `Progress` writes."""
 
-    def told(self, apart: float) -> str:
-        """What is written of two commands to a file, where lines are that many seconds apart."""
+    def told(self, apart: float, times: list[float]) -> str:
+        """What is written of two recipes with three commands, which begin at these times."""
         stream = io.StringIO()
-        progress = Progress(2, stream, apart)
-        progress.step("cc -c a.c")
-        progress.step("cc -c b.c \\\n  -g")
-        progress.clear()
+        clock = iter(times)
+        with mock.patch("time.monotonic", lambda: next(clock)):
+            progress = Progress(2, stream, apart)
+            progress.begin("a.o")
+            progress.step("cc -c a.c")
+            progress.begin("b.o")
+            progress.step("cc -c b.c \\\n  -g")
+            progress.step("ar rc b.o")
+            progress.clear()
         return stream.getvalue()
 
     def test_a_line_now_and_then(self) -> None:
-        self.assertEqual(self.told(0.0), "[1/2] cc -c a.c\n[2/2] cc -c b.c \\\n")
-        self.assertEqual(self.told(3600.0), "")
+        self.assertEqual(
+            self.told(0.0, [0.0, 0.0, 65.0, 70.0]),
+            (
+                "[1/2] a.o: cc -c a.c\n[2/2 1:05 left] b.o: cc -c b.c \\\n[2/2 1:10 left] b.o: ar"
+                " rc b.o\n"
+            ),
+        )
+        self.assertEqual(self.told(3600.0, [0.0, 1.0, 2.0, 3.0]), "")
 
     def test_the_time_between_lines(self) -> None:
+        self.assertEqual(SECONDS_APART, 10.0)
+        self.assertEqual(
+            self.told(SECONDS_APART, [100.0, 109.0, 111.0, 120.0]),
+            "[2/2 0:11 left] b.o: cc -c b.c \\\n",
+        )
+
+    def test_recipes_that_run_together(self) -> None:
         stream = io.StringIO()
-        clock = iter([100.0, 109.0, 110.0, 110.0, 119.0, 121.0, 121.0])
+        clock = iter([0.0, 2.0, 4.0, 6.0])
         with mock.patch("time.monotonic", lambda: next(clock)):
-            progress = Progress(4, stream)
-            for name in "abcd":
-                progress.step(name)
-        self.assertEqual((SECONDS_APART, stream.getvalue()), (10.0, "[2/4] b\n[4/4] d\n"))
+            progress = Progress(3, stream, 0.0, "replay")
+            for name in "abc":
+                progress.ended(name)
+        self.assertEqual(
+            stream.getvalue(),
+            "[replay 1/3 0:04 left] a\n[replay 2/3 0:02 left] b\n[replay 3/3] c\n",
+        )
+
+    def test_durations(self) -> None:
+        self.assertEqual(
+            [duration(seconds) for seconds in (0.4, 59.6, 3599.0, 3600.0, 36061.0)],
+            ["0:00", "1:00", "59:59", "1:00:00", "10:01:01"],
+        )
 
     def test_a_terminal(self) -> None:
         reader, writer = pty.openpty()
         self.addCleanup(os.close, reader)
-        with os.fdopen(writer, "w") as stream, mock.patch.dict(os.environ, COLUMNS="16"):
-            progress = Progress(2, stream)
+        with os.fdopen(writer, "w") as stream, mock.patch.dict(os.environ, COLUMNS="18"):
+            progress = Progress(1, stream)
+            progress.begin("a.o")
             progress.step("cc -c a.c")
-            progress.step("cc -c b.c")
             progress.clear()
             stream.flush()
-        self.assertEqual(read_all(reader), f"{CLEAR}[1/2] cc -c a.c{CLEAR}[2/2] cc -c b.c{CLEAR}")
-        self.assertEqual(len("[1/2] cc -c a.c"), 15)
+        self.assertEqual(read_all(reader), f"{CLEAR}[1/1] a.o: cc -c {CLEAR}")
+        self.assertEqual(len("[1/1] a.o: cc -c "), 17)
 
 
 @traced
@@ -71,20 +98,30 @@ class TerminalTest(ProjectTest):
     """The recorder on a terminal."""
 
     def test_each_command_is_told(self) -> None:
-        self.write({"makefile": "b: a\n\t@cp a b; echo unseen\na:\n\techo > a; echo a long line > /dev/null\n"})
+        self.write(
+            {
+                "makefile": (
+                    "b: a\n\t@cp a b; echo unseen\na:\n\techo > a; echo a long line > /dev/null\n"
+                )
+            }
+        )
         reader, writer = pty.openpty()
         self.addCleanup(os.close, reader)
         done = subprocess.run(
-            ["python3", str(RECORDER), "-C", str(self.folder), "-o", str(self.book)],
-            env={**os.environ, "MKCHECK": MKCHECK, "COLUMNS": "20"},
+            [sys.executable, str(RECORDER), "-C", str(self.folder), "-o", str(self.book)],
+            env={**os.environ, "MKCHECK": MKCHECK, "COLUMNS": "40"},
             stdout=subprocess.PIPE,
             stderr=writer,
             check=False,
         )
         os.close(writer)
         self.assertEqual((done.returncode, done.stdout), (0, b""))
-        first, second = f"{CLEAR}[1/2] echo > a; ech", f"{CLEAR}[2/2] cp a b; echo "
-        self.assertEqual(read_all(reader), f"{first}{CLEAR}{second}{CLEAR}{CLEAR}")
+        lines = [line for line in read_all(reader).split(CLEAR) if line]
+        self.assertEqual(len(lines), 4, lines)
+        self.assertEqual(lines[0], "[1/2] a: echo > a; echo a long line > /"[:39])
+        self.assertRegex(lines[1], r"^\[2/2 0:0\d left\] b: cp a b; echo unseen$")
+        self.assertRegex(lines[2], r"^\[replay 1/2 0:0\d left\] a$")
+        self.assertEqual(lines[3], "[replay 2/2] b")
 
 
 if __name__ == "__main__":

@@ -10,17 +10,28 @@ from project import ROOT
 
 sys.path.insert(0, str(ROOT / "tools"))
 
-from mkcheck_record.accesses import Accesses, Disk, Follower  # noqa: E402
-from mkcheck_record.calls import FORKS, SAME, TRACED, path_of, read_calls, text_of  # noqa: E402
+from mkcheck_record.accesses import Accesses, Follower  # noqa: E402
+from mkcheck_record.calls import (
+    FORKS,
+    SAME,
+    TRACED,
+    Trace,
+    path_of,
+    read_calls,
+    text_of,
+)  # noqa: E402
+from mkcheck_record.faults import Fault  # noqa: E402
 from mkcheck_record.folders import Naming, is_plain_path  # noqa: E402
 from mkcheck_record.graphs import Command, read_graph  # noqa: E402
+from mkcheck_record.places import Place  # noqa: E402
+from mkcheck_record.trees import Tree  # noqa: E402
 
 TRACES = Path(__file__).resolve().parent / "traces"
 
 
 def followed(name: str, there: tuple[str, ...] = ()) -> Accesses:
     """What the calls of a stored trace do, from the folder /nowhere/p on."""
-    accesses = Accesses(Disk("/nowhere/p", set(there)))
+    accesses = Accesses(Tree(Place("/nowhere/p", "/nowhere/p"), set(there)))
     lines = [line for line in (TRACES / name).read_text().splitlines() if not line.startswith("#")]
     Follower(accesses, "/nowhere/p").follow(read_calls(lines))
     return accesses
@@ -35,7 +46,10 @@ class CallsTest(unittest.TestCase):
         return call.name, call.arguments, call.result
 
     def test_a_call(self) -> None:
-        line = '12    openat(AT_FDCWD</tmp/a b>, "x, (y)\\"", O_WRONLY|O_CREAT, 0666) = 3</tmp/a b/x, (y)">'
+        line = (
+            '12    openat(AT_FDCWD</tmp/a b>, "x, (y)\\"", O_WRONLY|O_CREAT, 0666) = 3</tmp/a b/x,'
+            ' (y)">'
+        )
         name, arguments, result = self.one(line)
         self.assertEqual(name, "openat")
         self.assertEqual(text_of(arguments[1]), 'x, (y)"')
@@ -45,18 +59,77 @@ class CallsTest(unittest.TestCase):
 
     def test_brackets_hold_commas(self) -> None:
         line = '12 execve("/bin/a", ["a", "-c", "b)"], 0x7ffe /* 3 vars */) = 0'
-        self.assertEqual(self.one(line), ("execve", ('"/bin/a"', '["a", "-c", "b)"]', "0x7ffe /* 3 vars */"), "0"))
+        self.assertEqual(
+            self.one(line),
+            ("execve", ('"/bin/a"', '["a", "-c", "b)"]', "0x7ffe /* 3 vars */"), "0"),
+        )
 
     def test_escapes(self) -> None:
         self.assertEqual(text_of('"\\303\\244\\tb\\\\\\x41"'), "ä\tb\\A")
         self.assertEqual(path_of("3</a\\74b\\76>"), "/a<b>")
-        self.assertEqual(path_of("3</a (deleted)>"), "/a")
+        self.assertEqual(path_of("3</a (deleted)>"), "/a (deleted)")
+        self.assertEqual(path_of("3</a>(deleted)"), "/a")
         self.assertIsNone(path_of("3<pipe:[12]>"))
         self.assertIsNone(path_of("3"))
 
     def test_failed_calls_are_none(self) -> None:
-        self.assertEqual(read_calls(['12 open("x", O_RDONLY) = -1 ENOENT (No such file or directory)']), [])
-        self.assertEqual(read_calls(["12 +++ exited with 0 +++", "12 vfork( <unfinished ...>", ""]), [])
+        self.assertEqual(
+            read_calls(['12 open("x", O_RDONLY) = -1 ENOENT (No such file or directory)']), []
+        )
+        self.assertEqual(
+            read_calls(
+                ['12 open("x", O_RDONLY) = -1 ENOSYS (Function not implemented) (INJECTED)']
+            ),
+            [],
+        )
+        self.assertEqual(read_calls(['12 open("x", O_RDONLY <unfinished ...>) = ?']), [])
+        self.assertEqual(read_calls(["12 +++ exited with 0 +++", "12 vfork( <unfinished ...>"]), [])
+
+    def test_names_that_look_like_failures(self) -> None:
+        for name in (
+            "a) = -1 ENOENT (No such file)",
+            "a = ?",
+            "b <unfinished ...>",
+            "+++ exited with 0 +++",
+        ):
+            escaped = name.replace("<", "\\74").replace(">", "\\76")
+            line = f'12 openat(AT_FDCWD</p>, "{name}", O_RDONLY) = 3</p/{escaped}>'
+            (call,) = read_calls([line])
+            self.assertEqual(
+                (text_of(call.arguments[1]), path_of(call.result)), (name, f"/p/{name}")
+            )
+            (call,) = read_calls([f'12 rename("a", "{name}") = 0'])
+            self.assertEqual(text_of(call.arguments[1]), name)
+
+    def test_lines_that_were_cut(self) -> None:
+        whole = '12 openat(AT_FDCWD</p>, "a", O_WRONLY|O_CREAT, 0666) = 3</p/a>'
+        for line in (
+            "",
+            "12",
+            "open",
+            "12 +++ exited",
+            "12 <... open resumed>) = 3",
+            *(whole[:at] for at in range(4, whole.index("3</p/a"))),
+        ):
+            with self.assertRaises(Fault, msg=line):
+                read_calls([line])
+
+    def test_processes_that_go_on(self) -> None:
+        trace = Trace()
+        for line in (
+            '7 execve("/bin/sh", [], 0x0 /* 1 var */) = 0',
+            "7 vfork( <unfinished ...>",
+            '8 execve("/bin/true", [], 0x0 /* 1 var */) = 0',
+            "8 +++ exited with 0 +++",
+            "7 <... vfork resumed>) = 8",
+            "7 fork() = 9",
+        ):
+            trace.feed(line)
+        self.assertEqual((trace.alive, trace.is_whole()), ({7, 9}, False))
+        trace.feed("7 +++ killed by SIGSEGV (core dumped) +++")
+        self.assertEqual((trace.alive, trace.programs[9]), ({9}, "/bin/sh"))
+        trace.feed("9 +++ exited with 0 +++")
+        self.assertTrue(trace.is_whole())
 
 
 class TracedTest(unittest.TestCase):
@@ -72,26 +145,43 @@ class FollowerTest(unittest.TestCase):
 
     def test_interrupted_calls_and_new_processes(self) -> None:
         accesses = followed("forks.txt")
-        self.assertEqual(list(accesses.reads), [
-            "/nowhere/bin/sh", "/nowhere/p/b", "/nowhere/p/s/a", "/nowhere/p/s/none", "/nowhere/p/s/d",
-        ])
+        self.assertEqual(
+            list(accesses.reads),
+            [
+                "/nowhere/bin/sh",
+                "/nowhere/p/b",
+                "/nowhere/p/s/a",
+                "/nowhere/p/s/none",
+                "/nowhere/p/s/d",
+            ],
+        )
         self.assertEqual(list(accesses.writes), ["/nowhere/p/s/out"])
 
     def test_calls_of_other_machines(self) -> None:
         accesses = followed("calls.txt", ("/nowhere/p/db",))
-        self.assertEqual(list(accesses.reads), ["/nowhere/p/tool", "/nowhere/p/x", "/nowhere/p/db", "/nowhere/p/f"])
-        self.assertEqual(list(accesses.writes), [f"/nowhere/p/{name}" for name in ("db", "t", "g", "q/r", "e")])
-        self.assertEqual(list(accesses.removed), ["/nowhere/p/x.tmp", "/nowhere/p/f"])
+        self.assertEqual(
+            list(accesses.reads), [f"/nowhere/p/{name}" for name in ("tool", "x", "db", "f", "e")]
+        )
+        self.assertEqual(
+            list(accesses.writes), [f"/nowhere/p/{name}" for name in ("db", "t", "g", "q/r", "e")]
+        )
+        self.assertEqual(
+            set(accesses.touched) - set(accesses.writes), {"/nowhere/p/x.tmp", "/nowhere/p/f"}
+        )
 
 
 class GraphTest(unittest.TestCase):
     """What mkcheck prints."""
 
     def test_commands_of_more_lines(self) -> None:
-        graph = read_graph("goals a\nc:\nb recipe phony: c\n\tx \\\n\ty\n\tz\\\\\na recipe: .WAIT b\n\t@w\n")
+        graph = read_graph(
+            "goals a\nc:\nb recipe phony: c\n\tx \\\n\ty\n\tz\\\\\na recipe: .WAIT b\n\t@w\n"
+        )
         self.assertEqual(graph.names, ["c", "b", "a"])
-        self.assertEqual([(recipe.target, recipe.lines) for recipe in graph.recipes],
-                         [("b", ["x \\\n\ty", "z\\\\"]), ("a", ["@w"])])
+        self.assertEqual(
+            [(recipe.target, recipe.lines) for recipe in graph.recipes],
+            [("b", ["x \\\n\ty", "z\\\\"]), ("a", ["@w"])],
+        )
 
     def test_prefixes(self) -> None:
         self.assertEqual(Command.of("@- + cc -c a.c"), Command("cc -c a.c", True))

@@ -3,50 +3,76 @@
 from __future__ import annotations
 
 import os
+import re
 from collections.abc import Iterable
 from dataclasses import dataclass, field
 
-from .calls import FORKS, SAME, Call, path_of, text_of
+from .calls import FORKS, LOOKS, LOOKS_IN_VAIN, SAME, Call, path_of, text_of
+from .programs import interpreters_of
+from .trees import Owner, Tree
 
-LINKS_AT_MOST = 40
 INTERPRETERS_AT_MOST = 4
 EXCHANGE = "RENAME_EXCHANGE"
+DELETED = " (deleted)"
+SPACES = ("CLONE_NEWNS", "CLONE_NEWPID")
+# A process that takes these names for programs reads another makefile, whose recipes aren't judged
+# here.
+MAKES = re.compile(r"(?:g|b|p|f|s|re|pdp|ck)?make(?:-[0-9.]+)?|ninja(?:-build)?|samu|kati|ckati")
+# Sockets that only tell names of users and of machines, and take notes.
+SYSTEM_SOCKETS = ("/var/run/nscd/", "/run/nscd/", "/run/systemd/", "/var/run/systemd/", "/dev/log")
+SOCKET = re.compile(r'sun_path=@?("(?:[^"\\\\]|\\\\.)*")')
+ADDRESS = re.compile(r'inet_(?:addr|pton)\((?:AF_INET6, )?"([^"]*)"')
+PORT = re.compile(r"sin6?_port=htons\((\d+)\)")
 
 
 @dataclass
-class Place:
+class Standing:
     """The folder in which a process stands. Threads of one process share theirs."""
 
     path: str
 
 
-@dataclass
-class Disk:
-    """What is known of the folder between recipes: the files that are there, and links that recipes made.
+@dataclass(frozen=True)
+class Alias:
+    """A name that leads over symbolic links, these, and the real path."""
 
-    `users` has, for each file of several names, the names that were used, each with the first target whose recipe did.
-    """
-
-    root: str
-    there: set[str]
-    links: set[str] = field(default_factory=set)
-    users: dict[tuple[int, int], dict[str, str]] = field(default_factory=dict)
+    name: str
+    links: tuple[str, ...]
+    real: str
 
 
 @dataclass
 class Accesses:
-    """The files that a recipe reads and writes, by their real paths, in the order of their first use.
+    """The files that a recipe reads and writes, by their real paths, in the order of their first
+    use.
 
-    `moved` has the new names of what it renamed, which may be folders, and `removed` what it took
-    away. `aliases` has names that lead over a symbolic link, with the links and the real path.
+    `touched` has all that it ever wrote or took away, `made` what of that wasn't there before, and
+    `lost` what it took away and hadn't made. `folders` has the folders that it made, `stamped` what
+    it gave a stamp. `moved` has the new names of what it renamed, which may be folders. `aliases`
+    has names that lead over a symbolic link. `over` has the links that no recipe made and that it
+    went over. `makes` has the makes that it started, each with the folder in which that went to
+    work, and `strange` what it did that a trace can't follow. `servers` has whom it asked over a
+    socket that isn't one of its own `sockets`. `looked` has the paths at which it looked, where
+    that is traced, and `listed` the folders whose names it may have read.
     """
 
-    disk: Disk
+    tree: Tree
     reads: dict[str, None] = field(default_factory=dict)
     writes: dict[str, None] = field(default_factory=dict)
+    touched: dict[str, None] = field(default_factory=dict)
+    made: dict[str, None] = field(default_factory=dict)
+    lost: dict[str, None] = field(default_factory=dict)
+    folders: dict[str, None] = field(default_factory=dict)
+    stamped: dict[str, None] = field(default_factory=dict)
     moved: dict[str, None] = field(default_factory=dict)
-    removed: dict[str, None] = field(default_factory=dict)
-    aliases: dict[str, tuple[tuple[str, ...], str]] = field(default_factory=dict)
+    aliases: dict[str, Alias] = field(default_factory=dict)
+    over: dict[str, None] = field(default_factory=dict)
+    makes: dict[tuple[str, str], None] = field(default_factory=dict)
+    strange: dict[str, None] = field(default_factory=dict)
+    servers: dict[str, None] = field(default_factory=dict)
+    sockets: set[str] = field(default_factory=set)
+    looked: dict[str, None] = field(default_factory=dict)
+    listed: dict[str, None] = field(default_factory=dict)
 
     def wrote(self, path: str) -> bool:
         """Whether the recipe wrote this file before, or moved a folder there that holds it."""
@@ -60,11 +86,14 @@ class Accesses:
         return True
 
     def is_new(self, path: str, flags: str) -> bool:
-        """Whether an open with these flags makes the file. Outside the folder only O_EXCL says so."""
+        """Whether an open with these flags makes the file.
+
+        Outside the folder only O_EXCL says so.
+        """
         if "O_CREAT" not in flags:
             return False
-        inside = path.startswith(self.disk.root + "/")
-        return "O_EXCL" in flags or path in self.removed or (inside and path not in self.disk.there)
+        unknown = not self.tree.has(path) and path not in self.touched
+        return "O_EXCL" in flags or (not unknown and path not in self.tree.there)
 
     def read(self, path: str) -> None:
         """A read, unless of a file that the recipe wrote itself."""
@@ -72,39 +101,90 @@ class Accesses:
             self.reads.setdefault(path)
 
     def write(self, path: str) -> None:
-        """A writing."""
+        """A writing. Footprints name no folders."""
+        if path in self.tree.folders:
+            return
         self.writes.setdefault(path)
+        self.touched.setdefault(path)
+        if path not in self.tree.there:
+            self.made.setdefault(path)
+            self.tree.there.add(path)
+
+    def stamp(self, path: str) -> None:
+        """A file gets a stamp."""
+        self.stamped.setdefault(path)
+        self.change(path)
+
+    def change(self, path: str) -> None:
+        """A writing that keeps what was there: a stamp, a mode, a part."""
+        self.read(path)
+        self.write(path)
 
     def remove(self, path: str) -> None:
         """A file is taken away."""
-        self.writes.pop(path, None)
-        self.moved.pop(path, None)
-        self.removed.setdefault(path)
+        self.lose(path)
+        self.tree.remove(path)
 
     def rename(self, old: str, new: str) -> None:
-        """A file is renamed, or a folder with what was written in it."""
-        self.read(old)
-        if old in self.disk.links:
-            self.disk.links.add(new)
-        inside = [path for path in self.writes if path.startswith(old + "/")]
-        for path in inside:
-            del self.writes[path]
-        self.remove(old)
-        for path in [new, *(new + path[len(old) :] for path in inside)]:
-            self.write(path)
+        """A file is renamed, or a folder with all files that are known in it."""
+        inside = (path for path in self.writes if path.startswith(old + "/"))
+        files = dict.fromkeys([*self.tree.inside(old), *inside])
+        if not files and old not in self.tree.folders:
+            files[old] = None
+        for path in self.tree.inside(new):
+            self.lose(path)
+        for path in files:
+            self.read(path)
+            self.lose(path)
+        self.tree.move(old, new)
+        for path in files:
+            goal = new + path[len(old) :]
+            self.tree.there.add(goal)
+            for kept in (self.writes, self.touched, self.made):
+                kept.setdefault(goal)
+            if path in self.stamped:
+                self.stamped.setdefault(goal)
+        if old in self.folders:
+            self.folders.setdefault(new)
         self.moved.setdefault(new)
 
-    def reach(self, name: str, real: str) -> None:
-        """A file is reached by a name: links that a recipe made are read on the way."""
-        if name == real:
-            return
-        links = links_on(name)
-        if not links:
-            return
-        self.aliases.setdefault(name, (links, real))
+    def lose(self, path: str) -> None:
+        """What stood at a path goes from there."""
+        self.writes.pop(path, None)
+        self.moved.pop(path, None)
+        self.touched.setdefault(path)
+        if path in self.tree.there and path not in self.made:
+            self.lost.setdefault(path)
+
+    def pass_over(self, links: Iterable[str]) -> None:
+        """The recipe goes over symbolic links: one that a recipe made is a file that it reads."""
         for link in links:
-            if link in self.disk.links:
+            if link in self.tree.made:
                 self.read(link)
+            elif self.tree.has(link):
+                self.over.setdefault(link)
+
+    def look(self, name: str) -> None:
+        """The recipe looks at a name: at what stands there, over links, and at the links."""
+        real, links = self.tree.follow(name)
+        for path in (real, *links, self.tree.own(name)[0]):
+            self.looked.setdefault(path)
+
+    def reach(self, name: str) -> str:
+        """The real path of a file that is reached by a name, over links."""
+        real, links = self.tree.follow(name)
+        if links:
+            self.pass_over(links)
+            plain = os.path.normpath(name)
+            if plain != real:
+                self.aliases.setdefault(plain, Alias(plain, links, real))
+        return real
+
+    def reach_itself(self, name: str) -> str:
+        """The real path of a name itself, which may be a link."""
+        real, links = self.tree.own(name)
+        self.pass_over(links)
+        return real
 
 
 @dataclass
@@ -113,41 +193,87 @@ class Follower:
 
     accesses: Accesses
     start: str
-    places: dict[int, Place] = field(default_factory=dict)
+    standings: dict[int, Standing] = field(default_factory=dict)
+    makers: dict[int, tuple[str, str]] = field(default_factory=dict)
+    at_work: set[int] = field(default_factory=set)
 
     def follow(self, calls: Iterable[Call]) -> None:
-        """Takes the calls, in their order; one that says nothing of files is passed over."""
+        """Takes the calls, in their order."""
         for call in calls:
             if call.name in FORKS:
                 self.fork(call)
                 continue
+            if call.failed or call.name in LOOKS:
+                self.looked_at(call)
+                continue
             taken = getattr(self, f"on_{SAME.get(call.name, call.name)}", None)
             if taken is not None:
                 taken(call)
+        for maker in self.makers.values():
+            self.accesses.makes.setdefault(maker)
 
-    def place(self, call: Call) -> Place:
+    def looked_at(self, call: Call) -> None:
+        """A call that only looks at a name, or looks for one in vain.
+
+        An empty name is that of a descriptor.
+        """
+        folder, name = LOOKS.get(call.name) or LOOKS_IN_VAIN[call.name]
+        if len(call.arguments) > name and text_of(call.arguments[name]):
+            self.accesses.look(self.path(call, name, folder))
+
+    def standing(self, call: Call) -> Standing:
         """Where the process of a call stands."""
-        return self.places.setdefault(call.process, Place(self.start))
+        return self.standings.setdefault(call.process, Standing(self.start))
 
     def fork(self, call: Call) -> None:
         """A new process stands where its parent stood, and a thread goes with it."""
-        own = self.place(call)
+        own = self.standing(call)
         shared = any("CLONE_FS" in argument for argument in call.arguments)
-        self.places[call.number] = own if shared else Place(own.path)
+        self.standings[call.number] = own if shared else Standing(own.path)
+        for space in SPACES:
+            if any(space in argument for argument in call.arguments):
+                self.accesses.strange.setdefault(f"{call.name} with {space}")
 
     def path(self, call: Call, at: int, folder: int | None = None) -> str:
-        """The path that an argument names, by the descriptor of a folder or by where the process stands."""
+        """The path that an argument names, from a folder's descriptor or the process's folder."""
         name = text_of(call.arguments[at]) or ""
-        base = self.place(call).path
+        standing = self.standing(call)
+        base = standing.path
         if folder is not None:
-            base = path_of(call.arguments[folder]) or base
+            base = self.descriptor(call.arguments[folder]) or base
+            if call.arguments[folder].startswith("AT_FDCWD"):
+                standing.path = base
         return os.path.join(base, name) if name else base
 
+    def descriptor(self, argument: str) -> str | None:
+        """The path behind a descriptor.
+
+        Older versions of strace may write ` (deleted)` as a part of it.
+        """
+        path = path_of(argument)
+        if path is not None and path.endswith(DELETED) and self.accesses.tree.status(path) is None:
+            return path[: -len(DELETED)]
+        return path
+
+    def itself(self, call: Call, at: int, folder: int | None = None) -> str:
+        """The real path of what an argument names, which may be a link."""
+        return self.accesses.reach_itself(self.path(call, at, folder))
+
+    def behind(self, call: Call, at: int, folder: int | None = None) -> str:
+        """The real path of what an argument names, links followed if the call does so."""
+        if any("SYMLINK_NOFOLLOW" in argument for argument in call.arguments):
+            return self.itself(call, at, folder)
+        return self.accesses.reach(self.path(call, at, folder))
+
     def on_chdir(self, call: Call) -> None:
-        self.place(call).path = os.path.realpath(self.path(call, 0))
+        self.accesses.look(self.path(call, 0))
+        self.standing(call).path = self.accesses.reach(self.path(call, 0))
+        # A make goes to another folder before it reads a file there, and may come back at its end.
+        if call.process in self.makers and call.process not in self.at_work:
+            self.makers[call.process] = (self.makers[call.process][0], self.standing(call).path)
 
     def on_fchdir(self, call: Call) -> None:
-        self.place(call).path = path_of(call.arguments[0]) or self.place(call).path
+        self.standing(call).path = self.descriptor(call.arguments[0]) or self.standing(call).path
 
     def on_open(self, call: Call) -> None:
         self.opened(call, self.path(call, 0), call.arguments[1])
@@ -158,142 +284,253 @@ class Follower:
     def on_creat(self, call: Call) -> None:
         self.opened(call, self.path(call, 0), "O_WRONLY|O_CREAT|O_TRUNC")
 
+    def on_open_by_handle_at(self, call: Call) -> None:
+        self.opened(call, path_of(call.result) or "/", call.arguments[2])
+
     def opened(self, call: Call, name: str, flags: str) -> None:
-        """A file that is opened. Old contents are read where they are kept and can be read or lengthened."""
+        """A file that is opened. Old contents are read where they are kept."""
         real = path_of(call.result)
-        if real is None or "O_PATH" in flags or "O_DIRECTORY" in flags or "O_TMPFILE" in flags:
+        if real is None:
             return
-        self.accesses.reach(os.path.normpath(name), real)
+        if "O_NOFOLLOW" in flags:
+            self.accesses.reach_itself(name)
+        else:
+            self.accesses.reach(name)
+        if "O_DIRECTORY" in flags and "O_PATH" not in flags:
+            self.accesses.listed.setdefault(real)
+        if "O_PATH" in flags or "O_DIRECTORY" in flags or "O_TMPFILE" in flags:
+            return
+        if self.accesses.tree.has(real):
+            self.at_work.add(call.process)
         new = self.accesses.is_new(real, flags)
         written = "O_WRONLY" in flags or "O_RDWR" in flags
-        kept = not written or ("O_TRUNC" not in flags and ("O_RDWR" in flags or "O_APPEND" in flags))
-        if kept and not new:
+        if not new and not (written and "O_TRUNC" in flags):
             self.accesses.read(real)
         if written or new:
             self.accesses.write(real)
 
+    def on_readlink(self, call: Call) -> None:
+        self.looked_into(self.itself(call, 0))
+
+    def on_readlinkat(self, call: Call) -> None:
+        self.looked_into(self.itself(call, 1, 0))
+
+    def looked_into(self, link: str) -> None:
+        """The text of a link is read.
+
+        A link of the project that leads to a folder is no file that make could name.
+        """
+        tree = self.accesses.tree
+        if not tree.has(link):
+            return
+        if link not in tree.made and os.path.isdir(tree.place.real(tree.follow(link)[0])):
+            self.accesses.over.setdefault(link)
+        else:
+            self.accesses.read(link)
+
     def on_execve(self, call: Call) -> None:
-        self.started(self.path(call, 0))
+        self.started(call, self.path(call, 0))
 
     def on_execveat(self, call: Call) -> None:
-        self.started(self.path(call, 1, 0))
+        self.started(call, self.path(call, 1, 0))
 
-    def started(self, name: str) -> None:
-        """A program is read, and the interpreters that first lines name."""
+    def started(self, call: Call, name: str) -> None:
+        """A program is read, and the interpreters and loaders that programs name."""
+        real = self.accesses.reach(name)
+        if any(MAKES.fullmatch(os.path.basename(path)) for path in (name, real)):
+            self.makers[call.process] = (os.path.basename(name), self.standing(call).path)
+            self.at_work.discard(call.process)
+        waiting = [real]
         for _ in range(INTERPRETERS_AT_MOST):
-            real = os.path.realpath(name)
-            self.accesses.reach(os.path.normpath(name), real)
-            self.accesses.read(real)
-            interpreter = interpreter_of(real)
-            if interpreter is None:
+            if not waiting:
                 return
-            name = interpreter
+            real = waiting.pop()
+            self.accesses.read(real)
+            for other in interpreters_of(self.accesses.tree.place.real(real)):
+                waiting.append(self.accesses.reach(os.path.join(self.standing(call).path, other)))
 
     def on_rename(self, call: Call) -> None:
-        self.renamed(self.path(call, 0), self.path(call, 1), "")
+        self.renamed(self.itself(call, 0), self.itself(call, 1), "")
 
     def on_renameat(self, call: Call) -> None:
         flags = call.arguments[4] if len(call.arguments) > 4 else ""
-        self.renamed(self.path(call, 1, 0), self.path(call, 3, 2), flags)
+        self.renamed(self.itself(call, 1, 0), self.itself(call, 3, 2), flags)
 
     def renamed(self, old: str, new: str, flags: str) -> None:
-        old, new = own_path(old), own_path(new)
-        if EXCHANGE in flags:
-            for path in (old, new):
-                self.accesses.read(path)
-                self.accesses.write(path)
-        else:
+        """A file gets another name. Two that are exchanged are read and written both."""
+        if EXCHANGE not in flags:
             self.accesses.rename(old, new)
+            for standing in self.standings.values():
+                if f"{standing.path}/".startswith(f"{old}/"):
+                    standing.path = new + standing.path[len(old) :]
+            return
+        tree = self.accesses.tree
+        for path in [*tree.inside(old), *tree.inside(new), old, new]:
+            self.accesses.change(path)
+        tree.move(old, old + "\0")
+        tree.move(new, old)
+        tree.move(old + "\0", new)
 
     def on_link(self, call: Call) -> None:
-        self.linked(self.path(call, 0), self.path(call, 1))
+        self.linked(self.itself(call, 0), self.itself(call, 1))
 
     def on_linkat(self, call: Call) -> None:
-        self.linked(self.path(call, 1, 0), self.path(call, 3, 2))
+        follows = "AT_SYMLINK_FOLLOW" in call.arguments[4]
+        old = self.accesses.reach(self.path(call, 1, 0)) if follows else self.itself(call, 1, 0)
+        self.linked(old, self.itself(call, 3, 2))
 
     def linked(self, old: str, new: str) -> None:
-        self.accesses.read(own_path(old))
-        self.accesses.write(own_path(new))
+        """A file gets a second name."""
+        self.accesses.read(old)
+        self.accesses.write(new)
+        text = self.accesses.tree.links.get(old)
+        if text is not None:
+            self.made_link(text, new)
 
     def on_symlink(self, call: Call) -> None:
-        self.made_link(self.path(call, 1))
+        self.made_link(text_of(call.arguments[0]) or "", self.itself(call, 1))
 
     def on_symlinkat(self, call: Call) -> None:
-        self.made_link(self.path(call, 2, 1))
+        self.made_link(text_of(call.arguments[0]) or "", self.itself(call, 2, 1))
 
-    def made_link(self, name: str) -> None:
-        self.accesses.disk.links.add(own_path(name))
-        self.accesses.write(own_path(name))
+    def made_link(self, text: str, path: str) -> None:
+        """A symbolic link is made."""
+        self.accesses.write(path)
+        self.accesses.tree.link(path, text)
+        self.accesses.tree.made.add(path)
 
     def on_unlink(self, call: Call) -> None:
-        self.accesses.remove(own_path(self.path(call, 0)))
+        self.accesses.remove(self.itself(call, 0))
 
     def on_unlinkat(self, call: Call) -> None:
-        self.accesses.remove(own_path(self.path(call, 1, 0)))
+        path = self.itself(call, 1, 0)
+        if "AT_REMOVEDIR" in call.arguments[2]:
+            self.accesses.tree.folders.discard(path)
+        else:
+            self.accesses.remove(path)
 
     def on_mknod(self, call: Call) -> None:
-        self.accesses.write(own_path(self.path(call, 0)))
+        self.accesses.write(self.itself(call, 0))
 
     def on_mknodat(self, call: Call) -> None:
-        self.accesses.write(own_path(self.path(call, 1, 0)))
+        self.accesses.write(self.itself(call, 1, 0))
+
+    def on_mkdir(self, call: Call) -> None:
+        self.made_folder(self.itself(call, 0))
+
+    def on_mkdirat(self, call: Call) -> None:
+        self.made_folder(self.itself(call, 1, 0))
+
+    def made_folder(self, path: str) -> None:
+        """A folder is made."""
+        self.accesses.folders.setdefault(path)
+        self.accesses.tree.folders.add(path)
+
+    def on_rmdir(self, call: Call) -> None:
+        self.accesses.tree.folders.discard(self.itself(call, 0))
 
     def on_truncate(self, call: Call) -> None:
-        self.stamped(self.path(call, 0))
+        real = self.behind(call, 0)
+        if call.arguments[1] != "0":
+            self.accesses.read(real)
+        self.accesses.write(real)
 
     def on_utime(self, call: Call) -> None:
-        self.stamped(self.path(call, 0))
+        self.accesses.stamp(self.behind(call, 0))
 
     def on_utimes(self, call: Call) -> None:
-        self.stamped(self.path(call, 0))
+        self.accesses.stamp(self.behind(call, 0))
 
     def on_futimesat(self, call: Call) -> None:
-        self.stamped(self.path(call, 1, 0))
+        self.accesses.stamp(self.behind(call, 1, 0))
 
     def on_utimensat(self, call: Call) -> None:
         # The second time is the stamp; where it is omitted, only the time of access changes.
         if not call.arguments[2].endswith("UTIME_OMIT]"):
-            self.stamped(self.path(call, 1, 0))
+            self.accesses.stamp(self.behind(call, 1, 0))
 
-    def stamped(self, name: str) -> None:
-        """A file gets a new stamp."""
-        real = os.path.realpath(name)
-        self.accesses.reach(os.path.normpath(name), real)
-        self.accesses.write(real)
+    def on_chmod(self, call: Call) -> None:
+        self.owned(self.behind(call, 0), mode=call.arguments[1])
+
+    def on_fchmod(self, call: Call) -> None:
+        self.owned(self.descriptor(call.arguments[0]), mode=call.arguments[1])
+
+    def on_fchmodat(self, call: Call) -> None:
+        self.owned(self.behind(call, 1, 0), mode=call.arguments[2])
+
+    def on_chown(self, call: Call) -> None:
+        self.owned(self.behind(call, 0), user=call.arguments[1], group=call.arguments[2])
+
+    def on_lchown(self, call: Call) -> None:
+        self.owned(self.itself(call, 0), user=call.arguments[1], group=call.arguments[2])
+
+    def on_fchown(self, call: Call) -> None:
+        self.owned(
+            self.descriptor(call.arguments[0]), user=call.arguments[1], group=call.arguments[2]
+        )
+
+    def on_fchownat(self, call: Call) -> None:
+        self.owned(self.behind(call, 1, 0), user=call.arguments[2], group=call.arguments[3])
+
+    def owned(
+        self, path: str | None, mode: str = "-1", user: str = "-1", group: str = "-1"
+    ) -> None:
+        """A file gets permissions, a user or a group. Those that it had already change nothing."""
+        known = None if path is None else self.accesses.tree.owners.get(path)
+        if path is None or (
+            known is not None and not self.accesses.wrote(path) and same(known, mode, user, group)
+        ):
+            return
+        self.accesses.change(path)
+
+    def on_setxattr(self, call: Call) -> None:
+        self.accesses.change(self.behind(call, 0))
+
+    def on_lsetxattr(self, call: Call) -> None:
+        self.accesses.change(self.itself(call, 0))
+
+    def on_fsetxattr(self, call: Call) -> None:
+        path = self.descriptor(call.arguments[0])
+        if path is not None:
+            self.accesses.change(path)
+
+    def on_chroot(self, call: Call) -> None:
+        self.accesses.strange.setdefault(call.name)
+
+    def on_unshare(self, call: Call) -> None:
+        self.standings[call.process] = Standing(self.standing(call).path)
+        for space in SPACES:
+            if space in call.arguments[0]:
+                self.accesses.strange.setdefault(f"unshare with {space}")
+
+    def on_setns(self, call: Call) -> None:
+        if not call.arguments[1].startswith(("CLONE_NEWNET", "CLONE_NEWUTS")):
+            self.accesses.strange.setdefault("setns")
+
+    def on_bind(self, call: Call) -> None:
+        """A process of the recipe is a server itself."""
+        socket = SOCKET.search(call.arguments[1])
+        if socket is not None:
+            self.accesses.sockets.add(text_of(socket.group(1)) or "")
+
+    def on_connect(self, call: Call) -> None:
+        """A server is asked. What it does for the recipe isn't seen."""
+        address = call.arguments[1]
+        socket, host, port = SOCKET.search(address), ADDRESS.search(address), PORT.search(address)
+        if socket is not None:
+            path = text_of(socket.group(1)) or ""
+            if not path.startswith(SYSTEM_SOCKETS) and path not in self.accesses.sockets:
+                self.accesses.servers.setdefault(f"the socket {path}")
+        elif host is not None and port is not None and port.group(1) not in ("0", "53"):
+            self.accesses.servers.setdefault(f"{host.group(1)}, port {port.group(1)}")
 
 
-def own_path(name: str) -> str:
-    """The real path of a name itself, which may be a link: only the folder is followed."""
-    folder, base = os.path.split(os.path.normpath(name) if name.endswith("/") else name)
-    if base in ("", ".", ".."):
-        return os.path.realpath(name)
-    return os.path.join(os.path.realpath(folder), base)
+def same(known: Owner, mode: str, user: str, group: str) -> bool:
+    """Whether a file has these already: -1 asks for nothing."""
+    modes = mode == "-1" or int(mode, 8) & 0o7777 == known.mode
+    return modes and number(user) in (None, known.user) and number(group) in (None, known.group)
 
 
-def links_on(name: str) -> tuple[str, ...]:
-    """The symbolic links over which a path leads, by their own real paths."""
-    links: list[str] = []
-    done, rest = "/", [part for part in name.split("/") if part]
-    while rest and len(links) < LINKS_AT_MOST:
-        path = os.path.normpath(os.path.join(done, rest.pop(0)))
-        if not os.path.islink(path):
-            done = path
-            continue
-        links.append(path)
-        goal = os.readlink(path)
-        if goal.startswith("/"):
-            done = "/"
-        rest[:0] = [part for part in goal.split("/") if part]
-    return tuple(links)
-
-
-def interpreter_of(path: str) -> str | None:
-    """The interpreter that the first line of a script names."""
-    try:
-        with open(path, "rb") as file:
-            line = file.read(4096).split(b"\n", 1)[0]
-    except OSError:
-        return None
-    words = line[2:].split(None, 1)
-    if line[:2] != b"#!" or not words or not words[0].startswith(b"/"):
-        return None
-    return os.fsdecode(words[0])
+def number(argument: str) -> int | None:
+    """The number of a user or a group; none for the one that changes nothing."""
+    return None if argument in ("-1", "4294967295") else int(argument)

@@ -1,40 +1,36 @@
-"""The text of recorded footprints, format 1."""
+"""Recorded footprints with what they presume: the sources and the fixed prefixes."""
 
 from __future__ import annotations
 
-import json
 from dataclasses import dataclass
 
+from . import formats
 from .faults import Fault, RecipeFault
 from .folders import SYSTEM
 from .footprints import Footprint, Warn
 from .graphs import Checker, Graph
+from .sharing import with_shared
 
 
 BUILT_BEFORE = (
     "the folder holds files that recipes write, and without them the makefile means something else."
-    " Where they were built before, remove them, and record again:"
+    " They were built before, so remove them, and record again:"
 )
 
 
 @dataclass(frozen=True)
 class Book:
-    """Footprints with the fixed prefixes and the sources that they presume."""
+    """Footprints, the fixed prefixes and sources that they presume, and the recorded goals."""
 
     fixed: list[str]
     sources: list[str]
     footprints: list[Footprint]
+    goals: list[str]
 
     def text(self) -> str:
-        """The file: readable, with a record on a line."""
-        head = f'{{"format":1,"fixed":{compact(self.fixed)},"sources":{compact(self.sources)},"records":['
-        records = ",".join("\n" + compact(footprint.record()) for footprint in self.footprints)
-        return f"{head}{records}]}}\n"
-
-
-def compact(value: object) -> str:
-    """A JSON value on one line."""
-    return json.dumps(value, ensure_ascii=False, separators=(",", ":"))
+        """The file."""
+        records = [footprint.record() for footprint in self.footprints]
+        return formats.text_of(self.fixed, self.sources, self.goals, records)
 
 
 def used(asked: list[str], names: set[str]) -> list[str]:
@@ -52,21 +48,77 @@ def make_book(
     scratch: str,
     warn: Warn,
 ) -> Book:
-    """The book. Its sources are the files that the graph names and that recipes read, and none that recipes write."""
+    """The book.
+
+    Its sources are the files that the graph names and that recipes read, and none that recipes
+    write.
+    """
+    footprints = with_shared(footprints, warn)
+    refuse_phony_reads(graph, files, footprints)
     written = {name for footprint in footprints for name in footprint.writes}
-    names = {*graph.names, *written, *(name for footprint in footprints for name in footprint.reads)}
-    for name in (name for name in files if name in written and name not in graph.targets):
+    names = {
+        *graph.names,
+        *written,
+        *(name for footprint in footprints for name in footprint.reads),
+    }
+    made = {*graph.targets, *graph.phony}
+    for name in (name for name in files if name in written and name not in made):
         warn(f"{name} was there before, and a recipe writes it: it is no source")
     fixed = used(asked, names)
-    sources = [name for name in files if name in names and name not in written and name not in graph.targets]
+    sources = [name for name in files if name in names and name not in written and name not in made]
     if not is_same(checker, graph, fixed, sources, scratch):
-        raise RecipeFault("\n\t".join([BUILT_BEFORE, *(name for name in files if name in written)]))
-    return Book(fixed, sources, footprints)
+        raise RecipeFault(why_other(checker, graph, files, footprints, fixed, scratch))
+    return Book(fixed, sources, footprints, graph.goals)
 
 
-def is_same(checker: Checker, graph: Graph, fixed: list[str], sources: list[str], scratch: str) -> bool:
+def is_same(
+    checker: Checker, graph: Graph, fixed: list[str], sources: list[str], scratch: str
+) -> bool:
     """Whether the makefile means the same over these sources."""
     try:
         return checker.graph(fixed, sources, scratch).text == graph.text
     except Fault:
         return False
+
+
+def refuse_phony_reads(graph: Graph, files: list[str], footprints: list[Footprint]) -> None:
+    """Refuses reads of a file that has a phony target's name and that no recipe made."""
+    there = graph.phony.intersection(files)
+    for footprint in footprints:
+        for name in footprint.reads:
+            if name in there:
+                raise RecipeFault(
+                    f"the recipe of {footprint.recipe.target} reads the file {name}, but {name} is"
+                    " a phony target, and make doesn't look at a file of that name; give one of"
+                    " the two another name"
+                )
+        there = there.difference(footprint.writes)
+
+
+def why_other(
+    checker: Checker,
+    graph: Graph,
+    files: list[str],
+    footprints: list[Footprint],
+    fixed: list[str],
+    scratch: str,
+) -> str:
+    """What is said where the makefile means something else without the files that recipes write."""
+    writers = {
+        name: footprint.recipe.target for footprint in footprints for name in footprint.writes
+    }
+    named = [
+        name
+        for name in files
+        if name in writers and name in graph.names and name not in graph.targets
+    ]
+    try:
+        checker.graph(fixed, [name for name in files if name not in writers], scratch)
+    except Fault:
+        return "\n".join(
+            f"the recipe of {writers[name]} writes {name}, which the makefile takes for a source,"
+            f" since no rule makes it; give {name} a rule, or let the recipe write a file of"
+            " another name"
+            for name in named
+        )
+    return "\n\t".join([BUILT_BEFORE, *(name for name in files if name in writers)])

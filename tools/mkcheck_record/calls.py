@@ -1,48 +1,115 @@
-"""Calls of the system, read from what `strace -f -y -o FILE` writes."""
+"""Calls of the system, read line by line from what `strace -f -y -q -o FILE` writes."""
 
 from __future__ import annotations
 
 import os
 import re
-from collections.abc import Iterable, Iterator
-from dataclasses import dataclass
+from collections.abc import Iterable
+from dataclasses import dataclass, field
 
-# What is traced: whatever opens, starts, links, renames, removes or stamps a file, and what is
-# needed to follow relative paths. strace passes over those that a machine hasn't.
+from .faults import Fault
+
+# What is traced: whatever opens, starts, links, renames, removes, stamps or changes a file, and
+# what is needed to follow relative paths. strace passes over those that a machine doesn't have.
 FORKS = ("clone", "clone3", "fork", "vfork")
+OF_LINKS = ("readlink", "readlinkat")
 TRACED = (
-    *("open", "openat", "openat2", "creat", "execve", "execveat", "chdir", "fchdir"),
-    *("rename", "renameat", "renameat2", "link", "linkat", "symlink", "symlinkat"),
-    *("unlink", "unlinkat", "mknod", "mknodat"),
+    *(
+        "open",
+        "openat",
+        "openat2",
+        "creat",
+        "open_by_handle_at",
+        "execve",
+        "execveat",
+        "chdir",
+        "fchdir",
+    ),
+    *("rename", "renameat", "renameat2", "link", "linkat", "symlink", "symlinkat", *OF_LINKS),
+    *("unlink", "unlinkat", "mknod", "mknodat", "mkdir", "mkdirat", "rmdir"),
     *("truncate", "truncate64", "utime", "utimes", "utimensat", "utimensat_time64", "futimesat"),
+    *("chmod", "fchmod", "fchmodat", "fchmodat2", "chown", "lchown", "fchown", "fchownat"),
+    *("chown32", "lchown32", "fchown32"),
+    *("setxattr", "lsetxattr", "fsetxattr", "removexattr", "lremovexattr", "fremovexattr"),
+    *(
+        "chroot",
+        "pivot_root",
+        "mount",
+        "move_mount",
+        "umount2",
+        "unshare",
+        "setns",
+        "bind",
+        "connect",
+    ),
     *FORKS,
 )
+# What is traced besides where it is to be known at which names a recipe looked: each call with the
+# arguments that have the folder, if any, and the name. Calls among the others that fail look at
+# names too.
+LOOKS: dict[str, tuple[int | None, int]] = {
+    **dict.fromkeys(("stat", "lstat", "stat64", "lstat64", "access"), (None, 0)),
+    **dict.fromkeys(("newfstatat", "fstatat64", "statx", "faccessat", "faccessat2"), (0, 1)),
+}
+LOOKS_IN_VAIN: dict[str, tuple[int | None, int]] = {
+    **dict.fromkeys(("open", "execve", "chdir", "readlink", "unlink", "mkdir", "rmdir"), (None, 0)),
+    **dict.fromkeys(("openat", "openat2", "execveat", "readlinkat", "unlinkat", "mkdirat"), (0, 1)),
+}
 # Calls that do what another one does, with the same arguments up to the last ones.
 SAME = {
     "openat2": "openat",
     "renameat2": "renameat",
     "truncate64": "truncate",
     "utimensat_time64": "utimensat",
+    "fchmodat2": "fchmodat",
+    "chown32": "chown",
+    "lchown32": "lchown",
+    "fchown32": "fchown",
+    "removexattr": "setxattr",
+    "lremovexattr": "lsetxattr",
+    "fremovexattr": "fsetxattr",
+    "pivot_root": "chroot",
+    "mount": "chroot",
+    "move_mount": "chroot",
+    "umount2": "chroot",
 }
 
 LINE = re.compile(r"(\d+) +(.*)")
 BEGUN = re.compile(r"(\w+)\(")
-RESUMED = re.compile(r"<\.\.\. \w+ resumed>")
-SUPERSEDED = re.compile(r"\+\+\+ superseded by execve in pid (\d+) \+\+\+")
+RESUMED = re.compile(r"<\.\.\. (\w+) resumed>")
+ENDED = re.compile(r"\+\+\+ (?:exited with \d+|killed by \w+(?: \(core dumped\))?) \+\+\+$")
+SUPERSEDED = re.compile(r"\+\+\+ superseded by execve in pid (\d+) \+\+\+$")
+# Stops by a signal, and a note on programs for another processor.
+NOTE = re.compile(r"--- .* ---$|\[ .* \]$")
 UNFINISHED = " <unfinished ...>"
+# The end of a call that failed, was interrupted and begins anew, or never returned. Names can't
+# look like it: they stand in quotes or in `<>`, and what follows those in a call that succeeded is
+# none of this.
+FAILED = re.compile(
+    r"\) += (?:-1 E[A-Z0-9]+ \([^()]*\)(?: \(INJECTED\))?|\?(?: E[A-Z0-9_]+ \([^()]*\))?)$"
+)
+RESULT = re.compile(r"\s+= (?:0x[0-9a-f]+|-?\d+)")
 
 # A part of a call: a text in quotes, a path behind a descriptor, a bracket, a comma, or the rest.
 PART = re.compile(r'"(?:[^"\\]|\\.)*"(?:\.\.\.)?|<[^<>]*>|[(\[{]|[)\]}]|,|[^"<(\[{)\]},]+|.')
 DESCRIPTOR = re.compile(r"(?:AT_FDCWD|-?\d+)<([^<>]*)>")
 NUMBER = re.compile(r"-?\d+")
 ESCAPE = re.compile(rb"\\(x[0-9a-fA-F]{2}|[0-7]{1,3}|.)")
-LETTERS = {b"n": b"\n", b"t": b"\t", b"r": b"\r", b"v": b"\v", b"f": b"\f", b"a": b"\a", b"b": b"\b"}
-DELETED = " (deleted)"
+LETTERS = {
+    b"n": b"\n",
+    b"t": b"\t",
+    b"r": b"\r",
+    b"v": b"\v",
+    b"f": b"\f",
+    b"a": b"\a",
+    b"b": b"\b",
+}
 
 
 @dataclass(frozen=True)
 class Call:
-    """A call that succeeded. Its arguments and its result are as strace writes them.
+    """A call that succeeded, or one that failed. Its arguments and its result are as strace writes
+    them.
 
     A call that makes a process counts from its beginning, since the new process may be seen before
     the call has returned; any other counts from its end.
@@ -53,6 +120,7 @@ class Call:
     name: str
     arguments: tuple[str, ...]
     result: str
+    failed: bool = False
 
     @property
     def number(self) -> int:
@@ -61,54 +129,132 @@ class Call:
         return int(found.group()) if found else -1
 
 
-def read_calls(lines: Iterable[str]) -> list[Call]:
-    """The calls that succeeded, in order."""
-    return sorted(finished(lines), key=lambda call: call.order)
+@dataclass
+class Trace:
+    """What the lines of a trace tell, which are fed in their order.
 
+    `alive` has each process that was seen and hasn't ended, `ended` for each that has the line that
+    said so, and `programs` the program that a process started last, or its parent did before. A
+    line that strace wouldn't write is a fault, since it was cut. `looking` keeps calls that look in
+    vain, too.
+    """
 
-def finished(lines: Iterable[str]) -> Iterator[Call]:
-    """The calls that succeeded, as they return; one that another line interrupts is put together."""
-    pending: dict[int, tuple[int, str]] = {}
-    for order, line in enumerate(lines):
-        found = LINE.match(line)
-        if found is None:
-            continue
-        process, text = int(found.group(1)), found.group(2)
+    looking: bool = False
+    first: int | None = None
+    alive: set[int] = field(default_factory=set)
+    programs: dict[int, str] = field(default_factory=dict)
+    ended: dict[int, int] = field(default_factory=dict)
+    found: list[Call] = field(default_factory=list)
+    pending: dict[int, tuple[int, str]] = field(default_factory=dict)
+    lines: int = 0
+
+    def feed(self, line: str) -> None:
+        """Takes the next line."""
+        self.lines += 1
+        matched = LINE.match(line)
+        if matched is None:
+            raise cut(line)
+        process, text = int(matched.group(1)), matched.group(2)
+        if self.first is None:
+            self.first = process
+        if text.startswith("+++"):
+            self.end(process, text)
+        elif not NOTE.match(text):
+            self.alive.add(process)
+            self.take(process, text)
+
+    def end(self, process: int, text: str) -> None:
+        """A process ends.
+
+        Where a thread starts a program, its process goes on under the process's first number.
+        """
         superseded = SUPERSEDED.match(text)
         if superseded:
-            # Where a thread starts a program, its process goes on under the process's first number.
-            if int(superseded.group(1)) in pending:
-                pending[process] = pending.pop(int(superseded.group(1)))
-            continue
+            thread = int(superseded.group(1))
+            self.alive.discard(thread)
+            if thread in self.pending:
+                self.pending[process] = self.pending.pop(thread)
+        elif ENDED.match(text):
+            self.ended[process] = self.lines
+            self.alive.discard(process)
+            self.pending.pop(process, None)
+        else:
+            raise cut(text)
+
+    def take(self, process: int, text: str) -> None:
+        """A call, or a part of one."""
+        order = self.lines
         if text.endswith(UNFINISHED):
-            pending[process] = (order, text[: -len(UNFINISHED)])
-            continue
-        began, text = joined(pending, process, order, text)
-        call = call_of(began, order, process, text)
+            if process in self.pending or not BEGUN.match(text):
+                raise cut(text)
+            self.pending[process] = (order, text[: -len(UNFINISHED)])
+            return
+        resumed = RESUMED.match(text)
+        if resumed:
+            began, front = self.pending.pop(process, (order, ""))
+            if not front.startswith(resumed.group(1) + "("):
+                raise cut(text)
+            order, text = began, front + text[resumed.end() :]
+        call = call_of(order, self.lines, process, text)
         if call is not None:
-            yield call
+            self.keep(call)
+        elif self.looking:
+            name = BEGUN.match(text)
+            if name is not None and name.group(1) in (*LOOKS, *LOOKS_IN_VAIN):
+                arguments, _ = split(text, name.end())
+                self.found.append(
+                    Call(self.lines, process, name.group(1), tuple(arguments), "", True)
+                )
+
+    def keep(self, call: Call) -> None:
+        """Takes a call that succeeded."""
+        self.found.append(call)
+        if call.name in FORKS:
+            # The new process may have ended before the call returned.
+            if self.ended.get(call.number, -1) < call.order:
+                self.alive.add(call.number)
+            if call.process in self.programs:
+                self.programs.setdefault(call.number, self.programs[call.process])
+        elif call.name in ("execve", "execveat"):
+            self.programs[call.process] = text_of(call.arguments[call.name == "execveat"]) or ""
+
+    def calls(self) -> list[Call]:
+        """The calls that succeeded, in order."""
+        return sorted(self.found, key=lambda call: call.order)
+
+    def is_whole(self) -> bool:
+        """Whether all processes have ended, and there was one."""
+        return self.first is not None and not self.alive
 
 
-def joined(pending: dict[int, tuple[int, str]], process: int, order: int, text: str) -> tuple[int, str]:
-    """Where a call began, and its whole text, from a line that ends it."""
-    resumed = RESUMED.match(text)
-    if resumed is None:
-        return order, text
-    began, front = pending.pop(process, (order, ""))
-    return began, front + text[resumed.end() :]
+def cut(line: str) -> Fault:
+    """What is said of a line that isn't one."""
+    return Fault(
+        "strace wrote a line that can't be read, so the trace was cut, and nothing is recorded:"
+        f" {line[:200]}"
+    )
+
+
+def read_calls(lines: Iterable[str]) -> list[Call]:
+    """The calls of a trace that succeeded, in order."""
+    trace = Trace()
+    for line in lines:
+        trace.feed(line)
+    return trace.calls()
 
 
 def call_of(began: int, ended: int, process: int, text: str) -> Call | None:
-    """The call that a whole text tells, where it is one and succeeded."""
+    """The call that a whole text tells; none where it didn't succeed."""
     name = BEGUN.match(text)
-    if name is None or " = -1 E" in text or text.endswith("= ?"):
+    if name is None:
+        raise cut(text)
+    if text[-1] in ")?" and FAILED.search(text, max(0, len(text) - 160)):
         return None
     arguments, end = split(text, name.end())
-    _, equals, result = text[end:].partition("= ")
-    if not equals:
-        return None
+    if not RESULT.match(text, end):
+        raise cut(text)
     order = began if name.group(1) in FORKS else ended
-    return Call(order, process, name.group(1), tuple(arguments), result.strip())
+    return Call(order, process, name.group(1), tuple(arguments), text[end:].lstrip()[2:])
 
 
 def split(text: str, start: int) -> tuple[list[str], int]:
@@ -144,12 +290,13 @@ def path_of(argument: str) -> str | None:
     found = DESCRIPTOR.match(argument)
     if found is None or not found.group(1).startswith("/"):
         return None
-    path = unescaped(found.group(1))
-    return path[: -len(DELETED)] if path.endswith(DELETED) else path
+    return unescaped(found.group(1))
 
 
 def unescaped(text: str) -> str:
     """A text without strace's escapes."""
+    if "\\" not in text:
+        return text
     return os.fsdecode(ESCAPE.sub(byte_of, text.encode("utf-8", "surrogateescape")))
 
 

@@ -2,14 +2,15 @@
 
 from __future__ import annotations
 
+import re
 import shlex
 import shutil
 import stat
-import subprocess
+import tempfile
 from dataclasses import dataclass
 from pathlib import Path
 
-from . import tracing
+from . import places, tracing
 from .accesses import Accesses, Follower
 from .faults import Fault, RecipeFault
 from .folders import Naming
@@ -21,13 +22,15 @@ from .recording import Recorded, Workshop
 # Inside a traced command it is the plain shell, since a make that a recipe starts gets it too.
 SHELL_NAME = "shell"
 SHELL = """#!/bin/sh
-if [ -n "$MKCHECK_RECORD_TRACED" ]; then exec /bin/sh "$@"; fi
+if [ -n "$MKCHECK_RECORD_TRACED" ]; then exec {shell} "$@"; fi
 MKCHECK_RECORD_TRACED=1; export MKCHECK_RECORD_TRACED
 for text; do :; done
-printf '%s' "$text" > '{folder}'/$$.text
-echo $$ >> '{folder}'/order
-exec {strace} '{folder}'/$$.trace /bin/sh "$@"
+printf '%s' "$text" > {folder}/$$.text
+echo $$ >> {folder}/order
+exec {strace} {folder}/$$.trace {shell} "$@"
 """
+# make takes the name of a shell apart at blanks and the like.
+PLAIN = re.compile(r"[A-Za-z0-9/._+-]+")
 
 
 @dataclass(frozen=True)
@@ -44,55 +47,68 @@ def compare_again(first: Recorded, second: Recorded, warn: Warn) -> None:
         for name in [*one, *(name for name in two if name not in one)]:
             if one.get(name) != two.get(name):
                 target = footprint.recipe.target
-                warn(f"{name} differs in a second run: the recipe of {target} isn't a function of what it reads")
+                warn(
+                    f"{name} differs in a second run: the recipe of {target} isn't a function of"
+                    " what it reads"
+                )
 
 
-def compare_make(shop: Workshop, words: list[str], recorded: Recorded, fixed: tuple[str, ...], warn: Warn) -> None:
-    """Lets make run the recipes on a copy of its own, and warns of each read and writing that differs."""
-    disk = shop.set_up()
-    made = run_make(shop, words)
-    naming = Naming(shop.place, fixed)
-    commands = assigned([footprint.recipe for footprint in recorded.footprints], made, warn)
-    for footprint in recorded.footprints:
-        accesses = Accesses(disk)
-        if len(commands[footprint.recipe.target]) != len(footprint.recipe.commands):
-            continue
-        for traced in commands[footprint.recipe.target]:
-            Follower(accesses, shop.place).follow(tracing.read_trace(traced.trace))
-            # A make that the recipe starts gets the shell of this one, which is none of the project's files.
-            accesses.reads.pop(str(traced.trace.parent / SHELL_NAME), None)
-        other = footprint_of(footprint.recipe, accesses, naming, lambda _: None)
-        differences(footprint, other, warn)
-
-
-def run_make(shop: Workshop, words: list[str]) -> list[Traced]:
-    """Runs make, and tells the commands that it ran, in their order."""
+def compare_make(
+    shop: Workshop, words: list[str], recorded: Recorded, fixed: tuple[str, ...], warn: Warn
+) -> None:
+    """Lets make run the recipes on another copy, and warns of reads and writings that differ."""
     if shutil.which("make") is None:
         raise Fault("make isn't there, which --make lets run the recipes")
-    traces = Path(shop.scratch, "traces")
-    traces.mkdir()
-    shell = traces / SHELL_NAME
-    shell.write_text(SHELL.format(folder=traces, strace=shlex.join(tracing.strace())))
+    tree = shop.set_up()
+    above = shop.scratch if PLAIN.fullmatch(shop.scratch) else "/tmp"
+    with tempfile.TemporaryDirectory(prefix="mkcheck-record-", dir=above) as traces:
+        made = run_make(shop, words, traces, shell_of(recorded))
+        naming = Naming(shop.place.seen, fixed)
+        commands = assigned([footprint.recipe for footprint in recorded.footprints], made, warn)
+        for footprint in recorded.footprints:
+            accesses = Accesses(tree)
+            if len(commands[footprint.recipe.target]) != len(footprint.recipe.commands):
+                continue
+            for traced in commands[footprint.recipe.target]:
+                Follower(accesses, shop.place.seen).follow(tracing.read_trace(traced.trace))
+                # A make that the recipe starts gets the shell of this one, which is none of the
+                # project's files.
+                accesses.reads.pop(str(traced.trace.parent / SHELL_NAME), None)
+            accesses.servers.clear()
+            other = footprint_of(footprint.recipe, accesses, naming, lambda _: None)
+            differences(footprint, other, warn)
+
+
+def run_make(shop: Workshop, words: list[str], traces: str, own: str) -> list[Traced]:
+    """Runs make by a shell that traces and then is `own`; returns its commands in order."""
+    shell = Path(traces, SHELL_NAME)
+    text = SHELL.format(
+        folder=shlex.quote(traces),
+        strace=shlex.join(tracing.strace()),
+        shell=shlex.join(own.split()),
+    )
+    shell.write_text(text)
     shell.chmod(shell.stat().st_mode | stat.S_IXUSR)
     # By its bare name, since that is then the value of MAKE, as it is in mkcheck's default text.
-    done = subprocess.run(
-        ["make", f"SHELL={shell}", *words],
-        cwd=shop.place,
-        env=tracing.environment(shop.place, {}),
-        stdin=subprocess.DEVNULL,
-        stdout=subprocess.PIPE,
-        stderr=subprocess.STDOUT,
-        check=False,
-    )
-    if done.returncode != 0:
-        raise RecipeFault(f"make failed, status {done.returncode}\n{done.stdout.decode('utf-8', 'replace')}".rstrip())
-    order = traces / "order"
+    given = tracing.environment(shop.place, {})
+    done = places.run(["make", f"SHELL={shell}", *words], shop.place, given)
+    if done.status != 0:
+        raise RecipeFault(f"make failed, status {done.status}\n{done.output}".rstrip())
+    order = Path(traces, "order")
     numbers = order.read_text().split() if order.exists() else []
-    return [Traced((traces / f"{number}.text").read_text(), traces / f"{number}.trace") for number in numbers]
+    return [
+        Traced(Path(traces, f"{number}.text").read_text(), Path(traces, f"{number}.trace"))
+        for number in numbers
+    ]
+
+
+def shell_of(recorded: Recorded) -> str:
+    """The shell by which the recipes were run."""
+    return next((footprint.recipe.shell for footprint in recorded.footprints), "/bin/sh")
 
 
 def assigned(recipes: list[Recipe], made: list[Traced], warn: Warn) -> dict[str, list[Traced]]:
-    """The commands that make ran, by the recipes whose commands they are: of equal ones the first that waits."""
+    """The commands that make ran, by their recipes; of equal ones the first that waits."""
     waiting: dict[str, list[str]] = {}
     for recipe in recipes:
         for command in recipe.commands:
@@ -118,7 +134,10 @@ def plain(text: str) -> str:
 def differences(own: Footprint, other: Footprint, warn: Warn) -> None:
     """Warns of what only one of two footprints has."""
     target = own.recipe.target
-    for verb, ours, theirs in (("reads", own.reads, other.reads), ("writes", own.writes, other.writes)):
+    for verb, ours, theirs in (
+        ("reads", own.reads, other.reads),
+        ("writes", own.writes, other.writes),
+    ):
         for name in (name for name in ours if name not in set(theirs)):
             warn(f"{target} {verb} {name}, but not when make runs it")
         for name in (name for name in theirs if name not in set(ours)):

@@ -2,18 +2,26 @@
 
 from __future__ import annotations
 
+import contextlib
+import fcntl
 import os
 import shutil
-from collections.abc import Callable
-from dataclasses import dataclass
+import stat
+import tempfile
+from collections.abc import Iterator
+from dataclasses import dataclass, field
 
 from .faults import Fault
 
 # Where programs and libraries of the system lie.
 SYSTEM = ("/usr/", "/lib/", "/lib64/", "/bin/", "/etc/", "/opt/")
-# What lies here is no file, or none that lasts.
-UNWRITTEN = ("/proc/", "/sys/", "/dev/")
+# What lies here is no file, or none that lasts, unless it is the project's own.
+UNWRITTEN = ("/proc/", "/sys/")
 NAME_AT_MOST = 4096
+# Where a copy may lie, if the folder for temporary files is the project's own.
+OTHER_PLACES = ("/tmp", "/var/tmp", "/dev/shm")
+CLONE = 0x40049409
+PIECE = 1 << 20
 
 
 @dataclass(frozen=True)
@@ -52,7 +60,11 @@ def is_plain_path(name: str) -> bool:
     parts = name.removeprefix("/").split("/")
     if "" in parts or "." in parts:
         return False
-    ups = 0 if name.startswith("/") else next((at for at, part in enumerate(parts) if part != ".."), len(parts))
+    ups = (
+        0
+        if name.startswith("/")
+        else next((at for at, part in enumerate(parts) if part != ".."), len(parts))
+    )
     return ".." not in parts[ups:]
 
 
@@ -65,20 +77,48 @@ def prefix_of(asked: str) -> str:
 
 
 def files_in(root: str) -> list[str]:
-    """The names of the files in a folder, sorted, those behind links to other folders of it too."""
-    found: list[str] = []
-    waiting = [("", (root,))]
+    """The names of the files in a folder, sorted. Each folder is read once.
+
+    Those behind a link to another folder of it are listed by that name too, but for those behind a
+    second link.
+    """
+    found: dict[str, list[str]] = {}
+    links: list[tuple[str, str]] = []
+    waiting = [""]
     while waiting:
-        front, above = waiting.pop()
-        for entry in os.scandir(os.path.join(root, front)):
+        front = waiting.pop()
+        found[front] = []
+        for entry in entries_of(os.path.join(root, front)):
             name = os.path.join(front, entry.name)
-            if not entry.is_dir():
-                found.append(name)
-                continue
-            real = os.path.realpath(entry.path)
-            if real not in above and (not entry.is_symlink() or real.startswith(root + "/")):
-                waiting.append((name, (*above, real)))
-    return sorted(found)
+            if entry.is_dir(follow_symlinks=False):
+                waiting.append(name)
+            elif entry.is_symlink() and entry.is_dir():
+                links.append((name, os.path.realpath(entry.path)))
+            else:
+                found[front].append(name)
+    names = [name for inside in found.values() for name in inside]
+    for link, goal in links:
+        front = os.path.relpath(goal, root) if goal != root else ""
+        if front in found and not front.startswith(".."):
+            names += behind(link, front, found)
+    return sorted(names)
+
+
+def entries_of(folder: str) -> list[os.DirEntry[str]]:
+    """What a folder holds; nothing where it can't be read."""
+    try:
+        with os.scandir(folder) as entries:
+            return list(entries)
+    except OSError:
+        return []
+
+
+def behind(link: str, goal: str, found: dict[str, list[str]]) -> Iterator[str]:
+    """The files of a folder by names that go over a link to it."""
+    start = goal + "/" if goal else ""
+    for folder, names in found.items():
+        if folder == goal or folder.startswith(start):
+            yield from (os.path.join(link, name[len(start) :]) for name in names)
 
 
 def sources_in(root: str, naming: Naming) -> list[str]:
@@ -86,44 +126,153 @@ def sources_in(root: str, naming: Naming) -> list[str]:
     return [
         name
         for name in files_in(root)
-        if is_plain_path(name) and not naming.is_fixed(name) and os.path.isfile(os.path.join(root, name))
+        if is_plain_path(name)
+        and not naming.is_fixed(name)
+        and os.path.isfile(os.path.join(root, name))
     ]
 
 
-def copy(root: str, goal: str, targets: frozenset[str]) -> None:
-    """Copies a folder afresh, without what recipes are to make."""
-    shutil.rmtree(goal, ignore_errors=True)
-    left_out = {os.path.join(root, target) for target in targets}
-    above = os.path.dirname(goal)
+def copy(root: str, goal: str, targets: frozenset[str]) -> list[str]:
+    """Copies a folder afresh, without what recipes are to make.
 
-    def unwanted(folder: str, names: list[str]) -> set[str]:
-        paths = {name: os.path.join(folder, name) for name in names}
-        return {name for name, path in paths.items() if path == above or is_left_out(path, left_out)}
-
-    shutil.copytree(root, goal, symlinks=True, ignore=unwanted, copy_function=copier())
-
-
-def copier() -> Callable[[str, str], str]:
-    """Copies one file after another. Those that are one file by several names are so in the copy too."""
-    copied: dict[tuple[int, int], str] = {}
-
-    def copy_file(path: str, goal: str) -> str:
-        status = os.lstat(path)
-        first = copied.setdefault((status.st_dev, status.st_ino), goal)
-        if first == goal:
-            return shutil.copy2(path, goal)
-        os.link(first, goal)
-        return goal
-
-    return copy_file
+    Returns the names of what it had to leave out.
+    """
+    remove(goal)
+    copier = Copier(frozenset(os.path.join(root, target) for target in targets))
+    try:
+        copier.folder(root, goal)
+    except OSError as error:
+        raise Fault(
+            f"the folder can't be copied to {goal}: {error.strerror}; TMPDIR names where copies lie"
+        ) from None
+    return [os.path.relpath(path, root) for path in copier.passed]
 
 
-def is_left_out(path: str, left_out: set[str]) -> bool:
-    """Whether a copy goes without this path: a target, a folder only where nothing else is in it; a device."""
-    if os.path.islink(path) or os.path.isfile(path):
-        return path in left_out
-    if not os.path.isdir(path):
-        return True
+@dataclass
+class Copier:
+    """Copies one file after another.
+
+    Those that are one file by several names are so in the copy too.
+    """
+
+    left_out: frozenset[str]
+    copied: dict[tuple[int, int], str] = field(default_factory=dict)
+    passed: list[str] = field(default_factory=list)
+
+    def folder(self, path: str, goal: str) -> None:
+        """Copies a folder. Its own mode comes last, since it may forbid to write in it."""
+        os.mkdir(goal)
+        try:
+            with os.scandir(path) as found:
+                entries = list(found)
+        except PermissionError:
+            self.passed.append(path)
+            entries = []
+        for entry in entries:
+            if not is_left_out(entry.path, self.left_out):
+                self.entry(entry, os.path.join(goal, entry.name))
+        shutil.copystat(path, goal)
+
+    def entry(self, entry: os.DirEntry[str], goal: str) -> None:
+        """Copies what stands at a path itself."""
+        status = entry.stat(follow_symlinks=False)
+        if stat.S_ISDIR(status.st_mode):
+            self.folder(entry.path, goal)
+        elif stat.S_ISLNK(status.st_mode):
+            os.symlink(os.readlink(entry.path), goal)
+            shutil.copystat(entry.path, goal, follow_symlinks=False)
+        elif not stat.S_ISREG(status.st_mode):
+            self.passed.append(entry.path)
+        elif (status.st_dev, status.st_ino) in self.copied:
+            os.link(self.copied[status.st_dev, status.st_ino], goal)
+        else:
+            self.file(entry.path, goal, status)
+
+    def file(self, path: str, goal: str, status: os.stat_result) -> None:
+        """Copies a file, whose holes stay holes."""
+        try:
+            source = open(path, "rb")
+        except PermissionError:
+            self.passed.append(path)
+            return
+        with source, open(goal, "wb") as copied:
+            pour(source.fileno(), copied.fileno(), status.st_size)
+        shutil.copystat(path, goal)
+        self.copied[status.st_dev, status.st_ino] = goal
+
+
+def pour(source: int, goal: int, size: int) -> None:
+    """Copies what a file holds: by the file system at once where it can, else from data to data."""
+    with contextlib.suppress(OSError):
+        fcntl.ioctl(goal, CLONE, source)
+        return
+    at = 0
+    while at < size:
+        try:
+            at = os.lseek(source, at, os.SEEK_DATA)
+        except OSError:
+            break
+        end = os.lseek(source, at, os.SEEK_HOLE)
+        os.lseek(source, at, os.SEEK_SET)
+        os.lseek(goal, at, os.SEEK_SET)
+        while at < end:
+            piece = os.read(source, min(PIECE, end - at))
+            if not piece:
+                return
+            at += len(piece)
+            while piece:
+                piece = piece[os.write(goal, piece) :]
+    os.ftruncate(goal, size)
+
+
+def remove(folder: str) -> None:
+    """Takes a folder away with all that is in it, also where it may not be written in."""
+    for path, folders, _ in os.walk(folder):
+        for name in folders:
+            inner = os.path.join(path, name)
+            if not os.path.islink(inner):
+                with contextlib.suppress(OSError):
+                    os.chmod(inner, 0o700)
+    shutil.rmtree(folder, ignore_errors=True)
+
+
+@contextlib.contextmanager
+def scratch_folder(project: str) -> Iterator[str]:
+    """A folder for a recording, that is gone at the end.
+
+    It lies outside the project, which is mounted over.
+    """
+    asked = (tempfile.gettempdir(), *OTHER_PLACES)
+    places = [place for place in asked if is_outside(place, project)]
+    # Programs that recipes make have to start there.
+    above = next((place for place in places if not os.statvfs(place).f_flag & os.ST_NOEXEC), None)
+    above = above or next(iter(places), None)
+    if above is None:
+        raise Fault(
+            "there is no folder for temporary files outside the project's: set TMPDIR to one"
+        )
+    scratch = os.path.realpath(tempfile.mkdtemp(prefix="mkcheck-record-", dir=above))
+    try:
+        yield scratch
+    finally:
+        remove(scratch)
+
+
+def is_outside(place: str, project: str) -> bool:
+    """Whether a folder can be written to, and lies outside of another one."""
+    real = os.path.realpath(place)
+    inside = real == project or real.startswith(project + "/")
+    return not inside and os.path.isdir(real) and os.access(real, os.W_OK | os.X_OK)
+
+
+def is_left_out(path: str, left_out: frozenset[str]) -> bool:
+    """Whether a copy omits this path: a target, and a folder only if nothing else is in it."""
     if path not in left_out:
         return False
-    return all(os.path.join(folder, name) in left_out for folder, _, names in os.walk(path) for name in names)
+    if os.path.islink(path) or not os.path.isdir(path):
+        return True
+    return all(
+        os.path.join(folder, name) in left_out
+        for folder, _, names in os.walk(path)
+        for name in names
+    )

@@ -5,24 +5,37 @@ from __future__ import annotations
 import os
 import stat
 from collections.abc import Callable, Iterable, Iterator
-from dataclasses import dataclass
+from dataclasses import dataclass, field
 
 from .accesses import Accesses
 from .faults import RecipeFault
 from .folders import UNWRITTEN, Naming, is_plain_path
 from .graphs import Recipe
+from .trees import Tree
 
 Warn = Callable[[str], None]
 TOLD_AT_MOST = 10
+# Clocks of file systems go on in steps, of some milliseconds or of two seconds.
+STAMPS_APART = 2.5
 
 
 @dataclass(frozen=True)
 class Footprint:
-    """The names that a recipe reads, and those that it leaves written, in the order of their first use."""
+    """The names that a recipe reads, and those that it leaves written, in the order of their first
+    use.
+
+    `scratch` has the files and folders of the project's folder that it made or took away and that
+    are gone when it has ended. Those of them that stand in `writes` too are shared with other
+    recipes. `links` has the symbolic links of the project that no recipe made and that it went
+    over.
+    """
 
     recipe: Recipe
     reads: list[str]
     writes: list[str]
+    scratch: frozenset[str] = frozenset()
+    lost: frozenset[str] = frozenset()
+    links: list[str] = field(default_factory=list)
 
     def record(self) -> dict[str, object]:
         """The record of format 1."""
@@ -30,61 +43,82 @@ class Footprint:
         return {"target": target, "commands": commands, "reads": self.reads, "writes": self.writes}
 
 
-def kind_of(path: str) -> int:
+def kind_of(tree: Tree, path: str) -> int:
     """The kind of what stands at a path itself; 0 where nothing does."""
-    try:
-        return stat.S_IFMT(os.lstat(path).st_mode)
-    except OSError:
-        return 0
+    status = tree.status(path)
+    return 0 if status is None else stat.S_IFMT(status.st_mode)
 
 
-def file_of(path: str) -> tuple[int, int] | None:
+def file_of(tree: Tree, path: str) -> tuple[int, int] | None:
     """Which file stands at a path itself, where it has other names too."""
-    try:
-        status = os.lstat(path)
-    except OSError:
-        return None
-    return (status.st_dev, status.st_ino) if status.st_nlink > 1 else None
+    status = tree.status(path)
+    return None if status is None or status.st_nlink < 2 else (status.st_dev, status.st_ino)
 
 
-def left(paths: Iterable[str]) -> Iterator[str]:
+def left(tree: Tree, paths: Iterable[str]) -> Iterator[str]:
     """The files and links among these that are there."""
     for path in paths:
-        if not path.startswith(UNWRITTEN) and kind_of(path) in (stat.S_IFREG, stat.S_IFLNK):
+        unwritten = path.startswith(UNWRITTEN) and not tree.has(path)
+        if not unwritten and kind_of(tree, path) in (stat.S_IFREG, stat.S_IFLNK):
             yield path
 
 
-def within(paths: Iterable[str]) -> Iterator[str]:
+def within(tree: Tree, paths: Iterable[str]) -> Iterator[str]:
     """What is in these folders, however deep."""
     for path in paths:
-        if kind_of(path) == stat.S_IFDIR:
-            yield from sorted(os.path.join(folder, name) for folder, _, names in os.walk(path) for name in names)
+        if kind_of(tree, path) == stat.S_IFDIR:
+            real = tree.place.real(path)
+            yield from sorted(
+                path + os.path.join(folder, name)[len(real) :]
+                for folder, _, names in os.walk(real)
+                for name in names
+            )
 
 
 def footprint_of(recipe: Recipe, accesses: Accesses, naming: Naming, warn: Warn) -> Footprint:
-    """The footprint, when the recipe has ended. Each file needs a name."""
-    read = list(left(accesses.reads))
-    written = list(dict.fromkeys(left([*accesses.writes, *within(accesses.moved)])))
-    nameless = [f"reads {path}" for path in read if not has_name(path, naming)]
-    nameless += [f"writes {path}" for path in written if not has_name(path, naming)]
-    if nameless:
-        raise RecipeFault(outside(recipe, nameless))
-    for path in lost(accesses):
-        warn(f"the recipe of {recipe.target} takes away {naming.name(path) or path}, which it didn't make")
-    accesses.disk.there.difference_update(accesses.removed)
-    accesses.disk.there.update(written)
+    """The footprint, when the recipe has ended.
+
+    Each file needs a name. The tree then is as the recipe left it.
+    """
+    tree = accesses.tree
+    lost = [path for path in accesses.lost if tree.status(path) is None]
+    there = {*left(tree, accesses.reads), *lost}
+    read = [path for path in accesses.reads if path in there and not is_needless(path, naming)]
+    written = list(dict.fromkeys(left(tree, [*accesses.writes, *within(tree, accesses.moved)])))
+    refuse_nameless(recipe, read, written, naming)
+    for path in lost:
+        warn(
+            f"the recipe of {recipe.target} takes away {naming.name(path) or path}, which it didn't"
+            " make"
+        )
+    here = set(written)
+    gone = [
+        path
+        for path in [*accesses.touched, *accesses.folders]
+        if tree.has(path) and path not in here
+    ]
+    gone = [
+        path
+        for path in gone
+        if kind_of(tree, path) not in (stat.S_IFREG, stat.S_IFLNK, stat.S_IFDIR)
+    ]
+    for path in [*accesses.touched, *written]:
+        tree.refresh(path)
     warn_of_links(recipe, accesses, naming, warn)
-    for path in dict.fromkeys(path for path in [*read, *written] if path.startswith(naming.root + "/")):
-        warn_of_twins(recipe, accesses, naming, path, warn)
-    return Footprint(recipe, named(read, naming), named(written, naming))
-
-
-def lost(accesses: Accesses) -> list[str]:
-    """The files that were there when the recipe began, and that it took away, by themselves or with a folder."""
-    gone = [path for path in accesses.removed if not os.path.lexists(path)]
-    folders = tuple(path + "/" for path in gone if path not in accesses.disk.there)
-    others = sorted(path for path in accesses.disk.there if path.startswith(folders) and not os.path.lexists(path))
-    return [*(path for path in gone if path in accesses.disk.there), *others]
+    for path in dict.fromkeys(path for path in [*read, *written] if tree.has(path)):
+        warn_of_twins(recipe, tree, naming, path, warn)
+    for server in accesses.servers:
+        warn(
+            f"the recipe of {recipe.target} asks {server}: what that does or answers isn't recorded"
+        )
+    return Footprint(
+        recipe,
+        named(read, naming),
+        named(written, naming),
+        frozenset(named(gone, naming)),
+        frozenset(named(lost, naming)),
+        named(accesses.over, naming),
+    )
 
 
 def has_name(path: str, naming: Naming) -> bool:
@@ -93,39 +127,110 @@ def has_name(path: str, naming: Naming) -> bool:
     return name is not None and is_plain_path(name)
 
 
+def is_needless(path: str, naming: Naming) -> bool:
+    """Whether a read needs no name, since it never changes and can't have one."""
+    name = naming.name(path)
+    return name is not None and naming.is_fixed(name) and not is_plain_path(name)
+
+
 def named(paths: Iterable[str], naming: Naming) -> list[str]:
-    """The names of these files."""
-    return list(dict.fromkeys(name for path in paths if (name := naming.name(path)) is not None))
+    """The names of these files, of those that have one."""
+    names = (name for path in paths if (name := naming.name(path)) is not None)
+    return list(dict.fromkeys(name for name in names if is_plain_path(name)))
 
 
-def outside(recipe: Recipe, nameless: list[str]) -> str:
-    """What is said of files that no footprint can name."""
-    more = len(nameless) - TOLD_AT_MOST
-    return "\n".join(
-        [
-            f"the recipe of {recipe.target} uses files that are neither in the folder nor under a fixed prefix,"
-            " or have no plain name; --fixed PREFIX takes what lies under PREFIX as fixed",
-            *(f"\t{recipe.target} {line}" for line in nameless[:TOLD_AT_MOST]),
-            *([f"\tand {more} more"] if more > 0 else []),
-        ]
+def refuse_nameless(recipe: Recipe, read: list[str], written: list[str], naming: Naming) -> None:
+    """Refuses files that no footprint can name, and says for each what helps."""
+    nameless = [("reads", path) for path in read] + [("writes", path) for path in written]
+    nameless = [(verb, path) for verb, path in nameless if not has_name(path, naming)]
+    if not nameless:
+        return
+    told: dict[str, list[str]] = {}
+    for verb, path in nameless:
+        told.setdefault(what_helps(verb, path, naming), []).append(
+            f"\t{recipe.target} {verb} {shown(path)}"
+        )
+    lines: list[str] = []
+    for text, names in told.items():
+        more = len(names) - TOLD_AT_MOST
+        lines += [f"the recipe of {recipe.target} {text}", *names[:TOLD_AT_MOST]]
+        lines += [f"\tand {more} more"] if more > 0 else []
+    raise RecipeFault("\n".join(lines))
+
+
+def what_helps(verb: str, path: str, naming: Naming) -> str:
+    """What is said of a file that has no name."""
+    if naming.name(path) is not None:
+        return (
+            f"{verb} files whose names footprints can't hold, for a blank, a control character or a"
+            " byte that isn't UTF-8: give them other names"
+        )
+    if verb == "writes":
+        return (
+            "writes files outside the folder, which no footprint can name: let it write into the"
+            " folder, or leave it out"
+        )
+    above = os.path.dirname(naming.root)
+    if above != "/" and path.startswith(above + "/"):
+        return (
+            "reads files above the folder: record from the folder that holds both, where a makefile"
+            " there builds this one, or give --fixed PREFIX where they never change"
+        )
+    return (
+        "reads files that are neither in the folder nor under a fixed prefix: give --fixed PREFIX"
+        " where they never change, else copy them into the folder"
     )
+
+
+def shown(path: str) -> str:
+    """A path that can be printed."""
+    text = path.encode("utf-8", "surrogateescape").decode("utf-8", "backslashreplace")
+    return text if text.isprintable() else ascii(text)[1:-1]
 
 
 def warn_of_links(recipe: Recipe, accesses: Accesses, naming: Naming, warn: Warn) -> None:
     """A file that is reached over a symbolic link in the folder is told with both names."""
-    for name, (links, real) in accesses.aliases.items():
-        if any(link.startswith(naming.root + "/") for link in links) and kind_of(real) == stat.S_IFREG:
-            first, second = naming.name(name) or name, naming.name(real) or real
-            warn(f"the recipe of {recipe.target} reaches {second} as {first} too, over a symbolic link")
+    tree = accesses.tree
+    for alias in accesses.aliases.values():
+        if (
+            any(tree.has(link) for link in alias.links)
+            and kind_of(tree, alias.real) == stat.S_IFREG
+        ):
+            first, second = (
+                naming.name(alias.name) or alias.name,
+                naming.name(alias.real) or alias.real,
+            )
+            warn(
+                f"the recipe of {recipe.target} reaches {second} as {first} too, over a symbolic"
+                " link"
+            )
 
 
-def warn_of_twins(recipe: Recipe, accesses: Accesses, naming: Naming, path: str, warn: Warn) -> None:
-    """A file of several names, hard links, is told with two that are used, be it by two recipes; each name once."""
-    file = file_of(path)
+def warn_of_stamps(footprint: Footprint, accesses: Accesses, begun: float, warn: Warn) -> None:
+    """A file to which a recipe gave an older stamp than its own begin is told."""
+    tree = accesses.tree
+    for name in footprint.writes:
+        path = os.path.join(tree.root, name)
+        status = tree.status(path) if path in accesses.stamped else None
+        if (
+            status is not None
+            and stat.S_ISREG(status.st_mode)
+            and status.st_mtime < begun - STAMPS_APART
+        ):
+            warn(
+                f"the recipe of {footprint.recipe.target} gives {name} an old stamp, as cp -p,"
+                " touch -d and tar do: make takes it for older than what it was made from; let the"
+                " recipe touch it"
+            )
+
+
+def warn_of_twins(recipe: Recipe, tree: Tree, naming: Naming, path: str, warn: Warn) -> None:
+    """Warns of a file that is used by two names, hard links; of each name once."""
+    file = file_of(tree, path)
     if file is None:
         return
-    users = accesses.disk.users.setdefault(file, {})
-    other = next((other for other in users if other != path and file_of(other) == file), None)
+    users = tree.users.setdefault(file, {})
+    other = next((other for other in users if other != path and file_of(tree, other) == file), None)
     if path not in users and other is not None:
         name, other_name, target = naming.name(path), naming.name(other), users[other]
         own = f"the recipe of {recipe.target} uses"

@@ -6,12 +6,28 @@ import json
 import os
 import shutil
 import subprocess
+from collections.abc import Iterable
 from dataclasses import dataclass, field
 from pathlib import Path
 
 from .faults import Fault
+from .folders import is_plain_path
 
 PREFIXES = "@-+ \t"
+NO_RULE = "refused 41 "
+
+
+class Refused(Fault):
+    """mkcheck refused the makefile, by these words."""
+
+    def __init__(self, said: str) -> None:
+        super().__init__(f"mkcheck graph: {said}")
+        self.said = said
+
+    @property
+    def missing(self) -> str | None:
+        """The name that no rule makes and that is no source, where that was the reason."""
+        return self.said[len(NO_RULE) :] if self.said.startswith(NO_RULE) else None
 
 
 @dataclass(frozen=True)
@@ -20,44 +36,90 @@ class Command:
 
     text: str
     ignored: bool
+    shell: str = "/bin/sh"
 
     @classmethod
-    def of(cls, line: str) -> Command:
+    def of(cls, line: str, shell: str = "/bin/sh") -> Command:
         """The command that a line of a recipe gives."""
         text = line.lstrip(PREFIXES)
-        return cls(text, "-" in line[: len(line) - len(text)])
+        return cls(text, "-" in line[: len(line) - len(text)], shell)
 
     @property
     def words(self) -> list[str]:
-        """The words by which the shell is started."""
-        return ["/bin/sh", "-c" if self.ignored else "-ec", self.text]
+        """The words by which the shell is started, which may have words of its own."""
+        return [*self.shell.split(), "-c" if self.ignored else "-ec", self.text]
 
 
 @dataclass(frozen=True)
 class Recipe:
-    """A target with its lines as mkcheck shows them."""
+    """A target with its lines as mkcheck shows them, and the shell that runs them."""
 
     target: str
     lines: list[str] = field(default_factory=list)
+    shell: str = "/bin/sh"
 
     @property
     def commands(self) -> list[Command]:
         """What is to be run: lines of prefixes alone are passed over."""
-        return [command for command in map(Command.of, self.lines) if command.text.strip()]
+        commands = (Command.of(line, self.shell) for line in self.lines)
+        return [command for command in commands if command.text.strip()]
+
+
+@dataclass
+class Ancestors:
+    """For each name those that are always made before it: its prerequisites, theirs, and so on.
+
+    Each name has a bit, and the bits of its ancestors.
+    """
+
+    bits: dict[str, int] = field(default_factory=dict)
+    above: dict[str, int] = field(default_factory=dict)
+
+    def add(self, name: str, prerequisites: Iterable[str]) -> None:
+        """A name whose prerequisites were added before it."""
+        self.bits[name] = 1 << len(self.bits)
+        self.above[name] = 0
+        for other in prerequisites:
+            self.above[name] |= self.bits.get(other, 0) | self.above.get(other, 0)
+
+    def any_before(self, others: Iterable[str], name: str) -> bool:
+        """Whether one of these is always made before a name."""
+        above = self.above.get(name, 0)
+        return any(above & self.bits.get(other, 0) for other in others)
 
 
 @dataclass(frozen=True)
 class Graph:
-    """The names of a graph in serial order, its recipes, and the whole text."""
+    """The names of a graph in serial order, its recipes, the whole text, its goals, each name's
+    prerequisites, and the phony names."""
 
     names: list[str]
     recipes: list[Recipe]
     text: str
+    goals: list[str] = field(default_factory=list)
+    prerequisites: dict[str, list[str]] = field(default_factory=dict)
+    phony: frozenset[str] = frozenset()
 
     @property
     def targets(self) -> frozenset[str]:
         """The names that have recipes."""
         return frozenset(recipe.target for recipe in self.recipes)
+
+    @property
+    def once(self) -> frozenset[str]:
+        """The targets that no make makes again while they are there."""
+        return frozenset(
+            name
+            for name in self.targets
+            if name not in self.phony and not self.prerequisites.get(name)
+        )
+
+    def ancestors(self) -> Ancestors:
+        """What is always made before what."""
+        found = Ancestors()
+        for name in self.names:
+            found.add(name, self.prerequisites.get(name, []))
+        return found
 
 
 @dataclass(frozen=True)
@@ -72,16 +134,58 @@ class Checker:
     def graph(self, fixed: list[str], sources: list[str], scratch: str) -> Graph:
         """The graph, where these are the fixed prefixes and the sources."""
         book = Path(scratch, "book.json")
-        book.write_text(json.dumps({"format": 1, "fixed": fixed, "sources": sources, "records": []}))
+        book.write_text(
+            json.dumps({"format": 1, "fixed": fixed, "sources": sources, "records": []})
+        )
         command = [self.program, "graph", "-c", "-b", str(book), *self.options, "--", *self.words]
-        done = subprocess.run(command, cwd=self.folder, stdin=subprocess.DEVNULL, capture_output=True, check=False)
+        done = subprocess.run(
+            command, cwd=self.folder, stdin=subprocess.DEVNULL, capture_output=True, check=False
+        )
         if done.returncode != 0:
-            said = (done.stdout + done.stderr).decode("utf-8", "replace").strip()
-            raise Fault(f"mkcheck graph: {said}")
+            said = (done.stdout.strip() or done.stderr).decode("utf-8", "replace").strip()
+            raise Refused(said)
         try:
             return read_graph(done.stdout.decode("utf-8"))
         except UnicodeDecodeError:
             raise Fault("a command holds bytes that aren't UTF-8: footprints can't") from None
+
+
+def asked_graph(
+    checker: Checker, fixed: list[str], files: list[str], scratch: str
+) -> tuple[list[str], Graph]:
+    """The files that may be sources, and the graph over them.
+
+    A file that is reached over more links than one isn't listed yet: where mkcheck asks for it, its
+    folder is.
+    """
+    while True:
+        try:
+            return files, checker.graph(fixed, files, scratch)
+        except Refused as refused:
+            name = refused.missing
+            path = os.path.join(checker.folder, name or "")
+            if name is None:
+                raise
+            if not os.path.isfile(path) or name in files:
+                raise Fault(f"{refused}: {why_missing(name, path)}") from None
+            front = os.path.dirname(name)
+            beside = (os.path.join(front, other) for other in os.listdir(os.path.dirname(path)))
+            more = {
+                other for other in beside if os.path.isfile(os.path.join(checker.folder, other))
+            }
+            files = sorted({*files, name, *filter(is_plain_path, more)})
+
+
+def why_missing(name: str, path: str) -> str:
+    """What is said of a name that no rule makes and that is no source."""
+    if os.path.isdir(path):
+        return (
+            f"{name} is a folder, and footprints have files alone; name a file in it, or let each"
+            f" recipe that needs the folder make it (mkdir -p {name})"
+        )
+    if os.path.lexists(path):
+        return f"{name} is no file, or one that a fixed prefix holds; nothing makes it"
+    return f"no rule makes {name}, and the folder has no such file"
 
 
 def read_graph(text: str) -> Graph:
@@ -91,28 +195,41 @@ def read_graph(text: str) -> Graph:
     """
     names: list[str] = []
     recipes: list[Recipe] = []
+    prerequisites: dict[str, list[str]] = {}
+    phony: set[str] = set()
     open_ended = False
-    for line in text.split("\n")[1:-1]:
+    head, *lines = text.split("\n")[:-1]
+    for line in lines:
         if open_ended:
             recipes[-1].lines[-1] += "\n" + line
         elif line.startswith("\t"):
             recipes[-1].lines.append(line[1:])
         else:
-            words = line.partition(":")[0].split(" ")
+            front, _, behind = line.partition(":")
+            words = front.split(" ")
             names.append(words[0])
+            prerequisites[words[0]] = [
+                word for word in behind.split(" ") if word not in ("", ".WAIT")
+            ]
+            if "phony" in words[1:]:
+                phony.add(words[0])
             if "recipe" in words[1:]:
                 recipes.append(Recipe(words[0]))
             continue
         open_ended = (len(line) - len(line.rstrip("\\"))) % 2 == 1
-    return Graph(names, recipes, text)
+    return Graph(names, recipes, text, head.split(" ")[1:], prerequisites, frozenset(phony))
 
 
 def find_checker(beside: Path) -> str:
     """Where mkcheck is: as MKCHECK says, beside this program, or on the search path."""
     named = os.environ.get("MKCHECK")
     places = [Path(named)] if named else [beside / "mkcheck", beside.parent / "bin" / "mkcheck"]
-    own = (str(place.absolute()) for place in places if os.access(place, os.X_OK) and place.is_file())
+    own = (
+        str(place.absolute()) for place in places if os.access(place, os.X_OK) and place.is_file()
+    )
     found = next(own, None) or (None if named else shutil.which("mkcheck"))
     if found is None:
-        raise Fault(f"mkcheck isn't there{f' as {named}' if named else ''}: set MKCHECK to its path")
+        raise Fault(
+            f"mkcheck isn't there{f' as {named}' if named else ''}: set MKCHECK to its path"
+        )
     return found

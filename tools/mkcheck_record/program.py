@@ -5,37 +5,106 @@ from __future__ import annotations
 import argparse
 import os
 import sys
-import tempfile
+import traceback
 from collections.abc import Callable
 from pathlib import Path
 
-from . import tracing
+from . import places, tracing
 from .books import make_book
 from .comparing import compare_again, compare_make
-from .faults import Fault
-from .folders import SYSTEM, Naming, prefix_of, sources_in
-from .graphs import Checker, find_checker
+from .dates import dated
+from .faults import Fault, RecipeFault
+from .folders import SYSTEM, Naming, prefix_of, scratch_folder, sources_in
+from .graphs import Checker, Graph, asked_graph, find_checker
+from .macros import Prober, refuse_absent_compiler, warn_of_environment, with_shell
+from .places import Place
 from .recording import Recorded, Workshop, record
+from .replaying import Replay
+from .stopping import Stopped, catch_signals
+from .refusals import check_opaque, listed
+from .states import Unusable, path_of_state
+from .updating import Conditions, Updating, believed, hidden_names
+from .verdicts import Verdict, check_trust, judge
 
 ABOUT = "Builds goals once under strace, and writes down which files each recipe reads and writes."
-STATUS = "Status: 0 written, 1 a recipe failed or can't be recorded, 2 a fault of the words, or something is missing."
+STATUS = (
+    "Status: 0 written, 1 a recipe failed or can't be recorded, 2 a fault of the words, or"
+    " something is missing, 128 and a signal's number where that stopped it."
+)
+UNBOUND = (
+    "the system allows no mount namespace (unshare --mount), so recipes run in a copy at another"
+    " path: files of the project that they name by absolute paths, files above its folder, and a"
+    " project below a fixed prefix aren't seen as they are there"
+)
+
+UNREPLAYED = (
+    "no recipe was run again, since that needs a mount namespace or a copy: nothing tests that each"
+    " writes what it wrote this time, and from its recorded reads alone"
+)
+UNTESTED = (
+    "no recipe was run again (--no-replay), so nothing tests that each writes what it wrote this"
+    " time, and from its recorded reads alone"
+)
 
 
 def words_of(arguments: list[str]) -> argparse.Namespace:
     """What is asked for."""
     parser = argparse.ArgumentParser(prog="mkcheck-record", description=ABOUT, epilog=STATUS)
+    parser.add_argument("--version", action="version", version="%(prog)s 0.2.0")
     parser.add_argument("-f", metavar="F", help="the makefile; else makefile or Makefile")
-    parser.add_argument("-r", action="store_true", help="leave out the default text, as mkcheck does")
-    parser.add_argument("-C", metavar="DIR", default=".", help="the folder of the project; without it this one")
-    parser.add_argument("--fixed", metavar="PREFIX", action="append", default=[], help="files under it never change")
-    parser.add_argument("-o", metavar="FILE", help="where the footprints go; without it standard output")
-    parser.add_argument("--in-place", action="store_true", help="run in the folder itself and not on a fresh copy")
-    parser.add_argument("--again", action="store_true", help="run all twice, and warn of contents that differ")
-    parser.add_argument("--make", action="store_true", help="let make run all too, and warn of files that differ")
-    parser.add_argument("words", metavar="WORD", nargs="*", help="a macro operand, where it has an =, else a goal")
+    parser.add_argument(
+        "-r", action="store_true", help="leave out the default text, as mkcheck does"
+    )
+    parser.add_argument(
+        "-C", metavar="DIR", default=".", help="the folder of the project; without it this one"
+    )
+    parser.add_argument(
+        "--fixed", metavar="PREFIX", action="append", default=[], help="files under it never change"
+    )
+    parser.add_argument(
+        "--update", metavar="BOOK", help="record only what changed since BOOK, and write it anew"
+    )
+    parser.add_argument(
+        "-o", metavar="FILE", help="where the footprints go; without it standard output"
+    )
+    parser.add_argument(
+        "--in-place", action="store_true", help="run in the folder itself and not on a fresh copy"
+    )
+    parser.add_argument(
+        "--again", action="store_true", help="run all twice, and warn of contents that differ"
+    )
+    parser.add_argument(
+        "--make", action="store_true", help="let make run all too, and warn of files that differ"
+    )
+    parser.add_argument(
+        "-k",
+        action="store_true",
+        help="go on where a recipe fails, and tell all failures at the end",
+    )
+    parser.add_argument(
+        "--no-replay", action="store_true", help="don't run each recipe again to test its footprint"
+    )
+    parser.add_argument(
+        "--trust", metavar="TARGET", action="append", default=[], help="take its recipe as it is"
+    )
+    parser.add_argument(
+        "--opaque",
+        metavar="TARGET",
+        action="append",
+        default=[],
+        help="its recipe may start a make",
+    )
+    parser.add_argument(
+        "words", metavar="WORD", nargs="*", help="a macro operand, where it has an =, else a goal"
+    )
     asked = parser.parse_intermixed_args(arguments)
     if asked.make and asked.in_place:
         parser.error("--make needs a fresh copy, so it can't stand beside --in-place")
+    if asked.update and (asked.o or asked.in_place or asked.again or asked.make):
+        parser.error(
+            "--update writes BOOK from a fresh copy: it can't stand beside -o, --in-place, --again"
+            " or --make"
+        )
     return asked
 
 
@@ -51,29 +120,146 @@ def warner() -> Callable[[str], None]:
     return warn
 
 
-def recorded_text(asked: argparse.Namespace, scratch: str) -> str:
-    """The footprints that are asked for."""
-    folder = os.path.realpath(asked.C)
-    if not os.path.isdir(folder):
-        raise Fault(f"-C {asked.C}: no folder")
+def record_and_write(asked: argparse.Namespace, folder: str, scratch: str) -> None:
+    """Records, and writes the footprints that are asked for."""
     prefixes = [prefix_of(prefix) for prefix in asked.fixed]
     fixed = list(dict.fromkeys([*SYSTEM, *prefixes]))
     options = (*(["-f", asked.f] if asked.f is not None else []), *(["-r"] if asked.r else []))
-    checker = Checker(find_checker(Path(sys.argv[0]).resolve().parent), folder, options, tuple(asked.words))
+    checker = Checker(
+        find_checker(Path(sys.argv[0]).resolve().parent), folder, options, tuple(asked.words)
+    )
     tracing.strace()
-    files = sources_in(folder, Naming(folder, tuple(fixed)))
-    graph = checker.graph(fixed, files, scratch)
-    place = folder if asked.in_place else os.path.join(scratch, os.path.basename(folder) or "project")
-    operands = dict(operand(word) for word in asked.words if "=" in word)
-    shop = Workshop(folder, place, graph.targets, operands, scratch)
+    hidden = hidden_names(os.path.realpath(asked.update), folder) if asked.update else frozenset()
+    sources = [
+        name for name in sources_in(folder, Naming(folder, tuple(fixed))) if name not in hidden
+    ]
+    files, graph = asked_graph(checker, fixed, sources, scratch)
     warn = warner()
-    recorded = record(shop, graph.recipes, tuple(fixed), warn)
-    compare(asked, shop, recorded, tuple(fixed), warn)
-    return make_book(checker, graph, files, prefixes, recorded.footprints, scratch, warn).text()
+    if asked.f is None and os.path.exists(os.path.join(folder, "GNUmakefile")):
+        warn("GNU make reads GNUmakefile first, which isn't judged here; -f GNUmakefile judges it")
+    check_trust(asked.trust, graph.recipes)
+    prober = Prober(checker, fixed, files, scratch)
+    graph = with_shell(graph, prober, warn)
+    refuse_absent_compiler(graph)
+    warn_of_environment(
+        graph, prober, dict(operand(word) for word in asked.words if "=" in word), warn
+    )
+    shop = workshop(asked, folder, graph, hidden, scratch, warn)
+    shop.updating = updating_of(asked, shop, fixed, warn)
+    follows = not asked.no_replay or shop.updating is not None
+    recorded = record(shop, graph.recipes, tuple(fixed), warn, shop.follow if follows else None)
+    if shop.passed:
+        warn(f"not copied, since they can't be read or are no files: {listed(shop.passed)}")
+    if not recorded.failures:
+        compare(asked, shop, recorded, tuple(fixed), warn)
+        text = make_book(checker, graph, files, prefixes, recorded.footprints, scratch, warn).text()
+    verdict = (
+        Verdict() if asked.no_replay else replayed(shop, graph, recorded, frozenset(asked.trust))
+    )
+    for warning in (text for texts in verdict.warnings.values() for text in texts):
+        warn(warning)
+    for said in verdict.trusted:
+        tell(said)
+    if recorded.failures or verdict.errors:
+        raise RecipeFault("\nmkcheck-record: ".join([*recorded.failures, *verdict.errors]))
+    if asked.no_replay:
+        tell(UNTESTED)
+    write(text, asked.update or asked.o)
+    if shop.updating is not None:
+        recipes = len(graph.recipes)
+        tell(
+            f"{recipes - len(shop.updating.reused)} of {recipes} recipes were recorded, the others"
+            " hadn't changed"
+        )
+        targets = [name for name in graph.names if name not in asked.trust]
+        passed = {target: verdict.warnings.get(target, []) for target in targets}
+        shop.updating.save(text, recorded.footprints, passed)
+
+
+def updating_of(
+    asked: argparse.Namespace, shop: Workshop, fixed: list[str], warn: Callable[[str], None]
+) -> Updating | None:
+    """What an update knows of the recording before; it tells where all has to be recorded."""
+    if not asked.update:
+        return None
+    conditions = Conditions.of(
+        {
+            "folder": shop.folder,
+            "path": shop.place.seen,
+            "fixed": " ".join(fixed),
+            "opaque": " ".join(sorted(shop.opaque)),
+            "replay": "no" if asked.no_replay else "yes",
+        },
+        shop.environment,
+    )
+    book = os.path.realpath(asked.update)
+    updating = Updating(book, conditions, warn=warn)
+    try:
+        updating.state = believed(book, conditions)
+    except Unusable as reason:
+        tell(f"{path_of_state(asked.update)} {reason}: all recipes are recorded")
+    return updating
+
+
+def workshop(
+    asked: argparse.Namespace,
+    folder: str,
+    graph: Graph,
+    hidden: frozenset[str],
+    scratch: str,
+    warn: Callable[[str], None],
+) -> Workshop:
+    """Where the recipes run: on a copy, at the project's own path where the system allows it, or in
+    the folder.
+
+    `hidden` are names that aren't copied.
+    """
+    copied = os.path.join(scratch, "copy", os.path.basename(folder))
+    os.mkdir(os.path.dirname(copied))
+    if asked.in_place:
+        place = Place(folder, folder)
+    elif places.namespace() is not None:
+        place = Place(copied, folder)
+    else:
+        place = Place(copied, copied)
+        warn(UNBOUND)
+    check_opaque(asked.opaque, graph.recipes)
+    operands = dict(operand(word) for word in asked.words if "=" in word)
+    absent = (graph.targets - graph.phony) | hidden
+    opaque = frozenset(asked.opaque)
+    return Workshop(folder, place, absent, operands, scratch, opaque, graph.ancestors(), asked.k)
+
+
+def replayed(shop: Workshop, graph: Graph, recorded: Recorded, trusted: frozenset[str]) -> Verdict:
+    """What the replays say of the recipes that were recorded; nothing where none is wanted."""
+    world = recorded.world
+    if world is None:
+        return Verdict()
+    if places.namespace() is None and shop.place.folder == shop.folder:
+        tell(UNREPLAYED)
+        return Verdict()
+    scratch = os.path.join(shop.scratch, "replays")
+    outcomes = Replay(world, shop.place.seen, scratch, shop.environment, shop.ancestors).run(
+        world.trials
+    )
+    verdict = judge(outcomes, trusted, graph.once, world.makers)
+    for trial in world.trials:
+        for warning in dated(world, trial):
+            verdict.warn(trial.recipe.target, warning)
+    return verdict
+
+
+def tell(text: str) -> None:
+    """Tells something that is neither an error nor a warning."""
+    print(f"mkcheck-record: {text}", file=sys.stderr)
 
 
 def compare(
-    asked: argparse.Namespace, shop: Workshop, recorded: Recorded, fixed: tuple[str, ...], warn: Callable[[str], None]
+    asked: argparse.Namespace,
+    shop: Workshop,
+    recorded: Recorded,
+    fixed: tuple[str, ...],
+    warn: Callable[[str], None],
 ) -> None:
     """The further runs that are asked for."""
     if asked.again:
@@ -92,7 +278,10 @@ def operand(word: str) -> tuple[str, str]:
 
 
 def write(text: str, path: str | None) -> None:
-    """Writes the footprints: a file whole or not at all. A device or a pipe is written to and stays what it is."""
+    """Writes the footprints: a file whole or not at all.
+
+    A device or a pipe is written to and stays what it is.
+    """
     if path is None:
         sys.stdout.buffer.write(text.encode("utf-8"))
         return
@@ -108,18 +297,42 @@ def write(text: str, path: str | None) -> None:
         beside.unlink(missing_ok=True)
 
 
+def own_error(error: Exception) -> str:
+    """What is said of an error that nobody thought of."""
+    last = traceback.extract_tb(error.__traceback__)[-1]
+    where = f"{os.path.basename(last.filename)}, line {last.lineno}"
+    return (
+        "this is a mistake of the recorder itself, and nothing is written:"
+        f" {type(error).__name__} in {where}: {error}"
+    )
+
+
 def main(arguments: list[str]) -> int:
     """Records, and gives the status."""
     asked = words_of(arguments)
     try:
-        with tempfile.TemporaryDirectory(prefix="mkcheck-record-") as scratch:
-            write(recorded_text(asked, os.path.realpath(scratch)), asked.o)
+        catch_signals()
+        folder = os.path.realpath(asked.C)
+        if not os.path.isdir(folder) or folder == "/":
+            raise Fault(
+                f"-C {asked.C}: no folder"
+                if folder != "/"
+                else "the root of all files is no project"
+            )
+        with scratch_folder(folder) as scratch:
+            record_and_write(asked, folder, scratch)
     except Fault as fault:
         print(f"mkcheck-record: {fault}", file=sys.stderr)
         return fault.status
     except OSError as error:
         print(f"mkcheck-record: {error}", file=sys.stderr)
         return Fault.status
-    except KeyboardInterrupt:
-        return 130
+    except Exception as error:
+        print(f"mkcheck-record: {own_error(error)}", file=sys.stderr)
+        return Fault.status
+    except Stopped as stopped:
+        print(f"mkcheck-record: stopped by {stopped.name}, nothing is written", file=sys.stderr)
+        return stopped.status
+    finally:
+        places.stop_all()
     return 0

@@ -2,36 +2,66 @@
 
 from __future__ import annotations
 
-import hashlib
 import os
 import shlex
-from dataclasses import dataclass
-from pathlib import Path
+import stat
+import time
+from collections.abc import Callable
+from dataclasses import dataclass, field
 
 from . import tracing
-from .accesses import Accesses, Disk, Follower
-from .faults import Fault, RecipeFault
-from .folders import Naming, copy, files_in
-from .footprints import Footprint, Warn, footprint_of
-from .graphs import Command, Recipe
+from .accesses import Accesses, Follower
+from .faults import RecipeFault
+from .folders import UNWRITTEN, Naming, copy
+from .footprints import Footprint, Warn, footprint_of, kind_of, named, warn_of_stamps
+from .graphs import Ancestors, Command, Recipe
+from .places import Place
 from .progress import Progress
+from .refusals import refuse_unmade, refuse_unseen
+from .trees import Tree
+from .versions import Store, Version, version_of
+from .updating import Updating
+from .worlds import Effects, World, is_own
+
+Follow = Callable[[], World]
 
 
 @dataclass
 class Workshop:
-    """Where recipes run: the folder itself, or a copy of it that is made afresh for each recording."""
+    """Where recipes run: the folder itself, or a copy of it that is made afresh for each recording.
+
+    `folder` is the project's. `absent` has the targets that aren't copied. `opaque` has the targets
+    whose recipes may start makes.
+    """
 
     folder: str
-    place: str
-    targets: frozenset[str]
+    place: Place
+    absent: frozenset[str]
     operands: dict[str, str]
     scratch: str
+    opaque: frozenset[str] = frozenset()
+    ancestors: Ancestors = field(default_factory=Ancestors)
+    keep_going: bool = False
+    passed: list[str] = field(default_factory=list)
+    updating: Updating | None = None
 
-    def set_up(self) -> Disk:
-        """Makes the copy, where one is wanted, and tells which files are there."""
-        if self.place != self.folder:
-            copy(self.folder, self.place, self.targets)
-        return Disk(self.place, {os.path.join(self.place, name) for name in files_in(self.place)})
+    @property
+    def environment(self) -> dict[str, str]:
+        """What recipes find in their environment."""
+        return tracing.environment(self.place, self.operands)
+
+    def set_up(self) -> Tree:
+        """Makes the copy, where one is wanted, and tells what is there."""
+        if self.place.folder != self.folder:
+            self.passed = copy(self.folder, self.place.folder, self.absent)
+        return Tree.of(self.place)
+
+    def follow(self) -> World:
+        """What follows the files, for the replay."""
+        world = World.of(self.folder, self.place.folder, Store(os.path.join(self.scratch, "store")))
+        if self.updating is not None:
+            self.updating.begin(world)
+        return world
 
 
 @dataclass(frozen=True)
@@ -40,53 +70,174 @@ class Recorded:
 
     footprints: list[Footprint]
     contents: list[dict[str, str]]
+    failures: list[str] = field(default_factory=list)
+    world: World | None = None
 
 
-def record(shop: Workshop, recipes: list[Recipe], fixed: tuple[str, ...], warn: Warn) -> Recorded:
-    """Runs the recipes in their order, each once."""
-    disk = shop.set_up()
-    naming = Naming(shop.place, fixed)
-    progress = Progress(sum(len(recipe.commands) for recipe in recipes))
-    footprints: list[Footprint] = []
-    contents: list[dict[str, str]] = []
+def record(
+    shop: Workshop,
+    recipes: list[Recipe],
+    fixed: tuple[str, ...],
+    warn: Warn,
+    follow: Follow | None = None,
+) -> Recorded:
+    """Runs the recipes in their order, each once. `follow` makes, once the copy is there, what
+    follows the files.
+
+    Where it is to keep going, a recipe that fails is put down with the others that do, and what
+    depends on it isn't run.
+    """
+    tree = shop.set_up()
+    world = follow() if follow is not None else None
+    naming = Naming(shop.place.seen, fixed)
+    progress = Progress(len(recipes))
+    done = Recorded([], [], [], world)
+    failed: set[str] = set()
     try:
         for recipe in recipes:
-            accesses = run(recipe, shop, disk, progress)
-            progress.clear()
-            footprints.append(footprint_of(recipe, accesses, naming, warn))
-            contents.append({name: digest(shop.place, name) for name in footprints[-1].writes})
+            progress.begin(recipe.target)
+            if shop.ancestors.any_before(failed, recipe.target):
+                failed.add(recipe.target)
+                done.failures.append(
+                    f"the recipe of {recipe.target} wasn't run, since it depends on one that failed"
+                )
+                continue
+            if shop.updating is not None and (kept := shop.updating.kept(recipe)) is not None:
+                done.footprints.append(kept)
+                done.contents.append({})
+                continue
+            try:
+                record_one(recipe, shop, tree, naming, progress, warn, done)
+            except RecipeFault as fault:
+                if not shop.keep_going:
+                    raise
+                failed.add(recipe.target)
+                done.failures.append(str(fault))
     finally:
         progress.clear()
-    return Recorded(footprints, contents)
+    return done
 
 
-def run(recipe: Recipe, shop: Workshop, disk: Disk, progress: Progress) -> Accesses:
+def record_one(
+    recipe: Recipe,
+    shop: Workshop,
+    tree: Tree,
+    naming: Naming,
+    progress: Progress,
+    warn: Warn,
+    done: Recorded,
+) -> None:
+    """Runs one recipe, and puts down its footprint."""
+    if shop.updating is not None:
+        shop.updating.lay(tree)
+        warn = shop.updating.noting(recipe, warn)
+    begun = time.time()
+    accesses = run(recipe, shop, tree, progress)
+    progress.clear()
+    refuse_unmade(recipe, shop)
+    made = named(folders_made(accesses), naming)
+    footprint = footprint_of(recipe, accesses, naming, warn)
+    warn_of_stamps(footprint, accesses, begun, warn)
+    done.footprints.append(footprint)
+    if done.world is None:
+        left = {
+            name: version_of(os.path.join(shop.place.folder, name)) for name in footprint.writes
+        }
+        done.contents.append({name: content_of(version) for name, version in left.items()})
+        return
+    trial = done.world.took(recipe, effects_of(footprint, accesses, made, naming), begun)
+    done.contents.append({name: content_of(trial.after[name]) for name in footprint.writes})
+
+
+def effects_of(
+    footprint: Footprint, accesses: Accesses, made: list[str], naming: Naming
+) -> Effects:
+    """What a recipe did, by the names of files, for other runs of it.
+
+    What lies in no file system counts for nothing.
+    """
+    tree = accesses.tree
+    pipes = [
+        name
+        for name in named((path for path in accesses.writes if is_pipe(tree, path)), naming)
+        if is_own(name)
+    ]
+    looked = [
+        naming.name(path) or path for path in accesses.looked if not is_unwritten(path, naming)
+    ]
+    listed = [
+        *accesses.listed,
+        *(path for path in accesses.reads if kind_of(tree, path) == stat.S_IFDIR),
+    ]
+    return Effects(
+        tuple(footprint.reads),
+        tuple(footprint.writes),
+        tuple(footprint.lost),
+        tuple(made),
+        tuple(footprint.links),
+        tuple(pipes),
+        (*looked, *sorted(footprint.scratch)),
+        tuple(
+            name_of_folder(path, naming)
+            for path in dict.fromkeys(listed)
+            if not is_unwritten(path, naming)
+        ),
+    )
+
+
+def is_unwritten(path: str, naming: Naming) -> bool:
+    """Whether a path leads to what is no file that lasts."""
+    return path.startswith(UNWRITTEN) and naming.name(path) is None
+
+
+def name_of_folder(path: str, naming: Naming) -> str:
+    """The name of a folder, `.` for the project's, or its path where it has none."""
+    return "." if path == naming.root else naming.name(path) or path
+
+
+def run(recipe: Recipe, shop: Workshop, tree: Tree, progress: Progress) -> Accesses:
     """Runs a recipe, command by command, as make would."""
-    accesses = Accesses(disk)
+    accesses = Accesses(tree)
+    given = shop.environment
     output = ""
     for command in recipe.commands:
         progress.step(command.text)
-        done = tracing.run(command.words, shop.place, shop.operands, shop.scratch)
+        # Where there is no link yet, the command can only read one that it made itself.
+        looking = shop.updating is not None
+        done = tracing.run(
+            command.words, shop.place, given, shop.scratch, tree.has_links or looking, looking
+        )
         output += done.output
-        Follower(accesses, shop.place).follow(done.calls)
+        Follower(accesses, shop.place.seen).follow(done.calls)
+        refuse_unseen(recipe, accesses, done.left, shop)
         if done.status != 0 and not command.ignored:
             raise RecipeFault(failure(recipe, command, done.status, output))
     return accesses
 
 
 def failure(recipe: Recipe, failed: Command, status: int, output: str) -> str:
-    """What is said of a recipe that fails: its commands, what all that were run put out, and the status of the last one."""
+    """What is said of a recipe that fails: its commands, all their output, the last status."""
     shown = ["\t" + line for line in recipe.lines]
     head = f"the recipe of {recipe.target} failed, status {status}, at {shlex.quote(failed.text)}"
     return "\n".join([head, *shown, output.rstrip("\n")]).rstrip("\n")
 
 
-def digest(place: str, name: str) -> str:
-    """The contents of a file, or where a link leads."""
-    path = Path(place, name)
-    if path.is_symlink():
-        return f"link to {os.readlink(path)}"
-    try:
-        return hashlib.sha256(path.read_bytes()).hexdigest()
-    except OSError as error:
-        raise Fault(f"{path}: {error.strerror}") from None
+def content_of(version: Version | None) -> str:
+    """What is compared of a file or a link that a recipe left."""
+    return f"{version.kind} {version.content}" if version is not None else ""
+
+
+def is_pipe(tree: Tree, path: str) -> bool:
+    """Whether a pipe or a socket stands at a path: footprints don't name these."""
+    return kind_of(tree, path) in (stat.S_IFIFO, stat.S_IFSOCK)
+
+
+def folders_made(accesses: Accesses) -> list[str]:
+    """The folders that a recipe made, or renamed with what is in them."""
+    tree = accesses.tree
+    moved: list[str] = []
+    for path in accesses.moved:
+        real = tree.place.real(path)
+        if not os.path.islink(real):
+            moved += [path + folder[len(real) :] for folder, _, _ in os.walk(real)]
+    return list(dict.fromkeys([*accesses.folders, *moved]))

@@ -1,0 +1,184 @@
+"""Makes that recipes start, and macros by which makes differ."""
+
+from __future__ import annotations
+
+import os
+import shutil
+import unittest
+
+from project import ProjectTest, traced
+
+SUB = {"sub/makefile": "x: y\n\tcp y x\n", "sub/y": ""}
+
+
+@traced
+class SubMakeTest(ProjectTest):
+    """A make that a recipe starts is refused, unless the recipe is taken as opaque."""
+
+    def said(self, makefile: str, files: dict[str, str]) -> str:
+        """What is said of a project that is refused."""
+        self.write({"makefile": makefile, **files})
+        outcome = self.record()
+        self.assertEqual(
+            (outcome.status, outcome.book, outcome.output), (1, None, ""), outcome.errors
+        )
+        return outcome.errors
+
+    def in_sub(self, name: str) -> str:
+        """What is said of the recipe of all, which starts a make in sub."""
+        return (
+            f"mkcheck-record: the recipe of all starts {name} in sub: its build isn't judged here;"
+            " record that folder by itself (mkcheck-record -C sub), or give --opaque all to take"
+            " it as one recipe\n"
+        )
+
+    @unittest.skipUnless(shutil.which("make"), "no make")
+    def test_each_way_to_start_one(self) -> None:
+        for way in (
+            "$(MAKE) -C sub",
+            "cd sub && make",
+            "+cd sub && $(MAKE)",
+            "make -s -C sub; :",
+            "(cd sub; exec make)",
+            "sh -c 'make --directory=sub'",
+            "cd sub && env A=1 make",
+        ):
+            self.assertEqual(self.said(f"all:\n\t{way}\n", SUB), self.in_sub("make"), way)
+            shutil.rmtree(self.folder / "sub")
+
+    @unittest.skipUnless(shutil.which("make"), "no make")
+    def test_one_in_the_same_folder(self) -> None:
+        said = self.said("all:\n\tmake x\nx:\n\techo > x\n", {})
+        self.assertEqual(
+            said,
+            (
+                "mkcheck-record: the recipe of all starts make in the folder itself: its build"
+                " isn't judged here; name its goals on the command line of mkcheck-record, or give"
+                " --opaque all to take it as one recipe\n"
+            ),
+        )
+
+    def test_others_that_build(self) -> None:
+        for name in ("gmake", "bmake", "ninja", "samu", "make-4.4"):
+            said = self.said(
+                f"all:\n\tcd sub && ../bin/{name}\n",
+                {f"bin/{name}": "#!/bin/sh\necho > x\n", **SUB},
+            )
+            self.assertEqual(said, self.in_sub(name))
+
+    def test_programs_that_only_sound_so(self) -> None:
+        self.write(
+            {
+                "makefile": "out:\n\tbin/automake && bin/cmake && bin/makeinfo\n",
+                **{
+                    f"bin/{name}": "#!/bin/sh\necho >> out\n"
+                    for name in ("automake", "cmake", "makeinfo")
+                },
+            }
+        )
+        self.assertEqual(self.recorded().own("out")[1], {"out"})
+
+    @unittest.skipUnless(shutil.which("make"), "no make")
+    def test_an_opaque_one(self) -> None:
+        self.write({"makefile": "all: b\nb: sub/y\n\tcd sub && make && cp x ../b\n", **SUB})
+        outcome = self.recorded("--opaque", "b")
+        self.assertEqual(outcome.own("b"), ({"sub/makefile", "sub/y"}, {"sub/x", "b"}))
+        outcome = self.record("--opaque", "c")
+        self.assertEqual(
+            (outcome.status, outcome.errors),
+            (2, "mkcheck-record: --opaque c: the goals reach no recipe of that name\n"),
+        )
+
+
+@traced
+class MacroTest(ProjectTest):
+    """SHELL, the environment, and the default compiler."""
+
+    @unittest.skipUnless(os.access("/bin/bash", os.X_OK), "no /bin/bash")
+    def test_a_shell_of_the_makefile(self) -> None:
+        self.write(
+            {
+                "makefile": (
+                    'SHELL = /bin/bash\nout: a b\n\tcat {a,b} > out; test -n "$$BASH_VERSION"\n'
+                ),
+                "a": "",
+                "b": "",
+            }
+        )
+        outcome = self.recorded("--make") if shutil.which("make") else self.recorded()
+        self.assertEqual(outcome.own("out"), ({"a", "b"}, {"out"}))
+        self.assertEqual(
+            outcome.warnings(),
+            [
+                "the makefile sets SHELL to /bin/bash, so commands are run by it, as GNU make"
+                " does; other makes run them by /bin/sh"
+            ],
+        )
+
+    def test_a_shell_that_is_not_there(self) -> None:
+        self.write({"makefile": "SHELL = /no/such/shell\nout:\n\techo > out\n"})
+        outcome = self.record()
+        self.assertEqual(
+            (outcome.status, outcome.errors),
+            (
+                2,
+                (
+                    "mkcheck-record: the makefile sets SHELL to /no/such/shell,"
+                    " which isn't there: give SHELL=/bin/sh, to mkcheck too\n"
+                ),
+            ),
+        )
+        self.assertEqual(self.recorded("SHELL=/bin/sh").warnings(), [])
+
+    def test_macros_of_the_environment(self) -> None:
+        self.write(
+            {
+                "makefile": (
+                    "OWN = own\nLATE ?= own\nout: $(LIST)\n\techo $(WORD) $(OWN) $(LATE) > out\n"
+                ),
+                "b": "",
+            }
+        )
+        given = {"WORD": "w # $(OWN)", "OWN": "other", "LATE": "other", "LIST": "b", "NONE": "x"}
+        outcome = self.record(environment=given)
+        told = [warning.split(",")[0] for warning in outcome.warnings()]
+        self.assertEqual(
+            sorted(told),
+            [f"the makefile uses the macro {name}" for name in ("LATE", "LIST", "WORD")],
+        )
+        self.assertIn('give WORD="$WORD" to both as an operand', outcome.errors)
+        self.assertEqual(outcome.own("out"), (set(), {"out"}))
+        outcome = self.record("WORD=x", "LATE=x", "LIST=", environment=given)
+        self.assertEqual((outcome.status, outcome.warnings()), (0, []))
+
+    def test_macros_of_the_environment_that_rules_have(self) -> None:
+        self.write({"makefile": "all: a.o\n", "a.c": "int a;\n"})
+        if shutil.which("c17") is None:
+            outcome = self.record()
+            self.assertEqual((outcome.status, outcome.book), (2, None))
+            self.assertEqual(
+                outcome.errors,
+                (
+                    "mkcheck-record: the recipe of a.o starts c17, the default compiler of POSIX,"
+                    " which isn't there: give CC=cc, to mkcheck too\n"
+                ),
+            )
+        self.write({"cc": "#!/bin/sh\necho > a.o\n"})
+        outcome = self.record("CC=./cc", environment={"CFLAGS": "-g"})
+        (told,) = outcome.warnings()
+        self.assertTrue(
+            told.startswith(
+                "the makefile uses the macro CFLAGS, which the environment sets: makes take"
+            )
+        )
+
+    def test_commands_are_those_that_mkcheck_shows(self) -> None:
+        self.write({"makefile": "out:\n\techo '$(WORD)' > out; cat out; exit 3\n"})
+        outcome = self.record(environment={"WORD": "set"})
+        self.assertTrue(
+            outcome.errors.endswith("\techo '' > out; cat out; exit 3\n"), outcome.errors
+        )
+
+
+if __name__ == "__main__":
+    unittest.main()

@@ -1,0 +1,470 @@
+"""The replay: what it refuses, what it lets pass, and what it says."""
+
+from __future__ import annotations
+
+import os
+import shutil
+import sys
+import time
+import unittest
+
+from project import ROOT, ProjectTest, traced
+
+sys.path.insert(0, str(ROOT / "tools"))
+
+from mkcheck_record import places, replaying  # noqa: E402
+from mkcheck_record.graphs import Ancestors, Recipe  # noqa: E402
+from mkcheck_record.replaying import (
+    AGAIN,
+    BARE,
+    DAMAGED,
+    Outcome,
+    Replay,
+    lines_that_differ,
+)  # noqa: E402
+from mkcheck_record.versions import Store, Version, version_of  # noqa: E402
+from mkcheck_record.worlds import Effects, World  # noqa: E402
+
+namespaces = unittest.skipUnless(places.namespace(), "no mount namespace is allowed")
+
+FRONTS = {
+    BARE: "in a folder that holds only what it is recorded to read",
+    AGAIN: "where its own outputs are already there",
+    DAMAGED: "where its outputs are there with other bytes and later stamps",
+}
+
+
+class ReplayTest(ProjectTest):
+    """A project whose recipes are replayed."""
+
+    replays = True
+
+    replays = True
+
+    def refused(
+        self, makefile: str, what: str, run: str, files: dict[str, str] | None = None
+    ) -> str:
+        """Records, which has to be refused for the recipe of `out`; returns all that was said."""
+        self.write({"makefile": makefile, **(files or {})})
+        outcome = self.record()
+        self.assertEqual(
+            (outcome.status, outcome.book, outcome.output), (1, None, ""), outcome.errors
+        )
+        front = f"mkcheck-record: the recipe of out, run {FRONTS[run]}, {what}: "
+        lines = [
+            line
+            for line in outcome.errors.splitlines()
+            if not line.startswith("mkcheck-record: warning")
+        ]
+        self.assertTrue(lines[0].startswith(front), outcome.errors)
+        self.assertIn("or give --trust out to take the recipe as it is", lines[0])
+        self.assertTrue(all(line.startswith("\t") for line in lines[1:]), outcome.errors)
+        trusting = self.recorded("--trust", "out")
+        self.assertEqual(
+            [line for line in trusting.errors.splitlines() if "warning" not in line],
+            [
+                "mkcheck-record: trusted, and not shown to be right: the recipe of out, run"
+                f" {FRONTS[run]}, {what}"
+            ],
+        )
+        return outcome.errors
+
+    def passes(self, makefile: str, files: dict[str, str] | None = None, *words: str) -> None:
+        """Records, where the replay has to find nothing."""
+        self.write({"makefile": makefile, **(files or {})})
+        outcome = self.recorded(*words)
+        self.assertEqual(
+            [line for line in outcome.errors.splitlines() if "warning" not in line], []
+        )
+
+
+@traced
+@namespaces
+class BareTest(ReplayTest):
+    """What differs in a folder that holds only the recorded reads."""
+
+    def test_the_time(self) -> None:
+        said = self.refused("out:\n\tdate +%s > out\n", "writes out with other contents", BARE)
+        was, now = (int(line.split('"')[1]) for line in said.splitlines()[1:3])
+        self.assertLess(was, now)
+
+    def test_a_process_number(self) -> None:
+        self.refused("out:\n\techo $$$$ > out\n", "writes out with other contents", BARE)
+
+    def test_a_random_name(self) -> None:
+        makefile = "out:\n\techo > out; mktemp -p . t.XXXXXXXX > /dev/null\n"
+        self.write({"makefile": makefile})
+        outcome = self.record()
+        self.assertEqual(outcome.status, 1)
+        self.assertRegex(outcome.errors, r"the recipe of out, run .*, doesn't write t\.\w+: ")
+        self.assertRegex(
+            outcome.errors, r"it leaves t\.\w+, which it didn't leave when it was recorded"
+        )
+
+    def test_a_folder_of_a_random_name(self) -> None:
+        self.write({"makefile": "out:\n\techo > out; mktemp -d -p . t.XXXXXXXX > /dev/null\n"})
+        outcome = self.record()
+        self.assertEqual(outcome.status, 1)
+        self.assertRegex(
+            outcome.errors, r"doesn't make the folder t\.\w+, as it did when it was recorded"
+        )
+
+    def test_a_file_that_is_only_looked_at(self) -> None:
+        makefile = "out:\n\tif test -f chosen; then echo 1; else echo 2; fi > out\n"
+        said = self.refused(makefile, "writes out with other contents", BARE, {"chosen": ""})
+        self.assertIn('\tline 1 was "1"\n\tline 1 is  "2"\n', said)
+
+    def test_a_failure_shows_the_output(self) -> None:
+        said = self.refused("out:\n\techo hello; test -f a; echo > out\n", "fails", BARE, {"a": ""})
+        self.assertTrue(
+            said.endswith("\n\tstatus 1, at echo hello; test -f a; echo > out\n\thello\n"), said
+        )
+
+    def test_a_recipe_that_writes_nothing(self) -> None:
+        self.refused(".PHONY: out\nout:\n\ttest -f a\n", "fails", BARE, {"a": ""})
+        self.passes(".PHONY: out\nout:\n\tcat a\n", {"a": ""})
+
+    def test_a_folder_that_another_recipe_makes(self) -> None:
+        makefile = (
+            "all: dirs out\ndirs:\n\tmkdir obj; touch dirs\nout:\n\techo > obj/x; echo > out\n"
+        )
+        said = self.refused(makefile, "fails", BARE)
+        self.assertIn(
+            (
+                "\tthe folder obj is made by the recipe of dirs, which needn't run before:"
+                " let this recipe make it too (mkdir -p obj)\n"
+            ),
+            said,
+        )
+
+    def test_a_file_that_the_recipe_takes_away(self) -> None:
+        makefile = "a:\n\techo 1 > x; echo > a\n"
+        self.passes("out: a\n\tcat x > out; rm x\n" + makefile)
+        said = self.refused("out: a\n\trm x; echo > out\n" + makefile, "fails", BARE)
+        what = "it takes away x, which it neither made nor read: let it do without (rm -f x)"
+        self.assertIn(f"\t{what}\n", said)
+
+    def test_an_ignored_failure_is_none(self) -> None:
+        self.passes("out: a\n\t-cat a b > out\n\t-@false\n", {"a": ""})
+
+
+@traced
+@namespaces
+class AgainTest(ReplayTest):
+    """What differs where the recipe's own outputs are there."""
+
+    def test_appending(self) -> None:
+        self.refused(
+            "out: a\n\tcat a >> out\n", "writes out with other contents", AGAIN, {"a": "1\n"}
+        )
+
+    def test_a_file_that_keeps_its_end(self) -> None:
+        makefile = (
+            "out: a\n\tdd if=a of=out conv=notrunc 2>/dev/null; dd if=a of=out conv=notrunc"
+            " oflag=append 2>/dev/null\n"
+        )
+        self.refused(makefile, "writes out with other contents", AGAIN, {"a": "12345"})
+
+    def test_a_mode(self) -> None:
+        makefile = "out:\n\tif test -f out; then m=600; else m=640; fi; echo > out; chmod $$m out\n"
+        what = "gives out the mode 600, which was 640 when it was recorded"
+        self.refused(makefile, what, AGAIN)
+
+    def test_a_kind(self) -> None:
+        makefile = "out: a\n\tif test -f out; then ln -sf a out; else cp a out; fi\n"
+        self.refused(
+            makefile,
+            "leaves out as a link, where it was a file when it was recorded",
+            AGAIN,
+            {"a": ""},
+        )
+
+    def test_another_link(self) -> None:
+        makefile = "out:\n\tif test -L out; then ln -sfn b out; else ln -s a out; fi\n"
+        what = "makes out a link to b, which led to a when it was recorded"
+        self.refused(makefile, what, AGAIN)
+
+    def test_an_output_that_is_left_out(self) -> None:
+        makefile = "out:\n\tif test -f out; then rm -f log; else echo > log; fi; echo > out\n"
+        self.refused(makefile, "doesn't write log", AGAIN)
+
+    def test_a_failure(self) -> None:
+        self.refused("out: a\n\tln -s a out\n", "fails", AGAIN, {"a": ""})
+
+    def test_a_failure_of_what_is_made_once(self) -> None:
+        self.write({"makefile": "out:\n\tmkdir d; echo > out\n"})
+        (warning,) = self.recorded().warnings()
+        self.assertTrue(
+            warning.startswith(f"the recipe of out, run {FRONTS[AGAIN]}, fails: "), warning
+        )
+
+    def test_copy_if_changed(self) -> None:
+        makefile = "out: a\n\tcp a new; cmp -s new out || cp new out; rm new\n"
+        self.refused(makefile, "doesn't write out anew", AGAIN, {"a": "1"})
+        makefile = "out: a\n\tcp a new; cmp -s new out || mv new out\n"
+        what = "leaves new, which it didn't leave when it was recorded"
+        self.refused(makefile, what, AGAIN)
+
+    @unittest.skipUnless(shutil.which("make"), "no make")
+    def test_a_make_in_a_subfolder(self) -> None:
+        makefile = "out: sub/s\n\tcd sub && $(MAKE) x > /dev/null; cp x ../out\n"
+        self.write({"makefile": makefile, "sub/makefile": "x: s\n\tcp s x\n", "sub/s": "1\n"})
+        outcome = self.record("--opaque", "out")
+        self.assertEqual((outcome.status, outcome.book), (1, None))
+        front = f"the recipe of out, run {FRONTS[AGAIN]}, doesn't write sub/x anew: "
+        self.assertIn(f"mkcheck-record: {front}", outcome.errors)
+        self.assertEqual(self.record("--opaque", "out", "--trust", "out").status, 0)
+
+    def test_newer_than(self) -> None:
+        makefile = "out: a\n\ttest out -nt a || cp a out\n"
+        self.refused(makefile, "doesn't write out anew", AGAIN, {"a": "1"})
+
+    def test_a_second_write_in_place_is_seen_as_one(self) -> None:
+        names = [f"o{number}" for number in range(8)]
+        rules = "".join(f"{name}:\n\techo > {name}\n" for name in names)
+        self.passes(f"all: {' '.join(names)}\n{rules}")
+
+
+@traced
+@namespaces
+class DamagedTest(ReplayTest):
+    """What differs where the outputs hold other bytes."""
+
+    def test_an_output_that_decides(self) -> None:
+        makefile = (
+            "out: a\n\tif grep -s put out > /dev/null; then echo 2 > out; else cp a out; fi\n"
+        )
+        self.refused(makefile, "writes out with other contents", DAMAGED, {"a": "1"})
+
+    def test_a_failure_is_a_warning(self) -> None:
+        self.write({"makefile": "out: a\n\ttest ! -f out || cmp out a; cat a > out\n", "a": "1\n"})
+        (warning,) = self.recorded().warnings()
+        self.assertTrue(
+            warning.startswith(f"the recipe of out, run {FRONTS[DAMAGED]}, fails: "), warning
+        )
+
+    @unittest.skipUnless(shutil.which("ar"), "no ar")
+    def test_an_archive(self) -> None:
+        self.write({"makefile": "out: a\n\tar rc out a\n", "a": "1\n"})
+        (warning,) = self.recorded().warnings()
+        self.assertTrue(
+            warning.startswith(f"the recipe of out, run {FRONTS[DAMAGED]}, fails: "), warning
+        )
+
+
+@traced
+@namespaces
+class PassTest(ReplayTest):
+    """What a recipe may do."""
+
+    def test_reads_are_as_they_were(self) -> None:
+        makefile = (
+            "all: a b c d\na:\n\techo 1 > x; echo > a\nb: a\n\tcp x b\n"
+            "c: b\n\techo 2 > x; cp x c\nd: c\n\techo 3 >> x; cp x d\n"
+        )
+        self.passes(makefile)
+
+    def test_a_source_that_is_written_later(self) -> None:
+        self.passes("all: a b\na:\n\tcp s a\nb: a\n\techo 2 >> s; cp s b\n", {"s": "1\n"})
+
+    def test_the_path_of_the_project(self) -> None:
+        self.passes(
+            "out: a\n\tpwd > out; cat $$(pwd)/a >> out.new; pwd -P >> out.new; mv out.new out\n",
+            {"a": "1"},
+        )
+
+    def test_given_folders_and_links(self) -> None:
+        self.write({"d/e/x": "", "f/keep": "", "a": "1\n"})
+        (self.folder / "l").symlink_to("d/e")
+        (self.folder / "empty").mkdir()
+        self.passes("out: a\n\tcd l && cat ../../a > ../../f/y\n\ttest -d empty; cp f/y out\n")
+
+    def test_folders_that_recipes_before_make(self) -> None:
+        self.passes(
+            "out: dirs\n\techo > obj/deep/x; echo > out\ndirs:\n\tmkdir -p obj/deep; touch dirs\n"
+        )
+
+    def test_folders_that_two_recipes_make(self) -> None:
+        self.passes(
+            "all: one two out\none:\n\tmkdir -p obj; echo > one\ntwo:\n\tmkdir -p obj; echo > two\n"
+            "out: two\n\techo > obj/x; echo > out\n"
+        )
+
+    def test_a_pipe_that_is_left(self) -> None:
+        self.passes("out:\n\trm -f pipe; mkfifo pipe; echo > out\n")
+
+    def test_files_that_are_only_touched(self) -> None:
+        self.passes("out: a\n\ttest -s a || cp b out\na:\n\ttouch a\n", {"b": ""})
+
+    def test_names_that_are_one_file(self) -> None:
+        self.write({"a": "1\n"})
+        os.link(self.folder / "a", self.folder / "b")
+        self.passes(
+            "out: a b\n\tcat a b > /dev/null; if test a -ef b; then echo 1; else echo 2; fi > out\n"
+        )
+
+    def test_modes_of_what_is_read(self) -> None:
+        self.passes(
+            "out: tool s\n\t./tool; ./s > out\ntool:\n\techo 'echo' > tool; chmod 750 tool\n",
+            {"s": "#!/bin/sh\necho 1\n"},
+        )
+
+    @unittest.skipUnless(shutil.which("tar"), "no tar")
+    def test_an_archive_of_a_folder(self) -> None:
+        self.write({"d/e/x": "1\n", "d/y": "2\n"})
+        (self.folder / "d" / "empty").mkdir(0o750)
+        for name in ("d/e/x", "d/y", "d/empty", "d/e", "d"):
+            os.utime(self.folder / name, (1_000_000_000, 1_000_000_000))
+        self.passes("out: d/e/x d/y\n\ttar -cf out d\n")
+
+    def test_links_that_recipes_make(self) -> None:
+        makefile = (
+            "all: text over copied moved run\n"
+            "l: a\n\tln -sf a l\n"
+            "d: real/x\n\tln -sfn real d\n"
+            "real/x:\n\tmkdir -p real; echo 1 > real/x\n"
+            "text: l\n\treadlink l > text\n"
+            "over: d\n\tcd d && cat x > ../over\n"
+            "copied: l\n\tcp -P l copied.new; mv copied.new copied\n"
+            "moved: d\n\tcat d/x > moved; ln -sf d/x other\n"
+            "i: interpreter\n\tcp interpreter i; chmod +x i\n"
+            "run: i s\n\t./s > run\n"
+        )
+        files = {"a": "1\n", "interpreter": "#!/bin/sh\necho 2\n", "s": "#!./i\n"}
+        self.passes(makefile, files)
+
+    def test_dates(self) -> None:
+        makefile = "all: a b c d\na: s\n\tcp s a\nb: s\n\tcp s b; date +%F > c.new; rm c.new\n"
+        makefile += "c:\n\tdate '+today: %F' > c\nd:\n\tdate '+%b %e %Y.' > d\n"
+        self.write({"makefile": makefile, "s": time.strftime("%Y-%m-%d\n")})
+        first, second = self.recorded().warnings()
+        self.assertRegex(first, r"^the recipe of c writes today's date \([-\d]+\) into c: on ")
+        self.assertRegex(second, r"^the recipe of d writes today's date \([ \w]+\) into d: on ")
+
+    def test_in_place(self) -> None:
+        self.passes("b: a\n\tcp a b\na:\n\techo 1 > a\n", {}, "--in-place")
+        self.assertEqual((self.folder / "b").read_text(), "1\n")
+
+    def test_without_replay(self) -> None:
+        self.write({"makefile": "out:\n\tdate +%N > out\n"})
+        outcome = self.recorded("--no-replay")
+        self.assertTrue(
+            outcome.errors.startswith("mkcheck-record: no recipe was run again (--no-replay), so ")
+        )
+
+    def test_trust_without_need(self) -> None:
+        self.write({"makefile": "out: a\n\tcp a out\na:\n\techo > a\n"})
+        outcome = self.recorded("--trust", "out", "--trust", "a")
+        self.assertEqual(
+            outcome.errors,
+            "".join(
+                f"mkcheck-record: trusted without need: the recipe of {name} left the same files"
+                " when it ran again\n"
+                for name in ("a", "out")
+            ),
+        )
+
+    def test_trust_of_a_name_that_has_no_recipe(self) -> None:
+        self.write({"makefile": "out: a\n\tcp a out\n", "a": ""})
+        outcome = self.record("--trust", "a")
+        self.assertEqual((outcome.status, outcome.book), (2, None))
+        self.assertEqual(
+            outcome.errors, "mkcheck-record: --trust a: the goals reach no recipe of that name\n"
+        )
+
+    def test_all_errors_are_told_at_once(self) -> None:
+        self.write(
+            {"makefile": "all: a b c\na:\n\tdate +%N > a\nb:\n\techo >> b\nc: a\n\tcp a c\n"}
+        )
+        outcome = self.record()
+        fronts = [line for line in outcome.errors.splitlines() if not line.startswith("\t")]
+        self.assertEqual(len(fronts), 2, outcome.errors)
+        self.assertIn(
+            f"the recipe of a, run {FRONTS[BARE]}, writes a with other contents", fronts[0]
+        )
+        self.assertIn(
+            f"the recipe of b, run {FRONTS[AGAIN]}, writes b with other contents", fronts[1]
+        )
+
+
+@namespaces
+class UntracedTest(ReplayTest):
+    """Replays of records that are told by hand. No strace is needed."""
+
+    def replayed(
+        self, lines: list[str], reads: list[str], writes: list[str], seconds: float = 60.0
+    ) -> Outcome:
+        """Runs the recipe of `out` in the folder, and replays it by these reads and writes."""
+        world = World.of(str(self.folder), str(self.folder), Store(str(self.scratch / "store")))
+        recipe = Recipe("out", lines)
+        environment = {"PATH": os.environ["PATH"], "PWD": str(self.folder)}
+        for command in recipe.commands:
+            place = places.Place(str(self.folder), str(self.folder))
+            self.assertEqual(places.run(command.words, place, environment).status, 0)
+        world.took(recipe, Effects(tuple(reads), tuple(writes)), world.begun)
+        least, replaying.LEAST_SECONDS = replaying.LEAST_SECONDS, seconds
+        try:
+            replay = Replay(
+                world, str(self.folder), str(self.scratch / "replays"), environment, Ancestors()
+            )
+            (outcome,) = replay.run(world.trials)
+        finally:
+            replaying.LEAST_SECONDS = least
+        return outcome
+
+    def test_a_read_that_is_left_out(self) -> None:
+        self.write({"a": "1\n", "b": "2\n"})
+        lines = ["cat a b > out"]
+        self.assertTrue(self.replayed(lines, ["a", "b"], ["out"]).passed)
+        outcome = self.replayed(lines, ["a"], ["out"])
+        self.assertEqual(
+            (outcome.run, outcome.failed.splitlines()[0]), (BARE, "status 1, at cat a b > out")
+        )
+
+    def test_a_writing_that_is_left_out(self) -> None:
+        self.write({"a": "1\n", "b": "2\n"})
+        (left,) = self.replayed(["cp a out; cp a c"], ["a"], ["out"]).differences
+        self.assertEqual(left.what, "leaves c, which it didn't leave when it was recorded")
+        (changed,) = self.replayed(["cp a out; echo > b"], ["a", "b"], ["out"]).differences
+        self.assertEqual(changed.what, "changes b, which it wasn't recorded to write")
+        (touched,) = self.replayed(["cp a out; touch b"], ["a", "b"], ["out"]).differences
+        self.assertEqual(touched.what, "changes b, which it wasn't recorded to write")
+
+    def test_a_recipe_that_waits(self) -> None:
+        self.write({"a": "1\n", "ready": ""})
+        outcome = self.replayed(
+            ["until test -f ready; do sleep 0.1; done; cp a out"], ["a"], ["out"], 1.0
+        )
+        self.assertEqual(outcome.run, BARE)
+        self.assertRegex(
+            outcome.failed,
+            r"^it didn't end in \d+ seconds, where it took 0\.\d when it was recorded, at ",
+        )
+
+    def test_lines_that_differ(self) -> None:
+        one, two = self.scratch / "one", self.scratch / "two"
+        one.write_bytes(b"a\nb\nc\n")
+        two.write_bytes(b"a\nB\nc\n")
+        self.assertEqual(
+            lines_that_differ(str(one), str(two)), ('line 2 was "b"', 'line 2 is  "B"')
+        )
+        two.write_bytes(b"a\nb")
+        self.assertEqual(
+            lines_that_differ(str(one), str(two)), ('line 3 was "c"', "line 3 is  not there")
+        )
+        two.write_bytes(b"a\0")
+        self.assertEqual(lines_that_differ(str(one), str(two)), ())
+
+    def test_versions(self) -> None:
+        self.write({"a": "1\n", "b": "1\n"})
+        first, second = (version_of(str(self.folder / name)) for name in "ab")
+        self.assertEqual(first, second)
+        (self.folder / "b").chmod(0o600)
+        self.assertNotEqual(first, version_of(str(self.folder / "b")))
+        (self.folder / "l").symlink_to("nowhere")
+        self.assertEqual(version_of(str(self.folder / "l")), Version("link", 0, "nowhere"))
+        self.assertIsNone(version_of(str(self.folder / "none")))
+
+
+if __name__ == "__main__":
+    unittest.main()

@@ -1,0 +1,659 @@
+"""What a recorder can overlook: each case is recorded rightly, or refused."""
+
+from __future__ import annotations
+
+import os
+import shutil
+import socket
+import subprocess
+import sys
+import time
+import unittest
+
+from project import ROOT, Outcome, ProjectTest, compiled, traced
+
+sys.path.insert(0, str(ROOT / "tools"))
+
+from mkcheck_record import places  # noqa: E402
+
+ARCHIVES = unittest.skipUnless(shutil.which("tar"), "no tar")
+
+
+class Refusals(ProjectTest):
+    """Projects that are refused."""
+
+    def refused(self, makefile: str, files: dict[str, str] | None = None, *words: str) -> str:
+        """Records, which has to be refused with status 1; returns what was said."""
+        self.write({"makefile": makefile, **(files or {})})
+        outcome = self.record(*words)
+        self.assertEqual(
+            (outcome.status, outcome.book, outcome.output), (1, None, ""), outcome.errors
+        )
+        return outcome.errors
+
+    def of(self, makefile: str, files: dict[str, str] | None = None, *words: str) -> Outcome:
+        """Records, which has to succeed."""
+        self.write({"makefile": makefile, **(files or {})})
+        return self.recorded(*words)
+
+
+@traced
+class ScratchTest(Refusals):
+    """Files that are gone when their recipe has ended."""
+
+    def test_two_recipes_with_one_scratch_file(self) -> None:
+        outcome = self.of(
+            "all: a b\na: x\n\tcp x t; cp t a; rm t\nb: y\n\tcp y t; cp t b; rm t\n",
+            {"x": "", "y": ""},
+        )
+        self.assertEqual(
+            (outcome.own("a"), outcome.own("b")), (({"x"}, {"a", "t"}), ({"y"}, {"b", "t"}))
+        )
+        end = "too: with several jobs they destroy each other's, so it counts as written by each"
+        self.assertEqual(
+            outcome.warnings(),
+            [
+                f"the recipe of a makes and takes away t, which that of b uses {end}",
+                f"the recipe of b makes and takes away t, which that of a uses {end}",
+            ],
+        )
+        self.assertEqual(self.check(), ["no writers a b t"])
+
+    def test_a_scratch_file_that_is_renamed(self) -> None:
+        outcome = self.of(
+            "all: a b\na: x\n\tcp x t; mv t a\nb: y\n\tcp y t; mv t b\n", {"x": "", "y": ""}
+        )
+        self.assertEqual(
+            (outcome.own("a"), outcome.own("b")), (({"x"}, {"a", "t"}), ({"y"}, {"b", "t"}))
+        )
+        self.assertEqual(self.check(), ["no writers a b t"])
+
+    def test_a_scratch_file_of_one_recipe(self) -> None:
+        outcome = self.of(
+            "all: a b\na: x\n\tcp x t; mv t a\nb: x\n\tcp x u; cp u b; rm u\n", {"x": ""}
+        )
+        self.assertEqual((outcome.own("a"), outcome.own("b")), (({"x"}, {"a"}), ({"x"}, {"b"})))
+        self.assertEqual(outcome.warnings(), [])
+
+    def test_a_scratch_file_that_is_another_recipes_output(self) -> None:
+        outcome = self.of(
+            "all: a t\na: x\n\tcp x t; cp t a; rm t\nt: y\n\tcp y t\n", {"x": "", "y": ""}
+        )
+        self.assertEqual(
+            (outcome.own("a"), outcome.own("t")), (({"x"}, {"a", "t"}), ({"y"}, {"t"}))
+        )
+        self.assertEqual(self.check()[0], "no writers a t t")
+
+    def test_a_folder_that_two_recipes_make_and_take_away(self) -> None:
+        outcome = self.of(
+            (
+                "all: a b\na: x\n\tmkdir t; cp x t/1; cp t/1 a; rm -r t\n"
+                "b: x\n\tmkdir t; cp x t/2; cp t/2 b; rm -r t\n"
+            ),
+            {"x": ""},
+        )
+        self.assertEqual(
+            (outcome.own("a"), outcome.own("b")), (({"x"}, {"a", "t"}), ({"x"}, {"b", "t"}))
+        )
+        self.assertEqual(self.check(), ["no writers a b t"])
+
+    def test_a_folder_that_one_recipe_takes_away_and_another_fills(self) -> None:
+        outcome = self.of(
+            (
+                "all: a t/b\na: x\n\tmkdir t; cp x t/1; cp t/1 a; rm -r t\n"
+                "t/b: x\n\tmkdir -p t; cp x t/b\n"
+            ),
+            {"x": ""},
+        )
+        self.assertEqual(
+            (outcome.own("a"), outcome.own("t/b")), (({"x"}, {"a", "t"}), ({"x"}, {"t/b", "t"}))
+        )
+        self.assertEqual(self.check(), ["no writers a t/b t"])
+
+    def test_an_output_that_another_recipe_takes_away(self) -> None:
+        outcome = self.of("b: a\n\tmv a b\na: x\n\tcp x a\n", {"x": ""})
+        self.assertEqual(
+            (outcome.own("a"), outcome.own("b")), (({"x"}, {"a"}), ({"a"}, {"a", "b"}))
+        )
+        self.assertEqual(self.check()[0], "no writers a b a")
+
+
+@traced
+class LinkTest(Refusals):
+    """Symbolic links that recipes make are files that other recipes read."""
+
+    def test_the_text_of_a_link(self) -> None:
+        outcome = self.of("all: l out\nout:\n\treadlink l > out\nl:\n\tln -s a l\n")
+        self.assertEqual(outcome.own("out"), ({"l"}, {"out"}))
+        self.assertEqual(self.check(), ["no race out l l", "no stale out l"])
+
+    def test_a_copy_of_a_link(self) -> None:
+        outcome = self.of("m: l\n\tcp -P l m\nl:\n\tln -s a l\n")
+        self.assertEqual(outcome.own("m"), ({"l"}, {"m"}))
+
+    def test_a_copy_of_a_link_of_the_project(self) -> None:
+        (self.folder / "l").symlink_to("a")
+        self.assertEqual(self.of("m: l\n\tcp -P l m\n", {"a": ""}).own("m"), ({"l"}, {"m"}))
+
+    def test_a_folder_behind_a_link(self) -> None:
+        for way in (
+            "cd l && cat x > ../out",
+            "(cd l && exec cat x) > out",
+            "cd -P l/../d && cat x > ../out",
+        ):
+            outcome = self.of(f"all: l out\nout: d/x\n\t{way}\nl:\n\tln -s d l\n", {"d/x": ""})
+            self.assertEqual(outcome.own("out"), ({"l", "d/x"}, {"out"}), way)
+            self.assertEqual(self.check(), ["no race out l l", "no stale out l"])
+
+    @ARCHIVES
+    def test_a_descriptor_of_a_folder_behind_a_link(self) -> None:
+        outcome = self.of("out: l\n\ttar -C l -cf out x\nl:\n\tln -s d l\n", {"d/x": "text\n"})
+        self.assertEqual(outcome.own("out"), ({"l", "d/x"}, {"out"}))
+
+    def test_a_folder_that_is_renamed_while_a_process_stands_in_it(self) -> None:
+        outcome = self.of(
+            (
+                "e/x: a\n\tmkdir d; cd d; mv ../d ../e; ln -s ../a l; cat l > x; cd ../e; readlink"
+                " l > y\n"
+            ),
+            {"a": ""},
+        )
+        self.assertEqual(outcome.own("e/x"), ({"a"}, {"e/l", "e/x", "e/y"}))
+
+    def test_a_list_of_a_folder_behind_a_link(self) -> None:
+        outcome = self.of("out: l\n\tls l > out\nl:\n\tln -s d l\n", {"d/x": ""})
+        self.assertEqual(outcome.own("out"), ({"l"}, {"out"}))
+
+    def test_a_link_in_a_folder_that_is_renamed_later(self) -> None:
+        outcome = self.of(
+            "out: d/l a\n\tcat d/l > out; mv d e\nd/l:\n\tmkdir d; ln -s ../a d/l\n", {"a": ""}
+        )
+        self.assertEqual(outcome.own("out"), ({"d/l", "a"}, {"d/l", "e/l", "out"}))
+        self.assertEqual(self.check()[0], "no writers d/l out d/l")
+
+    def test_a_link_in_a_folder_that_gets_a_mode_and_is_renamed(self) -> None:
+        outcome = self.of(
+            "out: e/l a\n\tcat e/l > out\n"
+            "e/l:\n\tmkdir d; ln -s ../a d/l; chmod 700 d; touch d; mv d e\n",
+            {"a": ""},
+        )
+        self.assertEqual(outcome.own("e/l"), (set(), {"e/l"}))
+        self.assertEqual(outcome.own("out"), ({"e/l", "a"}, {"out"}))
+
+    def test_a_link_that_leads_elsewhere_later(self) -> None:
+        outcome = self.of(
+            "out: l\n\tcat l > out; ln -sf b l\nl:\n\tln -s a l\n", {"a": "", "b": ""}
+        )
+        self.assertEqual(outcome.own("out"), ({"l", "a"}, {"l", "out"}))
+
+    def test_a_program_over_a_link_that_leads_elsewhere_later(self) -> None:
+        files = {"one": "#!/bin/sh\necho 1\n", "two": "#!/bin/sh\necho 2\n"}
+        outcome = self.of("out: l\n\t./l > out; ln -sfn two l\nl:\n\tln -s one l\n", files)
+        self.assertEqual(outcome.own("out"), ({"l", "one"}, {"l", "out"}))
+
+    def test_a_link_that_takes_the_place_of_another(self) -> None:
+        outcome = self.of(
+            "out: l\n\tln -s b m; mv m l; cat l > out\nl:\n\tln -s a l\n", {"a": "", "b": ""}
+        )
+        self.assertEqual(outcome.own("out"), ({"b"}, {"l", "out"}))
+
+    def test_a_link_to_a_link(self) -> None:
+        outcome = self.of("out: m\n\tcat m > out\nm: l\n\tln -s l m\nl:\n\tln -s a l\n", {"a": ""})
+        self.assertEqual(outcome.own("out"), ({"m", "l", "a"}, {"out"}))
+
+    def test_a_link_by_the_projects_own_path(self) -> None:
+        outcome = self.of(
+            f"out: l\n\tcat l > out\nl:\n\tln -s {self.folder}/a l\n", {"a": ""}, "--in-place"
+        )
+        self.assertEqual(outcome.own("out"), ({"l", "a"}, {"out"}))
+
+    def test_a_second_name_of_a_link(self) -> None:
+        outcome = self.of("out: m\n\tcat m > out\nm: l\n\tln -P l m\nl:\n\tln -s a l\n", {"a": ""})
+        self.assertEqual(
+            (outcome.own("m"), outcome.own("out")), (({"l"}, {"m"}), ({"m", "a"}, {"out"}))
+        )
+
+    def test_stamps_of_links_themselves(self) -> None:
+        outcome = self.of("all: l m\nm: l\n\ttouch -h l; echo > m\nl: a\n\tln -s a l\n", {"a": ""})
+        self.assertEqual(outcome.own("m"), ({"l"}, {"l", "m"}))
+        self.assertEqual(self.check()[0], "no writers l m l")
+
+    def test_a_copy_with_stamps_of_links(self) -> None:
+        (self.folder / "d").mkdir()
+        (self.folder / "d" / "l").symlink_to("x")
+        outcome = self.of("e/x: d/x\n\tcp -a d e\n", {"d/x": ""})
+        self.assertEqual(outcome.own("e/x"), ({"d/x", "d/l"}, {"e/x", "e/l"}))
+
+    def test_folders_that_lead_to_each_other(self) -> None:
+        for name in ("a", "b", "c"):
+            (self.folder / name).mkdir()
+            for other in ("a", "b", "c"):
+                (self.folder / name / other).symlink_to(f"../{other}")
+        outcome = self.of("out: a/b/x\n\tcat a/b/x > out\n", {"b/x": "", "a/x": "", "c/x": ""})
+        self.assertEqual(outcome.own("out"), ({"b/x"}, {"out"}))
+
+    def test_a_source_behind_two_links(self) -> None:
+        for name, goal in (("i", "s"), ("s/j", "../t")):
+            (self.folder / name).parent.mkdir(exist_ok=True)
+            (self.folder / name).symlink_to(goal)
+        outcome = self.of("out: i/j/x\n\tcat i/j/x > out\n", {"t/x": ""})
+        self.assertEqual(outcome.own("out"), ({"t/x"}, {"out"}))
+
+
+@traced
+class ContentTest(Refusals):
+    """What was in a file before, and who may use it."""
+
+    def test_bytes_that_are_kept(self) -> None:
+        for way in (
+            "dd if=x of=a bs=1 count=1 conv=notrunc 2>/dev/null",
+            "printf y 1<> a",
+            "printf y >> a",
+            "truncate -s 3 a",
+        ):
+            outcome = self.of(
+                f"all: a b\nb: a\n\t{way}; echo > b\na:\n\techo old > a\n", {"x": "x"}
+            )
+            reads = {"x", "a"} if way.startswith("dd") else {"a"}
+            self.assertEqual(outcome.own("b"), (reads, {"a", "b"}), way)
+            self.assertEqual(self.check()[0], "no writers a b a")
+
+    def test_bytes_that_are_not_kept(self) -> None:
+        for way in ("dd if=/dev/null of=a 2>/dev/null", ": > a", "rm a; printf y 1<> a"):
+            self.assertEqual(
+                self.of(f"all: a b\nb:\n\t{way}; echo > b\na:\n\techo old > a\n", {}).own("b")[0],
+                set(),
+                way,
+            )
+
+    def test_a_stamp_keeps_the_bytes(self) -> None:
+        outcome = self.of("all: a b\nb: a\n\ttouch a; echo > b\na:\n\techo old > a\n")
+        self.assertEqual(outcome.own("b"), ({"a"}, {"a", "b"}))
+
+    def test_a_target_that_is_only_touched(self) -> None:
+        said = self.refused(
+            "out: a.h\n\tcp a.h out\na.h: b.h\n\ttouch a.h\n", {"a.h": "text\n", "b.h": ""}
+        )
+        self.assertEqual(
+            said,
+            (
+                "mkcheck-record: a.h was there before, and its recipe leaves it empty, so its"
+                " content is made by no recipe, and a build from nothing lacks it; let the recipe"
+                " write a.h, or leave out the rule's commands\n"
+            ),
+        )
+
+    def test_a_target_that_no_recipe_writes(self) -> None:
+        said = self.refused(
+            "out: a.h\n\tcat a.h > out || :\na.h: b.h\n\t@:\n", {"a.h": "text\n", "b.h": ""}
+        )
+        self.assertIn("a.h was there before, and its recipe doesn't write it, so its content", said)
+
+    def test_a_stamp_that_was_there(self) -> None:
+        outcome = self.of(
+            "out: stamp\n\techo > out\nstamp: a\n\ttouch stamp\n", {"stamp": "", "a": ""}
+        )
+        self.assertEqual(outcome.own("stamp"), (set(), {"stamp"}))
+
+    def test_an_old_stamp(self) -> None:
+        self.write({"makefile": "out: a\n\tcp -p a out\n", "a": ""})
+        os.utime(self.folder / "a", (1e9, 1e9))
+        self.assertEqual(
+            self.recorded().warnings(),
+            [
+                "the recipe of out gives out an old stamp, as cp -p, touch -d and tar do: make"
+                " takes it for older than what it was made from; let the recipe touch it"
+            ],
+        )
+
+    def test_a_phony_target_with_a_file_of_its_name(self) -> None:
+        said = self.refused(
+            ".PHONY: test\nout: test\n\tsh test > out\ntest:\n\t@echo tested\n",
+            {"test": "echo 1\n"},
+        )
+        self.assertEqual(
+            said,
+            (
+                "mkcheck-record: the recipe of out reads the file test, but test is a phony target,"
+                " and make doesn't look at a file of that name; give one of the two another name\n"
+            ),
+        )
+
+    def test_a_phony_target_without_recipe_and_a_file(self) -> None:
+        said = self.refused(".PHONY: all\nall: out\nout:\n\tcp all out\n", {"all": "text\n"})
+        self.assertIn("reads the file all, but all is a phony target", said)
+
+    def test_a_phony_target_whose_file_is_used_by_nobody(self) -> None:
+        outcome = self.of(".PHONY: install\ninstall: a\n\tcp a b\n", {"install": "", "a": ""})
+        self.assertEqual((outcome.own("install"), outcome.warnings()), (({"a"}, {"b"}), []))
+
+    def test_a_phony_target_that_writes_its_file(self) -> None:
+        outcome = self.of(
+            ".PHONY: p\nout: p\n\tcp p out\np: a\n\tcp a p\n", {"p": "old\n", "a": ""}
+        )
+        self.assertEqual((outcome.own("p"), outcome.own("out")), (({"a"}, {"p"}), ({"p"}, {"out"})))
+
+    def test_a_mode_that_another_recipe_gives(self) -> None:
+        outcome = self.of(
+            "all: s x out\ns:\n\techo echo 1 > s\nx: s\n\tchmod 755 s; echo > x\nout: s\n\t./s >"
+            " out || :\n"
+        )
+        self.assertEqual(outcome.own("x"), ({"s"}, {"s", "x"}))
+        self.assertEqual(self.check()[0], "no writers s x s")
+
+    def test_a_mode_that_a_file_has_already(self) -> None:
+        outcome = self.of(
+            (
+                "all: s x\ns:\n\techo echo 1 > s; chmod 755 s\nx: s t\n\tchmod 755 s t; ./s > x;"
+                " ./t >> x\n"
+            ),
+            {"t": "#!/bin/sh\necho 2\n"},
+        )
+        self.assertEqual(outcome.own("x"), ({"s", "t"}, {"x"}))
+
+    def test_a_mode_of_a_source(self) -> None:
+        said = self.refused("x: s\n\tchmod u=rwx,go= s; ./s > x\n", {"s": "#!/bin/sh\necho 1\n"})
+        self.assertIn(
+            (
+                "the recipe of x writes s, which the makefile takes for a source, since no rule"
+                " makes it"
+            ),
+            said,
+        )
+
+
+@traced
+class ProgramTest(Refusals):
+    """Programs, and what starts in their place."""
+
+    def test_a_relative_interpreter(self) -> None:
+        outcome = self.of("out: s\n\t./s\n", {"s": "#!./i x\n", "i": "#!/bin/sh\necho 1 > out\n"})
+        self.assertEqual(outcome.own("out"), ({"s", "i"}, {"out"}))
+
+    def test_a_relative_interpreter_from_another_folder(self) -> None:
+        outcome = self.of(
+            "out: s\n\tcd d && ../s\n", {"s": "#!./i\n", "d/i": "#!/bin/sh\necho 1 > ../out\n"}
+        )
+        self.assertEqual(outcome.own("out"), ({"s", "d/i"}, {"out"}))
+
+    def test_an_interpreter_behind_a_link_that_a_recipe_made(self) -> None:
+        outcome = self.of(
+            "all: l out\nout: s\n\t./s\nl:\n\tln -s i l\n",
+            {"s": "#!./l\n", "i": "#!/bin/sh\necho > out\n"},
+        )
+        self.assertEqual(outcome.own("out"), ({"s", "l", "i"}, {"out"}))
+
+    @compiled
+    def test_a_relative_loader(self) -> None:
+        self.write(
+            {
+                "makefile": (
+                    "all: p out\nout: p\n\t./p > out\np: p.c\n\tcc -o p p.c"
+                    " -Wl,--dynamic-linker=./ld\n"
+                ),
+                "p.c": "int main(void) { return 0; }\n",
+            }
+        )
+        loader = next(
+            (
+                path
+                for path in ("/lib64/ld-linux-x86-64.so.2", "/lib/ld-linux-aarch64.so.1")
+                if os.path.exists(path)
+            ),
+            None,
+        )
+        if loader is None:
+            self.skipTest("no loader of a known name")
+        shutil.copy(os.path.realpath(loader), self.folder / "ld")
+        self.assertEqual(self.recorded().own("out"), ({"p", "ld"}, {"out"}))
+
+
+@traced
+class NameTest(Refusals):
+    """Names of files, and of folders for temporary files."""
+
+    def test_names_that_footprints_cannot_hold(self) -> None:
+        for name in ("a b", "x) = -1 ENOENT (No such file)", "x (deleted)", "a <unfinished ...>"):
+            said = self.refused(f"out:\n\techo > '{name}'; echo > out\n")
+            self.assertEqual(
+                said,
+                (
+                    "mkcheck-record: the recipe of out writes files whose names footprints can't"
+                    " hold, for a blank, a control character or a byte that isn't UTF-8: give them"
+                    f" other names\n\tout writes {self.folder}/{name}\n"
+                ),
+            )
+            said = self.refused(f"out:\n\tcat '{name}' > out\n", {name: ""})
+            self.assertIn(f"\tout reads {self.folder}/{name}\n", said)
+            (self.folder / name).unlink()
+
+    def test_files_that_only_a_copy_of_the_whole_would_use(self) -> None:
+        self.write({"makefile": "out: a\n\tcp a out\n", "a": "", "b c": ""})
+        os.mkfifo(self.folder / "pipe")
+        with socket.socket(socket.AF_UNIX) as unused:
+            unused.bind(str(self.folder / "s"))
+        (self.folder / "huge").touch()
+        os.truncate(self.folder / "huge", 1 << 42)
+        outcome = self.recorded()
+        self.assertEqual(outcome.own("out"), ({"a"}, {"out"}))
+        (told,) = outcome.warnings()
+        self.assertRegex(
+            told, r"^not copied, since they can't be read or are no files: (pipe, s|s, pipe)$"
+        )
+
+    def test_names_that_are_the_recorders_own(self) -> None:
+        above = self.scratch / "above"
+        above.mkdir()
+        for name in ("trace", "book.json", "copy", "store", "replays", "trace.pipe"):
+            folder = above / name
+            folder.mkdir()
+            (folder / "makefile").write_text(f"out: {name}.c\n\tcat {name}.c > out\n")
+            (folder / f"{name}.c").write_text("")
+            outcome = self.record("-C", str(folder))
+            self.assertEqual(
+                (outcome.status, outcome.own("out")), (0, ({f"{name}.c"}, {"out"})), outcome.errors
+            )
+
+    def test_a_folder_for_temporary_files_with_odd_characters(self) -> None:
+        for name in ("a b", "it's", 'q"', "$x", "ä;"):
+            folder = self.scratch / name
+            folder.mkdir()
+            self.write(
+                {
+                    "makefile": 'out: a\n\tt=`mktemp`; cp a "$$t"; cat "$$t" > out; rm "$$t"\n',
+                    "a": "",
+                }
+            )
+            outcome = self.record("--make", environment={"TMPDIR": str(folder)})
+            self.assertEqual(
+                (outcome.status, outcome.own("out"), outcome.warnings()),
+                (0, ({"a"}, {"out"}), []),
+                name,
+            )
+            self.assertEqual(list(folder.iterdir()), [])
+
+    @unittest.skipUnless(os.access("/dev/shm", os.W_OK), "no /dev/shm")
+    def test_a_folder_that_seems_to_hold_devices(self) -> None:
+        self.write({"makefile": "out: a\n\tcp a out\n", "a": ""})
+        outcome = self.record(environment={"TMPDIR": "/dev/shm"})
+        self.assertEqual(outcome.own("out"), ({"a"}, {"out"}))
+        folder = f"/dev/shm/{os.path.basename(self.scratch)}"
+        shutil.copytree(self.folder, folder)
+        self.addCleanup(shutil.rmtree, folder)
+        self.assertEqual(self.record("-C", folder).own("out"), ({"a"}, {"out"}))
+
+    def test_a_folder_as_prerequisite(self) -> None:
+        self.write({"makefile": "out: d\n\techo > out\n", "d/x": ""})
+        outcome = self.record()
+        self.assertEqual((outcome.status, outcome.book), (2, None))
+        self.assertEqual(
+            outcome.errors,
+            (
+                "mkcheck-record: mkcheck graph: refused 41 d: d is a folder, and footprints have"
+                " files alone; name a file in it, or let each recipe that needs the folder make"
+                " it (mkdir -p d)\n"
+            ),
+        )
+
+    def test_files_above_the_folder(self) -> None:
+        (self.scratch / "above").mkdir()
+        (self.scratch / "above" / "a").write_text("")
+        said = self.refused("out:\n\tcat ../above/a > out\n")
+        self.assertEqual(
+            said,
+            (
+                "mkcheck-record: the recipe of out reads files above the folder: record from the"
+                " folder that holds both, where a makefile there builds this one, or give --fixed"
+                f" PREFIX where they never change\n\tout reads {self.scratch}/above/a\n"
+            ),
+        )
+        outcome = self.of("out:\n\tcat ../above/a > out\n", {}, "--fixed", "../above")
+        self.assertEqual(outcome.own("out"), ({"../above/a"}, {"out"}))
+
+
+@traced
+class ProcessTest(Refusals):
+    """Processes that a trace doesn't follow, or that go on."""
+
+    def test_a_process_in_the_background(self) -> None:
+        said = self.refused("out:\n\t(sleep 60; echo > late) > /dev/null 2>&1 & echo > out\n")
+        self.assertRegex(
+            said,
+            r"^mkcheck-record: the recipe of out leaves /bin/sh, \S+/sleep running when its command"
+            r" has ended:"
+            " make doesn't wait for that, so nothing tells when its files are whole; let the"
+            " command"
+            " wait for it\n$",
+        )
+
+    @unittest.skipUnless(shutil.which("setsid"), "no setsid")
+    def test_a_process_of_its_own_session(self) -> None:
+        mark = str(self.scratch / "mark")
+        said = self.refused(
+            f"out:\n\tsetsid sh -c 'sleep 60; echo > {mark}' > /dev/null 2>&1 & echo > out\n"
+        )
+        self.assertRegex(said, r"leaves \S+/.* running when its command has ended")
+        self.assertEqual(left_with(mark), [])
+
+    def test_a_process_that_is_waited_for(self) -> None:
+        self.assertEqual(
+            self.of("out: a\n\tcp a b & wait; cat b > out; rm b\n", {"a": ""}).own("out"),
+            ({"a"}, {"out"}),
+        )
+
+    def test_a_process_that_is_killed(self) -> None:
+        outcome = self.of(
+            "out: a\n\tsleep 60 & cp a out; kill $$!; yes | head -1 > b; rm b; wait\n", {"a": ""}
+        )
+        self.assertEqual(outcome.own("out"), ({"a"}, {"out"}))
+
+    def test_a_server_that_is_asked(self) -> None:
+        script = (
+            "import socket, sys\n"
+            "server = socket.socket(socket.AF_UNIX)\n"
+            "if len(sys.argv) > 2:\n"
+            "    server.bind(sys.argv[2])\n"
+            "    server.listen()\n"
+            "socket.socket(socket.AF_UNIX).connect(sys.argv[1])\n"
+            "open('out', 'w').close()\n"
+        )
+        python = os.path.realpath(sys.executable)
+        path = str(self.scratch / "s")
+        with socket.socket(socket.AF_UNIX) as server:
+            server.bind(path)
+            server.listen()
+            self.write({"makefile": f"out: ask\n\t{python} -IB ask {path}\n", "ask": script})
+            self.assertEqual(
+                self.recorded("--fixed", os.path.dirname(os.path.dirname(python))).warnings(),
+                [
+                    f"the recipe of out asks the socket {path}: what that does or answers isn't"
+                    " recorded"
+                ],
+            )
+        self.write({"makefile": f"out: ask\n\t{python} -IB ask own own; rm own\n"})
+        self.assertEqual(
+            self.recorded("--fixed", os.path.dirname(os.path.dirname(python))).warnings(), []
+        )
+
+    def test_another_root_of_all_files(self) -> None:
+        if (
+            subprocess.run(
+                ["unshare", "--user", "--map-root-user", "--mount", "true"], check=False
+            ).returncode
+            != 0
+        ):
+            self.skipTest("no namespace is allowed")
+        said = self.refused("out:\n\tunshare --user --map-root-user --mount true; echo > out\n")
+        self.assertIn(
+            "the recipe of out calls unshare with CLONE_NEWNS, mount: after that its paths", said
+        )
+
+    def test_strace_that_is_killed(self) -> None:
+        self.write({"makefile": "out:\n\techo > out; kill -9 $$PPID; sleep 1; echo > late\n"})
+        outcome = self.record()
+        self.assertEqual((outcome.status, outcome.book), (2, None))
+        self.assertIn(
+            "the trace ends before the command does: strace was killed, or couldn't go on",
+            outcome.errors,
+        )
+
+
+@traced
+class ReplayedTest(Refusals):
+    """What no trace shows, but the replay does."""
+
+    replays = True
+
+    def setUp(self) -> None:
+        super().setUp()
+        if places.namespace() is None:
+            self.skipTest("no mount namespace is allowed")
+
+    def test_an_interpreter_of_a_script_that_is_gone(self) -> None:
+        shutil.copy(os.path.realpath(shutil.which("echo") or "/bin/echo"), self.folder / "i")
+        said = self.refused("out: i\n\tprintf '#!./i\\n' > t; chmod 755 t; ./t > out; rm t\n")
+        self.assertIn("the recipe of out, run in a folder that holds only what it is", said)
+
+    @unittest.skipUnless(shutil.which("make"), "no make")
+    def test_a_make_that_leaves_files_alone(self) -> None:
+        said = self.refused(
+            "out: a\n\tmake -s -f sub.mk out\n",
+            {"sub.mk": "out: a\n\tcp a out\n", "a": ""},
+            *("--opaque", "out"),
+        )
+        self.assertIn("run where its own outputs are already there, doesn't write out anew", said)
+
+    def test_a_shared_scratch_file_is_no_output(self) -> None:
+        outcome = self.of("all: a b\na: x\n\tcp x t; mv t a\nb: x\n\tcp x t; mv t b\n", {"x": ""})
+        self.assertEqual((outcome.own("a")[1], outcome.own("b")[1]), ({"a", "t"}, {"b", "t"}))
+
+    def test_links_of_the_project(self) -> None:
+        (self.folder / "i").symlink_to("s")
+        outcome = self.of("out: s/x\n\tcat i/x > out; cd i; cat x >> ../out\n", {"s/x": "1\n"})
+        self.assertEqual(outcome.own("out"), ({"s/x"}, {"out"}))
+
+
+def left_with(text: str) -> list[str]:
+    """The command lines of processes that hold a text, after a moment for killed ones to end."""
+    until = time.monotonic() + 2
+    while (found := processes_with(text)) and time.monotonic() < until:
+        time.sleep(0.02)
+    return found
+
+
+def processes_with(text: str) -> list[str]:
+    """The command lines of processes that hold a text."""
+    found = []
+    for number in filter(str.isdigit, os.listdir("/proc")):
+        try:
+            with open(f"/proc/{number}/cmdline", "rb") as file:
+                line = file.read().decode("utf-8", "replace").replace("\0", " ")
+        except OSError:
+            continue
+        if text in line:
+            found.append(line)
+    return found
+
+
+if __name__ == "__main__":
+    unittest.main()

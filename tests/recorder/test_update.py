@@ -1,0 +1,493 @@
+"""`--update` gives what a full recording gives, with few recipes, and believes no wrong state."""
+
+from __future__ import annotations
+
+import json
+import os
+import random
+import shutil
+import sys
+import unittest
+from collections.abc import Callable
+from pathlib import Path
+
+from project import ROOT, Outcome, ProjectTest, compiled, traced
+
+sys.path.insert(0, str(ROOT / "tools"))
+
+from mkcheck_record import states  # noqa: E402
+
+ALL = "all recipes are recorded"
+
+# A project in which files are looked for, listed, generated, linked and started. `find` takes the
+# first of two folders that has a file, `tool` and `lib` are read by a script, `d` is read whole.
+MAKEFILE = """\
+prog: a.o b.o gen.h list link.o deep/stamp
+\tcat a.o b.o gen.h list link.o > prog
+a.o: a.c gen.h
+\t./find x.h > a.o; cat a.c gen.h >> a.o
+b.o: b.c
+\t./find y.h > b.o; cat b.c >> b.o
+gen.h: gen.in tool
+\t./tool gen.in > gen.h
+list: d/1.txt
+\tcat d/*.txt > list
+link.o: l
+\tcat l > link.o; readlink l >> link.o
+deep/stamp:
+\tmkdir -p deep/er; echo 1 > deep/er/x; touch deep/stamp
+"""
+FILES = {
+    "a.c": "a\n",
+    "b.c": "b\n",
+    "gen.in": "g\n",
+    "lib": "lib\n",
+    "tool": '#!/bin/sh\ncat lib "$1"\n',
+    "find": "#!/bin/sh\nfor d in one two; do if test -f $d/$1; then cat $d/$1; exit 0; fi; done\n",
+    "two/x.h": "x\n",
+    "two/y.h": "y\n",
+    "one/keep": "",
+    "d/1.txt": "1\n",
+    "d/2.txt": "2\n",
+    "unused": "",
+}
+
+
+class UpdateTest(ProjectTest):
+    """A project that is recorded again and again."""
+
+    def setUp(self) -> None:
+        super().setUp()
+        self.updated = self.scratch / "updated.json"
+
+    def start(self) -> None:
+        """Writes the project above."""
+        self.write({"makefile": MAKEFILE, **FILES})
+        (self.folder / "l").symlink_to("two/x.h")
+
+    def start_again(self) -> None:
+        """Writes it again, since it was changed so that it can't be recorded."""
+        shutil.rmtree(self.folder)
+        self.folder.mkdir()
+        self.start()
+
+    def update(self, *words: str, environment: dict[str, str] | None = None) -> Outcome:
+        """Updates the footprints, without a replay."""
+        return self.record_plainly("--update", str(self.updated), *words, environment=environment)
+
+    def full(self, *words: str) -> Outcome:
+        """Records all anew."""
+        return self.record(*words)
+
+    def told(self, outcome: Outcome) -> list[str]:
+        """What was said besides warnings."""
+        front = "mkcheck-record: "
+        lines = [
+            line[len(front) :] for line in outcome.errors.splitlines() if line.startswith(front)
+        ]
+        return [line for line in lines if not line.startswith("warning: ")]
+
+    def count(self, outcome: Outcome) -> int:
+        """How many recipes were recorded."""
+        self.assertEqual((outcome.status, outcome.output), (0, ""), outcome.errors)
+        (line,) = [
+            line for line in self.told(outcome) if line.endswith("the others hadn't changed")
+        ]
+        return int(line.split()[0])
+
+    def assert_as_full(self, *words: str) -> None:
+        """The footprints and the warnings are those of a full recording."""
+        outcome = self.update(*words)
+        full = self.full(*words)
+        self.assertEqual((outcome.status, full.status), (0, 0), outcome.errors + full.errors)
+        self.assertEqual(self.updated.read_text(), self.book.read_text())
+        self.assertEqual(outcome.warnings(), full.warnings())
+
+
+@traced
+class CountTest(UpdateTest):
+    """How many recipes are recorded after which change. The project has seven."""
+
+    def after(self, change: Callable[[], object]) -> int:
+        """Changes something; the update has to be right, and gives how many recipes it recorded."""
+        change()
+        outcome = self.update()
+        count = self.count(outcome)
+        self.full()
+        self.assertEqual(self.updated.read_text(), self.book.read_text())
+        return count
+
+    def begin(self) -> Callable[[str, str], object]:
+        """Records all for the first time; returns what writes a file."""
+        self.start()
+        first = self.update()
+        self.assertEqual(self.count(first), 7)
+        self.assertEqual(
+            self.told(first)[0], f"{self.updated}.state has no footprints beside it: {ALL}"
+        )
+        return lambda name, text: (self.folder / name).write_text(text)
+
+    def test_sources(self) -> None:
+        put = self.begin()
+        self.assertEqual(self.after(lambda: None), 0)
+        self.assertEqual(self.after(lambda: put("unused", "2")), 0)
+        self.assertEqual(self.after(lambda: put("new", "")), 0)
+        self.assertEqual(self.after(lambda: os.utime(self.folder / "a.c")), 0)
+        # A source, and what reads what is made of it.
+        self.assertEqual(self.after(lambda: put("a.c", "A\n")), 2)
+        self.assertEqual(self.after(lambda: put("gen.in", "G\n")), 3)
+        # A file that a script reads, and the script.
+        self.assertEqual(self.after(lambda: put("lib", "LIB\n")), 3)
+        self.assertEqual(self.after(lambda: put("tool", '#!/bin/sh\ncat lib\ncat "$1"\n')), 1)
+
+    def test_looks(self) -> None:
+        put = self.begin()
+        # A file that is found earlier; its reader's output stays the same in the second case.
+        self.assertEqual(self.after(lambda: put("one/x.h", "other\n")), 2)
+        self.assertEqual(self.after(lambda: put("one/y.h", "y\n")), 1)
+        self.assertEqual(self.after(lambda: (self.folder / "one/x.h").unlink()), 2)
+        # A folder that is read whole.
+        self.assertEqual(self.after(lambda: put("d/3.txt", "3\n")), 2)
+        self.assertEqual(self.after(lambda: put("d/notes", "")), 1)
+        # A link, and what it leads to.
+        self.assertEqual(self.after(lambda: put("two/x.h", "X\n")), 3)
+        link = self.folder / "l"
+        self.assertEqual(self.after(lambda: (link.unlink(), link.symlink_to("two/y.h"))), 2)
+        # A mode.
+        self.assertEqual(self.after(lambda: (self.folder / "b.c").chmod(0o600)), 1)
+
+    def test_commands(self) -> None:
+        put = self.begin()
+        text = MAKEFILE.replace("cat b.c >> b.o", "cat b.c b.c >> b.o")
+        self.assertEqual(self.after(lambda: put("makefile", text)), 2)
+        text = text.replace("prog: a.o b.o", "prog: b.o a.o")
+        self.assertEqual(self.after(lambda: put("makefile", text)), 0)
+        text = (
+            text.replace("deep/stamp\n", "deep/stamp extra\n", 1)
+            + "extra: deep/stamp\n\tcat deep/er/x > extra\n"
+        )
+        self.assertEqual(self.after(lambda: put("makefile", text)), 1)
+
+    def test_outputs_in_the_folder_count_for_nothing(self) -> None:
+        self.start()
+        self.update()
+        self.write({"a.o": "old", "prog": "old", "deep/stamp": "", "deep/er/x": "old"})
+        self.assertEqual(self.count(self.update()), 1)
+        (self.folder / "a.c").write_text("A\n")
+        self.assert_as_full()
+
+    def test_goals(self) -> None:
+        self.start()
+        self.update()
+        self.assertEqual(self.count(self.update("a.o", "list")), 0)
+        self.full("a.o", "list")
+        self.assertEqual(self.updated.read_text(), self.book.read_text())
+        self.assertEqual(self.count(self.update("b.o")), 1)
+
+    def test_a_file_that_two_recipes_write(self) -> None:
+        self.write(
+            {
+                "makefile": (
+                    "all: a b c\na: s\n\tcp s x; cp s a\nb: a\n\techo 2 >> x; cp x b\nc: b\n\tcp"
+                    " x c\n"
+                ),
+                "s": "1\n",
+            }
+        )
+        self.update()
+        self.assertEqual(self.count(self.update()), 0)
+        self.write({"s": "3\n"})
+        self.assertEqual(self.count(self.update()), 3)
+        self.assert_as_full()
+
+    def test_warnings_come_again(self) -> None:
+        self.write({"makefile": "all: a b\na:\n\techo > x; echo > a\nb: a\n\trm x; echo > b\n"})
+        first = self.update().warnings()
+        self.assertEqual(len(first), 2, first)
+        second = self.update()
+        self.assertEqual((self.count(second), second.warnings()), (0, first))
+
+    def test_a_tool_under_a_fixed_prefix(self) -> None:
+        tools, others = self.scratch / "tools", self.scratch / "others"
+        for folder in (tools, others):
+            folder.mkdir()
+        self.write({"makefile": "all: a b\na:\n\tmytool > a\nb:\n\techo > b\n"})
+        path = f"{others}:{tools}:{os.environ['PATH']}"
+        words = ("--fixed", str(tools), "--fixed", str(others))
+
+        def put(folder: Path, text: str) -> int:
+            (folder / "mytool").write_text(f"#!/bin/sh\necho {text}\n")
+            (folder / "mytool").chmod(0o755)
+            return self.count(self.update(*words, environment={"PATH": path}))
+
+        self.assertEqual(put(tools, "1"), 2)
+        self.assertEqual(put(tools, "1"), 0)
+        self.assertEqual(put(tools, "2"), 1)
+        self.assertEqual(put(others, "3"), 1)
+        self.assertIn(f"{others}/mytool", self.updated.read_text())
+
+    @compiled
+    def test_headers_that_are_found_earlier(self) -> None:
+        self.write(
+            {
+                "makefile": "m.o: m.c\n\tcc -Ione -Itwo -c m.c\nn.o: n.c\n\tcc -Itwo -c n.c\n",
+                "m.c": "#include <h.h>\n",
+                "n.c": "#include <h.h>\n",
+                "two/h.h": "",
+                "one/k": "",
+            }
+        )
+        self.assertEqual(self.count(self.update("m.o", "n.o")), 2)
+        self.write({"one/h.h": ""})
+        self.assertEqual(self.count(self.update("m.o", "n.o")), 1)
+        self.full("m.o", "n.o")
+        self.assertEqual(self.updated.read_text(), self.book.read_text())
+        self.assertIn("one/h.h", self.updated.read_text())
+
+
+@traced
+class RandomTest(UpdateTest):
+    """Random edits, one or several at a time, each compared with a full recording."""
+
+    def edit(self, numbers: random.Random) -> str:
+        """Changes something in the project; tells what."""
+        files = [
+            path
+            for path in sorted(self.folder.rglob("*"))
+            if path.is_file() and not path.is_symlink()
+        ]
+        path = numbers.choice(
+            [path for path in files if path.name not in ("makefile", "tool", "find")]
+        )
+        kind = numbers.choice(
+            ("write", "append", "new", "gone", "mode", "script", "command", "back", "link")
+        )
+        if kind == "write":
+            path.write_text(f"{numbers.randrange(4)}\n")
+        elif kind == "append":
+            path.write_text(path.read_text() + "more\n")
+        elif kind == "new":
+            folder = self.folder / numbers.choice(("one", "two", "d", "deep", "."))
+            folder.mkdir(exist_ok=True)
+            name = numbers.choice(("x.h", "y.h", "3.txt", "4.txt", "er", "note"))
+            if not (folder / name).is_dir():
+                (folder / name).write_text(numbers.choice(("x\n", "new\n")))
+        elif kind == "gone" and path.parent.name in ("one", "d", "deep") and path.name != "1.txt":
+            path.unlink()
+        elif kind == "mode":
+            path.chmod(numbers.choice((0o644, 0o755, 0o600)))
+        elif kind == "script":
+            path = self.folder / numbers.choice(("tool", "find"))
+            path.write_text(
+                path.read_text()
+                + numbers.choice(("cat lib\n", "true\n", "ls d\n", "test -f one/none\n"))
+            )
+        elif kind == "command":
+            makefile = self.folder / "makefile"
+            one, two = numbers.choice(
+                (
+                    (" > prog", " unused > prog"),
+                    ("cat b.c", "cat unused b.c"),
+                    ("d/*.txt", "d/*"),
+                    ("./find x.h", "./find y.h"),
+                    ("echo 1", "echo 2"),
+                    ("a.o b.o", "b.o a.o"),
+                )
+            )
+            makefile.write_text(makefile.read_text().replace(one, two, 1))
+        elif kind == "back":
+            (self.folder / "makefile").write_text(MAKEFILE)
+        elif kind == "link":
+            (self.folder / "l").unlink()
+            (self.folder / "l").symlink_to(numbers.choice(("two/x.h", "two/y.h", "unused")))
+        return f"{kind} {path.name}"
+
+    def edits(self, seed: int, rounds: int) -> None:
+        """As many rounds of edits."""
+        numbers = random.Random(seed)
+        self.start()
+        self.assert_as_full()
+        done, right = [], 0
+        for _ in range(rounds):
+            done.append([self.edit(numbers) for _ in range(numbers.choice((1, 1, 1, 2, 4)))])
+            outcome, full = self.update(), self.full()
+            said = f"seed {seed}: {done}\n{outcome.errors}{full.errors}"
+            self.assertEqual(outcome.status, full.status, said)
+            if full.status != 0:
+                self.start_again()
+                continue
+            right += 1
+            self.assertEqual(self.updated.read_text(), self.book.read_text(), said)
+            self.assertEqual(outcome.warnings(), full.warnings(), said)
+        self.assertGreater(right, rounds // 2)
+
+    def test_first(self) -> None:
+        self.edits(1, 10)
+
+    def test_second(self) -> None:
+        self.edits(2, 10)
+
+    def test_third(self) -> None:
+        self.edits(3, 10)
+
+
+@traced
+class StateTest(UpdateTest):
+    """States that are wrong, old or torn."""
+
+    def setUp(self) -> None:
+        super().setUp()
+        self.write({"makefile": "b: a\n\tcp a b\na: s\n\tcp s a\n", "s": "1\n"})
+        self.assertEqual(self.count(self.update()), 2)
+        self.state = Path(f"{self.updated}.state")
+        self.store = Path(f"{self.updated}.state.d")
+
+    def all_again(self, *words: str, environment: dict[str, str] | None = None) -> str:
+        """Updates, for which all has to be recorded; gives the reason."""
+        outcome = self.update(*words, environment=environment)
+        self.assertEqual(self.count(outcome), 2)
+        self.assertEqual(self.count(self.update(*words, environment=environment)), 0)
+        front, line = f"{self.state} ", self.told(outcome)[0]
+        self.assertTrue(line.startswith(front) and line.endswith(f": {ALL}"), line)
+        return line[len(front) : -len(f": {ALL}")]
+
+    def test_torn(self) -> None:
+        whole = self.state.read_text()
+        for text in (
+            whole[:-2],
+            whole[: len(whole) // 2],
+            "",
+            "[]",
+            "{}",
+            '{"format":1,"digest":"","state":{}}',
+        ):
+            self.state.write_text(text)
+            self.assertEqual(self.all_again(), "isn't whole")
+        self.state.write_bytes(b"\xff")
+        self.assertEqual(self.all_again(), "can't be read")
+        self.state.write_text(whole.replace('"format":1', '"format":2', 1))
+        self.assertEqual(self.all_again(), "is of another version of mkcheck-record")
+
+    def test_changed_by_hand(self) -> None:
+        self.state.write_text(self.state.read_text().replace("cp a b", "cp a c"))
+        self.assertEqual(self.all_again(), "isn't whole")
+
+    def test_gone(self) -> None:
+        self.state.unlink()
+        self.assertEqual(self.all_again(), "isn't there")
+
+    def test_footprints_that_were_changed(self) -> None:
+        self.updated.write_text(self.updated.read_text() + "\n")
+        self.assertEqual(self.all_again(), "belongs to other footprints")
+
+    def test_a_kept_file_that_was_changed(self) -> None:
+        (file,) = self.store.iterdir()
+        file.write_text("2\n")
+        self.assertEqual(self.all_again(), "misses a file that a recipe left")
+        shutil.rmtree(self.store)
+        self.assertEqual(self.all_again(), "misses a file that a recipe left")
+
+    def test_other_conditions(self) -> None:
+        self.assertEqual(
+            self.all_again("--fixed", "/nowhere"), "was written under other conditions (fixed)"
+        )
+        self.assertEqual(
+            self.all_again(environment={"A_VARIABLE": "1"}),
+            "was written under other conditions ($A_VARIABLE, fixed)",
+        )
+        self.assertEqual(
+            self.all_again("CC=cc", environment={"A_VARIABLE": "2"}),
+            "was written under other conditions ($A_VARIABLE, $CC)",
+        )
+        self.assertNotIn("A_VARIABLE=", self.state.read_text())
+        outcome = self.update(environment={"TERM": "other", "SHLVL": "7"})
+        self.assertEqual(
+            self.told(outcome)[0],
+            f"{self.state} was written under other conditions ($A_VARIABLE, $CC): {ALL}",
+        )
+        self.assertEqual(self.count(self.update(environment={"TERM": "another", "SHLVL": "8"})), 0)
+
+    def test_another_mask(self) -> None:
+        old = os.umask(0o077)
+        try:
+            self.assertEqual(self.all_again(), "was written under other conditions (umask)")
+        finally:
+            os.umask(old)
+
+    def test_names_outside_of_the_project(self) -> None:
+        whole = json.loads(self.state.read_text())
+        (number,) = whole["state"]["recipes"][1]["after"]
+        whole["state"]["names"][number][0] = "../elsewhere"
+        whole["digest"] = states.digest_of(states.packed(whole["state"]))
+        self.state.write_text(json.dumps(whole))
+        self.assertEqual(self.all_again(), "isn't whole")
+        self.assertFalse((self.scratch / "elsewhere").exists())
+
+    def test_a_failure_leaves_all_as_it_was(self) -> None:
+        before = (self.updated.read_text(), self.state.read_text())
+        self.write({"makefile": "b: a\n\tcp a b; false\na: s\n\tcp s a\n"})
+        self.assertEqual(self.update().status, 1)
+        self.assertEqual((self.updated.read_text(), self.state.read_text()), before)
+        self.write({"makefile": "b: a\n\tcp a b\na: s\n\tcp s a\n"})
+        self.assertEqual(self.count(self.update()), 0)
+
+    def test_files_that_are_kept_no_longer(self) -> None:
+        (file,) = self.store.iterdir()
+        self.assertEqual(file.read_text(), "1\n")
+        self.write({"s": "2\n"})
+        self.update()
+        (file,) = self.store.iterdir()
+        self.assertEqual(file.read_text(), "2\n")
+
+    def test_within_the_project(self) -> None:
+        self.write({"makefile": "b: a\n\tls > b; ls *.d > c || true\na: s\n\tcp s a\n"})
+        self.updated = self.folder / "kept.json"
+        self.assertEqual(self.count(self.update()), 2)
+        self.assertEqual(self.count(self.update()), 1)
+        self.assertEqual(self.count(self.update()), 0)
+        self.assertNotIn(".state", self.updated.read_text())
+
+    def test_words_that_cannot_stand_together(self) -> None:
+        for word in ("--in-place", "--again", "--make"):
+            self.assertEqual(self.update(word).status, 2)
+        self.assertEqual(self.update("-o", str(self.book)).status, 2)
+
+
+@traced
+class ReplayedTest(UpdateTest):
+    """Updates with a replay."""
+
+    replays = True
+
+    def test_trusted_recipes_are_recorded_each_time(self) -> None:
+        self.write({"makefile": "all: a b\na:\n\tdate +%s%N > a\nb: s\n\tcp s b\n", "s": ""})
+        self.assertEqual(self.count(self.update("--trust", "a")), 2)
+        second = self.update("--trust", "a")
+        self.assertEqual(self.count(second), 1)
+        self.assertIn("trusted, and not shown to be right: the recipe of a, ", second.errors)
+        self.assertEqual(self.update().status, 1)
+
+    def test_what_was_not_replayed_is_recorded_again(self) -> None:
+        self.write({"makefile": "a: s\n\tcat s > a\n", "s": ""})
+        self.assertEqual(self.count(self.update("--no-replay")), 1)
+        self.assertEqual(self.count(self.update()), 1)
+        self.assertEqual(self.count(self.update()), 0)
+
+    def test_replays_read_what_is_kept(self) -> None:
+        self.write(
+            {
+                "makefile": (
+                    "all: b c\na: s\n\tcp s a; mkdir -p d; echo > d/x\nb: a t\n\tcat a d/x t >"
+                    " b\nc: a\n\tcp a c\n"
+                ),
+                "s": "1\n",
+                "t": "1\n",
+            }
+        )
+        self.assertEqual(self.count(self.update()), 3)
+        self.write({"t": "2\n"})
+        self.assertEqual(self.count(self.update()), 1)
+
+
+if __name__ == "__main__":
+    unittest.main()

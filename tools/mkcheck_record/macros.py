@@ -1,0 +1,152 @@
+"""Macros by which makes differ: SHELL, those that the environment sets, and the default compiler.
+
+mkcheck itself is asked, over a makefile that includes the project's, so that nothing is guessed of
+its text.
+"""
+
+from __future__ import annotations
+
+import os
+import re
+import shutil
+import tempfile
+from collections.abc import Callable, Mapping
+from dataclasses import dataclass, replace
+
+from .faults import Fault
+from .graphs import Checker, Graph
+
+PLAIN = re.compile(r"[A-Za-z0-9/._+-]+")
+NAME = re.compile(r"[A-Za-z_][A-Za-z0-9_]*")
+# POSIX excepts the first two from the environment; make sets the others itself, and shells the
+# last.
+NOT_TAKEN = ("SHELL", "MAKEFLAGS", "MFLAGS", "MAKELEVEL", "MAKEOVERRIDES", "MAKE", "_", "SHLVL")
+PROBE = "mkcheck-record-probe"
+SAYS = "shell="
+POSIX_SHELLS = ("", "sh", "/bin/sh", "/usr/bin/sh")
+C17 = re.compile(r"(?:^|[;&|({]\s*)c17(?=\s|$)")
+
+
+@dataclass(frozen=True)
+class Prober:
+    """Asks mkcheck about the makefile with other text around it."""
+
+    checker: Checker
+    fixed: list[str]
+    files: list[str]
+    scratch: str
+
+    def ask(self, front: str, behind: str, words: tuple[str, ...]) -> Graph | None:
+        """The graph with text before and behind the makefile; None where mkcheck refuses that."""
+        above = self.scratch if PLAIN.fullmatch(self.scratch) else "/tmp"
+        try:
+            with tempfile.NamedTemporaryFile("wb", prefix="mkcheck-record-", dir=above) as file:
+                file.write(os.fsencode(f"{front}include {escaped(self.makefile)}\n{behind}"))
+                file.flush()
+                options = (
+                    "-f",
+                    file.name,
+                    *(option for option in self.checker.options if option == "-r"),
+                )
+                checker = replace(self.checker, options=options, words=words)
+                return checker.graph(self.fixed, self.files, self.scratch)
+        except Fault:
+            return None
+
+    @property
+    def makefile(self) -> str:
+        """The name of the makefile."""
+        options = self.checker.options
+        if "-f" in options:
+            return options[options.index("-f") + 1]
+        return (
+            "makefile"
+            if os.path.isfile(os.path.join(self.checker.folder, "makefile"))
+            else "Makefile"
+        )
+
+    def shell(self) -> str:
+        """The value of SHELL, empty where the makefile sets none."""
+        operands = tuple(word for word in self.checker.words if "=" in word)
+        graph = self.ask("", f"{PROBE}: ; {SAYS}$(SHELL)\n", (*operands, PROBE))
+        if graph is None or not graph.recipes or not graph.recipes[-1].lines:
+            return ""
+        return graph.recipes[-1].lines[0][len(SAYS) :].strip()
+
+    def taken(self, graph: Graph, environment: Mapping[str, str]) -> list[str]:
+        """The variables of the environment that would give another graph as macros."""
+        names = [name for name, value in environment.items() if is_macro(name, value)]
+        return self.differing(graph, names, environment)
+
+    def differing(
+        self, graph: Graph, names: list[str], environment: Mapping[str, str]
+    ) -> list[str]:
+        """Those of some variables that change the graph, found by halves."""
+        if not names:
+            return []
+        front = "".join(f"{name} = {escaped(environment[name])}\n" for name in names)
+        other = self.ask(front, "", self.checker.words)
+        if other is not None and other.text == graph.text:
+            return []
+        if len(names) == 1:
+            return names if other is not None else []
+        middle = len(names) // 2
+        halves = (names[:middle], names[middle:])
+        return [name for half in halves for name in self.differing(graph, half, environment)]
+
+
+def is_macro(name: str, value: str) -> bool:
+    """Whether a variable of the environment can be written down as a macro of a makefile."""
+    return (
+        NAME.fullmatch(name) is not None
+        and name not in NOT_TAKEN
+        and "\n" not in value
+        and value[-1:] != "\\"
+    )
+
+
+def escaped(value: str) -> str:
+    """A value as text of a makefile."""
+    return value.replace("$", "$$").replace("#", "\\#")
+
+
+def with_shell(graph: Graph, prober: Prober, warn: Callable[[str], None]) -> Graph:
+    """The graph, whose commands are run by the shell that the makefile names."""
+    shell = prober.shell()
+    if shell in POSIX_SHELLS:
+        return graph
+    if shutil.which(shell.split()[0]) is None:
+        raise Fault(
+            f"the makefile sets SHELL to {shell}, which isn't there: give SHELL=/bin/sh, to"
+            " mkcheck too"
+        )
+    warn(
+        f"the makefile sets SHELL to {shell}, so commands are run by it, as GNU make does; other"
+        " makes run them by /bin/sh"
+    )
+    return replace(graph, recipes=[replace(recipe, shell=shell) for recipe in graph.recipes])
+
+
+def warn_of_environment(
+    graph: Graph, prober: Prober, operands: Mapping[str, str], warn: Callable[[str], None]
+) -> None:
+    """Warns of each macro that makes would take from the environment, and that mkcheck doesn't."""
+    environment = {name: value for name, value in os.environ.items() if name not in operands}
+    for name in prober.taken(graph, environment):
+        warn(
+            f"the makefile uses the macro {name}, which the environment sets: makes take that"
+            f' value, but mkcheck and this recording don\'t; give {name}="${name}" to both as an'
+            " operand, or unset it when make is started"
+        )
+
+
+def refuse_absent_compiler(graph: Graph) -> None:
+    """c17 is the compiler of the default rules, by POSIX, and few systems have it."""
+    if shutil.which("c17") is not None:
+        return
+    for recipe in graph.recipes:
+        if any(C17.search(command.text) for command in recipe.commands):
+            raise Fault(
+                f"the recipe of {recipe.target} starts c17, the default compiler of POSIX, which"
+                " isn't there: give CC=cc, to mkcheck too"
+            )

@@ -1,0 +1,477 @@
+"""Runs each recipe again in a folder that holds only what its record names, and compares.
+Three runs, each in a folder that appears at the project's own path:
+
+- *bare*: the folder holds the recorded reads, as they were when the recipe ran.
+- *again*: the same, and the recipe's own outputs.
+- *damaged*: the same, but its outputs hold other bytes and have the newest stamps.
+
+Folders that no recipe made are there too, folders that recipes make which always run before, and
+the links over which the recipe went when it was recorded.
+"""
+
+from __future__ import annotations
+
+import contextlib
+import hashlib
+import os
+import stat
+import threading
+import time
+from collections.abc import Iterator, Mapping
+from concurrent.futures import Future, ThreadPoolExecutor
+from dataclasses import dataclass, field, replace
+
+from . import places
+from .folders import remove
+from .graphs import Ancestors
+from .places import Place
+from .progress import Progress, first_line
+from .versions import FILE, FOLDER, LINK, Version, lay, version_of
+from .worlds import GIVEN, Trial, World, entries
+
+BARE, AGAIN, DAMAGED = "bare", "again", "damaged"
+OTHER_BYTES = (
+    b"These bytes were put here by mkcheck-record, to see whether the recipe writes the file"
+    b" anew.\n"
+)
+EMPTY, OTHER = (hashlib.sha256(text).hexdigest() for text in (b"", OTHER_BYTES))
+# A replay may take so many seconds, and so many times as long as the recording of the recipe.
+LEAST_SECONDS = 60.0
+TIMES_AS_LONG = 20.0
+LINES_SHOWN = 20
+SHOWN_BYTES = 1 << 16
+
+
+@dataclass(frozen=True)
+class Difference:
+    """What a recipe did otherwise than when it was recorded: a sentence without its subject.
+    `kept` tells that the recipe passed over a file that it was recorded to write.
+    """
+
+    name: str
+    what: str
+    details: tuple[str, ...] = ()
+    kept: bool = False
+
+
+@dataclass(frozen=True)
+class Outcome:
+    """What a replay showed: the run in which it stopped, what was wrong, what to warn of.
+    `folders` are the folders that the bare run left, and `absent` those that were there when the
+    recipe was recorded, and not in the bare run that failed.
+    """
+
+    trial: Trial
+    run: str = ""
+    failed: str = ""
+    differences: tuple[Difference, ...] = ()
+    warning: str = ""
+    folders: frozenset[str] = frozenset()
+    absent: frozenset[str] = frozenset()
+
+    @property
+    def passed(self) -> bool:
+        """Whether all runs gave what the recording gave."""
+        return not self.failed and not self.differences
+
+
+@dataclass
+class Replay:
+    """Replays the recipes of a world.
+
+    `environment` is that of the recipes. Where no folder can be bound over `seen`, the recipes ran
+    there, and are replayed there one at a time.
+    """
+
+    world: World
+    seen: str
+    scratch: str
+    environment: Mapping[str, str]
+    ancestors: Ancestors
+    _stopped: threading.Event = field(default_factory=threading.Event)
+
+    def run(self, trials: list[Trial]) -> list[Outcome]:
+        """Replays these recipes, several at a time where that can be. Returns outcomes in order."""
+        os.makedirs(self.scratch, exist_ok=True)
+        jobs = processors()
+        if places.namespace() is None:
+            jobs = 1
+            aside = os.path.join(self.scratch, "built")
+            os.rename(self.world.place, aside)
+            self.world.place = aside
+        progress = Progress(len(trials), title="replay")
+        outcomes: list[Outcome] = []
+        with ThreadPoolExecutor(jobs) as pool:
+            try:
+                waiting = [
+                    pool.submit(self.replay, trial, number, frozenset())
+                    for number, trial in enumerate(trials)
+                ]
+                outcomes = [self.taken(future, progress) for future in waiting]
+                outcomes = self.with_folders(pool, outcomes)
+            except BaseException:
+                self._stopped.set()
+                places.stop_all()
+                pool.shutdown(wait=True, cancel_futures=True)
+                raise
+            finally:
+                progress.clear()
+        return outcomes
+
+    def taken(self, future: Future[Outcome], progress: Progress) -> Outcome:
+        """The outcome of a replay, when it is there."""
+        outcome = future.result()
+        progress.ended(outcome.trial.recipe.target)
+        return outcome
+
+    def with_folders(self, pool: ThreadPoolExecutor, outcomes: list[Outcome]) -> list[Outcome]:
+        """Tries failed recipes again, with folders that recipes before them were seen to make.
+
+        Such folders were there when those recipes were recorded, so that their making wasn't seen.
+        """
+        left = {outcome.trial.recipe.target: outcome.folders for outcome in outcomes}
+        tried: list[Future[Outcome] | Outcome] = []
+        for number, outcome in enumerate(outcomes):
+            others: frozenset[str] = frozenset()
+            if outcome.run == BARE and not outcome.passed:
+                own = outcome.trial.recipe.target
+                above = (target for target in left if self.ancestors.any_before((target,), own))
+                others = (
+                    frozenset(name for target in above for name in left[target])
+                    & outcome.trial.known
+                )
+                others -= set(self.folders_of(outcome.trial))
+            tried.append(
+                pool.submit(self.replay, outcome.trial, number, others) if others else outcome
+            )
+        return [one.result() if isinstance(one, Future) else one for one in tried]
+
+    def replay(self, trial: Trial, number: int, folders: frozenset[str]) -> Outcome:
+        """Replays one recipe, with these further folders."""
+        bound = places.namespace() is not None
+        folder = os.path.join(self.scratch, str(number)) if bound else self.seen
+        try:
+            self.furnish(trial, folder, folders)
+            outcome = self.runs(trial, Place(folder, self.seen))
+            if outcome.run != BARE:
+                return outcome
+            return replace(outcome, absent=trial.known - {*self.folders_of(trial), *folders})
+        finally:
+            remove(folder)
+
+    def runs(self, trial: Trial, place: Place) -> Outcome:
+        """The runs of a recipe in a folder, up to the first that shows something."""
+        while int(time.time()) <= int(trial.ended):
+            time.sleep(0.05)
+        laid = stamps_of(trial, place.folder)
+        outcome = self.one(trial, place, BARE, laid)
+        if not outcome.passed:
+            return outcome
+        left = frozenset(
+            name for name, entry in entries(place.folder) if entry.is_dir(follow_symlinks=False)
+        )
+        outcome = Outcome(trial, folders=left)
+        outputs = [
+            name
+            for name in trial.writes
+            if name not in trial.before and trial.after.get(name) is not None
+        ]
+        if not outputs:
+            return outcome
+        laid = self.restore(trial, place.folder)
+        paths = {name: os.path.join(place.folder, name) for name in outputs}
+        old = {name: aged(path) for name, path in paths.items()}
+        found = self.one(trial, place, AGAIN, laid)
+        kept = [name for name, path in paths.items() if old[name] == stamp_of(path)]
+        if found.passed and kept:
+            found = replace(
+                found,
+                differences=tuple(
+                    Difference(name, f"doesn't write {name} anew", (), True) for name in kept
+                ),
+            )
+        if not found.passed:
+            return found
+        damaged = [name for name in outputs if is_file(trial.after[name])]
+        if not damaged:
+            return outcome
+        laid = self.restore(trial, place.folder)
+        for name in damaged:
+            damage(paths[name])
+            old[name] = aged(paths[name])
+        found = self.one(trial, place, DAMAGED, laid)
+        touched = {
+            name
+            for name in damaged
+            if old[name] != stamp_of(paths[name]) and only_touched(trial.after[name], paths[name])
+        }
+        rest = tuple(one for one in found.differences if one.name not in touched)
+        found = replace(found, differences=rest)
+        if found.failed:
+            return Outcome(trial, warning=found.failed, folders=left)
+        return outcome if found.passed else found
+
+    def one(
+        self, trial: Trial, place: Place, run: str, laid: Mapping[str, tuple[int, ...]]
+    ) -> Outcome:
+        """One run of a recipe in a folder that is ready for it."""
+        failed = self.run_commands(trial, place)
+        if failed:
+            return Outcome(trial, run, failed)
+        return Outcome(trial, run, "", tuple(self.compared(trial, place.folder, laid)))
+
+    def run_commands(self, trial: Trial, place: Place) -> str:
+        """Runs the commands of a recipe; tells how it failed, or nothing where it ended well."""
+        allowed = LEAST_SECONDS + TIMES_AS_LONG * trial.seconds
+        until = time.monotonic() + allowed
+        output = ""
+        for command in trial.recipe.commands:
+            if self._stopped.is_set():
+                return "it was stopped"
+            ended = places.run(
+                command.words, place, self.environment, max(0.0, until - time.monotonic())
+            )
+            output += ended.output
+            if ended.timed_out:
+                head = (
+                    f"it didn't end in {allowed:.0f} seconds, where it took"
+                    f" {trial.seconds:.1f} when it was recorded"
+                )
+                return "\n".join([f"{head}, at {first_line(command.text)}", *shown(output)])
+            if ended.status != 0 and not command.ignored:
+                return "\n".join(
+                    [f"status {ended.status}, at {first_line(command.text)}", *shown(output)]
+                )
+        return ""
+
+    def furnish(self, trial: Trial, folder: str, folders: frozenset[str]) -> None:
+        """Makes the folder, with what a bare run needs."""
+        os.mkdir(folder)
+        for name in sorted({*self.folders_of(trial), *folders}):
+            os.makedirs(os.path.join(folder, name), exist_ok=True)
+        for name, goal in trial.links.items():
+            if name not in trial.after:
+                os.symlink(goal, os.path.join(folder, name))
+        twins: dict[tuple[int, int], str] = {}
+        for name, version in trial.before.items():
+            self.lay(name, version, folder, twins)
+        for name in self.world.given_folders:
+            self.liken(name, os.path.join(folder, name))
+
+    def liken(self, name: str, path: str) -> None:
+        """Gives a folder the mode and the stamp of the project's, as `tar` writes them down.
+
+        Where a recipe has changed the folder, its stamp is none that could come again.
+        """
+        with contextlib.suppress(OSError):
+            status = os.stat(os.path.join(self.world.place, name))
+            if status.st_mode & 0o700 == 0o700:
+                os.chmod(path, stat.S_IMODE(status.st_mode))
+            if status.st_mtime < self.world.begun:
+                os.utime(path, ns=(status.st_mtime_ns, status.st_mtime_ns))
+
+    def folders_of(self, trial: Trial) -> Iterator[str]:
+        """The folders that are always there when a recipe begins."""
+        yield from self.world.given_folders
+        for name in trial.before:
+            if os.path.dirname(name):
+                yield os.path.dirname(name)
+        for name, makers in self.world.makers.items():
+            if name in trial.known and self.ancestors.any_before(makers, trial.recipe.target):
+                yield name
+
+    def lay(
+        self, name: str, version: Version, folder: str, twins: dict[tuple[int, int], str]
+    ) -> None:
+        """Lays a file that the recipe reads. Two names of one file are that here too."""
+        source, full = self.world.material(name, version)
+        goal = os.path.join(folder, name)
+        status = os.lstat(source) if version == GIVEN else None
+        if status is not None and status.st_nlink > 1:
+            first = twins.setdefault((status.st_dev, status.st_ino), goal)
+            if first != goal:
+                os.link(first, goal, follow_symlinks=False)
+                return
+        lay(source, goal, full)
+
+    def restore(self, trial: Trial, folder: str) -> dict[str, tuple[int, ...]]:
+        """Lays those reads anew that the recipe wrote or took away itself."""
+        for name, version in trial.before.items():
+            if trial.after.get(name) is not version:
+                path = os.path.join(folder, name)
+                if os.path.isdir(path) and not os.path.islink(path):
+                    remove(path)
+                elif os.path.lexists(path):
+                    os.unlink(path)
+                os.makedirs(os.path.dirname(path), exist_ok=True)
+                self.lay(name, version, folder, {})
+        return stamps_of(trial, folder)
+
+    def compared(
+        self, trial: Trial, folder: str, laid: Mapping[str, tuple[int, ...]]
+    ) -> Iterator[Difference]:
+        """Where what a run left differs from what the recording left."""
+        for name, version in trial.after.items():
+            path = os.path.join(folder, name)
+            if name in trial.before and trial.before[name] is version:
+                if laid[name] != stamp_of(path):
+                    yield Difference(
+                        name, f"{changed(path)} {name}, which it wasn't recorded to write"
+                    )
+                continue
+            found = version_of(path)
+            if version is None and found is not None and found.kind == FOLDER:
+                continue
+            if found != version:
+                yield Difference(name, *difference(name, version, found, self.kept(version), path))
+        yield from self.left(trial, folder)
+
+    def kept(self, version: Version | None) -> str:
+        """Where the bytes lie that a recipe left when it was recorded."""
+        return self.world.store.path(version) if is_file(version) else ""
+
+    def left(self, trial: Trial, folder: str) -> Iterator[Difference]:
+        """What a run left that the recording didn't, and folders that it failed to make."""
+        folders = {*trial.known, *self.folders_of(trial)}
+        folders.update(os.path.dirname(name) for name in trial.after)
+        for name in list(folders):
+            while name := os.path.dirname(name):
+                folders.add(name)
+        for name, entry in entries(folder):
+            if entry.is_dir(follow_symlinks=False):
+                if name not in folders:
+                    yield Difference(
+                        name,
+                        f"leaves the folder {name}, which it didn't leave when it was recorded",
+                    )
+            elif name not in trial.after and name not in trial.links:
+                yield Difference(name, f"leaves {name}, which it didn't leave when it was recorded")
+        for name, goal in trial.links.items():
+            path = os.path.join(folder, name)
+            if name not in trial.after and not (os.path.islink(path) and os.readlink(path) == goal):
+                yield Difference(
+                    name, f"{changed(path)} the link {name}, which it wasn't recorded to write"
+                )
+        for name in trial.made:
+            if not os.path.isdir(os.path.join(folder, name)):
+                yield Difference(
+                    name, f"doesn't make the folder {name}, as it did when it was recorded"
+                )
+
+
+def processors() -> int:
+    """How many processors this program may use."""
+    try:
+        return len(os.sched_getaffinity(0))
+    except AttributeError:
+        return os.cpu_count() or 1
+
+
+def is_file(version: Version | None) -> bool:
+    """Whether a version is that of a file with bytes."""
+    return version is not None and version.kind == FILE
+
+
+def stamp_of(path: str) -> tuple[int, ...]:
+    """What changes when a file is written, replaced, or gets another mode or stamp."""
+    try:
+        status = os.lstat(path)
+    except OSError:
+        return ()
+    return (status.st_ino, status.st_mode, status.st_size, status.st_mtime_ns)
+
+
+def stamps_of(trial: Trial, folder: str) -> dict[str, tuple[int, ...]]:
+    """That of all files that the recipe reads, before it runs."""
+    return {name: stamp_of(os.path.join(folder, name)) for name in trial.before}
+
+
+def changed(path: str) -> str:
+    """What a recipe did to a file that it only reads, by what stands there now."""
+    return "changes" if os.path.lexists(path) else "takes away"
+
+
+def aged(path: str) -> tuple[int, ...]:
+    """Makes a file a millisecond older, so that a new stamp differs even on a coarse clock."""
+    stamp = os.lstat(path).st_mtime_ns - 1_000_000
+    os.utime(path, ns=(stamp, stamp), follow_symlinks=False)
+    return stamp_of(path)
+
+
+def damage(path: str) -> None:
+    """Gives an output other bytes and the newest stamp; its mode stays."""
+    mode = stat.S_IMODE(os.lstat(path).st_mode)
+    os.unlink(path)
+    with open(path, "xb") as file:
+        file.write(OTHER_BYTES)
+    os.chmod(path, mode)
+
+
+def only_touched(version: Version | None, path: str) -> bool:
+    """Whether a damaged file kept its bytes, and was empty when it was recorded.
+
+    So `touch` does it. Where no other recipe writes the file, it is empty whenever it is there.
+    """
+    found = version_of(path)
+    return (
+        version is not None
+        and version.content == EMPTY
+        and found is not None
+        and found.content == OTHER
+    )
+
+
+def difference(
+    name: str, version: Version | None, found: Version | None, old: str, new: str
+) -> tuple[str, tuple[str, ...]]:
+    """What is said where a file isn't as the recording left it, and the first lines that differ."""
+    if version is None:
+        return f"leaves {name}, which it took away when it was recorded", ()
+    if found is None:
+        return f"doesn't write {name}", ()
+    if version.kind != found.kind:
+        return (
+            f"leaves {name} as a {found.kind}, where it was a {version.kind} when it was recorded",
+            (),
+        )
+    if version.kind == LINK:
+        return (
+            (
+                f"makes {name} a link to {found.content}, which led to {version.content} when it"
+                " was recorded"
+            ),
+            (),
+        )
+    if version.content != found.content:
+        return f"writes {name} with other contents", lines_that_differ(old, new)
+    return (
+        f"gives {name} the mode {found.mode:o}, which was {version.mode:o} when it was recorded",
+        (),
+    )
+
+
+def lines_that_differ(old: str, new: str) -> tuple[str, ...]:
+    """The first line in which two texts differ, where they are texts."""
+    with open(old, "rb") as one, open(new, "rb") as two:
+        first, second = one.read(SHOWN_BYTES), two.read(SHOWN_BYTES)
+    if b"\0" in first or b"\0" in second:
+        return ()
+    ours, theirs = first.split(b"\n"), second.split(b"\n")
+    for number in range(max(len(ours), len(theirs))):
+        was, now = (lines[number] if number < len(lines) else None for lines in (ours, theirs))
+        if was != now:
+            return (f"line {number + 1} was {quoted(was)}", f"line {number + 1} is  {quoted(now)}")
+    return ()
+
+
+def quoted(line: bytes | None) -> str:
+    """A line for a message."""
+    if line is None:
+        return "not there"
+    text = line.decode("utf-8", "backslashreplace")
+    return f'"{text[:100]}{"..." if len(text) > 100 else ""}"'
+
+
+def shown(output: str) -> list[str]:
+    """The last lines of what a recipe put out."""
+    return [line for line in output.rstrip("\n").split("\n")[-LINES_SHOWN:] if line]

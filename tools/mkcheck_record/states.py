@@ -1,0 +1,242 @@
+"""What `--update` knows of the recording before: a file and a folder beside the footprints.
+The file is JSON. It is believed only where it is whole, belongs to these very footprints, and was
+written under the same conditions: by the same recorder, with the same options, for the same user,
+in the same environment.
+"""
+
+from __future__ import annotations
+
+import hashlib
+import json
+import os
+import re
+from collections.abc import Iterable, Mapping
+from dataclasses import dataclass, field
+from pathlib import Path
+
+from .folders import is_plain_path
+from .footprints import Footprint
+from .graphs import Recipe
+from .versions import FILE, FOLDER, LINK, THERE, Version
+from .worlds import Effects, Trial, is_own
+
+FORMAT = 1
+DIGEST = re.compile(r"[0-9a-f]{64}")
+KINDS = (FILE, LINK, FOLDER, THERE, "pipe", "socket", "device")
+
+
+class Unusable(Exception):
+    """A state that can't be used; its text is a sentence without its subject, the file."""
+
+
+@dataclass(frozen=True)
+class Entry:
+    """What is known of a recipe: its footprint, looks, what it left, and its warnings."""
+
+    footprint: Footprint
+    looks: Mapping[str, Version | None]
+    lists: Mapping[str, str]
+    after: Mapping[str, Version | None]
+    made: tuple[str, ...]
+    warnings: tuple[str, ...]
+
+    @classmethod
+    def of(cls, footprint: Footprint, trial: Trial, warnings: Iterable[str]) -> Entry:
+        """What is to be known of a recipe that ran."""
+        after = {
+            name: version
+            for name, version in trial.after.items()
+            if trial.before.get(name) is not version
+        }
+        after.update((name, None) for name, version in trial.after.items() if version is None)
+        return cls(footprint, trial.looks, trial.lists, after, trial.made, tuple(warnings))
+
+
+@dataclass(frozen=True)
+class State:
+    """The conditions of a recording, a digest of its footprints, an entry for each target."""
+
+    conditions: Mapping[str, str]
+    book: str
+    entries: Mapping[str, Entry] = field(default_factory=dict)
+
+    def digests(self) -> set[str]:
+        """The digests of all files that recipes left."""
+        left = (version for entry in self.entries.values() for version in entry.after.values())
+        return {version.content for version in left if version is not None and version.kind == FILE}
+
+
+def path_of_state(book: str) -> str:
+    """Where the state of footprints lies."""
+    return book + ".state"
+
+
+def path_of_store(book: str) -> str:
+    """Where the files lie that recipes left."""
+    return book + ".state.d"
+
+
+def digest_of(text: str) -> str:
+    """A digest of a text."""
+    return hashlib.sha256(text.encode("utf-8", "surrogateescape")).hexdigest()
+
+
+def packed(value: object) -> str:
+    """A JSON value on one line, in ASCII: names may hold bytes that are no UTF-8."""
+    return json.dumps(value, separators=(",", ":"))
+
+
+def text_of(state: State) -> str:
+    """The file. A digest of what it holds shows whether it is whole."""
+    body = Writer().body(state)
+    return packed({"format": FORMAT, "digest": digest_of(packed(body)), "state": body}) + "\n"
+
+
+def read(path: str, book: str) -> State:
+    """The state that lies at a path, of footprints with this text. Raises Unusable."""
+    try:
+        text = Path(path).read_text(encoding="utf-8")
+    except FileNotFoundError:
+        raise Unusable("isn't there") from None
+    except (OSError, UnicodeDecodeError):
+        raise Unusable("can't be read") from None
+    try:
+        whole = json.loads(text)
+        body = whole["state"]
+        if whole["format"] != FORMAT:
+            raise Unusable("is of another version of mkcheck-record")
+        if digest_of(packed(body)) != whole["digest"]:
+            raise Unusable("isn't whole")
+        state = Reader().state(body)
+    except (ValueError, KeyError, TypeError, AttributeError, IndexError, RecursionError):
+        raise Unusable("isn't whole") from None
+    if state.book != digest_of(book):
+        raise Unusable("belongs to other footprints")
+    return state
+
+
+@dataclass
+class Writer:
+    """Writes a state. Each name with what stood there is written once, and has a number."""
+
+    table: list[list[object]] = field(default_factory=list)
+    numbers: dict[tuple[str, Version | None], int] = field(default_factory=dict)
+
+    def body(self, state: State) -> dict[str, object]:
+        """The state as a JSON value."""
+        entries = [self.entry(entry) for entry in state.entries.values()]
+        return {
+            "conditions": dict(state.conditions),
+            "book": state.book,
+            "names": self.table,
+            "recipes": entries,
+        }
+
+    def entry(self, entry: Entry) -> dict[str, object]:
+        """An entry as a JSON value."""
+        own = entry.footprint
+        return {
+            "target": own.recipe.target,
+            "commands": own.recipe.lines,
+            "shell": own.recipe.shell,
+            "reads": own.reads,
+            "writes": own.writes,
+            "scratch": sorted(own.scratch),
+            "lost": sorted(own.lost),
+            "links": own.links,
+            "looks": self.versions(entry.looks),
+            "lists": dict(entry.lists),
+            "after": self.versions(entry.after),
+            "made": list(entry.made),
+            "warnings": list(entry.warnings),
+        }
+
+    def versions(self, versions: Mapping[str, Version | None]) -> list[int]:
+        """The numbers of these names with what stood there."""
+        return [self.number(name, version) for name, version in versions.items()]
+
+    def number(self, name: str, version: Version | None) -> int:
+        """The number of a name with what stood there."""
+        found = self.numbers.get((name, version))
+        if found is None:
+            found = self.numbers[name, version] = len(self.table)
+            row = [] if version is None else [version.kind, version.mode, version.content]
+            self.table.append([name, *row])
+        return found
+
+
+@dataclass
+class Reader:
+    """Reads a state. What is of another shape raises ValueError, KeyError or TypeError."""
+
+    table: list[tuple[str, Version | None]] = field(default_factory=list)
+
+    def state(self, body: dict) -> State:
+        """The state of a JSON value."""
+        self.table = [self.row(row) for row in body["names"]]
+        conditions = {text(name): text(value) for name, value in body["conditions"].items()}
+        entries = [self.entry(entry) for entry in body["recipes"]]
+        return State(
+            conditions,
+            text(body["book"]),
+            {entry.footprint.recipe.target: entry for entry in entries},
+        )
+
+    def row(self, row: list) -> tuple[str, Version | None]:
+        """A name with what stood there."""
+        if len(row) == 1:
+            return text(row[0]), None
+        name, kind, mode, content = row
+        if kind not in KINDS or type(mode) is not int or not 0 <= mode < 0o10000:
+            raise ValueError("no version")
+        if kind == FILE and not DIGEST.fullmatch(text(content)):
+            raise ValueError("no digest")
+        return text(name), Version(kind, mode, text(content))
+
+    def entry(self, entry: dict) -> Entry:
+        """The entry of a JSON value. What the recipe left has to lie in the project."""
+        recipe = Recipe(text(entry["target"]), texts(entry["commands"]), text(entry["shell"]))
+        footprint = Footprint(
+            recipe,
+            texts(entry["reads"]),
+            texts(entry["writes"]),
+            frozenset(texts(entry["scratch"])),
+            frozenset(texts(entry["lost"])),
+            texts(entry["links"]),
+        )
+        after = self.versions(entry["after"])
+        made = texts(entry["made"])
+        for name in [*after, *made]:
+            if not is_plain_path(name) or not is_own(name):
+                raise ValueError("no name of the project")
+        lists = {text(name): text(value) for name, value in entry["lists"].items()}
+        looks = self.versions(entry["looks"])
+        return Entry(footprint, looks, lists, after, tuple(made), tuple(texts(entry["warnings"])))
+
+    def versions(self, numbers: list) -> dict[str, Version | None]:
+        """Names with what stood there, by their numbers."""
+        return dict(self.table[number] for number in numbers if number >= 0)
+
+
+def text(value: object) -> str:
+    """A value that has to be a text."""
+    if not isinstance(value, str):
+        raise TypeError("no text")
+    return value
+
+
+def texts(value: object) -> list[str]:
+    """A value that has to be a list of texts."""
+    if not isinstance(value, list):
+        raise TypeError("no list")
+    return [text(one) for one in value]
+
+
+def write_file(path: str, content: str) -> None:
+    """Writes a file whole or not at all."""
+    beside = Path(f"{path}.{os.getpid()}.new")
+    try:
+        beside.write_text(content, encoding="utf-8")
+        os.replace(beside, path)
+    finally:
+        beside.unlink(missing_ok=True)

@@ -1,0 +1,177 @@
+"""What is said of replays: errors, warnings, and recipes that are taken as they are."""
+
+from __future__ import annotations
+
+import os
+from collections.abc import Iterable, Mapping
+from dataclasses import dataclass, field
+
+from .faults import Fault
+from .graphs import Recipe
+from .replaying import AGAIN, BARE, DAMAGED, Outcome
+
+SHOWN_AT_MOST = 10
+
+# Of each run: where it was, what it means that it left other files, and what to do.
+SETTINGS = {
+    BARE: "in a folder that holds only what it is recorded to read",
+    AGAIN: "where its own outputs are already there",
+    DAMAGED: "where its outputs are there with other bytes and later stamps",
+}
+MEANINGS = {
+    BARE: (
+        "it depends on something that isn't recorded, such as the time, a random name, a process"
+        " number, a variable or a file that it only looks for"
+    ),
+    AGAIN: (
+        "what it leaves depends on what was left before, so each make after the first may leave"
+        " other files"
+    ),
+    DAMAGED: (
+        "what it leaves depends on what was left before, so a make after a stop may leave other"
+        " files"
+    ),
+}
+CURES = {
+    BARE: "Take that out of the recipe",
+    AGAIN: "Let the recipe begin with rm -f of its outputs, or write them anew",
+    DAMAGED: "Let the recipe begin with rm -f of its outputs, or write them anew",
+}
+KEPT = (
+    "it writes only where it finds that it has to, as a make in a subfolder, cmp -s or test -nt do,"
+    " so what depends on the file may stay old"
+)
+KEPT_CURE = "Let the recipe write all its outputs in each run"
+FAILURES = {
+    BARE: (
+        "it needs a file, a link or a folder that isn't recorded, or something else that wasn't"
+        " there this time"
+    ),
+    AGAIN: "each make that runs it again will stop here",
+}
+FAILURE_CURES = {
+    BARE: "Let the recipe read what it needs as a file, or make it itself",
+    AGAIN: "Let the recipe begin with rm -f of its outputs",
+}
+
+
+@dataclass
+class Verdict:
+    """What the replays say: errors, warnings by target, and a line for each trusted recipe."""
+
+    errors: list[str] = field(default_factory=list)
+    warnings: dict[str, list[str]] = field(default_factory=dict)
+    trusted: list[str] = field(default_factory=list)
+
+    def warn(self, target: str, text: str) -> None:
+        """Adds a warning of a recipe."""
+        self.warnings.setdefault(target, []).append(text)
+
+
+def check_trust(trusted: Iterable[str], recipes: Iterable[Recipe]) -> None:
+    """Refuses a trusted name that is no recipe's: a slip of the keyboard would trust nothing."""
+    targets = {recipe.target for recipe in recipes}
+    for name in trusted:
+        if name not in targets:
+            raise Fault(f"--trust {name}: the goals reach no recipe of that name")
+
+
+def judge(
+    outcomes: Iterable[Outcome],
+    trusted: frozenset[str],
+    once: frozenset[str],
+    makers: Mapping[str, list[str]],
+) -> Verdict:
+    """The verdict. `once` are targets that no make makes again, and `makers` has who made which
+    folder.
+
+    A recipe that fails over its own outputs is an error only where a make may run it again.
+    """
+    verdict = Verdict()
+    for outcome in outcomes:
+        target = outcome.trial.recipe.target
+        if target in trusted:
+            verdict.trusted.append(said_of_trusted(outcome))
+        elif outcome.run == AGAIN and outcome.failed and target in once:
+            verdict.warn(target, warning(outcome, AGAIN, outcome.failed))
+        elif not outcome.passed:
+            verdict.errors.append(complaint(outcome, makers))
+        elif outcome.warning:
+            verdict.warn(target, warning(outcome, DAMAGED, outcome.warning))
+    return verdict
+
+
+def subject(outcome: Outcome) -> str:
+    """What the recipe did otherwise, and where: the beginning of a sentence."""
+    what = "fails" if outcome.failed else outcome.differences[0].what
+    return f"the recipe of {outcome.trial.recipe.target}, run {SETTINGS[outcome.run]}, {what}"
+
+
+def complaint(outcome: Outcome, makers: Mapping[str, list[str]]) -> str:
+    """The error of a replay that failed, or left other files than the recording."""
+    target = outcome.trial.recipe.target
+    meaning, cure = MEANINGS[outcome.run], CURES[outcome.run]
+    if outcome.failed:
+        meaning, cure = FAILURES[outcome.run], FAILURE_CURES[outcome.run]
+    elif outcome.differences[0].kept:
+        meaning, cure = KEPT, KEPT_CURE
+    lines = [
+        f"{subject(outcome)}: {meaning}. {cure}, or give --trust {target} to take the recipe as"
+        " it is"
+    ]
+    lines += [f"\t{line}" for line in likely_causes(outcome, makers)]
+    lines += [f"\t{line}" for line in outcome.failed.split("\n") if line]
+    if outcome.differences:
+        lines += [f"\t{line}" for line in outcome.differences[0].details]
+        more = outcome.differences[1:]
+        for one in more[:SHOWN_AT_MOST]:
+            lines += [f"\tit {one.what}", *(f"\t{line}" for line in one.details)]
+        if len(more) > SHOWN_AT_MOST:
+            lines.append(f"\tand {len(more) - SHOWN_AT_MOST} more differences")
+    return "\n".join(lines)
+
+
+def likely_causes(outcome: Outcome, makers: Mapping[str, list[str]]) -> list[str]:
+    """What a recipe uses and no record can name: folders of others, files that it takes away."""
+    if outcome.run != BARE:
+        return []
+    trial = outcome.trial
+    text = "\n".join(trial.recipe.lines)
+    above = {os.path.dirname(name) for name in trial.writes}
+    said = []
+    for name in sorted(outcome.absent):
+        others = [target for target in makers.get(name, ()) if target != trial.recipe.target]
+        if others and (name in above or name in text):
+            said.append(
+                f"the folder {name} is made by the recipe of {others[0]}, which needn't run"
+                f" before: let this recipe make it too (mkdir -p {name})"
+            )
+    gone = [name for name, version in trial.after.items() if version is None]
+    return said + [
+        f"it takes away {name}, which it neither made nor read: let it do without (rm -f {name})"
+        for name in gone[:SHOWN_AT_MOST]
+        if name not in trial.before
+    ]
+
+
+def warning(outcome: Outcome, run: str, failed: str) -> str:
+    """The warning of a recipe that fails over outputs that only a make leaves which was stopped."""
+    target = outcome.trial.recipe.target
+    return (
+        f"the recipe of {target}, run {SETTINGS[run]}, fails: after a make that was stopped, its"
+        f" outputs may have to be removed by hand ({last_line(failed)})"
+    )
+
+
+def said_of_trusted(outcome: Outcome) -> str:
+    """What is said at the end of a recipe that was trusted."""
+    target = outcome.trial.recipe.target
+    if outcome.passed:
+        return f"trusted without need: the recipe of {target} left the same files when it ran again"
+    return f"trusted, and not shown to be right: {subject(outcome)}"
+
+
+def last_line(text: str) -> str:
+    """The last line of a text that says something."""
+    lines = [line.strip() for line in text.split("\n") if line.strip()]
+    return lines[-1] if lines else text

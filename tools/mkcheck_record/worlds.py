@@ -1,0 +1,280 @@
+"""What stands in the project's folder from recipe to recipe, for other runs of each."""
+
+from __future__ import annotations
+
+import hashlib
+import os
+import time
+from collections.abc import Iterable, Iterator, Mapping
+from dataclasses import dataclass, field, replace
+
+from .faults import Fault
+from .graphs import Recipe
+from .versions import FILE, FOLDER, LINK, THERE, Store, Version, version_of
+
+# A file that was there before any recipe, and that no recipe has changed yet.
+GIVEN = Version("given", 0, "")
+# A folder: its mode is no recipe's.
+FOLDERS = Version(FOLDER, 0, "")
+
+
+@dataclass(frozen=True)
+class Effects:
+    """What a recipe did, by the names of files.
+
+    `gone` are files that it took away and hadn't made, `made` are folders that it made, `links` are
+    those over which it went and that no recipe made, `others` what it left that is no file, such as
+    pipes. `looked` are names at which it looked, be something there or not, and `listed` are
+    folders whose names it read.
+    """
+
+    reads: tuple[str, ...]
+    writes: tuple[str, ...]
+    gone: tuple[str, ...] = ()
+    made: tuple[str, ...] = ()
+    links: tuple[str, ...] = ()
+    others: tuple[str, ...] = ()
+    looked: tuple[str, ...] = ()
+    listed: tuple[str, ...] = ()
+
+
+@dataclass(frozen=True)
+class Trial:
+    """A recipe as it ran, for another run of it.
+
+    `before` has the files of the project that it reads, as they were when it began, and `after`
+    these and those that it wrote, as they were when it ended; None where nothing was there. `links`
+    are the links over which it went and that no recipe made. `made` are folders that it made,
+    `known` all folders that were there when it ended. `begun` and `ended` are times of the clock.
+    `looks` has, where the world is watching, what stood at each name that it used or looked at
+    before it began, and `lists` digests of the names in folders that it read.
+    """
+
+    recipe: Recipe
+    before: Mapping[str, Version]
+    after: Mapping[str, Version | None]
+    writes: tuple[str, ...]
+    links: Mapping[str, str]
+    made: tuple[str, ...]
+    known: frozenset[str]
+    begun: float
+    ended: float
+    looks: Mapping[str, Version | None] = field(default_factory=dict)
+    lists: Mapping[str, str] = field(default_factory=dict)
+
+    @property
+    def seconds(self) -> float:
+        """How long the recipe ran."""
+        return self.ended - self.begun
+
+
+@dataclass
+class World:
+    """The project's folder, followed from recipe to recipe.
+
+    `folder` is the project's, `place` where the recipes run; they are one where no copy was made.
+    `begun` is the time of the clock when the copy was made. `inside` has the names in each folder
+    as they are now. `current` has the names that recipes wrote or took away, and `makers` the
+    folders that they made, each with the targets of these recipes.
+    """
+
+    folder: str
+    place: str
+    store: Store
+    begun: float
+    given_folders: frozenset[str] = frozenset()
+    given_links: dict[str, str] = field(default_factory=dict)
+    inside: dict[str, set[str]] = field(default_factory=dict)
+    current: dict[str, Version | None] = field(default_factory=dict)
+    makers: dict[str, list[str]] = field(default_factory=dict)
+    trials: list[Trial] = field(default_factory=list)
+    watching: bool = False
+    seen: dict[str, Version | None] = field(default_factory=dict)
+    compared: dict[tuple[str, Version | None], bool] = field(default_factory=dict)
+
+    @classmethod
+    def of(cls, folder: str, place: str, store: Store) -> World:
+        """The world before the first recipe."""
+        os.makedirs(store.folder, exist_ok=True)
+        world = cls(folder, place, store, time.time())
+        folders = set()
+        for name, entry in entries(place):
+            world.inside.setdefault(os.path.dirname(name), set()).add(entry.name)
+            if entry.is_symlink():
+                world.given_links[name] = os.readlink(entry.path)
+            elif entry.is_dir(follow_symlinks=False):
+                folders.add(name)
+        world.given_folders = frozenset(folders)
+        return world
+
+    def took(self, recipe: Recipe, effects: Effects, begun: float) -> Trial:
+        """Takes down that a recipe has ended."""
+        before = {
+            name: self.current.get(name, GIVEN) or GIVEN for name in effects.reads if is_own(name)
+        }
+        after: dict[str, Version | None] = {}
+        for name in [*effects.writes, *effects.others]:
+            after[name] = self.store.keep(os.path.join(self.place, name))
+        after.update(dict.fromkeys(effects.gone))
+        links = {name: self.given_links[name] for name in effects.links if name in self.given_links}
+        links = {name: goal for name, goal in links.items() if name not in self.current}
+        made = tuple(
+            name for name in effects.made if name and os.path.isdir(os.path.join(self.place, name))
+        )
+        looks, lists = self.looks(effects, after) if self.watching else ({}, {})
+        self.change(recipe.target, after, made)
+        trial = Trial(
+            recipe,
+            before,
+            {**{name: version for name, version in before.items() if name not in after}, **after},
+            effects.writes,
+            links,
+            made,
+            self.given_folders.union(self.makers),
+            begun,
+            time.time(),
+            looks,
+            lists,
+        )
+        self.trials.append(trial)
+        return trial
+
+    def looks(
+        self, effects: Effects, after: Mapping[str, Version | None]
+    ) -> tuple[dict[str, Version | None], dict[str, str]]:
+        """What stood at the names that a recipe used or looked at, before it began."""
+        used = [
+            *effects.reads,
+            *effects.links,
+            *effects.made,
+            *after,
+            *filter(is_own, effects.looked),
+        ]
+        versions = {name: self.version(name, after) for name in dict.fromkeys(used) if name}
+        for name in effects.looked:
+            if name not in versions:
+                there = os.path.lexists(os.path.join(self.folder, name))
+                versions[name] = Version(THERE, 0, "") if there else None
+        return versions, {name: self.names_in(name) for name in effects.listed}
+
+    def is_as_before(self, name: str, version: Version | None) -> bool:
+        """Whether what stands at a name now is what stood there."""
+        if is_own(name):
+            return self.version(name) == version
+        known = self.compared.get((name, version))
+        if known is None:
+            if version is not None and version.kind == THERE:
+                known = os.path.lexists(os.path.join(self.folder, name))
+            else:
+                known = self.version(name) == version
+            self.compared[name, version] = known
+        return known
+
+    def change(self, target: str, after: Mapping[str, Version | None], made: Iterable[str]) -> None:
+        """A recipe leaves these versions and makes these folders."""
+        self.current.update(after)
+        for name in made:
+            self.makers.setdefault(name, []).append(target)
+            self.appear(name)
+        for name, version in after.items():
+            if version is not None:
+                self.appear(name)
+            else:
+                self.inside.get(os.path.dirname(name), set()).discard(os.path.basename(name))
+
+    def appear(self, name: str) -> None:
+        """A name is there now, and with it the folders above it."""
+        while name:
+            folder, base = os.path.split(name)
+            self.inside.setdefault(folder, set()).add(base)
+            name = folder
+
+    def names_in(self, folder: str) -> str:
+        """A digest of the names in a folder, `.` for the project's; empty if it isn't one."""
+        if not is_own(folder):
+            try:
+                names = sorted(os.listdir(os.path.join(self.folder, folder)))
+            except OSError:
+                return ""
+        elif folder != "." and not self.is_folder(folder):
+            return ""
+        else:
+            names = sorted(self.inside.get("" if folder == "." else folder, ()))
+        return hashlib.sha256("\0".join(names).encode("utf-8", "surrogateescape")).hexdigest()
+
+    def is_folder(self, name: str) -> bool:
+        """Whether a name is that of a folder now."""
+        return name in self.inside or name in self.makers or name in self.given_folders
+
+    def version(
+        self, name: str, changed: Mapping[str, Version | None] | None = None
+    ) -> Version | None:
+        """What stands at a name now, of the project or elsewhere; None where nothing does.
+
+        `changed` are names that the recipe has changed which has just ended: what stood there
+        before it began is asked.
+        """
+        if not is_own(name):
+            return self.given(name, os.path.join(self.folder, name))
+        if self.is_folder(name):
+            return FOLDERS
+        if name in self.current:
+            return self.current[name]
+        folder, base = os.path.split(name)
+        if base not in self.inside.get(folder, ()):
+            return None
+        if changed is None or name not in changed:
+            return self.given(name, os.path.join(self.place, name))
+        return replace(self.material(name, GIVEN, True)[1], stamp=0)
+
+    def given(self, name: str, path: str) -> Version | None:
+        """What stands at a path, of a file that no recipe has changed; each is looked at once."""
+        if name not in self.seen:
+            version = version_of(path)
+            self.seen[name] = FOLDERS if version is not None and version.kind == FOLDER else version
+        return self.seen[name]
+
+    def material(self, name: str, version: Version, changed: bool = False) -> tuple[str, Version]:
+        """Where the bytes of a version lie, and the version in full.
+
+        `changed` tells that the recipe that has just ended changed the file.
+        """
+        if version != GIVEN:
+            return self.store.path(version), version
+        if name not in self.current and not changed:
+            path = os.path.join(self.place, name)
+        elif self.place == self.folder:
+            raise Fault(
+                f"{name} was there before a recipe wrote it, so what it held is lost: leave out"
+                " --in-place"
+            )
+        else:
+            path = os.path.join(self.folder, name)
+            if os.path.lexists(path) and os.lstat(path).st_ctime >= self.begun:
+                raise Fault(
+                    f"{name} was changed in the project's folder while recipes ran: record again"
+                )
+        found = version_of(path)
+        if found is None or found.kind not in (FILE, LINK):
+            raise Fault(
+                f"{name} isn't there any more: it was taken away while recipes ran; record again"
+            )
+        return path, found
+
+
+def is_own(name: str) -> bool:
+    """Whether a name is that of a file in the project's folder."""
+    return not name.startswith("/") and name.split("/", 1)[0] != ".."
+
+
+def entries(place: str, front: str = "") -> Iterator[tuple[str, os.DirEntry[str]]]:
+    """All that is in a folder, by name, folders first. An unreadable folder seems empty."""
+    try:
+        inside = sorted(os.scandir(os.path.join(place, front)), key=lambda entry: entry.name)
+    except OSError:
+        return
+    for entry in inside:
+        name = os.path.join(front, entry.name)
+        yield name, entry
+        if entry.is_dir(follow_symlinks=False):
+            yield from entries(place, name)
