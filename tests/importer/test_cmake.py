@@ -1,0 +1,69 @@
+"""Builds that CMake configured for ninja."""
+
+from __future__ import annotations
+
+import shutil
+import subprocess
+import unittest
+
+from ninja_folder import NinjaFolderTest, can_judge
+
+LISTS = """cmake_minimum_required(VERSION 3.13)
+project(small C)
+configure_file(config.h.in config.h)
+add_custom_command(OUTPUT made.h
+  COMMAND sed s/@/x/ ${CMAKE_CURRENT_SOURCE_DIR}/made.txt > made.h DEPENDS made.txt)
+add_library(part STATIC part.c made.h)
+target_include_directories(part PUBLIC ${CMAKE_CURRENT_BINARY_DIR})
+add_executable(main main.c)
+"""
+FILES = {
+    "config.h.in": "#define ONE 1\n",
+    "made.txt": "#define TWO 2 /* @ */\n",
+    "part.c": '#include "made.h"\n#include "config.h"\nint part(void) { return ONE + TWO; }\n',
+    "main.c": '#include "made.h"\nint main(void) { return TWO; }\n',
+    "other.c": "int other;\n",
+}
+
+
+@can_judge
+@unittest.skipUnless(shutil.which("cmake") and shutil.which("cc"), "no cmake, or no compiler")
+class CmakeTest(NinjaFolderTest):
+    """A library with a generated header, and a program that uses it."""
+
+    def configure(self, lines: str) -> None:
+        """Writes the project, and lets CMake configure it in the folder `out`."""
+        self.write({**FILES, "CMakeLists.txt": LISTS + lines})
+        words = ["cmake", "-G", "Ninja", "-S", ".", "-B", "out"]
+        done = subprocess.run(words, cwd=self.folder, capture_output=True, text=True, check=False)
+        self.assertEqual(done.returncode, 0, done.stderr)
+
+    def test_yes(self) -> None:
+        """Where the program is linked with the library, CMake gives the order."""
+        self.configure("target_link_libraries(main part)\n")
+        answer = self.answer(folder="out")
+        self.assertEqual(answer.findings, [])
+        # What CMake keeps for itself never changes, and a configured header does.
+        files = {way[1] for way in answer.ways}
+        self.assertIn("out/config.h", files)
+        self.assertFalse([name for name in files if "CMakeFiles/" in name and name[-2:] != ".o"])
+        way = ["out/CMakeFiles/main.dir/main.c.o", "out/made.h", "written"]
+        self.assertIn(way, [one[:3] for one in answer.ways])
+
+    def test_race(self) -> None:
+        """Where it only includes the header, the compiler may be too early in a first build."""
+        self.configure("target_include_directories(main PRIVATE ${CMAKE_CURRENT_BINARY_DIR})\n")
+        # The library comes first in the serial order, so that the header is there.
+        answer = self.answer("libpart.a", "main", folder="out")
+        race = "no race out/CMakeFiles/main.dir/main.c.o out/made.h out/made.h"
+        self.assertEqual(answer.findings, [race])
+        inputs = self.ninja("-t", "inputs", "main", folder=self.folder / "out")
+        self.assertNotIn("made.h", inputs.stdout)
+
+    def test_target_that_is_always_built(self) -> None:
+        """A custom target without an output is built each time; what it reads is never stale."""
+        command = "add_custom_target(look ALL COMMAND cat ${CMAKE_CURRENT_SOURCE_DIR}/other.c)\n"
+        self.configure(command + "target_link_libraries(main part)\n")
+        answer = self.answer(folder="out")
+        self.assertEqual(answer.findings, [])
+        self.assertIn(["out/CMakeFiles/look", "other.c", "always"], [w[:3] for w in answer.ways])

@@ -1,0 +1,628 @@
+"""Builds of GNU make, one for each construct: the translation, the answer, and what make does."""
+
+from __future__ import annotations
+
+from make_folder import MakeFolderTest, can_judge
+
+
+@can_judge
+class PlainTest(MakeFolderTest):
+    """Explicit rules, pattern rules, functions."""
+
+    def test_yes(self) -> None:
+        self.write(
+            {
+                "Makefile": "objects := $(patsubst %.in,%.out,$(wildcard *.in))\n"
+                "all: sum\n"
+                "sum: $(objects)\n\tcat $^ > $@\n"
+                "%.out: %.in head\n\tcat $< head > $@\n"
+                ".PHONY: all\n",
+                "a.in": "a\n",
+                "b.in": "b\n",
+                "head": "h\n",
+            }
+        )
+        answer = self.imported(replay=True)
+        self.assertEqual(answer.status, 0, answer.output + answer.errors)
+        self.assertEqual(
+            answer.rules(),
+            ".PHONY: all\n"
+            "all: sum\n"
+            "a.out: a.in head\n\tset +e; cat a.in head > a.out\n"
+            "b.out: b.in head\n\tset +e; cat b.in head > b.out\n"
+            "sum: a.out b.out\n\tset +e; cat a.out b.out > sum\n",
+        )
+        self.assertTrue(answer.output.startswith("yes: 3 recipes, "), answer.output)
+        self.assertIn("as GNU Make", answer.output)
+        self.assertEqual(
+            [way[:3] for way in answer.ways],
+            [
+                ["a.out", "a.in", "source"],
+                ["a.out", "head", "source"],
+                ["b.out", "b.in", "source"],
+                ["b.out", "head", "source"],
+                ["sum", "a.out", "written"],
+                ["sum", "b.out", "written"],
+            ],
+        )
+        self.try_answer(answer)
+
+    def test_stale(self) -> None:
+        self.write(
+            {
+                "Makefile": "sum: a.out\n\tcat $^ > $@\n%.out: %.in\n\tcat $< head > $@\n",
+                "a.in": "a\n",
+                "head": "h\n",
+            }
+        )
+        answer = self.imported()
+        self.assertEqual(answer.status, 1, answer.output + answer.errors)
+        self.assertEqual(answer.findings, ["no stale a.out head"])
+        self.assertIn("Makefile:4: a.out isn't made again when head changes\n", answer.output)
+        self.assertIn("Add to Makefile:\n    a.out: head\n", answer.output)
+        self.try_answer(answer)
+        # The advice is right: with the line the answer is yes.
+        makefile = self.folder / "Makefile"
+        makefile.write_text(makefile.read_text() + "a.out: head\n")
+        answer = self.imported()
+        self.assertEqual(answer.status, 0, answer.output + answer.errors)
+        self.try_answer(answer)
+
+    def test_race(self) -> None:
+        self.write(
+            {
+                "Makefile": "all: head sum\n"
+                "head: head.in\n\tcp head.in head\n"
+                "sum: a.in\n\t-cat a.in head > sum\n"
+                ".PHONY: all\n",
+                "a.in": "a\n",
+                "head.in": "h\n",
+            }
+        )
+        answer = self.imported()
+        self.assertEqual(answer.status, 1, answer.output + answer.errors)
+        self.assertEqual(answer.findings, ["no race sum head head", "no stale sum head"])
+        self.assertIn(
+            "Makefile:5: the recipe of sum reads head, and make may begin it before the recipe of"
+            " head (Makefile:3) has written that\n",
+            answer.output,
+        )
+        self.assertIn("Add to Makefile:\n    sum: head\n", answer.output)
+        self.assertIn("\t-cat a.in head > sum\n", answer.rules())
+        self.try_answer(answer)
+
+    def test_goals_and_macros(self) -> None:
+        self.write(
+            {
+                "makefile": "all: nothing\nnothing:; false\n",
+                "GNUmakefile": "MODE = plain\nall:; false\none: a\n\tcp a one-$(MODE) && cp a one\n"
+                "two: one\n\tcp one two\n",
+                "other.mk": "three: a\n\tcp a three\n",
+                "a": "a\n",
+            }
+        )
+        answer = self.imported("two", "one", "MODE=fast")
+        self.assertEqual(answer.status, 0, answer.output + answer.errors)
+        self.assertEqual(
+            answer.rules(),
+            ".PHONY: goals@\n"
+            "goals@: two one\n"
+            "two: one\n\texport MODE=fast; cp one two\n"
+            "one: a\n\texport MODE=fast; set +e; cp a one-fast && cp a one\n",
+        )
+        self.try_answer(answer, "two", "one", "MODE=fast")
+        answer = self.imported("-f", "other.mk")
+        self.assertEqual(answer.rules(), "three: a\n\tcp a three\n")
+        self.assertEqual(answer.status, 0, answer.output + answer.errors)
+
+    def test_conditionals_and_recipes(self) -> None:
+        self.write(
+            {
+                "Makefile": "define both\necho one > $@.one\n@echo two > $@\nendef\n"
+                "ifdef MODE\nextra = b\nelse\nextra = a\nendif\n"
+                "quiet = -@\n"
+                "all: x y\n.PHONY: all\n"
+                "x: $(extra)\n\t$(both)\n"
+                "y: a\n\t$(quiet)false; cp a y\n\t@echo '$$PATH' \\\n\t\t> /dev/null\n",
+                "a": "a\n",
+            }
+        )
+        answer = self.imported()
+        self.assertEqual(answer.status, 0, answer.output + answer.errors)
+        self.assertEqual(
+            answer.rules(),
+            ".PHONY: all\n"
+            "all: x y\n"
+            "x: a\n\tset +e; echo one > x.one\n\tset +e; echo two > x\n"
+            "y: a\n\t-false; cp a y\n\tset +e; echo '$$PATH' \\\n\t\t> /dev/null\n",
+        )
+        self.try_answer(answer)
+
+
+@can_judge
+class OrderTest(MakeFolderTest):
+    """Order-only prerequisites, folders, and targets that are never there."""
+
+    def test_order_only(self) -> None:
+        self.write(
+            {
+                "Makefile": "x: a | tool\n\tcat a tool > x\ntool: b\n\tcp b tool\n",
+                "a": "a\n",
+                "b": "b\n",
+            }
+        )
+        answer = self.imported()
+        self.assertEqual(
+            answer.rules(),
+            "x: x@order a\n\tset +e; cat a tool > x\n"
+            "x@order: tool\n"
+            "tool: b\n\tcp b tool\n",
+        )
+        self.assertEqual(answer.findings, ["no stale x tool"])
+        self.assertEqual(answer.status, 1)
+        self.try_answer(answer)
+
+    def test_folders(self) -> None:
+        self.write(
+            {
+                "Makefile": "all: out/x deep/y\n.PHONY: all\n"
+                "out/x: a | out\n\tcp a out/x\n"
+                "deep/y: a deep\n\tcp a deep/y\n"
+                "out deep:\n\tmkdir $@\n",
+                "a": "a\n",
+            }
+        )
+        answer = self.imported()
+        self.assertEqual(answer.status, 0, answer.output + answer.errors)
+        self.assertIn("deep/y: deep/y@order a\n\tcp a deep/y\ndeep/y@order: deep\n", answer.rules())
+        self.try_answer(answer)
+
+    def test_never_there(self) -> None:
+        self.write(
+            {
+                "Makefile": "all: x y\n"
+                "x: force\n\tcp a x\n"
+                "force:\n"
+                "y: step\n\tcp a y\n"
+                "step:\n\t@echo step\n",
+                "a": "a\n",
+            }
+        )
+        answer = self.imported()
+        self.assertEqual(answer.status, 0, answer.output + answer.errors)
+        self.assertIn(".PHONY: force\n", answer.makefile)
+        self.assertIn(".PHONY: step\n", answer.makefile)
+        self.assertEqual(
+            [way[:3] for way in answer.ways], [["x", "a", "always"], ["y", "a", "always"]]
+        )
+        self.assertIn("run in each build (1 target): step\n", answer.output)
+        self.try_answer(answer)
+
+    def test_failures_that_are_ignored(self) -> None:
+        """A recipe that fails unseen writes nothing, and the answer says so."""
+        self.write({"Makefile": "x: a\n\t--mode=fast --tag=x cp a x\n", "a": "a\n"})
+        answer = self.imported()
+        self.assertEqual(answer.status, 0, answer.output + answer.errors)
+        self.assertIn("\t-mode=fast --tag=x cp a x\n", answer.rules())
+        self.assertIn("run in each build (1 target): x\n", answer.output)
+
+    def test_phony_order_only(self) -> None:
+        self.write(
+            {
+                "Makefile": "x: a | say\n\tcat a b > x\nsay:\n\t@echo\n.PHONY: say\n",
+                "a": "a\n",
+                "b": "b\n",
+            }
+        )
+        answer = self.imported()
+        self.assertEqual(answer.findings, ["no stale x b"])
+        self.try_answer(answer)
+
+    def test_phony_and_file(self) -> None:
+        """A phony name that lies in the folder too, and one that its own recipe writes."""
+        self.write(
+            {
+                "Makefile": "all: test x\n.PHONY: all test x\n"
+                "test:\n\techo ok > log\nx: a\n\tcp a x\n",
+                "test": "a file\n",
+                "a": "a\n",
+            }
+        )
+        answer = self.imported()
+        self.assertEqual(answer.status, 0, answer.output + answer.errors)
+        self.assertIn(".PHONY: test\n", answer.makefile)
+        self.assertIn(".PHONY: x@phony\n", answer.makefile)
+        self.assertEqual([way[:3] for way in answer.ways], [["x@phony", "a", "source"]])
+        self.try_answer(answer)
+
+
+@can_judge
+class NoRecipeTest(MakeFolderTest):
+    """Targets with prerequisites and without a recipe."""
+
+    def test_file_that_is_there(self) -> None:
+        """GNU make compares what needs it with the file itself."""
+        self.write(
+            {
+                "Makefile": "x: h\n\tcat h a > x\nh: a\n",
+                "h": "h\n",
+                "a": "a\n",
+            }
+        )
+        answer = self.imported()
+        self.assertEqual(answer.rules(), "x: h\n\tset +e; cat h a > x\nh: a\n")
+        self.assertEqual(answer.findings, ["no stale x a"])
+        self.try_answer(answer)
+
+    def test_written_meanwhile(self) -> None:
+        """GNU make doesn't look again at a file without a recipe that another one has written."""
+        self.write(
+            {
+                "Makefile": "x: h\n\tcat h > x\nh: c\nc: s\n\tcp s h; cp s c\n",
+                "s": "s\n",
+            }
+        )
+        answer = self.imported()
+        self.assertEqual(answer.findings, ["no stale x h"])
+        self.assertIn("Add to Makefile:\n    x: c\n", answer.output)
+        self.try_answer(answer)
+        makefile = self.folder / "Makefile"
+        makefile.write_text(makefile.read_text() + "x: c\n")
+        answer = self.imported()
+        self.assertEqual(answer.status, 0, answer.output + answer.errors)
+        self.try_answer(answer)
+
+    def test_empty_recipe(self) -> None:
+        """With an empty recipe it does look again."""
+        self.write(
+            {
+                "Makefile": "x: h\n\tcat h > x\nh: c ;\nc: s\n\tcp s h; cp s c\n",
+                "s": "s\n",
+            }
+        )
+        answer = self.imported()
+        self.assertEqual(answer.status, 0, answer.output + answer.errors)
+        self.try_answer(answer)
+
+    def test_recipe_that_does_nothing(self) -> None:
+        self.write(
+            {
+                "Makefile": "x: h\n\tcat h > x\nh: c\n\t@:\nc: s\n\tcp s h; cp s c\n",
+                "s": "s\n",
+            }
+        )
+        answer = self.imported()
+        self.assertEqual(answer.status, 0, answer.output + answer.errors)
+        self.try_answer(answer)
+
+
+@can_judge
+class SeveralTargetsTest(MakeFolderTest):
+    """Recipes that make several files, and files with several rules."""
+
+    def test_grouped(self) -> None:
+        self.write(
+            {
+                "Makefile": "all: x y\n.PHONY: all\n"
+                "x: p.c\n\tcp p.c x\ny: p.h\n\tcp p.h y\n"
+                "p.c p.h &: p.y\n\tcp p.y p.c; cp p.y p.h\n",
+                "p.y": "p\n",
+            }
+        )
+        answer = self.imported()
+        self.assertEqual(answer.status, 0, answer.output + answer.errors)
+        self.assertIn("p.c: p.y\n\tset +e; cp p.y p.c; cp p.y p.h\n", answer.rules())
+        self.assertIn("p.h: p.c\n", answer.rules())
+        self.try_answer(answer)
+
+    def test_pattern_with_several_targets(self) -> None:
+        self.write(
+            {
+                "Makefile": "all: x y\n.PHONY: all\n"
+                "x: p.tab.c\n\tcp p.tab.c x\ny: p.tab.h\n\tcp p.tab.h y\n"
+                "%.tab.c %.tab.h: %.y\n\tcp $< $*.tab.c; cp $< $*.tab.h\n",
+                "p.y": "p\n",
+            }
+        )
+        answer = self.imported()
+        self.assertEqual(answer.status, 0, answer.output + answer.errors)
+        self.try_answer(answer)
+
+    def test_two_writers(self) -> None:
+        """One rule line with two targets is two rules: each makes both files."""
+        self.write(
+            {
+                "Makefile": "all: p.c p.h\n.PHONY: all\np.c p.h: p.y\n\tcp p.y p.c; cp p.y p.h\n",
+                "p.y": "p\n",
+            }
+        )
+        answer = self.imported()
+        self.assertEqual(answer.findings, ["no writers p.c p.h p.c", "no writers p.c p.h p.h"])
+        self.assertEqual(answer.status, 1)
+        self.assertIn(
+            "Makefile:4: the recipes of p.c and p.h (Makefile:4) both write p.c and p.h;",
+            answer.output,
+        )
+
+    def test_double_colon(self) -> None:
+        self.write(
+            {
+                "Makefile": "all:: one\n\t@echo done\nall:: two\n\t@echo too\n"
+                "one: a\n\tcp a one\ntwo: b\n\tcat b one > two\n.PHONY: all\n",
+                "a": "a\n",
+                "b": "b\n",
+            }
+        )
+        answer = self.imported()
+        self.assertIn("all: all@rule1 .WAIT all@rule2\n", answer.rules())
+        self.assertEqual(answer.findings, ["no stale two one"])
+        self.try_answer(answer)
+
+    def test_double_colon_with_one_recipe(self) -> None:
+        self.write(
+            {
+                "Makefile": "x:: a\n\tcat a b > x\nx:: b\n",
+                "a": "a\n",
+                "b": "b\n",
+            }
+        )
+        answer = self.imported()
+        self.assertEqual(answer.rules(), "x: a b\n\tset +e; cat a b > x\n")
+        self.assertEqual(answer.status, 0, answer.output + answer.errors)
+
+    def test_double_colon_file(self) -> None:
+        self.write({"Makefile": "x:: a\n\tcp a x\nx:: b\n\tcp b x\n", "a": "a\n", "b": "b\n"})
+        answer = self.imported()
+        self.assertEqual(answer.status, 2)
+        self.assertIn("x: it is a file with several :: rules", answer.output)
+
+    def test_intermediate(self) -> None:
+        """GNU make removes files between two pattern rules, and makes them anew when it has to."""
+        self.write(
+            {
+                "Makefile": "x.o: x.h\n%.o: %.c\n\tcat $< > $@\n%.c: %.y\n\tcp $< $@\n",
+                "x.y": "y\n",
+                "x.h": "h\n",
+            }
+        )
+        answer = self.imported()
+        self.assertEqual(answer.status, 0, answer.output + answer.errors)
+        self.assertEqual(
+            answer.rules(), "x.o: x.c x.h\n\tset +e; cat x.c > x.o\nx.c: x.y\n\tcp x.y x.c\n"
+        )
+        self.try_answer(answer)
+
+    def test_archive_member(self) -> None:
+        self.write({"Makefile": "l.a(m.o): m.o\n\tar rc l.a m.o\nm.o: m\n\tcp m m.o\n", "m": "m\n"})
+        answer = self.imported()
+        self.assertEqual(answer.status, 2)
+        self.assertIn("a member of an archive as target isn't translated", answer.output)
+
+
+@can_judge
+class VaryingTest(MakeFolderTest):
+    """Shells, environments and commands that differ."""
+
+    def test_newer_prerequisites(self) -> None:
+        self.write({"Makefile": "x: a b\n\tcat $? > x\n", "a": "a\n", "b": "b\n"})
+        answer = self.imported()
+        self.assertEqual(answer.findings, ["no varying x"])
+        self.assertEqual(answer.status, 1)
+
+    def test_one_shell(self) -> None:
+        self.write(
+            {
+                "Makefile": ".ONESHELL:\n"
+                "x: a\n\tname=one\n\tcat a b > $@\n\techo \"$$name\" >> $@\n"
+                "y: x\n\tcp x y\n.DEFAULT_GOAL = y\n",
+                "a": "a\n",
+                "b": "b\n",
+            }
+        )
+        answer = self.imported()
+        self.assertEqual(answer.findings, ["no stale x b"], answer.output + answer.errors)
+        self.assertIn(
+            "\texec /bin/sh -c \"$$(printf '%s\\n' name=one 'cat a b > x'"
+            " 'echo \"$$name\" >> x')\"\n",
+            answer.rules(),
+        )
+        self.try_answer(answer)
+
+    def test_shell(self) -> None:
+        self.write(
+            {
+                "Makefile": "SHELL = /bin/bash\n.SHELLFLAGS = -e -c\n"
+                "all: x y\n.PHONY: all\n"
+                "x: a\n\tcat <(cat a) > x\ny: SHELL = /bin/sh\ny: a\n\tcp a y\n",
+                "a": "a\n",
+            }
+        )
+        answer = self.imported()
+        self.assertEqual(answer.status, 0, answer.output + answer.errors)
+        self.assertIn("\texec /bin/bash -e -c 'cat <(cat a) > x'\n", answer.rules())
+        self.assertIn("\texec /bin/sh -e -c 'cp a y'\n", answer.rules())
+        self.try_answer(answer)
+
+    def test_environment(self) -> None:
+        self.write(
+            {
+                "Makefile": "export MODE = fast and\\$$loose\nunexport GONE\nPLAIN = no\n"
+                "all: x y z\n.PHONY: all\n"
+                "y: export EXTRA = of y\nz: MODE = of z\n"
+                "x y z: a\n\tset > /dev/null; echo \"$$MODE $$GONE $$PLAIN $$EXTRA\" > $@;"
+                " cat a >> $@\n",
+                "a": "a\n",
+            }
+        )
+        answer = self.imported(environment={"GONE": "here"})
+        self.assertEqual(answer.status, 0, answer.output + answer.errors)
+        self.assertIn(
+            "x: a\n\tunset GONE; export MODE='fast and\\$$loose'; set +e; ", answer.rules()
+        )
+        self.assertIn("\tunset GONE; export EXTRA='of y' MODE=", answer.rules())
+        self.assertIn("\tunset GONE; export MODE='of z'; set +e; ", answer.rules())
+        self.assertEqual(answer.rules().count("EXTRA='of y'"), 1)
+
+    def test_environment_of_patterns(self) -> None:
+        self.write(
+            {
+                "Makefile": "%.o: export MODE = of objects\nall: x.o y\n.PHONY: all\n"
+                "x.o y: a\n\techo \"$$MODE\" > $@; cat a >> $@\n",
+                "a": "a\n",
+            }
+        )
+        answer = self.imported()
+        self.assertEqual(answer.status, 0, answer.output + answer.errors)
+        self.assertIn("x.o: a\n\texport MODE='of objects'; set +e; echo", answer.rules())
+        self.assertIn("y: a\n\tset +e; echo", answer.rules())
+
+    def test_ignored_failures(self) -> None:
+        self.write(
+            {
+                "Makefile": "all: x y\n.PHONY: all\n.IGNORE: x\n"
+                "x: a\n\tcp a x; false\ny: x\n\tcp x y\n",
+                "a": "a\n",
+            }
+        )
+        answer = self.imported()
+        self.assertEqual(answer.status, 0, answer.output + answer.errors)
+        self.assertIn("x: a\n\t-cp a x; false\n", answer.rules())
+        self.assertIn("y: x\n\tcp x y\n", answer.rules())
+
+    def test_makefiles_of_the_environment(self) -> None:
+        self.write(
+            {
+                "Makefile": "x: a\n\tcp a x; : $(MODE) $$MAKER\n",
+                "first.mk": "MODE = fast\nexport MAKER = me\nall: y\n",
+                "a": "a\n",
+            }
+        )
+        answer = self.imported(environment={"MAKEFILES": "first.mk"})
+        self.assertEqual(answer.status, 0, answer.output + answer.errors)
+        self.assertEqual(
+            answer.rules(), "x: a\n\texport MAKER=me; set +e; cp a x; : fast $$MAKER\n"
+        )
+
+    def test_default_rule_and_static_patterns(self) -> None:
+        self.write(
+            {
+                "Makefile": "all: x.out other\n.PHONY: all\n"
+                "x.out y.out: %.out: %.in\n\tcat $< b > $@\n"
+                ".DEFAULT:\n\tcp a $@\n",
+                "x.in": "x\n",
+                "a": "a\n",
+                "b": "b\n",
+            }
+        )
+        answer = self.imported()
+        self.assertEqual(answer.findings, ["no stale x.out b", "no stale other a"])
+        self.try_answer(answer)
+
+    def test_secondary_expansion(self) -> None:
+        self.write(
+            {
+                "Makefile": ".SECONDEXPANSION:\nx_needs = a b\nx: $$($$@_needs)\n\tcat a b c > x\n",
+                "a": "a\n",
+                "b": "b\n",
+                "c": "c\n",
+            }
+        )
+        answer = self.imported()
+        self.assertEqual(answer.rules(), "x: a b\n\tset +e; cat a b c > x\n")
+        self.assertEqual(answer.findings, ["no stale x c"])
+        self.try_answer(answer)
+
+    def test_not_parallel(self) -> None:
+        self.write(
+            {
+                "Makefile": "all: head x\n.PHONY: all\n.NOTPARALLEL:\n"
+                "head: h\n\tcp h head\nx: a\n\tcat a head > x\n",
+                "a": "a\n",
+                "h": "h\n",
+            }
+        )
+        answer = self.imported()
+        self.assertIn("all: head .WAIT x\n", answer.rules())
+        self.assertEqual(answer.findings, ["no stale x head"])
+        self.try_answer(answer)
+
+    def test_search_path(self) -> None:
+        self.write(
+            {
+                "Makefile": "VPATH = src\nx: a b.in\n\tcat $^ src/c > x\n",
+                "src/a": "a\n",
+                "src/b.in": "b\n",
+                "src/c": "c\n",
+            }
+        )
+        answer = self.imported()
+        self.assertEqual(
+            answer.rules(), "x: src/a src/b.in\n\tset +e; cat src/a src/b.in src/c > x\n"
+        )
+        self.assertEqual(answer.findings, ["no stale x src/c"])
+        self.try_answer(answer)
+
+    def test_spellings(self) -> None:
+        self.write(
+            {
+                "Makefile": "top := $(CURDIR)\nall: ./x $(top)/y\n.PHONY: all\n"
+                "x: a\n\tcp a x\n$(top)/y: x sub/../b\n\tcat x b > y\n",
+                "a": "a\n",
+                "b": "b\n",
+                "sub/c": "",
+            }
+        )
+        answer = self.imported()
+        self.assertEqual(answer.status, 0, answer.output + answer.errors)
+        self.assertIn("all: x y\n", answer.rules())
+        self.assertIn("y: x b\n", answer.rules())
+        self.try_answer(answer)
+
+    def test_links_to_folders(self) -> None:
+        """A name that leads over a link to a folder is the file in that folder."""
+        self.write(
+            {
+                "Makefile": "all: link/x y\n.PHONY: all\n"
+                "link/x: real/a\n\tcat real/a b > link/x\n"
+                "y: real/x\n\tcp link/x y\nreal/x: link/x ;\n",
+                "real/a": "a\n",
+                "b": "b\n",
+            }
+        )
+        (self.folder / "link").symlink_to("real")
+        answer = self.imported()
+        self.assertIn("no stale real/x b", answer.findings, answer.output + answer.errors)
+        self.assertNotEqual(answer.status, 0)
+
+    def test_spelling_that_make_takes_for_another_file(self) -> None:
+        """By an absolute name make knows no rule for a file, and doesn't wait for it."""
+        self.write(
+            {
+                "Makefile": "top := $(CURDIR)\nall: x y\n.PHONY: all\n"
+                "x: a\n\tsleep 0.3; cp a x\ny: $(top)/x b\n\tcat x b > y\n",
+                "a": "a\n",
+                "b": "b\n",
+            }
+        )
+        answer = self.imported()
+        self.assertEqual(answer.findings, ["no race y x x"], answer.output + answer.errors)
+        self.assertEqual(answer.status, 1)
+        done = self.make(self.copied("parallel"), "-j2")
+        self.assertIn("No rule to make target", done.stderr)
+
+    def test_names_that_posix_lacks(self) -> None:
+        self.write(
+            {
+                "Makefile": "x\\#1: a\\#b\n\tcp 'a#b' 'x#1'; cat c > /dev/null\n",
+                "a#b": "a\n",
+                "c": "c\n",
+            }
+        )
+        answer = self.imported()
+        self.assertEqual(
+            answer.rules(),
+            "x@231: a@23b\n\tset +e; cp 'a#b' 'x#1'; cat c > /dev/null\na@23b:\n",
+        )
+        self.assertEqual(answer.findings, ["no stale x@231 c"])
+        self.assertEqual(answer.map["x@231"]["name"], "x#1")
+        self.assertIn("Makefile:2: x#1 isn't made again when c changes\n", answer.output)

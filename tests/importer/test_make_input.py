@@ -1,0 +1,215 @@
+"""Bad input: what the importer says where it can't go on, in a sentence and without a traceback."""
+
+from __future__ import annotations
+
+import resource
+import signal
+import subprocess
+import sys
+import time
+
+from make_folder import ENVIRONMENT, IMPORTER, MakeFolderTest, can_judge, has_make
+
+
+@has_make
+class RefusedTest(MakeFolderTest):
+    """Folders and words with which there is no answer."""
+
+    def refused(self, sentence: str, *words: str, **environment: str) -> None:
+        """Runs the importer, which has to end with a sentence and the status 2."""
+        answer = self.imported(*words, environment=environment)
+        self.assertEqual((answer.status, answer.output), (2, ""))
+        said = [line for line in answer.errors.splitlines() if " s  " not in line]
+        self.assertEqual(len(said), 1, answer.errors)
+        self.assertIn(sentence, said[0])
+
+    def test_no_build(self) -> None:
+        self.refused("has no makefile and no build.ninja: give the folder of a build with -C")
+        self.write({"configure": "#!/bin/sh\n"})
+        self.refused("has no makefile and no build.ninja yet: run ./configure first")
+        self.refused("there is no such folder", "-S", "nowhere")
+
+    def test_no_folder(self) -> None:
+        words = [sys.executable, str(IMPORTER), "-C", str(self.scratch / "nowhere")]
+        done = subprocess.run(words, capture_output=True, text=True, check=False)
+        self.assertEqual(done.returncode, 2)
+        self.assertIn("there is no such folder", done.stderr)
+
+    def test_makefile_that_cannot_be_read(self) -> None:
+        self.write({"Makefile": "all: x\nx a\n"})
+        self.refused("the build failed, so it can't be recorded: Makefile:2: *** missing separator")
+
+    def test_no_rule(self) -> None:
+        self.write({"Makefile": "x: missing\n\tcp missing x\n"})
+        self.refused("the build failed, so it can't be recorded: make: *** No rule to make target")
+
+    def test_build_that_fails(self) -> None:
+        self.write({"Makefile": "x: a\n\tcp a x; echo no such luck >&2; false\n", "a": "a\n"})
+        self.refused("the build failed, so it can't be recorded: no such luck; make: ***")
+
+    def test_build_that_asks(self) -> None:
+        """A build that asks a question gets no answer, and doesn't hang."""
+        self.write({"Makefile": "x: a\n\tread answer && cp a x\n", "a": "a\n"})
+        self.refused("the build failed, so it can't be recorded")
+
+    def test_unknown_goal(self) -> None:
+        self.write({"Makefile": "x: a\n\tcp a x\n", "a": "a\n"})
+        self.refused("No rule to make target 'y'", "y")
+
+    def test_no_commands(self) -> None:
+        self.write({"Makefile": "x: a\n", "a": "a\n"})
+        self.refused("the build of x runs no command, so there is nothing to judge")
+
+    def test_no_make(self) -> None:
+        self.write({"Makefile": "x: a\n\tcp a x\n", "a": "a\n"})
+        self.refused("GNUMAKE names /bin/true, which isn't GNU make", GNUMAKE="/bin/true")
+
+    def test_old_make(self) -> None:
+        self.write({"Makefile": "x: a\n\tcp a x\n", "a": "a\n"})
+        old = self.scratch / "old-make"
+        old.write_text("#!/bin/sh\necho GNU Make 3.81\n")
+        old.chmod(0o755)
+        sentence = "GNU Make 3.81 is too old: GNU make 4.0 or a later one is needed"
+        self.refused(sentence, GNUMAKE=str(old))
+
+    def test_too_many_nodes(self) -> None:
+        files = " ".join(f"{number}.o" for number in range(3000))
+        more = " ".join(f"{number}.p" for number in range(3000))
+        self.write(
+            {
+                "Makefile": f"all: one two\n.PHONY: all one two\none: {files}\ntwo: {more}\n"
+                f"{files} {more}: a\n\t@true $@\n",
+                "a": "a\n",
+            }
+        )
+        self.assertEqual(self.imported("--only", "translate").status, 2)
+        answer = self.imported("--only", "graph", keep=True)
+        self.assertEqual(answer.status, 2)
+        self.assertIn(
+            "the build has 6004 nodes, and mkcheck takes at most 4096: goals that fit: one (3002),"
+            " two (3002)",
+            answer.errors,
+        )
+
+    def test_words(self) -> None:
+        words = [sys.executable, str(IMPORTER), "--from", "ninja", "-f", "x"]
+        done = subprocess.run(words, capture_output=True, text=True, check=False)
+        self.assertEqual(done.returncode, 2)
+        self.assertIn("-f is for GNU make", done.stderr)
+        done = subprocess.run(
+            [sys.executable, str(IMPORTER), "--help"], capture_output=True, text=True, check=False
+        )
+        self.assertEqual(done.returncode, 0)
+        self.assertIn("--only", done.stdout)
+
+
+@has_make
+class CostTest(MakeFolderTest):
+    """What the importer costs, and what it leaves when it is stopped."""
+
+    def test_thousand_targets(self) -> None:
+        """Translating 1,000 targets takes at most 10 seconds of processor time."""
+        names = [f"src/f{number}" for number in range(1000)]
+        self.write(
+            {
+                "Makefile": "objects := $(patsubst %.in,%.o,$(wildcard src/*.in))\n"
+                "prog: $(objects)\n\tcat $^ > $@\n%.o: %.in head\n\tcp $< $@\n",
+                "head": "h\n",
+                **{f"{name}.in": "a\n" for name in names},
+            }
+        )
+        before = resource.getrusage(resource.RUSAGE_CHILDREN)
+        answer = self.imported("--only", "translate")
+        after = resource.getrusage(resource.RUSAGE_CHILDREN)
+        self.assertEqual(answer.makefile.count("\n\tcp "), 1000)
+        used = after.ru_utime + after.ru_stime - before.ru_utime - before.ru_stime
+        self.assertLess(used, 10)
+
+    def test_stopped(self) -> None:
+        """A signal ends the build, and nothing stays in the folder of temporary files."""
+        self.write({"Makefile": "x: a\n\tsleep 61.5; cp a x\n", "a": "a\n"})
+        temporary = self.scratch / "temporary"
+        temporary.mkdir()
+        with subprocess.Popen(
+            [sys.executable, str(IMPORTER), "-C", str(self.folder)],
+            env={**ENVIRONMENT, "TMPDIR": str(temporary)},
+            stderr=subprocess.PIPE,
+            text=True,
+        ) as process:
+            assert process.stderr is not None
+            self.assertIn("read ", process.stderr.readline())
+            time.sleep(0.5)
+            process.terminate()
+            self.assertIn("stopped by SIGTERM", process.stderr.read())
+            self.assertEqual(process.wait(), 128 + signal.SIGTERM)
+        self.assertEqual(list(temporary.iterdir()), [])
+
+
+@can_judge
+class StepsTest(MakeFolderTest):
+    """Steps that are done one at a time."""
+
+    def test_steps(self) -> None:
+        self.write(
+            {"Makefile": "x: a\n\tcat a b > x\n-include x.d\n", "a": "a\n", "b": "b\n"}
+        )
+        self.assertEqual(self.imported("--only", "read").status, 0)
+        answer = self.imported("--only", "check", keep=True)
+        self.assertEqual(answer.status, 2)
+        self.assertIn("has no translation: import without --only first", answer.errors)
+        self.assertEqual(self.imported("--only", "translate", "--build", keep=True).status, 0)
+        self.assertEqual(self.imported("--only", "graph", keep=True).status, 0)
+        answer = self.imported("--only", "check", keep=True)
+        self.assertIn("has no footprints: import with --only record first", answer.errors)
+        self.assertEqual(self.imported("--only", "record", keep=True).status, 0)
+        for _ in range(2):
+            answer = self.imported("--only", "check", keep=True)
+            self.assertEqual((answer.status, answer.findings), (1, ["no stale x b"]))
+
+    def test_translation_without_a_build(self) -> None:
+        """It may lack what make knows only after a build, so it is never a yes."""
+        self.write({"Makefile": "x: a\n\tcp a x\n", "a": "a\n"})
+        answer = self.imported("--only", "translate")
+        self.assertEqual(answer.status, 2)
+        self.assertIn("translated without a build", answer.output)
+        self.assertEqual(self.imported("--only", "record", keep=True).status, 2)
+        answer = self.imported("--only", "check", keep=True)
+        self.assertEqual((answer.status, answer.findings), (2, []))
+        self.assertTrue(answer.output.startswith("no answer: nothing was found"), answer.output)
+
+
+@can_judge
+class NamesTest(MakeFolderTest):
+    """Names and files that footprints or makefiles can't hold."""
+
+    def test_name_with_blank(self) -> None:
+        self.write({"Makefile": "my\\ file: a\n\tcp a 'my file'\n", "a": "a\n"})
+        answer = self.imported()
+        self.assertEqual(answer.status, 2, answer.output + answer.errors)
+        self.assertIn("my file", answer.output + answer.errors)
+
+    def test_output_folder(self) -> None:
+        """With -o nothing is written into the project."""
+        self.write({"Makefile": "x: a\n\tcp a x\n", "a": "a\n"})
+        output = self.scratch / "elsewhere"
+        answer = self.imported("-o", str(output))
+        self.assertEqual(answer.status, 0, answer.output + answer.errors)
+        self.assertFalse((self.folder / ".mkcheck").exists())
+        names = sorted(path.name for path in output.iterdir())
+        self.assertLessEqual({"footprint.json", "import.log", "makefile", "map.json"}, set(names))
+
+    def test_project_with_odd_path(self) -> None:
+        """The folder's own path may hold blanks and quotes."""
+        odd = self.scratch / "an 'odd' folder"
+        odd.mkdir()
+        (odd / "Makefile").write_text("all:\n\t$(MAKE) -f sub.mk\n.PHONY: all\n")
+        (odd / "sub.mk").write_text("x: a\n\tcp a x\n")
+        (odd / "a").write_text("a\n")
+        done = subprocess.run(
+            [sys.executable, str(IMPORTER), "-C", str(odd)],
+            env=ENVIRONMENT,
+            capture_output=True,
+            text=True,
+            check=False,
+        )
+        self.assertEqual(done.returncode, 0, done.stdout + done.stderr)

@@ -1,0 +1,343 @@
+"""Makes that start makes: the translation, the answer, and what make does."""
+
+from __future__ import annotations
+
+from make_folder import MakeFolderTest, can_judge
+
+TOP = "all: libs progs\n.PHONY: all libs progs\n"
+
+
+@can_judge
+class RecursiveTest(MakeFolderTest):
+    """Recipes that start makes, whose goals become one graph."""
+
+    def test_one_after_another(self) -> None:
+        self.write(
+            {
+                "Makefile": "all:\n\t$(MAKE) -C lib\n\t@cd prog && $(MAKE) MODE=fast\n"
+                ".PHONY: all\n",
+                "lib/Makefile": "l.a: l.in\n\tcp l.in l.a\n",
+                "lib/l.in": "l\n",
+                "prog/Makefile": "p: p.in ../lib/l.a\n\tcat p.in ../lib/l.a > p; : $(MODE)\n",
+                "prog/p.in": "p\n",
+            }
+        )
+        answer = self.imported()
+        self.assertEqual(answer.status, 0, answer.output + answer.errors)
+        self.assertEqual(
+            answer.first_rules(),
+            ".PHONY: all\n"
+            "all: lib/l.a .WAIT prog/p\n"
+            "lib/l.a: lib/l.in\n\tcd lib; cp l.in l.a\n"
+            "prog/p: prog/p.in\n"
+            "\tcd prog; export MODE=fast; set +e; cat p.in ../lib/l.a > p; : fast\n",
+        )
+        self.assertIn("prog/p: prog/p.in lib/l.a\n", answer.rules())
+        self.assertEqual(answer.map["prog/p"]["makefile"], "prog/Makefile")
+        self.assertEqual(answer.map["prog/p"]["name"], "p")
+        self.try_answer(answer)
+
+    def test_at_one_time(self) -> None:
+        self.write(
+            {
+                "Makefile": TOP + "libs:\n\t$(MAKE) -C lib\nprogs:\n\t$(MAKE) -C prog\n",
+                "lib/Makefile": "l.a: l.in\n\tcp l.in l.a\n",
+                "lib/l.in": "l\n",
+                "prog/Makefile": "p: p.in\n\t-cat p.in ../lib/l.a > p\n",
+                "prog/p.in": "p\n",
+            }
+        )
+        answer = self.imported()
+        self.assertEqual(
+            answer.findings, ["no race prog/p lib/l.a lib/l.a", "no stale prog/p lib/l.a"]
+        )
+        self.assertIn(
+            "prog/Makefile:2: the recipe of prog/p reads lib/l.a, and make may begin it before the"
+            " recipe of lib/l.a (lib/Makefile:2) has written that; these are recipes of two makes:"
+            " let the one in lib be done before the one in prog begins\n",
+            answer.output,
+        )
+        self.assertIn("Add to prog/Makefile:\n    p: ../lib/l.a\n", answer.output)
+        self.try_answer(answer)
+
+    def test_library_that_is_forced(self) -> None:
+        """The usual form: a rule for the library that always starts make."""
+        self.write(
+            {
+                "Makefile": "prog: main lib/l.a\n\tcat main lib/l.a > prog\n"
+                "lib/l.a: force\n\t$(MAKE) -C lib l.a\nforce:\n.PHONY: force\n",
+                "main": "m\n",
+                "lib/Makefile": "l.a: l.in\n\tcp l.in l.a\n",
+                "lib/l.in": "l\n",
+            }
+        )
+        answer = self.imported()
+        self.assertEqual(answer.status, 0, answer.output + answer.errors)
+        self.try_answer(answer)
+
+    def test_library_that_is_not_forced(self) -> None:
+        """Once the library is there, nothing makes it again: that isn't judged, and never a yes."""
+        self.write(
+            {
+                "Makefile": "prog: main lib/l.a\n\tcat main lib/l.a > prog\n"
+                "lib/l.a:\n\t$(MAKE) -C lib l.a\n",
+                "main": "m\n",
+                "lib/Makefile": "l.a: l.in\n\tcp l.in l.a\n",
+                "lib/l.in": "l\n",
+            }
+        )
+        answer = self.imported()
+        self.assertEqual(answer.status, 2, answer.output + answer.errors)
+        self.assertIn(
+            "Not judged:\n    Makefile:4: the recipe of lib/l.a starts make only", answer.output
+        )
+        built = self.built()
+        self.assertFalse(self.rebuilds(built, ["lib/l.in"], ["lib/l.a", "prog"]))
+
+
+@can_judge
+class CommandsTest(MakeFolderTest):
+    """What recipes do beside starting makes."""
+
+    def test_loop(self) -> None:
+        """Automake's way through the folders."""
+        self.write(
+            {
+                "Makefile": "SUBDIRS = lib prog\nall: all-recursive\nall-recursive:\n"
+                "\t@fail=; for dir in $(SUBDIRS); do \\\n"
+                "\t  echo \"Making all in $$dir\"; \\\n"
+                "\t  (cd $$dir && $(MAKE) all) || fail=yes; \\\n"
+                "\tdone; test -z \"$$fail\"\n.PHONY: all all-recursive\n",
+                "lib/Makefile": "all: l.a\nl.a: l.in\n\tcp l.in l.a\n.PHONY: all\n",
+                "lib/l.in": "l\n",
+                "prog/Makefile": "all: p\n.PHONY: all\n"
+                "p: p.in ../lib/l.a\n\tcat p.in ../lib/l.a > p\n",
+                "prog/p.in": "p\n",
+            }
+        )
+        answer = self.imported()
+        self.assertEqual(answer.status, 0, answer.output + answer.errors)
+        self.try_answer(answer)
+
+    def test_make_by_its_name(self) -> None:
+        """A make that is started without $(MAKE), which `make -n` doesn't show."""
+        self.write(
+            {
+                "Makefile": "all: x\n\tcd lib; make\n.PHONY: all\nx: a\n\tcp a x\n",
+                "a": "a\n",
+                "lib/Makefile": "l.a: l.in\n\tcat l.in ../x > l.a\n",
+                "lib/l.in": "l\n",
+            }
+        )
+        answer = self.imported()
+        self.assertEqual(answer.findings, ["no stale lib/l.a x"], answer.output + answer.errors)
+        self.assertEqual(answer.status, 1)
+        self.assertIn("all: x .WAIT lib/l.a\n", answer.rules())
+        self.try_answer(answer)
+
+    def test_script_that_starts_make(self) -> None:
+        self.write(
+            {
+                "Makefile": "all:\n\t./build\n.PHONY: all\n",
+                "build": "#!/bin/sh\ncd lib && make\n",
+                "lib/Makefile": "l.a: l.in\n\tcp l.in l.a\n",
+                "lib/l.in": "l\n",
+            }
+        )
+        answer = self.imported()
+        self.assertEqual(answer.status, 2, answer.output + answer.errors)
+        self.assertIn("starts make", answer.errors)
+
+    def test_recipe_that_does_more(self) -> None:
+        self.write(
+            {
+                "Makefile": "all:\n\t$(MAKE) -C lib && cp lib/l.a .\n.PHONY: all\n",
+                "lib/Makefile": "l.a: l.in\n\tcp l.in l.a\n",
+                "lib/l.in": "l\n",
+            }
+        )
+        answer = self.imported()
+        self.assertEqual(answer.status, 2, answer.output + answer.errors)
+        self.assertIn(
+            "Makefile:2: the recipe of all starts make, and a command of it does more: it uses the"
+            " file lib/l.a",
+            answer.output,
+        )
+
+    def test_commands_around(self) -> None:
+        """Commands of their own lines run before and after the makes."""
+        self.write(
+            {
+                "Makefile": "all:\n\tcp h.in h\n\t$(MAKE) -C lib\n\tcp lib/l.a l.a\n.PHONY: all\n",
+                "h.in": "h\n",
+                "lib/Makefile": "l.a: l.in ../h\n\tcat l.in ../h > l.a\n",
+                "lib/l.in": "l\n",
+            }
+        )
+        answer = self.imported()
+        self.assertEqual(answer.status, 0, answer.output + answer.errors)
+        self.assertIn("all: all@commands .WAIT lib/l.a .WAIT all@commands.2\n", answer.rules())
+        self.try_answer(answer)
+
+
+@can_judge
+class SharedTest(MakeFolderTest):
+    """Targets, makefiles and rules that several makes have."""
+
+    def test_same_target_at_one_time(self) -> None:
+        """Two makes of one folder that both make a file, perhaps at once."""
+        self.write(
+            {
+                "Makefile": "all: one two\n.PHONY: all one two\n"
+                "one:\n\t$(MAKE) -f sub.mk x\ntwo:\n\t$(MAKE) -f sub.mk y\n",
+                "sub.mk": "x: c\n\tcp c x\ny: c\n\tcp c y\nc: a\n\tcp a c\n",
+                "a": "a\n",
+            }
+        )
+        answer = self.imported()
+        self.assertEqual(answer.status, 2, answer.output + answer.errors)
+        self.assertIn("can run the recipes of the same targets at the same time (c)", answer.output)
+
+    def test_same_target_one_after_another(self) -> None:
+        self.write(
+            {
+                "Makefile": "all: one\n\t$(MAKE) -f sub.mk y\n.PHONY: all one\n"
+                "one:\n\t$(MAKE) -f sub.mk x\n",
+                "sub.mk": "x: c\n\tcp c x\ny: c\n\tcp c y\nc: a\n\tcp a c\n",
+                "a": "a\n",
+            }
+        )
+        answer = self.imported()
+        self.assertEqual(answer.status, 0, answer.output + answer.errors)
+        self.try_answer(answer)
+
+    def test_make_of_the_same_makefile(self) -> None:
+        """As Automake does: what the makefile makes first is there when its own make begins."""
+        self.write(
+            {
+                "Makefile": "all: config.h\n\t$(MAKE) all-am\n"
+                "all-am: x\nx: a config.h\n\tcat a config.h > x\n"
+                "config.h: config.in\n\tcp config.in config.h\n.PHONY: all all-am\n",
+                "a": "a\n",
+                "config.in": "c\n",
+            }
+        )
+        answer = self.imported()
+        self.assertEqual(answer.status, 0, answer.output + answer.errors)
+        self.try_answer(answer)
+
+    def test_phony_names_of_several_makefiles(self) -> None:
+        """`all` of one makefile isn't `all` of another one in the same folder."""
+        self.write(
+            {
+                "Makefile": "all: x\n\t$(MAKE) -f other.mk all\nx: a\n\tcp a x\n.PHONY: all\n",
+                "other.mk": "all: y\ny: a\n\tcp a y\n.PHONY: all\n",
+                "a": "a\n",
+            }
+        )
+        answer = self.imported()
+        self.assertEqual(answer.status, 0, answer.output + answer.errors)
+        self.assertIn("all: x .WAIT all@make2\n", answer.rules())
+        self.assertIn("all@make2: y\n", answer.rules())
+
+    def test_serial_make(self) -> None:
+        """`.NOTPARALLEL` holds for the make that reads it."""
+        self.write(
+            {
+                "Makefile": "all:\n\t$(MAKE) -C sub x y\n.PHONY: all\n",
+                "sub/Makefile": ".NOTPARALLEL:\nx: a\n\tcp a x\ny: b\n\tcat b x > y\n",
+                "sub/a": "a\n",
+                "sub/b": "b\n",
+            }
+        )
+        answer = self.imported()
+        self.assertEqual(answer.status, 1, answer.output + answer.errors)
+        self.assertIn("all: sub/x .WAIT sub/y\n", answer.rules())
+        self.assertEqual(answer.findings, ["no stale sub/y sub/x"])
+        self.try_answer(answer)
+
+    def test_make_that_fails(self) -> None:
+        self.write(
+            {
+                "Makefile": "all:\n\t-$(MAKE) -C lib\n\tcp a b\n.PHONY: all\n",
+                "a": "a\n",
+                "lib/Makefile": "l.a: missing\n\tcp missing l.a\n",
+            }
+        )
+        answer = self.imported()
+        self.assertEqual(answer.status, 2, answer.output + answer.errors)
+        self.assertIn("make failed in lib with status 2", answer.errors)
+
+
+@can_judge
+class TargetWithoutRecipeTest(MakeFolderTest):
+    """A file that a recursive make writes, and that has a rule without a recipe above.
+
+    GNU make doesn't look at it again in the make in which it is written.
+    """
+
+    def judged(self, top: str) -> list[str]:
+        self.write(
+            {
+                "Makefile": top + "app: lib/x\n\tcp lib/x app\n.PHONY: lib\n",
+                "lib/Makefile": "x: y\n\tcp y x\n",
+                "lib/y": "1\n",
+            }
+        )
+        answer = self.imported("app") if "all:" not in top else self.imported()
+        self.assertIn("give that rule an empty recipe, as in 'lib/x: PREREQUISITES ;'", answer.output)
+        if "all:" not in top:
+            self.try_answer(answer, "app")
+        return answer.findings
+
+    def test_normal(self) -> None:
+        found = self.judged("lib/x: lib\nlib:\n\t$(MAKE) -C lib\n")
+        self.assertEqual(found, ["no stale app lib/x"])
+
+    def test_order_only(self) -> None:
+        found = self.judged("lib/x: | lib\nlib:\n\t$(MAKE) -C lib\n")
+        self.assertEqual(found, ["no stale app lib/x"])
+
+    def test_behind_the_other_goal(self) -> None:
+        """With one job make is right by its order; with more it may look at the file too early."""
+        found = self.judged("all: lib app\nlib/x: lib\nlib:\n\t$(MAKE) -C lib\n")
+        self.assertEqual(found, ["no stale app lib/x"])
+
+
+@can_judge
+class MakesThatAreNotJudgedTest(MakeFolderTest):
+    """Makes of which it isn't known when they run, or what they do: the answer is never yes."""
+
+    def refused(self, makefile: str, sentence: str) -> None:
+        self.write(
+            {
+                "Makefile": makefile + ".PHONY: all\n",
+                "a": "a\n",
+                "sub/Makefile": "out: src\n\tcp src out\n",
+                "sub/src": "1\n",
+                "other/Makefile": "out: src\n\tcp src out\n",
+                "other/src": "1\n",
+            }
+        )
+        answer = self.imported()
+        self.assertEqual(answer.status, 2, answer.output)
+        self.assertIn(sentence, answer.output)
+
+    def test_by_another_path(self) -> None:
+        """What such a make prints hides the commands before it, so that `cp` alone would be left."""
+        self.refused(
+            "all: x\nx: a\n\tenv PATH=/usr/bin:/bin make -C sub out\n\tcp a x\n",
+            "a recipe starts a make by a path or with another PATH",
+        )
+
+    def test_sometimes(self) -> None:
+        self.refused(
+            "all:\n\ttest -f sub/out || $(MAKE) -C sub out\n",
+            "make in sub is started in a first build and not in the next one",
+        )
+
+    def test_at_once(self) -> None:
+        self.refused(
+            "all:\n\t$(MAKE) -C sub out & $(MAKE) -C other out; wait\n",
+            "the recipe of all starts makes that run beside each other",
+        )

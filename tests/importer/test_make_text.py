@@ -1,0 +1,345 @@
+"""What GNU make prints, and how it is read: the data base, marked commands, prefixes, words."""
+
+from __future__ import annotations
+
+import sys
+import unittest
+from pathlib import Path
+
+sys.path.insert(0, str(Path(__file__).resolve().parents[2] / "tools"))
+
+from mkcheck_import.builds import (  # noqa: E402
+    Build,
+    Command,
+    Kind,
+    Node,
+    Origin,
+    Setting,
+    path_name,
+)
+from mkcheck_import.database import read_database  # noqa: E402
+from mkcheck_import.gnumake import Make, is_harmless, options_of  # noqa: E402
+from mkcheck_import.ordering import Order  # noqa: E402
+from mkcheck_import.plain import makefile, quoted, shell_text  # noqa: E402
+from mkcheck_import.recursion import is_only_makes, without_makes  # noqa: E402
+from mkcheck_import.saving import build_of_text, text_of_build  # noqa: E402
+from mkcheck_import.transcripts import MARK, prefix_of, read_transcript  # noqa: E402
+from mkcheck_import.translating import Translation  # noqa: E402
+
+# As GNU make 4.3 prints it, shortened.
+BASE = """
+# Make data base, printed on Sat Nov 28 12:08:49 2026
+
+# Variables
+
+# makefile
+CURDIR := /tmp/x
+# makefile (from 'Makefile', line 1)
+Q = -@
+# default
+.DEFAULT_GOAL := prog
+
+# Files
+
+prog: a.o my file | obj
+#  Implicit rule search has not been done.
+#  Implicit/static pattern stem: ''
+#  File does not exist.
+#  File has been updated.
+#  Successfully updated.
+# automatic
+# @ := prog
+#  recipe to execute (from 'Makefile', line 3):
+\tcc -o $@ \\
+\t  $^
+\t$(Q)touch $@
+
+# makefile (from 'Makefile', line 7)
+a.o: MODE = fast
+a.o: a.c
+#  Implicit rule search has been done.
+#  Also makes: a.lst a.o
+#  File is an intermediate prerequisite.
+#  recipe to execute (built-in):
+\t$(COMPILE.c) $<
+
+# Not a target:
+a.c:
+#  Implicit rule search has been done.
+#  Last modified 2026-11-28 12:14:30.247766465
+#  File has been updated.
+#  Successfully updated.
+
+# Not a target:
+my file:
+#  Implicit rule search has been done.
+
+log:: one
+#  Phony target (prerequisite of .PHONY).
+#  recipe to execute (from 'sub.mk', line 9):
+\techo one
+
+log:: two
+#  Phony target (prerequisite of .PHONY).
+
+# Not a target:
+.c.o:
+#  Builtin rule
+#  recipe to execute (built-in):
+\t$(COMPILE.c) $<
+
+# files hash-table stats:
+"""
+
+
+def mark(target: str, member: str = "") -> str:
+    """The mark in front of a command."""
+    return "\t".join([MARK, target, member, "/bin/sh", "-c", "default"]) + "\n"
+
+
+class DatabaseTest(unittest.TestCase):
+    """The data base of `make -p`."""
+
+    def test_rules(self) -> None:
+        base = read_database(BASE)
+        prog = base.rules["prog"][0]
+        self.assertEqual((prog.needs, prog.order_only), (["a.o", "my file"], ["obj"]))
+        self.assertEqual(prog.recipe, ["\tcc -o $@ \\\n\t  $^", "\t$(Q)touch $@"])
+        self.assertEqual((prog.makefile, prog.line), ("Makefile", 3))
+        self.assertTrue(prog.is_target and prog.is_done and prog.has_recipe)
+        a = base.rules["a.o"][0]
+        self.assertEqual((a.also_makes, a.makefile, a.line), (["a.lst"], "", None))
+        self.assertTrue(a.is_intermediate and not a.is_done)
+        self.assertEqual([(macro.name, macro.line) for macro in a.macros], [("MODE", 7)])
+        self.assertFalse(base.rules["a.c"][0].is_target)
+        self.assertEqual([rule.needs for rule in base.rules["log"]], [["one"], ["two"]])
+        self.assertTrue(all(rule.is_phony and rule.double_colon for rule in base.rules["log"]))
+        self.assertNotIn(".c.o", base.rules)
+        self.assertEqual(base.values["CURDIR"], "/tmp/x")
+
+
+class TranscriptTest(unittest.TestCase):
+    """Commands after their marks."""
+
+    def commands(self, text: str, base: str = BASE) -> dict[str, list[tuple[str, bool]]]:
+        """The commands of each target, and whether their failure is ignored."""
+        found = read_transcript((text + base).encode(), []).base.rules
+        return {
+            name: [(one.text, one.ignored) for rule in rules for one in rule.commands]
+            for name, rules in found.items()
+            if any(rule.commands for rule in rules)
+        }
+
+    def test_commands(self) -> None:
+        text = (
+            mark("a.o") + mark("a.o") + "cc a.c\n" + mark("prog") + "cc -o prog \\\n  a.o\nsaid\n"
+            "no newline" + mark("prog") + "touch prog\n" + mark("log") + "make: Nothing to do.\n"
+        )
+        self.assertEqual(
+            self.commands(text),
+            {
+                "a.o": [("cc a.c", False)],
+                "prog": [("cc -o prog \\\n  a.o", False), ("touch prog", True)],
+            },
+        )
+
+    def test_trace(self) -> None:
+        text = mark("prog") + "Makefile:3: target 'prog' does not exist\n" + mark("prog") + "cc\n"
+        self.assertEqual(self.commands(text), {"prog": [("cc", False)]})
+
+    def test_last_beginning(self) -> None:
+        """A make that has remade its makefiles begins anew."""
+        base = "# Make data base, printed on x\n# Finished Make data base on x\n"
+        before = mark("a.o") + "old\n" + base
+        self.assertEqual(self.commands(before + mark("a.o") + "new\n"), {"a.o": [("new", False)]})
+
+    def test_member(self) -> None:
+        self.assertEqual(self.commands(mark("l.a", "m.o") + "ar\n"), {"l.a(m.o)": [("ar", False)]})
+
+    def test_no_base(self) -> None:
+        self.assertFalse(read_transcript(b"make: *** missing separator\n", []).is_whole)
+
+    def test_prefixes(self) -> None:
+        values = {"Q": "@", "DASH": "-$(Q)", "CMD": "-cmd", "X": "x"}
+        for line, prefix in (
+            ("\t@-x", "\t@-"),
+            ("\t $(DASH)x", "\t -@"),
+            ("$(CMD) x", "-"),
+            ("$(X)-y", ""),
+            ("$(NONE)-y", "-"),
+            ("$Q+x", "@+"),
+        ):
+            with self.subTest(line):
+                self.assertEqual(prefix_of(line, values), prefix)
+
+
+class WordsTest(unittest.TestCase):
+    """The words of makes, and commands that start makes."""
+
+    def test_options(self) -> None:
+        words = ["-C", "sub", "all", "-f", "x.mk", "A=b", "-kj4", "--", "goal"]
+        self.assertEqual(options_of(words), ["-C sub", "-f x.mk", "A=b", "-kj4"])
+        self.assertEqual(
+            [word for word in options_of(words) if not is_harmless(word)], ["-f x.mk", "A=b"]
+        )
+
+    def test_only_makes(self) -> None:
+        for text, is_only, rest in (
+            ("W -C lib", True, ": -C lib"),
+            ("cd lib && W all", True, "cd lib && : all"),
+            ("cd lib; A='b c' make x || exit 1", True, "cd lib; A='b c' : x || exit 1"),
+            ("(cd x; W)", True, "(cd x; :)"),
+            ("echo make; W", True, "echo make; :"),
+            ("W && cp a b", False, ": && cp a b"),
+            ("cp a b; W", False, "cp a b; :"),
+            ("for d in a b; do W -C $d; done", False, "for d in a b; do : -C $d; done"),
+            ("W | tee log", False, ": | tee log"),
+            ("W > log", False, ": > log"),
+            ("W & W", False, ": & :"),
+            ("v=`W version`", False, "v=`W version`"),
+            ("remake x", False, "remake x"),
+        ):
+            with self.subTest(text):
+                text = text.replace("W", "/tmp/bin/make")
+                rest = rest.replace("W", "make")
+                self.assertEqual(is_only_makes(text, "/tmp/bin/make"), is_only)
+                self.assertEqual(without_makes(text, "/tmp/bin/make"), rest)
+
+    def test_path_name(self) -> None:
+        for folder, text, name in (
+            ("/p", "a", "a"),
+            ("/p", "./sub/../a", "a"),
+            ("/p/sub", "../a", "a"),
+            ("/p/sub", "/p/sub/b", "sub/b"),
+            ("/p", "../q/a", "/q/a"),
+            ("/p", "//usr/a", "/usr/a"),
+            ("/p", "/pa", "/pa"),
+            ("/p/sub", "..", "."),
+        ):
+            self.assertEqual(path_name("/p", folder, text), name)
+
+
+class TranslationTest(unittest.TestCase):
+    """What GNU make 4.3 doesn't have, by the text of a newer one."""
+
+    def translated(self, version: str, serial: str = "") -> str:
+        """The translation of a build in which `.WAIT` stands among prerequisites."""
+        text = (
+            f"# Make data base, printed on x\nMAKE_VERSION := {version}\nCURDIR := /p\n"
+            ".DEFAULT_GOAL := all\n\n# Files\n\n"
+            "all: a b .WAIT c\n#  Phony target (prerequisite of .PHONY).\n"
+            "#  Successfully updated.\n\n"
+            "# Not a target:\na:\n#  x\n\n# Not a target:\nb:\n#  x\n\n"
+            "# Not a target:\nc:\n#  x\n\n# Not a target:\n.WAIT:\n#  x\n\n"
+            f"{serial}# files hash-table stats:\n"
+        )
+        transcript = read_transcript(text.encode(), [])
+        make = Make(1, [], "/p", {"A": "b"}, transcript, 0, "")
+        build = Translation("/p", [make], {"a", "b", "c"}, None, "make", {"A": "b"}).translate()
+        self.assertEqual(build.problems, [])
+        lines = makefile(build, later=False).splitlines()
+        return next(line for line in lines if line.startswith("all:"))
+
+    def test_wait(self) -> None:
+        self.assertEqual(self.translated("4.4.1"), "all: a b .WAIT c")
+        self.assertEqual(self.translated("4.3"), "all: a b .WAIT@ c")
+
+    def test_serial_targets(self) -> None:
+        """`.NOTPARALLEL` with prerequisites holds for these alone, as GNU make 4.4 has it."""
+        serial = ".NOTPARALLEL: all\n#  x\n\n"
+        self.assertEqual(self.translated("4.4", serial), "all: a .WAIT b .WAIT c")
+        serial = ".NOTPARALLEL: other\n#  x\n\n"
+        self.assertEqual(self.translated("4.4", serial), "all: a b .WAIT c")
+        # Before, its prerequisites say nothing, and all of the make is serial.
+        self.assertEqual(self.translated("4.3", serial), "all: a .WAIT b .WAIT .WAIT@ .WAIT c")
+
+
+class WriterTest(unittest.TestCase):
+    """The plain makefile."""
+
+    def test_shells(self) -> None:
+        plain = Setting("sub", exports=(("A", "b c"),), unset=("B",))
+        front = "cd sub; unset B; export A='b c'; "
+        for command, setting, text in (
+            (Command("cc a.c"), plain, front + "cc a.c"),
+            (Command("a; b"), plain, front + "set +e; a; b"),
+            (Command("a; b", ignored=True), plain, front + "a; b"),
+            (Command("a; b"), Setting(shell=("/bin/sh", "-ec")), "a; b"),
+            (Command("a 'b'"), Setting(shell=("bash", "-c")), "exec bash -c 'a '\"'\"'b'\"'\"''"),
+            (Command("a \\\n b"), Setting(), "set +e; a \\\n b"),
+            (
+                Command("a\nb 'c'"),
+                Setting(),
+                "exec /bin/sh -c \"$(printf '%s\\n' a 'b '\"'\"'c'\"'\"'')\"",
+            ),
+        ):
+            self.assertEqual(shell_text(command, setting), text)
+        self.assertEqual(quoted("a\nb c"), "\"$(printf '%s\\n' a 'b c')\"")
+
+    def build(self) -> Build:
+        """A build with all that a node can have."""
+        build = Build("/p", "GNU make 4.3", goals=["all", "b c"])
+        build.nodes = {
+            "all": Node("all", Kind.PHONY, groups=[["x"], ["y"]], order_only=["out"], late=["h"]),
+            "b c": Node("b c", first_only=["h"], groups=[["h", "x"]], origin=Origin("M", 3)),
+            "x": Node("x", commands=[Command("cc $x")], setting=Setting("sub"), varies=True),
+            "y": Node("y", groups=[["x", "x"]]),
+            "out": Node("out", Kind.ORDER),
+        }
+        return build
+
+    def test_makefile(self) -> None:
+        text = makefile(self.build(), later=False).splitlines()
+        self.assertEqual(
+            text[1:],
+            [
+                ".SUFFIXES:",
+                ".PHONY: all",
+                ".PHONY: goals@",
+                "goals@: all b@20c",
+                "all: all@order x .WAIT y",
+                "all@order: out",
+                "b@20c: h x",
+                "x:",
+                "\t: $?",
+                "\tcd sub; set +e; cc $$x",
+                "y: x",
+                "out:",
+            ],
+        )
+        text = makefile(self.build(), later=True).splitlines()
+        self.assertIn("all: all@order x .WAIT y h", text)
+        self.assertIn("b@20c: x", text)
+
+    def test_saved(self) -> None:
+        build = self.build()
+        build.configured, build.made = {"a", "b"}, {"x\udc80"}
+        self.assertEqual(build_of_text(text_of_build(build)), build)
+
+
+class OrderTest(unittest.TestCase):
+    """What is always done before what."""
+
+    def test_groups(self) -> None:
+        build = Build("/p", goals=["all"])
+        for name, groups in {
+            "all": [["a", "b"], ["c"]],
+            "a": [["x"]],
+            "b": [["y"]],
+            "c": [["d", "y"]],
+            "d": [[]],
+            "x": [[]],
+            "y": [[]],
+        }.items():
+            build.nodes[name] = Node(name, groups=groups)
+        order = Order(build)
+        before = {
+            later: {name for name in build.nodes if name != later and order.is_before(name, later)}
+            for later in build.nodes
+        }
+        self.assertEqual(before["a"], {"x"})
+        self.assertEqual(before["x"], set())
+        self.assertEqual(before["c"], {"a", "b", "x", "y", "d"})
+        self.assertEqual(before["d"], {"a", "b", "x", "y"})
+        # It is wanted by b too, which waits for nothing.
+        self.assertEqual(before["y"], set())

@@ -1,0 +1,60 @@
+"""Recipes that may leave their outputs as they were, behind which the build tool stops.
+
+In mkcheck's model a recipe that runs writes all its files, so what needs them runs too. By `restat`
+ninja stops at an output that was left as it was. So such a recipe is two: one that has the
+prerequisites and the reads, and writes a file that nobody else knows; and for each output one that
+waits for the first, reads nothing, and writes the output. What needs an output waits for all of
+them, and is out of date by that output alone, and not by what the recipe reads.
+"""
+
+from __future__ import annotations
+
+from .builds import Build, Command, Kind, Node, Setting
+from .footprints import Footprints, Record
+
+COMMAND = ": restat"
+
+
+def split_alike(build: Build, footprints: Footprints) -> None:
+    """Splits all such recipes that were recorded, in the build and in its footprints."""
+    for name in [name for name, node in build.nodes.items() if node.left_alike]:
+        record = footprints.records.get(name)
+        if record is not None and build.nodes[name].kind is Kind.FILE:
+            split(build, footprints, build.nodes[name], record)
+
+
+def split(build: Build, footprints: Footprints, node: Node, record: Record) -> None:
+    """Splits one recipe."""
+    outputs = [node, *(build.nodes[name] for name in record.writes if is_output(build, name, node))]
+    made = Node(f"{node.name}@made", piece_of=node.name)
+    made.groups, made.order_only, made.late = node.groups, node.order_only, node.late
+    made.first_only, made.commands, made.setting = node.first_only, node.commands, node.setting
+    made.origin, made.known_as, made.folder = node.origin, node.known_as, node.folder
+    build.nodes[made.name] = made
+    names = {output.name for output in outputs}
+    rest = [name for name in record.writes if name not in names]
+    reads = list(record.reads)
+    footprints.records[made.name] = Record(made.name, record.commands, reads, [made.name, *rest])
+    for output in outputs:
+        output.groups, output.order_only, output.late = [[]], [made.name], []
+        output.first_only, output.setting, output.left_alike = [], Setting(), False
+        output.commands = [Command(COMMAND)]
+        footprints.records[output.name] = Record(output.name, [COMMAND], [], [output.name])
+    if len(outputs) > 1:
+        wait_for_all(build, names)
+
+
+def wait_for_all(build: Build, names: set[str]) -> None:
+    """Lets what needs one of the outputs wait for all: one command makes them."""
+    for other in build.nodes.values():
+        if other.name not in names and names & set(other.prerequisites(later=False)):
+            more = sorted(names - {name for group in other.groups for name in group})
+            other.order_only = list(dict.fromkeys([*other.order_only, *more]))
+
+
+def is_output(build: Build, name: str, leader: Node) -> bool:
+    """Whether a file is a further output of the line with a recipe."""
+    node = build.nodes.get(name)
+    if node is None or node is leader or node.commands or not node.has_rule:
+        return False
+    return node.kind is Kind.FILE and [leader.name] in node.groups

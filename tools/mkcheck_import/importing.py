@@ -1,0 +1,287 @@
+"""One import: its steps, from a folder to an answer."""
+
+from __future__ import annotations
+
+import argparse
+import os
+import re
+import shutil
+import sys
+import time
+from collections.abc import Callable
+from pathlib import Path
+from typing import Protocol
+
+from mkcheck_record.faults import Fault
+from mkcheck_record.graphs import find_checker
+from mkcheck_record.places import Place
+
+from .answers import answer_of, counted
+from .builds import Build
+from .configured import configured_files
+from .copies import Copies, listing
+from .gnumake import outer_environment
+from .judging import FIRST, Judge, write
+from .makebuild import MakeBuild
+from .ninjabuild import NinjaFolder
+from .saving import build_of_text, text_of_build
+from .sentences import Sentences
+from .settling import Settling
+
+STEPS = ("read", "translate", "graph", "record", "check")
+# The translation, for steps that are done one at a time.
+SAVED = "translation.json"
+OUTPUT = ("makefile", FIRST, "footprint.json", "map.json", "import.log", SAVED)
+MAKEFILES = ("GNUmakefile", "makefile", "Makefile")
+
+
+class FrontEnd(Protocol):
+    """What a build tool's part of the importer does; the steps give a word on what they found."""
+
+    def read(self) -> str:
+        """Asks the tool what it would do."""
+
+    def build(self) -> str:
+        """Lets the tool build in a copy, and asks it again what it would do."""
+
+    def translate(self) -> Build:
+        """The build."""
+
+
+class Import:
+    """One import, from a folder to an answer."""
+
+    def __init__(self, asked: argparse.Namespace, scratch: str) -> None:
+        self.asked, self.scratch = asked, scratch
+        self.root = os.path.realpath(asked.C)
+        if not os.path.isdir(self.root):
+            raise Fault(f"-C {asked.C}: there is no such folder")
+        self.folder = os.path.normpath(asked.S)
+        if not os.path.isdir(os.path.join(self.root, self.folder)):
+            raise Fault(f"-S {asked.S}: there is no such folder in {self.root}")
+        self.output = os.path.realpath(asked.o or os.path.join(self.root, ".mkcheck"))
+        self.drafts = os.path.join(scratch, "output")
+        os.makedirs(self.drafts)
+        self.log: list[str] = []
+        left_out = (self.output, os.path.join(self.root, ".mkcheck"))
+        self.copies = Copies(self.root, os.path.join(scratch, "copies"), left_out)
+        self.front = self.front_end()
+
+    def say(self, text: str) -> None:
+        """Tells something on standard error, and in the log."""
+        self.log.append(text)
+        print(f"mkcheck-import: {text}", file=sys.stderr, flush=True)
+
+    def front_end(self) -> FrontEnd:
+        """The part for the build tool that was asked for, or that the folder's files show."""
+        place = Path(self.root, self.folder)
+        tool = self.asked.tool
+        if tool is None:
+            has_make = any((place / name).exists() for name in MAKEFILES)
+            has_make = has_make or self.asked.f is not None
+            has_ninja = (place / "build.ninja").exists()
+            if not has_make and not has_ninja:
+                raise Fault(self.no_build(place))
+            tool = "make" if has_make else "ninja"
+        if tool == "ninja":
+            return NinjaFolder(self.copies, self.folder, self.asked.words)
+        words = [*(["-f", self.asked.f] if self.asked.f else []), *self.asked.words]
+        scratch = os.path.join(self.scratch, "make")
+        return MakeBuild(self.copies, self.folder, words, scratch, self.asked.build)
+
+    def no_build(self, place: Path) -> str:
+        """The sentence where a folder has no build, with what makes one where that is seen."""
+        for name, command in (
+            ("configure", "run ./configure first"),
+            ("CMakeLists.txt", "run `cmake -S . -B build` first, and import with -S build"),
+            ("configure.ac", "run `autoreconf -i` and ./configure first"),
+            ("meson.build", "run `meson setup build` first, and import with -S build"),
+        ):
+            if (place / name).exists():
+                return f"{place} has no makefile and no build.ninja yet: {command}"
+        return f"{place} has no makefile and no build.ninja: give the folder of a build with -C"
+
+    def step(self, word: str, action: Callable[[], str]) -> None:
+        """Does a step, and tells its time."""
+        begun = time.monotonic()
+        said = action()
+        self.say(f"{word:<10}{time.monotonic() - begun:6.1f} s  {said}".rstrip())
+
+    def run(self) -> int:
+        """Does the steps that are asked for, and gives the status."""
+        self.find_programs()
+        only = self.asked.only
+        if only in ("graph", "record", "check"):
+            return self.run_saved(only)
+        self.step("read", self.front.read)
+        if only == "read":
+            return 0
+        if only is None or self.asked.build:
+            self.step("build", self.front.build)
+        self.step("translate", self.translate)
+        if only == "translate":
+            return self.end_early()
+        self.step("graph", lambda: self.judge.graph(self.has_first))
+        self.step("record", self.record)
+        self.step("check", self.check)
+        return self.answer()
+
+    def run_saved(self, only: str) -> int:
+        """Does one step with what those before it left in the folder of the output."""
+        for name in OUTPUT:
+            if os.path.exists(os.path.join(self.output, name)):
+                shutil.copyfile(os.path.join(self.output, name), os.path.join(self.drafts, name))
+        saved = Path(self.drafts, SAVED)
+        if not saved.exists():
+            raise Fault(f"{self.output} has no translation: import without --only first")
+        self.build = build_of_text(saved.read_text(encoding="utf-8"))
+        self.log = Path(self.drafts, "import.log").read_text(encoding="utf-8").splitlines()
+        if only == "record":
+            self.step("read", self.front.read)
+            self.make_judge(self.copies.place("read"))
+        else:
+            self.make_judge(Place(self.root, self.root))
+        self.has_first = os.path.exists(self.judge.path(FIRST))
+        if only == "graph":
+            self.step("graph", lambda: self.judge.graph(self.has_first))
+            return self.end_early()
+        if only == "record":
+            self.step("record", self.record)
+            return self.end_early()
+        if not os.path.exists(self.judge.path("footprint.json")):
+            raise Fault(f"{self.output} has no footprints: import with --only record first")
+        self.step("check", self.check)
+        return self.answer()
+
+    def tell_problems(self) -> None:
+        """Tells what could not be translated, where there will be no answer."""
+        build: Build | None = getattr(self, "build", None)
+        for text in build.problems if build is not None else []:
+            self.say(text)
+
+    def find_programs(self) -> None:
+        """Finds mkcheck and its recorder; one that isn't there is told before the build."""
+        if self.asked.only not in ("read", "translate"):
+            find_checker(Path(sys.argv[0]).resolve().parent)
+            self.recorder()
+
+    def end_early(self) -> int:
+        """The status of a step that was asked for alone."""
+        for text in self.build.problems:
+            print(f"not translated: {text}")
+        return 2 if self.build.problems else 0
+
+    def translate(self) -> str:
+        """Translates, and writes the makefile."""
+        self.build = self.front.translate()
+        if self.asked.only is not None and not self.asked.build:
+            self.build.problem(
+                "it was translated without a build (--only translate), so what the build tool knows"
+                " only after one, as dependency files, isn't in it: import without --only"
+            )
+        self.make_judge(self.copies.place("read"))
+        self.add_configured()
+        self.save()
+        return f"{counted(len(self.build.problems), 'problem')}"
+
+    def make_judge(self, place: Place) -> None:
+        """Sets what writes, records and checks the build."""
+        self.judge = Judge(self.build, place, self.drafts, self.checker, self.environment())
+
+    def save(self) -> None:
+        """Writes the makefiles, the map and the translation itself."""
+        self.has_first = self.judge.write_makefiles()
+        self.judge.write_map()
+        write(self.judge.path(SAVED), text_of_build(self.build) + "\n")
+
+    def add_configured(self) -> None:
+        """Marks the files of a configure step that are there before the build."""
+        found = configured_files(self.judge.place.folder, self.asked.configured)
+        self.build.configured |= found.files
+        for text in found.notes:
+            self.build.note(text)
+
+    def environment(self) -> dict[str, str]:
+        """The environment of the recorder and of mkcheck."""
+        return {**outer_environment(), "MKCHECK": self.checker}
+
+    @property
+    def checker(self) -> str:
+        """The program mkcheck."""
+        return os.path.abspath(find_checker(Path(sys.argv[0]).resolve().parent))
+
+    def record(self) -> str:
+        """Records the first build."""
+        words = [word for prefix in self.asked.fixed for word in ("--fixed", prefix)]
+        words += [word for target in self.trusted() for word in ("--trust", target)]
+        words += ["--no-replay"] if self.asked.no_replay else []
+        recorder = [sys.executable, str(self.recorder()), *words]
+        text = self.judge.record(recorder, self.has_first)
+        front = "mkcheck-record: "
+        lines = [line for line in text.splitlines() if line.startswith(front)]
+        self.log += lines
+        said = [line[len(front) :] for line in lines]
+        self.build.warnings = [line for line in said if not self.is_known(line)]
+        self.save()
+        return ""
+
+    def trusted(self) -> list[str]:
+        """The targets whose recipes aren't replayed: those asked for, and those of `restat`."""
+        names = self.judge.names().written
+        alike = [name for name, node in self.build.nodes.items() if node.left_alike]
+        return [*self.asked.trust, *(names[name] for name in alike if name in names)]
+
+    def is_known(self, warning: str) -> bool:
+        """Whether the recorder warns of what the translation says already.
+
+        Dependency files that a configure step left empty are there before, and recipes write them.
+        """
+        found = re.match(r"warning: (\S+) was there before, and a recipe writes it", warning)
+        return found is not None and found.group(1) in self.build.configured
+
+    def recorder(self) -> Path:
+        """The recorder, which lies beside this program."""
+        beside = Path(sys.argv[0]).resolve().parent / "mkcheck-record"
+        found = beside if beside.exists() else shutil.which("mkcheck-record")
+        if found is None:
+            raise Fault("mkcheck-record isn't there: it belongs beside mkcheck-import")
+        return Path(found)
+
+    def check(self) -> str:
+        """Settles what only the recording tells, and checks."""
+        footprints = self.judge.read_book()
+        before = listing(self.judge.place.folder)
+        Settling(self.build, footprints, before).settle()
+        self.footprints = footprints
+        self.judge.write_book(footprints)
+        self.save()
+        self.verdict = self.judge.check(self.has_first)
+        return "two passes" if self.has_first else ""
+
+    def answer(self) -> int:
+        """Prints the answer, and gives the status."""
+        lines = answer_of(self.build, self.verdict, self.sentences())
+        for line in lines:
+            print(line)
+        self.log += ["", *lines]
+        if self.build.problems or self.verdict.refused:
+            return 2
+        return 0 if self.verdict.is_yes else 1
+
+    def sentences(self) -> list[str]:
+        """The findings as sentences."""
+        return Sentences(self.build, self.footprints, self.has_first).texts(self.verdict.findings)
+
+    def write_output(self) -> None:
+        """Writes what was made so far, and the log, into the folder for it."""
+        build = getattr(self, "build", None)
+        notes = [f"note: {text}" for text in build.notes] if build is not None else []
+        write(os.path.join(self.drafts, "import.log"), "\n".join([*self.log, *notes]) + "\n")
+        os.makedirs(self.output, exist_ok=True)
+        for name in OUTPUT:
+            draft, goal = os.path.join(self.drafts, name), os.path.join(self.output, name)
+            if os.path.exists(draft):
+                shutil.copyfile(draft, f"{goal}.new")
+                os.replace(f"{goal}.new", goal)
+            elif os.path.exists(goal):
+                os.unlink(goal)

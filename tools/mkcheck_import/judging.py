@@ -1,0 +1,309 @@
+"""Writes the makefiles of a build, has them recorded and checked, and gives the findings."""
+
+from __future__ import annotations
+
+import json
+import os
+import re
+from dataclasses import dataclass, field, replace
+from pathlib import Path
+
+from mkcheck_record.faults import Fault
+from mkcheck_record.places import Place
+
+from .builds import Build
+from .copies import run_here
+from .footprints import Footprints, Record, read_footprints, text_of
+from .plain import Names, goal_of, makefile, names_of
+
+FIRST = "makefile.first"
+LATER = "makefile"
+# What orders recipes in the first build and in later ones; only asked for races.
+BETWEEN = "makefile.between"
+NODES_AT_MOST = 4096
+
+
+@dataclass(frozen=True)
+class Finding:
+    """A finding of `check`, its names those of nodes and files."""
+
+    kind: str
+    words: tuple[str, ...]
+    in_first: bool
+    """Whether the first build has it, and not only later ones."""
+
+    in_later: bool
+
+
+@dataclass
+class Verdict:
+    """What was found of a build."""
+
+    recipes: int = 0
+    reads: int = 0
+    findings: list[Finding] = field(default_factory=list)
+    ways: list[tuple[str, ...]] = field(default_factory=list)
+    refused: str = ""
+
+    @property
+    def is_yes(self) -> bool:
+        """Whether nothing was found."""
+        return not self.findings and not self.refused
+
+
+@dataclass
+class Judge:
+    """Writes, records and checks a build in a folder for what is left of it."""
+
+    build: Build
+    place: Place
+    """The copy of the project from which recordings begin."""
+
+    output: str
+    """The folder for the makefiles and the footprints."""
+
+    mkcheck: str
+    environment: dict[str, str]
+
+    def names(self) -> Names:
+        """The names of the nodes in the makefiles."""
+        return names_of(self.build)
+
+    def path(self, name: str) -> str:
+        """A file of the output."""
+        return os.path.join(self.output, name)
+
+    def write_makefiles(self) -> bool:
+        """Writes the makefile, and that of the first build where it is another one; says whether it
+        is."""
+        names = self.names()
+        texts = {later: makefile(self.build, later, names) for later in (False, True)}
+        for text in texts.values():
+            test_text(text)
+        write(self.path(LATER), texts[True])
+        if texts[False] == texts[True]:
+            Path(self.path(FIRST)).unlink(missing_ok=True)
+            return False
+        write(self.path(FIRST), texts[False])
+        return True
+
+    def write_map(self) -> None:
+        """Writes where each target comes from."""
+        names = self.names()
+        found = {}
+        for name in dict.fromkeys([*self.build.reached(False), *self.build.reached(True)]):
+            node = self.build.nodes.get(name)
+            if node is None:
+                continue
+            found[names[name]] = {
+                "makefile": node.origin.makefile if node.origin else None,
+                "line": node.origin.line if node.origin else None,
+                "folder": node.folder,
+                "name": node.known_as or name,
+                "stands_for": node.piece_of or name,
+                "kind": node.kind.value if node.has_rule else "source",
+            }
+        text = json.dumps({"tool": self.build.tool, "nodes": found}, indent=1, ensure_ascii=False)
+        write(self.path("map.json"), text + "\n")
+
+    def graph(self, first: bool) -> str:
+        """Asks `mkcheck graph` whether the makefile is read; gives a word on it."""
+        if not self.build.goals:
+            raise Fault("the build has no goal: name one, as in `mkcheck-import all`")
+        if not any(node.commands for node in self.build.nodes.values()):
+            raise Fault(self.nothing_to_do())
+        nodes = len(set(self.build.reached(False)) | set(self.build.reached(True)))
+        if nodes > NODES_AT_MOST:
+            raise Fault(self.too_many(nodes))
+        for name in [FIRST, LATER] if first else [LATER]:
+            status, said, errors = self.ask("graph", "-f", self.path(name))
+            if status != 0:
+                raise Fault(self.refusal(said.strip() or errors.strip(), name))
+        recipes = sum(bool(node.commands) for node in self.build.nodes.values())
+        return f"{nodes} nodes, {recipes} recipes"
+
+    def nothing_to_do(self) -> str:
+        """The sentence on a build that runs nothing."""
+        goals = ", ".join(self.build.goals)
+        if not self.build.given:
+            return (
+                f"the build of {goals} runs no command, so there is nothing to judge: name other"
+                " goals"
+            )
+        return (
+            f"make has nothing to do for {goals}, since all is there already: run `make clean`, or"
+            " import from a fresh copy of the sources"
+        )
+
+    def too_many(self, nodes: int) -> str:
+        """The sentence on a build with too many nodes, with goals that fit."""
+        fitting = []
+        top = [self.build.nodes[name] for name in self.build.goals if name in self.build.nodes]
+        for node in [node for goal in top for node in [goal, *self.children(goal)]]:
+            alone = Build(self.build.root, goals=[node.name], nodes=self.build.nodes)
+            size = len(alone.reached(True))
+            if node.known_as and node.name not in self.build.goals and 1 < size <= NODES_AT_MOST:
+                fitting.append((size, f"{node.name} ({size})"))
+        fitting.sort(key=lambda found: (-found[0], found[1]))
+        large = [word for size, word in fitting if size * 10 >= fitting[0][0]]
+        some = ", ".join(list(dict.fromkeys(large))[:5])
+        advice = f"goals that fit: {some}" if some else "name goals that need fewer files"
+        return f"the build has {nodes} nodes, and mkcheck takes at most {NODES_AT_MOST}: {advice}"
+
+    def children(self, node: object) -> list:
+        """The nodes that a node needs, and those that these need."""
+        found = []
+        for name in node.prerequisites(True):  # type: ignore[attr-defined]
+            child = self.build.nodes.get(name)
+            if child is not None:
+                found += [child, *(self.build.node(word) for word in child.prerequisites(True))]
+        return found
+
+    def refusal(self, said: str, name: str) -> str:
+        """A refusal of mkcheck as a sentence."""
+        words = said.split()
+        if words[:2] == ["refused", "42"]:
+            return f"the prerequisites of the build form a cycle: {' '.join(words[2:])}"
+        if words[:2] == ["refused", "41"] and len(words) > 2:
+            return f"nothing makes {words[2]}, and it isn't there"
+        return f"mkcheck doesn't read {name}, the translated makefile: {said}"
+
+    def ask(self, *words: str) -> tuple[int, str, str]:
+        """Asks mkcheck, in the folder of the project."""
+        return run_here(self.place, [self.mkcheck, *words], self.environment)
+
+    def record(self, recorder: list[str], first: bool) -> str:
+        """Records the build; gives what the recorder said."""
+        book = self.path("footprint.json")
+        Path(book).unlink(missing_ok=True)
+        name = FIRST if first else LATER
+        words = [*recorder, "-f", self.path(name), "-C", self.place.seen, "-o", book]
+        status, said, errors = run_here(self.place, words, self.environment)
+        if status != 0:
+            raise RecordingFault(said + errors)
+        return errors
+
+    def read_book(self) -> Footprints:
+        """The footprints, their targets and files named as nodes are."""
+        raw = read_footprints(self.path("footprint.json"))
+        back = {word: name for name, word in self.names().written.items() if "\0" not in name}
+        targets = {}
+        for record in raw.records.values():
+            target = back.get(record.target, record.target)
+            targets[target] = Record(target, record.commands, record.reads, record.writes)
+        return Footprints(raw.fixed, raw.sources, targets)
+
+    def write_book(self, footprints: Footprints) -> None:
+        """Writes the footprints, their names those of the makefiles."""
+        written = self.names().written
+
+        def word(name: str) -> str:
+            return written.get(name, name)
+
+        records = {
+            word(record.target): Record(
+                word(record.target),
+                record.commands,
+                [word(name) for name in record.reads],
+                [word(name) for name in record.writes],
+            )
+            for record in footprints.records.values()
+        }
+        sources = [word(name) for name in footprints.sources]
+        book = Footprints(footprints.fixed, sources, records)
+        write(self.path("footprint.json"), text_of(book))
+
+    def check(self, first: bool) -> Verdict:
+        """Checks later builds, and the first one where its makefile is another one."""
+        later = self.check_one(LATER)
+        later.findings += self.check_between(later)
+        if not first:
+            later.findings = [
+                Finding(found.kind, found.words, True, True) for found in later.findings
+            ]
+            return later
+        one = self.check_one(FIRST)
+        later.refused = later.refused or one.refused
+        kept = [found for found in one.findings if found.kind != "stale"]
+        both = {(found.kind, found.words) for found in later.findings}
+        verdict = Verdict(later.recipes, later.reads, ways=later.ways, refused=later.refused)
+        for found in kept:
+            in_later = (found.kind, found.words) in both
+            verdict.findings.append(Finding(found.kind, found.words, True, in_later))
+        seen = {(found.kind, found.words) for found in kept}
+        for found in later.findings:
+            if (found.kind, found.words) not in seen:
+                verdict.findings.append(Finding(found.kind, found.words, False, True))
+        return verdict
+
+    def check_between(self, later: Verdict) -> list[Finding]:
+        """Races of later builds that only prerequisites of the first one, or late ones, hide."""
+        gone = {name: node.first_only for name, node in self.build.nodes.items() if node.first_only}
+        if not gone:
+            return []
+        text = makefile(without_first_only(self.build), False, self.names())
+        write(self.path(BETWEEN), text)
+        known = {found.words for found in later.findings if found.kind == "race"}
+        races = [found for found in self.check_one(BETWEEN).findings if found.kind == "race"]
+        return [found for found in races if found.words not in known]
+
+    def check_one(self, name: str) -> Verdict:
+        """Checks one of the makefiles."""
+        words = ["check", "-f", self.path(name), "-b", self.path("footprint.json")]
+        status, said, errors = self.ask(*words)
+        verdict = Verdict()
+        names = self.names()
+        back = {word: node for node, word in names.written.items() if "\0" not in node}
+        if status not in (0, 1):
+            verdict.refused = self.refusal(said.strip() or errors.strip(), name)
+        for line in said.splitlines():
+            kind, *rest = line.split(" ")
+            if kind == "yes":
+                verdict.recipes, verdict.reads = int(rest[0]), int(rest[2])
+            elif kind == "way":
+                verdict.ways.append(tuple(back.get(word, word) for word in rest))
+            elif kind == "no":
+                found = tuple(back.get(word, word) for word in rest[1:])
+                verdict.findings.append(Finding(rest[0], found, False, True))
+        if status == 1:
+            records = read_footprints(self.path("footprint.json")).records.values()
+            reached = {names[name] for name in self.build.reached(True)}
+            used = [record for record in records if record.target in reached]
+            verdict.recipes, verdict.reads = len(used), sum(len(record.reads) for record in used)
+        return verdict
+
+    @property
+    def goal(self) -> str:
+        """The goal of the makefiles."""
+        return goal_of(self.build, self.names())
+
+
+def without_first_only(build: Build) -> Build:
+    """A build with just those prerequisites that order recipes in each build."""
+    nodes = {}
+    for name, node in build.nodes.items():
+        groups = [[one for one in group if one not in node.first_only] for group in node.groups]
+        nodes[name] = replace(node, groups=groups, first_only=[])
+    return replace(build, nodes=nodes)
+
+
+class RecordingFault(Fault):
+    """The recording failed; the text is what the recorder said."""
+
+
+def write(path: str, text: str) -> None:
+    """Writes a text as it came from the build tool."""
+    Path(path).write_bytes(text.encode("utf-8", "surrogateescape"))
+
+
+def test_text(text: str) -> None:
+    """Raises `Fault` where mkcheck could not read a line, with a sentence that says which."""
+    if "\0" in text:
+        raise Fault("a command of the build holds a zero byte, which a makefile can't")
+    for line in re.split(r"(?<!\\)\n", text):
+        if len(line.encode("utf-8", "surrogateescape")) > 65536:
+            front = line.strip()[:60]
+            raise Fault(
+                f"a command of the build has over 65,536 bytes, more than mkcheck takes in a line"
+                f" ({front} ..): let it read a file with its words"
+            )

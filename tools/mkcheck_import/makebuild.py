@@ -1,0 +1,247 @@
+"""The front end for GNU make: which makes are run, and what is taken from each."""
+
+from __future__ import annotations
+
+import os
+from dataclasses import dataclass, field
+
+from mkcheck_record.faults import Fault
+
+from .answers import counted
+from .builds import Build
+from .commands import is_export
+from .copies import Copies, links_in, listing
+from .database import Rule
+from .gnumake import (
+    Make,
+    find_make,
+    last_words,
+    outer_environment,
+    run_make,
+    version_of,
+    wrapper_in,
+)
+from .later import add_later
+from .leaving import leave_alone, times_in
+from .overlaps import name_overlaps
+from .translating import Translation
+
+ENOUGH = (4, 0)
+
+
+@dataclass
+class MakeBuild:
+    """A build of GNU make in one folder of a project."""
+
+    copies: Copies
+    folder: str
+    """The folder in which make starts, a path from the root."""
+
+    words: list[str]
+    scratch: str
+    is_built: bool = False
+    """Whether the translation is of a real build, and not of what `make -n` shows."""
+
+    program: str = ""
+    shown: list[Make] = field(default_factory=list)
+    built: list[Make] = field(default_factory=list)
+    after: list[Make] = field(default_factory=list)
+    watched: list[str] = field(default_factory=list)
+    exported: dict[str, set[str]] = field(default_factory=dict)
+    again: list[str] = field(default_factory=list)
+    """The targets whose recipes run in a second make too."""
+
+    links: dict[str, str] = field(default_factory=dict)
+    before_files: set[str] = field(default_factory=set)
+    after_files: set[str] | None = None
+    before_times: dict[str, int] = field(default_factory=dict)
+    after_times: dict[str, int] = field(default_factory=dict)
+
+    @property
+    def wrapper(self) -> str:
+        """The path of the script that stands for make in commands."""
+        return wrapper_in(self.scratch)
+
+    def run(self, word: str, is_real: bool) -> list[Make]:
+        """Runs make in a copy."""
+        place = self.copies.place(word)
+        folder = os.path.normpath(os.path.join(place.seen, self.folder))
+        makes = run_make(
+            self.program, place, folder, self.words, self.scratch, is_real, self.watched
+        )
+        if not makes[0].transcript.is_whole:
+            raise Fault(f"GNU make could not read its makefile: {last_words(makes[0].errors)}")
+        return makes
+
+    def read(self) -> str:
+        """Asks what make would do; gives a word on it."""
+        self.program = find_make()
+        version = version_of(self.program)
+        if tuple(map(int, version.split()[-1].split(".")[:2])) < ENOUGH:
+            raise Fault(f"{version} is too old: GNU make 4.0 or a later one is needed")
+        place = self.copies.place("read")
+        self.shown = self.run("read", is_real=False)
+        self.find_watched(place.folder, self.shown)
+        if self.watched:
+            self.shown = self.run("read", is_real=False)
+        self.before_files = listing(place.folder)
+        self.before_times = times_in(place.folder)
+        self.links = links_in(place.folder)
+        return f"{counted(len(self.shown), 'make')}, {version}"
+
+    def find_watched(self, folder: str, makes: list[Make]) -> None:
+        """Finds macros that are set for some targets alone, and that the environment has."""
+        for make in makes:
+            inside = folder + make.folder[len(self.copies.seen) :]
+            base = make.base
+            rules = [rule for found in base.rules.values() for rule in found]
+            for macro in [*base.pattern_macros, *(one for rule in rules for one in rule.macros)]:
+                if is_export(macro, inside) or ".EXPORT_ALL_VARIABLES" in base.rules:
+                    self.exported.setdefault(make.folder, set()).add(macro.name)
+                elif macro.name not in make.environment:
+                    continue
+                if macro.name not in self.watched and macro.name not in ("SHELL", "MAKEFLAGS"):
+                    self.watched.append(macro.name)
+
+    def build(self) -> str:
+        """Makes the build, and then once more, for what make knows only after a build; gives a
+        word on it.
+
+        The second make has to be a real one: only that lets CMake join its dependency files.
+        """
+        self.built = self.run("built", is_real=True)
+        failed = [make for make in self.built if make.status != 0]
+        if self.built[0].status != 0:
+            raise Fault(
+                f"the build failed, so it can't be recorded: {last_words(failed[-1].errors)}; mend"
+                f" it until `make` in {self.folder} succeeds, and import again"
+            )
+        self.after = self.run("built", is_real=True)
+        again = [rule.name for rule in all_rules(self.after) if rule.ran and not rule.is_phony]
+        self.again = list(dict.fromkeys(again))
+        folder = self.copies.place("built").folder
+        self.after_files, self.after_times = listing(folder), times_in(folder)
+        self.links.update(links_in(self.copies.place("built").folder))
+        return counted(sum(rule.ran for rule in all_rules(self.built)), "recipe")
+
+    def translate(self) -> Build:
+        """The build, with what make knows after it where it was made."""
+        makes, reason = self.shown, ""
+        if self.built:
+            reason = "--build was given" if self.is_built else difference(self.shown, self.built)
+            if reason:
+                makes = self.built
+                take_unseen(self.built, self.shown)
+            leave_alone(self.copies.seen, makes, self.before_times, self.after_times)
+        translation = Translation(
+            self.copies.seen,
+            makes,
+            self.before_files,
+            self.after_files,
+            self.wrapper,
+            outer_environment(),
+        )
+        translation.links = self.links
+        translation.exported = self.exported
+        build = translation.translate()
+        if self.after_files is not None:
+            build.made = self.after_files - self.before_files
+        build.tool = version_of(self.program)
+        if reason:
+            build.note(f"the commands are those of a real build, not of `make -n`: {reason}")
+        if self.after:
+            add_later(translation, self.after)
+        name_overlaps(translation)
+        self.name_makefiles(translation, makes)
+        return build
+
+    def name_makefiles(self, translation: Translation, makes: list[Make]) -> None:
+        """Notes the makefiles that make would make anew, which is left out."""
+        found: dict[str, None] = {}
+        for make in makes:
+            view = translation.views.get(make.key)
+            for name in make.makefiles if view is not None else []:
+                if any(rule.has_recipe for rule in make.base.rules.get(name, [])):
+                    found[translation.path(view, name)] = None
+        if found:
+            some = ", ".join(list(found)[:5]) + (" .." if len(found) > 5 else "")
+            translation.build.note(
+                f"{counted(len(found), 'makefile')} that make makes anew when what they are made"
+                f" from changes ({some}): that is left out"
+            )
+
+
+def all_rules(makes: list[Make]) -> list[Rule]:
+    """The rules of all makes."""
+    return [rule for make in makes for rules in make.base.rules.values() for rule in rules]
+
+
+def ran(makes: list[Make]) -> dict[tuple[object, ...], list[Rule]]:
+    """The rules of each target that ran, by the key of its make and its name."""
+    found: dict[tuple[object, ...], list[Rule]] = {}
+    for make in makes:
+        for name, rules in make.base.rules.items():
+            if any(rule.ran for rule in rules):
+                found.setdefault((make.key, name), rules)
+    return found
+
+
+def texts_of(rules: list[Rule]) -> list[str]:
+    """The commands of rules."""
+    return [command.text for rule in rules for command in rule.commands]
+
+
+def difference(shown: list[Make], built: list[Make]) -> str:
+    """Why what `make -n` showed isn't enough for what a build did; empty where it is.
+
+    Recipes that `make -n` alone shows are no reason: it takes each target for changed.
+    """
+    failed = next((make for make in shown if make.status != 0), None)
+    if failed is not None:
+        return f"`make -n` fails ({last_words(failed.errors)})"
+    if len(built) > len(shown):
+        return "it starts more makes"
+    one_shell = any(make.transcript.is_one_shell for make in built)
+    known = ran(shown)
+    for key, rules in ran(built).items():
+        if key not in known:
+            return f"{key[1]} isn't run by it"
+        pairs = list(zip(texts_of(rules), texts_of(known[key])))
+        same = all(one == other or (one_shell and is_front(other, one)) for one, other in pairs)
+        if not same or len(pairs) != len(texts_of(rules)):
+            return f"{key[1]} has other commands there"
+    return ""
+
+
+def is_front(text: str, whole: str) -> bool:
+    """Whether lines are the first ones of a text."""
+    return whole.startswith(text + "\n")
+
+
+def take_unseen(built: list[Make], shown: list[Make]) -> None:
+    """Adds to a real build the recipes that only `make -n` shows, as what they make was there
+    already.
+
+    Where recipes are one command each, the text is that of `make -n` too, if it is known.
+    """
+    known, done = ran(shown), ran(built)
+    for make in built:
+        for name, rules in make.base.rules.items():
+            others = known.get((make.key, name), [])
+            if len(others) != len(rules):
+                continue
+            # Another make of this folder may have run it, as that of `make all-recursive`.
+            is_unseen = (make.key, name) not in done
+            for rule, other in zip(rules, others):
+                if is_unseen and not rule.ran and other.ran:
+                    rule.commands, rule.ran = other.commands, True
+                    if rule.recipe is None:
+                        rule.recipe, rule.makefile, rule.line = (
+                            other.recipe,
+                            other.makefile,
+                            other.line,
+                        )
+                elif make.transcript.is_one_shell and rule.ran and other.ran:
+                    for command, text in zip(rule.commands, other.commands):
+                        if is_front(text.text, command.text):
+                            command.text = text.text

@@ -1,0 +1,80 @@
+"""The steps of the front end for ninja."""
+
+from __future__ import annotations
+
+from dataclasses import dataclass, field
+
+from mkcheck_record.faults import Fault
+
+from .builds import Build
+from .copies import Copies, run_here
+from .gnumake import outer_environment
+from .ninja import NinjaBuild, read_ninja
+from .ninja_dyndeps import add_dyndeps
+from .ninja_files import Manifest
+from .ninja_learning import learn
+from .ninja_text import NinjaFault
+
+
+@dataclass
+class NinjaFolder:
+    """A build of ninja in one folder of a project."""
+
+    copies: Copies
+    folder: str
+    """The folder of `build.ninja`, a path from the root."""
+
+    words: list[str]
+    manifest: Manifest | None = field(default=None, init=False)
+    version: str = field(default="", init=False)
+    is_built: bool = field(default=False, init=False)
+    is_late: bool = field(default=False, init=False)
+
+    def read(self) -> str:
+        """Reads `build.ninja`, and asks ninja whether it could build."""
+        place = self.copies.place("read")
+        found = read_ninja(place, self.folder, self.words, outer_environment())
+        self.manifest, self.version = found
+        return f"{len(self.manifest.edges)} build lines, ninja {self.version}"
+
+    def build(self) -> str:
+        """Lets ninja build in a copy."""
+        place = self.copies.place("built")
+        # What an earlier build left must not help this one.
+        run_here(place, ["ninja", "-C", self.folder, "-t", "clean"], outer_environment())
+        command = ["ninja", "-j1", "-k0", "-C", self.folder, *self.words]
+        status, said, errors = run_here(place, command, outer_environment())
+        if status != 0:
+            # Where a header comes too late the second build finds it; the race is found by mkcheck.
+            status, said, errors = run_here(place, command, outer_environment())
+            self.is_late = status == 0
+        if status != 0:
+            lines = [line for line in (said + errors).splitlines() if line.strip()]
+            raise Fault(
+                f"the build failed, so it can't be recorded: {'; '.join(lines[-3:])[-400:]}; mend"
+                " it until ninja succeeds, and import again"
+            )
+        self.is_built = True
+        return ""
+
+    def translate(self) -> Build:
+        """The build, with what is known after a build where one was made."""
+        assert self.manifest is not None
+        place = self.copies.place("read")
+        translation = NinjaBuild(place, self.folder, self.manifest, self.version)
+        built = self.copies.place("built") if self.is_built else None
+        try:
+            if built is not None:
+                add_dyndeps(self.manifest, lambda path: translation.real(path, built))
+                translation = NinjaBuild(place, self.folder, self.manifest, self.version)
+            translation.translate(self.words)
+        except NinjaFault as fault:
+            raise Fault(str(fault)) from None
+        if self.is_late:
+            translation.build.note(
+                "the first build with one job failed, and the second one succeeded: a file comes too"
+                " late"
+            )
+        if built is not None:
+            learn(translation, built, outer_environment())
+        return translation.build

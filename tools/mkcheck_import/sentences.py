@@ -1,0 +1,203 @@
+"""Turns findings into sentences about the original makefiles, with the lines to add."""
+
+from __future__ import annotations
+
+import os
+from dataclasses import dataclass, field
+
+from .builds import Build, Kind, Node
+from .footprints import Footprints
+from .judging import Finding
+
+OTHERS = {
+    "record": "{r} was not recorded, since the first build doesn't run it; import the goals that"
+    " need it",
+    "commands": "the commands of {r} are others than those that were recorded; import again",
+    "varying": "the commands of {r} depend on which prerequisites are newer ($?), so what it writes"
+    " isn't always the same; use all prerequisites ($^), and make the target anew",
+    "target": "the recipe of {r} doesn't write {r}; let it write that file, or list it in .PHONY",
+    "given": "the recipe of {r} writes {f}, which is a source or a makefile; let it write to"
+    " another file",
+    "own": "the recipe of {r} reads {f}, which it writes itself, so what it leaves depends on what"
+    " was there before; let it make the file anew",
+    "unknown": "the recipe of {r} reads {f}, which isn't a file of the project and which nothing"
+    " makes; take it into the project, or give --fixed for its folder if it never changes",
+    "selection": "{r} would be made from {f} once that is there; write the rule out",
+}
+
+
+@dataclass
+class Advice:
+    """Lines to add to one makefile, each once."""
+
+    lines: dict[str, list[str]] = field(default_factory=dict)
+
+    def add(self, target: str, word: str) -> None:
+        """A prerequisite that a target needs."""
+        words = self.lines.setdefault(target, [])
+        if word not in words:
+            words.append(word)
+
+    def texts(self) -> list[str]:
+        """The lines: targets that need the same are one line."""
+        groups: dict[tuple[str, ...], list[str]] = {}
+        for target, words in self.lines.items():
+            groups.setdefault(tuple(words), []).append(target)
+        return [self.text(" ".join(targets), " ".join(words)) for words, targets in groups.items()]
+
+    def text(self, targets: str, words: str) -> str:
+        """One line."""
+        return f"{targets}: {words}"
+
+
+class NinjaAdvice(Advice):
+    """Inputs to add to build lines of ninja; two dots stand for what is there."""
+
+    def text(self, targets: str, words: str) -> str:
+        """One line."""
+        return f"build {targets}: .. | {words}"
+
+
+class Sentences:
+    """The findings of a build as text."""
+
+    def __init__(self, build: Build, footprints: Footprints, has_first: bool) -> None:
+        self.build, self.footprints, self.has_first = build, footprints, has_first
+        self.writers = footprints.writers
+        self.tool = "ninja" if build.tool.startswith("ninja") else "make"
+        self.advice: dict[str, Advice] = {}
+
+    def node(self, name: str) -> Node:
+        """The node for which a name stands: of a part the whole."""
+        node = self.build.nodes.get(name) or Node(name, has_rule=False)
+        while node.piece_of and node.piece_of in self.build.nodes:
+            node = self.build.nodes[node.piece_of]
+        return node
+
+    def called(self, name: str) -> str:
+        """How people know a node: its path, or its name in its makefile."""
+        node = self.node(name)
+        return node.name if "@" not in node.name else node.known_as or node.name
+
+    def place(self, name: str) -> str:
+        """Where a node's recipe stands."""
+        node = self.build.nodes.get(name)
+        if node is None or node.origin is None:
+            return self.build.tool or "the build"
+        return str(node.origin)
+
+    def spelled(self, node: Node, file: str) -> str:
+        """A file as the makefile of a node names it."""
+        other = self.build.nodes.get(file)
+        if other is not None and other.folder == node.folder and other.known_as:
+            return other.known_as
+        if file.startswith("/"):
+            return file
+        return os.path.relpath(os.path.join("/", file), os.path.join("/", node.folder))
+
+    def need(self, recipe: str, file: str) -> None:
+        """Advises that a target needs a file, or the target of the recipe that writes it."""
+        node = self.node(recipe)
+        known = file in self.build.nodes and file not in self.build.blind
+        word = file if known or file not in self.writers else self.called(self.writers[file][0])
+        makefile = node.origin.makefile if node.origin else "the makefile"
+        target = node.known_as or node.name
+        advice = NinjaAdvice() if self.tool == "ninja" else Advice()
+        self.advice.setdefault(makefile, advice).add(target, self.spelled(node, word))
+
+    def texts(self, findings: list[Finding]) -> list[str]:
+        """The sentences, those of one recipe together, and after them the lines to add."""
+        found: list[str] = []
+        stale: dict[str, list[str]] = {}
+        shared: dict[tuple[str, str], list[str]] = {}
+        for finding in findings:
+            if finding.kind == "stale":
+                recipe, file = finding.words
+                if self.is_unseen(recipe, file):
+                    found.append(self.unseen(recipe, file))
+                    continue
+                stale.setdefault(recipe, []).append(file)
+                self.need(recipe, file)
+            elif finding.kind == "writers":
+                recipe, other, file = finding.words
+                shared.setdefault((recipe, other), []).append(file)
+            else:
+                found.append(self.sentence(finding))
+        for (recipe, other), files in shared.items():
+            found.append(
+                f"{self.place(recipe)}: the recipes of {self.called(recipe)} and"
+                f" {self.called(other)} ({self.place(other)}) both write {listed(files, 'and')};"
+                " let only one of them do so"
+            )
+        for recipe, files in stale.items():
+            found.append(
+                f"{self.place(recipe)}: {self.called(recipe)} isn't made again when"
+                f" {listed(files)} changes"
+            )
+        for makefile, advice in self.advice.items():
+            found += ["", f"Add to {makefile}:", *(f"    {line}" for line in advice.texts())]
+        return found
+
+    def is_unseen(self, recipe: str, file: str) -> bool:
+        """Whether make doesn't look at the file again, and it would help little to need its writer,
+        which is phony or of another make."""
+        if file not in self.build.blind or file not in self.writers:
+            return False
+        writer = self.node(self.writers[file][0])
+        return writer.kind is Kind.PHONY or writer.make != self.node(recipe).make
+
+    def unseen(self, recipe: str, file: str) -> str:
+        """A stale read of a target without a recipe, which make doesn't look at again."""
+        spelled = self.spelled(self.node(recipe), file)
+        return (
+            f"{self.place(recipe)}: {self.called(recipe)} isn't made again when {file} changes:"
+            f" a rule for {spelled} has no recipe, so make doesn't look at it again after another"
+            f" recipe wrote it; give that rule an empty recipe, as in '{spelled}: PREREQUISITES ;'"
+        )
+
+    def sentence(self, finding: Finding) -> str:
+        """One finding that isn't a stale read."""
+        when = ""
+        if self.has_first and not finding.in_later:
+            when = " (in a first build, when no dependency file is there yet)"
+        if finding.kind == "race":
+            recipe, writer, file = finding.words
+            text = (
+                f"{self.place(recipe)}: the recipe of {self.called(recipe)} reads {file}, and"
+                f" {self.tool} may begin it before the recipe of {self.called(writer)}"
+                f" ({self.place(writer)}) has written that{when}"
+            )
+            one, other = self.node(recipe), self.node(writer)
+            if one.make == other.make:
+                self.need(recipe, file)
+                return text
+            return (
+                f"{text}; these are recipes of two makes: let the one in {other.folder} be done"
+                f" before the one in {one.folder} begins"
+            )
+        if finding.kind == "loose":
+            target, writer = finding.words
+            self.need(target, self.called(writer))
+            return (
+                f"{self.place(target)}: {self.called(target)} has no recipe, the one of"
+                f" {self.called(writer)} ({self.place(writer)}) writes it, and no rule says"
+                f" so{when}"
+            )
+        return self.other(finding) + when
+
+    def other(self, finding: Finding) -> str:
+        """A finding of another kind."""
+        words = list(finding.words)
+        values = {"r": self.called(words[0]), "f": words[-1]}
+        text = OTHERS.get(finding.kind, finding.kind + " {r} {f}").format(**values)
+        return f"{self.place(words[0])}: {text}"
+
+
+def listed(names: list[str], word: str = "or") -> str:
+    """Names in a sentence: a few, and how many more."""
+    if len(names) == 1:
+        return names[0]
+    if len(names) > 6:
+        one = "one of " if word == "or" else ""
+        return f"{', '.join(names[:5])} {word} {one}{len(names) - 5} more files"
+    return f"{', '.join(names[:-1])} {word} {names[-1]}"

@@ -1,0 +1,220 @@
+"""What only the recording tells of a build: which targets are files, and who writes them."""
+
+from __future__ import annotations
+
+import os
+
+from .alike import split_alike
+from .builds import Build, Kind, Node
+from .footprints import Footprints, Record
+from .ordering import Order
+
+
+class Settling:
+    """Settles the nodes of a build by its footprints, which are changed too.
+
+    `before` has the files and folders that are there before the build.
+    """
+
+    def __init__(self, build: Build, footprints: Footprints, before: set[str]) -> None:
+        self.build, self.footprints, self.before = build, footprints, before
+        self.writers = footprints.writers
+
+    def exists(self, name: str) -> bool:
+        """Whether there is such a file before the build."""
+        if name.startswith("/"):
+            return os.path.lexists(name)
+        return name in self.before
+
+    def settle(self) -> None:
+        """Settles all nodes."""
+        for name in list(self.build.nodes):
+            node = self.build.nodes[name]
+            record = self.footprints.records.get(name)
+            if node.kind is Kind.FILE and node.has_rule:
+                if record is not None and name not in record.writes:
+                    self.settle_unwritten(node, record)
+                if not node.commands:
+                    self.settle_bare(node)
+            if record is not None:
+                self.drop_own(node, record)
+                self.test_limits(node, record)
+        self.settle_order()
+        self.settle_between_makes()
+        split_alike(self.build, self.footprints)
+        self.rename_phony()
+        self.drop_configured()
+        self.add_sources()
+
+    def settle_unwritten(self, node: Node, record: Record) -> None:
+        """A recipe that doesn't write its target."""
+        own = [name for name in record.reads if not self.footprints.is_fixed(name)]
+        if node.name in self.writers:
+            if not own and not record.writes:
+                node.commands, node.rereads = [], True
+                del self.footprints.records[node.name]
+        elif node.name in self.build.made and f"{node.name}/" not in self.build.made:
+            self.build.problem(
+                f"{node.name}: a build makes it, and in the recording its recipe doesn't, so what"
+                " was recorded isn't what a build does; see import.log for what the recorder said"
+            )
+        elif self.exists(node.name):
+            self.build.problem(
+                f"{node.name}: it is there before the build, and its recipe leaves it as it is;"
+                " whether it is up to date isn't judged; remove it, and import again"
+            )
+        else:
+            node.kind = Kind.PHONY
+            is_folder = f"{node.name}/" in self.build.made
+            if not is_folder and node.name not in self.build.unwritten:
+                self.build.unwritten.append(node.name)
+
+    def settle_bare(self, node: Node) -> None:
+        """A target without a recipe."""
+        if node.name in self.writers:
+            if node.rereads:
+                below = self.below(node)
+                direct = set(node.prerequisites(later=True))
+                for writer in self.writers[node.name]:
+                    if writer in below and writer not in direct:
+                        node.groups = [*node.groups[:-1], [*node.groups[-1], writer]]
+        elif not self.exists(node.name):
+            node.kind = Kind.PHONY
+        elif not node.prerequisites(later=True):
+            node.has_rule = False
+
+    def below(self, node: Node) -> set[str]:
+        """All nodes that a node reaches in the first build."""
+        return set(
+            Build(self.build.root, goals=[node.name], nodes=self.build.nodes).reached(later=False)
+        )
+
+    def settle_order(self) -> None:
+        """Targets that the tool doesn't look at again, though a recipe writes them meanwhile.
+
+        What needs them waits, and isn't out of date by them.
+        """
+        blind = {
+            name
+            for name, node in self.build.nodes.items()
+            if node.kind is Kind.FILE
+            and node.has_rule
+            and not node.commands
+            and not node.rereads
+            and name in self.writers
+            and node.prerequisites(later=True)
+        }
+        self.build.blind |= blind
+        for node in self.build.nodes.values() if blind else ():
+            met = [name for name in node.prerequisites(later=True) if name in blind]
+            if met:
+                groups = node.groups
+                node.groups = [[name for name in group if name not in blind] for group in groups]
+                node.late = [name for name in node.late if name not in blind]
+                node.order_only += [name for name in met if name not in node.order_only]
+
+    def settle_between_makes(self) -> None:
+        """Files without a rule that a recipe of another make writes, which is done before it is
+        needed.
+
+        Each make looks at files when it begins, so they are as good as targets that need that
+        recipe.
+        """
+        needed: dict[str, list[Node]] = {}
+        for node in self.build.nodes.values():
+            for name in node.prerequisites(later=True) if node.has_rule else []:
+                other = self.build.nodes.get(name)
+                if name in self.writers and (other is None or not other.has_rule):
+                    needed.setdefault(name, []).append(node)
+        order = Order(self.build) if needed else None
+        for name, users in needed.items():
+            writers = [self.build.nodes[writer] for writer in self.writers[name]]
+            if order is not None and all(
+                user.make != writer.make and order.is_before(writer.name, user.name)
+                for user in users
+                for writer in writers
+            ):
+                node = self.build.node(name)
+                node.has_rule, node.rereads = True, True
+                node.groups = [[writer.name for writer in writers]]
+
+    def drop_own(self, node: Node, record: Record) -> None:
+        """Takes away prerequisites that the recipe itself writes, such as its dependency file."""
+        own = {
+            name
+            for name in record.writes
+            if name != node.name and self.writers[name] == [node.name] and self.is_bare(name)
+        }
+        if own:
+            node.groups = [[name for name in group if name not in own] for group in node.groups]
+            node.order_only = [name for name in node.order_only if name not in own]
+            node.late = [name for name in node.late if name not in own]
+
+    def is_bare(self, name: str) -> bool:
+        """Whether a name has neither commands nor prerequisites."""
+        node = self.build.nodes.get(name)
+        return node is None or not (node.commands or node.prerequisites(later=True))
+
+    def test_limits(self, node: Node, record: Record) -> None:
+        """Whether commands that are to use no files of the project do."""
+        for sentence, files in (
+            (node.uses_no_files, [*record.reads, *record.writes]),
+            (node.writes_no_files, record.writes),
+        ):
+            used = [name for name in files if not self.footprints.is_fixed(name)]
+            if sentence and used:
+                self.build.problem(sentence.replace("{file}", used[0]))
+
+    def rename_phony(self) -> None:
+        """Gives nodes that are no files, and have the name of a file that recipes use, another
+        name."""
+        used = {name for record in self.footprints.records.values() for name in record.reads}
+        used.update(self.writers)
+        for name in [name for name in self.build.nodes if name in used]:
+            if self.build.nodes[name].kind is not Kind.FILE:
+                self.rename(name, unused(f"{name}@phony", self.build))
+
+    def rename(self, old: str, new: str) -> None:
+        """Gives a node another name."""
+        node = self.build.nodes.pop(old)
+        self.build.nodes[new] = node
+        node.known_as = node.known_as or old
+        node.name = new
+        self.build.goals = [new if name == old else name for name in self.build.goals]
+        for other in self.build.nodes.values():
+            other.groups = [[new if n == old else n for n in group] for group in other.groups]
+            other.order_only = [new if n == old else n for n in other.order_only]
+            other.late = [new if n == old else n for n in other.late]
+            other.first_only = [new if n == old else n for n in other.first_only]
+        record = self.footprints.records.pop(old, None)
+        if record is not None:
+            record.target = new
+            self.footprints.records[new] = record
+
+    def drop_configured(self) -> None:
+        """Files of the configure step never change, unless a recipe writes them: reads need no way."""
+        fixed = self.build.configured - set(self.writers)
+        for record in self.footprints.records.values() if fixed else ():
+            record.reads = [name for name in record.reads if name not in fixed]
+
+    def add_sources(self) -> None:
+        """Names that the makefiles need and nothing makes are sources, also those that no recipe
+        reads."""
+        known = set(self.footprints.sources)
+        for later in (False, True):
+            for name in self.build.reached(later):
+                node = self.build.nodes.get(name)
+                is_source = node is None or not node.has_rule
+                if is_source and name not in known and name not in self.writers:
+                    if not self.footprints.is_fixed(name):
+                        known.add(name)
+                        self.footprints.sources.append(name)
+
+
+def unused(front: str, build: Build) -> str:
+    """A name of no node."""
+    name, number = front, 1
+    while name in build.nodes:
+        number += 1
+        name = f"{front}.{number}"
+    return name
