@@ -6,28 +6,30 @@
 PREFIX = /usr/local
 CRATE =
 FUZZ =
+CHECKED =
 
-.PHONY: all look demo check program edits growths recorder realcheck manuals pages fuzz bench
-.PHONY: install clean
+.PHONY: all build demo proved check program edits growths recorder importer
+.PHONY: importcheck realcheck manuals pages fuzz bench install clean
 
-# rt looks by itself at what changed since the last build, so `all` is always
-# run and names no source. It proves the program, links it, and runs it once.
-all:
+all: build
+
+# The program, optimized and not proved, in one to three minutes. A bin/mkcheck that
+# is newer than all sources stays as it is, also a proved one.
+build:
+	@python3 tools/quick.py bin/mkcheck
+
+# Proves the program, links it, and runs it once. rt looks by itself at what changed
+# since the last build, so this is always run and names no source.
+proved:
 	cd crates/mkcheck && rt run -- --version
 	mkdir -p bin
 	cp -f crates/mkcheck/out/mkcheck bin/mkcheck
 
-# The same program, of which nothing is proved, and which says so. In bin/look it has
-# its plain name, for a search path; bin/mkcheck is always the proved one.
-look:
-	@python3 tools/look.py bin/mkcheck-look
-	@mkdir -p bin/look
-	@ln -fs ../mkcheck-look bin/look/mkcheck
-
-# The lines with cmp hold the program to the texts that the documents show, those
-# with `if` to the status of a no, which is 1. The second check is of a copy of the
-# makefile from which one header is left out.
-demo: all
+# Shows the program on the examples. The lines with cmp compare its answers with the
+# stored ones, those with `if` its status with that of a no, which is 1. The second
+# check is of a copy of the makefile from which one header is left out.
+demo: build
+	@bin/mkcheck --version
 	cd examples/wordcount && cat makefile
 	cd examples/wordcount && ../../bin/mkcheck graph
 	cd examples/wordcount && ../../bin/mkcheck graph reader.o table.o
@@ -42,14 +44,15 @@ demo: all
 	cd examples/figlet && if ../../bin/mkcheck check -b footprint.json; then false; else test $$? -eq 1; fi
 	@cd examples/awk && ../../bin/mkcheck check -b footprint.json | cmp - check.txt
 	cd examples/awk && if ../../bin/mkcheck check -b footprint.json; then false; else test $$? -eq 1; fi
+	@echo 'Shown with the program that `bin/mkcheck --version` names. `make proved` proves it.'
 
-# The gate proves and runs everything from nothing, so it needs no `all`. Its
+# The gate proves and runs everything from nothing, so it needs no build. Its
 # last line, `N passed, M failed`, is to stay the last one that is printed.
 check:
 	@rt ci
 
 # Runs the program over real files, and compares its streams and its status.
-program: all
+program: build
 	@python3 tests/program/run.py
 
 # Tries the wrong edits that the gate leaves out, those of all crates or of one:
@@ -57,26 +60,35 @@ program: all
 edits:
 	@python3 tests/edits/run.py $(CRATE)
 
-# Refuses each growth of the program in turn, over worked examples.
-growths: all
+# Refuses each allocation of the program in turn, over worked examples.
+growths: build
 	@python3 tests/growths/sweep.py
 
 # Tests the recorder on small projects, by strace and a compiler where these are there.
-recorder: all
+recorder: build
 	@MKCHECK=bin/mkcheck python3 tests/recorder/run.py
 
+# Tests the importer on small builds, by GNU make, ninja, cmake and strace where these are there.
+importer: build
+	@python3 tests/importer/run.py bin/mkcheck
+
 # Records the examples anew, where strace and their compilers are there.
-realcheck: all
+realcheck: build
 	@MKCHECK=bin/mkcheck python3 tests/recorder/real.py
 
+# Imports real source packages of Debian, which it fetches, and compares with stored
+# counts. CHECKED has names of projects and options, such as --samples 20.
+importcheck: build
+	@MKCHECK=bin/mkcheck python3 tests/importcheck/run.py $(CHECKED)
+
 # Tries the makefiles and the sessions that the pages show.
-pages: all
+pages: build
 	@python3 tests/pages/run.py bin/mkcheck
 
 # Asks mkcheck and a second program, which was written from the documents, the same
 # random questions: new ones each time, of a seed that it prints. FUZZ has options
 # of tests/second/compare.py, such as --seed 7 --jobs 4.
-fuzz: all
+fuzz: build
 	@python3 tests/second/compare.py bin/mkcheck $(FUZZ)
 
 # Reads the manual pages by a linter, where one is there.
@@ -85,7 +97,7 @@ manuals:
 	elif command -v groff; then ! groff -mandoc -Tascii -ww man/*.1 2>&1 >/dev/null | grep .; \
 	else echo 'manuals: no mandoc and no groff, so nothing was read'; fi
 
-bench: all
+bench: proved
 	@python3 bench/run.py
 	@python3 bench/texts.py
 	@python3 bench/reading.py
@@ -98,15 +110,21 @@ bench: all
 	@python3 bench/plans.py
 	@python3 bench/hostile.py
 
-install: all
+# Installs the proved program, where it was built and is up to date, else the quick one.
+install: build
 	mkdir -p $(DESTDIR)$(PREFIX)/bin
-	cp -f bin/mkcheck tools/mkcheck-record $(DESTDIR)$(PREFIX)/bin
+	cp -f bin/mkcheck tools/mkcheck-record tools/mkcheck-import $(DESTDIR)$(PREFIX)/bin
 	mkdir -p $(DESTDIR)$(PREFIX)/lib/mkcheck/mkcheck_record
+	mkdir -p $(DESTDIR)$(PREFIX)/lib/mkcheck/mkcheck_import
 	cp -f tools/mkcheck_record/*.py $(DESTDIR)$(PREFIX)/lib/mkcheck/mkcheck_record
+	cp -f tools/mkcheck_import/*.py $(DESTDIR)$(PREFIX)/lib/mkcheck/mkcheck_import
 	mkdir -p $(DESTDIR)$(PREFIX)/share/man/man1
-	cp -f man/mkcheck.1 man/mkcheck-record.1 $(DESTDIR)$(PREFIX)/share/man/man1
+	cp -f man/*.1 $(DESTDIR)$(PREFIX)/share/man/man1
+	mkdir -p $(DESTDIR)$(PREFIX)/share/doc/mkcheck
+	cp -f docs/*.md LICENSE-MIT LICENSE-APACHE $(DESTDIR)$(PREFIX)/share/doc/mkcheck
+	@$(DESTDIR)$(PREFIX)/bin/mkcheck --version
 
 clean:
 	rm -rf bin bench/data bench/__pycache__ crates/*/out
-	rm -rf tools/mkcheck_record/__pycache__ tests/recorder/__pycache__ tests/second/__pycache__
+	rm -rf tools/*/__pycache__ tests/*/__pycache__
 	cd examples/wordcount && rm -f wordcount *.o counted.txt forgotten.mk

@@ -10,7 +10,8 @@ from run import DATA, HERE
 
 
 def needed(libraries: str) -> dict[str, str]:
-    """The crates of the repository that these libraries are and stand on, each with its line of crates.txt."""
+    """The crates of the repository that these libraries are and stand on, each with its line of
+    crates.txt."""
     listed = (HERE.parent / "crates.txt").read_text().splitlines()
     lines = {line.partition(":")[0]: line for line in listed if line and not line.startswith("#")}
     found: dict[str, str] = {}
@@ -23,7 +24,9 @@ def needed(libraries: str) -> dict[str, str]:
     return found
 
 
-def built(name: str, libraries: str, empty: str, before: Sequence[str], behind: Sequence[str] = ()) -> Path:
+def built(
+    name: str, libraries: str, empty: str, before: Sequence[str], behind: Sequence[str] = ()
+) -> Path:
     """The program `name`, from `name/main.rt.in`, over copies of the crates that it needs.
 
     The answers to what is open in a function stand beside it, in a file named after the function.
@@ -44,7 +47,9 @@ def built(name: str, libraries: str, empty: str, before: Sequence[str], behind: 
     for crate in crates:
         # With what earlier checks left in out/, so that little is proved again.
         shutil.copytree(HERE.parent / "crates" / crate, repository / "crates" / crate)
-    (repository / "crates.txt").write_text("\n".join([*crates.values(), f"{name}: {libraries}", ""]))
+    (repository / "crates.txt").write_text(
+        "\n".join([*crates.values(), f"{name}: {libraries}", ""])
+    )
     file = DATA / f"{name}.empty"
     file.write_text(empty)
     command = ["rt", "run", "--", *before, str(file), *behind]

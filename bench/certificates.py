@@ -1,5 +1,5 @@
-"""Measures `mkcheck verify` on the certificates of large builds, and of one that it refuses, and `mkcheck check` on
-builds of which it finds much.
+"""Measures `mkcheck verify` on the certificates of large builds, and of one that it refuses, and
+`mkcheck check` on builds of which it finds much.
 """
 
 import json
@@ -33,14 +33,19 @@ def reading(count: int) -> Build:
 
 
 def compiled(count: int) -> Build:
-    """Targets with a command as compilers get it, of some 200 bytes, that read one of 64 sources and 20 files of the system."""
+    """Targets with a command as compilers get it, of some 200 bytes, that read one of 64 sources
+    and 20 files of the system."""
     options = " ".join(f"-Wno-warning-{number}" for number in range(10))
     system = [f"/usr/include/h{number}.h" for number in range(20)]
     sources = [f"certificates/s{number}" for number in range(64)]
     targets = {f"o{number}": sources[number % 64] for number in range(count)}
-    commands = {target: f"cc {options} -c -o {target} {source}" for target, source in targets.items()}
+    commands = {
+        target: f"cc {options} -c -o {target} {source}" for target, source in targets.items()
+    }
     rules = [f"{target}: {source}\n\t{commands[target]}\n" for target, source in targets.items()]
-    records = [(target, [commands[target]], [source, *system]) for target, source in targets.items()]
+    records = [
+        (target, [commands[target]], [source, *system]) for target, source in targets.items()
+    ]
     return Build(gather(list(targets)) + "".join(rules), sources, records, ["/usr/"])
 
 
@@ -48,7 +53,9 @@ def carrying(layers: int) -> Build:
     """Layers of 60 targets, each of which reads all of the next layer, and so carries its recipes."""
     names = [[f"l{layer}n{column}" for column in range(60)] for layer in range(layers)]
     below = [*names[1:], []]
-    return ruled(names[0], {name: reads for layer, reads in zip(names, below) for name in layer}, [])
+    return ruled(
+        names[0], {name: reads for layer, reads in zip(names, below) for name in layer}, []
+    )
 
 
 def far(count: int) -> Build:
@@ -57,7 +64,8 @@ def far(count: int) -> Build:
 
 
 def outputs(count: int) -> Build:
-    """Targets that read a source each, and whose recipes write a second file each, which is no target."""
+    """Targets that read a source each, and whose recipes write a second file each, which is no
+    target."""
     build = own(count)
     more = {target: [f"{target}.map"] for target, _, _ in build.records}
     return Build(build.text, build.sources, build.records, more=more)
@@ -66,7 +74,9 @@ def outputs(count: int) -> Build:
 def logged(count: int) -> Build:
     """Targets whose recipes all append to one file: a finding for any two of them."""
     build = flat(count)
-    return Build(build.text, [], build.records, more={target: ["log"] for target, _, _ in build.records})
+    return Build(
+        build.text, [], build.records, more={target: ["log"] for target, _, _ in build.records}
+    )
 
 
 def unrecorded(count: int) -> Build:
@@ -79,7 +89,9 @@ def unknown(count: int) -> Build:
     """Targets that read 100 files each of which nothing is known: a finding for each read."""
     build = flat(count)
     files = [f"certificates/u{number}" for number in range(100)]
-    return Build(build.text, [], [(target, commands, files) for target, commands, _ in build.records])
+    return Build(
+        build.text, [], [(target, commands, files) for target, commands, _ in build.records]
+    )
 
 
 # Each shape with a size, and one of twice as many targets.
@@ -93,7 +105,10 @@ VERIFIED: list[tuple[Callable[[int], Build], int, int]] = [
     (outputs, 1000, 2000),
 ]
 REFUSED: list[tuple[Callable[[int], Build], int, int]] = [(logged, 2000, 4000)]
-FOUND: list[tuple[Callable[[int], Build], int, int]] = [(unrecorded, 2000, 4000), (unknown, 2000, 4000)]
+FOUND: list[tuple[Callable[[int], Build], int, int]] = [
+    (unrecorded, 2000, 4000),
+    (unknown, 2000, 4000),
+]
 
 
 @dataclass(frozen=True)
@@ -115,7 +130,9 @@ def verified(program: str, build: Build, label: str) -> Command:
     certificate = DATA / f"{label}.cert"
     words = ["-f", makefile.name, "-b", book.name]
     spent([program, "check", *words, "-c"], {0}, certificate)
-    return command_of([program, "verify", *words, "-k", certificate.name], 0, [makefile, book, certificate])
+    return command_of(
+        [program, "verify", *words, "-k", certificate.name], 0, [makefile, book, certificate]
+    )
 
 
 def refused(program: str, build: Build, label: str) -> Command:
@@ -139,7 +156,10 @@ def found(program: str, build: Build, label: str) -> Command:
 def show(label: str, size: float, half: Measure, whole: Measure) -> None:
     """A row of the table."""
     growth, by_size = whole.time / half.time, whole.memory / size
-    print(f"{label:<18}{size:>6.1f}{whole.time:>10.1f}{growth:>8.1f}{whole.memory:>11.0f}{by_size:>7.1f}", flush=True)
+    print(
+        f"{label:<18}{size:>6.1f}{whole.time:>10.1f}{growth:>8.1f}{whole.memory:>11.0f}{by_size:>7.1f}",
+        flush=True,
+    )
 
 
 def rows(
@@ -147,10 +167,17 @@ def rows(
     command: Callable[[str, Build, str], Command],
     shapes: list[tuple[Callable[[int], Build], int, int]],
 ) -> None:
-    """Measures shapes with half of the targets and with all, which take turns, and prints a row for each."""
+    """Measures shapes with half of the targets and with all, which take turns, and prints a row for
+    each."""
     for shape, smaller, count in shapes:
-        half, whole = command(program, shape(smaller), "half"), command(program, shape(count), "whole")
-        show(f"{shape.__name__} {count}", whole.size, *map(least, in_turns([half.run, whole.run], RUNS)))
+        half, whole = command(program, shape(smaller), "half"), command(
+            program, shape(count), "whole"
+        )
+        show(
+            f"{shape.__name__} {count}",
+            whole.size,
+            *map(least, in_turns([half.run, whole.run], RUNS)),
+        )
 
 
 def main() -> None:

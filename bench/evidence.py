@@ -1,7 +1,9 @@
-"""Measures `mkcheck check -e 1`, which prints a plan that shows the first finding, beside `mkcheck check`.
+"""Measures `mkcheck check -e 1`, which prints a plan that shows the first finding, beside `mkcheck
+check`.
 
-The growth is the time of the former divided by its own on half the targets, and that of the plan its size divided so.
-Nothing shows a recipe without record, or a read of a file of which nothing is known: there the answer is `no plan`.
+The growth is the time of the former divided by its own on half the targets, and that of the plan
+its size divided so. Nothing shows a recipe without record, or a read of a file of which nothing is
+known: there the answer is `no plan`.
 """
 
 import os
@@ -22,7 +24,9 @@ def racing(count: int) -> Build:
     """Targets that read the file of the last one, which nothing makes before them."""
     names = [f"r{number}" for number in range(count)]
     last = names[-1]
-    text = f"all: {' '.join(names[:2000])}\nall: {' '.join(names[2000:])}\n" + "".join(recipe(name, []) for name in names)
+    text = f"all: {' '.join(names[:2000])}\nall: {' '.join(names[2000:])}\n" + "".join(
+        recipe(name, []) for name in names
+    )
     records = [(name, [f"touch {name}"], [] if name == last else [last]) for name in names]
     return Build(text, [], records)
 
@@ -38,7 +42,8 @@ SHAPES = [
 
 
 def prepared(program: str, build: Build, label: str) -> tuple[list[str], int]:
-    """The command `check` of a build, and the size of the plan that `-e 1` gives, which is simulated."""
+    """The command `check` of a build, and the size of the plan that `-e 1` gives, which is
+    simulated."""
     makefile, book = written(build, label)
     check = [program, "check", "-f", makefile.name, "-b", book.name]
     plan = DATA / "evidence.plan"
@@ -53,7 +58,9 @@ def main() -> None:
     DATA.mkdir(exist_ok=True)
     os.chdir(DATA)
     print(f"processor time, least of {RUNS} runs; {program}")
-    print(f"{'build':<18}{'check ms':>10}{'-e 1 ms':>10}{'ratio':>7}{'growth':>8}{'half KB':>10}{'plan KB':>10}{'growth':>8}")
+    print(
+        f"{'build':<18}{'check ms':>10}{'-e 1 ms':>10}{'ratio':>7}{'growth':>8}{'half KB':>10}{'plan KB':>10}{'growth':>8}"
+    )
     for shape, smaller, count in SHAPES:
         small, fewer = prepared(program, shape(smaller), "half")
         check, size = prepared(program, shape(count), "whole")

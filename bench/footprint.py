@@ -1,4 +1,5 @@
-"""Measures the reading of footprints beside serde_json alone and Python's json, on the same file, and prints a table."""
+"""Measures the reading of footprints beside serde_json alone and Python's json, on the same file,
+and prints a table."""
 
 import json
 import statistics
@@ -29,7 +30,12 @@ def read_name(record: int, read: int) -> str:
 def footprints(size: int, records: int) -> str:
     """A file of format 1 of just so many bytes, with blanks at its end."""
     entries = (
-        {"target": f"o/{n:04d}.o", "commands": [], "reads": [read_name(n, k) for k in range(READS)], "writes": [f"o/{n:04d}.o"]}
+        {
+            "target": f"o/{n:04d}.o",
+            "commands": [],
+            "reads": [read_name(n, k) for k in range(READS)],
+            "writes": [f"o/{n:04d}.o"],
+        }
         for n in range(records)
     )
     lines = ",\n".join(json.dumps(entry, separators=(",", ":")) for entry in entries)
@@ -40,7 +46,8 @@ def footprints(size: int, records: int) -> str:
 
 
 def prefixes(count: int) -> str:
-    """A file of format 1 of so many fixed prefixes, of 200 lengths, and as many sources, none under a prefix."""
+    """A file of format 1 of so many fixed prefixes, of 200 lengths, and as many sources, none under
+    a prefix."""
     fixed = [f"fixed/{'d' * (n % 200)}{n:05d}/" for n in range(count)]
     sources = [f"fixed/{'d' * 200}{n:05d}/x" for n in range(count)]
     return json.dumps({"format": 1, "fixed": fixed, "sources": sources, "records": []})
@@ -70,16 +77,22 @@ def own_time(program: Path, task: str, file: Path) -> float:
 
 
 def measure(program: Path, text: str) -> Times:
-    """The tasks take turns, each in a process of its own, so that none finds the memory that another one left."""
+    """The tasks take turns, each in a process of its own, so that none finds the memory that
+    another one left."""
     file = DATA / "footprint.json"
     file.write_text(text)
-    rows = [(own_time(program, "value", file), own_time(program, "setting", file), python_time(file)) for _ in range(RUNS)]
+    rows = [
+        (own_time(program, "value", file), own_time(program, "setting", file), python_time(file))
+        for _ in range(RUNS)
+    ]
     return Times(*(statistics.median(column) for column in zip(*rows, strict=True)))
 
 
 def cases(program: Path) -> list[tuple[str, Times, Times]]:
     """What is measured, with the same of half the size."""
-    halves = measure(program, footprints(SIZE // 2, RECORDS // 2)), measure(program, prefixes(PREFIXES // 2))
+    halves = measure(program, footprints(SIZE // 2, RECORDS // 2)), measure(
+        program, prefixes(PREFIXES // 2)
+    )
     wholes = measure(program, footprints(SIZE, RECORDS)), measure(program, prefixes(PREFIXES))
     return [("16 MB", wholes[0], halves[0]), (f"{PREFIXES:,} prefixes", wholes[1], halves[1])]
 
@@ -89,7 +102,9 @@ def main() -> None:
     empty = '{"format":1,"fixed":[],"sources":[],"records":[]}'
     program = built("footprint", "mk_foot serde_json anyhow", empty, ["setting"])
     print(f"elapsed time in milliseconds, median of {RUNS} runs")
-    print(f"{'footprints':<18}{'setting':>9}{'serde_json':>12}{'ratio':>8}{'python':>9}{'ratio':>8}{'growth':>8}")
+    print(
+        f"{'footprints':<18}{'setting':>9}{'serde_json':>12}{'ratio':>8}{'python':>9}{'ratio':>8}{'growth':>8}"
+    )
     for label, times, half in cases(program):
         print(
             f"{label:<18}{times.setting:>9.1f}{times.value:>12.1f}{times.setting / times.value:>8.2f}"

@@ -12,7 +12,8 @@ PREREQUISITES_A_LINE = 20
 
 @dataclass(frozen=True)
 class Generated:
-    """A makefile, how many nodes and recipes its graph has, and the other files that it names, by their names."""
+    """A makefile, how many nodes and recipes its graph has, and the other files that it names, by
+    their names."""
 
     text: str
     nodes: int
@@ -103,14 +104,20 @@ def includes(count: int) -> Generated:
     leaves = [recipe(name, []) for name in [*headers, *(f"x{number}.c" for number in numbers)]]
     top = gather([f"x{number}.o" for number in numbers])
     text = "".join([top, *(f"include {name}\n" for name in files), *leaves])
-    return Generated(text, nodes=2 * count + len(headers) + 1, recipes=2 * count + len(headers), files=files)
+    return Generated(
+        text, nodes=2 * count + len(headers) + 1, recipes=2 * count + len(headers), files=files
+    )
 
 
 def chain(number: int) -> str:
-    """Twenty macros: each of the first 19 stands in the value of the next one, and the last has a part of a name."""
+    """Twenty macros: each of the first 19 stands in the value of the next one, and the last has a
+    part of a name."""
     part = f"part{(number - 1) % 10}"
     first = f"NAMES_{number}_1 = {part}/f1.c\n"
-    links = [f"NAMES_{number}_{link} = $(NAMES_{number}_{link - 1}) {part}/f{link}.c\n" for link in range(2, 20)]
+    links = [
+        f"NAMES_{number}_{link} = $(NAMES_{number}_{link - 1}) {part}/f{link}.c\n"
+        for link in range(2, 20)
+    ]
     return "".join([first, *links, f"LAST_{number} = {number}_19\n"])
 
 
@@ -118,7 +125,11 @@ def macros(count: int) -> Generated:
     """Targets with 20 macros each, which give its 19 prerequisites."""
     numbers = range(1, count + 1)
     rules = [recipe(f"t{number}", [f"$(NAMES_$(LAST_{number}):.c=.o)"]) for number in numbers]
-    leaves = [recipe(f"part{part}/f{link}.o", []) for part in range(min(10, count)) for link in range(1, 20)]
+    leaves = [
+        recipe(f"part{part}/f{link}.o", [])
+        for part in range(min(10, count))
+        for link in range(1, 20)
+    ]
     top = gather([f"t{number}" for number in numbers])
     text = "".join([top, *(chain(number) for number in numbers), *rules, *leaves])
     return Generated(text, nodes=count + len(leaves) + 1, recipes=count + len(leaves))
@@ -129,11 +140,15 @@ BOOK = "infer/footprints.json"
 
 
 def infer(count: int) -> Generated:
-    """A program of `count` objects, each made by an inference rule, with ten headers; and footprints of its sources."""
+    """A program of `count` objects, each made by an inference rule, with ten headers; and
+    footprints of its sources."""
     numbers = range(1, count + 1)
     objects = [f"infer/x{number}.o" for number in numbers]
     headers = [f"infer/h{number}.h" for number in range(min(80, 7 * count + 3))]
-    needed = [[headers[(7 * number + column) % len(headers)] for column in range(10)] for number in numbers]
+    needed = [
+        [headers[(7 * number + column) % len(headers)] for column in range(10)]
+        for number in numbers
+    ]
     rules = [f"{name}: {' '.join(chosen)}\n" for name, chosen in zip(objects, needed)]
     inference = ".SUFFIXES:\n.SUFFIXES: .o .c\n.c.o:\n\ttouch $@\n"
     text = "".join([inference, recipe("infer/program", objects), *rules])
@@ -148,18 +163,23 @@ SUFFIXES_BOOK = "suffixes/footprints.json"
 
 
 def suffixes(count: int) -> Generated:
-    """A program of `count` objects that are there, made by twice as many rules: half onto `.o`, half onto `.a`."""
+    """A program of `count` objects that are there, made by twice as many rules: half onto `.o`,
+    half onto `.a`."""
     numbers = range(1, 2 * count + 1)
     names = [f".s{number}" for number in numbers]
     objects = [f"suffixes/x{number}.o" for number in range(1, count + 1)]
     starts = range(0, len(names), PREREQUISITES_A_LINE)
-    lists = [f".SUFFIXES: {' '.join(names[start : start + PREREQUISITES_A_LINE])}\n" for start in starts]
+    lists = [
+        f".SUFFIXES: {' '.join(names[start : start + PREREQUISITES_A_LINE])}\n" for start in starts
+    ]
     inference = [".SUFFIXES:\n", *lists, ".SUFFIXES: .c .o .a\n.c.o:\n\ttouch $@\n"]
     endings = [".o" if number % 2 else ".a" for number in numbers]
     others = [f"{name}{ending}:\n\ttouch $@\n" for name, ending in zip(names, endings)]
     text = "".join([*inference, recipe("all", []), gather(objects), *others])
     book = json.dumps({"format": 1, "fixed": [], "sources": objects, "records": []})
-    return Generated(text, nodes=count + 1, recipes=1, files={**dict.fromkeys(objects, ""), SUFFIXES_BOOK: book})
+    return Generated(
+        text, nodes=count + 1, recipes=1, files={**dict.fromkeys(objects, ""), SUFFIXES_BOOK: book}
+    )
 
 
 # Each shape, and the sizes that it takes.

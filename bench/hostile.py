@@ -1,4 +1,5 @@
-"""Measures mkcheck on texts that were made to be slow, each beside one of half its size, and prints a table."""
+"""Measures mkcheck on texts that were made to be slow, each beside one of half its size, and prints
+a table."""
 
 import json
 import os
@@ -31,7 +32,9 @@ class Case:
     def words(self) -> list[str]:
         """The words of the command line; the last text is a certificate or a plan."""
         book = [] if self.command == "graph" else ["-b", "hostile.json"]
-        more = {"verify": ["-k", "hostile.more"], "simulate": ["-p", "hostile.more"]}.get(self.command, [])
+        more = {"verify": ["-k", "hostile.more"], "simulate": ["-p", "hostile.more"]}.get(
+            self.command, []
+        )
         return [self.command, "-f", "hostile.mk", *book, *more]
 
 
@@ -64,7 +67,9 @@ def one_key(count: int) -> Case:
 
 def many_records(count: int) -> Case:
     """Records of what no goal reaches."""
-    records = ",".join(f'{{"target":"t{number}","commands":[],"reads":[],"writes":[]}}' for number in range(count))
+    records = ",".join(
+        f'{{"target":"t{number}","commands":[],"reads":[],"writes":[]}}' for number in range(count)
+    )
     return Case("check", COPY, 0, book=BOOK[:-2] + f",{records}]}}")
 
 
@@ -81,15 +86,22 @@ def references(count: int) -> Case:
 
 def suffixes(count: int) -> Case:
     """A long list of suffixes."""
-    return Case("graph", lined(".SUFFIXES:", [f".s{number}" for number in range(count)]) + "all.s1: b.s2\n", 0)
+    return Case(
+        "graph",
+        lined(".SUFFIXES:", [f".s{number}" for number in range(count)]) + "all.s1: b.s2\n",
+        0,
+    )
 
 
 def rules_for(names: int, listed: int) -> Case:
-    """As many suffixes, each with a rule for objects, as prerequisites, which have names of 250 bytes, so many of them different."""
+    """As many suffixes, each with a rule for objects, as prerequisites, which have names of 250
+    bytes, so many of them different."""
     rules = "".join(f".s{number}.o:\n\ttouch $@\n" for number in range(listed))
     words = [f"{'n' * 245}{number % names:04}.o" for number in range(listed)]
     known = lined(".SUFFIXES:", [f".s{number}" for number in range(listed)]) + ".SUFFIXES: .o\n"
-    return Case("graph", f".SUFFIXES:\n{known}{lined('all:', words)}{rules}", 2 if names > 4095 else 0)
+    return Case(
+        "graph", f".SUFFIXES:\n{known}{lined('all:', words)}{rules}", 2 if names > 4095 else 0
+    )
 
 
 def rules_and_names(count: int) -> Case:
@@ -104,7 +116,9 @@ def rules_and_repeats(count: int) -> Case:
 
 def phony_words(count: int) -> Case:
     """A long list of phony names."""
-    return Case("graph", lined(".PHONY:", [f"p{number}" for number in range(count)]) + "all: p1\n", 0)
+    return Case(
+        "graph", lined(".PHONY:", [f"p{number}" for number in range(count)]) + "all: p1\n", 0
+    )
 
 
 def many_targets(count: int) -> Case:
@@ -115,41 +129,73 @@ def many_targets(count: int) -> Case:
 def many_entries(count: int) -> Case:
     """A certificate with the same entry again and again."""
     entry = '{"end":"source","file":"a","path":["b"],"recipe":"b"}'
-    return Case("verify", COPY, 2, more=f'{{"format":1,"goals":["b"],"ways":[{",".join([entry] * count)}]}}')
+    return Case(
+        "verify", COPY, 2, more=f'{{"format":1,"goals":["b"],"ways":[{",".join([entry] * count)}]}}'
+    )
 
 
 def distinct_entries(count: int) -> Case:
-    """A certificate with a way for each pair of a recipe and one of 1,000 sources that it needs and reads."""
+    """A certificate with a way for each pair of a recipe and one of 1,000 sources that it needs and
+    reads."""
     sources = [f"s{number:03}" for number in range(1000)]
     recipes = [f"r{number:03}" for number in range(count // 1000)]
     rules = "".join(f"{name}: $(ALL)\n\t{name}\n" for name in recipes)
-    records = [{"target": name, "commands": [name], "reads": sources, "writes": [name]} for name in recipes]
+    records = [
+        {"target": name, "commands": [name], "reads": sources, "writes": [name]} for name in recipes
+    ]
     ways = [
-        f'{{"end":"source","file":"{source}","path":["{name}"],"recipe":"{name}"}}' for name in recipes for source in sources
+        f'{{"end":"source","file":"{source}","path":["{name}"],"recipe":"{name}"}}'
+        for name in recipes
+        for source in sources
     ]
     makefile = f"ALL = {' '.join(sources)}\n" + lined("all:", recipes) + rules
     book = json.dumps({"format": 1, "fixed": [], "sources": sources, "records": records})
-    return Case("verify", makefile, 0, book=book, more=f'{{"format":1,"goals":["all"],"ways":[{",".join(ways)}]}}')
+    return Case(
+        "verify",
+        makefile,
+        0,
+        book=book,
+        more=f'{{"format":1,"goals":["all"],"ways":[{",".join(ways)}]}}',
+    )
 
 
 def repeated_prerequisites(count: int) -> Case:
-    """One prerequisite again and again, and behind it one that leads to all that make what the target reads."""
+    """One prerequisite again and again, and behind it one that leads to all that make what the
+    target reads."""
     made = [f"w{number}" for number in range(count // 500)]
     rules = "".join(f"{name}:\n\ttouch {name}\n" for name in made)
-    makefile = lined("t:", ["x"] * count) + "t: m\n\tt\nx:\n" + lined("m:", made) + "m:\n\tm\n" + rules
+    makefile = (
+        lined("t:", ["x"] * count) + "t: m\n\tt\nx:\n" + lined("m:", made) + "m:\n\tm\n" + rules
+    )
     reads = {"t": made, "m": made, **{name: [] for name in made}}
     records = [
-        {"target": name, "commands": [name if name in ("t", "m") else f"touch {name}"], "reads": files, "writes": [name]}
+        {
+            "target": name,
+            "commands": [name if name in ("t", "m") else f"touch {name}"],
+            "reads": files,
+            "writes": [name],
+        }
         for name, files in reads.items()
     ]
-    return Case("check", makefile, 0, book=json.dumps({"format": 1, "fixed": [], "sources": [], "records": records}))
+    return Case(
+        "check",
+        makefile,
+        0,
+        book=json.dumps({"format": 1, "fixed": [], "sources": [], "records": records}),
+    )
 
 
 def makes_and_stops(count: int) -> Case:
     """A plan of makes that are stopped at once, over 4,000 targets."""
     names = [f"f{number}" for number in range(4000)]
     makefile = lined("all:", names) + "".join(f"{name}:\n\ttouch {name}\n" for name in names)
-    return Case("simulate", makefile, 0, book='{"format":1,"fixed":[],"sources":[],"records":[]}', more="make 1\nstop\n" * count)
+    return Case(
+        "simulate",
+        makefile,
+        0,
+        book='{"format":1,"fixed":[],"sources":[],"records":[]}',
+        more="make 1\nstop\n" * count,
+    )
 
 
 def appended(count: int) -> Case:
@@ -179,7 +225,8 @@ SHAPES: list[tuple[Callable[[int], Case], int]] = [
 
 @dataclass(frozen=True)
 class Figures:
-    """How much is read, in megabytes; milliseconds, or millions of instructions; the peak memory in megabytes, where it is measured."""
+    """How much is read, in megabytes; milliseconds, or millions of instructions; the peak memory in
+    megabytes, where it is measured."""
 
     size: float
     taken: float
@@ -200,25 +247,41 @@ def timed(command: list[str], status: int) -> tuple[float, str]:
     return taken.time, f"{taken.memory:.0f}"
 
 
-def measured(program: Path, case: Case, measure: Callable[[list[str], int], tuple[float, str]]) -> Figures:
+def measured(
+    program: Path, case: Case, measure: Callable[[list[str], int], tuple[float, str]]
+) -> Figures:
     """What a run over the texts takes."""
     size = written(case)
     taken, memory = measure([str(program), *case.words()], case.status)
     return Figures(size, taken, memory)
 
 
-def show(program: Path, shape: Callable[[int], Case], count: int, measure: Callable[[list[str], int], tuple[float, str]]) -> None:
+def show(
+    program: Path,
+    shape: Callable[[int], Case],
+    count: int,
+    measure: Callable[[list[str], int], tuple[float, str]],
+) -> None:
     """Measures a shape at half of its size and at the whole, and prints a row."""
     half = measured(program, shape(count // 2), measure)
     whole = measured(program, shape(count), measure)
     label = f"{shape.__name__.replace('_', ' ')} {count}"
-    print(f"{label:<24}{whole.size:>6.1f}{whole.taken:>10.1f}{whole.taken / half.taken:>8.2f}{whole.memory:>11}", flush=True)
+    print(
+        f"{label:<24}{whole.size:>6.1f}{whole.taken:>10.1f}{whole.taken / half.taken:>8.2f}{whole.memory:>11}",
+        flush=True,
+    )
 
 
 def main() -> None:
     parser = options(__doc__)
-    parser.add_argument("--instructions", action="store_true", help="count instructions in place of milliseconds")
-    parser.add_argument("--shape", action="append", help="measure this shape alone, named as in the table, without its size")
+    parser.add_argument(
+        "--instructions", action="store_true", help="count instructions in place of milliseconds"
+    )
+    parser.add_argument(
+        "--shape",
+        action="append",
+        help="measure this shape alone, named as in the table, without its size",
+    )
     given = parser.parse_args()
     program = executable(given.program)
     DATA.mkdir(exist_ok=True)
@@ -226,10 +289,18 @@ def main() -> None:
     measure, unit = timed, "ms"
     if given.instructions:
         count_of = counter()
-        measure, unit = (lambda command, status: (count_of(command, status) / 10**6, "")), "million"
-    said = "instructions of the program, one run" if given.instructions else f"processor time, least of {RUNS} runs"
+        measure, unit = (
+            lambda command, status: (count_of(command, status) / 10**6, "")
+        ), "million"
+    said = (
+        "instructions of the program, one run"
+        if given.instructions
+        else f"processor time, least of {RUNS} runs"
+    )
     print(f"{said}; {program}")
-    print(f"{'texts':<24}{'MB':>6}{unit:>10}{'growth':>8}{'' if given.instructions else 'memory MB':>11}".rstrip())
+    print(
+        f"{'texts':<24}{'MB':>6}{unit:>10}{'growth':>8}{'' if given.instructions else 'memory MB':>11}".rstrip()
+    )
     for shape, count in SHAPES:
         if not given.shape or shape.__name__.replace("_", " ") in given.shape:
             show(program, shape, count, measure)

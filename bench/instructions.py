@@ -1,4 +1,5 @@
-"""Counts the instructions that a program takes, which says more than times on a machine that does other work."""
+"""Counts the instructions that a program takes, which says more than times on a machine that does
+other work."""
 
 import os
 import re
@@ -19,13 +20,28 @@ def by_perf(command: list[str]) -> list[str]:
 
 def by_valgrind(command: list[str]) -> list[str]:
     """The command under valgrind, which counts the same, some twenty times slower."""
-    return ["valgrind", "--tool=cachegrind", "--cache-sim=no", "--cachegrind-out-file=/dev/null", f"--log-file={TOLD}", *command]
+    return [
+        "valgrind",
+        "--tool=cachegrind",
+        "--cache-sim=no",
+        "--cachegrind-out-file=/dev/null",
+        f"--log-file={TOLD}",
+        *command,
+    ]
 
 
-def counted(around: Callable[[list[str]], list[str]], command: list[str], status: int) -> int | None:
-    """How many instructions of its own the command takes, where it ends with the status and they are told."""
+def counted(
+    around: Callable[[list[str]], list[str]], command: list[str], status: int
+) -> int | None:
+    """How many instructions of its own the command takes, where it ends with the status and they
+    are told."""
     done = subprocess.run(
-        around(command), env=ENVIRONMENT, stdin=subprocess.DEVNULL, stdout=subprocess.DEVNULL, stderr=subprocess.PIPE, check=False
+        around(command),
+        env=ENVIRONMENT,
+        stdin=subprocess.DEVNULL,
+        stdout=subprocess.DEVNULL,
+        stderr=subprocess.PIPE,
+        check=False,
     )
     if done.returncode != status:
         sys.exit(f"bench: {' '.join(command)}: status {done.returncode}")

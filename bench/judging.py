@@ -1,7 +1,8 @@
-"""Measures `static_findings` and `verify` alone, over a subject that is made from bytes once, and the making of that
-subject, and prints a table.
+"""Measures `static_findings` and `verify` alone, over a subject that is made from bytes once, and
+the making of that subject, and prints a table.
 
-The times are those of the program's own clock. The instructions are what ten calls more take, divided by ten.
+The times are those of the program's own clock. The instructions are what ten calls more take,
+divided by ten.
 """
 
 import os
@@ -17,7 +18,7 @@ from run import DATA, RUNS, asked
 from spending import in_turns, spent
 from verdicts import GROWTH_BOUND, Build, written
 
-LIBRARIES = "mk_cert mk_choice mk_foot mk_graph mk_infer mk_lines mk_parse mk_read mk_select mk_ways anyhow"
+LIBRARIES = "mk_cert mk_cert_text mk_foot mk_graph mk_infer mk_infer_select mk_lines mk_read mk_read_parse anyhow"
 # What the run that builds the program is given: a makefile of one target, and its footprints.
 EMPTY = "all:\n"
 NO_BOOK = '{"format":1,"fixed":[],"sources":[],"records":[]}'
@@ -37,7 +38,8 @@ class Call:
         return [str(self.program), often, *self.files]
 
     def times(self, often: str = "often") -> tuple[float, float]:
-        """The least milliseconds of its calls, and those of the making of the subject; nothing is found of these builds."""
+        """The least milliseconds of its calls, and those of the making of the subject; nothing is
+        found of these builds."""
         done = subprocess.run(self.words(often), capture_output=True, text=True, check=True)
         taken, found, made = done.stdout.split()
         if found != "0":
@@ -74,18 +76,31 @@ def main() -> None:
     program = built("judging", LIBRARIES, EMPTY, ["once"], [str(DATA / "judging.book")])
     os.chdir(DATA)
     count = counter()
-    print(f"elapsed time in milliseconds, least of {RUNS} runs with {MORE_CALLS + 1} calls each, and with one, and millions of instructions of one call")
-    print(f"{'build':<18}{'call':<17}{'ms':>8}{'growth':>8}{'once ms':>10}{'growth':>8}{'million':>10}{'growth':>8}")
+    print(
+        f"elapsed time in milliseconds, least of {RUNS} runs with {MORE_CALLS + 1} calls each, and with one, and millions of instructions of one call"
+    )
+    print(
+        f"{'build':<18}{'call':<17}{'ms':>8}{'growth':>8}{'once ms':>10}{'growth':>8}{'million':>10}{'growth':>8}"
+    )
     for shape, smaller, whole in VERIFIED:
-        sizes = [calls(program, mkcheck, shape(size), label) for size, label in ((smaller, "half"), (whole, "whole"))]
+        sizes = [
+            calls(program, mkcheck, shape(size), label)
+            for size, label in ((smaller, "half"), (whole, "whole"))
+        ]
         for name, half, full in zip(("static_findings", "verify"), *sizes):
             small, great = map(min, in_turns([half.time, full.time], RUNS))
             first, last = map(min, in_turns([half.time_once, full.time_once], RUNS))
-            few, many = ((count(one.words("often"), 0) - count(one.words("once"), 0)) / MORE_CALLS / 10**6 for one in (half, full))
+            few, many = (
+                (count(one.words("often"), 0) - count(one.words("once"), 0)) / MORE_CALLS / 10**6
+                for one in (half, full)
+            )
             times = f"{great:>8.2f}{great / small:>8.2f}{last:>10.2f}{last / first:>8.2f}{many:>10.1f}{many / few:>8.2f}"
             print(f"{f'{shape.__name__} {whole}':<18}{name:<17}{times}", flush=True)
         small, great = map(min, in_turns([size[0].time_made for size in sizes], RUNS))
-        print(f"{f'{shape.__name__} {whole}':<18}{'the subject':<33}{great:>10.2f}{great / small:>8.2f}", flush=True)
+        print(
+            f"{f'{shape.__name__} {whole}':<18}{'the subject':<33}{great:>10.2f}{great / small:>8.2f}",
+            flush=True,
+        )
     print(f"{'at most':<35}{GROWTH_BOUND:>16.2f}{GROWTH_BOUND:>18.2f}{GROWTH_BOUND:>18.2f}")
 
 

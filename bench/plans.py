@@ -1,8 +1,9 @@
-"""Measures `mkcheck simulate` on long plans beside `mkcheck graph` on the same files, and prints two tables.
+"""Measures `mkcheck simulate` on long plans beside `mkcheck graph` on the same files, and prints
+two tables.
 
-The first is of plans of one make. The ratio is the time of the plan divided by that of `mkcheck graph -b`, the growth
-that time divided by its own on half the nodes. The second is of plans of many makes with edits between; their growth
-is the time divided by its own on half the lines.
+The first is of plans of one make. The ratio is the time of the plan divided by that of `mkcheck
+graph -b`, the growth that time divided by its own on half the nodes. The second is of plans of many
+makes with edits between; their growth is the time divided by its own on half the lines.
 """
 
 import os
@@ -46,14 +47,17 @@ def chain(count: int) -> Build:
 
 
 def layers(count: int) -> Build:
-    """Layers of 60 targets, each of which reads three of the layer below; the lowest reads a source each."""
+    """Layers of 60 targets, each of which reads three of the layer below; the lowest reads a source
+    each."""
     width = 60
 
     def name(layer: int, column: int) -> str:
         return f"l{layer}n{column % width}" if layer else f"s{column % width}"
 
     targets = {
-        name(layer, column): [name(layer - 1, column + offset) for offset in (range(3) if layer > 1 else range(1))]
+        name(layer, column): [
+            name(layer - 1, column + offset) for offset in (range(3) if layer > 1 else range(1))
+        ]
         for layer in range(1, count // width)
         for column in range(width)
     }
@@ -67,7 +71,9 @@ def waits(count: int) -> Build:
     names = [target for target, _, _ in build.records]
     groups = [" ".join(names[start : start + JOBS]) for start in range(0, len(names), JOBS)]
     rules = [recipe(target, reads) for target, _, reads in build.records]
-    return Build("".join([f"all: {' .WAIT '.join(groups)}\n", *rules]), build.sources, build.records)
+    return Build(
+        "".join([f"all: {' .WAIT '.join(groups)}\n", *rules]), build.sources, build.records
+    )
 
 
 def order(build: Build) -> list[tuple[str, list[str]]]:
@@ -90,7 +96,8 @@ def order(build: Build) -> list[tuple[str, list[str]]]:
 
 @dataclass
 class Contents:
-    """What files hold: what a recipe puts into its file depends on what it saw, and each edit is a new content."""
+    """What files hold: what a recipe puts into its file depends on what it saw, and each edit is a
+    new content."""
 
     held: dict[str, int] = field(default_factory=dict)
     known: dict[tuple[str, ...], int] = field(default_factory=dict)
@@ -176,7 +183,13 @@ def cut(makes: Iterator[list[str]], lines: int) -> list[str]:
 
 
 # Each shape, with how many nodes it has.
-SHAPES: list[tuple[Callable[[int], Build], int]] = [(flat, 4000), (own, 4000), (chain, 4000), (layers, 4000), (waits, 4000)]
+SHAPES: list[tuple[Callable[[int], Build], int]] = [
+    (flat, 4000),
+    (own, 4000),
+    (chain, 4000),
+    (layers, 4000),
+    (waits, 4000),
+]
 
 
 @dataclass(frozen=True)
@@ -240,28 +253,42 @@ def many_row(program: Measured, shape: Callable[[int], Build], count: int) -> st
     files = Files(*written(whole, "whole"))
     cells = [f"{f'{shape.__name__} {count}':<14}"]
     for makes in (passing, running_all, overlapping_all):
-        fewer, many = (program.simulated(files, cut(makes(whole), lines)) for lines in (LINES // 2, LINES))
+        fewer, many = (
+            program.simulated(files, cut(makes(whole), lines)) for lines in (LINES // 2, LINES)
+        )
         cells.append(f"{many:>12.1f}{many / fewer:>8.1f}")
     return "".join(cells)
 
 
 def main() -> None:
     parser = options(__doc__)
-    parser.add_argument("--instructions", action="store_true", help="count millions of instructions in place of milliseconds")
+    parser.add_argument(
+        "--instructions",
+        action="store_true",
+        help="count millions of instructions in place of milliseconds",
+    )
     given = parser.parse_args()
     cost, unit, said = time, "ms", f"processor time, least of {RUNS} runs"
     if given.instructions:
         count_of = counter()
-        cost, unit, said = (lambda command: count_of(command, 0) / 10**6), "M", "instructions of the program, one run"
+        cost, unit, said = (
+            (lambda command: count_of(command, 0) / 10**6),
+            "M",
+            "instructions of the program, one run",
+        )
     program = Measured(str(executable(given.program)), cost)
     DATA.mkdir(exist_ok=True)
     os.chdir(DATA)
     print(f"{said}; {program.path}")
-    print(f"{'one make':<14}{f'graph {unit}':>10}{f'run {unit}':>10}{'ratio':>7}{'growth':>8}{f'overlap {unit}':>12}{'growth':>8}")
+    print(
+        f"{'one make':<14}{f'graph {unit}':>10}{f'run {unit}':>10}{'ratio':>7}{'growth':>8}{f'overlap {unit}':>12}{'growth':>8}"
+    )
     for shape, count in SHAPES:
         print(one_row(program, shape, count), flush=True)
     print(f"{'at most':<34}{RATIO_BOUND:>7.1f}{GROWTH_BOUND:>8.1f}{GROWTH_BOUND:>20.1f}")
-    print(f"{f'{LINES} lines':<14}{f'pass {unit}':>12}{'growth':>8}{f'run {unit}':>12}{'growth':>8}{f'overlap {unit}':>12}{'growth':>8}")
+    print(
+        f"{f'{LINES} lines':<14}{f'pass {unit}':>12}{'growth':>8}{f'run {unit}':>12}{'growth':>8}{f'overlap {unit}':>12}{'growth':>8}"
+    )
     for shape, count in SHAPES:
         print(many_row(program, shape, count), flush=True)
     print(f"{'at most':<14}" + 3 * f"{GROWTH_BOUND:>20.1f}")

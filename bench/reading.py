@@ -1,4 +1,5 @@
-"""Measures the two lowest crates alone, beside `wc -l` and `make -n`, on the same texts, and prints a table."""
+"""Measures the two lowest crates alone, beside `wc -l` and `make -n`, on the same texts, and prints
+a table."""
 
 import os
 import sys
@@ -53,7 +54,12 @@ def cases() -> list[tuple[Case, Case]]:
         ("60,000 references", "expand", REFERENCES, references, assigned, make),
     ):
         whole, half = write(size), write(size // 2)
-        found.append((Case(label, task, whole, peer, wrap(whole)), Case(f"half: {label}", task, half, peer, wrap(half))))
+        found.append(
+            (
+                Case(label, task, whole, peer, wrap(whole)),
+                Case(f"half: {label}", task, half, peer, wrap(half)),
+            )
+        )
     return found
 
 
@@ -79,12 +85,16 @@ def main() -> None:
     program = built("reading", "mk_lines mk_macros anyhow", "", ["lines"])
     os.chdir(DATA)
     print(f"processor time, least of {RUNS} runs")
-    print(f"{'text':<20}{'own ms':>9}{'peer':>8}{'peer ms':>9}{'ratio':>8}{'growth':>8}{'memory MB':>11}")
+    print(
+        f"{'text':<20}{'own ms':>9}{'peer':>8}{'peer ms':>9}{'ratio':>8}{'growth':>8}{'memory MB':>11}"
+    )
     for whole, half in cases():
         own, peer = measure(whole, program)
         own_half, _ = measure(half, program)
         growth = own.time / own_half.time
-        print(f"{whole.label:<20}{own.time:>9.1f}{whole.peer[0]:>8}{peer.time:>9.1f}{own.time / peer.time:>8.2f}{growth:>8.1f}{own.memory:>11.0f}")
+        print(
+            f"{whole.label:<20}{own.time:>9.1f}{whole.peer[0]:>8}{peer.time:>9.1f}{own.time / peer.time:>8.2f}{growth:>8.1f}{own.memory:>11.0f}"
+        )
     print(f"{'growth at most':<46}{GROWTH_BOUND:>16.1f}")
 
 

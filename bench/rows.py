@@ -1,4 +1,5 @@
-"""Measures the bit rows of mk_graph beside `mkcheck graph` on the same makefiles, and prints a table."""
+"""Measures the bit rows of mk_graph beside `mkcheck graph` on the same makefiles, and prints a
+table."""
 
 import os
 import subprocess
@@ -18,7 +19,8 @@ MEMORY_BOUND = 16
 
 
 def waits(groups: int, width: int) -> Generated:
-    """A target with `groups` groups of `width` prerequisites, parted by `.WAIT`, each with a command."""
+    """A target with `groups` groups of `width` prerequisites, parted by `.WAIT`, each with a
+    command."""
     names = [[f"g{group}n{column}" for column in range(width)] for group in range(groups)]
     line = " .WAIT ".join(" ".join(group) for group in names)
     text = f"all: {line}\n" + "".join(recipe(name, []) for group in names for name in group)
@@ -26,7 +28,8 @@ def waits(groups: int, width: int) -> Generated:
 
 
 def behind(count: int) -> Generated:
-    """A header that is made before a `.WAIT`, and `count` objects behind it that share it, each with a source."""
+    """A header that is made before a `.WAIT`, and `count` objects behind it that share it, each
+    with a source."""
     objects = [f"x{number}.o" for number in range(1, count + 1)]
     rules = [recipe("h.h", []), *(recipe(name, ["h.h", f"{name[:-2]}.c"]) for name in objects)]
     text = f"program: h.h .WAIT {' '.join(objects)}\n\ttouch program\n" + "".join(rules)
@@ -44,7 +47,8 @@ SHAPES: list[tuple[str, Callable[..., Generated], tuple[int, ...]]] = [
 
 @dataclass(frozen=True)
 class Figures:
-    """Least times in milliseconds of the rows and of `mkcheck graph`, memory that the rows take more, in MB, and rounds."""
+    """Least times in milliseconds of the rows and of `mkcheck graph`, memory that the rows take
+    more, in MB, and rounds."""
 
     rows: float
     graph: float
@@ -53,7 +57,8 @@ class Figures:
 
 
 def rows_of(program: Path, file: Path, nodes: int) -> tuple[float, int]:
-    """How long the rows take by the program's clock, in milliseconds, and in how many rounds they settle."""
+    """How long the rows take by the program's clock, in milliseconds, and in how many rounds they
+    settle."""
     done = subprocess.run([program, "rows", file], capture_output=True, text=True, check=True)
     count, taken, rounds = (int(figure) for figure in done.stdout.split())
     if count != nodes:
@@ -62,7 +67,8 @@ def rows_of(program: Path, file: Path, nodes: int) -> tuple[float, int]:
 
 
 def measure(program: Path, own: Tool, makefile: Generated) -> Figures:
-    """The rows and `mkcheck graph` take turns. The memory is that of whole processes, with the rows and without."""
+    """The rows and `mkcheck graph` take turns. The memory is that of whole processes, with the rows
+    and without."""
     file, nothing = DATA / "rows.mk", Path(os.devnull)
     file.write_text(makefile.text)
     taken, graphs, peaks, rounds = [], [], {"rows": 0.0, "graph": 0.0}, 0
@@ -78,9 +84,16 @@ def measure(program: Path, own: Tool, makefile: Generated) -> Figures:
 def main() -> None:
     own, *_ = asked(__doc__)
     DATA.mkdir(exist_ok=True)
-    program = built("rows", "mk_lines mk_graph mk_macros mk_read mk_parse mk_infer mk_choice mk_select anyhow", "all:\n", ["rows"])
+    program = built(
+        "rows",
+        "mk_lines mk_graph mk_macros mk_read mk_read_parse mk_infer mk_infer_select anyhow",
+        "all:\n",
+        ["rows"],
+    )
     print(f"bit rows beside mkcheck graph, in milliseconds, least of {RUNS} runs")
-    print(f"{'makefile':<18}{'nodes':>6}{'rows':>8}{'graph':>8}{'ratio':>8}{'memory MB':>11}{'rounds':>8}")
+    print(
+        f"{'makefile':<18}{'nodes':>6}{'rows':>8}{'graph':>8}{'ratio':>8}{'memory MB':>11}{'rounds':>8}"
+    )
     most = 0
     for label, shape, sizes in SHAPES:
         makefile = shape(*sizes)

@@ -1,4 +1,5 @@
-"""Measures `mkcheck graph` beside `make -n` and `bmake -n` on the same makefiles, and prints a table."""
+"""Measures `mkcheck graph` beside `make -n` and `bmake -n` on the same makefiles, and prints a
+table."""
 
 import argparse
 import os
@@ -38,7 +39,8 @@ class Case:
 
 @dataclass(frozen=True)
 class Tool:
-    """A program that reads a makefile and writes a line for each of its recipes, or each of its nodes."""
+    """A program that reads a makefile and writes a line for each of its recipes, or each of its
+    nodes."""
 
     name: str
     path: str
@@ -89,7 +91,9 @@ def try_out(tool: Tool, case: Case) -> None:
         lines = sum(1 for _ in stream)
     wanted = tool.lines(case.makefile)
     if lines != wanted:
-        sys.exit(f"bench: {tool.name} on {case.file}: {lines} lines and not {wanted}, output in {output}")
+        sys.exit(
+            f"bench: {tool.name} on {case.file}: {lines} lines and not {wanted}, output in {output}"
+        )
 
 
 def measure(case: Case, measured: list[Tool]) -> dict[str, Measure]:
@@ -133,7 +137,12 @@ def bounds(tool_count: int) -> str:
 def options(description: str) -> argparse.ArgumentParser:
     """What each of the benchmarks takes."""
     parser = argparse.ArgumentParser(description=description)
-    parser.add_argument("--program", type=Path, default=HERE.parent / "bin" / "mkcheck", help="the mkcheck to measure")
+    parser.add_argument(
+        "--program",
+        type=Path,
+        default=HERE.parent / "bin" / "mkcheck",
+        help="the mkcheck to measure",
+    )
     return parser
 
 
@@ -141,7 +150,7 @@ def executable(program: Path) -> Path:
     """The program with its whole path; the benchmark ends where it isn't there."""
     found = program.resolve()
     if not os.access(found, os.X_OK):
-        sys.exit(f"bench: {found} is not there: run `make all` first")
+        sys.exit(f"bench: {found} is not there: run `make proved` first")
     return found
 
 

@@ -10,8 +10,9 @@ from typing import TypeVar
 
 Told = TypeVar("Told")
 
-# What starts a command. The system counts the memory of a process from before its program starts, when it still shares
-# what its parent holds. So the parent is a process that holds little: it has its figures in the last line of its errors.
+# What starts a command. The system counts the memory of a process from before its program starts,
+# when it still shares what its parent holds. So the parent is a process that holds little: it has
+# its figures in the last line of its errors.
 STARTER = """
 import os, sys
 pid = os.posix_spawn(sys.argv[1], sys.argv[1:], os.environ)
@@ -31,12 +32,18 @@ class Measure:
 
 def spent(command: list[str], statuses: set[int], output: Path) -> Measure:
     """Runs a command, and ends the benchmark where it ends with another status."""
-    # Nothing is handed down from a make that calls this script: its flags would change what the peers do.
+    # Nothing is handed down from a make that calls this script: its flags would change what the
+    # peers do.
     environment = {"PATH": os.environ.get("PATH", os.defpath), "LC_ALL": "C"}
     with output.open("wb") as stream:
         done = subprocess.run(
             [sys.executable, "-I", "-S", "-c", STARTER, *command],
-            env=environment, stdin=subprocess.DEVNULL, stdout=stream, stderr=subprocess.PIPE, text=True, check=True,
+            env=environment,
+            stdin=subprocess.DEVNULL,
+            stdout=stream,
+            stderr=subprocess.PIPE,
+            text=True,
+            check=True,
         )
     code, taken, peak = done.stderr.split("\n")[-4:-1]
     if int(code) not in statuses:
@@ -45,11 +52,13 @@ def spent(command: list[str], statuses: set[int], output: Path) -> Measure:
 
 
 def in_turns(tasks: list[Callable[[], Told]], rounds: int) -> list[list[Told]]:
-    """What each of these tells in so many rounds. They take turns, so that where the machine grows slow it does for all."""
+    """What each of these tells in so many rounds. They take turns, so that where the machine grows
+    slow it does for all."""
     told = [[task() for task in tasks] for _ in range(rounds)]
     return [list(column) for column in zip(*told)]
 
 
 def least(measures: list[Measure]) -> Measure:
-    """What else the machine does takes from a run's time nothing and may add to it, so the least counts; of memory the most."""
+    """What else the machine does takes from a run's time nothing and may add to it, so the least
+    counts; of memory the most."""
     return Measure(min(one.time for one in measures), max(one.memory for one in measures))

@@ -20,7 +20,8 @@ SHAPES = {"long": 260, "includes": 990, "macros": 2800, "infer": 2000, "suffixes
 # The shapes that mkcheck alone is measured on, since others take minutes.
 ALONE = {"suffixes"}
 
-# From this many megabytes on, a text is held against the memory: a process has some 13 before it reads one.
+# From this many megabytes on, a text is held against the memory: a process has some 13 before it
+# reads one.
 LARGE = 2
 
 # What mkcheck is asked beside the makefile.
@@ -38,13 +39,24 @@ class Text:
 def written(shape: str, count: int) -> Text:
     """Writes a makefile, by a process of its own, which takes its memory with it."""
     label = f"{shape} {count}"
-    command = [sys.executable, HERE / "generate.py", "--into", Case(label, Generated("", 0, 0)).file, shape, str(count)]
+    command = [
+        sys.executable,
+        HERE / "generate.py",
+        "--into",
+        Case(label, Generated("", 0, 0)).file,
+        shape,
+        str(count),
+    ]
     done = subprocess.run(command, capture_output=True, text=True, check=True)
     nodes, recipes, size = map(int, done.stdout.split())
-    return Text(Case(label, Generated("", nodes, recipes), words=WORDS.get(shape, ())), size / 2**20)
+    return Text(
+        Case(label, Generated("", nodes, recipes), words=WORDS.get(shape, ())), size / 2**20
+    )
 
 
-def row(text: Text, measured: list[Tool], figures: dict[str, Measure], half: dict[str, Measure]) -> str:
+def row(
+    text: Text, measured: list[Tool], figures: dict[str, Measure], half: dict[str, Measure]
+) -> str:
     """The growth is against a makefile of half the size."""
     own = figures["mkcheck"]
     shown = [f"{figures[tool.name].time:.1f}" if tool.name in figures else "-" for tool in measured]
@@ -71,7 +83,9 @@ def main() -> None:
     print("".join([*columns, f"{'ratio':>8}{'growth':>8}{'memory MB':>11}{'by text':>9}"]))
     for shape, count in SHAPES.items():
         show(shape, count, measured)
-    print(f"{'at most':<{24 + 11 * len(measured)}}{RATIO_BOUND:>8.2f}{GROWTH_BOUND:>8.1f}{MEMORY_BOUND:>20.1f}")
+    print(
+        f"{'at most':<{24 + 11 * len(measured)}}{RATIO_BOUND:>8.2f}{GROWTH_BOUND:>8.1f}{MEMORY_BOUND:>20.1f}"
+    )
 
 
 if __name__ == "__main__":

@@ -1,10 +1,12 @@
-"""Measures `mkcheck check` beside reading the makefile and the footprints with other programs, and prints two tables.
+"""Measures `mkcheck check` beside reading the makefile and the footprints with other programs, and
+prints two tables.
 
-In the first the recipes have the commands of a compiler, which the makefile writes with macros; all bounds are about
-it. In the second they have the shortest commands, `touch` and the target, and no bound of memory.
+In the first the recipes have the commands of a compiler, which the makefile writes with macros; all
+bounds are about it. In the second they have the shortest commands, `touch` and the target, and no
+bound of memory.
 
-What it is held against is the processor time of the faster of `make -n -r` and `bmake -n -r` on the makefile, and
-that of Python's `json.load` on the footprints, added up.
+What it is held against is the processor time of the faster of `make -n -r` and `bmake -n -r` on the
+makefile, and that of Python's `json.load` on the footprints, added up.
 """
 
 import json
@@ -25,8 +27,8 @@ RATIO_BOUND = 1.00
 GROWTH_BOUND = 2.3
 MEMORY_BOUND = 10.0
 
-# How often each tool runs. Where a machine shares its processors, a longer run may be left alone less often than a
-# shorter one, so that growths of few runs look larger than they are.
+# How often each tool runs. Where a machine shares its processors, a longer run may be left alone
+# less often than a shorter one, so that growths of few runs look larger than they are.
 RUNS = 31
 
 # From this many megabytes on, the time is held against the answer.
@@ -35,7 +37,8 @@ LARGE = 2
 
 @dataclass(frozen=True)
 class Build:
-    """A makefile, its sources, which are written to the disk, and for each recipe its target, commands and reads.
+    """A makefile, its sources, which are written to the disk, and for each recipe its target,
+    commands and reads.
 
     Beside its target a recipe writes the files that `more` has for it.
     """
@@ -49,10 +52,17 @@ class Build:
     def book(self) -> str:
         """The footprints."""
         records = [
-            {"target": target, "commands": commands, "reads": reads, "writes": [target, *self.more.get(target, [])]}
+            {
+                "target": target,
+                "commands": commands,
+                "reads": reads,
+                "writes": [target, *self.more.get(target, [])],
+            }
             for target, commands, reads in self.records
         ]
-        return json.dumps({"format": 1, "fixed": self.fixed, "sources": self.sources, "records": records})
+        return json.dumps(
+            {"format": 1, "fixed": self.fixed, "sources": self.sources, "records": records}
+        )
 
 
 @dataclass(frozen=True)
@@ -70,7 +80,9 @@ class Style:
         """The rule of a target with a command."""
         return f"{' '.join([f'{target}:', *reads])}\n\t{self.written(target, reads)}\n"
 
-    def record(self, target: str, files: list[str], reads: list[str]) -> tuple[str, list[str], list[str]]:
+    def record(
+        self, target: str, files: list[str], reads: list[str]
+    ) -> tuple[str, list[str], list[str]]:
         """The record of a recipe that makes the target from these files, and reads those."""
         return target, [self.recorded(target, files)], reads
 
@@ -86,8 +98,11 @@ COMPILE = Style(
 )
 
 
-def ruled(top: list[str], targets: dict[str, list[str]], sources: list[str], style: Style = TOUCH) -> Build:
-    """A build of these targets, each from its prerequisites, which it reads; `all` gathers the top ones."""
+def ruled(
+    top: list[str], targets: dict[str, list[str]], sources: list[str], style: Style = TOUCH
+) -> Build:
+    """A build of these targets, each from its prerequisites, which it reads; `all` gathers the top
+    ones."""
     rules = [style.rule(target, reads) for target, reads in targets.items()]
     records = [style.record(target, reads, reads) for target, reads in targets.items()]
     return Build(style.head + gather(top) + "".join(rules), sources, records)
@@ -108,11 +123,14 @@ def deep(count: int, style: Style = TOUCH) -> Build:
 
 def layered(layers: int, style: Style = TOUCH) -> Build:
     """Layers of 60 targets; each reads three of the next layer."""
+
     def name(layer: int, column: int) -> str:
         return f"l{layer}n{column % 60}"
 
     targets = {
-        name(layer, column): [name(layer + 1, column + offset) for offset in (0, 1, 2)] if layer + 1 < layers else []
+        name(layer, column): [name(layer + 1, column + offset) for offset in (0, 1, 2)]
+        if layer + 1 < layers
+        else []
         for layer in range(layers)
         for column in range(60)
     }
@@ -123,8 +141,16 @@ def objects(count: int) -> tuple[list[str], list[str], list[list[str]], list[str
     """Objects with a source and ten headers each, and all headers."""
     numbers = range(count)
     headers = [f"verdicts/h{number}.h" for number in range(min(80, 7 * count + 3))]
-    needed = [[headers[(7 * number + column) % len(headers)] for column in range(10)] for number in numbers]
-    return [f"verdicts/x{n}.o" for n in numbers], [f"verdicts/x{n}.c" for n in numbers], needed, headers
+    needed = [
+        [headers[(7 * number + column) % len(headers)] for column in range(10)]
+        for number in numbers
+    ]
+    return (
+        [f"verdicts/x{n}.o" for n in numbers],
+        [f"verdicts/x{n}.c" for n in numbers],
+        needed,
+        headers,
+    )
 
 
 def inferred(count: int, style: Style = TOUCH, told: bool = True) -> Build:
@@ -132,8 +158,13 @@ def inferred(count: int, style: Style = TOUCH, told: bool = True) -> Build:
     names, files, needed, headers = objects(count)
     rules = [f"{name}: {' '.join(chosen)}\n" for name, chosen in zip(names, needed)] if told else []
     suffixes = f".SUFFIXES:\n.SUFFIXES: .o .c\n.c.o:\n\t{style.written('$@', ['$<'])}\n"
-    records = [style.record(name, [file], [file, *chosen]) for name, file, chosen in zip(names, files, needed)]
-    return Build("".join([style.head, suffixes, gather(names), *rules]), [*headers, *files], records)
+    records = [
+        style.record(name, [file], [file, *chosen])
+        for name, file, chosen in zip(names, files, needed)
+    ]
+    return Build(
+        "".join([style.head, suffixes, gather(names), *rules]), [*headers, *files], records
+    )
 
 
 def forgotten(count: int, style: Style = TOUCH) -> Build:
@@ -143,27 +174,43 @@ def forgotten(count: int, style: Style = TOUCH) -> Build:
 
 def waiting(count: int, style: Style = TOUCH) -> Build:
     """Objects that read a header which a recipe makes before them, by `.WAIT` alone."""
-    names, files = [f"verdicts/x{n}.o" for n in range(count)], [f"verdicts/x{n}.c" for n in range(count)]
+    names, files = [f"verdicts/x{n}.o" for n in range(count)], [
+        f"verdicts/x{n}.c" for n in range(count)
+    ]
     header = "verdicts/config.h"
-    rules = [style.rule(header, []), *(style.rule(name, [file]) for name, file in zip(names, files))]
+    rules = [
+        style.rule(header, []),
+        *(style.rule(name, [file]) for name, file in zip(names, files)),
+    ]
     text = "".join([style.head, f"all: {header} .WAIT\n", gather(names), *rules])
-    reads = [(header, [], []), *((name, [file], [file, header]) for name, file in zip(names, files))]
+    reads = [
+        (header, [], []),
+        *((name, [file], [file, header]) for name, file in zip(names, files)),
+    ]
     return Build(text, files, [style.record(*read) for read in reads])
 
 
 def large(count: int) -> Build:
     """Targets with commands of 8 KB, and a source each."""
-    names, files = [f"verdicts/y{n}" for n in range(count)], [f"verdicts/y{n}.c" for n in range(count)]
+    names, files = [f"verdicts/y{n}" for n in range(count)], [
+        f"verdicts/y{n}.c" for n in range(count)
+    ]
     option = " ".join(f"-Dname{number}=value{number}" for number in range(470))
     records = [(name, [f"cc {option} {name}"], [file]) for name, file in zip(names, files)]
-    rules = [f"{name}: {file}\n\t{commands[0]}\n" for (name, commands, _), file in zip(records, files)]
+    rules = [
+        f"{name}: {file}\n\t{commands[0]}\n" for (name, commands, _), file in zip(records, files)
+    ]
     return Build(gather(names) + "".join(rules), files, records)
 
 
 def chained(names: list[str]) -> Build:
     """A chain of these targets in which each reads the 40 below it."""
-    rules = [TOUCH.rule(name, below) for name, below in zip(names, [*([name] for name in names[1:]), []])]
-    records = [TOUCH.record(name, [], names[number + 1 : number + 41]) for number, name in enumerate(names)]
+    rules = [
+        TOUCH.rule(name, below) for name, below in zip(names, [*([name] for name in names[1:]), []])
+    ]
+    records = [
+        TOUCH.record(name, [], names[number + 1 : number + 41]) for number, name in enumerate(names)
+    ]
     return Build("".join(rules), [], records)
 
 
@@ -181,11 +228,15 @@ STYLED: list[tuple[Callable[[int, Style], Build], int, int, int]] = [
     (waiting, 950, 1900, 1),
     (forgotten, 1000, 2000, 1),
 ]
-OTHERS: list[tuple[Callable[[int], Build], int, int, int]] = [(large, 940, 1880, 0), (far, 750, 1500, 0)]
+OTHERS: list[tuple[Callable[[int], Build], int, int, int]] = [
+    (large, 940, 1880, 0),
+    (far, 750, 1500, 0),
+]
 
 
 def styled(shape: Callable[[int, Style], Build], style: Style) -> Callable[[int], Build]:
     """The shape with commands of this style."""
+
     @wraps(shape)
     def built(count: int) -> Build:
         return shape(count, style)
@@ -195,7 +246,8 @@ def styled(shape: Callable[[int, Style], Build], style: Style) -> Callable[[int]
 
 @dataclass(frozen=True)
 class Figures:
-    """What is read and written in megabytes, and of it the answer; mkcheck; the faster make; Python's json."""
+    """What is read and written in megabytes, and of it the answer; mkcheck; the faster make;
+    Python's json."""
 
     size: float
     answer: float
@@ -211,7 +263,9 @@ class Figures:
 def json_spent(book: Path) -> Measure:
     """The processor time that Python takes to read the footprints."""
     code = "import json,sys,time\nf=open(sys.argv[1]);s=time.process_time();json.load(f);print(time.process_time()-s)"
-    done = subprocess.run([sys.executable, "-c", code, book], capture_output=True, text=True, check=True)
+    done = subprocess.run(
+        [sys.executable, "-c", code, book], capture_output=True, text=True, check=True
+    )
     return Measure(1000 * float(done.stdout), 0)
 
 
@@ -229,12 +283,15 @@ def written(build: Build, label: str) -> tuple[Path, Path]:
 
 def reads(tool: Tool, makefile: Path) -> bool:
     """Whether the tool reads the makefile: GNU make does without `.WAIT` before its version 4.4."""
-    done = subprocess.run([tool.path, *tool.arguments, makefile.name], capture_output=True, check=False)
+    done = subprocess.run(
+        [tool.path, *tool.arguments, makefile.name], capture_output=True, check=False
+    )
     return done.returncode == 0
 
 
 def without_wait(makefile: Path) -> Path:
-    """A copy without `.WAIT`, for the makes that don't know it: to them it would be a file that nothing makes."""
+    """A copy without `.WAIT`, for the makes that don't know it: to them it would be a file that
+    nothing makes."""
     copy = makefile.with_name(f"plain-{makefile.name}")
     copy.write_text(makefile.read_text().replace(" .WAIT", ""))
     return copy
@@ -245,8 +302,11 @@ def silent(command: list[str], status: int) -> Callable[[], Measure]:
     return lambda: spent(command, {status}, Path(os.devnull))
 
 
-def measure(half: Build, whole: Build, status: int, measured: list[Tool]) -> tuple[Measure, Figures]:
-    """The half by mkcheck, and the whole by all tools, which take turns; the least time of each counts."""
+def measure(
+    half: Build, whole: Build, status: int, measured: list[Tool]
+) -> tuple[Measure, Figures]:
+    """The half by mkcheck, and the whole by all tools, which take turns; the least time of each
+    counts."""
     small, (makefile, book) = written(half, "half"), written(whole, "whole")
     check = [measured[0].path, "check", "-f"]
     output = DATA / "output"
@@ -255,12 +315,18 @@ def measure(half: Build, whole: Build, status: int, measured: list[Tool]) -> tup
     read = makefile if all(reads(tool, makefile) for tool in peers) else without_wait(makefile)
     answer = output.stat().st_size / 2**20
     size = (makefile.stat().st_size + book.stat().st_size) / 2**20 + answer
-    halves, own, loads, *others = map(least, in_turns([
-        silent([*check, small[0].name, "-b", small[1].name], status),
-        silent([*check, makefile.name, "-b", book.name], status),
-        lambda: json_spent(book),
-        *(silent([tool.path, *tool.arguments, read.name], 0) for tool in peers),
-    ], RUNS))
+    halves, own, loads, *others = map(
+        least,
+        in_turns(
+            [
+                silent([*check, small[0].name, "-b", small[1].name], status),
+                silent([*check, makefile.name, "-b", book.name], status),
+                lambda: json_spent(book),
+                *(silent([tool.path, *tool.arguments, read.name], 0) for tool in peers),
+            ],
+            RUNS,
+        ),
+    )
     fastest = min((taken.time for taken in others), default=0.0)
     return halves, Figures(size, answer, own, fastest, loads.time)
 

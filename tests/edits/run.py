@@ -1,7 +1,7 @@
 """Tries the wrong edits of edits/ on a copy of the repository: the prover has to refuse each.
 
-`run.py` tries those of all crates, `run.py mk_foot` those of mk_foot. It prints a line for each edit,
-and ends with 1 where one wasn't refused by the prover, or couldn't be tried.
+`run.py` tries those of all crates, `run.py mk_foot` those of mk_foot. It prints a line for each
+edit, and ends with 1 where one wasn't refused by the prover, or couldn't be tried.
 """
 
 import shutil
@@ -26,7 +26,8 @@ def copy_of_tree(to: Path) -> None:
 
 
 def carry_proofs(to: Path) -> None:
-    """Copies what earlier checks kept. rt tests by sums whether it fits the copy, and else proves anew."""
+    """Copies what earlier checks kept. rt tests by sums whether it fits the copy, and else proves
+    anew."""
     for kept in sorted(ROOT.glob("crates/*/out")):
         for part in ("incremental", "rlib"):
             if (kept / part).is_dir():
@@ -34,7 +35,8 @@ def carry_proofs(to: Path) -> None:
 
 
 def put_edits(to: Path, crate: str) -> int:
-    """Puts a crate's edits in the place of those that the gate tries, and returns how many they are."""
+    """Puts a crate's edits in the place of those that the gate tries, and returns how many they
+    are."""
     edits = sorted((EDITS / crate).glob("*.edit"))
     place = to / "crates" / crate / "must-fail"
     shutil.rmtree(place, ignore_errors=True)

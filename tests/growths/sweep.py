@@ -1,10 +1,10 @@
 """Refuses each growth of mkcheck in turn, over worked examples.
 
-    sweep.py [PROGRAM] [--gate]
+sweep.py [PROGRAM] [--gate]
 
 The program must answer the whole text, or end with status 3 and say `want of memory`: never
-anything else, and never a text that is cut. It prints a line for each example, and ends with 1 where
-an answer was another one. With `--gate` it takes the examples of the gate alone.
+anything else, and never a text that is cut. It prints a line for each example, and ends with 1
+where an answer was another one. With `--gate` it takes the examples of the gate alone.
 """
 
 import argparse
@@ -221,8 +221,8 @@ EXAMPLES = {
 }
 
 
-# Those of the gate: a graph, includes at their limit, a plan that is refused, a yes, a certificate, a race, plans
-# that show what was found, and a certificate that is judged.
+# Those of the gate: a graph, includes at their limit, a plan that is refused, a yes, a certificate,
+# a race, plans that show what was found, and a certificate that is judged.
 GATE = [
     "plain rules",
     "includes to the last level",

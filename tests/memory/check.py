@@ -15,19 +15,40 @@ ROOT = Path(__file__).resolve().parents[2]
 
 # File, the line without blanks around it, and why it may stand there.
 PLACES = {
-    ("mk_select/src/goals.rt", "Err(_) => Err(InferFault::Memory),"): "a name has no third fault",
-    ("mk_choice/src/expanding.rt", "Err(_) => InferFault::Memory,"): "the call has no other error",
-    ("mk_parse/src/including.rt", "Err(_) => ReadFault::Memory,"): "the call has no other error",
-    ("mk_parse/src/rules.rt", "Err(_) => ReadFault::Memory,"): "the call has no other error",
+    (
+        "mk_infer_select/src/goals.rt",
+        "Err(_) => Err(InferFault::Memory),",
+    ): "a name has no third fault",
+    ("mk_infer/src/expanding.rt", "Err(_) => InferFault::Memory,"): "the call has no other error",
+    (
+        "mk_read_parse/src/including.rt",
+        "Err(_) => ReadFault::Memory,",
+    ): "the call has no other error",
+    ("mk_read_parse/src/rules.rt", "Err(_) => ReadFault::Memory,"): "the call has no other error",
     ("mk_infer/src/fault.rt", "InferFault::Memory"): "the pattern of the test for want of memory",
     ("mk_read/src/fault.rt", "ReadFault::Memory"): "the pattern of the test for want of memory",
-    ("mk_parse/src/reading.rt", "return ReadFault::Memory;"): "behind the test that the fault is want of memory",
+    (
+        "mk_read_parse/src/reading.rt",
+        "return ReadFault::Memory;",
+    ): "behind the test that the fault is want of memory",
     ("mk_foot/src/reading.rt", "return Err(FootFault::Memory);"): "the call has no other error",
-    ("mk_ways/src/reading.rt", "return Err(CertificateFault::Memory);"): "the call has no other error",
-    ("mk_world/src/running.rt", "return Err(AllocError);"): "behind the test that the fault is want of memory",
-    ("mk_world/src/world.rt", "return Err(AllocError);"): "behind the test that the fault is want of memory",
-    ("mk_run/src/starting.rt", "Err(_) => Err(Stop::Memory),"): "the call has no other error",
-    ("mk_run/src/running.rt", "return Err(AllocError);"): "behind the test that the fault is want of memory",
+    (
+        "mk_cert_text/src/reading.rt",
+        "return Err(CertTextFault::Memory);",
+    ): "the call has no other error",
+    (
+        "mk_world/src/running.rt",
+        "return Err(AllocError);",
+    ): "behind the test that the fault is want of memory",
+    (
+        "mk_world/src/world.rt",
+        "return Err(AllocError);",
+    ): "behind the test that the fault is want of memory",
+    ("mkcheck_run/src/starting.rt", "Err(_) => Err(Stop::Memory),"): "the call has no other error",
+    (
+        "mkcheck_run/src/running.rt",
+        "return Err(AllocError);",
+    ): "behind the test that the fault is want of memory",
 }
 
 MADE = re.compile(r"\b\w+::Memory\b|\(AllocError\)")
@@ -84,7 +105,11 @@ def found(file: Path) -> list[tuple[int, str]]:
 
 
 def main() -> None:
-    files = [file for file in sorted(ROOT.glob("crates/*/src/*.rt")) if "test" not in str(file.relative_to(ROOT))]
+    files = [
+        file
+        for file in sorted(ROOT.glob("crates/*/src/*.rt"))
+        if "test" not in str(file.relative_to(ROOT))
+    ]
     wrong = [(file, *place) for file in files for place in found(file)]
     for file, number, line in wrong:
         print(f"{file.relative_to(ROOT)}:{number}: want of memory is made here: {line}")

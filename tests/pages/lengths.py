@@ -1,7 +1,8 @@
 """Holds each length that docs/WHY.md says of a file, and each sum of these, to the files.
 
-A length is how many lines aren't blank. It stands in a table, whose folder and sum stand in the line above it, or
-behind the name of a file as `(N lines)`. A form that isn't known here is told, so that nothing that is said goes unread.
+A length is how many lines aren't blank. It stands in a table, whose folder and sum stand in the
+line above it, or behind the name of a file as `(N lines)`. A form that isn't known here is told, so
+that nothing that is said goes unread.
 """
 
 from __future__ import annotations
@@ -14,7 +15,9 @@ from pathlib import Path
 ROOT = Path(__file__).resolve().parents[2]
 PAGE = ROOT / "docs" / "WHY.md"
 HEAD = "| file | lines |"
-TABLE = re.compile(rf"[Ii]n `([\w/]+/)`[^\n]*?, (\d+) lines[^\n]*\n\n{re.escape(HEAD)}[^\n]*\n((?:\|[^\n]*\n)+)")
+TABLE = re.compile(
+    rf"[Ii]n `([\w/]+/)`[^\n]*?, (\d+) lines[^\n]*\n\n{re.escape(HEAD)}[^\n]*\n((?:\|[^\n]*\n)+)"
+)
 ROW = re.compile(r"^\| `([\w/]+\.antt)` \| (\d+) \|", re.MULTILINE)
 NAMED = re.compile(r"`(?:([\w/]+/))?(\w+\.antt)`\s\((\d+) lines\)")
 GROUPS = re.compile(r"(\d+) lines in \w+ groups(.*?)(?=^## )", re.MULTILINE | re.DOTALL)
@@ -52,10 +55,14 @@ def total(files: list[Path]) -> int:
 
 
 def tables(text: str) -> list[Table]:
-    """The tables of a text; a name with a folder begins in `crates/`, another one in the folder of its table."""
+    """The tables of a text; a name with a folder begins in `crates/`, another one in the folder of
+    its table."""
     found = []
     for folder, said, rows in TABLE.findall(text):
-        named = {ROOT / ("crates" if "/" in name else folder) / name: int(lines) for name, lines in ROW.findall(rows)}
+        named = {
+            ROOT / ("crates" if "/" in name else folder) / name: int(lines)
+            for name, lines in ROW.findall(rows)
+        }
         found.append(Table(folder, int(said), named))
     return found
 
@@ -66,7 +73,8 @@ def files_of(found: list[Table]) -> list[Path]:
 
 
 def named(text: str) -> dict[Path, int]:
-    """The files outside of tables, with their lengths as said; one without folder lies beside the one before it."""
+    """The files outside of tables, with their lengths as said; one without folder lies beside the
+    one before it."""
     folder, found = "", {}
     for own, name, lines in NAMED.findall(text):
         folder = own or folder
@@ -105,6 +113,10 @@ def wrong_lengths() -> int:
         print(f"{PAGE.relative_to(ROOT)}: {claim.what}: {claim.true} and not {claim.said}")
     missed = unread(text)
     if missed:
-        print(f"{PAGE.relative_to(ROOT)}: {missed} lengths are said in a way that tests/pages/lengths.py doesn't know")
-    print(f"pages: {len(said) - len(wrong)} lengths as they are said to be, {len(wrong) + missed} not")
+        print(
+            f"{PAGE.relative_to(ROOT)}: {missed} lengths are said in a way that tests/pages/lengths.py doesn't know"
+        )
+    print(
+        f"pages: {len(said) - len(wrong)} lengths as they are said to be, {len(wrong) + missed} not"
+    )
     return len(wrong) + missed

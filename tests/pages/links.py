@@ -1,4 +1,5 @@
-"""Follows the links from one page of the repository to another: the file has to be there, and so has the heading."""
+"""Follows the links from one page of the repository to another: the file has to be there, and so
+has the heading."""
 
 from __future__ import annotations
 

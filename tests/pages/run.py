@@ -1,6 +1,6 @@
-"""Tries the makefiles that docs/FROM_GNU_MAKE.md shows, each of which is refused by its number or read, and our own; and
-the sessions that README.md, examples/ and docs/ show; follows the links from page to page; holds the lengths that
-docs/WHY.md says to the files; and reads the manual pages.
+"""Tries the makefiles that docs/FROM_GNU_MAKE.md shows, each of which is refused by its number or
+read, and our own; and the sessions that README.md, examples/ and docs/ show; follows the links from
+page to page; holds the lengths that docs/WHY.md says to the files; and reads the manual pages.
 
 The word is the path of mkcheck; without it MKCHECK names it, else it is bin/mkcheck.
 """
@@ -21,7 +21,11 @@ from sessions import try_page
 
 ROOT = Path(__file__).resolve().parents[2]
 PAGE = ROOT / "docs" / "FROM_GNU_MAKE.md"
-SESSIONS = (ROOT / "README.md", ROOT / "examples" / "README.md", *sorted((ROOT / "docs").glob("*.md")))
+SESSIONS = (
+    ROOT / "README.md",
+    ROOT / "examples" / "README.md",
+    *sorted((ROOT / "docs").glob("*.md")),
+)
 BLOCK = re.compile(r"^```make ?(\d*)\n(.*?)^```$", re.MULTILINE | re.DOTALL)
 
 
@@ -29,13 +33,26 @@ def answer(mkcheck: str, makefile: str, goals: Sequence[str] = ()) -> str:
     """The number of the refusal of a makefile, or nothing where its graph and commands are printed."""
     with tempfile.TemporaryDirectory() as folder:
         Path(folder, "makefile").write_text(makefile)
-        done = subprocess.run([mkcheck, "graph", "-c", *goals], cwd=folder, capture_output=True, text=True, check=False)
+        done = subprocess.run(
+            [mkcheck, "graph", "-c", *goals],
+            cwd=folder,
+            capture_output=True,
+            text=True,
+            check=False,
+        )
     words = done.stdout.split()
-    return words[1] if words[:1] == ["refused"] else "" if done.returncode == 0 else f"status {done.returncode}"
+    return (
+        words[1]
+        if words[:1] == ["refused"]
+        else ""
+        if done.returncode == 0
+        else f"status {done.returncode}"
+    )
 
 
 def read_own(mkcheck: str) -> int:
-    """Tells whether the repository's own Makefile isn't read, with all its phony targets as goals: 1, else 0."""
+    """Tells whether the repository's own Makefile isn't read, with all its phony targets as goals:
+    1, else 0."""
     text = (ROOT / "Makefile").read_text()
     words = " ".join(re.findall(r"^\.PHONY:(.*)$", text, re.MULTILINE)).split()
     said = answer(mkcheck, text, words)
@@ -45,9 +62,16 @@ def read_own(mkcheck: str) -> int:
 
 
 def read_manuals() -> int:
-    """Tells whether a linter finds something in the manual pages: 1, else 0. Without a linter the line of `make` says so."""
-    kept = {name: value for name, value in os.environ.items() if name not in ("MAKEFLAGS", "MFLAGS", "MAKELEVEL")}
-    done = subprocess.run(["make", "-s", "manuals"], cwd=ROOT, env=kept, capture_output=True, text=True, check=False)
+    """Tells whether a linter finds something in the manual pages: 1, else 0. Without a linter the
+    line of `make` says so."""
+    kept = {
+        name: value
+        for name, value in os.environ.items()
+        if name not in ("MAKEFLAGS", "MFLAGS", "MAKELEVEL")
+    }
+    done = subprocess.run(
+        ["make", "-s", "manuals"], cwd=ROOT, env=kept, capture_output=True, text=True, check=False
+    )
     if done.returncode != 0 or not done.stdout:
         print(f"pages: the manual pages\n{done.stdout}{done.stderr}", end="")
         return 1
@@ -66,7 +90,9 @@ def try_sessions(mkcheck: str) -> int:
 
 
 def main() -> int:
-    mkcheck = os.path.abspath(sys.argv[1] if len(sys.argv) > 1 else os.environ.get("MKCHECK", ROOT / "bin" / "mkcheck"))
+    mkcheck = os.path.abspath(
+        sys.argv[1] if len(sys.argv) > 1 else os.environ.get("MKCHECK", ROOT / "bin" / "mkcheck")
+    )
     wrong = read_own(mkcheck)
     blocks = BLOCK.findall(PAGE.read_text(encoding="utf-8"))
     for number, makefile in blocks:

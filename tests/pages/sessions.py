@@ -1,8 +1,10 @@
-"""Runs the sessions that pages show: what stands behind `$ ` goes to a shell, and has to print what stands below it.
+"""Runs the sessions that pages show: what stands behind `$ ` goes to a shell, and has to print what
+stands below it.
 
-A session is a block of `console`, in a folder of its own. `console more` goes on in the folder of the block before it,
-`console in FOLDER` begins in a copy of that folder of the repository. Below `$ cat NAME` stands what the file holds: where
-it isn't there, it is written. A line `...` stands for any lines. The status has to be the one that the answer of mkcheck has.
+A session is a block of `console`, in a folder of its own. `console more` goes on in the folder of
+the block before it, `console in FOLDER` begins in a copy of that folder of the repository. Below `$
+cat NAME` stands what the file holds: where it isn't there, it is written. A line `...` stands for
+any lines. The status has to be the one that the answer of mkcheck has.
 """
 
 from __future__ import annotations
@@ -52,7 +54,8 @@ def steps_of(block: str) -> list[Step]:
 
 
 def is_as_shown(shown: str, printed: str, varies: bool) -> bool:
-    """Whether a text is the one that is shown, but for what `...` stands for; the system decides how many files are read."""
+    """Whether a text is the one that is shown, but for what `...` stands for; the system decides
+    how many files are read."""
     if varies:
         shown, printed = READS.sub(r"\1", shown), READS.sub(r"\1", printed)
     pieces = [re.escape(piece) for piece in re.split(r"^\.\.\.\n", shown, flags=re.MULTILINE)]
@@ -86,11 +89,16 @@ def lacks(block: str) -> bool:
     if "$ mkcheck-record" not in block:
         return False
     strace, compiler = shutil.which("strace"), shutil.which("cc")
-    return not (strace and compiler and subprocess.run([strace, "-o", os.devnull, "true"], check=False).returncode == 0)
+    return not (
+        strace
+        and compiler
+        and subprocess.run([strace, "-o", os.devnull, "true"], check=False).returncode == 0
+    )
 
 
 def environment_of(program: str, tools: Path) -> dict[str, str]:
-    """The environment of sessions, in which mkcheck is the program and mkcheck-record the repository's."""
+    """The environment of sessions, in which mkcheck is the program and mkcheck-record the
+    repository's."""
     tools.mkdir()
     (tools / "mkcheck").symlink_to(program)
     (tools / "mkcheck-record").symlink_to(ROOT / "tools" / "mkcheck-record")
@@ -101,13 +109,17 @@ def environment_of(program: str, tools: Path) -> dict[str, str]:
 
 def blocks_of(page: Path) -> Iterator[tuple[int, str, str, str]]:
     """Line, word, folder and text of each block of a page."""
-    text = COMMENT.sub(lambda comment: "\n" * comment.group().count("\n"), page.read_text(encoding="utf-8"))
+    text = COMMENT.sub(
+        lambda comment: "\n" * comment.group().count("\n"), page.read_text(encoding="utf-8")
+    )
     for found in BLOCK.finditer(text):
         more, source, block = found.groups()
         yield text.count("\n", 0, found.start()) + 1, more or "", source or "", block
 
 
-def run_block(block: str, folder: Path, environment: dict[str, str], place: str, varies: bool) -> int:
+def run_block(
+    block: str, folder: Path, environment: dict[str, str], place: str, varies: bool
+) -> int:
     """Runs the steps of a block, prints those that differ, and tells how many these are."""
     wrong = 0
     for step in steps_of(block):
@@ -124,7 +136,8 @@ def run_block(block: str, folder: Path, environment: dict[str, str], place: str,
 
 
 def try_page(program: str, page: Path) -> tuple[int, int, int]:
-    """How many sessions of a page were run, how many steps differ, and how many sessions couldn't be run."""
+    """How many sessions of a page were run, how many steps differ, and how many sessions couldn't
+    be run."""
     ran = wrong = left_out = 0
     with tempfile.TemporaryDirectory(prefix="mkcheck-pages-") as room:
         folder, varies, is_out = Path(room), False, False
@@ -141,5 +154,7 @@ def try_page(program: str, page: Path) -> tuple[int, int, int]:
                 left_out += 1
                 continue
             ran += 1
-            wrong += run_block(block, folder, environment, f"{page.relative_to(ROOT)}:{line}", varies)
+            wrong += run_block(
+                block, folder, environment, f"{page.relative_to(ROOT)}:{line}", varies
+            )
     return ran, wrong, left_out

@@ -1,7 +1,8 @@
 """Each fault but 59, under each command and option that can meet it.
 
-A fault of the reading, of the goals, of the footprints or of the graph is the same line under all commands; one in
-a command is met by those that expand commands alone. The lines stand here as the rules have them.
+A fault of the reading, of the goals, of the footprints or of the graph is the same line under all
+commands; one in a command is met by those that expand commands alone. The lines stand here as the
+rules have them.
 """
 
 import json
@@ -14,7 +15,10 @@ BOOK = {
     "format": 1,
     "fixed": [],
     "sources": ["a.c"],
-    "records": [{"target": "p", "commands": ["cc -o p a.o"], "reads": ["a.o"], "writes": ["p"]}, RECORD],
+    "records": [
+        {"target": "p", "commands": ["cc -o p a.o"], "reads": ["a.o"], "writes": ["p"]},
+        RECORD,
+    ],
 }
 WAYS = [
     {"end": "source", "file": "a.c", "path": ["a.o"], "recipe": "a.o"},
@@ -28,7 +32,12 @@ SIMULATE = ["simulate", "-b", "B", "-p", "P"]
 VERIFIES = [VERIFY, [*VERIFY, "-r"]]
 SIMULATES = [SIMULATE, [*SIMULATE, "-r"]]
 # What expands commands under footprints, what reads footprints, and all.
-CHECKS = [["check", "-b", "B"], ["check", "-c", "-b", "B"], ["check", "-b", "B", "-e", "1"], ["check", "-r", "-b", "B"]]
+CHECKS = [
+    ["check", "-b", "B"],
+    ["check", "-c", "-b", "B"],
+    ["check", "-b", "B", "-e", "1"],
+    ["check", "-r", "-b", "B"],
+]
 JUDGING = [*CHECKS, *VERIFIES]
 EXPANDING = [["graph", "-c", "-b", "B"], ["graph", "-r", "-c", "-b", "B"], *JUDGING]
 BOOKED = [GRAPH, ["graph", "-r", "-b", "B"], *EXPANDING, *SIMULATES]
@@ -39,7 +48,8 @@ LONG = "n" * 256
 
 @dataclass(frozen=True)
 class Row:
-    """What is printed, and the status, of these commands with these words behind them, over these files."""
+    """What is printed, and the status, of these commands with these words behind them, over these
+    files."""
 
     out: str
     commands: list[list[str]]
@@ -72,16 +82,30 @@ def grouped(lists: dict[str, list[str]], shared: list[str], goals: list[str]) ->
     """Footprints of format 2, whose first record shares these lists."""
     first, second = BOOK["records"]
     records = [{**first, "shared": shared}, {**second, "shared": []}]
-    return json.dumps({"format": 2, "fixed": ["u/"], "sources": ["a.c"], "lists": lists, "groups": [{"goals": goals, "records": records}]})
+    return json.dumps(
+        {
+            "format": 2,
+            "fixed": ["u/"],
+            "sources": ["a.c"],
+            "lists": lists,
+            "groups": [{"goals": goals, "records": records}],
+        }
+    )
 
 
 def told(records: str) -> list[dict[str, object]]:
     """Records, with `; ` between them, each as `target: reads > writes = command`."""
+
     def one(record: str) -> dict[str, object]:
         files, command = record.split(" = ")
         target, files = files.split(": ", 1)
         reads, writes = files.split(">")
-        return {"target": target, "commands": [command], "reads": reads.split(), "writes": writes.split()}
+        return {
+            "target": target,
+            "commands": [command],
+            "reads": reads.split(),
+            "writes": writes.split(),
+        }
 
     return [one(record) for record in records.split("; ")]
 
@@ -93,7 +117,9 @@ def certificate(ways: object = WAYS, **changed: object) -> str:
 
 def lines() -> Iterator[Row]:
     """1 to 17 where lines are read."""
-    doubled = "A0 =\n" + "".join(f"A{number} = $(A{number - 1})$(A{number - 1})\n" for number in range(1, 16))
+    doubled = "A0 =\n" + "".join(
+        f"A{number} = $(A{number - 1})$(A{number - 1})\n" for number in range(1, 16)
+    )
     chain = "".join(f"B{number} = $(B{number + 1})\n" for number in range(256))
     for words, text in [
         ("1 makefile:2", "a:\nb: \0\n"),
@@ -169,9 +195,19 @@ def included() -> Iterator[Row]:
         yield refused(words, ALL, makefile=text, **more)
     line = "#" + "x" * 65_534 + "\n"
     whole = (line * 256)[: MOST - 1] + "\n"
-    yield refused("35 makefile:1 e", [BARE, ["check", "-b", "B"]], makefile="include e\n" + RULES, e="\n" + whole)
+    yield refused(
+        "35 makefile:1 e",
+        [BARE, ["check", "-b", "B"]],
+        makefile="include e\n" + RULES,
+        e="\n" + whole,
+    )
     yield refused("35 makefile:1 e", [BARE], makefile="-include e\n" + RULES, e="\n" + whole)
-    yield Row("goals p\na.c:\na.o recipe: a.c\np recipe: a.o\n", [BARE], {"makefile": "include e\n" + RULES, "e": whole}, status=0)
+    yield Row(
+        "goals p\na.c:\na.o recipe: a.c\np recipe: a.o\n",
+        [BARE],
+        {"makefile": "include e\n" + RULES, "e": whole},
+        status=0,
+    )
 
 
 def named() -> Iterator[Row]:
@@ -233,7 +269,10 @@ def footprints() -> Iterator[Row]:
         ("55 writes", recorded(writes=["a//o"])),
         ("56 u/a.c", book(fixed=["u/"], sources=["u/a.c"])),
         ("52 lists", json.dumps({"format": 2, "fixed": [], "sources": []})),
-        ("52 groups", json.dumps({"format": 2, "fixed": [], "sources": [], "lists": {}, "groups": [1]})),
+        (
+            "52 groups",
+            json.dumps({"format": 2, "fixed": [], "sources": [], "lists": {}, "groups": [1]}),
+        ),
         ("55 lists", grouped({"l": ["./h"]}, [], ["p"])),
         ("57", grouped({}, [], ["a.o"])),
         ("58", grouped({}, ["l"], ["p"])),
@@ -254,15 +293,25 @@ def lists() -> Iterator[Row]:
 
 def unread() -> Iterator[Row]:
     """35 and 38 of footprints, certificates and plans."""
-    for line, name in [("38 gone", "gone"), ("35 /etc", "/etc"), ("35 makefile/x", "makefile/x"), (f"35 {LONG}", LONG)]:
+    for line, name in [
+        ("38 gone", "gone"),
+        ("35 /etc", "/etc"),
+        ("35 makefile/x", "makefile/x"),
+        (f"35 {LONG}", LONG),
+    ]:
         for command in BOOKED:
             yield Row(f"refused {line}\n", [[name if word in ("B",) else word for word in command]])
-        yield Row(f"refused {line}\n", [["verify", "-b", "B", "-k", name], ["simulate", "-b", "B", "-p", name]])
+        yield Row(
+            f"refused {line}\n",
+            [["verify", "-b", "B", "-k", name], ["simulate", "-b", "B", "-p", name]],
+        )
 
 
 def commands() -> Iterator[Row]:
     """11 to 17 in a command: only what expands commands meets them."""
-    doubled = "A0 =\n" + "".join(f"A{number} = $(A{number - 1})$(A{number - 1})\n" for number in range(1, 16))
+    doubled = "A0 =\n" + "".join(
+        f"A{number} = $(A{number - 1})$(A{number - 1})\n" for number in range(1, 16)
+    )
     for line, text in [
         ("11 makefile:2", "p:\n\t$(X:b)\n"),
         ("12 makefile:3 X", "X = $(X)\np:\n\t$(X)\n"),
@@ -275,7 +324,12 @@ def commands() -> Iterator[Row]:
     ]:
         yield refused(line, [["graph", "-c"], *EXPANDING], makefile=text)
         yield Row("goals p\np recipe:\n", [BARE, GRAPH], {"makefile": text}, status=0)
-        yield Row("plan ok\n", SIMULATES, {"makefile": text, "P": "make 1\nrun p\nend\n", "B": book(sources=[], records=[])}, status=0)
+        yield Row(
+            "plan ok\n",
+            SIMULATES,
+            {"makefile": text, "P": "make 1\nrun p\nend\n", "B": book(sources=[], records=[])},
+            status=0,
+        )
     inferred = {"makefile": "p.o:\n", "B": book(sources=["p.c"])}
     yield Row("refused 12 (default):12 CC\n", with_default(EXPANDING), inferred, ["CC=$(CC)"])
 
@@ -312,13 +366,17 @@ def certificates() -> Iterator[Row]:
 
 
 def found() -> Iterator[Row]:
-    """76 is each finding but a stale read, which is a way that is missing; the first one where there are several."""
+    """76 is each finding but a stale read, which is a way that is missing; the first one where
+    there are several."""
     for line, files in [
         ("record a.o", {"B": book(records=[])}),
         ("commands a.o", {"makefile": "a.o: a.c\n\tcc -c a.c\n", "B": recorded(commands=["cc"])}),
         ("varying a.o", {"makefile": "a.o: a.c\n\tcc -c $?\n", "B": recorded()}),
         ("target a.o", {"makefile": "a.o: a.c\n\tcc -c a.c\n", "B": recorded(writes=[])}),
-        ("given a.o a.c", {"makefile": "a.o: a.c\n\tcc -c a.c\n", "B": recorded(writes=["a.o", "a.c"], reads=[])}),
+        (
+            "given a.o a.c",
+            {"makefile": "a.o: a.c\n\tcc -c a.c\n", "B": recorded(writes=["a.o", "a.c"], reads=[])},
+        ),
         ("own a.o a.o", {"makefile": "a.o: a.c\n\tcc -c a.c\n", "B": recorded(reads=["a.o"])}),
         ("unknown a.o h.h", {"makefile": "a.o: a.c\n\tcc -c a.c\n", "B": recorded(reads=["h.h"])}),
     ]:
@@ -326,21 +384,52 @@ def found() -> Iterator[Row]:
         yield Row(f"refused 76 {line}\n", VERIFIES, {**files, "C": certificate(goals=goals)})
     for line, text in [
         ("race b a a", "all: b .WAIT a\nx:\nb: a.c\n\tb\na: a.c\n\ta\n| a: > a = a; b: a > b = b"),
-        ("race b a a", ".PHONY: b\nall: x y\nx: a .WAIT b\ny: b\na:\n\ta\nb:\n\tb\n| a: > a = a; b: a > = b"),
+        (
+            "race b a a",
+            ".PHONY: b\nall: x y\nx: a .WAIT b\ny: b\na:\n\ta\nb:\n\tb\n| a: > a = a; b: a > = b",
+        ),
         ("writers a b log", "all: b\nb: a\n\tb\na:\n\ta\n| a: > a log = a; b: a > b log = b"),
-        ("loose y.h y.c", "all: y.c .WAIT m\nm: a.c y.h\n\tm\ny.h:\ny.c: a.c\n\ty\n| m: a.c y.h > m = m; y.c: a.c > y.c y.h = y"),
+        (
+            "loose y.h y.c",
+            "all: y.c .WAIT m\nm: a.c y.h\n\tm\ny.h:\ny.c: a.c\n\ty\n| m: a.c y.h > m = m; y.c: a.c > y.c y.h = y",
+        ),
     ]:
         makefile, records = text.split("| ")
-        yield refused(f"76 {line}", VERIFIES, makefile=makefile, B=book(records=told(records)), C=certificate([], goals=["all"]))
+        yield refused(
+            f"76 {line}",
+            VERIFIES,
+            makefile=makefile,
+            B=book(records=told(records)),
+            C=certificate([], goals=["all"]),
+        )
     rules = ".SUFFIXES:\n.SUFFIXES: .o .c .s\n.c.o:\n\tcc $<\n.s.o:\n\tas $<\nall: gen .WAIT x.o\ngen:\n\tmk\n"
     records = told("gen: > gen x.c = mk; x.o: x.s > x.o = as x.s")
-    yield refused("76 selection x.o x.c", VERIFIES, makefile=rules, B=book(sources=["x.s"], records=records), C=certificate([], goals=["all"]))
-    yield refused("74 a.o h.h", VERIFIES, B=book(sources=["a.c", "h.h"], records=[BOOK["records"][0], {**RECORD, "reads": ["a.c", "h.h"]}]))
+    yield refused(
+        "76 selection x.o x.c",
+        VERIFIES,
+        makefile=rules,
+        B=book(sources=["x.s"], records=records),
+        C=certificate([], goals=["all"]),
+    )
+    yield refused(
+        "74 a.o h.h",
+        VERIFIES,
+        B=book(
+            sources=["a.c", "h.h"],
+            records=[BOOK["records"][0], {**RECORD, "reads": ["a.c", "h.h"]}],
+        ),
+    )
 
 
 def plans() -> Iterator[Row]:
     """60 to 70, and 77; behind the refusal of a line come the files that are there."""
-    copy = {"makefile": "b: a\n\tcp a b\n", "B": book(sources=["a"], records=[{"target": "b", "commands": [], "reads": ["a"], "writes": ["b"]}])}
+    copy = {
+        "makefile": "b: a\n\tcp a b\n",
+        "B": book(
+            sources=["a"],
+            records=[{"target": "b", "commands": [], "reads": ["a"], "writes": ["b"]}],
+        ),
+    }
     start = "a 1 1\n"
     for number, line, text in [
         (61, 1, "begin b\n"),
@@ -371,7 +460,13 @@ def plans() -> Iterator[Row]:
         (77, 1, "make 1 a\n"),
     ]:
         yield Row(f"refused {number} line {line}\n{start}", SIMULATES, {**copy, "P": text})
-    for line, text in [(2, "make 1\njump\n"), (1, "make 0\n"), (1, "make 4097\n"), (65_537, "\n" * 65_536 + "end\n"), (3, "\n#\nedit a 18446744073709551616\n")]:
+    for line, text in [
+        (2, "make 1\njump\n"),
+        (1, "make 0\n"),
+        (1, "make 4097\n"),
+        (65_537, "\n" * 65_536 + "end\n"),
+        (3, "\n#\nedit a 18446744073709551616\n"),
+    ]:
         yield Row(f"refused 69 line {line}\n", SIMULATES, {**copy, "P": text})
     wrong = "make 1\nbegin b\nlook b a\nput b b 7\ndone b\nend\nmake 1\nbegin b\nlook b a\nput b b 8\ndone b\n"
     yield Row("a 1 1\nb 7 2\nrefused 60 line 11\na 1 1\nb 8 3\n", SIMULATES, {**copy, "P": wrong})
@@ -380,13 +475,16 @@ def plans() -> Iterator[Row]:
 
 
 def full() -> Iterator[Row]:
-    """A plan and a certificate of the most bytes that a file may have, all of which say something, and of one more."""
+    """A plan and a certificate of the most bytes that a file may have, all of which say something,
+    and of one more."""
     name = "a" * 250
     record = {"target": "b", "commands": [], "reads": [name], "writes": ["b"]}
     copy = {"makefile": f"b: {name}\n\tcp\n", "B": book(sources=[name], records=[record])}
     ends = "".join(f"{line:<255}\n" for line in ("make 1", "run b", "end"))
     plan = f"edit {name}\n" * 65_533 + ends
-    yield Row(f"{name} 65534 65534\nb 65535 65535\nplan ok\n", [SIMULATE], {**copy, "P": plan}, status=0)
+    yield Row(
+        f"{name} 65534 65534\nb 65535 65535\nplan ok\n", [SIMULATE], {**copy, "P": plan}, status=0
+    )
     yield Row("refused 35 P\n", [SIMULATE], {**copy, "P": plan + "\n"})
     reads, files = sized(MOST)
     yield Row(f"yes 267 recipes {reads} reads\n", [VERIFY], files, status=0)
@@ -394,7 +492,8 @@ def full() -> Iterator[Row]:
 
 
 def sized(size: int) -> tuple[int, dict[str, str]]:
-    """266 recipes that read 1,000 sources each, and one that reads as many more that the certificate has this size; how many reads there are."""
+    """266 recipes that read 1,000 sources each, and one that reads as many more that the
+    certificate has this size; how many reads there are."""
     sources = [f"s{number:03}" for number in range(1000)]
     needed = {f"r{number:03}": sources for number in range(266)}
     entry = '{{"end":"source","file":"{0}","path":["{1}"],"recipe":"{1}"}}'
@@ -403,19 +502,48 @@ def sized(size: int) -> tuple[int, dict[str, str]]:
     room = size - len(head + tail) - sum(len(way) + 1 for way in ways)
     more = (room - 2000) // (len(entry.format("s000", "q")) + 1)
     ways += [entry.format(file, "q") for file in sources[:more]]
-    last = "n" * (size - len(head + tail) - sum(len(way) + 1 for way in ways) - len(entry.format("", "q")))
+    last = "n" * (
+        size - len(head + tail) - sum(len(way) + 1 for way in ways) - len(entry.format("", "q"))
+    )
     needed["q"] = [*sources[:more], last]
     rules = "".join(f"{name}: {' '.join(files)}\n\t{name}\n" for name, files in needed.items())
-    records = [{"target": name, "commands": [name], "reads": files, "writes": [name]} for name, files in needed.items()]
+    records = [
+        {"target": name, "commands": [name], "reads": files, "writes": [name]}
+        for name, files in needed.items()
+    ]
     written = head + ",".join([*ways, entry.format(last, "q")]) + tail
-    files = {"makefile": f"all: {' '.join(needed)}\n" + rules, "B": book(sources=[*sources, last], records=records), "C": written}
+    files = {
+        "makefile": f"all: {' '.join(needed)}\n" + rules,
+        "B": book(sources=[*sources, last], records=records),
+        "C": written,
+    }
     return sum(len(files) for files in needed.values()), files
 
 
 def faults() -> Iterator[tuple[list[str], int, str, dict[str, str]]]:
     """The words, the status, what is printed and the files of each run."""
-    standing = {"makefile": RULES, "B": book(), "C": certificate(), "P": "make 1\nrun a.o\nrun p\nend\n"}
-    for rows in (lines, kinds, joined, included, named, graphs, footprints, lists, unread, commands, certificates, found, plans, full):
+    standing = {
+        "makefile": RULES,
+        "B": book(),
+        "C": certificate(),
+        "P": "make 1\nrun a.o\nrun p\nend\n",
+    }
+    for rows in (
+        lines,
+        kinds,
+        joined,
+        included,
+        named,
+        graphs,
+        footprints,
+        lists,
+        unread,
+        commands,
+        certificates,
+        found,
+        plans,
+        full,
+    ):
         for row in rows():
             for command in row.commands:
                 yield [*command, *row.words], row.status, row.out, {**standing, **row.files}

@@ -1,7 +1,8 @@
-"""Certificates whose entries stand in other orders, are repeated, or are wrong behind others that are right.
+"""Certificates whose entries stand in other orders, are repeated, or are wrong behind others that
+are right.
 
-`verify` looks for each entry first behind the one that it found last, and takes the likely recipe on a path, so what it
-answers has to be the same however entries stand.
+`verify` looks for each entry first behind the one that it found last, and takes the likely recipe
+on a path, so what it answers has to be the same however entries stand.
 """
 
 import json
@@ -12,9 +13,7 @@ from faults import certificate, told
 Way = dict[str, object]
 
 MAKEFILE = "p: a.o b.o\n\tlink\na.o: a.c\n\tcc a\nb.o: gen.h b.c\n\tcc b\ngen.h: gen.in\n\tgen\n"
-RECORDS = (
-    "p: a.o b.o gen.in gen.h a.c > p = link; a.o: a.c > a.o = cc a; b.o: b.c gen.h > b.o = cc b; gen.h: gen.in > gen.h = gen"
-)
+RECORDS = "p: a.o b.o gen.in gen.h a.c > p = link; a.o: a.c > a.o = cc a; b.o: b.c gen.h > b.o = cc b; gen.h: gen.in > gen.h = gen"
 
 
 def way(file: str, end: str, *path: str) -> Way:
@@ -22,8 +21,8 @@ def way(file: str, end: str, *path: str) -> Way:
     return {"recipe": path[0], "file": file, "end": end, "path": list(path)}
 
 
-# By the serial order of the recipes, and the place of the file in its record. The paths of `p` lead over its second
-# prerequisite too, where the first one is the likely one.
+# By the serial order of the recipes, and the place of the file in its record. The paths of `p` lead
+# over its second prerequisite too, where the first one is the likely one.
 RIGHT = [
     way("a.c", "source", "a.o"),
     way("gen.in", "source", "gen.h"),
@@ -35,8 +34,9 @@ RIGHT = [
     way("gen.h", "written", "p", "b.o", "gen.h"),
     way("a.c", "source", "p", "a.o"),
 ]
-# Entries that are never good: over a recipe that isn't carried, or that carries nothing; of a file that another recipe
-# reads, that none reads, that no recipe has; from a name without a recipe; by another end.
+# Entries that are never good: over a recipe that isn't carried, or that carries nothing; of a file
+# that another recipe reads, that none reads, that no recipe has; from a name without a recipe; by
+# another end.
 WRONG = [
     way("gen.in", "source", "p", "a.o", "gen.h"),
     way("gen.in", "source", "p", "gen.h"),
@@ -75,13 +75,21 @@ def rows() -> Iterator[tuple[list[Way], str]]:
         yield [*RIGHT[:place], *RIGHT[place + 1 :]], f"refused 74 {one['recipe']} {one['file']}\n"
     for one in WRONG:
         for place in range(len(RIGHT) + 1):
-            ways = [other for other in RIGHT[:place] if (other["recipe"], other["file"]) != (one["recipe"], one["file"])]
+            ways = [
+                other
+                for other in RIGHT[:place]
+                if (other["recipe"], other["file"]) != (one["recipe"], one["file"])
+            ]
             yield bad([*ways, one, *RIGHT[place:]], one)
 
 
 def orders() -> Iterator[tuple[list[str], int, str, dict[str, str]]]:
     """The words, the status, what is printed and the files of each run."""
-    book = json.dumps({"format": 1, "fixed": [], "sources": ["a.c", "b.c", "gen.in"], "records": told(RECORDS)})
+    book = json.dumps(
+        {"format": 1, "fixed": [], "sources": ["a.c", "b.c", "gen.in"], "records": told(RECORDS)}
+    )
     for ways, printed in rows():
         files = {"makefile": MAKEFILE, "B": book, "C": certificate(ways)}
-        yield ["verify", "-b", "B", "-k", "C"], 0 if printed.startswith("yes") else 2, printed, files
+        yield ["verify", "-b", "B", "-k", "C"], 0 if printed.startswith(
+            "yes"
+        ) else 2, printed, files

@@ -1,10 +1,11 @@
 """Runs mkcheck over real files, and compares both of its streams and its status with what they must be, byte for byte.
 
 It prints a line for each run that differs, then how many ran, and ends with 1 where one differs. The program is
-the one that it is given, else that of `make all`.
+the one that it is given, else bin/mkcheck.
 """
 
 import os
+import shutil
 import subprocess
 import sys
 import tempfile
@@ -25,7 +26,9 @@ RECORDS = """{"format":1,"fixed":[],"sources":["a.c"],"records":[
 {"target":"p","commands":["cc -o p a.o"],"reads":["a.o"],"writes":["p"]},
 {"target":"a.o","commands":["cc -c a.c"],"reads":["a.c"],"writes":["a.o"]}]}
 """
-HEADER = RECORDS.replace('"sources":["a.c"]', '"sources":["a.c","h.h"]').replace('"reads":["a.c"]', '"reads":["a.c","h.h"]')
+HEADER = RECORDS.replace('"sources":["a.c"]', '"sources":["a.c","h.h"]').replace(
+    '"reads":["a.c"]', '"reads":["a.c","h.h"]'
+)
 UNTOLD = '{"format":1,"fixed":[],"sources":["a.c"],"records":[]}'
 CERTIFICATE = (
     '{"format":1,"goals":["p"],"ways":['
@@ -35,7 +38,15 @@ CERTIFICATE = (
 FIRST_WAY_ALONE = CERTIFICATE[: CERTIFICATE.index(',{"end":"written"')] + "]}"
 GRAPH = "goals p\na.c:\na.o recipe: a.c\np recipe: a.o\n"
 WAYS = "yes 2 recipes 2 reads\nway a.o a.c source a.o\nway p a.o written p a.o\n"
-FILES = {"makefile": RULES, "B": RECORDS, "H": HEADER, "U": UNTOLD, "C": CERTIFICATE, "L": CERTIFICATE + "\n", "W": FIRST_WAY_ALONE}
+FILES = {
+    "makefile": RULES,
+    "B": RECORDS,
+    "H": HEADER,
+    "U": UNTOLD,
+    "C": CERTIFICATE,
+    "L": CERTIFICATE + "\n",
+    "W": FIRST_WAY_ALONE,
+}
 COPY = {
     "makefile": "b: a\n\tcp a b\n",
     "B": '{"format":1,"fixed":[],"sources":["a"],"records":[{"target":"b","commands":["cp a b"],"reads":["a"],"writes":["b"]}]}',
@@ -91,7 +102,11 @@ ANSWERS = [
     Run(["check", "-b", "H", "-e", "2"], 1, "no plan\n"),
     Run(["check", "-b", "U", "-e", "1"], 1, "no plan\n"),
     Run(["check", "-b", "B", "-e", "1"], 0, WAYS),
-    Run(["check", "-b", "H", "-e", "0"], 2, err="error: invalid value '0' for '-e <N>': 0 is not in 1..18446744073709551615" + HINT),
+    Run(
+        ["check", "-b", "H", "-e", "0"],
+        2,
+        err="error: invalid value '0' for '-e <N>': 0 is not in 1..18446744073709551615" + HINT,
+    ),
     Run(["check", "-b", "N"], 2, "refused 38 N\n"),
     Run(["check", "-b", "makefile"], 2, "refused 51\n"),
     Run(["check", "-b", "B", "q"], 2, "refused 41 q\n"),
@@ -110,7 +125,12 @@ ANSWERS = [
     Run(["graph", "-b", "U"], 0, GRAPH),
     Run(["graph", "p", "a b"], 2, "refused 27 goal:2\n"),
     Run(["graph", "1+=2"], 2, "refused 11 operand:1\n"),
-    Run(["simulate", "-b", "B", "-p", "P"], 2, "a 1 1\nb 2 2\nrefused 65 line 7\na 3 3\nb 2 2\n", files=COPY),
+    Run(
+        ["simulate", "-b", "B", "-p", "P"],
+        2,
+        "a 1 1\nb 2 2\nrefused 65 line 7\na 3 3\nb 2 2\n",
+        files=COPY,
+    ),
     Run(["simulate", "-b", "B", "-p", "Q"], 0, "a 1 1\nb 2 2\nplan ok\n", files=COPY),
     Run(["simulate", "-b", "B", "-p", "N"], 2, "refused 38 N\n", files=COPY),
 ]
@@ -124,14 +144,16 @@ WORDS = [
     Run(["check", "-h"], 0, text("check")),
     Run(["verify", "--help"], 0, text("verify")),
     Run(["simulate", "--help"], 0, text("simulate")),
-    Run(["--version"], 0, "mkcheck 0.1.0\n"),
-    Run(["-V"], 0, "mkcheck 0.1.0\n"),
     Run(["frob"], 2, err="error: unrecognized subcommand 'frob'" + PROGRAM_USAGE),
     Run(["-x"], 2, err="error: unexpected argument '-x' found" + PROGRAM_USAGE),
     Run(["check"], 2, err=MISSING + "-b <BOOK>" + CHECK_USAGE),
     Run(["verify", "-b", "B"], 2, err=MISSING + "-k <CERT>" + VERIFY_USAGE),
     Run(["simulate", "-b", "B"], 2, err=MISSING + "-p <PLAN>" + SIMULATE_USAGE),
-    Run(["check", "-b", "B", "-b", "B"], 2, err="error: the argument '-b <BOOK>' cannot be used multiple times" + CHECK_USAGE),
+    Run(
+        ["check", "-b", "B", "-b", "B"],
+        2,
+        err="error: the argument '-b <BOOK>' cannot be used multiple times" + CHECK_USAGE,
+    ),
     Run(["graph", b"\xff"], 2, err=NO_TEXT),
     Run([b"\xff"], 2, err=NO_TEXT),
     Run(["check", "-b", b"B\x80"], 2, err=NO_TEXT),
@@ -169,7 +191,11 @@ def commented(text: str, size: int) -> str:
     """The text, with lines of comments behind it, so that it has this size."""
     line = "#" + "x" * 65_534 + "\n"
     rest = size - len(text)
-    return text + line * (rest // len(line)) + ("#" * (rest % len(line) - 1) + "\n" if rest % len(line) else "")
+    return (
+        text
+        + line * (rest // len(line))
+        + ("#" * (rest % len(line) - 1) + "\n" if rest % len(line) else "")
+    )
 
 
 # Files of the most bytes that they may have, and of one more.
@@ -178,10 +204,30 @@ SIZES = [
     Run(["graph"], 2, "refused 35 makefile\n", files={"makefile": commented(RULES, MOST + 1)}),
     Run(["check", "-b", "B"], 0, WAYS, files={**FILES, "B": RECORDS.ljust(MOST)}),
     Run(["check", "-b", "B"], 2, "refused 35 B\n", files={**FILES, "B": RECORDS.ljust(MOST + 1)}),
-    Run(["verify", "-b", "B", "-k", "C"], 0, "yes 2 recipes 2 reads\n", files={**FILES, "C": CERTIFICATE.ljust(MOST)}),
-    Run(["verify", "-b", "B", "-k", "C"], 2, "refused 35 C\n", files={**FILES, "C": CERTIFICATE.ljust(MOST + 1)}),
-    Run(["simulate", "-b", "B", "-p", "Q"], 0, "a 1 1\nb 2 2\nplan ok\n", files={**COPY, "Q": commented(COPY["Q"], MOST)}),
-    Run(["simulate", "-b", "B", "-p", "Q"], 2, "refused 35 Q\n", files={**COPY, "Q": commented(COPY["Q"], MOST + 1)}),
+    Run(
+        ["verify", "-b", "B", "-k", "C"],
+        0,
+        "yes 2 recipes 2 reads\n",
+        files={**FILES, "C": CERTIFICATE.ljust(MOST)},
+    ),
+    Run(
+        ["verify", "-b", "B", "-k", "C"],
+        2,
+        "refused 35 C\n",
+        files={**FILES, "C": CERTIFICATE.ljust(MOST + 1)},
+    ),
+    Run(
+        ["simulate", "-b", "B", "-p", "Q"],
+        0,
+        "a 1 1\nb 2 2\nplan ok\n",
+        files={**COPY, "Q": commented(COPY["Q"], MOST)},
+    ),
+    Run(
+        ["simulate", "-b", "B", "-p", "Q"],
+        2,
+        "refused 35 Q\n",
+        files={**COPY, "Q": commented(COPY["Q"], MOST + 1)},
+    ),
 ]
 
 
@@ -194,7 +240,14 @@ def ran(program: Path, run: Run, folder: str) -> tuple[int, bytes, bytes]:
         out = sink if run.sink else subprocess.PIPE
         command = [os.fsencode(program), *(os.fsencode(word) for word in run.words)]
         done = subprocess.run(
-            command, cwd=folder, env=environment, input=run.stdin.encode(), stdout=out, stderr=subprocess.PIPE, timeout=SECONDS, check=False
+            command,
+            cwd=folder,
+            env=environment,
+            input=run.stdin.encode(),
+            stdout=out,
+            stderr=subprocess.PIPE,
+            timeout=SECONDS,
+            check=False,
         )
     return done.returncode, done.stdout or b"", done.stderr
 
@@ -210,11 +263,36 @@ def differs(program: Path, run: Run) -> bool:
     return True
 
 
+def versions(program: Path) -> list[Run]:
+    """The runs that print the version. A proved program names the kit on the path, where there is one."""
+    kit = shutil.which("rt")
+    told = (
+        subprocess.run([kit, "version"], capture_output=True, text=True, check=False).stdout.strip()
+        if kit
+        else ""
+    )
+    shown = subprocess.run(
+        [program, "--version"], capture_output=True, text=True, check=False
+    ).stdout
+    kind = (
+        "not proved: a quick build"
+        if "not proved" in shown
+        else f"proved with {told or 'no kit to compare with'}"
+    )
+    if not kit and kind.startswith("proved"):
+        print("program: no rt on the path, so the kit that --version names wasn't compared")
+        return []
+    return [Run([word], 0, f"mkcheck 0.2.0 ({kind})\n") for word in ("-V", "--version")]
+
+
 def main() -> None:
     program = Path(sys.argv[1] if len(sys.argv) > 1 else PROGRAM).resolve()
     ran_of, wrong = 0, 0
-    tables = (Run(words, status, out, files=files) for words, status, out, files in chain(builds(), faults(), orders()))
-    for run in chain(ANSWERS, WORDS, PLACES, SIZES, tables):
+    tables = (
+        Run(words, status, out, files=files)
+        for words, status, out, files in chain(builds(), faults(), orders())
+    )
+    for run in chain(ANSWERS, WORDS, versions(program), PLACES, SIZES, tables):
         ran_of += 1
         wrong += differs(program, run)
     print(f"program: {ran_of} runs, {wrong} of them wrong")

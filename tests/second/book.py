@@ -14,7 +14,7 @@ class NoJson(Exception):
 
 def whole(text):
     """A number without point and exponent: whole where 64 bits hold it, else a float."""
-    if text == "-0" or len(text) > 25 or not -2 ** 63 <= int(text) < 2 ** 64:
+    if text == "-0" or len(text) > 25 or not -(2**63) <= int(text) < 2**64:
         return floating(text)
     return int(text)
 
@@ -60,8 +60,13 @@ def value_of(data):
     """The JSON value of bytes; NoJson where there is none."""
     try:
         text = data.decode("utf-8")
-        value = json.loads(text, parse_int=whole, parse_float=floating,
-                           parse_constant=refuse, object_pairs_hook=members)
+        value = json.loads(
+            text,
+            parse_int=whole,
+            parse_float=floating,
+            parse_constant=refuse,
+            object_pairs_hook=members,
+        )
         json.dumps(value, ensure_ascii=False).encode("utf-8")
     except (ValueError, RecursionError):
         raise NoJson
@@ -137,8 +142,13 @@ def once(texts):
 
 
 def test_records(records, keys):
-    tests = {"target": is_text, "commands": is_texts, "reads": is_texts,
-             "writes": is_texts, "shared": is_texts}
+    tests = {
+        "target": is_text,
+        "commands": is_texts,
+        "reads": is_texts,
+        "writes": is_texts,
+        "shared": is_texts,
+    }
     for record in records:
         if not is_object(record):
             raise shape("records")
@@ -177,9 +187,11 @@ def test_shapes(value):
 
 def test_names(value, groups):
     """55: the first key under which a name is none."""
+
     def tested(texts, key, test=is_path):
         if not all(test(text) for text in texts):
             raise Refused(55, key.encode())
+
     tested(value["fixed"], "fixed", is_front)
     tested(value["sources"], "sources")
     lists = value.get("lists", {})
@@ -218,19 +230,22 @@ def read_book(data, goals):
     wanted = [goal.decode("utf-8") for goal in goals]
     for group in groups:
         if value["format"] == 1 or group["goals"] == wanted:
-            return Book(once(value["fixed"]), once(value["sources"]),
-                        records_of(group["records"], lists))
+            return Book(
+                once(value["fixed"]), once(value["sources"]), records_of(group["records"], lists)
+            )
     raise Refused(57)
 
 
 def records_of(records, lists):
     made = {}
     for record in records:
-        reads = record["reads"] + [name for shared in record.get("shared", [])
-                                   for name in lists[shared]]
+        reads = record["reads"] + [
+            name for shared in record.get("shared", []) for name in lists[shared]
+        ]
         commands = [text.encode("utf-8") for text in record["commands"]]
         made[record["target"].encode("utf-8")] = Record(
-            commands, once(reads), once(record["writes"]))
+            commands, once(reads), once(record["writes"])
+        )
     return made
 
 
@@ -281,16 +296,31 @@ def certificate_of(value):
         has_key(entry, "recipe", is_name)
         only(entry, ["end", "file", "path", "recipe"])
         path = [name.encode("utf-8") for name in entry["path"]]
-        ways.append(Way(entry["recipe"].encode("utf-8"), entry["file"].encode("utf-8"),
-                        path, entry["end"].encode("utf-8")))
+        ways.append(
+            Way(
+                entry["recipe"].encode("utf-8"),
+                entry["file"].encode("utf-8"),
+                path,
+                entry["end"].encode("utf-8"),
+            )
+        )
     return [goal.encode("utf-8") for goal in value["goals"]], ways
 
 
 def certificate_text(goals, ways):
     """The compact text of a certificate."""
-    value = {"format": 1, "goals": [goal.decode("utf-8") for goal in goals], "ways": [
-        {"end": way.end.decode(), "file": way.file.decode("utf-8"),
-         "path": [name.decode("utf-8") for name in way.path],
-         "recipe": way.recipe.decode("utf-8")} for way in ways]}
+    value = {
+        "format": 1,
+        "goals": [goal.decode("utf-8") for goal in goals],
+        "ways": [
+            {
+                "end": way.end.decode(),
+                "file": way.file.decode("utf-8"),
+                "path": [name.decode("utf-8") for name in way.path],
+                "recipe": way.recipe.decode("utf-8"),
+            }
+            for way in ways
+        ],
+    }
     text = json.dumps(value, ensure_ascii=False, separators=(",", ":"), sort_keys=True)
     return text.encode("utf-8")

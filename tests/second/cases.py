@@ -15,17 +15,93 @@ from request import Request, Usage
 from shapes import inferences, jungle, orders
 
 FOLDER = object()
-OPERANDS = [b"X=x.o", b"A=$(B)", b"CC=cc", b"CFLAGS =  -g ", b"A::=$(CFLAGS)$$", b"B:::=$(A) $$v",
-            b"OUT=", b"X = $(Y) z", b"AB=1", b"M1=a.o b.o", b"A=x\ny", b"B=b\tc", b"E=a", b"X:::= $(CC)",
-            b"a.b=%", b"x-y=d/e", b"NONE=zz", b"-O=1", b"X=", b"A=a=b", b"_::=$(A)"]
-ODD_OPERANDS = [b"=x", b"A+=x", b"A:=x", b"A?=x", b"A!=x", b"A B=x", b"A::::=x", b"X::=$(", b"X::=$(X)$",
-                b"X::=$(%)", b"X::=$(REC", b"\xc3\xa9=x", b"$(A)=x", b" =", b"A=$(A)", b"B:::=$(A:x)", b"A==",
-                b"A= =", b"X=$(", b"::=x", b"A:: =x", b"@=x"]
-ODD_GOALS = [b".WAIT", b"-", b"./x", b"lib(x)", b"a//b", b"", b".c", b".c.o", b".o.c", b".PHONY", b"nowhere",
-             b"makefile", b"/usr/x", b"..", b"a%", b"x y", b"\xc3\xa9", b".hid", b".SUFFIXES", b"inc0.mk",
-             b"lib(", b"a;b", b"d/.o", b".hid.o", b"zz.o"]
-USAGE = [["-x"], ["-e"], ["-q", "a"], ["--zz"], ["-f"], ["-f", "makefile", "-f", "makefile"], ["-b", "B", "-b", "B"],
-         ["-k", "K", "-k", "K"], ["-p"], ["-f", "-x"], ["--no", "x"]]
+OPERANDS = [
+    b"X=x.o",
+    b"A=$(B)",
+    b"CC=cc",
+    b"CFLAGS =  -g ",
+    b"A::=$(CFLAGS)$$",
+    b"B:::=$(A) $$v",
+    b"OUT=",
+    b"X = $(Y) z",
+    b"AB=1",
+    b"M1=a.o b.o",
+    b"A=x\ny",
+    b"B=b\tc",
+    b"E=a",
+    b"X:::= $(CC)",
+    b"a.b=%",
+    b"x-y=d/e",
+    b"NONE=zz",
+    b"-O=1",
+    b"X=",
+    b"A=a=b",
+    b"_::=$(A)",
+]
+ODD_OPERANDS = [
+    b"=x",
+    b"A+=x",
+    b"A:=x",
+    b"A?=x",
+    b"A!=x",
+    b"A B=x",
+    b"A::::=x",
+    b"X::=$(",
+    b"X::=$(X)$",
+    b"X::=$(%)",
+    b"X::=$(REC",
+    b"\xc3\xa9=x",
+    b"$(A)=x",
+    b" =",
+    b"A=$(A)",
+    b"B:::=$(A:x)",
+    b"A==",
+    b"A= =",
+    b"X=$(",
+    b"::=x",
+    b"A:: =x",
+    b"@=x",
+]
+ODD_GOALS = [
+    b".WAIT",
+    b"-",
+    b"./x",
+    b"lib(x)",
+    b"a//b",
+    b"",
+    b".c",
+    b".c.o",
+    b".o.c",
+    b".PHONY",
+    b"nowhere",
+    b"makefile",
+    b"/usr/x",
+    b"..",
+    b"a%",
+    b"x y",
+    b"\xc3\xa9",
+    b".hid",
+    b".SUFFIXES",
+    b"inc0.mk",
+    b"lib(",
+    b"a;b",
+    b"d/.o",
+    b".hid.o",
+    b"zz.o",
+]
+USAGE = [
+    ["-x"],
+    ["-e"],
+    ["-q", "a"],
+    ["--zz"],
+    ["-f"],
+    ["-f", "makefile", "-f", "makefile"],
+    ["-b", "B", "-b", "B"],
+    ["-k", "K", "-k", "K"],
+    ["-p"],
+    ["-f", "-x"],
+    ["--no", "x"],
+]
 
 
 def project_of(rng, command, valid):
@@ -54,8 +130,23 @@ def words_of(rng, command, valid):
     if rng.random() < 0.06:
         words += ["-f", "makefile"]
     elif rng.random() < 0.03:
-        words += ["-f", rng.choice(["inc0.mk", "./makefile", "-", "gone.mk", "a//b", "folder",
-                                    "makefile/x", "../x", "a b", "folder/"])]
+        words += [
+            "-f",
+            rng.choice(
+                [
+                    "inc0.mk",
+                    "./makefile",
+                    "-",
+                    "gone.mk",
+                    "a//b",
+                    "folder",
+                    "makefile/x",
+                    "../x",
+                    "a b",
+                    "folder/",
+                ]
+            ),
+        ]
     if not valid and rng.random() < 0.01:
         words += rng.choice(USAGE)
     return words
@@ -183,7 +274,7 @@ def broken_word(rng, files, words):
     elif kind == 2:
         files[os.fsencode(name)] = FOLDER
     else:
-        del words[at - 1:at + 1]
+        del words[at - 1 : at + 1]
 
 
 def certificate_for(rng, graph, book, passed_over):

@@ -35,8 +35,14 @@ def alter_entry(rng, subject, ways):
     names = [node.name.decode() for node in subject.graph.serial]
     if not ways or rng.random() < 0.1:
         recipe = rng.choice(names)
-        ways.append({"end": rng.choice(["source", "written", "always"]), "file": rng.choice(names),
-                     "path": [recipe], "recipe": recipe})
+        ways.append(
+            {
+                "end": rng.choice(["source", "written", "always"]),
+                "file": rng.choice(names),
+                "path": [recipe],
+                "recipe": recipe,
+            }
+        )
         return
     places = [at for at, way in enumerate(ways) if len(way["path"]) > 1]
     place = rng.choice(places) if places and rng.random() < 0.7 else rng.randrange(len(ways))
@@ -76,8 +82,9 @@ def certificate_of(rng, subject):
         for _ in range(rng.choice([1, 1, 2])):
             alter_entry(rng, subject, value["ways"])
     elif draw < 0.85:
-        value["goals"] = rng.choice([[], value["goals"] * 2, value["goals"] + ["x"],
-                                     list(reversed(value["goals"]))])
+        value["goals"] = rng.choice(
+            [[], value["goals"] * 2, value["goals"] + ["x"], list(reversed(value["goals"]))]
+        )
     else:
         value = altered(rng, value)
         if isinstance(value.get("ways"), list) and value["ways"] and rng.random() < 0.3:

@@ -1,10 +1,10 @@
 #!/usr/bin/env python3
 """Asks mkcheck and the second program the same random questions, and compares what they say.
 
-    compare.py PROGRAM [--seed S] [--cases N] [--command C] [--seconds T] [--jobs J] [--gate] [--counts]
+compare.py PROGRAM [--seed S] [--cases N] [--command C] [--seconds T] [--jobs J] [--gate] [--counts]
 
-It prints the seed, which is a new one each time where none is given, for each command how many cases were tried,
-and each case that differs, whose files it keeps.
+It prints the seed, which is a new one each time where none is given, for each command how many
+cases were tried, and each case that differs, whose files it keeps.
 """
 
 import argparse
@@ -70,13 +70,20 @@ def given_up(_signal, _frame):
 def asked(program, words, folder):
     """Standard output and status of the program; no status where it gives no answer.
 
-    An alarm takes less time than a timeout of `run`, and most of a case is the start of the program.
+    An alarm takes less time than a timeout of `run`, and most of a case is the start of the
+    program.
     """
     signal.signal(signal.SIGALRM, given_up)
     signal.alarm(SECONDS)
     try:
-        done = subprocess.run([program, *words], cwd=folder, stdin=subprocess.DEVNULL, check=False,
-                              stdout=subprocess.PIPE, stderr=subprocess.DEVNULL)
+        done = subprocess.run(
+            [program, *words],
+            cwd=folder,
+            stdin=subprocess.DEVNULL,
+            check=False,
+            stdout=subprocess.PIPE,
+            stderr=subprocess.DEVNULL,
+        )
     except Silent:
         return b"no answer", None
     finally:
@@ -100,7 +107,8 @@ def sort_of(told):
     if b"\nrefused " in text:
         return "refused " + text.split(b"\nrefused ")[1].split()[0].decode()
     return {b"yes": "yes", b"goals": "graph", b"plan": "plan ok"}.get(
-        words[0], "certificate" if text.startswith(b"{") else "plan ok")
+        words[0], "certificate" if text.startswith(b"{") else "plan ok"
+    )
 
 
 class Comparer:
@@ -137,8 +145,12 @@ class Comparer:
         if self.differing <= KEPT:
             kept = os.path.join(tempfile.mkdtemp(prefix="fuzz-"), "files")
             shutil.copytree(self.folder, kept)
-            with open(os.path.join(os.path.dirname(kept), "words"), "w", encoding="utf-8",
-                      errors="surrogateescape") as file:
+            with open(
+                os.path.join(os.path.dirname(kept), "words"),
+                "w",
+                encoding="utf-8",
+                errors="surrogateescape",
+            ) as file:
                 file.write("\n".join(case.words) + "\n")
             print(f"  kept in {os.path.dirname(kept)}", flush=True)
 

@@ -74,8 +74,11 @@ def race_plan(subject, book, recipe, writer):
     plan.step(b"make", 1)
     while True:
         plan.world.pass_without_recipe()
-        ready = [name for name in turns(plan.world.graph, plan.world.goals, plan.world.done)
-                 if name != writer]
+        ready = [
+            name
+            for name in turns(plan.world.graph, plan.world.goals, plan.world.done)
+            if name != writer
+        ]
         if recipe in ready:
             plan.step(b"begin", recipe)
             return plan.text()
@@ -108,7 +111,8 @@ def shows_race(data, subject, book, recipe, writer):
 
 
 def shows(first, second, words, files):
-    """Whether what mkcheck printed for a race shows it, where the second program's plan is another one."""
+    """Whether what mkcheck printed for a race shows it, where the second program's plan is another
+    one."""
     request = Request(list(words))
     if "e" not in request.values or first[1] != 1 or second[1] != 1:
         return False

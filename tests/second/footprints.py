@@ -10,8 +10,22 @@ from lines import Refused
 from reading import read_makefile
 
 FIXED = ["/usr/", "/etc/", "sys/", "/", "../inc/", "usr/", "/usr/lib/"]
-ODD_FILES = ["log", "out.txt", "a b".replace(" ", "_"), "x:y", "q\"q", "b\\s", "é/ü", "a%b", "(p)",
-             "..", "-", ".WAIT", "\u2028", "\U0001f600"]
+ODD_FILES = [
+    "log",
+    "out.txt",
+    "a b".replace(" ", "_"),
+    "x:y",
+    'q"q',
+    "b\\s",
+    "é/ü",
+    "a%b",
+    "(p)",
+    "..",
+    "-",
+    ".WAIT",
+    "\u2028",
+    "\U0001f600",
+]
 
 
 class Memory:
@@ -30,17 +44,24 @@ class Model:
     def __init__(self, rng, project, request):
         self.rng = rng
         self.project = project
-        makefile = read_makefile(Memory(project.files), request.values.get("f"),
-                                 "r" not in request.flags, request.operands)
+        makefile = read_makefile(
+            Memory(project.files),
+            request.values.get("f"),
+            "r" not in request.flags,
+            request.operands,
+        )
         self.rules = Rules(makefile)
         self.goals = goal_names(self.rules, request.goals)
         self.passed_over = set(makefile.passed_over)
         self.fixed = [front for front in FIXED if rng.random() < (0.05 if front == "/" else 0.15)]
         often = 0.3 if project.inferring else 0.8
-        self.sources = [name.decode("utf-8") for name in project.names
-                        if name not in self.rules.targets and rng.random() < often]
+        self.sources = [
+            name.decode("utf-8")
+            for name in project.names
+            if name not in self.rules.targets and rng.random() < often
+        ]
         if rng.random() < 0.1:
-            self.sources += ["spare.h", "zz"][:rng.randint(1, 2)]
+            self.sources += ["spare.h", "zz"][: rng.randint(1, 2)]
         rng.shuffle(self.sources)
         self.sources = [name for name in self.sources if not self.under(name)]
         self.graph = self.graph_with_sources()
@@ -49,8 +70,11 @@ class Model:
         return any(name.startswith(front) for front in self.fixed)
 
     def there(self):
-        return There([name.encode() for name in self.sources],
-                     [front.encode() for front in self.fixed], self.rules.makefile.texts)
+        return There(
+            [name.encode() for name in self.sources],
+            [front.encode() for front in self.fixed],
+            self.rules.makefile.texts,
+        )
 
     def graph_with_sources(self):
         """The graph, with each name added to the sources that nothing makes."""
@@ -63,10 +87,14 @@ class Model:
                 self.sources.append(fault.words[0].decode("utf-8"))
 
     def subject(self, records):
-        made = {target.encode(): Record([text.encode() for text in record["commands"]],
-                                        [file.encode() for file in record["reads"]],
-                                        [file.encode() for file in record["writes"]])
-                for target, record in records.items()}
+        made = {
+            target.encode(): Record(
+                [text.encode() for text in record["commands"]],
+                [file.encode() for file in record["reads"]],
+                [file.encode() for file in record["writes"]],
+            )
+            for target, record in records.items()
+        }
         sources = [name.encode() for name in self.sources]
         return Subject(self.graph, Book([], sources, made), self.passed_over)
 
@@ -80,13 +108,19 @@ def records_of(model, mend):
     for node in model.graph.recipes():
         name = node.name.decode()
         texts = model.rules.expanded(node, model.graph.there)[0]
-        reads = [one.decode() for one in node.prerequisites
-                 if rng.random() < 0.8 and not model.graph.nodes[one].phony]
+        reads = [
+            one.decode()
+            for one in node.prerequisites
+            if rng.random() < 0.8 and not model.graph.nodes[one].phony
+        ]
         writes = [name] if not node.phony or rng.random() < 0.05 else []
         for direct in list(reads):
             if direct in records and rng.random() < 0.5:
-                reads += [one for one in records[direct]["reads"] + records[direct]["writes"]
-                          if rng.random() < 0.4]
+                reads += [
+                    one
+                    for one in records[direct]["reads"] + records[direct]["writes"]
+                    if rng.random() < 0.4
+                ]
         if model.fixed and rng.random() < 0.3:
             reads.append(rng.choice(model.fixed) + rng.choice(["x", "lib/y", "k.h"]))
         often = 0.8 if model.project.crossing else 0.1 if mend == "all" else 0.25
@@ -100,15 +134,32 @@ def records_of(model, mend):
         if rng.random() < 0.1:
             writes.append(rng.choice(nodes))
         if rng.random() < 0.04:
-            writes.append(rng.choice([
-                "makefile", "inc0.mk", "gone.d", "a.d", "b.c", "a.c", "b.y", "d/a.c", "Makefile"]))
+            writes.append(
+                rng.choice(
+                    [
+                        "makefile",
+                        "inc0.mk",
+                        "gone.d",
+                        "a.d",
+                        "b.c",
+                        "a.c",
+                        "b.y",
+                        "d/a.c",
+                        "Makefile",
+                    ]
+                )
+            )
         if rng.random() < 0.05:
             reads.append(rng.choice(["makefile", "inc0.mk", "nowhere", "log", name] + ODD_FILES))
         rng.shuffle(reads)
         rng.shuffle(writes)
         commands = [text.decode("utf-8", "replace") for text in texts]
-        records[name] = {"target": name, "commands": commands,
-                         "reads": list(dict.fromkeys(reads)), "writes": list(dict.fromkeys(writes))}
+        records[name] = {
+            "target": name,
+            "commands": commands,
+            "reads": list(dict.fromkeys(reads)),
+            "writes": list(dict.fromkeys(writes)),
+        }
     for _ in range(6 if mend != "none" else 0):
         subject = model.subject(records)
         found = subject.findings() if mend == "all" else subject.static_findings()
@@ -122,10 +173,16 @@ def made_from(model, names):
     fitting = []
     for name in names:
         rest, ending = model.rules.cut(name.encode())
-        fitting += [rest + suffix for suffix in model.rules.suffixes
-                    if suffix + ending in model.rules.commands]
-    fitting = [file for file in fitting if not model.graph.there.is_given(file)
-               and file not in model.rules.targets]
+        fitting += [
+            rest + suffix
+            for suffix in model.rules.suffixes
+            if suffix + ending in model.rules.commands
+        ]
+    fitting = [
+        file
+        for file in fitting
+        if not model.graph.there.is_given(file) and file not in model.rules.targets
+    ]
     return model.rng.choice(fitting or [b"made.c"]).decode()
 
 
@@ -137,7 +194,9 @@ def mended(records, words):
         file = names[0] if kind == b"loose" else names[-1]
         return drop(records[target]["writes"], file)
     if kind == b"selection":
-        return len(names[1]) % 2 == 0 and any([drop(record["writes"], names[1]) for record in records.values()])
+        return len(names[1]) % 2 == 0 and any(
+            [drop(record["writes"], names[1]) for record in records.values()]
+        )
     if kind in (b"own", b"unknown", b"race", b"stale"):
         return drop(records[names[0]]["reads"], names[-1])
     if kind == b"target":
@@ -198,7 +257,7 @@ def format_two(model, records):
             if lists.get(name, tail) == tail:
                 lists[name] = tail
                 record["shared"].append(name)
-                record["reads"] = record["reads"][:cut + (rng.random() < 0.2)]
+                record["reads"] = record["reads"][: cut + (rng.random() < 0.2)]
         made.append(record)
     if rng.random() < 0.2:
         lists["unused"] = ["x", "x"]
@@ -210,8 +269,13 @@ def format_two(model, records):
         groups.insert(0, {"goals": goals + ["other"], "records": made[:1]})
     if rng.random() < 0.2:
         groups.insert(0, {"goals": list(reversed(goals)), "records": made})
-    return {"format": 2, "fixed": model.fixed, "sources": model.sources, "lists": lists,
-            "groups": groups}
+    return {
+        "format": 2,
+        "fixed": model.fixed,
+        "sources": model.sources,
+        "lists": lists,
+        "groups": groups,
+    }
 
 
 def objects_in(value):
@@ -223,9 +287,39 @@ def objects_in(value):
     return found
 
 
-ODD_VALUES = [None, True, 0, 1, 2, 3, -1, 1.0, "", "x", [], ["x"], [1], [["x"]], {}, {"x": []},
-              {"x": "y"}, [None], [{}], ["./x"], ["a//b"], ["a b"], "./x", ["/"], ["//"], ["x/"],
-              ["x\u0000"], ["x\u007f"], ["l"], ["none"], 18446744073709551615]
+ODD_VALUES = [
+    None,
+    True,
+    0,
+    1,
+    2,
+    3,
+    -1,
+    1.0,
+    "",
+    "x",
+    [],
+    ["x"],
+    [1],
+    [["x"]],
+    {},
+    {"x": []},
+    {"x": "y"},
+    [None],
+    [{}],
+    ["./x"],
+    ["a//b"],
+    ["a b"],
+    "./x",
+    ["/"],
+    ["//"],
+    ["x/"],
+    ["x\u0000"],
+    ["x\u007f"],
+    ["l"],
+    ["none"],
+    18446744073709551615,
+]
 
 
 def odd_value(rng):
@@ -252,8 +346,12 @@ def altered(rng, value):
             if kind == 3 and one[key]:
                 one[key].append(copy.deepcopy(rng.choice(one[key])))
             elif kind == 4:
-                one[key].insert(rng.randint(0, len(one[key])), rng.choice(
-                    ["./x", "", "a/", "x", "usr/x", "/usr/q", "a//b", 7, None, "\u00a0x"]))
+                one[key].insert(
+                    rng.randint(0, len(one[key])),
+                    rng.choice(
+                        ["./x", "", "a/", "x", "usr/x", "/usr/q", "a//b", 7, None, "\u00a0x"]
+                    ),
+                )
             elif one[key]:
                 rng.shuffle(one[key])
     return value
@@ -261,8 +359,11 @@ def altered(rng, value):
 
 def spelled(rng, value):
     """The text of a value in one of its spellings; a few are no JSON, or say a key twice."""
-    text = json.dumps(value, ensure_ascii=rng.random() < 0.5,
-                      separators=rng.choice([(",", ":"), (", ", ": "), (" ,\n", "\t:\r\n")]))
+    text = json.dumps(
+        value,
+        ensure_ascii=rng.random() < 0.5,
+        separators=rng.choice([(",", ":"), (", ", ": "), (" ,\n", "\t:\r\n")]),
+    )
     draw = rng.random()
     if draw < 0.9:
         return text.encode("utf-8") + rng.choice([b"", b"\n", b" \t\r\n"])
@@ -275,17 +376,86 @@ def spelled(rng, value):
     return (text.rstrip()[:-1] + "," + twice + "}").encode("utf-8")
 
 
-TOKENS = [b"[", b"]", b"{", b"}", b",", b":", b'"a"', b'"b"', b"1", b"-", b"0", b".", b"e", b"E", b"+", b"9", b"null", b"true",
-          b"false", b"nul", b"True", b'"', b"\\", b'"\\', b"\\u", b"d83d", b"dc00", b"\\ud83d\\udc00", b'"\\udc00"', b"00e1", b" ", b"\t",
-          b"\n", b"\r", b"\x0c", b"\xa0", b"\xc2\xa0", b"\xef\xbb\xbf", b"/", b"'", b"//", b"#", b"\x00", b"\x1f", b"\x7f", b'"\\/"', b'"\\b\\f\\n"',
-          b'"\\a"', b'"\\u00zz"', b'"\x80"', b'"\xed\xa0\x80"', b'"\xc3\xa9"', b"1e5", b"1E+5", b"1e", b"1.5", b"-0", b"-0.0", b"1e309", b"-1e309",
-          b"123456789012345678901234567890", b"1" + b"0" * 308, b"1" + b"0" * 309, b"0.1e-400", b"NaN", b"-Infinity", b"[]", b"{}"]
+TOKENS = [
+    b"[",
+    b"]",
+    b"{",
+    b"}",
+    b",",
+    b":",
+    b'"a"',
+    b'"b"',
+    b"1",
+    b"-",
+    b"0",
+    b".",
+    b"e",
+    b"E",
+    b"+",
+    b"9",
+    b"null",
+    b"true",
+    b"false",
+    b"nul",
+    b"True",
+    b'"',
+    b"\\",
+    b'"\\',
+    b"\\u",
+    b"d83d",
+    b"dc00",
+    b"\\ud83d\\udc00",
+    b'"\\udc00"',
+    b"00e1",
+    b" ",
+    b"\t",
+    b"\n",
+    b"\r",
+    b"\x0c",
+    b"\xa0",
+    b"\xc2\xa0",
+    b"\xef\xbb\xbf",
+    b"/",
+    b"'",
+    b"//",
+    b"#",
+    b"\x00",
+    b"\x1f",
+    b"\x7f",
+    b'"\\/"',
+    b'"\\b\\f\\n"',
+    b'"\\a"',
+    b'"\\u00zz"',
+    b'"\x80"',
+    b'"\xed\xa0\x80"',
+    b'"\xc3\xa9"',
+    b"1e5",
+    b"1E+5",
+    b"1e",
+    b"1.5",
+    b"-0",
+    b"-0.0",
+    b"1e309",
+    b"-1e309",
+    b"123456789012345678901234567890",
+    b"1" + b"0" * 308,
+    b"1" + b"0" * 309,
+    b"0.1e-400",
+    b"NaN",
+    b"-Infinity",
+    b"[]",
+    b"{}",
+]
 
 
 def soup(rng):
     """A member that may be JSON, put together of tokens."""
     if rng.random() < 0.3:
-        return b'"' + b"".join(token.strip(b'"') for token in rng.choices(TOKENS, k=rng.randint(0, 4))) + b'"'
+        return (
+            b'"'
+            + b"".join(token.strip(b'"') for token in rng.choices(TOKENS, k=rng.randint(0, 4)))
+            + b'"'
+        )
     if rng.random() < 0.5:
         return b"[" + b",".join(rng.choices(TOKENS, k=rng.randint(0, 3))) + b"]"
     return b"".join(rng.choices(TOKENS, k=rng.randint(1, 4)))
@@ -299,24 +469,70 @@ def broken(rng, text):
     if kind == 0:
         return data[:place]
     if kind == 1:
-        return data[:place] + data[place + 1:]
+        return data[:place] + data[place + 1 :]
     if kind == 2:
-        return data[:place] + rng.choice([b",", b"}", b"]", b"\"", b"\\", b"\xff", b"\0", b"0",
-                                          b"\\u12", b"\\ud800", b"\t", b"\x1f", b":"]) + data[place:]
+        return (
+            data[:place]
+            + rng.choice(
+                [
+                    b",",
+                    b"}",
+                    b"]",
+                    b'"',
+                    b"\\",
+                    b"\xff",
+                    b"\0",
+                    b"0",
+                    b"\\u12",
+                    b"\\ud800",
+                    b"\t",
+                    b"\x1f",
+                    b":",
+                ]
+            )
+            + data[place:]
+        )
     if kind == 3:
         return b"\xef\xbb\xbf" + data
     if kind == 4:
         depth = rng.choice([126, 127, 128, 500])
         return b'{"deep":' + b"[" * (depth - 1) + b"]" * (depth - 1) + b"," + data[1:]
-    number = rng.choice([b"1.0", b"1e0", b"-0", b"01", b"1.", b"1e400", b"NaN", b"Infinity", b"+1", b"0x1",
-                         b"18446744073709551616", b"-9223372036854775809", b"9" * 400, b"1E+2", b"-1",
-                         b"18446744073709551615", b"1e-400", b".5", b"-", b"0", b"3", b"0.0", b"2.5e1"])
+    number = rng.choice(
+        [
+            b"1.0",
+            b"1e0",
+            b"-0",
+            b"01",
+            b"1.",
+            b"1e400",
+            b"NaN",
+            b"Infinity",
+            b"+1",
+            b"0x1",
+            b"18446744073709551616",
+            b"-9223372036854775809",
+            b"9" * 400,
+            b"1E+2",
+            b"-1",
+            b"18446744073709551615",
+            b"1e-400",
+            b".5",
+            b"-",
+            b"0",
+            b"3",
+            b"0.0",
+            b"2.5e1",
+        ]
+    )
     if kind == 5:
         return b'{"soup":' + soup(rng) + b"," + data[1:]
     if kind < 8:
         return data.replace(b'"format":1', b'"format":' + number).replace(
-            b'"format": 1', b'"format":' + number)
-    return rng.choice([b"", b"null", b"[]", b"1", b'"x"', b"{}", b"{} {}", b" ", b"tru", b"{\"a\":1,}"])
+            b'"format": 1', b'"format":' + number
+        )
+    return rng.choice(
+        [b"", b"null", b"[]", b"1", b'"x"', b"{}", b"{} {}", b" ", b"tru", b'{"a":1,}']
+    )
 
 
 def book_of(model, valid):
@@ -329,8 +545,14 @@ def book_of(model, valid):
         spoiled(model, records)
     listed = list(records.values())
     if rng.random() < 0.15:
-        listed.append({"target": rng.choice(["ghost", "h.h", "b"]), "commands": ["x"],
-                       "reads": ["r"], "writes": ["w"]})
+        listed.append(
+            {
+                "target": rng.choice(["ghost", "h.h", "b"]),
+                "commands": ["x"],
+                "reads": ["r"],
+                "writes": ["w"],
+            }
+        )
         if listed[-1]["target"] in records:
             listed.pop()
     rng.shuffle(listed)

@@ -67,8 +67,8 @@ class Rules:
         if SPECIAL.match(name):
             return False
         return name in self.known or any(
-            name.endswith(suffix) and name[:-len(suffix)] in self.known
-            for suffix in self.known)
+            name.endswith(suffix) and name[: -len(suffix)] in self.known for suffix in self.known
+        )
 
     def own_commands(self, name):
         """The commands of a target by its rule lines, or None without any."""
@@ -78,7 +78,7 @@ class Rules:
         """The name without its known suffix, and this suffix; the name and nothing without one."""
         for suffix in self.known:
             if name.endswith(suffix) and len(name) > len(suffix):
-                return name[:-len(suffix)], suffix
+                return name[: -len(suffix)], suffix
         return name, b""
 
     def choice(self, name, there, more=()):
@@ -88,8 +88,12 @@ class Rules:
         rest, ending = self.cut(name)
         for suffix in self.suffixes:
             made_from = rest + suffix
-            is_there = (made_from in there.sources or made_from in there.texts
-                        or made_from in self.targets or made_from in more)
+            is_there = (
+                made_from in there.sources
+                or made_from in there.texts
+                or made_from in self.targets
+                or made_from in more
+            )
             if suffix + ending in self.commands and is_there:
                 return suffix + ending, made_from
         return None
@@ -172,8 +176,11 @@ class Graph:
             if len(self.nodes) == NODE_LIMIT:
                 raise Refused(43)
             node = self.rules.node(name, self.there)
-            made = (name in self.rules.targets or node.phony
-                    or self.rules.choice(name, self.there) is not None)
+            made = (
+                name in self.rules.targets
+                or node.phony
+                or self.rules.choice(name, self.there) is not None
+            )
             if not made and not self.there.any_leaf and not self.there.is_given(name):
                 raise Refused(41, name)
             self.nodes[name] = node
@@ -192,7 +199,7 @@ class Graph:
                     if name in done:
                         continue
                     if name in on_path:
-                        raise Refused(42, *path[path.index(name):], name)
+                        raise Refused(42, *path[path.index(name) :], name)
                     path.append(name)
                     on_path.add(name)
                     rest = iter(self.nodes[name].prerequisites)

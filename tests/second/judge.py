@@ -13,8 +13,9 @@ class Subject:
         self.there = graph.there
         self.passed_over = passed_over
         self.records = book.records
-        self.commands = {node.name: graph.rules.expanded(node, graph.there)
-                         for node in graph.serial}
+        self.commands = {
+            node.name: graph.rules.expanded(node, graph.there) for node in graph.serial
+        }
         self.recipes = [node.name for node in graph.recipes()]
         self.writers = {}
         for recipe in self.recipes:
@@ -32,15 +33,26 @@ class Subject:
 
     def counts(self):
         return b"yes %d recipes %d reads" % (
-            len(self.recipes), sum(len(self.reads(recipe)) for recipe in self.recipes))
+            len(self.recipes),
+            sum(len(self.reads(recipe)) for recipe in self.recipes),
+        )
 
     # Findings, each as its printed words, in the order in which they are told.
 
     def static_findings(self):
         found = []
-        for told in (self.no_record, self.other_commands, self.varying, self.no_target,
-                     self.two_writers, self.given, self.own, self.unknown, self.loose,
-                     self.selection):
+        for told in (
+            self.no_record,
+            self.other_commands,
+            self.varying,
+            self.no_target,
+            self.two_writers,
+            self.given,
+            self.own,
+            self.unknown,
+            self.loose,
+            self.selection,
+        ):
             found.extend(told())
         return found
 
@@ -48,42 +60,67 @@ class Subject:
         return [[b"record", recipe] for recipe in self.recipes if recipe not in self.records]
 
     def other_commands(self):
-        return [[b"commands", recipe] for recipe in self.recipes
-                if recipe in self.records and not self.commands[recipe][1]
-                and self.records[recipe].commands != self.commands[recipe][0]]
+        return [
+            [b"commands", recipe]
+            for recipe in self.recipes
+            if recipe in self.records
+            and not self.commands[recipe][1]
+            and self.records[recipe].commands != self.commands[recipe][0]
+        ]
 
     def varying(self):
         return [[b"varying", recipe] for recipe in self.recipes if self.commands[recipe][1]]
 
     def no_target(self):
-        return [[b"target", recipe] for recipe in self.recipes
-                if recipe in self.records and not self.node(recipe).phony
-                and recipe not in self.writes(recipe)]
+        return [
+            [b"target", recipe]
+            for recipe in self.recipes
+            if recipe in self.records
+            and not self.node(recipe).phony
+            and recipe not in self.writes(recipe)
+        ]
 
     def two_writers(self):
-        return [[b"writers", first, second, file]
-                for place, first in enumerate(self.recipes) for file in self.writes(first)
-                for second in self.recipes[place + 1:] if file in self.writes(second)]
+        return [
+            [b"writers", first, second, file]
+            for place, first in enumerate(self.recipes)
+            for file in self.writes(first)
+            for second in self.recipes[place + 1 :]
+            if file in self.writes(second)
+        ]
 
     def given(self):
-        return [[b"given", recipe, file]
-                for recipe in self.recipes for file in self.writes(recipe)
-                if self.there.is_given(file) or file in self.rules.phony
-                or file in self.passed_over]
+        return [
+            [b"given", recipe, file]
+            for recipe in self.recipes
+            for file in self.writes(recipe)
+            if self.there.is_given(file) or file in self.rules.phony or file in self.passed_over
+        ]
 
     def own(self):
-        return [[b"own", recipe, file] for recipe in self.recipes
-                for file in self.reads(recipe) if file in self.writes(recipe)]
+        return [
+            [b"own", recipe, file]
+            for recipe in self.recipes
+            for file in self.reads(recipe)
+            if file in self.writes(recipe)
+        ]
 
     def unknown(self):
-        return [[b"unknown", recipe, file] for recipe in self.recipes
-                for file in self.reads(recipe)
-                if not self.there.is_given(file) and file not in self.writers]
+        return [
+            [b"unknown", recipe, file]
+            for recipe in self.recipes
+            for file in self.reads(recipe)
+            if not self.there.is_given(file) and file not in self.writers
+        ]
 
     def loose(self):
-        return [[b"loose", node.name, recipe] for node in self.graph.serial
-                if not node.recipe for recipe in self.writers.get(node.name, [])
-                if recipe not in node.prerequisites]
+        return [
+            [b"loose", node.name, recipe]
+            for node in self.graph.serial
+            if not node.recipe
+            for recipe in self.writers.get(node.name, [])
+            if recipe not in node.prerequisites
+        ]
 
     def selection(self):
         found = []
@@ -95,13 +132,20 @@ class Subject:
         return found
 
     def races(self):
-        return [[b"race", recipe, writer, file] for recipe in self.recipes
-                for file in self.reads(recipe) for writer in self.writers.get(file, [])
-                if writer != recipe and not is_before(self.graph, writer, recipe)]
+        return [
+            [b"race", recipe, writer, file]
+            for recipe in self.recipes
+            for file in self.reads(recipe)
+            for writer in self.writers.get(file, [])
+            if writer != recipe and not is_before(self.graph, writer, recipe)
+        ]
 
     def stale(self):
-        return [[b"stale", recipe, file] for recipe, file in self.pairs()
-                if self.way(recipe, file) is None]
+        return [
+            [b"stale", recipe, file]
+            for recipe, file in self.pairs()
+            if self.way(recipe, file) is None
+        ]
 
     def findings(self):
         found = self.static_findings()
@@ -114,14 +158,22 @@ class Subject:
 
     def pairs(self):
         """Each read of a file that can change."""
-        return [(recipe, file) for recipe in self.recipes for file in self.reads(recipe)
-                if self.needs_way(file)]
+        return [
+            (recipe, file)
+            for recipe in self.recipes
+            for file in self.reads(recipe)
+            if self.needs_way(file)
+        ]
 
     def carried(self, recipe):
         """The recipes that write a direct prerequisite of a recipe."""
-        return list(dict.fromkeys(
-            writer for name in self.node(recipe).prerequisites
-            for writer in self.writers.get(name, [])))
+        return list(
+            dict.fromkeys(
+                writer
+                for name in self.node(recipe).prerequisites
+                for writer in self.writers.get(name, [])
+            )
+        )
 
     def ends(self, path, file):
         """What the last recipe of a path has to do with the file."""
@@ -210,9 +262,13 @@ def wanted(graph, goals, done):
 def turns(graph, goals, done):
     """The names, not done, whose turn may come once these are done, in serial order."""
     met = wanted(graph, goals, done)
-    return [node.name for node in graph.serial
-            if node.name in met and node.name not in done
-            and all(name in done for name in node.prerequisites)]
+    return [
+        node.name
+        for node in graph.serial
+        if node.name in met
+        and node.name not in done
+        and all(name in done for name in node.prerequisites)
+    ]
 
 
 def is_before(graph, first, second):

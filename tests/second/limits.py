@@ -7,7 +7,8 @@ from texts import MISSES
 
 RULE = b"a: b\n\tc\n"
 BOOK = b'{"format":1,"fixed":[],"sources":["b"],"records":[%s]}' % (
-    b'{"target":"a","commands":["c"],"reads":["b"],"writes":["a"]}')
+    b'{"target":"a","commands":["c"],"reads":["b"],"writes":["a"]}'
+)
 
 
 def graph(text, files=None, words=()):
@@ -15,8 +16,9 @@ def graph(text, files=None, words=()):
 
 
 def simulated(plan):
-    return "simulate", Case({b"makefile": RULE, b"B": BOOK, b"P": plan},
-                            ["simulate", "-b", "B", "-p", "P"])
+    return "simulate", Case(
+        {b"makefile": RULE, b"B": BOOK, b"P": plan}, ["simulate", "-b", "B", "-p", "P"]
+    )
 
 
 def lines_at_limit():
@@ -49,8 +51,13 @@ def values_at_limit():
         yield graph(text + b"Y ::= $(X)\na:;echo\n")
     yield graph(long + b"W ::= " + b"$(V)" * 17 + b"$(\na:")
     yield graph(long + b"D = $(V:x%=$$%)\nW :::= " + b"$(D)" * 9 + b"\na:;echo")
-    yield graph(b"D ::= " + b"$$" * 32760 + b"\nE = " + b"$(D)" * 8
-                + b"\nF ::= $(E)$(E)\nG :::= $(F)\nH :::= $(F)$(F)\na:;echo")
+    yield graph(
+        b"D ::= "
+        + b"$$" * 32760
+        + b"\nE = "
+        + b"$(D)" * 8
+        + b"\nF ::= $(E)$(E)\nG :::= $(F)\nH :::= $(F)$(F)\na:;echo"
+    )
 
 
 def many_references():
@@ -81,12 +88,16 @@ def texts_at_limit():
         names = b" ".join([b"e"] * 100)
         rest = b" ".join([b"e"] * (times - 1000))
         text = (b"include " + names + b"\n") * 10 + b"include gone\n"
-        yield graph(text.replace(b"include gone", b"-include gone " + rest) + b"a:;x\n", {b"e": b""})
-    yield graph((b"include " + names + b"\n") * 10 + b"include " + b"e " * 23 + b"gone\n", {b"e": b""})
+        yield graph(
+            text.replace(b"include gone", b"-include gone " + rest) + b"a:;x\n", {b"e": b""}
+        )
+    yield graph(
+        (b"include " + names + b"\n") * 10 + b"include " + b"e " * 23 + b"gone\n", {b"e": b""}
+    )
     big = b" " * 65000 + b"\n"
     for size in (16777216, 16777217):
         text = b"a:;x\n" + big * 258
-        yield graph(text[:size - 1] + b"\n" * (size - len(text[:size - 1])))
+        yield graph(text[: size - 1] + b"\n" * (size - len(text[: size - 1])))
 
 
 def names_at_limit():
@@ -96,13 +107,18 @@ def names_at_limit():
         yield graph(RULE, None, ["g" * size])
         yield graph(RULE, {b"B": BOOK.replace(b'"b"', b'"%s"' % (b"s" * size))}, ["-b", "B"])
     for count in (4095, 4096):
-        listed = [b"a:"] + [b"a: " + b" ".join(b"n%d" % i for i in range(low, min(low + 512, count)))
-                            for low in range(0, count, 512)]
+        listed = [b"a:"] + [
+            b"a: " + b" ".join(b"n%d" % i for i in range(low, min(low + 512, count)))
+            for low in range(0, count, 512)
+        ]
         text = b"\n".join(listed) + b"\n"
         yield graph(text)
         yield graph(text + b"n7: a\n")
-        yield graph(text + b"n4094:;x\n", {b"B": BOOK.replace(b'"b"', b",".join(
-            b'"n%d"' % i for i in range(4094)))}, ["-b", "B"])
+        yield graph(
+            text + b"n4094:;x\n",
+            {b"B": BOOK.replace(b'"b"', b",".join(b'"n%d"' % i for i in range(4094)))},
+            ["-b", "B"],
+        )
 
 
 def deep_names():
@@ -119,7 +135,9 @@ def plans_at_limit():
     yield simulated(b"# x\n" * 65536)
     yield simulated(b"\n" * 65534 + b"jump\n" + b"\n\n\n")
     yield simulated(b"make 1\nrun a\nend\nedit b 18446744073709551615\nmake 1\nrun a\nend\n")
-    yield simulated(b"make 1\nrun a\nend\nedit b\nedit b 1\nmake 1\nbegin a\nlook a b\nput a a 9\ndone a\n")
+    yield simulated(
+        b"make 1\nrun a\nend\nedit b\nedit b 1\nmake 1\nbegin a\nlook a b\nput a a 9\ndone a\n"
+    )
     yield simulated(b"")
     for size in (16777216, 16777217):
         yield simulated(b"#" + b"x" * (size - 1))
@@ -133,8 +151,17 @@ def near_misses():
         yield graph(b"z: y\n" + miss, files)
 
 
-QUICK = (corners, documents, near_misses, lines_at_limit, values_at_limit, references_at_limit,
-         texts_at_limit, names_at_limit, plans_at_limit)
+QUICK = (
+    corners,
+    documents,
+    near_misses,
+    lines_at_limit,
+    values_at_limit,
+    references_at_limit,
+    texts_at_limit,
+    names_at_limit,
+    plans_at_limit,
+)
 
 
 def limits(quick):

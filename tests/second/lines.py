@@ -105,13 +105,13 @@ def first_outside(text, wanted, start=0):
     closers = []
     at = start
     while at < len(text):
-        two = text[at:at + 2]
+        two = text[at : at + 2]
         if two in (b"$$", b"$(", b"${"):
             if two != b"$$":
                 closers.append(b")" if two == b"$(" else b"}")
             at += 2
             continue
-        byte = text[at:at + 1]
+        byte = text[at : at + 1]
         if closers:
             if byte == closers[-1]:
                 closers.pop()
@@ -126,13 +126,13 @@ def reference_end(text, start):
     closers = []
     at = start
     while at < len(text):
-        two = text[at:at + 2]
+        two = text[at : at + 2]
         if two in (b"$$", b"$(", b"${"):
             if two != b"$$":
                 closers.append(b")" if two == b"$(" else b"}")
             at += 2
             continue
-        if text[at:at + 1] == closers[-1]:
+        if text[at : at + 1] == closers[-1]:
             closers.pop()
             if not closers:
                 return at
@@ -154,7 +154,7 @@ def is_rule_line(text):
     if include_word(text):
         return False
     at = first_outside(text, WANTED)
-    if at is None or text[at:at + 1] != b":":
+    if at is None or text[at : at + 1] != b":":
         return False
     return not any(text.startswith(op, at) for op in (b":=", b"::=", b":::="))
 
@@ -166,7 +166,7 @@ def uncomment(text):
         semicolon = first_outside(text, (b";",))
         limit = len(text) if semicolon is None else semicolon
     at = text.find(b"#", 0, limit)
-    while at > 0 and text[at - 1:at] == b"\\":
+    while at > 0 and text[at - 1 : at] == b"\\":
         at = text.find(b"#", at + 1, limit)
     if at >= 0:
         return text[:at].replace(b"\\#", b"#")

@@ -48,13 +48,13 @@ def measured(text):
 def replaced(word, old, new):
     """A word in which `old` at its end, or around its stem, became `new`."""
     if b"%" not in old:
-        return word[:len(word) - len(old)] + new if word.endswith(old) else word
+        return word[: len(word) - len(old)] + new if word.endswith(old) else word
     front, back = old.split(b"%", 1)
     if len(word) < len(front) + len(back):
         return word
     if not (word.startswith(front) and word.endswith(back)):
         return word
-    return new.replace(b"%", word[len(front):len(word) - len(back)], 1)
+    return new.replace(b"%", word[len(front) : len(word) - len(back)], 1)
 
 
 class Expander:
@@ -75,7 +75,7 @@ class Expander:
             if dollar != at:
                 part = text[at:] if dollar < 0 else text[at:dollar]
                 at += len(part)
-            elif text[at + 1:at + 2] == b"$":
+            elif text[at + 1 : at + 2] == b"$":
                 part = b"$"
                 at += 2
             else:
@@ -88,12 +88,12 @@ class Expander:
 
     def form(self, text, at, level, progress):
         """The value of the form at this `$`, and the place behind it."""
-        following = text[at + 1:at + 2]
+        following = text[at + 1 : at + 2]
         if following in (b"(", b"{"):
             end = reference_end(text, at)
             if end is None:
                 raise Unplaced(13)
-            body = text[at + 2:end]
+            body = text[at + 2 : end]
             after = end + 1
         elif ONE_BYTE.match(following):
             body = following
@@ -118,7 +118,7 @@ class Expander:
         equals = first_outside(body, (b"=",), colon + 1)
         if equals is None:
             raise Unplaced(11)
-        return [body[:colon], body[colon + 1:equals], body[equals + 1:]]
+        return [body[:colon], body[colon + 1 : equals], body[equals + 1 :]]
 
     def value(self, name, level, progress):
         if not NAME.match(name) and not INTERNAL.match(name):
@@ -167,7 +167,7 @@ class MacroTable:
         for colons in (b":::", b"::"):
             if before.endswith(colons):
                 operator = colons + b"="
-                before = before[:-len(colons)]
+                before = before[: -len(colons)]
                 break
         name = before.strip(BLANKS)
         if not NAME.match(name):

@@ -4,14 +4,48 @@ from texts import expression, macro_line, near_miss, torn
 
 PLAIN = [b"a", b"b", b"c", b"d", b"e", b"f", b"g", b"h"]
 OBJECTS = [b"a.o", b"b.o", b"c.o", b"d/a.o", b"x.tar.o", b"a", b"d/e", b"prog"]
-MIXED = [b"all", b"p", b"a.o", b"a.c", b"b.o", b"b.y", b"b.c", b"h.h", b"d/x", b"../up",
-         b"/opt/t", b"run.sh", b"run", b".hid", b"\xc3\xa9.o", b"-x", b".c", b".c.o", b"Q.PL"]
+MIXED = [
+    b"all",
+    b"p",
+    b"a.o",
+    b"a.c",
+    b"b.o",
+    b"b.y",
+    b"b.c",
+    b"h.h",
+    b"d/x",
+    b"../up",
+    b"/opt/t",
+    b"run.sh",
+    b"run",
+    b".hid",
+    b"\xc3\xa9.o",
+    b"-x",
+    b".c",
+    b".c.o",
+    b"Q.PL",
+]
 LEAVES = [b"a.c", b"b.c", b"c.c", b"d/a.c", b"h.h", b"b.y", b"b.sh", b"prog.c", b"/usr/k.h"]
 SUFFIXES = [b".o", b".c", b".sh", b".y", b".x", b".hid"]
-COMMANDS = [b"cc -c $<", b"touch $@", b"$(CC) -o $@ $^", b"@echo $(@D) $(@F) $*", b"-rm -f $+",
-            b"$(CC) $(CFLAGS) -c $(<F) # $$x", b"cp $< $@; \\", b"#not a comment", b"ar r $@ $(?F)",
-            b"ld $(^:.o=.x) $(@:%.o=%.z)", b"$(X) $(Y) $(Z)", b"  spaced  ", b"echo '\\#' \\\\",
-            b"$(OUT)", b"t ${@D}/${*F} $(*D) $(+D) $(<D)", b"x \xff y", b"mk ${^F} $(+F:a=b)"]
+COMMANDS = [
+    b"cc -c $<",
+    b"touch $@",
+    b"$(CC) -o $@ $^",
+    b"@echo $(@D) $(@F) $*",
+    b"-rm -f $+",
+    b"$(CC) $(CFLAGS) -c $(<F) # $$x",
+    b"cp $< $@; \\",
+    b"#not a comment",
+    b"ar r $@ $(?F)",
+    b"ld $(^:.o=.x) $(@:%.o=%.z)",
+    b"$(X) $(Y) $(Z)",
+    b"  spaced  ",
+    b"echo '\\#' \\\\",
+    b"$(OUT)",
+    b"t ${@D}/${*F} $(*D) $(+D) $(<D)",
+    b"x \xff y",
+    b"mk ${^F} $(+F:a=b)",
+]
 
 
 class Project:
@@ -101,13 +135,13 @@ def rules(project):
     pool = list(rng.choice([PLAIN, OBJECTS, MIXED, OBJECTS + LEAVES[:4], PLAIN + OBJECTS[:3]]))
     if project.chance(0.5):
         rng.shuffle(pool)
-    pool = pool[:rng.randint(1, 9)]
+    pool = pool[: rng.randint(1, 9)]
     leaves = [name for name in rng.sample(LEAVES, rng.randint(1, 4)) if name not in pool]
     project.names = list(dict.fromkeys(pool + leaves))
     for place, target in enumerate(pool):
         if place and project.chance(0.2):
             continue
-        later = pool[place + 1:] + leaves
+        later = pool[place + 1 :] + leaves
         if project.chance(0.01):
             later = project.names
         rule_of(project, target, later)
@@ -122,8 +156,9 @@ def rule_of(project, target, later):
     share = 0.8 if not target.startswith(b".") else 0.95
     left = spread(project, targets)
     colon = rng.choice([b":", b":", b":", b" :", b": "])
-    words = [] if target in (b".c", b".c.o") and project.chance(0.9) else prerequisites(
-        project, later)
+    words = (
+        [] if target in (b".c", b".c.o") and project.chance(0.9) else prerequisites(project, later)
+    )
     right = spread(project, words)
     commands(project, left + colon + (b" " + right if right else b""), targets, share)
     if project.chance(0.2):
@@ -139,8 +174,20 @@ def special_lines(project):
     if project.chance(0.08):
         project.add(b".NOTPARALLEL:")
     if project.chance(0.1):
-        project.add(rng.choice([b".POSIX:", b".IGNORE: a", b".SILENT:", b".PRECIOUS: a.o b",
-                                b".WAIT:", b".IGNORE:", b".SILENT: zz", b".PHONY:"]))
+        project.add(
+            rng.choice(
+                [
+                    b".POSIX:",
+                    b".IGNORE: a",
+                    b".SILENT:",
+                    b".PRECIOUS: a.o b",
+                    b".WAIT:",
+                    b".IGNORE:",
+                    b".SILENT: zz",
+                    b".PHONY:",
+                ]
+            )
+        )
     if project.chance(0.15):
         if project.chance(0.3):
             project.add(b".SUFFIXES:")
@@ -185,15 +232,24 @@ def included(project, blocks):
         start = rng.randrange(len(blocks))
         stop = min(len(blocks), start + rng.randint(0, 3))
         name = b"inc%d.mk" % number
-        project.files[name] = b"".join(line + b"\n" for block in blocks[start:stop]
-                                       for line in block)
+        project.files[name] = b"".join(
+            line + b"\n" for block in blocks[start:stop] for line in block
+        )
         line = rng.choice([b"include ", b"-include ", b"include  \t", b" include "]) + name
         if project.chance(0.15):
             line += b" " + rng.choice([b"inc0.mk", b"$(EMPTY)", b"inc0.mk"])
         blocks[start:stop] = [[line]]
     if project.chance(0.08):
-        missing = [rng.choice([b"-include gone.d", b"-include a.d b.d", b"-include $(EMPTY) c.d",
-                               b"include gone.mk"])]
+        missing = [
+            rng.choice(
+                [
+                    b"-include gone.d",
+                    b"-include a.d b.d",
+                    b"-include $(EMPTY) c.d",
+                    b"include gone.mk",
+                ]
+            )
+        ]
         blocks.insert(rng.randint(0, len(blocks)), missing)
 
 
@@ -204,12 +260,16 @@ def written(project, blocks):
     for block in blocks:
         for line in block:
             if project.chance(0.03):
-                line += rng.choice([b" # comment", b"# c", b"#", b" \\# x" if line[:1] == b"\t" else b" #"])
+                line += rng.choice(
+                    [b" # comment", b"# c", b"#", b" \\# x" if line[:1] == b"\t" else b" #"]
+                )
             if project.chance(0.06):
                 line = torn(rng, line)
             out.append(line + b"\n")
         if project.chance(0.08):
-            out.append(rng.choice([b"\n", b"# comment\n", b" \t\n", b"\t\n", b"#\\\nx: y\n", b"\\\n\n"]))
+            out.append(
+                rng.choice([b"\n", b"# comment\n", b" \t\n", b"\t\n", b"#\\\nx: y\n", b"\\\n\n"])
+            )
     text = b"".join(out)
     return text[:-1] if project.chance(0.03) else text
 
@@ -227,9 +287,9 @@ def structural(rng, valid):
     inference_rules(project)
     blocks = shuffled_blocks(project)
     if project.chance(0.3):
-        head = blocks[:len(blocks) // 2]
+        head = blocks[: len(blocks) // 2]
         rng.shuffle(head)
-        blocks[:len(blocks) // 2] = head
+        blocks[: len(blocks) // 2] = head
     included(project, blocks)
     if not valid and project.chance(0.25):
         line = near_miss(rng, project.names)
@@ -246,16 +306,59 @@ def mutated(rng, project):
         place = rng.randint(0, len(text))
         kind = rng.randrange(4)
         if kind == 0:
-            text[place:place] = rng.choice([
-                b":", b"=", b";", b"#", b"$", b"(", b")", b"{", b"}", b"\\", b"\n", b"\t", b" ",
-                b"$(", b"${", b"\\\n", b"::", b":=", b"!", b"?", b"+", b"%", b"*", b"\0", b"\xff",
-                b"\r", b"\x0b", b"\xc2\xa0", b"./", b"/", b"..", b".", b"$$", b"$@", b"`", b"|",
-                b"include ", b"\n\t", b".WAIT ", b".PHONY:", b".DEFAULT:", b"\\#", b"\n ", b"~"])
+            text[place:place] = rng.choice(
+                [
+                    b":",
+                    b"=",
+                    b";",
+                    b"#",
+                    b"$",
+                    b"(",
+                    b")",
+                    b"{",
+                    b"}",
+                    b"\\",
+                    b"\n",
+                    b"\t",
+                    b" ",
+                    b"$(",
+                    b"${",
+                    b"\\\n",
+                    b"::",
+                    b":=",
+                    b"!",
+                    b"?",
+                    b"+",
+                    b"%",
+                    b"*",
+                    b"\0",
+                    b"\xff",
+                    b"\r",
+                    b"\x0b",
+                    b"\xc2\xa0",
+                    b"./",
+                    b"/",
+                    b"..",
+                    b".",
+                    b"$$",
+                    b"$@",
+                    b"`",
+                    b"|",
+                    b"include ",
+                    b"\n\t",
+                    b".WAIT ",
+                    b".PHONY:",
+                    b".DEFAULT:",
+                    b"\\#",
+                    b"\n ",
+                    b"~",
+                ]
+            )
         elif kind == 1:
-            del text[place:place + rng.choice([1, 1, 2, 5])]
+            del text[place : place + rng.choice([1, 1, 2, 5])]
         elif kind == 2:
-            text[place:place] = text[place:place + rng.randint(1, 12)]
+            text[place:place] = text[place : place + rng.randint(1, 12)]
         else:
-            text[place:place + 1] = bytes([rng.randrange(256)])
+            text[place : place + 1] = bytes([rng.randrange(256)])
     project.files[name] = bytes(text)
     return project

@@ -3,11 +3,45 @@
 from lines import Refused
 from world import Fault, World, read_plan, take
 
-WRONG = [b"make", b"make 0", b"make 4097", b"make x", b"make 1 nowhere", b"make -1", b"begin", b"begin nowhere",
-         b"look", b"put", b"end x", b"stop x", b"done", b"edit", b"edit nowhere", b"run a b", b"pass", b"jump",
-         b"END", b"put a b c", b"make +1", b"make 1.0", b"edit a 18446744073709551616", b"finish nowhere",
-         b"run \xff", b"make 18446744073709551616", b"look nowhere nowhere", b"pass nowhere", b"edit a x",
-         b"\x0bend", b"begin #x", b"# \xff", b"\xc2\xa0", b"make 1 #", b"put a a -1", b"begin ./a", b"end\r"]
+WRONG = [
+    b"make",
+    b"make 0",
+    b"make 4097",
+    b"make x",
+    b"make 1 nowhere",
+    b"make -1",
+    b"begin",
+    b"begin nowhere",
+    b"look",
+    b"put",
+    b"end x",
+    b"stop x",
+    b"done",
+    b"edit",
+    b"edit nowhere",
+    b"run a b",
+    b"pass",
+    b"jump",
+    b"END",
+    b"put a b c",
+    b"make +1",
+    b"make 1.0",
+    b"edit a 18446744073709551616",
+    b"finish nowhere",
+    b"run \xff",
+    b"make 18446744073709551616",
+    b"look nowhere nowhere",
+    b"pass nowhere",
+    b"edit a x",
+    b"\x0bend",
+    b"begin #x",
+    b"# \xff",
+    b"\xc2\xa0",
+    b"make 1 #",
+    b"put a a -1",
+    b"begin ./a",
+    b"end\r",
+]
 
 
 def copied(world):
@@ -31,7 +65,7 @@ def line_of(rng, world):
         editable = sorted(name for name in world.names if world.there.is_editable(name))
         if editable and rng.random() < 0.4:
             line = [b"edit", rng.choice(editable)]
-            return line + ([rng.choice([1, 2, 7, 2 ** 64 - 1])] if rng.random() < 0.3 else [])
+            return line + ([rng.choice([1, 2, 7, 2**64 - 1])] if rng.random() < 0.3 else [])
         goals = list(world.graph.goals)
         chosen = rng.sample(goals, rng.randint(1, len(goals))) if rng.random() < 0.3 else []
         return [b"make", rng.choice([1, 1, 2, 2, 3, 4096])] + chosen
@@ -95,8 +129,19 @@ def wrong_line(rng, world):
     if world.running:
         fitting = [b"look", b"put", b"done", b"finish", b"begin", b"end", b"stop"]
     if rng.random() < 0.25:
-        fitting = [b"begin", b"look", b"put", b"done", b"finish", b"run", b"pass", b"end",
-                   b"stop", b"edit", b"make"]
+        fitting = [
+            b"begin",
+            b"look",
+            b"put",
+            b"done",
+            b"finish",
+            b"run",
+            b"pass",
+            b"end",
+            b"stop",
+            b"edit",
+            b"make",
+        ]
     word = rng.choice(fitting)
     line = [word]
     if word == b"make":

@@ -2,8 +2,20 @@
 
 import re
 
-from lines import (BLANKS, WANTED, Refused, Unplaced, first_outside, include_word,
-                   is_plain_path, logical_lines, place, tested_name, uncomment, words)
+from lines import (
+    BLANKS,
+    WANTED,
+    Refused,
+    Unplaced,
+    first_outside,
+    include_word,
+    is_plain_path,
+    logical_lines,
+    place,
+    tested_name,
+    uncomment,
+    words,
+)
 from macros import MacroTable
 
 DEFAULT_TEXT = b"""\
@@ -53,9 +65,9 @@ def kind_of(text):
     if include_word(text):
         return "include", include_word(text)
     at = first_outside(text, WANTED)
-    byte = b"" if at is None else text[at:at + 1]
+    byte = b"" if at is None else text[at : at + 1]
     if byte == b"=":
-        before = text[at - 1:at] if at else b""
+        before = text[at - 1 : at] if at else b""
         if before == b"!":
             raise Unplaced(21)
         if before in (b"?", b"+"):
@@ -74,19 +86,19 @@ def kind_of(text):
 
 
 def assignment(text, at, operator):
-    value = text[at + len(operator):].lstrip(BLANKS)
+    value = text[at + len(operator) :].lstrip(BLANKS)
     return "assign", text[:at].strip(BLANKS), operator, value
 
 
 def rule_line(text, colon):
     stop = first_outside(text, (b"=", b";"), colon + 1)
-    if stop is not None and text[stop:stop + 1] == b"=":
+    if stop is not None and text[stop : stop + 1] == b"=":
         raise Unplaced(24)
     if not text[:colon].strip(BLANKS):
         raise Unplaced(25)
     if stop is None:
-        return "rule", text[:colon], text[colon + 1:], None
-    return "rule", text[:colon], text[colon + 1:stop], text[stop + 1:].lstrip(BLANKS)
+        return "rule", text[:colon], text[colon + 1 :], None
+    return "rule", text[:colon], text[colon + 1 : stop], text[stop + 1 :].lstrip(BLANKS)
 
 
 class Makefile:
@@ -191,7 +203,7 @@ class Makefile:
             self.not_parallel = True
 
     def include(self, text, word, where, level):
-        names = words(self.macros.expand(text[len(word):])[0])
+        names = words(self.macros.expand(text[len(word) :])[0])
         names = [tested_name(name, where) for name in names]
         if not names:
             raise Refused(34, where)

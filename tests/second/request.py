@@ -9,7 +9,7 @@ from lines import Refused, number_of
 from reading import read_makefile
 
 FILE_LIMIT = 16777216
-FINDING_LIMIT = 2 ** 64 - 1
+FINDING_LIMIT = 2**64 - 1
 FINDING = re.compile(rb"\+?[0-9]+\Z")
 
 
@@ -55,7 +55,9 @@ class Request:
         if any(letter not in self.values for letter in self.NEEDED[self.command]):
             raise Usage
         number = self.values.get("e", b"1")
-        self.finding = number_of(number.lstrip(b"+"), FINDING_LIMIT) if FINDING.match(number) else None
+        self.finding = (
+            number_of(number.lstrip(b"+"), FINDING_LIMIT) if FINDING.match(number) else None
+        )
         if not self.finding:
             raise Usage
         self.operands = [word for word in self.words if b"=" in word]
@@ -98,8 +100,9 @@ def file_of(files, name):
 
 def prepared(request, files):
     """The graph, its book, and the names that the reading passed over."""
-    makefile = read_makefile(files, request.values.get("f"), "r" not in request.flags,
-                             request.operands)
+    makefile = read_makefile(
+        files, request.values.get("f"), "r" not in request.flags, request.operands
+    )
     rules = Rules(makefile)
     goals = goal_names(rules, request.goals)
     book = Book([], [], {})

@@ -18,8 +18,7 @@ def answer(request, files):
     if request.command == "graph":
         return graph.text("c" in request.flags), 0
     if request.command == "simulate":
-        text, refused = run_plan(World(graph, book),
-                                 read_plan(file_of(files, request.values["p"])))
+        text, refused = run_plan(World(graph, book), read_plan(file_of(files, request.values["p"])))
         return text, 2 if refused else 0
     subject = Subject(graph, book, passed_over)
     if request.command == "verify":

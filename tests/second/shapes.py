@@ -1,7 +1,15 @@
 """Random makefiles of three narrower shapes: macros, orders by `.WAIT`, and inference."""
 
-from makefiles import (LEAVES, SUFFIXES, Project, commands, included, prerequisites,
-                       shuffled_blocks, written)
+from makefiles import (
+    LEAVES,
+    SUFFIXES,
+    Project,
+    commands,
+    included,
+    prerequisites,
+    shuffled_blocks,
+    written,
+)
 from texts import blanks, expression, macro_line
 
 
@@ -21,8 +29,10 @@ def jungle(rng):
         if not wild:
             text = text.replace(left, names[number % 3] if left != names[number % 3] else b"no")
         project.add(macro_line(rng, left, None, text))
-    shown = b" ".join(b"[" + expression(rng, 2, safe=not wild or project.chance(0.6)) + b"]"
-                      for _ in range(rng.randint(1, 4)))
+    shown = b" ".join(
+        b"[" + expression(rng, 2, safe=not wild or project.chance(0.6)) + b"]"
+        for _ in range(rng.randint(1, 4))
+    )
     words = expression(rng, 1, safe=True) if project.chance(0.1) else b"y.c d/z"
     target = expression(rng, 1, safe=True) if project.chance(0.05) else b"t.o"
     project.add(target + b":" + blanks(rng) + words)
@@ -48,10 +58,10 @@ def orders(rng):
     """Small recipes, of which much is phony and much is ordered by `.WAIT` alone."""
     project = Project(rng)
     project.crossing = True
-    pool = [b"a", b"b", b"c", b"d", b"e", b"f", b"g"][:rng.randint(3, 7)]
+    pool = [b"a", b"b", b"c", b"d", b"e", b"f", b"g"][: rng.randint(3, 7)]
     if rng.random() < 0.04:
         pool = [b"n%d" % number for number in range(rng.randint(8, 40))]
-    head = [b"all", b"x", b"y"][:rng.randint(1, 3)]
+    head = [b"all", b"x", b"y"][: rng.randint(1, 3)]
     project.names = head + pool
     project.targets = head + pool
     phony = [name for name in project.names if rng.random() < 0.3]
@@ -60,7 +70,7 @@ def orders(rng):
     if phony:
         project.add(b".PHONY: " + b" ".join(phony))
     for place, name in enumerate(project.names):
-        later = project.names[place + 1:]
+        later = project.names[place + 1 :]
         count = rng.choice([1, 2, 3, 4]) if name in head else rng.choice([0, 0, 1, 1, 2, 3])
         chosen = []
         for one in [rng.choice(later) for _ in range(count if later else 0)]:
@@ -90,8 +100,12 @@ def inferences(rng):
     for _ in range(rng.randint(1, 6)):
         first, second = rng.choice(SUFFIXES), rng.choice(SUFFIXES + [b"", b""])
         if first != second and first + second not in project.made:
-            commands(project, first + second + b":" + b" .WAIT" * (rng.random() < 0.02),
-                     [first + second], 0.93)
+            commands(
+                project,
+                first + second + b":" + b" .WAIT" * (rng.random() < 0.02),
+                [first + second],
+                0.93,
+            )
     wanted = rng.sample(project.names, rng.randint(1, min(5, len(project.names))))
     project.add(b"all: " + b" ".join(wanted))
     project.targets = [b"all"] + wanted

@@ -5,7 +5,7 @@ import re
 from judge import turns
 from lines import Refused, number_of, words
 
-CLOCK_LIMIT = 2 ** 64 - 1
+CLOCK_LIMIT = 2**64 - 1
 PLAN_LIMIT = 65536
 JOB_LIMIT = 4096
 NUMBER = re.compile(rb"[0-9]+\Z")
@@ -54,17 +54,19 @@ class World:
     # What holds.
 
     def ready(self):
-        return [name for name in turns(self.graph, self.goals, self.done)
-                if name not in self.running]
+        return [
+            name for name in turns(self.graph, self.goals, self.done) if name not in self.running
+        ]
 
     def must_run(self, name):
         node = self.graph.nodes[name]
         if node.phony or name not in self.files:
             return True
         stamp = self.files[name][1]
-        return any(self.graph.nodes[one].phony
-                   or one in self.files and self.files[one][1] > stamp
-                   for one in node.prerequisites)
+        return any(
+            self.graph.nodes[one].phony or one in self.files and self.files[one][1] > stamp
+            for one in node.prerequisites
+        )
 
     def content(self, file):
         return self.files[file][0] if file in self.files else None
@@ -163,14 +165,23 @@ class World:
         self.end_recipe(name)
 
     def listing(self):
-        return b"".join(b"%s %d %d\n" % (name, *self.files[name])
-                        for name in sorted(self.files))
+        return b"".join(b"%s %d %d\n" % (name, *self.files[name]) for name in sorted(self.files))
 
 
 # Plans.
 
-SHAPES = {b"stop": (0, 0), b"end": (0, 0), b"begin": (1, 1), b"look": (2, 2), b"put": (2, 3),
-          b"done": (1, 1), b"finish": (1, 1), b"run": (1, 1), b"pass": (1, 1), b"edit": (1, 2)}
+SHAPES = {
+    b"stop": (0, 0),
+    b"end": (0, 0),
+    b"begin": (1, 1),
+    b"look": (2, 2),
+    b"put": (2, 3),
+    b"done": (1, 1),
+    b"finish": (1, 1),
+    b"run": (1, 1),
+    b"pass": (1, 1),
+    b"edit": (1, 2),
+}
 
 
 def told_number(word):
@@ -240,9 +251,17 @@ def take(world, line):
         world.begin(*told)
         world.finish(*told)
     else:
-        {b"stop": world.stop, b"begin": world.begin, b"look": world.look, b"put": world.put,
-         b"done": world.end_recipe, b"finish": world.finish, b"pass": world.pass_by,
-         b"end": world.end_make, b"edit": world.edit}[word](*told)
+        {
+            b"stop": world.stop,
+            b"begin": world.begin,
+            b"look": world.look,
+            b"put": world.put,
+            b"done": world.end_recipe,
+            b"finish": world.finish,
+            b"pass": world.pass_by,
+            b"end": world.end_make,
+            b"edit": world.edit,
+        }[word](*told)
 
 
 def run_plan(world, plan):
