@@ -1,5 +1,5 @@
 -- The answer to a request, whatever its command.
-use Rattle.std.specs.Prelude.{◌≡◌, ℕ, ◌<◌, false, List, Option, None, Some, Result, Ok, Err}
+use Rattle.std.specs.Prelude.{◌≡◌, ℕ, false, List, ◌∷◌, Option, None, Some, Result, Ok, Err}
 use Rattle.mk_read.specs.declared.fault.ReadFault.TheVariants.{ReadFailed}
 use Rattle.mk_read.specs.Files.{Told}
 use Rattle.mk_read.specs.Following as following
@@ -38,15 +38,15 @@ Answers files request answers (Err (Read fault)) =
 Answers files request answers answer =
     Draws answers (ready_for files (failing_of answer) request) answer
 
--- The count of failed reads rises if the fault is a failed read, and stays the same for any other
--- fault.
-abbrev pub Rises : ℕ → ℕ → Fault → Type 0
-Rises old new (Read (ReadFailed place name)) = old < new
-Rises old new (FileReadFailed name) = old < new
-Rises old new fault = new ≡ old
+-- The names whose reads failed, before and after a fault: with a failed read the file that the fault
+-- names is one more, and with any other fault they stay.
+abbrev pub NotesFault : List (List ℕ) → List (List ℕ) → Fault → Type 0
+NotesFault old new (Read (ReadFailed place name)) = new ≡ name ∷ old
+NotesFault old new (FileReadFailed name) = new ≡ name ∷ old
+NotesFault old new fault = new ≡ old
 
--- The count of failed reads rises if the answer is a failed read, and stays the same for any other
--- answer.
-abbrev pub Counts : {A : Type 0} → ℕ → ℕ → Result A Fault → Type 0
-Counts old new (Ok x) = new ≡ old
-Counts old new (Err fault) = Rises old new fault
+-- The names whose reads failed, before and after an answer: with a failed read the file that the
+-- fault names is one more, and with any other answer they stay.
+abbrev pub NotesFailure : {A : Type 0} → List (List ℕ) → List (List ℕ) → Result A Fault → Type 0
+NotesFailure old new (Ok x) = new ≡ old
+NotesFailure old new (Err fault) = NotesFault old new fault

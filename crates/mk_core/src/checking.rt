@@ -3,7 +3,7 @@
 ghost use Rattle.std.specs.Prelude.{◌≡◌, ◌<◌, ◌-◌, ◌^◌, true, IfErr, IfOk, OnOk};
 ghost use Rattle.mk_read.specs.Files.{IfFits, Keeps};
 ghost use Rattle.mk_core.specs.NotRead.{verdict_not_read};
-ghost use Rattle.mk_core.specs.Answer.{Answers, Counts};
+ghost use Rattle.mk_core.specs.Answer.{Answers, NotesFailure};
 ghost use Rattle.mk_core.specs.CheckAnswer.{AnswersCheck, GivesVerdict, IsVerdict, IsYes};
 ghost use Rattle.mk_core.specs.Right.{IsRightFor};
 ghost use Rattle.mk_core.specs.Steps.{is_out_of_memory};
@@ -16,7 +16,7 @@ use mk_cert::{Subject, counts};
 use mk_core_text::{Fault, Findings, Verdict};
 use mk_find::judge;
 use mk_find::laws::no_findings;
-use mk_read::Files;
+use mk_read_files::Files;
 use std::alloc::{AllocError, Global};
 
 /// The verdict on a build. The only error is out of memory.
@@ -79,14 +79,13 @@ impl Judge for CheckBuild {
 /// goals meets them, `Cycle` (42); the commands (11 to 17), node by node in the serial order. Out
 /// of memory can come in place of any result.
 pub fn check<F: Files>(alloc: Global, files: &mut F, request: &Request) -> Result<Verdict, Fault>
-    requires { F.failed files.old < 2 ^ 64 - 1 }
     ensures keeps { Keeps (F.fits files.old) (F.fits files.new) }
     ensures answer { IfFits (F.fits files.new)
         (λ told. Answers told request.now AnswersCheck result) }
     ensures right { IfFits (F.fits files.new)
         (λ told. IsYes result → IsRightFor told request.now) }
     ensures memory { IfErr result (λ fault. is_out_of_memory fault ≡ true → fault ≡ Memory) }
-    ensures counted { Counts (F.failed files.old) (F.failed files.new) result }
+    ensures noted { NotesFailure (F.failed files.old) (F.failed files.new) result }
 {
     yes_is_right();
     answer_judged(alloc, files, request, CheckBuild)

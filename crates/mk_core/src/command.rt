@@ -3,7 +3,7 @@
 ghost use Rattle.std.specs.Prelude.{◌≡◌, ◌⊎◌, ◌<◌, ◌-◌, ◌^◌, true, Result, Err, IfErr};
 ghost use Rattle.mk_read.specs.Files.{IfFits, Keeps, Told};
 ghost use Rattle.mk_read.specs.declared.fault.ReadFault as read;
-ghost use Rattle.mk_core.specs.Answer.{Answers, Counts};
+ghost use Rattle.mk_core.specs.Answer.{Answers, NotesFailure};
 ghost use Rattle.mk_core.specs.Ready.{Ready as ReadyValue};
 ghost use Rattle.mk_core.specs.Steps.{is_out_of_memory};
 ghost use Rattle.mk_core.specs.Views.{AnswersOver};
@@ -15,7 +15,8 @@ use crate::ready::{Ready, ready_over};
 use crate::request::Request;
 use mk_core_text::Fault;
 use mk_infer::RuleTable;
-use mk_read::{Files, Makefile};
+use mk_read::Makefile;
+use mk_read_files::Files;
 use mk_read_parse::read_makefile;
 use std::alloc::Global;
 
@@ -38,12 +39,11 @@ pub(crate) trait Command {
         files: &mut F,
         ready: &Ready<'_>,
     ) -> Result<Self::Answer, Fault>
-        requires { F.failed files.old < 2 ^ 64 - 1 }
         ensures keeps { Keeps (F.fits files.old) (F.fits files.new) }
         ensures answer { IfFits (F.fits files.new)
             (λ told. (result ≡ Err Memory) ⊎ answers self.now told ready.now result) }
         ensures memory { IfErr result (λ fault. is_out_of_memory fault ≡ true → fault ≡ Memory) }
-        ensures counted { Counts (F.failed files.old) (F.failed files.new) result };
+        ensures noted { NotesFailure (F.failed files.old) (F.failed files.new) result };
 
     /// A command never returns a fault of the makefile itself.
     ghost not_read: { (command : Self) (told : Told) (ready : ReadyValue)
@@ -58,12 +58,11 @@ fn answer_with<F: Files, C: Command>(
     table: &RuleTable<'_>,
     command: &C,
 ) -> Result<C::Answer, Fault>
-    requires { F.failed files.old < 2 ^ 64 - 1 }
     ensures keeps { Keeps (F.fits files.old) (F.fits files.new) }
     ensures answer { IfFits (F.fits files.new)
         (λ told. AnswersOver told request.now table.now (C.answers command.now told) result) }
     ensures memory { IfErr result (λ fault. is_out_of_memory fault ≡ true → fault ≡ Memory) }
-    ensures counted { Counts (F.failed files.old) (F.failed files.new) result }
+    ensures noted { NotesFailure (F.failed files.old) (F.failed files.new) result }
 {
     let ready = ready_over(alloc, files, request, table)?;
     let answer = command.answer(alloc, files, &ready);
@@ -80,12 +79,11 @@ fn answer_over<F: Files, C: Command>(
     makefile: &Makefile,
     command: &C,
 ) -> Result<C::Answer, Fault>
-    requires { F.failed files.old < 2 ^ 64 - 1 }
     ensures keeps { Keeps (F.fits files.old) (F.fits files.new) }
     ensures answer { IfFits (F.fits files.new)
         (λ told. AnswersOver told request.now makefile.now (C.answers command.now told) result) }
     ensures memory { IfErr result (λ fault. is_out_of_memory fault ≡ true → fault ≡ Memory) }
-    ensures counted { Counts (F.failed files.old) (F.failed files.new) result }
+    ensures noted { NotesFailure (F.failed files.old) (F.failed files.new) result }
 {
     let table = RuleTable::new(alloc, makefile)?;
     let answer = answer_with(alloc, files, request, &table, command);
@@ -103,12 +101,11 @@ pub(crate) fn answer_request<F: Files, C: Command>(
     request: &Request,
     command: &C,
 ) -> Result<C::Answer, Fault>
-    requires { F.failed files.old < 2 ^ 64 - 1 }
     ensures keeps { Keeps (F.fits files.old) (F.fits files.new) }
     ensures answer { IfFits (F.fits files.new)
         (λ told. Answers told request.now (C.answers command.now told) result) }
     ensures memory { IfErr result (λ fault. is_out_of_memory fault ≡ true → fault ≡ Memory) }
-    ensures counted { Counts (F.failed files.old) (F.failed files.new) result }
+    ensures noted { NotesFailure (F.failed files.old) (F.failed files.new) result }
 {
     let makefile = read_makefile(
         alloc,

@@ -3,7 +3,7 @@
 ghost use Rattle.std.specs.Prelude.{◌≡◌, ◌<◌, ◌-◌, ◌^◌, ℕ, true, IfErr};
 ghost use Rattle.mk_read.specs.Files.{IfFits, Keeps};
 ghost use Rattle.mk_core.specs.NotRead.{graph_not_read};
-ghost use Rattle.mk_core.specs.Answer.{Answers, Counts};
+ghost use Rattle.mk_core.specs.Answer.{Answers, NotesFailure};
 ghost use Rattle.mk_core.specs.GraphAnswer.{AnswersGraph};
 ghost use Rattle.mk_core.specs.Steps.{is_out_of_memory, seen};
 ghost use Rattle.mk_core.specs.Views.{DrawsOver, PrintsOver};
@@ -15,7 +15,7 @@ use crate::request::Request;
 use mk_core_text::{Fault, text_of};
 use mk_infer::{Choices, InferFault};
 use mk_infer_select::select;
-use mk_read::Files;
+use mk_read_files::Files;
 use std::alloc::Global;
 
 /// The text of the graph that is selected for the goals.
@@ -32,7 +32,7 @@ fn selected_text(alloc: Global, ready: &Ready<'_>, commands: bool) -> Result<Vec
 fn drawn(alloc: Global, ready: &Ready<'_>, commands: bool) -> Result<Vec<u8>, Fault>
     ensures answer { DrawsOver commands ready.now (seen (λ text. text.items) result) }
     ensures memory { IfErr result (λ fault. is_out_of_memory fault ≡ true → fault ≡ Memory) }
-    ensures counted { (failed : ℕ) → Counts failed failed result }
+    ensures noted { (failed : List (List ℕ)) → NotesFailure failed failed result }
 {
     let text = selected_text(alloc, ready, commands)?;
     Ok(text)
@@ -81,14 +81,13 @@ pub fn graph_text<F: Files>(
     files: &mut F,
     request: &Request,
 ) -> Result<Vec<u8>, Fault>
-    requires { F.failed files.old < 2 ^ 64 - 1 }
     ensures keeps { Keeps (F.fits files.old) (F.fits files.new) }
     ensures answer { IfFits (F.fits files.new)
         (λ told.
         Answers told request.now (AnswersGraph request.now.commands)
         (seen (λ text. text.items) result)) }
     ensures memory { IfErr result (λ fault. is_out_of_memory fault ≡ true → fault ≡ Memory) }
-    ensures counted { Counts (F.failed files.old) (F.failed files.new) result }
+    ensures noted { NotesFailure (F.failed files.old) (F.failed files.new) result }
 {
     let command = DrawGraph {
         commands: request.commands,

@@ -6,7 +6,7 @@ ghost use Rattle.mk_infer.specs.Selection.{Selects};
 ghost use Rattle.mk_read.specs.Files.{IfFits, Keeps, Told};
 ghost use Rattle.mk_read.specs.declared.fault.ReadFault as read;
 ghost use Rattle.mk_core.specs.NotRead.{judged_not_read};
-ghost use Rattle.mk_core.specs.Answer.{Answers, Counts};
+ghost use Rattle.mk_core.specs.Answer.{Answers, NotesFailure};
 ghost use Rattle.mk_core.specs.Judging.{AnswersJudged, AnswersTold, recorded, subject_over};
 ghost use Rattle.mk_core.specs.Steps.{is_out_of_memory};
 ghost use Rattle.mk_core_text.specs.declared.fault.Fault as faults;
@@ -21,7 +21,7 @@ use mk_cert::Subject;
 use mk_cert::laws::selected_goals;
 use mk_core_text::Fault;
 use mk_graph::Graph;
-use mk_read::Files;
+use mk_read_files::Files;
 use std::alloc::Global;
 
 /// A command that judges a build, given by its answer to a subject.
@@ -42,12 +42,11 @@ pub trait Judge {
         files: &mut F,
         subject: &Subject<'_>,
     ) -> Result<Self::Answer, Fault>
-        requires { F.failed files.old < 2 ^ 64 - 1 }
         ensures keeps { Keeps (F.fits files.old) (F.fits files.new) }
         ensures answer { IfFits (F.fits files.new)
             (λ told. (result ≡ Err Memory) ⊎ judges self.now told subject.now result) }
         ensures memory { IfErr result (λ fault. is_out_of_memory fault ≡ true → fault ≡ Memory) }
-        ensures counted { Counts (F.failed files.old) (F.failed files.new) result };
+        ensures noted { NotesFailure (F.failed files.old) (F.failed files.new) result };
 
     /// Such a command never returns a fault of the makefile itself.
     ghost not_read: { (judge : Self) (told : Told) (x : SubjectValue) (fault : read.ReadFault) →
@@ -63,7 +62,6 @@ fn judge_graph<F: Files, J: Judge>(
     graph: &Graph,
     judge: &J,
 ) -> Result<J::Answer, Fault>
-    requires few { F.failed files.old < 2 ^ 64 - 1 }
     requires selected { Selects ready.now.makefile (recorded ready.now) ready.now.goals
         (Ok graph.now) }
     ensures keeps { Keeps (F.fits files.old) (F.fits files.new) }
@@ -71,7 +69,7 @@ fn judge_graph<F: Files, J: Judge>(
         (λ told. (result ≡ Err Memory) ⊎
         AnswersTold (J.judges judge.now told) (subject_over ready.now graph.now) result) }
     ensures memory { IfErr result (λ fault. is_out_of_memory fault ≡ true → fault ≡ Memory) }
-    ensures counted { Counts (F.failed files.old) (F.failed files.new) result }
+    ensures noted { NotesFailure (F.failed files.old) (F.failed files.new) result }
 {
     selected_goals();
     let subject = Subject::new(
@@ -129,12 +127,11 @@ pub fn answer_judged<F: Files, J: Judge + Drop>(
     request: &Request,
     judge: J,
 ) -> Result<J::Answer, Fault>
-    requires { F.failed files.old < 2 ^ 64 - 1 }
     ensures keeps { Keeps (F.fits files.old) (F.fits files.new) }
     ensures answer { IfFits (F.fits files.new)
         (λ told. Answers told request.now (AnswersJudged (J.judges judge told)) result) }
     ensures memory { IfErr result (λ fault. is_out_of_memory fault ≡ true → fault ≡ Memory) }
-    ensures counted { Counts (F.failed files.old) (F.failed files.new) result }
+    ensures noted { NotesFailure (F.failed files.old) (F.failed files.new) result }
 {
     let command = Judged { judge };
     answer_request(alloc, files, request, &command)

@@ -20,7 +20,7 @@ pub use judging::{Judge, answer_judged};
 pub use leaking::drop_or_leak;
 pub use mk_core_text::{Fault, Findings, Verdict, fault_text, render};
 pub use mk_lines::{Name, Names};
-pub use mk_read::{Files, FilesError};
+pub use mk_read_files::{Files, FilesError};
 pub use mk_read_parse::MemFiles;
 pub use request::{Operands, Request, split_words};
 pub use simulation::{Simulation, simulate_text};

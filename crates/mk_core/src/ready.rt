@@ -3,7 +3,7 @@
 ghost use Rattle.std.specs.Prelude.{◌≡◌, ◌<◌, ◌-◌, ◌^◌, true, IfErr, IfOk};
 ghost use Rattle.std.specs.Option.{option_copied};
 ghost use Rattle.mk_read.specs.Files.{IfFits, Keeps};
-ghost use Rattle.mk_core.specs.Answer.{Counts};
+ghost use Rattle.mk_core.specs.Answer.{NotesFailure};
 ghost use Rattle.mk_core.specs.Judging.{recorded};
 ghost use Rattle.mk_core.specs.Ready.{book_for, exists, setting_of};
 ghost use Rattle.mk_core.specs.Steps.{is_out_of_memory};
@@ -18,7 +18,8 @@ use mk_foot::{Book, Setting, read_book};
 use mk_infer::{Exists, RuleTable};
 use mk_infer_select::{Goals, goal_names};
 use mk_lines::{Name, NameTable};
-use mk_read::{Files, Makefile};
+use mk_read::Makefile;
+use mk_read_files::Files;
 use std::alloc::{AllocError, Global};
 use std::marker::Model;
 
@@ -121,13 +122,12 @@ fn book_for<F: Files>(
     name: Option<&Name>,
     goals: &Goals,
 ) -> Result<Book, Fault>
-    requires { F.failed files.old < 2 ^ 64 - 1 }
     ensures keeps { Keeps (F.fits files.old) (F.fits files.new) }
     ensures book { IfFits (F.fits files.new)
         (λ told.
         Finds (λ failing. book_for told failing (option_copied name.entry) goals.now) result) }
     ensures memory { IfErr result (λ fault. is_out_of_memory fault ≡ true → fault ≡ Memory) }
-    ensures counted { Counts (F.failed files.old) (F.failed files.new) result }
+    ensures noted { NotesFailure (F.failed files.old) (F.failed files.new) result }
 {
     let Some(name) = name else {
         return Ok(Book::empty(alloc));
@@ -186,12 +186,11 @@ fn ready_with<'m, F: Files>(
     table: &'m RuleTable<'m>,
     goals: Goals,
 ) -> Result<Ready<'m>, Fault>
-    requires { F.failed files.old < 2 ^ 64 - 1 }
     ensures keeps { Keeps (F.fits files.old) (F.fits files.new) }
     ensures ready { IfFits (F.fits files.new)
         (λ told. Finds (λ failing. ready_with told failing request.now table.now goals) result) }
     ensures memory { IfErr result (λ fault. is_out_of_memory fault ≡ true → fault ≡ Memory) }
-    ensures counted { Counts (F.failed files.old) (F.failed files.new) result }
+    ensures noted { NotesFailure (F.failed files.old) (F.failed files.new) result }
 {
     let book = book_for(alloc, files, request.book.as_ref(), &goals)?;
     let any_leaf = request.book.is_none();
@@ -212,12 +211,11 @@ pub fn ready_over<'m, F: Files>(
     request: &Request,
     table: &'m RuleTable<'m>,
 ) -> Result<Ready<'m>, Fault>
-    requires { F.failed files.old < 2 ^ 64 - 1 }
     ensures keeps { Keeps (F.fits files.old) (F.fits files.new) }
     ensures ready { IfFits (F.fits files.new)
         (λ told. Finds (λ failing. ready_over told failing request.now table.now) result) }
     ensures memory { IfErr result (λ fault. is_out_of_memory fault ≡ true → fault ≡ Memory) }
-    ensures counted { Counts (F.failed files.old) (F.failed files.new) result }
+    ensures noted { NotesFailure (F.failed files.old) (F.failed files.new) result }
 {
     let goals = goal_names(alloc, table, request.goals.as_slice())?;
     ready_with(alloc, files, request, table, goals)

@@ -8,7 +8,7 @@ ghost use Rattle.mk_world.specs.State.{world_of};
 ghost use Rattle.mk_world.specs.Steps.{IsFirstOf};
 ghost use Rattle.mk_read.specs.Files.{IfFits, Keeps};
 ghost use Rattle.mk_core.specs.NotRead.{simulation_not_read};
-ghost use Rattle.mk_core.specs.Answer.{Answers, Counts};
+ghost use Rattle.mk_core.specs.Answer.{Answers, NotesFailure};
 ghost use Rattle.mk_core.specs.Simulation.{ShowsRun, last_lines};
 ghost use Rattle.mk_core.specs.SimulationAnswer.{AnswersSimulation};
 ghost use Rattle.mk_core.specs.Steps.{is_out_of_memory};
@@ -23,7 +23,7 @@ use crate::selecting::selected;
 use mk_core_text::{Fault, step_fault_text};
 use mk_foot::Setting;
 use mk_graph::Graph;
-use mk_read::Files;
+use mk_read_files::Files;
 use mk_world::{Plan, StepFault, World, print_files, run_plan};
 use mk_world_plan::read_plan;
 use std::alloc::{AllocError, Global};
@@ -101,12 +101,11 @@ fn run_file<F: Files>(
     setting: &Setting,
     plan: &str,
 ) -> Result<Simulation, Fault>
-    requires { F.failed files.old < 2 ^ 64 - 1 }
     ensures keeps { Keeps (F.fits files.old) (F.fits files.new) }
     ensures answer { IfFits (F.fits files.new)
         (λ told. RunsTextOver told plan.now graph.now setting.now result) }
     ensures memory { IfErr result (λ fault. is_out_of_memory fault ≡ true → fault ≡ Memory) }
-    ensures counted { Counts (F.failed files.old) (F.failed files.new) result }
+    ensures noted { NotesFailure (F.failed files.old) (F.failed files.new) result }
 {
     let text = file_text(alloc, files, plan)?;
     let plan = read_plan(alloc, &text)?;
@@ -121,12 +120,11 @@ fn simulated<F: Files>(
     ready: &Ready<'_>,
     plan: &str,
 ) -> Result<Simulation, Fault>
-    requires { F.failed files.old < 2 ^ 64 - 1 }
     ensures keeps { Keeps (F.fits files.old) (F.fits files.new) }
     ensures answer { IfFits (F.fits files.new)
         (λ told. SimulatesOver told plan.now ready.now result) }
     ensures memory { IfErr result (λ fault. is_out_of_memory fault ≡ true → fault ≡ Memory) }
-    ensures counted { Counts (F.failed files.old) (F.failed files.new) result }
+    ensures noted { NotesFailure (F.failed files.old) (F.failed files.new) result }
 {
     let graph = selected(alloc, ready, &ready.exists())?;
     run_file(alloc, files, &graph, ready.setting(), plan)
@@ -174,12 +172,11 @@ pub fn simulate_text<F: Files>(
     request: &Request,
     plan: &str,
 ) -> Result<Simulation, Fault>
-    requires { F.failed files.old < 2 ^ 64 - 1 }
     ensures keeps { Keeps (F.fits files.old) (F.fits files.new) }
     ensures answer { IfFits (F.fits files.new)
         (λ told. Answers told request.now (AnswersSimulation told plan.now) result) }
     ensures memory { IfErr result (λ fault. is_out_of_memory fault ≡ true → fault ≡ Memory) }
-    ensures counted { Counts (F.failed files.old) (F.failed files.new) result }
+    ensures noted { NotesFailure (F.failed files.old) (F.failed files.new) result }
 {
     answer_request(alloc, files, request, &SimulatePlan { plan })
 }

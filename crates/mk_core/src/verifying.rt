@@ -3,7 +3,7 @@
 ghost use Rattle.std.specs.Prelude.{◌≡◌, ◌⊎◌, ◌<◌, ◌-◌, ◌^◌, ℕ, true, Err, IfErr, IfOk, OnOk};
 ghost use Rattle.mk_read.specs.Files.{IfFits, Keeps};
 ghost use Rattle.mk_core.specs.NotRead.{verified_not_read};
-ghost use Rattle.mk_core.specs.Answer.{Answers, Counts, failing_of};
+ghost use Rattle.mk_core.specs.Answer.{Answers, NotesFailure, failing_of};
 ghost use Rattle.mk_core.specs.FileText.{text_of};
 ghost use Rattle.mk_core.specs.Right.{IsRightFor};
 ghost use Rattle.mk_core.specs.Steps.{is_out_of_memory, seen};
@@ -19,7 +19,7 @@ use mk_cert::{Subject, counts, verify};
 use mk_cert_text::{Certificate, read_certificate};
 use mk_core_text::{Fault, yes_line};
 use mk_lines::Name;
-use mk_read::Files;
+use mk_read_files::Files;
 use std::alloc::Global;
 
 /// The answer to a certificate: `yes N recipes M reads`, or its fault (73 to 76).
@@ -30,7 +30,7 @@ fn accepted(
 ) -> Result<Vec<u8>, Fault>
     ensures answer { AcceptsOver subject.now certificate.now (seen (λ text. text.items) result) }
     ensures memory { IfErr result (λ fault. is_out_of_memory fault ≡ true → fault ≡ Memory) }
-    ensures counted { (failed : ℕ) → Counts failed failed result }
+    ensures noted { (failed : List (List ℕ)) → NotesFailure failed failed result }
 {
     verify(alloc, subject, certificate)?;
     let (recipes, reads) = counts(subject);
@@ -45,12 +45,11 @@ fn verified<F: Files>(
     subject: &Subject<'_>,
     name: &str,
 ) -> Result<Vec<u8>, Fault>
-    requires { F.failed files.old < 2 ^ 64 - 1 }
     ensures keeps { Keeps (F.fits files.old) (F.fits files.new) }
     ensures answer { IfFits (F.fits files.new)
         (λ told. VerifiesOver told name.now subject.now (seen (λ text. text.items) result)) }
     ensures memory { IfErr result (λ fault. is_out_of_memory fault ≡ true → fault ≡ Memory) }
-    ensures counted { Counts (F.failed files.old) (F.failed files.new) result }
+    ensures noted { NotesFailure (F.failed files.old) (F.failed files.new) result }
 {
     let text = file_text(alloc, files, name)?;
     let certificate = read_certificate(alloc, &text)?;
@@ -100,7 +99,6 @@ pub fn verify_text<F: Files>(
     request: &Request,
     certificate: &str,
 ) -> Result<Vec<u8>, Fault>
-    requires { F.failed files.old < 2 ^ 64 - 1 }
     ensures keeps { Keeps (F.fits files.old) (F.fits files.new) }
     ensures answer { IfFits (F.fits files.new)
         (λ told.
@@ -109,7 +107,7 @@ pub fn verify_text<F: Files>(
     ensures right { IfFits (F.fits files.new)
         (λ told. OnOk result (IsRightFor told request.now)) }
     ensures memory { IfErr result (λ fault. is_out_of_memory fault ≡ true → fault ≡ Memory) }
-    ensures counted { Counts (F.failed files.old) (F.failed files.new) result }
+    ensures noted { NotesFailure (F.failed files.old) (F.failed files.new) result }
 {
     accepted_is_right();
     let judge = VerifyBuild { name: certificate };

@@ -5,7 +5,7 @@ ghost use Rattle.mk_cert.specs.declared.finding.Finding.{Finding as FindingValue
 ghost use Rattle.mk_find.specs.Findings.{AreFindings};
 ghost use Rattle.mk_read.specs.Files.{IfFits, Keeps};
 ghost use Rattle.mk_core_evidence.specs.NotRead.{evidence_not_read};
-ghost use Rattle.mk_core.specs.Answer.{Answers, Counts};
+ghost use Rattle.mk_core.specs.Answer.{Answers, NotesFailure};
 ghost use Rattle.mk_core.specs.CheckAnswer.{AnswersCheck};
 ghost use Rattle.mk_core.specs.Right.{IsRightFor};
 ghost use Rattle.mk_world.specs.NamedStep.{step_view};
@@ -19,7 +19,7 @@ use mk_cert::{Finding, Subject};
 use mk_core::laws::yes_is_right;
 use mk_core::{Fault, Judge, Request, Verdict, answer_judged, drop_or_leak, verdict_of};
 use mk_find_evidence::evidence;
-use mk_read::Files;
+use mk_read_files::Files;
 use mk_world::Step;
 use mk_world_plan::plan_text;
 use std::alloc::{AllocError, Global};
@@ -157,7 +157,6 @@ pub fn evidence_or_verdict<F: Files>(
     request: &Request,
     number: u64,
 ) -> Result<Evidence, Fault>
-    requires { F.failed files.old < 2 ^ 64 - 1 }
     ensures keeps { Keeps (F.fits files.old) (F.fits files.new) }
     ensures plan { IfFits (F.fits files.new)
         (λ told. Answers told request.now (AnswersEvidence number) (seen plan_in result)) }
@@ -166,7 +165,7 @@ pub fn evidence_or_verdict<F: Files>(
     ensures right { IfFits (F.fits files.new)
         (λ told. HasYes result → IsRightFor told request.now) }
     ensures memory { IfErr result (λ fault. is_out_of_memory fault ≡ true → fault ≡ Memory) }
-    ensures counted { Counts (F.failed files.old) (F.failed files.new) result }
+    ensures noted { NotesFailure (F.failed files.old) (F.failed files.new) result }
 {
     yes_is_right();
     let leaves_memory = request.leaves_memory;
@@ -190,14 +189,13 @@ pub fn evidence_text<F: Files>(
     request: &Request,
     number: u64,
 ) -> Result<Option<Vec<u8>>, Fault>
-    requires { F.failed files.old < 2 ^ 64 - 1 }
     ensures keeps { Keeps (F.fits files.old) (F.fits files.new) }
     ensures answer { IfFits (F.fits files.new)
         (λ told.
         Answers told request.now (AnswersEvidence number)
         (seen (option_map (λ text. text.items)) result)) }
     ensures memory { IfErr result (λ fault. is_out_of_memory fault ≡ true → fault ≡ Memory) }
-    ensures counted { Counts (F.failed files.old) (F.failed files.new) result }
+    ensures noted { NotesFailure (F.failed files.old) (F.failed files.new) result }
 {
     match evidence_or_verdict(alloc, files, request, number)? {
         Evidence::Plan(plan) => Ok(Some(plan)),

@@ -1,5 +1,5 @@
 -- What the functions that read files return.
-use Rattle.std.specs.Prelude.{◌≡◌, ℕ, zero, suc, ◌<◌, ◌≤◌, Option, None, Some, Result, Ok, Err, if◌then◌else◌}
+use Rattle.std.specs.Prelude.{◌≡◌, ℕ, zero, suc, ◌<◌, ◌≤◌, List, ◌∷◌, Option, None, Some, Result, Ok, Err, if◌then◌else◌}
 use Rattle.mk_read.specs.declared.fault.ReadFault.{ReadFault}
 use Rattle.mk_read.specs.declared.fault.ReadFault.TheVariants.{Memory, ReadFailed}
 use Rattle.mk_read.specs.Files.{Told, text_at}
@@ -44,17 +44,18 @@ Answers told reads_as (Err (ReadFailed place name)) =
     (k : ℕ) × (reads_as (reader_of told (Some k)) ≡ Err (ReadFailed place name))
 Answers told reads_as (Err fault) = Fails fault (reads_as (reader_of told None))
 
--- The count of failed reads before and after a fault: it rises with `ReadFailed`, and stays with
--- any other fault.
-abbrev pub Rises : ℕ → ℕ → ReadFault → Type 0
-Rises old new (ReadFailed place name) = old < new
-Rises old new fault = new ≡ old
+-- The names whose reads failed, before and after a fault: with `ReadFailed` the file that it names is
+-- one more, and with any other fault they stay.
+abbrev pub NotesFault : List (List ℕ) → List (List ℕ) → ReadFault → Type 0
+NotesFault old new (ReadFailed place name) = new ≡ name ∷ old
+NotesFault old new fault = new ≡ old
 
--- The count of failed reads before and after a result: it rises with `ReadFailed`, and stays with
--- anything else.
-abbrev pub Counts : {A : Type 0} → ℕ → ℕ → Result A ReadFault → Type 0
-Counts old new (Ok x) = new ≡ old
-Counts old new (Err fault) = Rises old new fault
+-- The names whose reads failed, before and after a result: with `ReadFailed` the file that it names
+-- is one more, and with anything else they stay.
+abbrev pub NotesFailure : {A : Type 0} → List (List ℕ) → List (List ℕ) → Result A ReadFault →
+    Type 0
+NotesFailure old new (Ok x) = new ≡ old
+NotesFailure old new (Err fault) = NotesFault old new fault
 
 -- The fault that is returned: each form of out of memory becomes `Memory`.
 abbrev pub answered : ReadFault → ReadFault

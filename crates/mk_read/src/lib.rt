@@ -4,14 +4,12 @@
 
 pub mod default_text;
 mod fault;
-mod files;
 mod makefile;
 mod name_set;
 mod special;
 mod suffix_list;
 
 pub use fault::{KindFault, Place, ReadFault};
-pub use files::{Files, FilesError};
 pub use makefile::{Command, Makefile, Rule};
 pub use name_set::NameSet;
 pub use special::Special;

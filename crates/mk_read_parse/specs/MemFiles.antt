@@ -12,9 +12,9 @@ entries files = map (λ (file : MemFile). (file.name, file.text.items)) files
 abbrev pub told_by : MemFiles → Told
 told_by m = entries m.files.items
 
--- How many reads have failed.
-abbrev pub failures_of : MemFiles → ℕ
-failures_of m = m.failures
+-- The names of the files whose reads failed, the last one first.
+abbrev pub failed_of : MemFiles → List (List ℕ)
+failed_of m = m.answered.given.failed
 
 -- The number of the read that is to fail, if one is.
 abbrev pub failing_of : MemFiles → Option ℕ

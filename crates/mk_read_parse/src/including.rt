@@ -8,7 +8,7 @@ ghost use Rattle.mk_lines.specs.Views.{line_view};
 ghost use Rattle.mk_lines.specs.Comments.{uncomment};
 ghost use Rattle.mk_read.specs.declared.fault.ReadFault.TheVariants.{Memory, ReadFailed};
 ghost use Rattle.mk_read.specs.Files.{IfFits, Keeps, text_at};
-ghost use Rattle.mk_read.specs.Following.{Counts, Follows, IsOfText, below};
+ghost use Rattle.mk_read.specs.Following.{NotesFailure, Follows, IsOfText, below};
 ghost use Rattle.mk_read.specs.Kinds.{kind_of};
 ghost use Rattle.mk_read_parse.specs.KindViews.{include_view, kind_view};
 ghost use Rattle.mk_read.specs.Reading.{files as all_files, include, one_file, plain_line, with_line, with_lines, with_text};
@@ -22,7 +22,8 @@ use crate::rules::names_in;
 use crate::state::{Owner, RuleLines, State};
 use mk_lines::{Line, LineFault, Name, logical_lines, uncomment};
 use mk_macros::MacroTable;
-use mk_read::{Files, FilesError, KindFault, ReadFault};
+use mk_read::{KindFault, ReadFault};
+use mk_read_files::{Files, FilesError};
 use std::alloc::Global;
 use std::mem;
 
@@ -83,13 +84,12 @@ fn read_lines<F: Files>(
     lines: &[Line<'_>],
     state: &mut State,
 ) -> Result<(), ReadFault>
-    requires { F.failed files.old < 2 ^ 64 - 1 }
     ensures keeps { Keeps (F.fits files.old) (F.fits files.new) }
     ensures follows { IfFits (F.fits files.new)
         (λ told. Follows told (λ reader. with_lines reader (below source.now.levels reader)
         (text_of source.now)
         (map line_view lines.now) state.old) state.old (seen (λ done. state.new) result)) }
-    ensures counted { Counts (F.failed files.old) (F.failed files.new) result }
+    ensures noted { NotesFailure (F.failed files.old) (F.failed files.new) result }
 {
     for line in lines {
         read_line(files, source, line, state)?;
@@ -105,13 +105,12 @@ fn read_line<F: Files>(
     line: &Line<'_>,
     state: &mut State,
 ) -> Result<(), ReadFault>
-    requires { F.failed files.old < 2 ^ 64 - 1 }
     ensures keeps { Keeps (F.fits files.old) (F.fits files.new) }
     ensures follows { IfFits (F.fits files.new)
         (λ told. Follows told (λ reader. with_line reader (below source.now.levels reader)
         (text_of source.now) state.old (line_view line.now)) state.old (seen (λ done.
         state.new) result)) }
-    ensures counted { Counts (F.failed files.old) (F.failed files.new) result }
+    ensures noted { NotesFailure (F.failed files.old) (F.failed files.new) result }
 {
     let spot = LineLocation {
         alloc: source.alloc,
@@ -135,14 +134,13 @@ fn read_kind<F: Files>(
     kind: Kind<'_>,
     state: &mut State,
 ) -> Result<(), ReadFault>
-    requires { F.failed files.old < 2 ^ 64 - 1 }
     ensures keeps { Keeps (F.fits files.old) (F.fits files.new) }
     ensures follows { IfFits (F.fits files.new)
         (λ told.
         Follows told (λ reader.
         plain_line reader (below source.now.levels reader) source.now.default (place_at spot.now)
         state.old (kind_view kind.entry)) state.old (seen (λ done. state.new) result)) }
-    ensures counted { Counts (F.failed files.old) (F.failed files.new) result }
+    ensures noted { NotesFailure (F.failed files.old) (F.failed files.new) result }
 {
     match kind {
         Kind::Comment => Ok(()),
@@ -185,13 +183,12 @@ fn read_include<F: Files>(
     line: IncludeLine<'_>,
     state: &mut State,
 ) -> Result<(), ReadFault>
-    requires { F.failed files.old < 2 ^ 64 - 1 }
     ensures keeps { Keeps (F.fits files.old) (F.fits files.new) }
     ensures follows { IfFits (F.fits files.new)
         (λ told. Follows told (λ reader. include reader (below source.now.levels reader)
         (place_at spot.now) state.old (include_view line.entry)) state.old (seen (λ done.
         state.new) result)) }
-    ensures counted { Counts (F.failed files.old) (F.failed files.new) result }
+    ensures noted { NotesFailure (F.failed files.old) (F.failed files.new) result }
 {
     let names = include_names(source.levels, spot, &state.macros, line.names)?;
     state.own(Owner::Nobody)?;
@@ -208,13 +205,12 @@ fn read_files<F: Files>(
     names: &[String],
     state: &mut State,
 ) -> Result<(), ReadFault>
-    requires { F.failed files.old < 2 ^ 64 - 1 }
     ensures keeps { Keeps (F.fits files.old) (F.fits files.new) }
     ensures follows { IfFits (F.fits files.new)
         (λ told. Follows told (λ reader. all_files reader (read_below levels reader)
         (place_at spot.now) optional (map string_bytes names.now) state.old) state.old
         (seen (λ done. state.new) result)) }
-    ensures counted { Counts (F.failed files.old) (F.failed files.new) result }
+    ensures noted { NotesFailure (F.failed files.old) (F.failed files.new) result }
 {
     for name in names {
         read_file(files, levels, spot, optional, name, state)?;
@@ -229,13 +225,12 @@ fn text_at<F: Files>(
     spot: &LineLocation<'_>,
     name: &str,
 ) -> Result<Option<Vec<u8>>, ReadFault>
-    requires { F.failed files.old < 2 ^ 64 - 1 }
     ensures keeps { Keeps (F.fits files.old) (F.fits files.new) }
     ensures text { IfOk result (λ found. IfFits (F.fits files.new)
         (λ told. option_map (λ text. text.items) found ≡ text_at told name.now)) }
     ensures fault { IfErr result (λ fault. (fault ≡ Memory) ⊎
         (fault ≡ ReadFailed (Some (place_at spot.now)) name.now)) }
-    ensures counted { Counts (F.failed files.old) (F.failed files.new) result }
+    ensures noted { NotesFailure (F.failed files.old) (F.failed files.new) result }
 {
     let place = spot.place()?;
     let file = Name::new(spot.alloc, name)?;
@@ -269,13 +264,12 @@ fn read_file<F: Files>(
     name: &str,
     state: &mut State,
 ) -> Result<(), ReadFault>
-    requires { F.failed files.old < 2 ^ 64 - 1 }
     ensures keeps { Keeps (F.fits files.old) (F.fits files.new) }
     ensures follows { IfFits (F.fits files.new)
         (λ told. Follows told (λ reader. one_file reader (read_below levels reader)
         (place_at spot.now) optional state.old name.now) state.old (seen (λ done.
         state.new) result)) }
-    ensures counted { Counts (F.failed files.old) (F.failed files.new) result }
+    ensures noted { NotesFailure (F.failed files.old) (F.failed files.new) result }
 {
     if state.is_full() {
         return Err(too_many(spot));
@@ -314,14 +308,13 @@ fn read_found<F: Files>(
     text: &[u8],
     state: &mut State,
 ) -> Result<(), ReadFault>
-    requires { F.failed files.old < 2 ^ 64 - 1 }
     ensures keeps { Keeps (F.fits files.old) (F.fits files.new) }
     ensures follows { IfFits (F.fits files.new)
         (λ told.
         Follows told (λ reader.
         found_after (read_below levels reader) name.now text.now (text_more state.old name.now))
         (text_more state.old name.now) (seen (λ done. state.new) result)) }
-    ensures counted { Counts (F.failed files.old) (F.failed files.new) result }
+    ensures noted { NotesFailure (F.failed files.old) (F.failed files.new) result }
 {
     let file = Name::new(spot.alloc, name)?;
     state.note_text(spot.alloc, name)?;
@@ -343,12 +336,11 @@ pub(crate) fn read_text<F: Files>(
     text: &[u8],
     state: &mut State,
 ) -> Result<(), ReadFault>
-    requires { F.failed files.old < 2 ^ 64 - 1 }
     ensures keeps { Keeps (F.fits files.old) (F.fits files.new) }
     ensures follows { IfFits (F.fits files.new)
         (λ told. Follows told (λ reader. with_text reader (below source.now.levels reader)
         (text_of source.now) text.now state.old) state.old (seen (λ done. state.new) result)) }
-    ensures counted { Counts (F.failed files.old) (F.failed files.new) result }
+    ensures noted { NotesFailure (F.failed files.old) (F.failed files.new) result }
 {
     let lines = lines_of(source, text)?;
     read_lines(files, source, &lines, state)

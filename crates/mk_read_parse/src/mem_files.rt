@@ -1,13 +1,13 @@
 //! A reader of files in memory, for tests.
 
-ghost use Rattle.std.specs.Prelude.{◌≡◌, ◌+◌, ◌<◌, ◌-◌, ◌^◌, ◌↔◌, ◌∷◌, ◌++◌, [], map, OnOk, OnErr, IfOk, IsErrOf, None, Some};
+ghost use Rattle.std.specs.Prelude.{◌≡◌, ◌↔◌, ◌∷◌, ◌++◌, [], OnOk, OnErr, IfOk, IfErr, IsErrOf, None, Some};
 ghost use Rattle.std.specs.Option.{option_map};
 ghost use Rattle.mk_read.specs.Files.{text_at};
 ghost use Rattle.mk_read_parse.specs.MemFiles.{entries};
-ghost use Rattle.mk_read.specs.declared.files.FilesError.TheVariants.{Memory, ReadFailed};
+ghost use Rattle.mk_read_files.specs.declared.files.FilesError.TheVariants.{Memory, ReadFailed};
 
 use mk_lines::Name;
-use mk_read::{Files, FilesError};
+use mk_read_files::{Answer, Answered, Files, FilesError};
 use std::alloc::{AllocError, Global};
 
 /// A file in memory.
@@ -24,7 +24,7 @@ pub struct MemFiles {
     files: Vec<MemFile>,
     fails_at: Option<u64>,
     reads: u64,
-    failures: u64,
+    answered: Answered,
 }
 
 /// The text of the first file with this name.
@@ -39,13 +39,25 @@ fn text_of<'a>(files: &'a [MemFile], name: &str) -> Option<&'a [u8]>
     None
 }
 
+/// A copy of the text, if there is one.
+fn copied(alloc: Global, text: Option<&[u8]>) -> Result<Option<Vec<u8>>, FilesError>
+    ensures text { IfOk result (λ copy. option_map (λ bytes. bytes.items) copy ≡
+        option_map (λ bytes. bytes.now) text) }
+    ensures memory { IfErr result (λ error. error ≡ Memory) }
+{
+    match text {
+        Some(text) => Ok(Some(Vec::from_slice(alloc, text)?)),
+        None => Ok(None),
+    }
+}
+
 impl MemFiles {
-    ghost use Rattle.mk_read_parse.specs.MemFiles.{told_by, failures_of, failing_of, reads_of, next_read, IsToFail};
+    ghost use Rattle.mk_read_parse.specs.MemFiles.{told_by, failed_of, failing_of, reads_of, next_read, IsToFail};
 
     /// A reader without files, none of whose reads fails.
     pub fn new(alloc: Global) -> MemFiles
         ensures files { told_by result ≡ [] }
-        ensures failures { failures_of result ≡ 0 }
+        ensures failed { failed_of result ≡ [] }
         ensures failing { failing_of result ≡ None }
         ensures reads { reads_of result ≡ 0 }
     {
@@ -53,7 +65,7 @@ impl MemFiles {
             files: Vec::new(alloc),
             fails_at: None,
             reads: 0,
-            failures: 0,
+            answered: Answered::new(),
         }
     }
 
@@ -62,7 +74,7 @@ impl MemFiles {
         ensures ok { OnOk result (told_by self.new ≡
             told_by self.old ++ (name.now, text.now) ∷ []) }
         ensures err { OnErr result (told_by self.new ≡ told_by self.old) }
-        ensures failures { failures_of self.new ≡ failures_of self.old }
+        ensures failed { failed_of self.new ≡ failed_of self.old }
         ensures failing { failing_of self.new ≡ failing_of self.old }
         ensures reads { reads_of self.new ≡ reads_of self.old }
     {
@@ -78,7 +90,7 @@ impl MemFiles {
     /// Makes the read with this number fail, counted from 1 over all reads. 0 makes none fail.
     pub fn fail_at(&mut self, read: u64)
         ensures files { told_by self.new ≡ told_by self.old }
-        ensures failures { failures_of self.new ≡ failures_of self.old }
+        ensures failed { failed_of self.new ≡ failed_of self.old }
         ensures failing { failing_of self.new ≡ Some read }
         ensures reads { reads_of self.new ≡ reads_of self.old }
     {
@@ -86,45 +98,42 @@ impl MemFiles {
     }
 
     /// Reads a file, as `Files::read` does. Fails with `ReadFailed` exactly where this read is the
-    /// one that is to fail; only that counts as a failure. `Memory`, out of memory, doesn't. The
-    /// count of reads stays at its greatest value once that is reached.
+    /// one that is to fail, and only then is the name noted; `Memory` is out of memory. The count
+    /// of reads stays at its greatest value once that is reached.
     pub fn read_next(&mut self, alloc: Global, name: &str) -> Result<Option<Vec<u8>>, FilesError>
-        requires { failures_of self.old < 2 ^ 64 - 1 }
         ensures files { told_by self.new ≡ told_by self.old }
         ensures failing { failing_of self.new ≡ failing_of self.old }
         ensures reads { reads_of self.new ≡ next_read self.old }
         ensures text { IfOk result (λ text. option_map (λ bytes. bytes.items) text ≡
             text_at (told_by self.old) name.now) }
         ensures fails { IsErrOf result ReadFailed ↔ IsToFail self.old }
-        ensures counted { IsErrOf result ReadFailed →
-            failures_of self.new ≡ failures_of self.old + 1 }
-        ensures ok { OnOk result (failures_of self.new ≡ failures_of self.old) }
-        ensures memory { IsErrOf result Memory → failures_of self.new ≡ failures_of self.old }
+        ensures noted { IsErrOf result ReadFailed →
+            failed_of self.new ≡ name.now ∷ failed_of self.old }
+        ensures ok { OnOk result (failed_of self.new ≡ failed_of self.old) }
+        ensures memory { IsErrOf result Memory → failed_of self.new ≡ failed_of self.old }
     {
         self.reads = self.reads.saturating_add(1);
-        if self.fails_at == Some(self.reads) {
-            self.failures += 1;
-            return Err(FilesError::ReadFailed);
-        }
-        match text_of(&self.files, name) {
-            Some(text) => Ok(Some(Vec::from_slice(alloc, text)?)),
-            None => Ok(None),
-        }
+        let read = if self.fails_at == Some(self.reads) {
+            Err(FilesError::ReadFailed)
+        } else {
+            copied(alloc, text_of(&self.files, name))
+        };
+        self.answered = self.answered.with(&Answer {
+            name,
+            result: &read,
+        });
+        read
     }
 }
 
 impl Files for MemFiles {
-    ghost use Rattle.mk_read_parse.specs.MemFiles.{told_by, failures_of};
+    ghost use Rattle.mk_read_parse.specs.MemFiles.{told_by, failed_of};
 
     ghost fits = { λ m told. told ≡ told_by m };
 
-    ghost failed = { failures_of };
+    ghost failed = { failed_of };
 
     fn read(&mut self, alloc: Global, name: &str) -> Result<Option<Vec<u8>>, FilesError> {
         self.read_next(alloc, name)
-    }
-
-    fn failures(&self) -> u64 {
-        self.failures
     }
 }

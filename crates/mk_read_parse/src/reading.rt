@@ -8,7 +8,7 @@ ghost use Rattle.std.specs.String.{string_bytes};
 ghost use Rattle.mk_macros.specs.Definitions.{with_operand};
 ghost use Rattle.mk_read.specs.declared.fault.ReadFault.TheVariants.{Memory, ReadFailed};
 ghost use Rattle.mk_read.specs.Files.{IfFits, Keeps, text_at};
-ghost use Rattle.mk_read.specs.Following.{Answers, Counts, Follows, IsOfText, answered};
+ghost use Rattle.mk_read.specs.Following.{Answers, NotesFailure, Follows, IsOfText, answered};
 ghost use Rattle.mk_read.specs.Reading.{after_default, counts, from_named, makefile, makefile_of, named, reading, with_operands};
 ghost use Rattle.mk_read.specs.Special.{is_inference_name};
 ghost use Rattle.mk_read.specs.Names.{has_name};
@@ -21,7 +21,8 @@ use crate::state::{Owner, RuleLines, State, with_last};
 use mk_lines::{Name, is_plain_path};
 use mk_macros::{MacroFault, MacroTable};
 use mk_read::default_text::default_text_says_this;
-use mk_read::{Files, FilesError, Makefile, Place, ReadFault, Rule, SuffixList};
+use mk_read::{Makefile, Place, ReadFault, Rule, SuffixList};
+use mk_read_files::{Files, FilesError};
 use std::alloc::{AllocError, Global};
 
 /// The default text, which is read first where that is wanted.
@@ -66,12 +67,11 @@ fn read_default<F: Files>(
     defaults: bool,
     state: &mut State,
 ) -> Result<(), ReadFault>
-    requires { F.failed files.old < 2 ^ 64 - 1 }
     ensures keeps { Keeps (F.fits files.old) (F.fits files.new) }
     ensures follows { IfFits (F.fits files.new) (λ told. state.old ≡ nothing_read →
         Follows told (λ reader.
         after_default reader defaults) nothing_read (seen (λ done. state.new) result)) }
-    ensures counted { Counts (F.failed files.old) (F.failed files.new) result }
+    ensures noted { NotesFailure (F.failed files.old) (F.failed files.new) result }
 {
     if !defaults {
         return Ok(());
@@ -133,12 +133,11 @@ fn makefile_at<F: Files>(
     files: &mut F,
     name: &str,
 ) -> Result<Option<Vec<u8>>, ReadFault>
-    requires { F.failed files.old < 2 ^ 64 - 1 }
     ensures keeps { Keeps (F.fits files.old) (F.fits files.new) }
     ensures text { IfOk result (λ found. IfFits (F.fits files.new)
         (λ told. option_map (λ text. text.items) found ≡ text_at told name.now)) }
     ensures fault { IfErr result (λ fault. (fault ≡ Memory) ⊎ (fault ≡ ReadFailed None name.now)) }
-    ensures counted { Counts (F.failed files.old) (F.failed files.new) result }
+    ensures noted { NotesFailure (F.failed files.old) (F.failed files.new) result }
 {
     let file = Name::new(alloc, name)?;
     match files.read(alloc, name) {
@@ -165,13 +164,12 @@ fn read_own_text<F: Files>(
     text: &[u8],
     state: &mut State,
 ) -> Result<(), ReadFault>
-    requires { F.failed files.old < 2 ^ 64 - 1 }
     ensures keeps { Keeps (F.fits files.old) (F.fits files.new) }
     ensures follows { IfFits (F.fits files.new)
         (λ told.
         Follows told (λ reader. reading 16 reader name.now text.now (begun state.old name.now))
         (begun state.old name.now) (seen (λ done. state.new) result)) }
-    ensures counted { Counts (F.failed files.old) (F.failed files.new) result }
+    ensures noted { NotesFailure (F.failed files.old) (F.failed files.new) result }
 {
     let file = Name::new(alloc, name)?;
     let texts = alone(alloc, name)?;
@@ -193,12 +191,11 @@ fn read_named<F: Files>(
     name: &Name,
     state: &mut State,
 ) -> Result<(), ReadFault>
-    requires { F.failed files.old < 2 ^ 64 - 1 }
     ensures keeps { Keeps (F.fits files.old) (F.fits files.new) }
     ensures follows { IfFits (F.fits files.new) (λ told. IsUnread state.old →
         Follows told (λ reader.
         from_named reader state.old (Some name.now)) state.old (seen (λ done. state.new) result)) }
-    ensures counted { Counts (F.failed files.old) (F.failed files.new) result }
+    ensures noted { NotesFailure (F.failed files.old) (F.failed files.new) result }
 {
     let text = name.as_str();
     let copy = Name::new(alloc, text)?;
@@ -211,12 +208,11 @@ fn read_named<F: Files>(
 /// Reads `Makefile`, where `makefile` doesn't exist. Fails with `NoMakefile` (37) where it doesn't
 /// exist either.
 fn read_second<F: Files>(alloc: Global, files: &mut F, state: &mut State) -> Result<(), ReadFault>
-    requires { F.failed files.old < 2 ^ 64 - 1 }
     ensures keeps { Keeps (F.fits files.old) (F.fits files.new) }
     ensures follows { IfFits (F.fits files.new) (λ told. state.old.texts ≡ [] →
         Follows told (λ reader. second_text reader state.old) (without_makefile state.old)
         (seen (λ done. state.new) result)) }
-    ensures counted { Counts (F.failed files.old) (F.failed files.new) result }
+    ensures noted { NotesFailure (F.failed files.old) (F.failed files.new) result }
 {
     match makefile_at(alloc, files, "Makefile")? {
         Some(text) => {
@@ -229,12 +225,11 @@ fn read_second<F: Files>(alloc: Global, files: &mut F, state: &mut State) -> Res
 
 /// Reads `makefile`, or else `Makefile`.
 fn read_usual<F: Files>(alloc: Global, files: &mut F, state: &mut State) -> Result<(), ReadFault>
-    requires { F.failed files.old < 2 ^ 64 - 1 }
     ensures keeps { Keeps (F.fits files.old) (F.fits files.new) }
     ensures follows { IfFits (F.fits files.new) (λ told. IsUnread state.old →
         Follows told (λ reader.
         from_named reader state.old None) state.old (seen (λ done. state.new) result)) }
-    ensures counted { Counts (F.failed files.old) (F.failed files.new) result }
+    ensures noted { NotesFailure (F.failed files.old) (F.failed files.new) result }
 {
     match makefile_at(alloc, files, "makefile")? {
         Some(text) => read_own_text(alloc, files, "makefile", &text, state),
@@ -343,13 +338,12 @@ fn read_all<F: Files>(
     operands: &[Vec<u8>],
     state: &mut State,
 ) -> Result<(), ReadFault>
-    requires { F.failed files.old < 2 ^ 64 - 1 }
     ensures keeps { Keeps (F.fits files.old) (F.fits files.new) }
     ensures follows { IfFits (F.fits files.new) (λ told. state.old ≡ nothing_read →
         Follows told (λ reader.
         state_read reader (option_copied name.entry) defaults (map (λ operand.
         operand.items) operands.now)) nothing_read (seen (λ done. state.new) result)) }
-    ensures counted { Counts (F.failed files.old) (F.failed files.new) result }
+    ensures noted { NotesFailure (F.failed files.old) (F.failed files.new) result }
 {
     default_text_says_this();
     test_name(alloc, name)?;
@@ -397,7 +391,6 @@ pub fn read_makefile<F: Files>(
     defaults: bool,
     operands: &[Vec<u8>],
 ) -> Result<Makefile, ReadFault>
-    requires { F.failed files.old < 2 ^ 64 - 1 }
     ensures keeps { Keeps (F.fits files.old) (F.fits files.new) }
     ensures answer { IfFits (F.fits files.new)
         (λ told.
@@ -405,7 +398,7 @@ pub fn read_makefile<F: Files>(
         makefile reader (option_copied name.entry) defaults (map (λ operand.
         operand.items) operands.now)) (seen (λ m. m) result)) }
     ensures memory { IfErr result (λ fault. is_out_of_memory fault ≡ true → fault ≡ Memory) }
-    ensures counted { Counts (F.failed files.old) (F.failed files.new) result }
+    ensures noted { NotesFailure (F.failed files.old) (F.failed files.new) result }
 {
     let mut state = State::new(alloc);
     match read_all(alloc, files, name, defaults, operands, &mut state) {

@@ -1,4 +1,2 @@
 mod EndingLemmas
 mod ReaderLemmas
-mod SomeFits
-mod Walks

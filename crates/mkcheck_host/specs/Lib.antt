@@ -1,6 +1,4 @@
 pub mod Outcome
-pub mod Answered
-pub mod Noted
 pub mod Disk
 pub mod Reading
 pub mod Ending

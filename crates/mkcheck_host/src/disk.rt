@@ -2,12 +2,12 @@
 
 ghost use Rattle.std.specs.Prelude.{◌≡◌, ◌≢◌, [], None, Ok, Err, IfOk, IfSome, IsSomeAnd};
 ghost use Rattle.std.specs.IoError.{error_kind};
-ghost use Rattle.mkcheck_host.specs.Disk.{FitsDisk, answers_of, failures_of};
+ghost use Rattle.mk_read_files.specs.Answers.{no_answers};
+ghost use Rattle.mkcheck_host.specs.Disk.{FitsDisk, answers_of, failed_of};
 
-use crate::answered::{Answer, Answered};
 use crate::reading::slurp;
 use crate::source::Source;
-use mk_read::{Files, FilesError};
+use mk_read_files::{Answer, Answered, Files, FilesError};
 use std::alloc::Global;
 use std::io::ErrorKind;
 use std::{fs, io, rt};
@@ -17,19 +17,16 @@ use std::{fs, io, rt};
 #[derive(Drop)]
 pub struct Disk<'a, R> {
     rt: &'a R,
-    failures: u64,
     answered: Answered,
 }
 
 impl<'a, R> Disk<'a, R> {
-    /// A reader of the files that the runtime can open, with no failed read yet.
+    /// A reader of the files that the runtime can open, which has answered nothing yet.
     pub fn new(rt: &'a R) -> Disk<'a, R>
-        ensures failures { failures_of result ≡ 0 }
-        ensures answers { answers_of result ≡ [] }
+        ensures { answers_of result ≡ no_answers }
     {
         Disk {
             rt,
-            failures: 0,
             answered: Answered::new(),
         }
     }
@@ -62,25 +59,19 @@ fn opened<F: io::Read + Drop>(alloc: Global, file: F) -> Result<Option<Vec<u8>>,
 impl<'a, R: rt::Files> Files for Disk<'a, R> {
     ghost fits = { λ disk told. FitsDisk disk told };
 
-    ghost failed = { λ disk. failures_of disk };
+    ghost failed = { λ disk. failed_of disk };
 
-    /// The text of a file, or `None` where it doesn't exist. Fails with `ReadFailed`, and counts
-    /// it, where opening or reading the file fails otherwise, where it has more than 16,777,216
+    /// The text of a file, or `None` where it doesn't exist. Fails with `ReadFailed` where opening or reading the file fails otherwise, where it has more than 16,777,216
     /// bytes, or where that takes too many reads; or with `Memory`, out of memory.
     fn read(&mut self, alloc: Global, name: &str) -> Result<Option<Vec<u8>>, FilesError> {
         let read = match fs::open(self.rt, name) {
             Ok(file) => opened(alloc, file),
             Err(error) => unopened(&error),
         };
-        match &read {
-            Ok(found) => self.answered = self.answered.with(&Answer { name, found }),
-            Err(FilesError::ReadFailed) => self.failures += 1,
-            Err(FilesError::Memory) => {}
-        }
+        self.answered = self.answered.with(&Answer {
+            name,
+            result: &read,
+        });
         read
-    }
-
-    fn failures(&self) -> u64 {
-        self.failures
     }
 }

@@ -2,17 +2,14 @@
 //! and the exit status.
 #![tactic(auto)]
 
-mod answered;
 mod disk;
 mod ending;
 mod heap;
-pub mod laws;
 mod outcome;
 mod reading;
 mod source;
 mod writing;
 
-pub use answered::Answered;
 pub use disk::Disk;
 pub use ending::{Ending, FAULT, Stop, conclude, end};
 pub use heap::keep_pages;

@@ -5,7 +5,7 @@ ghost use Rattle.std.specs.Io.KnownBytes.{Consumes, IsAtEnd};
 ghost use Rattle.mkcheck_host.specs.Reading.{GaveUp, max_file};
 
 use crate::source::Source;
-use mk_read::FilesError;
+use mk_read_files::FilesError;
 use std::alloc::{AllocError, Global};
 use std::io::{ErrorKind, Read};
 

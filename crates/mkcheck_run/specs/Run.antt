@@ -5,7 +5,7 @@ use Rattle.clap.specs.declared.error.ErrorKind.{ErrorKind}
 use Rattle.clap.specs.declared.error.ErrorKind.TheVariants.{DisplayHelp, DisplayVersion, OutOfMemory}
 use Rattle.mk_core_text.specs.declared.fault.Fault.{Fault}
 use Rattle.mk_core.specs.declared.request.Request.{Request}
-use Rattle.mk_core.specs.Answer.{Answers, Counts}
+use Rattle.mk_core.specs.Answer.{Answers, NotesFailure}
 use Rattle.mk_core.specs.CheckAnswer.{AnswersCheck}
 use Rattle.mk_core_evidence.specs.EvidenceAnswer.{AnswersEvidence}
 use Rattle.mk_core.specs.GraphAnswer.{AnswersGraph}
@@ -114,13 +114,14 @@ Shows (Err fault) w =
     (w ≡ record { out = fault_text fault ++ 10 ∷ []; err = []; status = 2 })
 
 -- The outcome is that of some response or fault. It is the defined one over each map that fits what
--- the reader has answered, and it is a failed read only where the count of failed reads rose.
-pub record IsAnswered (fits : Told → Type 0) (old new : ℕ) (asked : Invocation) (w : Written) :
-    Type 0
+-- the reader has answered. The names whose reads failed grew by the name that the fault says, if it
+-- is a failed read, and else they stayed.
+pub record IsAnswered (fits : Told → Type 0) (old new : List (List ℕ)) (asked : Invocation)
+    (w : Written) : Type 0
   where
     pub answer : Result Response Fault
     pub answers : IfFits fits (λ files. AnswersInvocation files asked answer)
-    pub counts : Counts old new answer
+    pub noted : NotesFailure old new answer
     pub shows : Shows answer w
 
 -- Help and the version go to standard output only, with status 0; a fault of the words goes to

@@ -2,7 +2,7 @@
 
 ghost use Rattle.std.specs.Prelude.{◌≡◌, ◌<◌, ◌-◌, ◌^◌, ◌∷◌, ◌++◌, [], None, Some, IfOk};
 ghost use Rattle.mk_core.specs.Files.{IfFits, Keeps};
-ghost use Rattle.mk_core.specs.Answer.{Counts};
+ghost use Rattle.mk_core.specs.Answer.{NotesFailure};
 ghost use Rattle.mk_core.specs.Right.{IsRightFor};
 ghost use Rattle.mk_cert_text.specs.Writing.{value_of};
 ghost use Rattle.serde_json.specs.Written.{compact_text};
@@ -117,13 +117,12 @@ fn answer_check<F: Files>(
     request: &Request,
     only_certificate: bool,
 ) -> Result<Response, Fault>
-    requires { F.failed files.old < 2 ^ 64 - 1 }
     ensures keeps { Keeps (F.fits files.old) (F.fits files.new) }
     ensures answer { IfFits (F.fits files.new)
         (λ told. AnswersInvocation told (Check request.now only_certificate None) result) }
     ensures right { IfFits (F.fits files.new)
         (λ told. IfOk result (λ shown. shown.status ≡ 0 → IsRightFor told request.now)) }
-    ensures counted { Counts (F.failed files.old) (F.failed files.new) result }
+    ensures noted { NotesFailure (F.failed files.old) (F.failed files.new) result }
 {
     let verdict = check(alloc, files, request)?;
     let shown = verdict_response(alloc, &verdict, only_certificate)?;
@@ -154,13 +153,12 @@ fn answer_plan<F: Files>(
     only_certificate: bool,
     number: u64,
 ) -> Result<Response, Fault>
-    requires { F.failed files.old < 2 ^ 64 - 1 }
     ensures keeps { Keeps (F.fits files.old) (F.fits files.new) }
     ensures answer { IfFits (F.fits files.new)
         (λ told. AnswersInvocation told (Check request.now only_certificate (Some number)) result) }
     ensures right { IfFits (F.fits files.new)
         (λ told. IfOk result (λ shown. shown.status ≡ 0 → IsRightFor told request.now)) }
-    ensures counted { Counts (F.failed files.old) (F.failed files.new) result }
+    ensures noted { NotesFailure (F.failed files.old) (F.failed files.new) result }
 {
     let evidence = evidence_or_verdict(alloc, files, request, number)?;
     let shown = evidence_response(alloc, evidence, only_certificate)?;
@@ -171,12 +169,11 @@ fn answer_plan<F: Files>(
 /// the first fault, or `Memory`, out of memory. Status 0 for `check` and `verify` says that the
 /// build is right.
 pub fn answer<F: Files>(alloc: Global, files: &mut F, asked: &Invocation) -> Result<Response, Fault>
-    requires { F.failed files.old < 2 ^ 64 - 1 }
     ensures keeps { Keeps (F.fits files.old) (F.fits files.new) }
     ensures answer { IfFits (F.fits files.new) (λ told. AnswersInvocation told asked.now result) }
     ensures right { IfFits (F.fits files.new)
         (λ told. IfOk result (λ shown. shown.status ≡ 0 → Promises told asked.now)) }
-    ensures counted { Counts (F.failed files.old) (F.failed files.new) result }
+    ensures noted { NotesFailure (F.failed files.old) (F.failed files.new) result }
 {
     match asked {
         Invocation::Graph(request) => {

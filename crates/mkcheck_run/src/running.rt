@@ -84,7 +84,6 @@ fn answered<F: Files>(
     files: &mut F,
     matches: &ArgMatches<'_>,
 ) -> Result<Outcome, AllocError>
-    requires room { F.failed files.old < 2 ^ 64 - 1 }
     requires met { has_subcommand matches.now ≡ true }
     ensures keeps { Keeps (F.fits files.old) (F.fits files.new) }
     ensures answered { IfOk result (λ outcome. IsAnswered (F.fits files.new) (F.failed files.old)
@@ -108,7 +107,6 @@ pub fn run<F: Files, S: AsStr>(
     files: &mut F,
     words: &[S],
 ) -> Result<Outcome, AllocError>
-    requires { F.failed files.old < 2 ^ 64 - 1 }
     ensures keeps { Keeps (F.fits files.old) (F.fits files.new) }
 
     // Words without a fault give a command, which is carried out.
@@ -129,10 +127,10 @@ pub fn run<F: Files, S: AsStr>(
         IsAnswered (F.fits files.new) (F.failed files.old) (F.failed files.new)
         (Graph (asking makefile asked)) (written outcome)) }
 
-    // Words with a fault are refused, and no failed read is counted.
+    // Words with a fault are refused, and nothing is read.
     ensures refused { IfOk result (λ outcome. faults_of (map S.text words.now) ≢ [] →
         IsRefused (faults_of (map S.text words.now)) (written outcome)
-        × (F.failed files.new ≡ F.failed files.old)) }
+        × (files.new ≡ files.old)) }
 {
     let command = command_line(alloc)?;
     match command.try_get_matches_from(words) {

@@ -22,7 +22,6 @@ pub fn run_arguments<F: Files>(
     files: &mut F,
     words: io::Result<Vec<String>>,
 ) -> Result<Outcome, Stop>
-    requires { F.failed files.old < 2 ^ 64 - 1 }
     ensures memory { IfErr words (λ error. error_kind error ≡ ErrorKind.OutOfMemory
         → result ≡ Err Stop.Memory) }
     ensures words { IfErr words (λ error. error_kind error ≢ ErrorKind.OutOfMemory

@@ -4,7 +4,7 @@ ghost use Rattle.std.specs.Prelude.{◌≡◌, IfOk};
 ghost use Rattle.mk_read_parse.specs.MemFiles.{failures_of};
 
 use crate::fixtures::{add_names, file_of, same, see_that};
-use mk_read::{Command, Files, Makefile};
+use mk_read::{Command, Makefile};
 use mk_read_parse::{MemFiles, read_makefile};
 use std::alloc::{AllocError, Global};
 use std::process::Abort;

@@ -1,6 +1,16 @@
--- Which maps fit the answers of a reader.
+-- What a reader has answered, and which maps fit that.
 use Rattle.std.specs.Prelude.{◌≡◌, ◌⊎◌, ℕ, List, [], ◌∷◌, Option}
 use Rattle.mk_read.specs.Files.{Told, text_at}
+
+-- The answers of a reader, the last one first: each name that was found out about, with its text, or
+-- without one where the file doesn't exist; and the names whose reads failed.
+pub record Answers : Type 0 where
+  pub found : List (List ℕ × Option (List ℕ))
+  pub failed : List (List ℕ)
+
+-- No answers.
+abbrev pub no_answers : Answers
+no_answers = record { found = []; failed = [] }
 
 -- Each text that was answered is the map's text of that name, and a name that was answered as
 -- missing has no text in the map.

@@ -4,7 +4,7 @@ use Rattle.std.specs.Str.{bytes_eq}
 use Rattle.std.proofs.lemmas.Bool.{cond-true}
 use Rattle.std.proofs.lemmas.Slice.Eq.{bytes_eq-Decides}
 use Rattle.mk_read.specs.Files.{Told, text_at}
-use Rattle.mkcheck_host.specs.Answered.{Fits, IsSteady, SomeMapFits, WasAnswered}
+use Rattle.mk_read_files.specs.Answers.{Fits, IsSteady, SomeMapFits, WasAnswered}
 
 abbrev Given : Type 0
 Given = List (List ℕ × Option (List ℕ))

@@ -23,12 +23,13 @@ use denote.Triple.Entry.{alive}
 use denote.Triple.Spec.{Meets, triple_of}
 use denote.Triple.Table.{entered}
 use denote.Triple.Walked.{says, Stays, walk_of, ends_at, walk_Meets}
-use Rattle.mkcheck_host.proofs.Walks.{none, none_made}
-use Rattle.mkcheck_host.specs.contracts.answered.Answered as Answered
-use Rattle.mkcheck_host.specs.contracts.answered.Answered.new as F
-use Rattle.mkcheck_host.specs.contracts.answered.Answered.new.Key.{name as #self}
-use Rattle.mkcheck_host.proofs.answered.Answered.new.Statement as stated
-use Rattle.mkcheck_host.proofs.answered.Answered.new.Code as code
+use Rattle.mk_read_files.specs.Answers.{no_answers}
+use Rattle.mk_read_files.proofs.Walks.{none, none_made}
+use Rattle.mk_read_files.specs.contracts.answered.Answered as Answered
+use Rattle.mk_read_files.specs.contracts.answered.Answered.new as F
+use Rattle.mk_read_files.specs.contracts.answered.Answered.new.Key.{name as #self}
+use Rattle.mk_read_files.proofs.answered.Answered.new.Statement as stated
+use Rattle.mk_read_files.proofs.answered.Answered.new.Code as code
 
 abbrev function : Fn
 function = code.function
@@ -56,7 +57,7 @@ module _ {M : Type 1} {𝓤 : Ura M} (𝓛 : Logic 𝓤) (at_mem : Memory → SP
     walks =
         let a = z.0.3 in
         let vss = z.0.4 in
-        let answered : (Answered.the_row).Denot = record { given = [] } in
+        let answered : (Answered.the_row).Denot = record { given = no_answers } in
         qed 𝓛 ((raw toks ⊛ ‵ (owns (types_at ended.signature.params z.0.0) a vss)) ∷ raw ((held z.0.0 a).requires z.1) ∷ []) ∵
         keep ! (0 ∷ []) $ split ! $ move ! (1 ∷ []) $ drop ! $
         enter ! C Λ function [] Post $ alloc_all ! (λ l. pass_all ! refl tt $

@@ -25,14 +25,14 @@ use denote.Triple.Entry.{alive}
 use denote.Triple.Spec.{Meets, triple_of}
 use denote.Triple.Table.{entered}
 use denote.Triple.Walked.{says, Stays, stay_dropped, walk_of, ends_at, walk_Meets, Goes-dropped}
-use Rattle.mkcheck_host.proofs.Walks.{none, none_made}
-use Rattle.mkcheck_host.specs.contracts.answered.Answered as Answered
-use Rattle.mkcheck_host.specs.contracts.answered.Answer as Answer
-use Rattle.mkcheck_host.specs.Noted.{noted}
-use Rattle.mkcheck_host.specs.contracts.answered.Answered.with as F
-use Rattle.mkcheck_host.specs.contracts.answered.Answered.with.Key.{name as #self}
-use Rattle.mkcheck_host.proofs.answered.Answered.with.Statement as stated
-use Rattle.mkcheck_host.proofs.answered.Answered.with.Code as code
+use Rattle.mk_read_files.proofs.Walks.{none, none_made}
+use Rattle.mk_read_files.specs.contracts.answered.Answered as Answered
+use Rattle.mk_read_files.specs.contracts.answered.Answer as Answer
+use Rattle.mk_read_files.specs.Noted.{noted}
+use Rattle.mk_read_files.specs.contracts.answered.Answered.with as F
+use Rattle.mk_read_files.specs.contracts.answered.Answered.with.Key.{name as #self}
+use Rattle.mk_read_files.proofs.answered.Answered.with.Statement as stated
+use Rattle.mk_read_files.proofs.answered.Answered.with.Code as code
 
 abbrev function : Fn
 function = code.function

@@ -1,0 +1,2 @@
+mod SomeFits
+mod Walks

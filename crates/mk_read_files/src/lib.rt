@@ -1,0 +1,9 @@
+//! Readers of files, and what they have answered.
+#![tactic(auto)]
+
+mod answered;
+mod files;
+pub mod laws;
+
+pub use answered::{Answer, Answered};
+pub use files::{Files, FilesError};
