@@ -1,9 +1,9 @@
 -- Out of memory, returned as `Memory`.
-use Rattle.std.proofs.Common.{◌≡◌, ℕ, Bool, true, false, cond, Result, Err, inl, refl}
+use Rattle.std.proofs.Common.{◌≡◌, ℕ, Bool, true, false, cond, List, Result, Err, inl, refl}
 use Rattle.mk_read.specs.declared.fault.ReadFault.{ReadFault}
 use Rattle.mk_read.specs.declared.fault.ReadFault.TheVariants.{Memory, ReadFailed}
 use Rattle.mk_read.specs.Files.{IfFits, Told}
-use Rattle.mk_read.specs.Following.{Answers, Rises, answered}
+use Rattle.mk_read.specs.Following.{Answers, NotesFault, answered}
 use Rattle.mk_read.specs.Reading.{Reader, Makefile}
 use Rattle.mk_read.specs.Steps.{is_out_of_memory}
 
@@ -25,13 +25,13 @@ module _ (fault : ReadFault) where
       at told false k = k
 
 -- out of memory is no failed read
-no_failure : (n m : ℕ) (fault : ReadFault) → is_out_of_memory fault ≡ true → Rises n m fault → m ≡ n
-no_failure n m (ReadFailed place name) wants h = absurd cc
-no_failure n m fault wants h = h
+no_failure : (old new : List (List ℕ)) (fault : ReadFault) → is_out_of_memory fault ≡ true → NotesFault old new fault → new ≡ old
+no_failure old new (ReadFailed place name) memory h = absurd cc
+no_failure old new fault memory h = h
 
-pub rises_so : (n m : ℕ) (fault : ReadFault) → Rises n m fault → Rises n m (answered fault)
-rises_so n m fault h = at (is_out_of_memory fault) refl
+pub notes_so : (old new : List (List ℕ)) (fault : ReadFault) → NotesFault old new fault → NotesFault old new (answered fault)
+notes_so old new fault h = at (is_out_of_memory fault) refl
   where
-    at : (b : Bool) → is_out_of_memory fault ≡ b → Rises n m (cond b Memory fault)
-    at true wants = no_failure n m fault wants h
-    at false wants = h
+    at : (b : Bool) → is_out_of_memory fault ≡ b → NotesFault old new (cond b Memory fault)
+    at true memory = no_failure old new fault memory h
+    at false memory = h

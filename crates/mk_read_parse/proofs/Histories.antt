@@ -1,9 +1,9 @@
 -- Readings of files, step by step.
-use Rattle.std.proofs.Common.{◌≡◌, ℕ, ◌<◌, ◌≤◌, Option, None, Some, Result, Ok, Err, inl, inr, ◌+◌, List, [], ◌∷◌, map, drop, length, get_or, refl, ap, subst, ◌∙◌, arith}
+use Rattle.std.proofs.Common.{◌≡◌, ℕ, ◌<◌, ◌≤◌, Option, None, Some, Result, Ok, Err, inl, inr, ◌+◌, List, [], ◌∷◌, map, drop, length, get_or, refl, ap, ◌∙◌, arith}
 use Rattle.mk_read.specs.declared.fault.ReadFault.{ReadFault}
 use Rattle.mk_read.specs.declared.fault.ReadFault.TheVariants.{ReadFailed}
 use Rattle.mk_read.specs.Files.{Told}
-use Rattle.mk_read.specs.Following.{reader_of, Later, Follows, Rises, Counts, IsOfText}
+use Rattle.mk_read.specs.Following.{reader_of, Later, Follows, NotesFailure, NotesFault, IsOfText}
 use Rattle.mk_read.specs.Reading.{Reader, reads}
 use Rattle.mk_read.specs.State.{State}
 use Rattle.mk_read.specs.Steps.{◌>>=◌, Gives, Fails}
@@ -55,18 +55,22 @@ pub no_reads : (told : Told) (step : Result State ReadFault) (old : State) (r : 
 no_reads told step old (Ok new) gives own same = (omega (arith, same new gives), λ failing later. gives)
 no_reads told step old (Err fault) gives own same = text_fault told (λ reader. step) old fault gives own
 
--- the count of failures where no read failed
-pub rises_not : (n m : ℕ) (fault : ReadFault) → m ≡ n → IsOfText fault → Rises n m fault
-rises_not n m (ReadFailed place name) same own = absurd own
-rises_not n m fault same own = same
+-- a fault of a text notes no failed read
+pub notes_none : (old new : List (List ℕ)) (fault : ReadFault) → new ≡ old → IsOfText fault → NotesFault old new fault
+notes_none old new (ReadFailed place name) same own = absurd own
+notes_none old new fault same own = same
 
-pub counts_not : {A : Type 0} (n m : ℕ) (r : Result A ReadFault) → m ≡ n → IfErr r IsOfText → Counts n m r
-counts_not n m (Ok x) same own = same
-counts_not n m (Err fault) same own = rises_not n m fault same own
+-- a result that notes no name is no failed read
+pub notes_no_name : {A : Type 0} (r : Result A ReadFault) → NotesFailure [] [] r → IfErr r IsOfText
+notes_no_name (Ok x) h = tt
+notes_no_name (Err (ReadFailed place name)) h = let e : [] ≡ name ∷ [] = h in absurd cc
+notes_no_name (Err fault) h = tt
 
--- the count from a later place on
-pub counts_on : {A : Type 0} (n m k : ℕ) (r : Result A ReadFault) → m ≡ n → Counts m k r → Counts n k r
-counts_on n m k r same h = subst (λ (i : ℕ). Counts i k r) same h
+-- what follows over a map gives what is defined where no read fails
+pub follows_gives : (told : Told) (step : Reader → Result State ReadFault) (old : State) (r : Result State ReadFault) → Follows told step old r → IfErr r IsOfText → Gives (λ (state : State). state) r (step (reader_of told None))
+follows_gives told step old (Ok new) went own = went.1 None tt
+follows_gives told step old (Err (ReadFailed place name)) went own = absurd own
+follows_gives told step old (Err fault) fails own = fails
 
 -- A reading of a list, item by item: what an item does, and then the rest.
 module _ {A C : Type 0} (view : C → A) (run : Reader → List A → State → Result State ReadFault) (step : Reader → A → State → Result State ReadFault)

@@ -1,6 +1,6 @@
 -- The makefile's own text, and a whole reading.
 use Rattle.std.proofs.Common.{◌≡◌, ℕ, suc, Bool, true, false, List, [], codes, length, Option, None, Some, Result, Ok, Err, inl, inr, refl, sym, ap, subst, ◌∙◌, arith}
-use Rattle.std.specs.Prelude.{◌⊎◌}
+use Rattle.std.specs.Prelude.{◌⊎◌, IfErr, OnErr}
 use Rattle.mk_macros.specs.Table.{Macro}
 use Rattle.mk_read.specs.declared.fault.ReadFault.{ReadFault}
 use Rattle.mk_read.specs.declared.fault.ReadFault.TheVariants.{Memory, NoMakefile, ReadFailed}
@@ -8,10 +8,11 @@ use Rattle.mk_read.specs.Files.{IfFits, Keeps, Told, text_at}
 use Rattle.mk_read.specs.Following.{reader_of, Answers, Follows, IsOfText, below}
 use Rattle.mk_read.specs.Reading.{Reader, Makefile, after_default, default_text, from_named, makefile, makefile_of, named, own_text, reads, reading, text_or, with_operands, with_text}
 use Rattle.mk_read.specs.State.{State, nothing_read}
-use Rattle.mk_read.specs.Steps.{◌>>=◌, Fails}
+use Rattle.mk_read.specs.Steps.{◌>>=◌, Fails, Gives}
+use Rattle.mk_read_parse.specs.Requests.{no_files, request_read}
 use Rattle.mk_read_parse.specs.Views.{IsUnread, begun, second_text, state_read, without_makefile}
 use Rattle.mk_read.specs.DefaultLaws.{DefaultTextSaysThis}
-use Rattle.mk_read_parse.proofs.Histories.{SoFar, begins, ends, steps, text_fault}
+use Rattle.mk_read_parse.proofs.Histories.{SoFar, begins, ends, follows_gives, steps, stops, text_fault}
 use Rattle.mk_read_parse.proofs.LineSteps.{memory_follows, reading_is}
 use Rattle.mk_read_parse.proofs.OneFile.{eq_self, sound}
 
@@ -78,6 +79,18 @@ unfolding after_default
 unread says reader false start e = subst OfOk e (refl, refl)
 unread says reader true start e = subst OfOk (sym (says reader) ∙ e) (refl, refl)
 
+-- what the default text gives to a reader without files, it gives to each
+default_same : DefaultTextSaysThis → (reader : Reader) (defaults : Bool) → after_default reader defaults ≡ after_default no_files defaults
+unfolding after_default
+default_same says reader false = refl
+default_same says reader true = says reader ∙ sym (says no_files)
+
+default_follows : DefaultTextSaysThis → (told : Told) (defaults : Bool) (r : Result State ReadFault) → Gives (λ (state : State). state) r (after_default no_files defaults) → IfErr r IsOfText → Follows told (λ reader. after_default reader defaults) nothing_read r
+default_follows says told defaults (Ok new) gives own = (omega arith, λ failing later. default_same says (reader_of told failing) defaults ∙ gives)
+default_follows says told defaults (Err (ReadFailed place name)) gives own = absurd own
+default_follows says told defaults (Err fault) (inl memory) own = inl memory
+default_follows says told defaults (Err fault) (inr e) own = inr (default_same says (reader_of told None) defaults ∙ e)
+
 -- a whole reading
 module _ (name : Option (List ℕ)) (defaults : Bool) (operands : List (List ℕ)) where
   abbrev whole : Reader → Result State ReadFault
@@ -86,29 +99,44 @@ module _ (name : Option (List ℕ)) (defaults : Bool) (operands : List (List ℕ
   after_name : (told : Told) → named name ≡ Ok name → SoFar told whole (λ reader. after_default reader defaults >>= λ start. with_operands 1 operands start.table >>= λ table. from_named reader (record start { table = table }) name) nothing_read nothing_read
   after_name told is = pure_step told whole (named name) (λ reader file. after_default reader defaults >>= λ start. with_operands 1 operands start.table >>= λ table. from_named reader (record start { table = table }) file) nothing_read nothing_read name (begins told whole nothing_read) is
 
+  pub default_fails : DefaultTextSaysThis → (o : Told → Type 0) (old : State) (fault : ReadFault) → named name ≡ Ok name → (old ≡ nothing_read → Fails fault (after_default no_files defaults)) → IsOfText fault
+      → IfFits o (λ told. old ≡ nothing_read → Follows told (λ reader. state_read reader name defaults operands) nothing_read (Err fault))
+  default_fails says o old fault is fails own = λ told e none. stops told whole (λ reader. after_default reader defaults) (λ reader state. with_operands 1 operands state.table >>= λ table. from_named reader (record state { table = table }) name) nothing_read nothing_read fault (after_name told is)
+      (default_follows says told defaults (Err fault) (fails none) own)
+
   module _ (start : State) where
-    after_start : (told : Told) → named name ≡ Ok name → Follows told (λ reader. after_default reader defaults) nothing_read (Ok start) → SoFar told whole (λ reader. with_operands 1 operands start.table >>= λ table. from_named reader (record start { table = table }) name) nothing_read start
-    after_start told is went = steps told whole (λ reader. after_default reader defaults) (λ reader state. with_operands 1 operands state.table >>= λ table. from_named reader (record state { table = table }) name) nothing_read nothing_read start (after_name told is) went
+    after_start : DefaultTextSaysThis → (told : Told) → named name ≡ Ok name → after_default no_files defaults ≡ Ok start → SoFar told whole (λ reader. with_operands 1 operands start.table >>= λ table. from_named reader (record start { table = table }) name) nothing_read start
+    after_start says told is begun_at = steps told whole (λ reader. after_default reader defaults) (λ reader state. with_operands 1 operands state.table >>= λ table. from_named reader (record state { table = table }) name) nothing_read nothing_read start (after_name told is)
+        (default_follows says told defaults (Ok start) begun_at tt)
 
-    pub operands_fail : (o : Told → Type 0) (old : State) (fault : ReadFault) → named name ≡ Ok name → IfFits o (λ told. old ≡ nothing_read → Follows told (λ reader. after_default reader defaults) nothing_read (Ok start)) → Fails fault (with_operands 1 operands start.table) → IsOfText fault
+    pub operands_fail : DefaultTextSaysThis → (o : Told → Type 0) (old : State) (fault : ReadFault) → named name ≡ Ok name → (old ≡ nothing_read → after_default no_files defaults ≡ Ok start) → Fails fault (with_operands 1 operands start.table) → IsOfText fault
         → IfFits o (λ told. old ≡ nothing_read → Follows told (λ reader. state_read reader name defaults operands) nothing_read (Err fault))
-    operands_fail o old fault is went fails own = λ told e none. pure_stop told whole (with_operands 1 operands start.table) (λ reader table. from_named reader (record start { table = table }) name) nothing_read start fault
-        (after_start told is (went told e none)) fails own
+    operands_fail says o old fault is begun_at fails own = λ told e none. pure_stop told whole (with_operands 1 operands start.table) (λ reader table. from_named reader (record start { table = table }) name) nothing_read start fault
+        (after_start says told is (begun_at none)) fails own
 
-    pub state_reads : DefaultTextSaysThis → (o o' : Told → Type 0) (old : State) (table : List Macro)
-        (r : Result State ReadFault) → named name ≡ Ok name → Keeps o o'
-        → IfFits o (λ told. old ≡ nothing_read → Follows told (λ reader. after_default reader defaults)
-        nothing_read (Ok start)) → with_operands 1 operands start.table ≡ Ok table
-        → IfFits o' (λ told. IsUnread (record start { table = table })
+    pub state_reads : DefaultTextSaysThis → (o : Told → Type 0) (old : State) (table : List Macro)
+        (r : Result State ReadFault) → named name ≡ Ok name
+        → (old ≡ nothing_read → after_default no_files defaults ≡ Ok start)
+        → with_operands 1 operands start.table ≡ Ok table
+        → IfFits o (λ told. IsUnread (record start { table = table })
         → Follows told (λ reader. from_named reader (record start { table = table }) name)
-        (record start { table = table }) r) → IfFits o' (λ told. old ≡ nothing_read
+        (record start { table = table }) r) → IfFits o (λ told. old ≡ nothing_read
         → Follows told (λ reader. state_read reader name defaults operands) nothing_read r)
-    state_reads says o o' old table r is keeps went fixed rest = λ told e none.
-        let begun_at = went told (keeps told e) none in
-        let so_far = pure_step told whole (with_operands 1 operands start.table) (λ reader table. from_named reader (record start { table = table }) name) nothing_read start table (after_start told is begun_at) fixed in
+    state_reads says o old table r is begun_at fixed rest = λ told e none.
+        let so_far = pure_step told whole (with_operands 1 operands start.table) (λ reader table. from_named reader (record start { table = table }) name) nothing_read start table (after_start says told is (begun_at none)) fixed in
         ends told whole (λ reader. from_named reader (record start { table = table }) name) nothing_read (record start { table = table }) r so_far
-        (rest told e
-        (unread says (reader_of told None) defaults start (begun_at.1 None tt)))
+        (rest told e (unread says no_files defaults start (begun_at none)))
+
+    -- what is read before any file went well
+    pub not_refused : (P : Type 0) (old : State) (table : List Macro) → named name ≡ Ok name
+        → (old ≡ nothing_read → after_default no_files defaults ≡ Ok start)
+        → with_operands 1 operands start.table ≡ Ok table
+        → old ≡ nothing_read → OnErr (request_read name defaults operands) P
+    not_refused P old table is begun_at fixed none = subst (λ (r : Result (List Macro) ReadFault). OnErr r P) (sym went) tt
+      where
+        went : request_read name defaults operands ≡ Ok table
+        went = ap (λ (r : Result (Option (List ℕ)) ReadFault). r >>= λ file. after_default no_files defaults >>= λ start. with_operands 1 operands start.table) is
+            ∙ (ap (λ (r : Result State ReadFault). r >>= λ start. with_operands 1 operands start.table) (begun_at none) ∙ fixed)
 
   makefile_is : (reader : Reader) → makefile reader name defaults operands ≡ (state_read reader name defaults operands >>= λ state. Ok (makefile_of state))
   unfolding makefile
@@ -212,14 +240,11 @@ module _ (state : State) where
       more_of h = let none : length state.missing ≡ 0 = ap (λ (m : List (List ℕ)). length m) h in omega (arith, none)
 
 -- the default text, where it is asked for
-pub default_read : (o : Told → Type 0) (defaults : Bool) (file : List ℕ) (old : State) (r : Result State ReadFault) → defaults ≡ true → file ≡ codes "(default)"
-    → IfFits o (λ told. Follows told (λ reader. with_text reader (below 0 reader) (record { file = file; default = true }) default_text old) old r) → IfFits o (λ told. old ≡ nothing_read → Follows told (λ reader. after_default reader defaults) nothing_read r)
+pub default_read : (defaults : Bool) (file : List ℕ) (old : State) (r : Result State ReadFault) → defaults ≡ true → file ≡ codes "(default)" → IfErr r IsOfText
+    → Follows [] (λ reader. with_text reader (below 0 reader) (record { file = file; default = true }) default_text old) old r → old ≡ nothing_read → Gives (λ (state : State). state) r (after_default no_files defaults)
 unfolding after_default
-default_read o defaults file old r asked name went =
-    λ told e none. subst (λ (d : Bool). Follows told (λ reader. after_default reader d) nothing_read r) (sym asked)
-    (at told (subst (λ (n : List ℕ). Follows told (λ reader. with_text reader (below 0 reader) (record { file = n; default = true }) default_text nothing_read) nothing_read r) name
-    (subst (λ (s : State). Follows told (λ reader. with_text reader (below 0 reader) (record { file = file; default = true }) default_text s) s r) none
-    (went told e))))
-  where
-    at : (told : Told) → Follows told (λ reader. with_text reader (below 0 reader) (record { file = codes "(default)"; default = true }) default_text nothing_read) nothing_read r → Follows told (λ reader. after_default reader true) nothing_read r
-    at told h = h
+default_read defaults file old r asked name own went none =
+    subst (λ (d : Bool). Gives (λ (state : State). state) r (after_default no_files d)) (sym asked)
+    (subst (λ (s : State). Gives (λ (state : State). state) r (with_text no_files (below 0 no_files) (record { file = codes "(default)"; default = true }) default_text s)) none
+    (subst (λ (n : List ℕ). Gives (λ (state : State). state) r (with_text no_files (below 0 no_files) (record { file = n; default = true }) default_text old)) name
+    (follows_gives [] (λ reader. with_text reader (below 0 reader) (record { file = file; default = true }) default_text old) old r went own)))

@@ -22,6 +22,10 @@ pub gives_left : {X Y : Type 0} (view : X → Y) (r : Result X ReadFault) (defin
 gives_left view (Ok x) defined gives = gives
 gives_left view (Err fault) defined fails = fails
 
+pub gives_right : {X Y : Type 0} (view : X → Y) (r : Result X ReadFault) (defined : Result Y ReadFault) → Gives (λ (y : Y). y) (seen view r) defined → Gives view r defined
+gives_right view (Ok x) defined gives = gives
+gives_right view (Err fault) defined fails = fails
+
 pub own_left : {X Y : Type 0} (view : X → Y) (r : Result X ReadFault) → IfErr r IsOfText → IfErr (seen view r) IsOfText
 own_left view (Ok x) own = tt
 own_left view (Err fault) own = own

@@ -1,3 +1,4 @@
 pub mod KindViews
 pub mod MemFiles
+pub mod Requests
 pub mod Views

@@ -7,6 +7,7 @@ mod kinds;
 mod line_location;
 mod mem_files;
 mod names;
+mod no_files;
 mod reading;
 mod rules;
 mod special;

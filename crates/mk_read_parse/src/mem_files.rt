@@ -19,7 +19,7 @@ pub struct MemFile {
 
 /// A list of files in memory, of which the first with a name counts, and the number of the read
 /// that fails, if one does. Contracts know its map.
-#[derive(Debug, Drop)]
+#[derive(Drop)]
 pub struct MemFiles {
     files: Vec<MemFile>,
     fails_at: Option<u64>,
@@ -42,7 +42,7 @@ fn text_of<'a>(files: &'a [MemFile], name: &str) -> Option<&'a [u8]>
 /// A copy of the text, if there is one.
 fn copied(alloc: Global, text: Option<&[u8]>) -> Result<Option<Vec<u8>>, FilesError>
     ensures text { IfOk result (λ copy. option_map (λ bytes. bytes.items) copy ≡
-        option_map (λ bytes. bytes.now) text) }
+        option_map (λ bytes. bytes.now) text.entry) }
     ensures memory { IfErr result (λ error. error ≡ Memory) }
 {
     match text {

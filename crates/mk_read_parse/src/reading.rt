@@ -1,6 +1,6 @@
 //! Reads a whole makefile.
 
-ghost use Rattle.std.specs.Prelude.{◌≡◌, ◌⊎◌, ◌∷◌, [], true, ◌+◌, ◌<◌, ◌^◌, ◌-◌, ◌||◌, Some, None, codes, filter, map, IfOk, IfErr};
+ghost use Rattle.std.specs.Prelude.{◌≡◌, ◌⊎◌, ◌∷◌, [], true, ◌+◌, ◌<◌, ◌^◌, ◌-◌, ◌||◌, Some, None, codes, filter, map, IfOk, IfErr, OnErr};
 ghost use Rattle.std.specs.List.{list_any};
 ghost use Rattle.std.specs.Option.{option_copied, option_map};
 ghost use Rattle.std.specs.Str.{bytes_eq};
@@ -14,9 +14,11 @@ ghost use Rattle.mk_read.specs.Special.{is_inference_name};
 ghost use Rattle.mk_read.specs.Names.{has_name};
 ghost use Rattle.mk_read.specs.State.{nothing_read, rules_of};
 ghost use Rattle.mk_read.specs.Steps.{Gives, at_place, is_out_of_memory, seen};
+ghost use Rattle.mk_read_parse.specs.Requests.{no_files, request_read};
 ghost use Rattle.mk_read_parse.specs.Views.{IsUnread, begun, is_joined, second_text, state_read, without_makefile};
 
 use crate::including::{Source, read_text};
+use crate::no_files::NoFiles;
 use crate::state::{Owner, RuleLines, State, with_last};
 use mk_lines::{Name, is_plain_path};
 use mk_macros::{MacroFault, MacroTable};
@@ -59,19 +61,12 @@ fn test_name(alloc: Global, name: Option<&Name>) -> Result<(), ReadFault>
     Ok(())
 }
 
-/// Reads the default text, where that is wanted.
+/// Reads the default text, where that is wanted. It has no include lines, so no file is read.
 #[tactic(auto, unfolding(mk_read::specs::Reading::after_default))]
-fn read_default<F: Files>(
-    alloc: Global,
-    files: &mut F,
-    defaults: bool,
-    state: &mut State,
-) -> Result<(), ReadFault>
-    ensures keeps { Keeps (F.fits files.old) (F.fits files.new) }
-    ensures follows { IfFits (F.fits files.new) (λ told. state.old ≡ nothing_read →
-        Follows told (λ reader.
-        after_default reader defaults) nothing_read (seen (λ done. state.new) result)) }
-    ensures noted { NotesFailure (F.failed files.old) (F.failed files.new) result }
+fn read_default(alloc: Global, defaults: bool, state: &mut State) -> Result<(), ReadFault>
+    ensures exact { state.old ≡ nothing_read →
+        Gives (λ done. state.new) result (after_default no_files defaults) }
+    ensures own { IfErr result IsOfText }
 {
     if !defaults {
         return Ok(());
@@ -83,7 +78,8 @@ fn read_default<F: Files>(
         default: true,
         levels: 0,
     };
-    read_text(files, &source, DEFAULT_TEXT, state)
+    let mut files = NoFiles;
+    read_text(&mut files, &source, DEFAULT_TEXT, state)
 }
 
 /// Applies the macro operand with this number.
@@ -344,10 +340,13 @@ fn read_all<F: Files>(
         state_read reader (option_copied name.entry) defaults (map (λ operand.
         operand.items) operands.now)) nothing_read (seen (λ done. state.new) result)) }
     ensures noted { NotesFailure (F.failed files.old) (F.failed files.new) result }
+    ensures untouched { state.old ≡ nothing_read →
+        OnErr (request_read (option_copied name.entry) defaults (map (λ operand.
+        operand.items) operands.now)) (files.new ≡ files.old) }
 {
     default_text_says_this();
     test_name(alloc, name)?;
-    read_default(alloc, files, defaults, state)?;
+    read_default(alloc, defaults, state)?;
     fix_operands(alloc, &mut state.macros, operands)?;
     match name {
         Some(name) => read_named(alloc, files, name, state),
@@ -382,8 +381,9 @@ fn answered(fault: ReadFault) -> ReadFault
 /// - `UnknownSpecial` (29), `SpecialShape` (30), `TwoRecipes` (31) and `IncludeEmpty` (34);
 /// - the faults of reading: `TooManyFiles` (36), `ReadFailed` (35), `IncludeMissing` (32).
 ///
-/// `ReadFailed` comes only where the reader has counted a failure in this call. Out of memory is
-/// always `Memory`, and can come in place of any result.
+/// A bad name and a bad operand are refused before any file is read. `ReadFailed` comes only where
+/// a read failed in this call, and names the file of that read. Out of memory is always `Memory`,
+/// and can come in place of any result.
 pub fn read_makefile<F: Files>(
     alloc: Global,
     files: &mut F,
@@ -399,6 +399,10 @@ pub fn read_makefile<F: Files>(
         operand.items) operands.now)) (seen (λ m. m) result)) }
     ensures memory { IfErr result (λ fault. is_out_of_memory fault ≡ true → fault ≡ Memory) }
     ensures noted { NotesFailure (F.failed files.old) (F.failed files.new) result }
+
+    // What is refused before any file is read leaves the reader as it was.
+    ensures untouched { OnErr (request_read (option_copied name.entry) defaults (map (λ operand.
+        operand.items) operands.now)) (files.new ≡ files.old) }
 {
     let mut state = State::new(alloc);
     match read_all(alloc, files, name, defaults, operands, &mut state) {

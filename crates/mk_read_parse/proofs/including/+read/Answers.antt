@@ -35,7 +35,7 @@ pub read_lines-loop-line-preserved : goal.read_lines-loop-line-preserved
 read_lines-loop-line-preserved g t c =
     let lt : c.loop-line.line-index < length c.args.lines.now = omega arith in (
       λ told fits. c.loop-line.invariant.0 told (c.in_ok-read_line.ensures.keeps told fits),
-      c.in_ok-read_line.ensures.counted ∙ c.loop-line.invariant.1,
+      c.in_ok-read_line.ensures.noted ∙ c.loop-line.invariant.1,
       line_done line_view c.args.source.now.levels (text_of c.args.source.now) c.args.lines.now
           c.args.state.now (g.F.Files.fits c.loop-line.files) (g.F.Files.fits c.read_line.new.files)
           c.loop-line.line-index _ _ c.loop-line.state c.read_line.new.state c.in_ok-read_line.ensures.keeps
@@ -61,7 +61,7 @@ pub read_files-loop-name-preserved : goal.read_files-loop-name-preserved
 read_files-loop-name-preserved g t c =
     let lt : c.loop-name.name-index < length c.args.names.now = omega arith in (
       λ told fits. c.loop-name.invariant.0 told (c.in_ok-read_file.ensures.keeps told fits),
-      c.in_ok-read_file.ensures.counted ∙ c.loop-name.invariant.1,
+      c.in_ok-read_file.ensures.noted ∙ c.loop-name.invariant.1,
       file_done string_bytes c.args.levels (place_at c.args.spot.now) c.args.optional c.args.names.now
           c.args.state.now (g.F.Files.fits c.loop-name.files) (g.F.Files.fits c.read_file.new.files)
           c.loop-name.name-index _ _ c.loop-name.state c.read_file.new.state c.in_ok-read_file.ensures.keeps
@@ -172,10 +172,10 @@ read_file-returns-in_err-text-clause-follows g t c =
     let p = err_from_is_err_and c.from_residual.result c.from_residual.ensures.1 in
     rw (p.1, p.2) (file_unread c.args.levels (place_at c.args.spot.now) c.args.optional c.args.state.now c.args.name.now (g.F.Files.fits c.text_at.new.files) c.in_err-text.field-0.0 (sym c.if-is_full.ensures) c.in_err-text.ensures.fault)
 
-pub read_file-returns-in_err-text-clause-counted : goal.read_file-returns-in_err-text-clause-counted
-read_file-returns-in_err-text-clause-counted g t c =
+pub read_file-returns-in_err-text-clause-noted : goal.read_file-returns-in_err-text-clause-noted
+read_file-returns-in_err-text-clause-noted g t c =
     let p = err_from_is_err_and c.from_residual.result c.from_residual.ensures.1 in
-    rw (p.1, p.2) c.in_err-text.ensures.counted
+    rw (p.1, p.2) c.in_err-text.ensures.noted
 
 pub read_file-returns-in-Some-clause-follows : goal.read_file-returns-in-Some-clause-follows
 read_file-returns-in-Some-clause-follows g t c =

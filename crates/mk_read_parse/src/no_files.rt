@@ -1,0 +1,20 @@
+//! A reader without files.
+
+ghost use Rattle.std.specs.Prelude.{◌≡◌, []};
+
+use mk_read_files::{Files, FilesError};
+use std::alloc::Global;
+
+/// A reader without files: no file exists.
+#[derive(Clone, Copy, Debug)]
+pub(crate) struct NoFiles;
+
+impl Files for NoFiles {
+    ghost fits = { λ _ told. told ≡ [] };
+
+    ghost failed = { λ _. [] };
+
+    fn read(&mut self, _alloc: Global, _name: &str) -> Result<Option<Vec<u8>>, FilesError> {
+        Ok(None)
+    }
+}
