@@ -1,12 +1,16 @@
 -- Entries of certificates: there is one for each read, and none is longer than a path.
-use Rattle.std.proofs.Common.{◌≡◌, ℕ, List, [], ◌∷◌, length, map, refl, sym, ◌∙◌, ap, arith}
+use Rattle.std.proofs.Common.{◌≡◌, ℕ, List, [], ◌∷◌, length, map, inl, inr, refl, sym, ◌∙◌, ap, subst, arith}
 use Rattle.std.proofs.lemmas.List.{length-map}
+use Rattle.mk_graph.specs.GrowthLaws.{NamesHaveOneNumber}
+use Rattle.mk_graph.specs.Membership.{Has}
 use Rattle.mk_graph_search.specs.Ways.{along}
 use Rattle.mk_cert_text.specs.Certificate.{Way}
 use Rattle.mk_cert.specs.Subject.{Subject, name_of}
 use Rattle.mk_cert.specs.Verdict.{Read}
-use Rattle.mk_find.specs.Certifying.{IsEntryFor, AreEntriesFor, nothing, entry, none, reads_once}
-use Rattle.mk_find.specs.Laws.{FirstPathIsOne, FirstPathIsShortest, CertificateIsOne, EntriesAreShortest}
+use Rattle.mk_find.specs.Certifying.{IsEntryFor, AreEntriesFor, nothing, entry, none, reads_once, ReadNeedsWay}
+use Rattle.mk_find.specs.FirstPaths.{IsPathOver}
+use Rattle.mk_find.specs.Laws.{FirstPathIsOne, FirstPathIsShortest, CertificateIsOne, CertificateIsShortest, EntriesAreShortest}
+use Rattle.mk_find.proofs.ReadsOnce.{reader_is_recipe, recipe_is_node}
 use Rattle.mk_find.proofs.Turned.{length_turned}
 
 -- there is one entry for a read
@@ -44,3 +48,21 @@ entries_are_shortest shortest x r w is others finish path =
     let long : length w.path ≡ length (along r.recipe is.first.way) = ap length is.same_path ∙ (length-map is.nodes (name_of x) ∙ ap length is.first.goes) in
     let turned = length_turned is.first.way in
     omega arith
+
+-- an entry is for one of the reads, which needs a way
+entry_of : (x : Subject) (reads : List Read) (ways : List Way) → AreEntriesFor x reads ways → (w : Way) → Has ways w → (r : Read) × ReadNeedsWay x r × IsEntryFor x r w
+entry_of x [] ways nothing w h = absurd h
+entry_of x (r ∷ reads) ways (entry needs is more) w (inl here) = (r, needs, subst (λ (k : Way). IsEntryFor x r k) here is)
+entry_of x (r ∷ reads) ways (entry {ways = others} needs is more) w (inr there) = entry_of x reads others more w there
+entry_of x (r ∷ reads) ways (none out more) w h = entry_of x reads ways more w h
+
+-- no way is shorter than the certificate's
+pub certificate_is_shortest : NamesHaveOneNumber → EntriesAreShortest → CertificateIsShortest
+certificate_is_shortest one shortest x c is certified w stands t recipe named finish others path =
+    let found = entry_of x (reads_once x) c.ways certified.ways w stands in
+    let r = found.0 in
+    let reader = reader_is_recipe x r.recipe r.file found.1.0 in
+    let same : t ≡ r.recipe = one x.graph is.sound w.recipe t r.recipe (recipe_is_node x.graph t recipe, named) (recipe_is_node x.graph r.recipe reader, sym found.2.same_recipe) in
+    let from : IsPathOver x w.file finish r.recipe others = subst (λ (n : ℕ). IsPathOver x w.file finish n others) same path in
+    let to : IsPathOver x r.file finish r.recipe others = subst (λ (f : List ℕ). IsPathOver x f finish r.recipe others) found.2.same_file from in
+    shortest x r w found.2 others finish to

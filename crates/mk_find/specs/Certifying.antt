@@ -1,12 +1,15 @@
 -- The certificate of a build without findings.
-use Rattle.std.specs.Prelude.{◌≡◌, ◌⊎◌, ℕ, List, [], ◌∷◌, ◌++◌, map, take, slice_index_or, true, false}
+use Rattle.std.specs.Prelude.{◌≡◌, ◌⊎◌, ◌≤◌, ℕ, List, [], ◌∷◌, ◌++◌, length, map, take, slice_index_or, true, false}
 use Rattle.std.specs.List.{flat_map}
 use Rattle.mk_lines.specs.Names.{has_name, once}
+use Rattle.mk_graph.specs.Membership.{Has}
 use Rattle.mk_graph.specs.Serial.{serial_order}
 use Rattle.mk_cert_text.specs.Certificate.{Way, Certificate}
+use Rattle.mk_cert_text.specs.declared.certificate.Finish.{Finish}
+use Rattle.mk_cert.specs.Conditions.{IsRecipe}
 use Rattle.mk_cert.specs.Subject.{Subject, name_of, reads_of}
 use Rattle.mk_cert.specs.Verdict.{Read, NeedsWay, HasGoals}
-use Rattle.mk_find.specs.FirstPaths.{IsAlongFirstPath}
+use Rattle.mk_find.specs.FirstPaths.{IsAlongFirstPath, IsPathOver}
 
 -- The reads of a recipe, each file once, in the order of its record.
 abbrev pub reads_by : Subject → ℕ → List Read
@@ -58,3 +61,11 @@ AddsOnce x t place old new =
 pub record IsCertificate (x : Subject) (c : Certificate) : Type 0 where
   pub goals : HasGoals x c
   pub ways : AreEntriesFor x (reads_once x) c.ways
+
+-- No way is shorter than the certificate's: a path from the recipe of an entry to its file has at
+-- least as many recipes as the entry's path.
+abbrev pub HasShortestWays : Subject → Certificate → Type 0
+HasShortestWays x c =
+    (w : Way) → Has c.ways w → (t : ℕ) → IsRecipe x t → name_of x t ≡ w.recipe →
+    (finish : Finish) (others : List ℕ) → IsPathOver x w.file finish t others →
+    length w.path ≤ length (t ∷ others)

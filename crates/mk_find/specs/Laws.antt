@@ -10,7 +10,7 @@ use Rattle.mk_cert.specs.Subject.{Subject}
 use Rattle.mk_cert.specs.Verdict.{Read, NothingFound, Verifies}
 use Rattle.mk_find.specs.FirstPaths.{IsPathOver, IsFirstPath}
 use Rattle.mk_find.specs.Findings.{AreFindings}
-use Rattle.mk_find.specs.Certifying.{IsEntryFor, IsCertificate}
+use Rattle.mk_find.specs.Certifying.{IsEntryFor, IsCertificate, HasShortestWays}
 
 -- From a recipe to a file there is at most one first path, with one finish.
 abbrev pub FirstPathIsOne : Type 0
@@ -56,3 +56,8 @@ EntriesAreShortest =
     (others : List ℕ) (finish : Finish) →
     IsPathOver x r.file finish r.recipe others →
     length w.path ≤ suc (length others)
+
+-- No way is shorter than the certificate's.
+abbrev pub CertificateIsShortest : Type 0
+CertificateIsShortest =
+    (x : Subject) (c : Certificate) → IsGraph x.graph → IsCertificate x c → HasShortestWays x c

@@ -7,11 +7,12 @@ ghost use Rattle.mk_cert.specs.Candidates.{static_candidates, stale_candidates};
 ghost use Rattle.mk_cert.specs.NodeRow.{IsEntry};
 ghost use Rattle.mk_cert.specs.Listing.{Lists};
 ghost use Rattle.mk_cert.specs.Subject.{name_of, reads_of};
-ghost use Rattle.mk_find.specs.Certifying.{IsCertificate, IsEntryFor};
+ghost use Rattle.mk_find.specs.Certifying.{HasShortestWays, IsCertificate, IsEntryFor};
 ghost use Rattle.mk_find.specs.FirstPaths.{IsAlongFirstPath};
 
 use crate::first_path::FirstPath;
 use crate::judging::judge_all;
+use crate::laws::certificate_is_shortest;
 use mk_cert::laws::{carried_exactly, list_is_one};
 use mk_cert::{NodeRow, Subject};
 use mk_cert_text::{Certificate, PackedNames, Ways};
@@ -121,13 +122,15 @@ impl CertificateBuilder {
 }
 
 /// The certificate of a build without findings: for each read of a file that can change, its first
-/// path, by the position of the recipe in the serial order and then of the file in its record. The
-/// only error is out of memory.
+/// path, by the position of the recipe in the serial order and then of the file in its record. No
+/// path for such a read is shorter. The only error is out of memory.
 pub fn certify(alloc: Global, subject: &Subject<'_>) -> Result<Certificate, AllocError>
     requires nothing { Lists subject.now (static_candidates subject.now) [] }
     requires no_stale { Lists subject.now (stale_candidates subject.now) [] }
-    ensures { IfOk result (λ certificate. IsCertificate subject.now certificate) }
+    ensures certificate { IfOk result (λ certificate. IsCertificate subject.now certificate) }
+    ensures shortest { IfOk result (λ certificate. HasShortestWays subject.now certificate) }
 {
+    certificate_is_shortest();
     list_is_one();
     let graph = subject.graph();
     let goals = names_of(alloc, subject, graph.goals())?;

@@ -1,11 +1,12 @@
 //! The verdict on a build: its certificate or its findings.
 
 ghost use Rattle.std.specs.Prelude.{◌≡◌, [], IfErr, IfOk};
-ghost use Rattle.mk_find.specs.Certifying.{IsCertificate};
+ghost use Rattle.mk_find.specs.Certifying.{HasShortestWays, IsCertificate};
 ghost use Rattle.mk_find.specs.Findings.{AreFindings};
 
 use crate::certifying::names_of;
 use crate::judging::judge_all;
+use crate::laws::certificate_is_shortest;
 use mk_cert::{Finding, Subject, races, static_findings};
 use mk_cert_text::Certificate;
 use std::alloc::{AllocError, Global};
@@ -19,10 +20,13 @@ pub fn judge(
     ensures nothing { IfOk result (λ judged. IfOk judged (λ _. AreFindings subject.now [])) }
     ensures certificate { IfOk result (λ judged. IfOk judged (λ certificate.
         IsCertificate subject.now certificate)) }
+    ensures shortest { IfOk result (λ judged. IfOk judged (λ certificate.
+        HasShortestWays subject.now certificate)) }
     ensures found { IfOk result (λ judged. IfErr judged (λ found.
         AreFindings subject.now found.items)) }
     ensures some { IfOk result (λ judged. IfErr judged (λ found. ¬ (found.items ≡ []))) }
 {
+    certificate_is_shortest();
     let first = static_findings(alloc, subject)?;
     if !first.is_empty() {
         return Ok(Err(first));

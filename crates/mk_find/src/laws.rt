@@ -1,7 +1,7 @@
 //! Laws about first paths, findings and certificates. Each function exists for its contract alone:
 //! a caller has the law as a fact.
 
-ghost use Rattle.mk_find.specs.Laws.{FirstPathIsOne, FirstPathIsShortest, FindingsAreOne, NoFindings, CertificateIsOne, CertificateIsAccepted, EntriesAreShortest};
+ghost use Rattle.mk_find.specs.Laws.{FirstPathIsOne, FirstPathIsShortest, FindingsAreOne, NoFindings, CertificateIsOne, CertificateIsAccepted, CertificateIsShortest, EntriesAreShortest};
 
 use mk_cert::laws::list_is_one;
 use mk_graph::growth_laws::names_have_one_number;
@@ -54,4 +54,12 @@ pub fn entries_are_shortest()
     ensures { EntriesAreShortest }
 {
     first_path_is_shortest();
+}
+
+/// No way is shorter than the certificate's.
+pub fn certificate_is_shortest()
+    ensures { CertificateIsShortest }
+{
+    entries_are_shortest();
+    names_have_one_number();
 }

@@ -51,3 +51,7 @@ returns-clause-certificate c =
       goals = c.in_ok-goals.ensures ∙ ap (map (name_of x)) (c.goals.ensures.value ∙ ap (λ (g : Graph). g.goals) c.graph-graph.ensures.value);
       ways = c.in_ok-ways.ensures.ways (nil_from_length found.items long);
     }
+
+pub returns-clause-shortest : goal.returns-clause-shortest
+returns-clause-shortest c =
+    c.certificate_is_shortest.ensures c.args.subject.now _ c.graph-graph.ensures.graph (returns-clause-certificate c)
