@@ -20,3 +20,4 @@ mod ListedSuffixes
 mod Blocks
 mod OneKind
 mod PlainTexts
+mod NamedFiles

@@ -2,6 +2,7 @@
 #![tactic(auto)]
 
 pub mod default_laws;
+pub mod file_laws;
 pub mod include_laws;
 pub mod laws;
 pub mod place_laws;
