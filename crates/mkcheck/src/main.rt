@@ -1,7 +1,7 @@
 //! The program `mkcheck`: runs the command that its command line gives.
 #![tactic(auto)]
 
-use mkcheck_host::{Disk, conclude, keep_pages};
+use mkcheck_host::{Disk, HostFiles, Sink, conclude, keep_pages};
 use mkcheck_run::run_arguments;
 use std::env::Env;
 use std::process::ExitCode;
@@ -16,6 +16,7 @@ fn words<R: Env + AllocGlobal>(rt: &R) -> io::Result<Vec<String>> {
 
 fn main(rt: HostRuntime) -> ExitCode {
     keep_pages(rt.alloc());
-    let run_arguments = run_arguments(rt.alloc(), &mut Disk::new(&rt), words(&rt));
-    conclude(&mut rt.stdout(), &mut rt.stderr(), &run_arguments)
+    let mut disk = Disk::new(HostFiles::new(&rt));
+    let ran = run_arguments(rt.alloc(), &mut disk, words(&rt));
+    conclude(&mut Sink::new(rt.stdout()), &mut Sink::new(rt.stderr()), &ran)
 }

@@ -1,4 +1,6 @@
 pub mod Outcome
+pub mod Opening
 pub mod Disk
 pub mod Reading
+pub mod Writing
 pub mod Ending

@@ -1,35 +1,26 @@
 //! Reads files from the disk.
 
-ghost use Rattle.std.specs.Prelude.{◌≡◌, ◌≢◌, [], None, Ok, Err, IfOk, IfSome, IsSomeAnd};
+ghost use Rattle.std.specs.Prelude.{◌≡◌, ◌≢◌, ◌≤◌, None, Ok, Err, IfOk, IfSome, IsSomeAnd, vec_len};
 ghost use Rattle.std.specs.IoError.{error_kind};
 ghost use Rattle.mk_read_files.specs.Answers.{no_answers};
-ghost use Rattle.mkcheck_host.specs.Disk.{FitsDisk, answers_of, failed_of};
+ghost use Rattle.mk_read_files.specs.Noted.{with_read};
+ghost use Rattle.mkcheck_host.specs.Disk.{FitsDisk, IsReading, answers_of, failed_of};
+ghost use Rattle.mkcheck_host.specs.Reading.{max_file};
 
+use crate::opener::Opener;
 use crate::reading::slurp;
 use crate::source::Source;
 use mk_read_files::{Answer, Answered, Files, FilesError};
 use std::alloc::Global;
+use std::io;
 use std::io::ErrorKind;
-use std::{fs, io, rt};
 
-/// A reader of the files on the disk. A map fits it that agrees with all that was answered. None
-/// does where a file changed between two reads of it.
+/// A reader of the files that an opener opens. A map fits it that agrees with all that was
+/// answered. None does where a file changed between two reads of it.
 #[derive(Drop)]
-pub struct Disk<'a, R> {
-    rt: &'a R,
+pub struct Disk<O> {
+    opener: O,
     answered: Answered,
-}
-
-impl<'a, R> Disk<'a, R> {
-    /// A reader of the files that the runtime can open, which has answered nothing yet.
-    pub fn new(rt: &'a R) -> Disk<'a, R>
-        ensures { answers_of result ≡ no_answers }
-    {
-        Disk {
-            rt,
-            answered: Answered::new(),
-        }
-    }
 }
 
 // The result for a file that can't be opened: `None` where it doesn't exist, `Memory` where memory
@@ -50,21 +41,38 @@ fn unopened(error: &io::Error) -> Result<Option<Vec<u8>>, FilesError>
 
 // The text of an opened file, read to its end.
 fn opened<F: io::Read + Drop>(alloc: Global, file: F) -> Result<Option<Vec<u8>>, FilesError>
-    ensures { IfOk result (λ found. IsSomeAnd found
+    ensures text { IfOk result (λ found. IsSomeAnd found
         (λ text. IfSome (F.remaining file) (λ left. text.items ≡ left))) }
+    ensures limit { IfOk result (λ found. IfSome found (λ text. vec_len text ≤ max_file)) }
 {
     Ok(Some(slurp(alloc, &mut Source::new(file))?))
 }
 
-impl<'a, R: rt::Files> Files for Disk<'a, R> {
-    ghost fits = { λ disk told. FitsDisk disk told };
+impl<O> Disk<O> {
+    /// A reader of the files that the opener opens, which has answered nothing yet.
+    pub fn new(opener: O) -> Disk<O>
+        ensures opener { result.opener ≡ opener }
+        ensures answered { answers_of result ≡ no_answers }
+    {
+        Disk {
+            opener,
+            answered: Answered::new(),
+        }
+    }
+}
 
-    ghost failed = { λ disk. failed_of disk };
+impl<O: Opener> Disk<O> {
+    /// The text of a file, or `None` where the file doesn't exist. Fails with `ReadFailed` where
+    /// opening or reading the file fails otherwise, where it has more than 16,777,216 bytes, or
+    /// where that takes too many reads; or with `Memory`, out of memory.
+    pub fn read_file(&mut self, alloc: Global, name: &str) -> Result<Option<Vec<u8>>, FilesError>
+        ensures answered { answers_of self.new ≡ with_read (answers_of self.old) name.now result }
+        ensures limit { IfOk result (λ found. IfSome found (λ text. vec_len text ≤ max_file)) }
 
-    /// The text of a file, or `None` where it doesn't exist. Fails with `ReadFailed` where opening or reading the file fails otherwise, where it has more than 16,777,216
-    /// bytes, or where that takes too many reads; or with `Memory`, out of memory.
-    fn read(&mut self, alloc: Global, name: &str) -> Result<Option<Vec<u8>>, FilesError> {
-        let read = match fs::open(self.rt, name) {
+        // Where the opener tells what it holds under the name, the answer is that.
+        ensures held { IfSome (O.holds self.old.opener name.now) (λ held. IsReading held result) }
+    {
+        let read = match self.opener.open(name) {
             Ok(file) => opened(alloc, file),
             Err(error) => unopened(&error),
         };
@@ -73,5 +81,15 @@ impl<'a, R: rt::Files> Files for Disk<'a, R> {
             result: &read,
         });
         read
+    }
+}
+
+impl<O: Opener> Files for Disk<O> {
+    ghost fits = { λ disk told. FitsDisk disk told };
+
+    ghost failed = { λ disk. failed_of disk };
+
+    fn read(&mut self, alloc: Global, name: &str) -> Result<Option<Vec<u8>>, FilesError> {
+        self.read_file(alloc, name)
     }
 }

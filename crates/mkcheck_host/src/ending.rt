@@ -7,6 +7,7 @@ ghost use Rattle.mkcheck_host.specs.Ending.{Ends, said, status_of, streams, to_w
 ghost use Rattle.mkcheck_host.specs.declared.ending.Ending.{Ending};
 
 use crate::outcome::Outcome;
+use crate::sink::Sink;
 use crate::writing::emit;
 use std::io;
 use std::io::{ErrorKind, Write};
@@ -81,9 +82,9 @@ impl Ending {
 }
 
 // Writes to standard error that a write failed, as far as that can be written.
-fn cut<E: Write>(err: &mut E) -> Ending
+fn cut<E: Write>(err: &mut Sink<E>) -> Ending
     ensures ending { result ≡ Ending.WriteFailed }
-    ensures line { AppendsSome (E.contents err.old) (E.contents err.new) failure_line }
+    ensures line { AppendsSome (E.contents err.old.writer) (E.contents err.new.writer) failure_line }
 {
     let _ = emit(err, b"write failed\n");
     Ending::WriteFailed
@@ -91,14 +92,14 @@ fn cut<E: Write>(err: &mut E) -> Ending
 
 // Writes a text to standard output, and then a message to standard error.
 fn send<O: Write, E: Write>(
-    out: &mut O,
-    err: &mut E,
+    out: &mut Sink<O>,
+    err: &mut Sink<E>,
     text: &[u8],
     message: &[u8],
     status: u8,
 ) -> Ending
-    ensures { let streams = streams (O.contents out.old) (O.contents out.new)
-        (E.contents err.old) (E.contents err.new) in
+    ensures { let streams = streams (O.contents out.old.writer) (O.contents out.new.writer)
+        (E.contents err.old.writer) (E.contents err.new.writer) in
         Ends streams (record { out = text.now; err = message.now; status = status }) result }
 {
     if emit(out, text).is_err() {
@@ -111,9 +112,13 @@ fn send<O: Write, E: Write>(
 }
 
 /// Writes the outcome of a run, or why it has none, and returns whether all was written.
-pub fn end<O: Write, E: Write>(out: &mut O, err: &mut E, ran: &Result<Outcome, Stop>) -> Ending
-    ensures { let streams = streams (O.contents out.old) (O.contents out.new)
-        (E.contents err.old) (E.contents err.new) in
+pub fn end<O: Write, E: Write>(
+    out: &mut Sink<O>,
+    err: &mut Sink<E>,
+    ran: &Result<Outcome, Stop>,
+) -> Ending
+    ensures { let streams = streams (O.contents out.old.writer) (O.contents out.new.writer)
+        (E.contents err.old.writer) (E.contents err.new.writer) in
         Ends streams (to_write ran.now) result }
 {
     match ran {
@@ -131,12 +136,12 @@ pub fn end<O: Write, E: Write>(out: &mut O, err: &mut E, ran: &Result<Outcome, S
 /// Writes the outcome of a run, or why it has none, and returns the exit status of the process:
 /// that of the run where both texts were written, else 2.
 pub fn conclude<O: Write, E: Write>(
-    out: &mut O,
-    err: &mut E,
+    out: &mut Sink<O>,
+    err: &mut Sink<E>,
     ran: &Result<Outcome, Stop>,
 ) -> ExitCode
-    ensures { let streams = streams (O.contents out.old) (O.contents out.new)
-        (E.contents err.old) (E.contents err.new) in
+    ensures { let streams = streams (O.contents out.old.writer) (O.contents out.new.writer)
+        (E.contents err.old.writer) (E.contents err.new.writer) in
         (ending : Ending) × Ends streams (to_write ran.now) ending
         × (exit_status result ≡ status_of ending) }
 {

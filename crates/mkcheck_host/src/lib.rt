@@ -5,15 +5,19 @@
 mod disk;
 mod ending;
 mod heap;
+mod opener;
 mod outcome;
 mod reading;
+mod sink;
 mod source;
 mod writing;
 
 pub use disk::Disk;
 pub use ending::{Ending, FAULT, Stop, conclude, end};
 pub use heap::keep_pages;
+pub use opener::{HostFiles, Opener};
 pub use outcome::Outcome;
 pub use reading::slurp;
+pub use sink::{Sink, WriteFailed};
 pub use source::Source;
-pub use writing::{WriteFailed, emit};
+pub use writing::emit;
