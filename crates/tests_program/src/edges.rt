@@ -2,14 +2,15 @@
 //! elsewhere.
 
 use mk_core::{Files, FilesError, MemFiles};
-use mkcheck_host::{Disk, Ending, Outcome, Source, Stop, conclude, emit, end, slurp};
+use mkcheck_host::{
+    Disk, Ending, HostFiles, Outcome, Sink, Source, Stop, conclude, emit, end, slurp,
+};
 use mkcheck_run::run_arguments;
-use std::alloc::{AllocError, Allocator, Global};
-use std::fs::{Metadata, OpenOptions};
+use std::alloc::{AllocError, Global};
+use std::io;
 use std::io::{ErrorKind, Read, Write};
 use std::process::{Abort, ExitCode};
 use std::test::Fail;
-use std::{fs, io, rt};
 
 // A reader that gives `left` bytes, one at each read, and then fails or is at its end.
 #[derive(Drop)]
@@ -126,109 +127,27 @@ fn reads_a_pipe(rt: HostRuntime) -> Result<(), Fail> {
 
 #[test]
 fn reads_the_disk(rt: HostRuntime) -> Result<(), Fail> {
-    let text = Disk::new(&rt).read(rt.alloc(), "/dev/null")?;
+    let mut disk = Disk::new(HostFiles::new(&rt));
+    let text = disk.read(rt.alloc(), "/dev/null")?;
     assert!(rt; matches!(&text, Some(text) if text.is_empty()));
     for name in ["/dev/none", "/none/none", ""] {
-        let mut disk = Disk::new(&rt);
-        let text = disk.read(rt.alloc(), name)?;
-        assert!(rt; text.is_none());
-        assert_eq!(rt; disk.failures(), 0);
+        assert!(rt; disk.read(rt.alloc(), name)?.is_none());
     }
     Ok(())
 }
 
 // A folder, an endless file, a file that can be opened but not read, and a path through a file.
 #[test]
-fn counts_what_the_disk_fails_to_read(rt: HostRuntime) {
+fn fails_to_read_the_disk(rt: HostRuntime) {
+    let mut disk = Disk::new(HostFiles::new(&rt));
     for name in ["/", "/dev/zero", "/proc/self/mem", "/dev/null/x"] {
-        let mut disk = Disk::new(&rt);
         let text = disk.read(rt.alloc(), name);
         assert!(rt; matches!(&text, Err(FilesError::ReadFailed)));
-        assert_eq!(rt; disk.failures(), 1);
     }
 }
 
-// Files none of which can be opened, for this cause.
-#[derive(Drop)]
-struct Closed(ErrorKind);
-
-impl Closed {
-    fn refuse<T>(&self) -> io::Result<T> {
-        Err(io::Error::from(self.0))
-    }
-}
-
-impl rt::Files for Closed {
-    type File = fs::File;
-
-    type Dir = io::Empty;
-
-    fn open_file(&self, _how: &OpenOptions, _path: &str) -> io::Result<fs::File> {
-        self.refuse()
-    }
-
-    fn open_dir(&self, _path: &str) -> io::Result<io::Empty> {
-        self.refuse()
-    }
-
-    fn metadata(&self, _path: &str) -> io::Result<Metadata> {
-        self.refuse()
-    }
-
-    fn symlink_metadata(&self, _path: &str) -> io::Result<Metadata> {
-        self.refuse()
-    }
-
-    fn copy(&self, _from: &str, _to: &str) -> io::Result<u64> {
-        self.refuse()
-    }
-
-    fn rename(&self, _from: &str, _to: &str) -> io::Result<()> {
-        self.refuse()
-    }
-
-    fn remove_file(&self, _path: &str) -> io::Result<()> {
-        self.refuse()
-    }
-
-    fn create_dir(&self, _path: &str) -> io::Result<()> {
-        self.refuse()
-    }
-
-    fn remove_dir(&self, _path: &str) -> io::Result<()> {
-        self.refuse()
-    }
-
-    fn remove_dir_all<B: Allocator>(&self, _alloc: B, _path: &str) -> io::Result<()> {
-        self.refuse()
-    }
-}
-
-fn opened(alloc: Global, kind: ErrorKind) -> (Result<Option<Vec<u8>>, FilesError>, u64) {
-    let closed = Closed(kind);
-    let mut disk = Disk::new(&closed);
-    let text = disk.read(alloc, "makefile");
-    (text, disk.failures())
-}
-
-#[test]
-fn tells_a_missing_file_from_a_closed_one(rt: HostRuntime) {
-    assert!(rt; matches!(opened(rt.alloc(), ErrorKind::NotFound), (Ok(None), 0)));
-    let wanted = opened(rt.alloc(), ErrorKind::OutOfMemory);
-    assert!(rt; matches!(wanted, (Err(FilesError::Memory), 0)));
-    for kind in [
-        ErrorKind::PermissionDenied,
-        ErrorKind::NotADirectory,
-        ErrorKind::FilesystemLoop,
-        ErrorKind::InvalidFilename,
-        ErrorKind::Interrupted,
-        ErrorKind::Other,
-    ] {
-        assert!(rt; matches!(opened(rt.alloc(), kind), (Err(FilesError::ReadFailed), 1)));
-    }
-}
-
-// A writer that takes `room` bytes, at most `width` at each write, and then fails or takes none.
+// A writer that takes `room` bytes, at most `width` at each write. At the next write it fails or
+// takes none, and from then on it has room again.
 #[derive(Drop)]
 struct Narrow {
     taken: Vec<u8>,
@@ -241,6 +160,7 @@ impl Write for Narrow {
     fn write(&mut self, buf: &[u8]) -> io::Result<usize> {
         let count = buf.len().min(self.width).min(self.room);
         if count == 0 {
+            self.room = usize::MAX;
             return match self.then {
                 Some(kind) => Err(io::Error::from(kind)),
                 None => Ok(0),
@@ -258,13 +178,13 @@ impl Write for Narrow {
     }
 }
 
-fn writer_with(alloc: Global, room: usize, then: Option<ErrorKind>) -> Narrow {
-    Narrow {
+fn sink_with(alloc: Global, room: usize, then: Option<ErrorKind>) -> Sink<Narrow> {
+    Sink::new(Narrow {
         taken: Vec::new(alloc),
         width: 2,
         room,
         then,
-    }
+    })
 }
 
 const FAULTS: [Option<ErrorKind>; 5] = [
@@ -278,15 +198,19 @@ const FAULTS: [Option<ErrorKind>; 5] = [
 #[test]
 fn writes_a_text_in_parts(rt: HostRuntime) {
     for then in FAULTS {
-        let mut writer = writer_with(rt.alloc(), 5, then);
-        assert!(rt; emit(&mut writer, b"").is_ok());
-        assert!(rt; emit(&mut writer, b"parts").is_ok());
-        assert_eq!(rt; writer.taken.as_slice(), b"parts".as_slice());
-        assert!(rt; emit(&mut writer, b"").is_ok());
-        let mut writer = writer_with(rt.alloc(), 3, then);
-        assert!(rt; emit(&mut writer, b"parts").is_err());
-        assert_eq!(rt; writer.taken.as_slice(), b"par".as_slice());
+        let mut sink = sink_with(rt.alloc(), 5, then);
+        assert!(rt; emit(&mut sink, b"").is_ok());
+        assert!(rt; emit(&mut sink, b"parts").is_ok());
+        assert!(rt; emit(&mut sink, b"").is_ok());
+        assert_eq!(rt; sink.into_writer().taken.as_slice(), b"parts".as_slice());
+        let mut sink = sink_with(rt.alloc(), 3, then);
+        assert!(rt; emit(&mut sink, b"parts").is_err());
+        assert_eq!(rt; sink.into_writer().taken.as_slice(), b"par".as_slice());
     }
+}
+
+fn to_memory(alloc: Global) -> Sink<Vec<u8>> {
+    Sink::new(Vec::new(alloc))
 }
 
 fn outcome(alloc: Global, status: u8) -> Result<Outcome, AllocError> {
@@ -301,11 +225,11 @@ fn outcome(alloc: Global, status: u8) -> Result<Outcome, AllocError> {
 fn ends_with_the_status_of_the_run(rt: HostRuntime) -> Result<(), Fail> {
     let alloc = rt.alloc();
     for status in [0, 1, 2, 3, 77] {
-        let (mut out, mut err) = (Vec::new(alloc), Vec::new(alloc));
+        let (mut out, mut err) = (to_memory(alloc), to_memory(alloc));
         let ran = Ok(outcome(alloc, status)?);
         assert!(rt; conclude(&mut out, &mut err, &ran) == ExitCode::from(status));
-        assert_eq!(rt; out.as_slice(), b"out".as_slice());
-        assert_eq!(rt; err.as_slice(), b"err".as_slice());
+        assert_eq!(rt; out.into_writer().as_slice(), b"out".as_slice());
+        assert_eq!(rt; err.into_writer().as_slice(), b"err".as_slice());
     }
     Ok(())
 }
@@ -316,25 +240,28 @@ fn tells_of_a_failed_write(rt: HostRuntime) -> Result<(), Fail> {
     for then in FAULTS {
         for status in [0, 1, 3] {
             let ran = Ok(outcome(alloc, status)?);
-            let (mut out, mut err) = (writer_with(alloc, 2, then), Vec::new(alloc));
+            let (mut out, mut err) = (sink_with(alloc, 2, then), to_memory(alloc));
             assert!(rt; conclude(&mut out, &mut err, &ran) == ExitCode::from(2));
-            assert_eq!(rt; out.taken.as_slice(), b"ou".as_slice());
-            assert_eq!(rt; err.as_slice(), b"write failed\n".as_slice());
-            let (mut out, mut err) = (Vec::new(alloc), writer_with(alloc, 2, then));
+            assert_eq!(rt; out.into_writer().taken.as_slice(), b"ou".as_slice());
+            assert_eq!(rt; err.into_writer().as_slice(), b"write failed\n".as_slice());
+            let (mut out, mut err) = (to_memory(alloc), sink_with(alloc, 2, then));
             assert!(rt; matches!(end(&mut out, &mut err, &ran), Ending::WriteFailed));
-            assert_eq!(rt; out.as_slice(), b"out".as_slice());
-            assert_eq!(rt; err.taken.as_slice(), b"er".as_slice());
+            assert_eq!(rt; out.into_writer().as_slice(), b"out".as_slice());
+            assert_eq!(rt;
+                err.into_writer().taken.as_slice(),
+                b"erwrite failed\n".as_slice()
+            );
         }
     }
     Ok(())
 }
 
 fn expect_stop(rt: &impl Abort, alloc: Global, stop: Stop, line: &str, status: u8) {
-    let (mut out, mut err) = (Vec::new(alloc), Vec::new(alloc));
+    let (mut out, mut err) = (to_memory(alloc), to_memory(alloc));
     let ran: Result<Outcome, Stop> = Err(stop);
     assert!(rt; conclude(&mut out, &mut err, &ran) == ExitCode::from(status));
-    assert!(rt; out.is_empty());
-    assert_eq!(rt; err.as_slice(), line.as_bytes());
+    assert!(rt; out.into_writer().is_empty());
+    assert_eq!(rt; err.into_writer().as_slice(), line.as_bytes());
 }
 
 #[test]
@@ -369,10 +296,10 @@ fn answers_the_words(rt: HostRuntime) -> Result<(), Fail> {
     let mut files = MemFiles::new(alloc);
     let mut words = Vec::new(alloc);
     words.push(String::from_str(alloc, "graph")?)?;
-    let (mut out, mut err) = (Vec::new(alloc), Vec::new(alloc));
+    let (mut out, mut err) = (to_memory(alloc), to_memory(alloc));
     let ran = run_arguments(alloc, &mut files, Ok(words));
     assert!(rt; conclude(&mut out, &mut err, &ran) == ExitCode::from(2));
-    assert_eq!(rt; out.as_slice(), b"refused 37\n".as_slice());
-    assert!(rt; err.is_empty());
+    assert_eq!(rt; out.into_writer().as_slice(), b"refused 37\n".as_slice());
+    assert!(rt; err.into_writer().is_empty());
     Ok(())
 }

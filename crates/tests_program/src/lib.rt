@@ -8,4 +8,6 @@ mod expecting;
 #[cfg(test)]
 mod graphs;
 #[cfg(test)]
+mod openings;
+#[cfg(test)]
 mod verdicts;

@@ -1,7 +1,6 @@
 //! What several tests share: comparisons, texts, names and makefiles in memory.
 
-ghost use Rattle.std.specs.Prelude.{◌≡◌, IfOk};
-ghost use Rattle.mk_read_parse.specs.MemFiles.{failures_of};
+ghost use Rattle.std.specs.Prelude.{◌≡◌};
 
 use mk_read_parse::MemFiles;
 use std::alloc::{AllocError, Global};
@@ -59,9 +58,7 @@ pub fn add_names(shown: &mut String, names: &[String]) -> Result<(), AllocError>
 }
 
 /// Returns files with a single file of this name and text.
-pub fn file_of(alloc: Global, name: &str, text: &[u8]) -> Result<MemFiles, AllocError>
-    ensures { IfOk result (λ files. failures_of files ≡ 0) }
-{
+pub fn file_of(alloc: Global, name: &str, text: &[u8]) -> Result<MemFiles, AllocError> {
     let mut files = MemFiles::new(alloc);
     files.add(name, text)?;
     Ok(files)

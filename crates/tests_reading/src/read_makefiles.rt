@@ -1,10 +1,8 @@
 //! Tests of makefiles that are read from memory.
 
-ghost use Rattle.std.specs.Prelude.{◌≡◌, IfOk};
-ghost use Rattle.mk_read_parse.specs.MemFiles.{failures_of};
-
 use crate::fixtures::{add_names, file_of, same, see_that};
-use mk_read::{Command, Makefile};
+use mk_lines::Name;
+use mk_read::{Command, Makefile, ReadFault};
 use mk_read_parse::{MemFiles, read_makefile};
 use std::alloc::{AllocError, Global};
 use std::process::Abort;
@@ -65,9 +63,7 @@ b:;echo $@
 const INCLUDING_RULES: &str = " all: a.out .WAIT b\n x y: z;cp z $@\n b:;echo $@;echo done\n";
 
 /// Makes the files of the makefile and of what it includes.
-fn files(alloc: Global) -> Result<MemFiles, AllocError>
-    ensures { IfOk result (λ files. failures_of files ≡ 0) }
-{
+fn files(alloc: Global) -> Result<MemFiles, AllocError> {
     let text = unfolded(alloc, INCLUDING)?;
     let mut files = file_of(alloc, "makefile", text.as_bytes())?;
     files.add("more.mk", b"x y: z\n\tcp z $@\n")?;
@@ -95,9 +91,7 @@ fn see_read(
     defaults: bool,
     operands: &[Vec<u8>],
     want: Seen<'_>,
-) -> Result<(), Fail>
-    requires { failures_of files.old ≡ 0 }
-{
+) -> Result<(), Fail> {
     let makefile = read_makefile(alloc, files, None, defaults, operands)?;
     let seen = see(rt, alloc, &makefile, want);
     drop(makefile);
@@ -111,14 +105,10 @@ const BOTH: Seen<'static> = (
     true,
 );
 
-/// Checks both files, and that no read failed.
-fn see_both(rt: &impl Abort, alloc: Global, files: &mut MemFiles) -> Result<(), Fail>
-    requires { failures_of files.old ≡ 0 }
-{
+/// Checks both files.
+fn see_both(rt: &impl Abort, alloc: Global, files: &mut MemFiles) -> Result<(), Fail> {
     let operand = b"OUT=a.out".to_vec(alloc)?;
-    see_read(rt, alloc, files, false, &[operand], BOTH)?;
-    see_that(rt, files.failures() == 0, "no failures");
-    Ok(())
+    see_read(rt, alloc, files, false, &[operand], BOTH)
 }
 
 #[test]
@@ -150,4 +140,71 @@ fn reads_the_default_text(rt: HostRuntime) -> Result<(), Fail> {
     let seen = see_read(&rt, rt.alloc(), &mut files, true, &[], DEFAULT);
     drop(files);
     seen
+}
+
+/// A makefile that includes three files by one line, and their texts.
+fn three_files(alloc: Global) -> Result<MemFiles, AllocError> {
+    let mut files = file_of(alloc, "Makefile", b"# three\ninclude one two three\n")?;
+    files.add("three", b"c:\n")?;
+    files.add("two", b"b:\n")?;
+    files.add("one", b"a:\n")?;
+    Ok(files)
+}
+
+/// The fault of a read, as a text: the line that includes the file, if there is one, and the name
+/// of the file.
+fn failure_text(alloc: Global, read: &Result<Makefile, ReadFault>) -> Result<String, AllocError> {
+    match read {
+        Err(ReadFault::ReadFailed(Some(place), name)) => {
+            format!(in alloc; "{}:{} {}", place.file.as_str(), place.line, name.as_str())
+        }
+        Err(ReadFault::ReadFailed(None, name)) => format!(in alloc; "{}", name.as_str()),
+        Err(_) => String::from_str(alloc, "another fault"),
+        Ok(_) => String::from_str(alloc, "no fault"),
+    }
+}
+
+/// The text of the fault where the read with this number fails.
+const FAILURES: [(u64, &str); 6] = [
+    (1, "makefile"),
+    (2, "Makefile"),
+    (3, "Makefile:2 one"),
+    (4, "Makefile:2 two"),
+    (5, "Makefile:2 three"),
+    (6, "no fault"),
+];
+
+#[test]
+fn names_the_file_of_a_failed_read(rt: HostRuntime) -> Result<(), Fail> {
+    let alloc = rt.alloc();
+    for (number, want) in FAILURES {
+        let mut files = three_files(alloc)?;
+        files.fail_at(number);
+        let read = read_makefile(alloc, &mut files, None, true, &[]);
+        let got = failure_text(alloc, &read)?;
+        same(&rt, got.as_str(), want, "a failed read");
+    }
+    Ok(())
+}
+
+#[test]
+fn refuses_requests_before_reading(rt: HostRuntime) -> Result<(), Fail> {
+    let alloc = rt.alloc();
+    let mut files = three_files(alloc)?;
+    files.fail_at(1);
+    let dash = Name::new(alloc, "-")?;
+    let read = read_makefile(alloc, &mut files, Some(&dash), true, &[]);
+    see_that(
+        &rt,
+        matches!(&read, Err(ReadFault::BadMakefileName(_))),
+        "a bad name",
+    );
+    let operand = b"A B=".to_vec(alloc)?;
+    let read = read_makefile(alloc, &mut files, None, true, &[operand]);
+    see_that(
+        &rt,
+        matches!(&read, Err(ReadFault::Macro(_, _))),
+        "a bad operand",
+    );
+    Ok(())
 }
