@@ -9,6 +9,8 @@ use Rattle.mk_cert.specs.Laws.{PartsStay, SelectedGoals, VerifiedIsRight}
 use Rattle.mk_cert.specs.Subject.{Subject, IsSubject}
 use Rattle.mk_cert.specs.Verdict.{Verifies}
 use Rattle.mk_cert.specs.declared.fault.CertFault.{CertFault}
+use Rattle.mk_cert_laws.specs.Disks.{IsSelectedAnew, PartsAreSelectedAnew}
+use Rattle.mk_cert_laws.specs.Laws.{AcceptedIsSelectedAnew, RecipesAreCovered}
 use Rattle.mk_find.specs.Laws.{CertificateIsAccepted, NoFindings}
 use Rattle.mk_infer.specs.Laws.{StaysSelected}
 use Rattle.mk_infer.specs.Selection.{Selects}
@@ -29,13 +31,15 @@ use Rattle.mk_core.specs.Ready.{Ready, ready_for}
 use Rattle.mk_core.specs.Right.{IsRightFor}
 use Rattle.mk_core.specs.VerifyAnswer.{AnswersVerify, VerifiesCertificate, VerifiesText, accepted}
 
-module _ (right : VerifiedIsRight) (selected : SelectedGoals) (files : Told) (request : Request) (ready : Ready) (is_ready : ready_for files None request ≡ Ok ready) where
+module _ (right : VerifiedIsRight) (covered : RecipesAreCovered) (anew : AcceptedIsSelectedAnew) (selected : SelectedGoals) (files : Told) (request : Request) (ready : Ready) (is_ready : ready_for files None request ≡ Ok ready) where
   -- a certificate is accepted
   pub promised : (g : value.Graph) → Selects ready.makefile (recorded ready) ready.goals (Ok g) → IsGraph g → IsSubject (subject_over ready g) → (c : Certificate) → Verifies (subject_over ready g) c (Ok tt)
       → IsRightFor files request
   promised g s is_graph is_subject c v =
       let x = subject_over ready g in
       let all = right x c is_graph is_subject v in
+      let again = anew x c is_graph is_subject v in
+      let goals_are = selected ready.makefile (recorded ready) ready.goals g s in
       record {
         ready = ready;
         graph = g;
@@ -43,8 +47,11 @@ module _ (right : VerifiedIsRight) (selected : SelectedGoals) (files : Told) (re
         is_selected = s;
         is_right = all.0;
         is_right_once = all.1;
-        stays_selected = subst (λ (goals : List (List ℕ)). StaysSelected ready.makefile (recorded ready) (all_writes x) goals g) (selected ready.makefile (recorded ready) ready.goals g s) all.2;
-        parts_stay = subst (λ (goals : List (List ℕ)). PartsStay ready.makefile (recorded ready) (all_writes x) goals g) (selected ready.makefile (recorded ready) ready.goals g s) all.3;
+        stays_selected = subst (λ (goals : List (List ℕ)). StaysSelected ready.makefile (recorded ready) (all_writes x) goals g) goals_are all.2;
+        parts_stay = subst (λ (goals : List (List ℕ)). PartsStay ready.makefile (recorded ready) (all_writes x) goals g) goals_are all.3;
+        covers = covered x c is_graph is_subject v;
+        selected_anew = subst (λ (goals : List (List ℕ)). IsSelectedAnew x goals g) goals_are again.0;
+        parts_anew = subst (λ (goals : List (List ℕ)). PartsAreSelectedAnew x goals) goals_are again.1;
       }
 
 -- ---- a verdict
@@ -55,23 +62,23 @@ module _ (accepts : CertificateIsAccepted) (nothing : NoFindings) where
   has_accepted x is_graph (Yes c recipes reads) (none, is, counted, read) agreed = (c, accepts x c is_graph (nothing x none).0 is)
   has_accepted x is_graph (No found) is agreed = absurd agreed
 
-  module _ (right : VerifiedIsRight) (selected : SelectedGoals) (files : Told) (request : Request) where
+  module _ (right : VerifiedIsRight) (covered : RecipesAreCovered) (anew : AcceptedIsSelectedAnew) (selected : SelectedGoals) (files : Told) (request : Request) where
     of_build : (answer : Result Verdict Fault) → IsYes answer → (ready : Ready) → ready_for files None request ≡ Ok ready → AnswersCheck ready answer → IsRightFor files request
     of_build answer agreed ready is (Err fault, s, (settled, e)) = absurd (subst IsYes e agreed)
     of_build answer agreed ready is (Ok g, s, inr (fault, first, e)) = absurd (subst IsYes e agreed)
     of_build answer agreed ready is (Ok g, s, inl (is_graph, is_subject, (verdict, v, e))) =
         let found = has_accepted (subject_over ready g) is_graph verdict v (subst IsYes e agreed) in
-        promised right selected files request ready is g s is_graph is_subject found.0 found.1
+        promised right covered anew selected files request ready is g s is_graph is_subject found.0 found.1
 
     of_check : (answer : Result Verdict Fault) → IsYes answer → (r : Result Ready Fault) → ready_for files None request ≡ r → Draws AnswersCheck r answer → IsRightFor files request
     of_check answer agreed (Err fault) is e = absurd (subst IsYes e agreed)
     of_check answer agreed (Ok ready) is d = of_build answer agreed ready is d
 
-pub yes_is_right : CertificateIsAccepted → NoFindings → SelectedGoals → VerifiedIsRight → YesIsRight
-yes_is_right accepts nothing selected right files request (Ok (Yes c recipes reads)) a agreed =
-    of_check accepts nothing right selected files request (Ok (Yes c recipes reads)) agreed (ready_for files None request) refl a
-yes_is_right accepts nothing selected right files request (Ok (No found)) a agreed = absurd agreed
-yes_is_right accepts nothing selected right files request (Err fault) a agreed = absurd agreed
+pub yes_is_right : CertificateIsAccepted → NoFindings → SelectedGoals → VerifiedIsRight → RecipesAreCovered → AcceptedIsSelectedAnew → YesIsRight
+yes_is_right accepts nothing selected right covered anew files request (Ok (Yes c recipes reads)) a agreed =
+    of_check accepts nothing right covered anew selected files request (Ok (Yes c recipes reads)) agreed (ready_for files None request) refl a
+yes_is_right accepts nothing selected right covered anew files request (Ok (No found)) a agreed = absurd agreed
+yes_is_right accepts nothing selected right covered anew files request (Err fault) a agreed = absurd agreed
 
 -- ---- a certificate
 
@@ -88,14 +95,14 @@ module _ (x : Subject) (text : List ℕ) where
   of_text name None e = absurd cc
   of_text name (Some bytes) v = of_certificate (certificate_from bytes) v
 
-module _ (right : VerifiedIsRight) (selected : SelectedGoals) (files : Told) (request : Request) (name text : List ℕ) where
+module _ (right : VerifiedIsRight) (covered : RecipesAreCovered) (anew : AcceptedIsSelectedAnew) (selected : SelectedGoals) (files : Told) (request : Request) (name text : List ℕ) where
   of_verify : (r : Result Ready Fault) → ready_for files None request ≡ r → Draws (AnswersVerify files name) r (Ok text) → IsRightFor files request
   of_verify (Err fault) is e = absurd cc
   of_verify (Ok ready) is (Err fault, s, (settled, e)) = absurd cc
   of_verify (Ok ready) is (Ok g, s, inr (fault, first, e)) = absurd cc
   of_verify (Ok ready) is (Ok g, s, inl (is_graph, is_subject, v)) =
       let found = of_text (subject_over ready g) text name (text_at files name) v in
-      promised right selected files request ready is g s is_graph is_subject found.0 found.1
+      promised right covered anew selected files request ready is g s is_graph is_subject found.0 found.1
 
-pub accepted_is_right : SelectedGoals → VerifiedIsRight → AcceptedIsRight
-accepted_is_right selected right files request name text a = of_verify right selected files request name text (ready_for files None request) refl a
+pub accepted_is_right : SelectedGoals → VerifiedIsRight → RecipesAreCovered → AcceptedIsSelectedAnew → AcceptedIsRight
+accepted_is_right selected right covered anew files request name text a = of_verify right covered anew selected files request name text (ready_for files None request) refl a

@@ -3,16 +3,20 @@
 ghost use Rattle.mk_core.specs.Laws.{YesIsRight, AcceptedIsRight};
 
 use mk_cert::laws::{selected_goals, verified_is_right};
+use mk_cert_laws::laws::{accepted_is_selected_anew, recipes_are_covered};
 use mk_find::laws::{certificate_is_accepted, no_findings};
 
 /// If `check` answers yes, every legal history of the build is right, a single make from a start is
-/// right, and the same graph is selected whatever part of the files that recipes write exists, for
-/// the goals and for each subset of them.
+/// right, each recipe has a record with the commands that make would run, and the same graph is
+/// selected in each make, for the goals and for each subset of them: whatever part of the files
+/// that recipes write exists, and on whatever disk a history leaves.
 pub fn yes_is_right()
     ensures { YesIsRight }
 {
+    accepted_is_selected_anew();
     certificate_is_accepted();
     no_findings();
+    recipes_are_covered();
     selected_goals();
     verified_is_right();
 }
@@ -21,6 +25,8 @@ pub fn yes_is_right()
 pub fn accepted_is_right()
     ensures { AcceptedIsRight }
 {
+    accepted_is_selected_anew();
+    recipes_are_covered();
     selected_goals();
     verified_is_right();
 }
