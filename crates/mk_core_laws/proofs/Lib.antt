@@ -5,3 +5,4 @@ mod RefusedAlike
 mod PlainWorld
 mod FirstDisk
 mod EvidenceRuns
+mod Verified

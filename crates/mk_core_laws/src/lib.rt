@@ -3,4 +3,5 @@
 #![tactic(auto)]
 
 pub mod answer_laws;
+pub mod certificate_laws;
 pub mod plan_laws;
