@@ -1,0 +1,4 @@
+pub mod Disks
+pub mod Lines
+pub mod Covered
+pub mod Anew
