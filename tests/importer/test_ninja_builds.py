@@ -3,6 +3,7 @@
 from __future__ import annotations
 
 import os
+import time
 import unittest
 
 from ninja_folder import ENVIRONMENT, NinjaFolderTest, can_judge, has_ninja
@@ -543,6 +544,44 @@ class NotTranslatedTest(NinjaFolderTest):
         self.assertEqual(answer.findings, [])
         self.assertIn(["b", "s", "source", "b", "a"], answer.ways)
         self.try_answer(answer)
+
+    def test_restat_without_a_comparison(self) -> None:
+        """A command that leaves an output as it is, whatever its input says, isn't judged."""
+        lines = COPY + "rule keep\n  command = {} || cp $in $out\n  restat = 1\n"
+        lines += "build a: keep s\nbuild b: copy a\n"
+        self.write({"build.ninja": lines.format("test -f $out"), "s": "s\n"})
+        answer = self.answer()
+        self.assertEqual((answer.findings, len(answer.problems)), ([], 1))
+        self.assertIn("leaves a as it is also where that is old", answer.problems[0])
+        self.assertEqual(self.left_by_edit(), "s\n")
+        # One that compares times or bytes is judged.
+        for command in ("test $out -nt $in", "cmp -s $in $out"):
+            self.write({"build.ninja": lines.format(command)})
+            answer = self.answer()
+            self.assertEqual((answer.findings, answer.problems), ([], []))
+            self.assertEqual(self.left_by_edit(), "t\n")
+
+    def left_by_edit(self) -> str:
+        """What b holds when s says `t` after a build."""
+        built = self.built()
+        time.sleep(0.02)  # The clock of the file system is that coarse.
+        (built / "s").write_text("t\n")
+        self.ninja(folder=built)
+        return (built / "b").read_text()
+
+    def test_state_of_a_folder(self) -> None:
+        """A command that looks whether there is a folder, which an order-only input makes."""
+        rules = "rule make\n  command = rm -rf d; grep -q yes $in && mkdir d; cp $in $out\n"
+        rules += "rule look\n  command = test -d d && cat $in > $out || echo without > $out\n"
+        lines = "build a: make a.in\nbuild b: look b.in || a\n"
+        self.write({"build.ninja": rules + lines, "a.in": "yes\n", "b.in": "b\n"})
+        answer = self.answer()
+        self.assertEqual((answer.findings, len(answer.problems)), ([], 1))
+        self.assertIn("build.ninja:6: the recipe of b writes b otherwise", answer.problems[0])
+        built = self.built()
+        (built / "a.in").write_text("no\n")
+        self.ninja(folder=built)
+        self.assertEqual((built / "b").read_text(), "b\n")
 
     def test_restat_of_several_outputs(self) -> None:
         """Each output of such a line counts by itself."""

@@ -173,6 +173,20 @@ class Build:
     """Files of the project that were written when it was configured: they never change, and aren't
     sources."""
 
+    makefiles: set[str] = field(default_factory=set)
+    """Makefiles with commands or macros that no rule of their make makes: where a recipe writes
+    one, the build isn't the same after it."""
+
+    read_made: set[str] = field(default_factory=set)
+    """Files that the build tool made or changed when it read its makefiles, and may not make anew
+    when what they are made from changes."""
+
+    read_again: set[str] = field(default_factory=set)
+    """Files that it makes anew each time it reads its makefiles: sources that are always new."""
+
+    tried: set[str] = field(default_factory=set)
+    """Recipes and folders, as `RECIPE FOLDER`: the recipe does the same without the folder."""
+
     blind: set[str] = field(default_factory=set)
     """Targets without a recipe that another recipe writes, and that the tool doesn't look at again
     then; what needs them only waits for them. Known when the recording is there."""

@@ -13,8 +13,11 @@ RECIPE = re.compile(r"#  recipe to execute \((?:from '(.*)', line (\d+)|built-in
 PLACE = re.compile(r"# .*\(from '(.*)', line (\d+)\)$")
 MACRO = re.compile(r"(?m)^([^\s#:=+?!]+) (?:=|::?:?=|\+=) ?(.*)$")
 PATTERN_MACRO = re.compile(
-    r"(?m)^# .*\(from '(.*)', line (\d+)\)\n# (?:private )?([^\s#:=+?!]+) (?:=|::?:?=|\+=)"
+    r"(?m)^(\S.*?) :\n# (.*)\(from '(.*)', line (\d+)\)\n# (?:private )?([^\s#:=+?!]+)"
+    r" (?:=|::?:?=|\+=)"
 )
+VARYING = re.compile(r"\$(\?|[({]\?[DF]?[:)}])")
+DEFINED = re.compile(r"(?ms)^define (\S+)[^\n]*\n(.*?)^endef$")
 TARGET_MACRO = re.compile(r"(?:private )?([^\s#:=+?!]+) (?:=|::?:?=|\+=) ?(.*)")
 
 
@@ -35,11 +38,16 @@ class Shown:
 
 @dataclass(frozen=True)
 class OwnMacro:
-    """A macro of one target, and where it is set: a makefile and a line."""
+    """A macro of one target, or of a pattern of targets, and where it is set: a makefile and a
+    line."""
 
     name: str
     makefile: str
     line: int
+    is_private: bool = False
+    """Whether what the target needs doesn't get it."""
+
+    pattern: str = ""
 
 
 @dataclass
@@ -75,12 +83,20 @@ class Rule:
         """Whether a line of the recipe holds something."""
         return self.ran or any(line.strip() for line in self.recipe or [])
 
+    @property
+    def varies(self) -> bool:
+        """Whether its commands depend on which prerequisites are newer, as by `$?`."""
+        return any(VARYING.search(line) for line in self.recipe or [])
+
 
 @dataclass
 class Database:
     """The macros that are of use, and the rules of each file, in order."""
 
     values: dict[str, str] = field(default_factory=dict)
+    texts: dict[str, str] = field(default_factory=dict)
+    """The macros of several lines."""
+
     rules: dict[str, list[Rule]] = field(default_factory=dict)
     pattern_macros: list[OwnMacro] = field(default_factory=list)
     """The macros that are set for patterns of targets."""
@@ -100,8 +116,12 @@ def read_database(text: str) -> Database:
     for found in MACRO.finditer(text, 0, start):
         base.values[found.group(1)] = found.group(2)
     patterns = text.find("\n# Pattern-specific Variable Values\n", 0, start)
+    for found in DEFINED.finditer(text, 0, start):
+        base.texts[found.group(1)] = found.group(2)
     for found in PATTERN_MACRO.finditer(text, patterns, start) if patterns >= 0 else ():
-        base.pattern_macros.append(OwnMacro(found.group(3), found.group(1), int(found.group(2))))
+        pattern, kind, makefile, line, name = found.groups()
+        macro = OwnMacro(name, makefile, int(line), "private" in kind, pattern)
+        base.pattern_macros.append(macro)
     for entry in text[start + 9 : end].split("\n\n"):
         read_entry(base, entry.strip("\n").split("\n"))
     for rules in base.rules.values():
@@ -137,7 +157,9 @@ def read_entry(base: Database, entry: list[str]) -> None:
         elif number < at - 1 and (place := PLACE.match(line)):
             macro = TARGET_MACRO.match(entry[number + 1].partition(": ")[2])
             if macro is not None:
-                rule.macros.append(OwnMacro(macro.group(1), place.group(1), int(place.group(2))))
+                is_private = line.partition("(from ")[0].rstrip().endswith(" private")
+                where = place.group(1), int(place.group(2))
+                rule.macros.append(OwnMacro(macro.group(1), *where, is_private))
         elif place := RECIPE.fullmatch(line):
             rule.recipe = joined_lines(entry[number + 1 :])
             rule.makefile = place.group(1) or ""

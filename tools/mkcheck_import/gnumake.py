@@ -118,19 +118,25 @@ def own_environment(environment: dict[str, str]) -> dict[str, str]:
 
 def options_of(words: list[str]) -> list[str]:
     """The words of a make that aren't goals; an option and its value are one."""
-    found: list[str] = []
+    return [" ".join(option) for option in option_words(words)]
+
+
+def option_words(words: list[str]) -> list[list[str]]:
+    """The options and macros among the words of a make, each with its value, where that is a word
+    of its own."""
+    found: list[list[str]] = []
     at = 0
     while at < len(words):
-        word = words[at]
+        option = [words[at]]
         at += 1
-        if word == "--":
+        if option[0] == "--":
             break
-        is_short = re.fullmatch(rf"-[^-]*[{WITH_VALUE}]", word) is not None
-        if (is_short or word in LONG_WITH_VALUE) and at < len(words):
-            word = f"{word} {words[at]}"
+        is_short = re.fullmatch(rf"-[^-]*[{WITH_VALUE}]", option[0]) is not None
+        if (is_short or option[0] in LONG_WITH_VALUE) and at < len(words):
+            option.append(words[at])
             at += 1
-        if word.startswith("-") or "=" in word:
-            found.append(word)
+        if option[0].startswith("-") or "=" in option[0]:
+            found.append(option)
     return found
 
 
@@ -178,12 +184,14 @@ def run_make(
     scratch: str,
     is_real: bool,
     watched: list[str],
+    more: dict[str, str] | None = None,
 ) -> list[Make]:
     """Runs make in a folder of the place, and gives it and all makes that it started, in the order
     of their starts.
 
     With `is_real` the build is made, else the commands are only shown, as by `-n`. `scratch` is a
     folder of its own. Of `watched` macros the values for each target are told with its commands.
+    `more` are further variables of the environment.
     """
     shutil.rmtree(scratch, ignore_errors=True)
     os.makedirs(scratch)
@@ -195,7 +203,7 @@ def run_make(
     os.symlink(wrapper, os.path.join(os.path.dirname(wrapper), "gmake"))
     Path(scratch, "count").write_text("0")
     Path(scratch, "top.out").touch()
-    outer = outer_environment()
+    outer = {**outer_environment(), **(more or {})}
     search = f"{os.path.dirname(wrapper)}:{outer.get('PATH', os.defpath)}"
     environment = {**outer, "PATH": search, "MKIMPORT_OUT": os.path.join(scratch, "top.out")}
     how = ["--trace"] if is_real else ["-n", "-k"]

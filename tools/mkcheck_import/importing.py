@@ -24,6 +24,7 @@ from .gnumake import outer_environment
 from .judging import FIRST, Judge, write
 from .makebuild import MakeBuild
 from .ninjabuild import NinjaFolder
+from .probing import Probing
 from .saving import build_of_text, text_of_build
 from .sentences import Sentences
 from .settling import Settling
@@ -252,6 +253,10 @@ class Import:
         footprints = self.judge.read_book()
         before = listing(self.judge.place.folder)
         Settling(self.build, footprints, before).settle()
+        built = self.copies.place("built") if "built" in self.copies.made else None
+        Probing(self.build, footprints, self.copies.seen, built, self.environment()).probe()
+        if built is not None:
+            self.copies.place("read")
         self.footprints = footprints
         self.judge.write_book(footprints)
         self.save()

@@ -2,18 +2,21 @@
 
 from __future__ import annotations
 
+import functools
 import os
 from dataclasses import dataclass, field
 
 from mkcheck_record.faults import Fault
 
 from .answers import counted
-from .builds import Build
+from .asking import Asking
+from .builds import Build, path_name
 from .commands import is_export
 from .copies import Copies, links_in, listing
 from .database import Rule
 from .gnumake import (
     Make,
+    content,
     find_make,
     last_words,
     outer_environment,
@@ -24,6 +27,7 @@ from .gnumake import (
 from .later import add_later
 from .leaving import leave_alone, times_in
 from .overlaps import name_overlaps
+from .rereading import changed, is_dependency_file, place_of, touch_sources
 from .translating import Translation
 
 ENOUGH = (4, 0)
@@ -46,6 +50,22 @@ class MakeBuild:
     shown: list[Make] = field(default_factory=list)
     built: list[Make] = field(default_factory=list)
     after: list[Make] = field(default_factory=list)
+    later: list[Make] = field(default_factory=list)
+    """What make would do after a build when all sources have changed."""
+
+    asking: Asking | None = None
+    """What make says for other goals."""
+
+    makefiles: set[str] = field(default_factory=set)
+    """The makefiles that hold commands or macros, and that no rule of their make makes."""
+
+    read_made: set[str] = field(default_factory=set)
+    """The files that make made or changed when it read its makefiles."""
+
+    read_again: set[str] = field(default_factory=set)
+    """Those of them that it makes anew each time, and that were the same before and after a build.
+    """
+
     watched: list[str] = field(default_factory=list)
     exported: dict[str, set[str]] = field(default_factory=dict)
     again: list[str] = field(default_factory=list)
@@ -62,12 +82,21 @@ class MakeBuild:
         """The path of the script that stands for make in commands."""
         return wrapper_in(self.scratch)
 
-    def run(self, word: str, is_real: bool) -> list[Make]:
-        """Runs make in a copy."""
+    def run(
+        self,
+        word: str,
+        is_real: bool,
+        words: list[str] | None = None,
+        folder: str | None = None,
+        more: dict[str, str] | None = None,
+    ) -> list[Make]:
+        """Runs make in a copy, with its own words or with others, and perhaps in another folder of
+        it, with further variables of the environment."""
         place = self.copies.place(word)
-        folder = os.path.normpath(os.path.join(place.seen, self.folder))
+        folder = folder or os.path.normpath(os.path.join(place.seen, self.folder))
+        words = self.words if words is None else words
         makes = run_make(
-            self.program, place, folder, self.words, self.scratch, is_real, self.watched
+            self.program, place, folder, words, self.scratch, is_real, self.watched, more
         )
         if not makes[0].transcript.is_whole:
             raise Fault(f"GNU make could not read its makefile: {last_words(makes[0].errors)}")
@@ -80,12 +109,15 @@ class MakeBuild:
         if tuple(map(int, version.split()[-1].split(".")[:2])) < ENOUGH:
             raise Fault(f"{version} is too old: GNU make 4.0 or a later one is needed")
         place = self.copies.place("read")
+        times = times_in(place.folder)
         self.shown = self.run("read", is_real=False)
         self.find_watched(place.folder, self.shown)
         if self.watched:
             self.shown = self.run("read", is_real=False)
         self.before_files = listing(place.folder)
         self.before_times = times_in(place.folder)
+        found = self.before_times.items()
+        self.read_made = {name for name, stamp in found if times.get(name) != stamp}
         self.links = links_in(place.folder)
         return f"{counted(len(self.shown), 'make')}, {version}"
 
@@ -116,19 +148,68 @@ class MakeBuild:
                 f"the build failed, so it can't be recorded: {last_words(failed[-1].errors)}; mend"
                 f" it until `make` in {self.folder} succeeds, and import again"
             )
+        times = times_in(self.copies.place("built").folder)
         self.after = self.run("built", is_real=True)
         again = [rule.name for rule in all_rules(self.after) if rule.ran and not rule.is_phony]
         self.again = list(dict.fromkeys(again))
         folder = self.copies.place("built").folder
         self.after_files, self.after_times = listing(folder), times_in(folder)
         self.links.update(links_in(self.copies.place("built").folder))
+        self.find_read_again(folder, times)
+        self.find_makefiles(folder)
+        made = self.after_files - self.before_files
+        touch_sources(self.copies.seen, folder, [*self.built, *self.after], made)
+        # A make that a recipe starts by its name isn't started by `make -n`.
+        self.later = self.run("built", is_real=len(self.built) > len(self.shown))
+        ask = functools.partial(self.run, "asked", False)
+        self.asking = Asking(self.copies.seen, self.shown, self.words, self.wrapper, ask)
+        self.asking.ask()
         return counted(sum(rule.ran for rule in all_rules(self.built)), "recipe")
+
+    def find_read_again(self, folder: str, times: dict[str, int]) -> None:
+        """Finds the files that each reading of the makefiles makes anew, and alike. `folder` holds
+        them after a build, and `times` are those before its last make."""
+        kept = self.copies.kept("read")
+        for name in self.read_made:
+            is_new = times.get(name) != self.after_times.get(name)
+            if is_new and content(f"{folder}/{name}") == content(f"{kept}/{name}"):
+                self.read_again.add(name)
+
+    def find_makefiles(self, folder: str) -> None:
+        """Finds the makefiles that aren't made anew by the make that reads them, and that hold more
+        than prerequisites. `folder` holds them after a build."""
+        for make in [*self.shown, *self.built, *self.after]:
+            for text in make.makefiles:
+                name = path_name(self.copies.seen, make.folder, text)
+                is_remade = any(rule.has_recipe for rule in make.base.rules.get(text, []))
+                if not is_remade and not is_dependency_file(os.path.join(folder, name)):
+                    self.makefiles.add(name)
+
+    def name_changes(self, build: Build, makes: list[Make]) -> None:
+        """Names what isn't the same in each make, or only in the makefiles as they were read."""
+        for make, rule, what in changed(makes, self.later):
+            where, name = place_of(self.copies.seen, make, rule)
+            build.problem(
+                f"{where}: after a build make has other commands for {name}:"
+                f" {what.replace(self.wrapper, 'make')}; what these do isn't judged; let its"
+                " commands be the same in each make"
+            )
+        failed = [make for make in self.later if make.status != 0]
+        if failed and all(make.status == 0 for make in self.shown):
+            build.problem(
+                "make fails after a build when all sources have new times, so it isn't known"
+                f" whether it has the same commands then ({last_words(failed[0].errors)})"
+            )
+        for text in self.asking.sentences if self.asking is not None else []:
+            build.problem(text)
+        build.makefiles, build.read_again = self.makefiles, self.read_again
+        build.read_made = self.read_made - self.read_again
 
     def translate(self) -> Build:
         """The build, with what make knows after it where it was made."""
         makes, reason = self.shown, ""
         if self.built:
-            reason = "--build was given" if self.is_built else difference(self.shown, self.built)
+            reason = "--build was given" if self.is_built else to_build(self.shown, self.built)
             if reason:
                 makes = self.built
                 take_unseen(self.built, self.shown)
@@ -152,6 +233,7 @@ class MakeBuild:
         if self.after:
             add_later(translation, self.after)
         name_overlaps(translation)
+        self.name_changes(build, makes)
         self.name_makefiles(translation, makes)
         return build
 
@@ -191,7 +273,7 @@ def texts_of(rules: list[Rule]) -> list[str]:
     return [command.text for rule in rules for command in rule.commands]
 
 
-def difference(shown: list[Make], built: list[Make]) -> str:
+def to_build(shown: list[Make], built: list[Make]) -> str:
     """Why what `make -n` showed isn't enough for what a build did; empty where it is.
 
     Recipes that `make -n` alone shows are no reason: it takes each target for changed.

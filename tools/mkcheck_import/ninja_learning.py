@@ -17,6 +17,7 @@ from .ninja_inputs import Inputs
 
 # A time that no file has that was written in a build.
 OLD = 1
+OTHER_BYTES = b"These bytes were put here by mkcheck-import, to see whether they stay.\n"
 # The line of an output in what `ninja -t deps` says.
 NOTED = re.compile(r"(.*): #deps \d+, deps mtime ")
 
@@ -156,6 +157,14 @@ def try_restat(
         )
     elif left:
         translation.leader(edge).left_alike = True
+        kept = [path for path in left if not is_mended(path, words, built, environment)]
+        if kept:
+            build.problem(
+                f"{where} has `restat`, and its command leaves {os.path.basename(kept[0])} as it is"
+                " also where that is old and holds other bytes: so when what it reads changes, it"
+                " may stay old, which isn't judged; let the command compare what it would write"
+                " with what is there (cmp -s)"
+            )
         build.note(
             f"{where} has `restat`, and its command leaves {os.path.basename(left[0])} as it was when"
             " nothing changed. Then ninja doesn't build what needs that; so a change of what the"
@@ -163,3 +172,23 @@ def try_restat(
         )
     else:
         build.note(f"{where} has `restat`; its command was seen to always write its outputs")
+
+
+def is_mended(
+    path: str, words: list[str], built: Place, environment: Mapping[str, str]
+) -> bool:
+    """Whether a command writes an output anew that is old and holds other bytes."""
+    with open(path, "rb") as file:
+        before = file.read()
+    with open(path, "r+b") as file:
+        file.write(OTHER_BYTES)
+        file.truncate()
+    os.utime(path, (OLD, OLD))
+    run(words, built, environment)
+    with open(path, "rb") as file:
+        after = file.read()
+    if after != before:
+        with open(path, "r+b") as file:
+            file.write(before)
+            file.truncate()
+    return after == before

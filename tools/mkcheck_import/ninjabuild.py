@@ -7,7 +7,7 @@ from dataclasses import dataclass, field
 from mkcheck_record.faults import Fault
 
 from .builds import Build
-from .copies import Copies, run_here
+from .copies import Copies, listing, run_here
 from .gnumake import outer_environment
 from .ninja import NinjaBuild, read_ninja
 from .ninja_dyndeps import add_dyndeps
@@ -61,6 +61,7 @@ class NinjaFolder:
         """The build, with what is known after a build where one was made."""
         assert self.manifest is not None
         place = self.copies.place("read")
+        before = listing(place.folder)
         translation = NinjaBuild(place, self.folder, self.manifest, self.version)
         built = self.copies.place("built") if self.is_built else None
         try:
@@ -77,4 +78,5 @@ class NinjaFolder:
             )
         if built is not None:
             learn(translation, built, outer_environment())
+            translation.build.made = listing(built.folder) - before
         return translation.build

@@ -39,12 +39,66 @@ class Settling:
             if record is not None:
                 self.drop_own(node, record)
                 self.test_limits(node, record)
+        self.name_unseen()
         self.settle_order()
         self.settle_between_makes()
         split_alike(self.build, self.footprints)
         self.rename_phony()
         self.drop_configured()
         self.add_sources()
+
+    def name_unseen(self) -> None:
+        """Names files that change beside the recipes that are judged: makefiles that a recipe
+        writes, files that make makes when it reads, and files that are gone after a build."""
+        for name in sorted(self.build.makefiles & set(self.writers)):
+            self.build.problem(
+                f"{name}: the recipe of {self.writers[name][0]} writes it, and a make reads it as"
+                " its makefile: it is judged as this build left it, and what changes with it isn't;"
+                " let the make that reads it have the rule for it too"
+            )
+        used = {name for record in self.footprints.records.values() for name in record.reads}
+        used.update(self.build.reached(later=True))
+        for name in sorted((self.build.read_made & used) - set(self.writers)):
+            if name not in self.build.configured:
+                self.build.problem(
+                    f"{name}: it is made when make reads its makefiles (by $(shell ..), $(file ..)"
+                    " or a rule for a makefile), and when it is made anew isn't judged; let a"
+                    " recipe make it"
+                )
+        for name in sorted((self.build.read_again & used) - set(self.writers)):
+            self.build.note(
+                f"{name} is made anew each time make reads its makefiles (by $(shell ..) or"
+                " $(file ..)): it is taken as a source that is always new"
+            )
+        for record in self.footprints.records.values() if self.build.made else ():
+            for name in record.reads:
+                if self.is_gone(name) and name not in self.needed(record.target):
+                    self.build.problem(
+                        f"{self.place_of(record.target)}: the recipe of {record.target} reads"
+                        f" {name}, which the recipe of {self.writers[name][0]} makes, and which is"
+                        " gone after a build (make removes files between two pattern rules), so a"
+                        f" later run doesn't find it; let it need {name}, or list {name} in"
+                        " .SECONDARY"
+                    )
+
+    def is_gone(self, name: str) -> bool:
+        """Whether a recipe makes a file that isn't there after a build by the tool itself."""
+        return name in self.writers and name not in self.build.made and not self.exists(name)
+
+    def needed(self, name: str) -> set[str]:
+        """What the rule of a recipe names, and the recipe itself with what it writes."""
+        record = self.footprints.records.get(name)
+        found = set(record.writes if record is not None else ())
+        node = self.build.nodes.get(name)
+        while node is not None:
+            found.update(node.prerequisites(later=True))
+            node = self.build.nodes.get(node.piece_of)
+        return found
+
+    def place_of(self, name: str) -> str:
+        """Where a recipe stands."""
+        node = self.build.nodes.get(name)
+        return str(node.origin) if node is not None and node.origin else name
 
     def settle_unwritten(self, node: Node, record: Record) -> None:
         """A recipe that doesn't write its target."""

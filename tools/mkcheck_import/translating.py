@@ -2,7 +2,6 @@
 
 from __future__ import annotations
 
-import re
 from dataclasses import replace
 
 from .builds import Build, Kind, Node
@@ -12,8 +11,6 @@ from .database import Rule, Shown
 from .gnumake import Make, last_words
 from .recursion import is_only_makes, runs_at_once, without_makes
 from .views import Edge, View
-
-VARYING = re.compile(r"\$(\?|[({]\?[DF]?[:)}])")
 
 
 class Translation(Commands):
@@ -239,7 +236,7 @@ class Translation(Commands):
             self.recursive(view, node, rule, text)
             return
         node.commands, node.setting = self.commands(view, node, rule.commands)
-        node.varies = any(VARYING.search(line) for line in rule.recipe or []) and rule.ran
+        node.varies = rule.varies and rule.ran
 
     def is_given(self, view: View, rule: Rule, text: str) -> bool:
         """Whether a file with a recipe is taken as it is: make found nothing to do for it."""

@@ -1,0 +1,378 @@
+"""Builds of GNU make that go wrong by what no footprint of a recipe shows: never a plain yes.
+
+Each project is tried under GNU make: what it leaves after an edit isn't what a clean build leaves.
+Beside each stands one that is right, and that is a yes.
+"""
+
+from __future__ import annotations
+
+import time
+from pathlib import Path
+
+from make_folder import Answer, MakeFolderTest, can_judge
+
+
+class UnseenTestCase(MakeFolderTest):
+    """What GNU make leaves after an edit, beside what a clean build leaves."""
+
+    def left(self, edits: dict[str, str], output: str, first: str = "", goal: str = "") -> list:
+        """The text of an output after a build, edits and a further build, and after a clean build
+        of the edited sources. `first` and `goal` are the goals of the two builds."""
+        folder = self.copied("edited")
+        self.run_make(folder, first)
+        time.sleep(0.02)  # The clock of the file system is that coarse.
+        self.edit(folder, edits)
+        self.run_make(folder, goal or first)
+        clean = self.copied("clean")
+        self.edit(clean, edits)
+        self.run_make(clean, goal or first)
+        return [(place / output).read_text() for place in (folder, clean)]
+
+    def run_make(self, folder: Path, goal: str) -> None:
+        """Makes a goal, which has to succeed."""
+        done = self.make(folder, *([goal] if goal else []))
+        self.assertEqual(done.returncode, 0, done.stdout + done.stderr)
+
+    def edit(self, folder: Path, edits: dict[str, str]) -> None:
+        """Writes sources anew."""
+        for name, text in edits.items():
+            (folder / name).write_text(text)
+
+    def refused(self, sentence: str, *words: str) -> Answer:
+        """An import that isn't judged, and says why."""
+        answer = self.imported(*words)
+        self.assertEqual((answer.status, answer.findings), (2, []), answer.output + answer.errors)
+        self.assertIn("\nNot judged:\n", answer.output)
+        self.assertIn(sentence, answer.output)
+        return answer
+
+    def accepted(self, *words: str) -> Answer:
+        """An import whose answer is yes."""
+        answer = self.imported(*words)
+        self.assertEqual(answer.status, 0, answer.output + answer.errors)
+        return answer
+
+
+@can_judge
+class WrittenMakefileTest(UnseenTestCase):
+    """A makefile that a recipe writes, and a later make reads."""
+
+    def test_rules(self) -> None:
+        self.write(
+            {
+                "Makefile": "all: gen.mk\n\t$(MAKE) -f gen.mk x\n"
+                "gen.mk: list\n\tsed 's/.*/x: &\\n\\tcat & > x/' list > gen.mk\n.PHONY: all\n",
+                "list": "a\n",
+                "a": "a\n",
+                "b": "b\n",
+            }
+        )
+        self.assertEqual(self.left({"list": "b\n"}, "x"), ["a\n", "b\n"])
+        self.refused(
+            "    gen.mk: the recipe of gen.mk writes it, and a make reads it as its makefile"
+        )
+
+    def test_prerequisites(self) -> None:
+        """Dependency files are makefiles too, and hold nothing but prerequisites."""
+        self.write(
+            {
+                "Makefile": "all:\n\t$(MAKE) -f sub.mk x\n.PHONY: all\n",
+                "sub.mk": "x: a\n\tcat a h > x; { echo '# of x'; echo 'x: a \\'; echo ' h'; }"
+                " > x.d\n-include x.d\n",
+                "a": "a\n",
+                "h": "h\n",
+            }
+        )
+        self.assertEqual(self.left({"h": "i\n"}, "x"), ["a\ni\n", "a\ni\n"])
+        self.accepted()
+
+
+@can_judge
+class WhileReadingTest(UnseenTestCase):
+    """Files that make makes when it reads its makefiles."""
+
+    def test_once(self) -> None:
+        self.write(
+            {
+                "Makefile": "$(shell test -f version || cp version.in version)\n"
+                "x: a version\n\tcat a version > x\n",
+                "a": "a\n",
+                "version.in": "1\n",
+            }
+        )
+        self.assertEqual(self.left({"version.in": "2\n"}, "x"), ["a\n1\n", "a\n2\n"])
+        self.refused("    version: it is made when make reads its makefiles (by $(shell ..)")
+
+    def test_from_an_output(self) -> None:
+        """It is made anew each time, but from what the build before left."""
+        self.write(
+            {
+                "Makefile": "$(shell cat y > version 2> /dev/null)\nall: x y\n.PHONY: all\n"
+                "x: a version\n\tcat a version > x\ny: b\n\tcp b y\n",
+                "a": "a\n",
+                "b": "1\n",
+            }
+        )
+        self.assertEqual(self.left({"b": "2\n"}, "x"), ["a\n1\n", "a\n"])
+        self.refused("    version: it is made when make reads its makefiles")
+
+    def test_each_time(self) -> None:
+        self.write(
+            {
+                "Makefile": "$(shell cp version.in version)\nx: a version\n\tcat a version > x\n",
+                "a": "a\n",
+                "version.in": "1\n",
+            }
+        )
+        self.assertEqual(self.left({"version.in": "2\n"}, "x"), ["a\n2\n", "a\n2\n"])
+        answer = self.accepted()
+        self.assertIn("    version is made anew each time make reads its makefiles", answer.output)
+
+    def test_folders(self) -> None:
+        self.write({"Makefile": "$(shell mkdir -p out)\nout/x: a\n\tcp a out/x\n", "a": "a\n"})
+        self.assertNotIn("makefiles", self.accepted().output)
+
+
+@can_judge
+class GoalsTest(UnseenTestCase):
+    """Goals that make one file by other commands."""
+
+    def test_goals_of_the_command_line(self) -> None:
+        self.write(
+            {
+                "Makefile": "mode = $(if $(filter y,$(MAKECMDGOALS)),one,other)\n"
+                "x: c\n\tcp c x\ny: c\n\tcp c y\nc: a\n\t{ echo $(mode); cat a; } > c\n",
+                "a": "a\n",
+            }
+        )
+        self.assertEqual(self.left({}, "y", "x", "y"), ["other\na\n", "one\na\n"])
+        self.refused("`make x` has other commands for c than `make x y`: `{ echo other;", "x", "y")
+        self.accepted("x")
+
+    def test_same_commands(self) -> None:
+        self.write(
+            {
+                "Makefile": "x: c\n\tcp c x\ny: c\n\tcp c y\nc: a\n\tcp a c\n"
+                "ifneq ($(MAKECMDGOALS),clean)\n-include c.d\nendif\n",
+                "a": "a\n",
+            }
+        )
+        self.accepted("x", "y")
+
+    def shared(self, macros: str, recipe: str = "{ echo $(mode); cat a; } > prog") -> None:
+        """Two targets with macros of their own that need one program."""
+        self.write(
+            {
+                "Makefile": f"{macros}all: debug release\n.PHONY: all\n"
+                "debug release: prog\n\tcp prog $@\n"
+                f"prog: a\n\t{recipe}\n",
+                "a": "a\n",
+            }
+        )
+
+    def test_macros_of_targets(self) -> None:
+        self.shared("debug: mode = g\nrelease: mode = O\n")
+        self.assertEqual(self.left({}, "release", "debug", "release"), ["g\na\n", "O\na\n"])
+        self.refused(
+            "    Makefile:8: the commands of prog depend on the target for which it is made first"
+            " (debug, release), by the macros of that target:"
+        )
+        self.accepted("release")
+
+    def test_macros_of_one_target(self) -> None:
+        """The other target has the usual value."""
+        self.shared("mode = O\ndebug: mode = g\n")
+        self.assertEqual(self.left({}, "release", "debug", "release"), ["g\na\n", "O\na\n"])
+        self.refused("the commands of prog depend on the target for which it is made first (debug)")
+
+    def test_macros_behind_macros(self) -> None:
+        define = "define make_it\n{ echo $(mode); cat a; } > prog\nendef\n"
+        self.shared(define + "debug: mode = g\n", "$(make_it)")
+        self.refused("the commands of prog depend on the target")
+
+    def test_macros_of_the_environment(self) -> None:
+        self.shared("debug: export mode = g\n", '{ echo "$$mode"; cat a; } > prog')
+        self.assertEqual(self.left({}, "release", "debug", "release"), ["g\na\n", "\na\n"])
+        self.refused("the commands of prog depend on the target")
+
+    def test_macros_in_a_make_below(self) -> None:
+        self.shared("debug: mode = g\n")
+        (self.folder / "Makefile").rename(self.folder / "sub.mk")
+        self.write({"Makefile": "all:\n\t$(MAKE) -f sub.mk all\n.PHONY: all\n"})
+        self.refused("    sub.mk:7: the commands of prog depend on the target")
+
+    def test_macros_of_patterns(self) -> None:
+        self.shared("%bug: mode = g\n")
+        self.assertEqual(self.left({}, "release", "debug", "release"), ["g\na\n", "\na\n"])
+        self.refused("the commands of prog depend on the target")
+
+    def test_macros_that_are_private(self) -> None:
+        self.shared("debug: private mode = g\n%e: private mode = O\n")
+        self.accepted()
+
+    def test_macros_that_are_not_used(self) -> None:
+        self.shared("debug: other = g\n")
+        self.accepted()
+
+    def test_macros_of_all_users(self) -> None:
+        """Each target that needs the file has the same value."""
+        self.shared("debug release: mode = g\n")
+        self.accepted()
+
+
+@can_judge
+class ChangedCommandsTest(UnseenTestCase):
+    """Commands that are others when the build is there."""
+
+    def test_wildcard(self) -> None:
+        self.write(
+            {
+                "Makefile": "all: x y\n.PHONY: all\ny: b\n\tcp b y\n"
+                "x: a\n\tcat a $(wildcard y) > x\n",
+                "a": "a\n",
+                "b": "b\n",
+            }
+        )
+        self.assertEqual(self.left({"a": "c\n"}, "x"), ["c\nb\n", "c\n"])
+        self.refused(
+            "    Makefile:6: after a build make has other commands for x: `cat a y > x` and not"
+            " `cat a > x`"
+        )
+
+    def test_wildcard_in_a_make_below(self) -> None:
+        """A make below sees what the one before it has made."""
+        self.write(
+            {
+                "Makefile": "all:\n\t$(MAKE) -C one\n\t$(MAKE) -C two\n.PHONY: all\n",
+                "one/Makefile": "y: b\n\tcp b y\n",
+                "one/b": "b\n",
+                "two/Makefile": "x: ../one/y\n\techo $(wildcard x) > x; cat ../one/y >> x\n",
+            }
+        )
+        self.assertEqual(self.left({"one/b": "c\n"}, "two/x"), ["x\nc\n", "\nc\n"])
+        self.refused("two/Makefile:2: after a build make has other commands for two/x")
+
+    def test_wildcard_in_a_make_by_its_name(self) -> None:
+        """Such a make isn't started by `make -n`."""
+        self.write(
+            {
+                "Makefile": "all:\n\tcd sub; make\n.PHONY: all\n",
+                "sub/Makefile": "x: a\n\techo $(wildcard x) > x; cat a >> x\n",
+                "sub/a": "a\n",
+            }
+        )
+        self.assertEqual(self.left({"sub/a": "b\n"}, "sub/x"), ["x\nb\n", "\nb\n"])
+        self.refused("sub/Makefile:2: after a build make has other commands for sub/x")
+
+    def test_clock(self) -> None:
+        self.write({"Makefile": "x: a\n\tcp a x; : $(shell date +%N)\n", "a": "a\n"})
+        self.refused("Makefile:2: after a build make has other commands for x")
+
+    def test_dependency_files_that_are_made(self) -> None:
+        """Making them anew in the copy is no reason to refuse."""
+        self.write(
+            {
+                "Makefile": "x: a\n\tcat a h > x\nx.d: a\n\techo 'x: h' > x.d\ninclude x.d\n",
+                "a": "a\n",
+                "h": "h\n",
+            }
+        )
+        self.accepted()
+
+
+@can_judge
+class RemovedFileTest(UnseenTestCase):
+    """Files between two pattern rules, which make removes."""
+
+    def chain(self, needs: str, more: str = "") -> None:
+        self.write(
+            {
+                "Makefile": "all: x.o y\n.PHONY: all\n%.o: %.c\n\tcp $< $@\n%.c: %.y\n\tcp $< $@\n"
+                f"y: b x.o {needs}\n\t-cat b x.c > y\n{more}",
+                "x.y": "x\n",
+                "b": "b\n",
+            }
+        )
+
+    def test_not_named(self) -> None:
+        self.chain("")
+        self.assertEqual(self.left({"b": "c\n"}, "y"), ["c\n", "c\nx\n"])
+        self.refused(
+            "    Makefile:8: the recipe of y reads x.c, which the recipe of x.c makes, and which is"
+            " gone after a build"
+        )
+
+    def test_named(self) -> None:
+        self.chain("x.c")
+        self.assertEqual(self.left({"b": "c\n"}, "y"), ["c\nx\n", "c\nx\n"])
+        self.accepted()
+
+    def test_kept(self) -> None:
+        self.chain("", ".SECONDARY: x.c\n")
+        self.assertEqual(self.left({"b": "c\n"}, "y"), ["c\nx\n", "c\nx\n"])
+        self.accepted()
+
+
+@can_judge
+class FolderTest(UnseenTestCase):
+    """Recipes that look whether a folder is there."""
+
+    SENTENCE = "    Makefile:6: the recipe of b writes b otherwise where the folder d, which another"
+    TEXT = "if [ -d d ]; then echo with; else echo without; fi > b"
+
+    def looks(self, needs: str, recipe: str) -> None:
+        self.write(
+            {
+                "Makefile": "all: a b\n.PHONY: all\n"
+                "a: a.in\n\trm -rf d; if grep -q yes a.in; then mkdir d; fi; cp a.in a\n"
+                f"b: b.in {needs}\n\t{recipe}\n",
+                "a.in": "yes\n",
+                "b.in": "b\n",
+                "look": "#!/bin/sh\nif [ -d d ]; then echo with; else echo without; fi > b\n",
+            }
+        )
+
+    def test_order_only(self) -> None:
+        self.looks("| a", self.TEXT)
+        self.assertEqual(self.left({"a.in": "no\n"}, "b"), ["with\n", "without\n"])
+        self.refused(self.SENTENCE)
+
+    def test_script(self) -> None:
+        self.looks("look | a", "./look")
+        self.assertEqual(self.left({"a.in": "no\n"}, "b"), ["with\n", "without\n"])
+        self.refused(self.SENTENCE)
+
+    def test_not_ordered(self) -> None:
+        self.looks("", "[ -d d ] && cat b.in > b || echo without > b")
+        self.refused(self.SENTENCE)
+
+    def test_names_in_it(self) -> None:
+        self.write(
+            {
+                "Makefile": "all: a b\n.PHONY: all\n"
+                "a: a.in\n\trm -rf d; mkdir d; cd d; touch `cat ../a.in`; cp ../a.in ../a\n"
+                "b: b.in | a\n\tls d > b\n",
+                "a.in": "one\n",
+                "b.in": "b\n",
+            }
+        )
+        self.assertEqual(self.left({"a.in": "two\n"}, "b"), ["one\n", "two\n"])
+        self.refused(self.SENTENCE)
+
+    def test_prerequisite(self) -> None:
+        self.looks("a", self.TEXT)
+        self.assertEqual(self.left({"a.in": "no\n"}, "b"), ["without\n", "without\n"])
+        self.accepted()
+
+    def test_same_without_it(self) -> None:
+        self.looks("| a", "ls d; cp b.in b")
+        self.assertNotIn("folder", self.accepted().output)
+
+    def test_steps(self) -> None:
+        """Without a build there is nothing in which it could be tried."""
+        self.looks("| a", self.TEXT)
+        self.imported("--only", "translate", "--build")
+        self.imported("--only", "record", keep=True)
+        answer = self.imported("--only", "check", keep=True)
+        self.assertEqual(answer.status, 2)
+        self.assertIn("whether what the recipe of b writes depends on the folder d", answer.output)

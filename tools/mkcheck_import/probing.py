@@ -1,0 +1,227 @@
+"""Recipes whose outputs depend on whether a folder is there, which another recipe makes, or on the
+names in it.
+
+Footprints name files and no folders. Where what makes the folder runs again, and a recipe that
+looks at it doesn't, that recipe's outputs stay old.
+"""
+
+from __future__ import annotations
+
+import contextlib
+import os
+import re
+import shutil
+from collections.abc import Iterator
+
+from mkcheck_record.places import Place
+
+from .builds import Build, Kind, Node, path_name
+from .copies import run_here
+from .footprints import Footprints, Record
+from .gnumake import content
+from .plain import shell_text
+
+BETWEEN_WORDS = re.compile(r"[\s;&|()<>\"'`=:{}\[\]]+")
+SCRIPT_AT_MOST = 1 << 20
+# So many recipes are tried, each by two runs.
+TRIED_AT_MOST = 40
+ASIDE = "mkcheck-aside"
+
+
+class Probing:
+    """Finds such recipes, and tries them in a copy of the project that was built, where there is
+    one."""
+
+    def __init__(
+        self,
+        build: Build,
+        footprints: Footprints,
+        root: str,
+        built: Place | None,
+        environment: dict[str, str],
+    ) -> None:
+        self.build, self.footprints, self.root = build, footprints, root
+        self.built, self.environment = built, environment
+        made = [name for name in build.made if name.endswith("/")]
+        self.folders = sorted(name.rstrip("/") for name in made)
+        self.words: dict[str, set[str]] = {}
+
+    def probe(self) -> None:
+        """Adds a problem for each recipe to which such a folder matters."""
+        left = TRIED_AT_MOST
+        for record in list(self.footprints.records.values()) if self.folders else ():
+            node = self.build.nodes.get(record.target)
+            found = self.met(node, record) if node is not None else []
+            found = [name for name in found if f"{record.target} {name}" not in self.build.tried]
+            if node is None or not found:
+                continue
+            text = self.sentence(node, found[0])
+            if self.built is None:
+                self.build.problem(text + " isn't known without a build: import without --only")
+            elif left == 0:
+                self.build.problem(
+                    text + f" wasn't tried, since {TRIED_AT_MOST} other recipes were; let it make"
+                    " the folder itself (mkdir -p), or need a file in it"
+                )
+            else:
+                left -= 1
+                self.tell(node, record, found, text)
+
+    def sentence(self, node: Node, folder: str) -> str:
+        """The beginning of what is said of a recipe."""
+        return (
+            f"{self.where(node)}: whether what the recipe of {node.name} writes depends on the"
+            f" folder {folder}"
+        )
+
+    def where(self, node: Node) -> str:
+        """Where a recipe stands."""
+        return str(node.origin) if node.origin else self.build.tool
+
+    def tell(self, node: Node, record: Record, folders: list[str], text: str) -> None:
+        """Tries a recipe with and without folders, and says what came of it."""
+        what = self.tried(node, record, folders)
+        if what == "":
+            self.build.tried.update(f"{record.target} {name}" for name in folders)
+        elif what == "fails":
+            self.build.note(f"{text} couldn't be tried, since that recipe fails when it runs again")
+        else:
+            self.build.problem(
+                f"{self.where(node)}: the recipe of {node.name} writes {what} otherwise where the"
+                f" folder {folders[0]}, which another recipe makes, isn't there or holds other"
+                f" names; {node.name} isn't made again when that changes; let it look at a file that"
+                " it needs"
+            )
+
+    def met(self, node: Node, record: Record) -> list[str]:
+        """The folders that a recipe names, where it uses no file in them, and doesn't always run
+        when their makers do."""
+        used = [*record.reads, *record.writes]
+        words = self.words_of(node, record)
+        found = []
+        for name in self.folders:
+            if name == node.name:
+                continue
+            if is_named(name, words) and not any(file.startswith(name + "/") for file in used):
+                makers = self.makers(name) - {record.target}
+                if not makers or not makers <= self.followed(node):
+                    found.append(name)
+        return found
+
+    def words_of(self, node: Node, record: Record) -> set[str]:
+        """The words of a recipe, and of the scripts of the project that it reads, as paths."""
+        if record.target not in self.words:
+            texts = [(node.setting.folder, command.text) for command in node.commands]
+            place = self.built.folder if self.built is not None else self.root
+            for name in record.reads:
+                path = os.path.join(place, name)
+                if not name.startswith("/") and os.access(path, os.X_OK) and is_short(path):
+                    text = content(path).decode("utf-8", "replace")
+                    texts += [(node.setting.folder, text)] if text.startswith("#!") else []
+            self.words[record.target] = {
+                path_name(self.root, os.path.join(self.root, folder), word)
+                for folder, text in texts
+                for word in BETWEEN_WORDS.split(text)
+                if word
+            }
+        return self.words[record.target]
+
+    def makers(self, folder: str) -> set[str]:
+        """The recipes that may make a folder: they name it, or write files in it."""
+        found = set()
+        for record in self.footprints.records.values():
+            node = self.build.nodes.get(record.target)
+            inside = any(name.startswith(folder + "/") for name in record.writes)
+            if node is not None and (inside or self.is_maker(node, record, folder)):
+                found.add(record.target)
+        return found
+
+    def is_maker(self, node: Node, record: Record, folder: str) -> bool:
+        """Whether a recipe names a folder, and a command by which one is made."""
+        texts = " ".join(command.text for command in node.commands)
+        return node.name == folder or (
+            re.search(r"\b(mkdir|install|mv|cp|ln|tar|unzip)\b|\./", texts) is not None
+            and is_named(folder, self.words_of(node, record))
+        )
+
+    def followed(self, node: Node) -> set[str]:
+        """The recipes after which a node's own always runs too."""
+        seen: set[str] = set()
+        waiting = [node.name]
+        while waiting:
+            one = self.build.nodes.get(waiting.pop())
+            if one is None or one.kind is Kind.ORDER:
+                continue
+            ordered = set(one.order_only)
+            for name in one.prerequisites(later=True):
+                if name not in ordered and name not in seen:
+                    seen.add(name)
+                    waiting.append(name)
+        return seen
+
+    def tried(self, node: Node, record: Record, folders: list[str]) -> str:
+        """The first file that a recipe writes otherwise without folders, or with one more file in
+        each; empty where there is none, or where it fails then, which nobody overlooks."""
+        assert self.built is not None
+        writes = [os.path.join(self.built.folder, name) for name in record.writes]
+        paths = [os.path.join(self.built.folder, name) for name in folders]
+        paths = [path for path in paths if os.path.isdir(path)]
+        if self.run(node):
+            return "fails"
+        before = [content(path) for path in writes]
+        found = []
+        for change in (without_folder, with_file):
+            with contextlib.ExitStack() as stack:
+                for path in paths:
+                    stack.enter_context(change(path))
+                if self.run(node) == 0:
+                    after = [content(path) for path in writes]
+                    pairs = zip(record.writes, before, after)
+                    found += [name for name, old, new in pairs if old != new]
+        self.run(node)
+        return found[0] if found else ""
+
+    def run(self, node: Node) -> int:
+        """Runs a recipe in the copy that was built, and gives its status."""
+        assert self.built is not None
+        for command in node.commands:
+            words = ["/bin/sh", "-e", "-c", shell_text(command, node.setting)]
+            status, _, _ = run_here(self.built, words, self.environment)
+            if status != 0 and not command.ignored:
+                return status
+        return 0
+
+
+@contextlib.contextmanager
+def without_folder(path: str) -> Iterator[None]:
+    """Takes a folder away for a while. One that stands there then is taken away for good."""
+    aside = f"{path}.{ASIDE}"
+    os.rename(path, aside)
+    yield
+    shutil.rmtree(path, ignore_errors=True)
+    os.rename(aside, path)
+
+
+@contextlib.contextmanager
+def with_file(path: str) -> Iterator[None]:
+    """Puts files into a folder for a while, one for each ending of the names in it."""
+    endings = {"", *(os.path.splitext(name)[1] for name in os.listdir(path))}
+    added = [os.path.join(path, ASIDE + ending) for ending in endings]
+    for name in added:
+        with open(name, "xb"):
+            pass
+    yield
+    for name in added:
+        with contextlib.suppress(OSError):
+            os.unlink(name)
+
+
+def is_named(folder: str, words: set[str]) -> bool:
+    """Whether words name a folder: by its path, or by an end of it from another folder."""
+    parts = folder.split("/")
+    return any("/".join(parts[at:]) in words for at in range(len(parts)))
+
+
+def is_short(path: str) -> bool:
+    """Whether a file isn't too long to be a script that is read."""
+    return os.path.isfile(path) and os.path.getsize(path) <= SCRIPT_AT_MOST

@@ -1,0 +1,137 @@
+"""What GNU make says when it is asked again: in a folder that is built, or for another goal.
+
+The commands of a recipe are to be the same each time, since one footprint stands for all its runs.
+"""
+
+from __future__ import annotations
+
+import os
+import re
+import time
+from pathlib import Path
+
+from .builds import path_name
+from .database import Rule
+from .gnumake import Make
+
+# So much older are files that another make of the build makes, in nanoseconds.
+OLDER = 1_000_000
+DEPENDENCIES = re.compile(r"(?:[^\s:=#$][^:=#$]*:(?![:=])[^=#$;]*|\s*)$")
+
+
+def touch_sources(root: str, folder: str, makes: list[Make], made: set[str]) -> None:
+    """Gives a new time to all files in a folder that targets need and that no rule makes.
+
+    `root` is the path at which the makes saw the folder, and `made` has the files that the build
+    made: these are older than sources, and newer than all else. What makefiles are made anew from
+    stays as it is, but for dependency files.
+    """
+    left = {name for make in makes for name in for_makefiles(root, folder, make)}
+    names: dict[str, None] = {}
+    for make in makes:
+        for rules in make.base.rules.values():
+            for word in (word for rule in rules for word in rule.needs):
+                if not any(is_made(rule) for rule in make.base.rules.get(word, [])):
+                    names.setdefault(path_name(root, make.folder, word))
+    now = time.time_ns()
+    for name in names:
+        path = os.path.join(folder, name)
+        inside = not name.startswith("/") and os.path.realpath(path) == path
+        if inside and name not in left and os.path.isfile(path):
+            stamp = now - OLDER if name in made else now
+            os.utime(path, ns=(stamp, stamp))
+
+
+def is_made(rule: Rule) -> bool:
+    """Whether a rule makes its target, or has prerequisites for it."""
+    return rule.recipe is not None or rule.ran or bool(rule.needs)
+
+
+def for_makefiles(root: str, folder: str, make: Make) -> set[str]:
+    """What a make needs for the makefiles that it makes anew, but for dependency files."""
+    found: set[str] = set()
+    waiting = [
+        name
+        for name in make.makefiles
+        if any(rule.has_recipe for rule in make.base.rules.get(name, []))
+        and not is_dependency_file(os.path.join(folder, path_name(root, make.folder, name)))
+    ]
+    while waiting:
+        for rule in make.base.rules.get(waiting.pop(), []):
+            for word in [*rule.needs, *rule.order_only]:
+                name = path_name(root, make.folder, word)
+                if name not in found:
+                    found.add(name)
+                    waiting.append(word)
+    return found
+
+
+def is_dependency_file(path: str) -> bool:
+    """Whether a makefile has rules without recipes and nothing else, so that it only adds
+    prerequisites."""
+    try:
+        text = Path(path).read_text(encoding="utf-8", errors="surrogateescape")
+    except OSError:
+        return False
+    text = re.sub(r"(?m)^#.*$", "", text.replace("\\\n", " "))
+    return all(map(DEPENDENCIES.match, text.split("\n")))
+
+
+def changed(used: list[Make], asked: list[Make]) -> list[tuple[Make, Rule, str]]:
+    """The rules whose commands are others in makes that were asked again: the make, the rule as it
+    was used, and what differs."""
+    known = {make.key: make for make in reversed(used)}
+    alike = {make.key[:2]: make for make in reversed(used)}
+    found: dict[tuple[str, str], tuple[Make, Rule, str]] = {}
+    for make in asked:
+        old = known.get(make.key) or alike.get(make.key[:2])
+        for name, rules in make.base.rules.items() if old is not None else ():
+            before = ran_in(used, old, name)
+            what = difference(before, rules, old.transcript.is_one_shell)
+            if not what and before and old.key != make.key and any(rule.ran for rule in rules):
+                what = "another environment"
+            if what:
+                found.setdefault((make.folder, name), (old, before[0], what))
+    return list(found.values())
+
+
+def ran_in(makes: list[Make], like: Make, name: str) -> list[Rule]:
+    """The rules of a file in the first make with a key that ran them; none where none did."""
+    for make in makes:
+        rules = make.base.rules.get(name, [])
+        if make.key == like.key and any(rule.ran for rule in rules):
+            return rules
+    return []
+
+
+def difference(used: list[Rule], asked: list[Rule], one_shell: bool = False) -> str:
+    """What differs in the commands of a file that was made both times; empty where nothing does.
+
+    Where a recipe is one command, the output of a build may stand behind its text.
+    """
+    if not any(rule.ran for rule in used) or not any(rule.ran for rule in asked):
+        return ""
+    if any(rule.varies for rule in used):
+        return ""
+    old = [command for rule in used for command in rule.commands]
+    new = [command for rule in asked for command in rule.commands]
+    for one, other in zip(old, new):
+        if one.text != other.text and not (one_shell and one.text.startswith(other.text + "\n")):
+            return f"`{short(other.text)}` and not `{short(one.text)}`"
+        if one.watched != other.watched:
+            return "another environment"
+    return "" if len(old) == len(new) else f"{len(new)} and not {len(old)}"
+
+
+def place_of(root: str, make: Make, rule: Rule) -> tuple[str, str]:
+    """Where a rule of a make stands, and the file that it makes, from the root."""
+    makefile = rule.makefile or next(iter(make.makefiles), "the makefile")
+    where = path_name(root, make.folder, makefile)
+    name = path_name(root, make.folder, rule.name)
+    return (where if rule.line is None else f"{where}:{rule.line}"), name
+
+
+def short(text: str) -> str:
+    """The beginning of a command."""
+    text = " ".join(text.split())
+    return text if len(text) <= 80 else f"{text[:77]}.."
