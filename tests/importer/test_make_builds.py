@@ -68,6 +68,23 @@ class PlainTest(MakeFolderTest):
         self.assertEqual(answer.status, 0, answer.output + answer.errors)
         self.try_answer(answer)
 
+    def test_findings_of_one_sentence(self) -> None:
+        """The first line counts findings, and says how many sentences tell of them."""
+        self.write(
+            {
+                "Makefile": "all: x y\n.PHONY: all\nx: a\n\tcat a b c > x\ny: a\n\tcat a b > y\n",
+                "a": "a\n",
+                "b": "b\n",
+                "c": "c\n",
+            }
+        )
+        answer = self.imported()
+        self.assertEqual(answer.findings, ["no stale x b", "no stale x c", "no stale y b"])
+        self.assertTrue(
+            answer.output.startswith("no: 3 findings in 2 sentences (2 recipes, "), answer.output
+        )
+        self.assertIn("\n\nMakefile:4: x isn't made again when b or c changes\n", answer.output)
+
     def test_race(self) -> None:
         self.write(
             {

@@ -147,7 +147,10 @@ class ThereAlreadyTest(MakeFolderTest):
         answer = self.imported()
         self.assertEqual(answer.findings, ["no stale x b"])
         self.assertIn("aren't judged (1 file): p.c", answer.output)
+        self.assertIn("    1 file (p.c) with rules are there already", answer.output)
+        self.assertEqual(answer.status, 2)
         self.try_answer(answer)
+        self.assertEqual(self.imported("--keep").status, 1)
 
     def test_nothing_to_do(self) -> None:
         self.write({"Makefile": "x: a\n\tcp a x\n", "a": "a\n"})

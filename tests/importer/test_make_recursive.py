@@ -60,6 +60,84 @@ class RecursiveTest(MakeFolderTest):
         self.assertIn("Add to prog/Makefile:\n    p: ../lib/l.a\n", answer.output)
         self.try_answer(answer)
 
+    def test_make_below(self) -> None:
+        """The one that has to wait is the make that starts the other one."""
+        self.write(
+            {
+                "Makefile": "all: lib app\n.PHONY: all lib\nlib:\n\t$(MAKE) -C lib\n"
+                "app: a\n\t-cat a lib/x > app\n",
+                "a": "a\n",
+                "lib/Makefile": "x: y\n\tcp y x\n",
+                "lib/y": "1\n",
+            }
+        )
+        answer = self.imported()
+        self.assertEqual(answer.findings, ["no race app lib/x lib/x", "no stale app lib/x"])
+        self.assertIn(
+            "these are recipes of two makes: let app need lib, whose recipe starts the make in"
+            " lib\n",
+            answer.output,
+        )
+        lines = "    app: lib/x\n    lib/x: lib ;\n"
+        self.assertIn(f"Add to Makefile:\n{lines}", answer.output)
+        self.try_answer(answer)
+        # The advice is right.
+        makefile = self.folder / "Makefile"
+        makefile.write_text(makefile.read_text() + lines.replace("    ", ""))
+        answer = self.imported()
+        self.assertEqual(answer.status, 0, answer.output + answer.errors)
+        self.try_answer(answer)
+
+    def test_make_that_reads_too_early(self) -> None:
+        """The make below reads what the one that starts it writes."""
+        self.write(
+            {
+                "Makefile": "all: h lib\n.PHONY: all lib\nlib:\n\t$(MAKE) -C lib\n"
+                "h: h.in\n\tcp h.in h\n",
+                "h.in": "h\n",
+                "lib/Makefile": "x: y\n\t-cat y ../h > x\n",
+                "lib/y": "1\n",
+            }
+        )
+        answer = self.imported()
+        self.assertEqual(answer.findings, ["no race lib/x h h", "no stale lib/x h"])
+        self.assertIn("let lib, whose recipe starts the make in lib, need h\n", answer.output)
+        self.try_answer(answer)
+
+    def test_makes_of_one_folder(self) -> None:
+        """Makes of one folder are told by the targets that start them."""
+        self.write(
+            {
+                "Makefile": "all: one two\n.PHONY: all one two\n"
+                "one:\n\t$(MAKE) -f one.mk\ntwo:\n\t$(MAKE) -f two.mk\n",
+                "one.mk": "x: a\n\tcp a x\n",
+                "two.mk": "y: a\n\t-cat a x > y\n",
+                "a": "a\n",
+            }
+        )
+        answer = self.imported()
+        self.assertEqual(answer.findings, ["no race y x x", "no stale y x"])
+        self.assertIn(
+            "let the one that the recipe of one starts be done before that of two begins\n",
+            answer.output,
+        )
+
+    def test_first_build(self) -> None:
+        """The first build is another one, and no dependency file has a part in that."""
+        self.write(
+            {
+                "Makefile": TOP + "libs:\n\t$(MAKE) -C lib\nprogs:\n\t$(MAKE) -C prog\n",
+                "lib/Makefile": "l.a: l.in\n\tcp l.in l.a\n",
+                "lib/l.in": "l\n",
+                "prog/Makefile": "p: p.in $(wildcard ../lib/l.a)\n\t-cat p.in ../lib/l.a > p\n",
+                "prog/p.in": "p\n",
+            }
+        )
+        answer = self.imported()
+        self.assertEqual(answer.findings, ["no race prog/p lib/l.a lib/l.a"])
+        self.assertIn("has written that (in a first build); these are", answer.output)
+        self.try_answer(answer)
+
     def test_library_that_is_forced(self) -> None:
         """The usual form: a rule for the library that always starts make."""
         self.write(
@@ -73,6 +151,25 @@ class RecursiveTest(MakeFolderTest):
         )
         answer = self.imported()
         self.assertEqual(answer.status, 0, answer.output + answer.errors)
+        self.try_answer(answer)
+
+    def test_recipe_that_does_nothing(self) -> None:
+        """A rule that only waits for the make that makes the file."""
+        self.write(
+            {
+                "Makefile": "app: lib/x\n\tcp lib/x app\nlib/x: lib\n\t@:\n"
+                "lib:\n\t$(MAKE) -C lib\n.PHONY: lib\n",
+                "lib/Makefile": "x: y\n\tcp y x\n",
+                "lib/y": "1\n",
+            }
+        )
+        answer = self.imported()
+        self.assertEqual(answer.status, 0, answer.output + answer.errors)
+        self.assertEqual(
+            answer.rules(),
+            ".PHONY: lib\napp: app@order lib/x\n\tcp lib/x app\napp@order: lib/x@make1\n"
+            "lib/x: lib/y\n\tcd lib; cp y x\nlib: lib/x\nlib/x@make1: lib\n",
+        )
         self.try_answer(answer)
 
     def test_library_that_is_not_forced(self) -> None:
@@ -254,6 +351,43 @@ class SharedTest(MakeFolderTest):
         self.assertEqual(answer.status, 1, answer.output + answer.errors)
         self.assertIn("all: sub/x .WAIT sub/y\n", answer.rules())
         self.assertEqual(answer.findings, ["no stale sub/y sub/x"])
+        self.try_answer(answer)
+
+    def test_make_that_goes_on(self) -> None:
+        """`-` and `-k`: a recipe of the make below fails, and its other targets are made."""
+        self.write(
+            {
+                "Makefile": "all:\n\t-$(MAKE) -k -C lib\n\tcp a b\n.PHONY: all\n",
+                "a": "a\n",
+                "lib/Makefile": "all: x z\n.PHONY: all\nx: y\n\tcp y x\nz: y\n\t$(FAIL) cp y z\n",
+                "lib/y": "1\n",
+            }
+        )
+        answer = self.imported("FAIL=false &&")
+        self.assertEqual((answer.status, answer.output), (2, ""))
+        self.assertIn("make failed in lib with status 2", answer.errors)
+        self.assertIn("fails, and the build goes on (by a `-` before the command", answer.errors)
+        self.assertNotIn("recording", answer.errors)
+        answer = self.imported()
+        self.assertEqual(answer.status, 0, answer.output + answer.errors)
+        self.assertIn(
+            "    Makefile:2: the recipe of all goes on when the make in lib fails", answer.output
+        )
+
+    def test_make_that_ignores_failures(self) -> None:
+        """With `-i` each command may fail."""
+        self.write(
+            {
+                "Makefile": "all: b\n\t$(MAKE) -i -C lib\n.PHONY: all\nb: a\n\tcp a b\n",
+                "a": "a\n",
+                "lib/Makefile": "x: y\n\tcp y x; false\n",
+                "lib/y": "1\n",
+            }
+        )
+        answer = self.imported()
+        self.assertEqual(answer.status, 0, answer.output + answer.errors)
+        self.assertIn("lib/x: lib/y\n\t-cd lib; cp y x; false\n", answer.rules())
+        self.assertIn("b: a\n\tcp a b\n", answer.rules())
         self.try_answer(answer)
 
     def test_make_that_fails(self) -> None:

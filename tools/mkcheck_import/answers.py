@@ -2,6 +2,8 @@
 
 from __future__ import annotations
 
+from itertools import takewhile
+
 from .builds import Build
 from .judging import Verdict
 
@@ -10,7 +12,7 @@ SHOWN_AT_MOST = 8
 
 def answer_of(build: Build, verdict: Verdict, sentences: list[str]) -> list[str]:
     """What is printed: the answer, the findings as sentences, and all on which the answer rests."""
-    lines = [headline(build, verdict)]
+    lines = [headline(build, verdict, sentences)]
     lines += ["", *sentences] if sentences else []
     if build.problems:
         lines += ["", "Not judged:", *(f"    {text}" for text in build.problems)]
@@ -34,13 +36,15 @@ def answer_of(build: Build, verdict: Verdict, sentences: list[str]) -> list[str]
     return lines
 
 
-def headline(build: Build, verdict: Verdict) -> str:
-    """The first line."""
+def headline(build: Build, verdict: Verdict, sentences: list[str]) -> str:
+    """The first line. One sentence may tell of several findings."""
     counts = f"{counted(verdict.recipes, 'recipe')}, {counted(verdict.reads, 'read')}"
     if verdict.refused:
         return f"no answer: {verdict.refused}"
     if verdict.findings:
-        return f"no: {counted(len(verdict.findings), 'finding')} ({counts})"
+        told = len(list(takewhile(bool, sentences)))
+        among = f" in {counted(told, 'sentence')}" if told != len(verdict.findings) else ""
+        return f"no: {counted(len(verdict.findings), 'finding')}{among} ({counts})"
     if build.problems:
         return f"no answer: nothing was found ({counts}), but not all could be judged"
     tool = build.tool or "the build tool"

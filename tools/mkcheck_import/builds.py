@@ -92,6 +92,9 @@ class Node:
     the first build: those that a dependency file names (`-MMD` with `-include`, `deps = gcc`), and
     files that only another make makes."""
 
+    told: list[str] = field(default_factory=list)
+    """Those of `late` that a dependency file names."""
+
     first_only: list[str] = field(default_factory=list)
     """Those of `groups` that the build tool knows in the first build, and no longer after it."""
 
@@ -177,6 +180,9 @@ class Build:
     """Makefiles with commands or macros that no rule of their make makes: where a recipe writes
     one, the build isn't the same after it."""
 
+    starters: dict[int, str] = field(default_factory=dict)
+    """For each make that another one starts, the node whose recipe does so."""
+
     read_made: set[str] = field(default_factory=set)
     """Files that the build tool made or changed when it read its makefiles, and may not make anew
     when what they are made from changes."""
@@ -184,12 +190,18 @@ class Build:
     read_again: set[str] = field(default_factory=set)
     """Files that it makes anew each time it reads its makefiles: sources that are always new."""
 
+    old_dependencies: set[str] = field(default_factory=set)
+    """Dependency files that are there before the build."""
+
     tried: set[str] = field(default_factory=set)
     """Recipes and folders, as `RECIPE FOLDER`: the recipe does the same without the folder."""
 
     blind: set[str] = field(default_factory=set)
     """Targets without a recipe that another recipe writes, and that the tool doesn't look at again
     then; what needs them only waits for them. Known when the recording is there."""
+
+    failed: str = ""
+    """Where this isn't empty, a part of the build fails, so it can't be recorded: the sentence."""
 
     problems: list[str] = field(default_factory=list)
     """What couldn't be read or translated, each as a sentence that says what to do. With one the

@@ -36,7 +36,8 @@ class Commands(Knowledge):
         shell = (shown[0].shell.split() or ["/bin/sh"]) + (shown[0].flags.split() or ["-c"])
         exports, unset = self.environment(view, shown[0])
         setting = Setting(self.short(view.folder), tuple(shell), exports, unset)
-        texts = [(self.without_wrapper(command.text), command.ignored) for command in shown]
+        all_ignored = view.make.ignores_failures
+        texts = [(self.without_wrapper(one.text), one.ignored or all_ignored) for one in shown]
         return [Command(text, ignored) for text, ignored in texts], setting
 
     def without_wrapper(self, text: str) -> str:

@@ -49,6 +49,9 @@ class Copies:
     left_out: tuple[str, ...] = ()
     """Real paths that aren't copied."""
 
+    hidden: set[str] = field(default_factory=set)
+    """Files and folders of the project that copies don't have."""
+
     used: str = ""
     made: set[str] = field(default_factory=set)
 
@@ -78,6 +81,22 @@ class Copies:
             self.used = word
         return Place(self.seen, self.seen)
 
+    def hide(self, names: set[str]) -> None:
+        """Lets copies be without these files and folders, those too that are there already."""
+        self.hidden |= names
+        for word in self.made:
+            self.take_away(self.place(word).folder, names)
+
+    def take_away(self, folder: str, names: set[str]) -> None:
+        """Takes files and folders away from a copy; folders only where they are empty then."""
+        for name in sorted(names, key=len, reverse=True):
+            path = os.path.join(folder, name.rstrip("/"))
+            with contextlib.suppress(OSError):
+                if os.path.isdir(path) and not os.path.islink(path):
+                    os.rmdir(path)
+                else:
+                    os.unlink(path)
+
     def make(self, goal: str) -> None:
         """Copies the folder. What can't be read isn't copied, and devices and sockets aren't."""
         if namespace() is None:
@@ -91,6 +110,7 @@ class Copies:
                 f"{self.root} can't be copied to {goal}: {error.strerror}; TMPDIR names where"
                 " copies lie"
             ) from None
+        self.take_away(goal, self.hidden)
 
     def refuse_own_path(self) -> None:
         """Raises `Fault` where a copy at another path could change the folder itself."""

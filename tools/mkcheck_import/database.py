@@ -17,6 +17,7 @@ PATTERN_MACRO = re.compile(
     r" (?:=|::?:?=|\+=)"
 )
 VARYING = re.compile(r"\$(\?|[({]\?[DF]?[:)}])")
+NOTHING = re.compile(r"[\s@+-]*(?::|true)?\s*")
 DEFINED = re.compile(r"(?ms)^define (\S+)[^\n]*\n(.*?)^endef$")
 TARGET_MACRO = re.compile(r"(?:private )?([^\s#:=+?!]+) (?:=|::?:?=|\+=) ?(.*)")
 
@@ -82,6 +83,11 @@ class Rule:
     def has_recipe(self) -> bool:
         """Whether a line of the recipe holds something."""
         return self.ran or any(line.strip() for line in self.recipe or [])
+
+    @property
+    def does_nothing(self) -> bool:
+        """Whether it has a recipe, and that changes nothing and prints nothing, as `@:`."""
+        return bool(self.recipe) and all(map(NOTHING.fullmatch, self.recipe))
 
     @property
     def varies(self) -> bool:

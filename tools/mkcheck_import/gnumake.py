@@ -105,6 +105,12 @@ class Make:
         return self.base.values.get("MAKEFILE_LIST", "").split()
 
     @property
+    def ignores_failures(self) -> bool:
+        """Whether it was told to go on whatever fails, by `-i`."""
+        flags = re.match(r"[A-Za-z]*", self.environment.get("MAKEFLAGS", ""))
+        return flags is not None and "i" in flags.group()
+
+    @property
     def key(self) -> tuple[object, ...]:
         """Makes with one key know the same rules and macros."""
         options = tuple(word for word in options_of(self.words) if not is_harmless(word))

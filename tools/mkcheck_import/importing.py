@@ -88,7 +88,8 @@ class Import:
             return NinjaFolder(self.copies, self.folder, self.asked.words)
         words = [*(["-f", self.asked.f] if self.asked.f else []), *self.asked.words]
         scratch = os.path.join(self.scratch, "make")
-        return MakeBuild(self.copies, self.folder, words, scratch, self.asked.build)
+        how = self.asked.keep, self.asked.build
+        return MakeBuild(self.copies, self.folder, words, scratch, *how)
 
     def no_build(self, place: Path) -> str:
         """The sentence where a folder has no build, with what makes one where that is seen."""
@@ -122,6 +123,8 @@ class Import:
         self.step("translate", self.translate)
         if only == "translate":
             return self.end_early()
+        if self.build.failed:
+            raise Fault(self.build.failed)
         self.step("graph", lambda: self.judge.graph(self.has_first))
         self.step("record", self.record)
         self.step("check", self.check)

@@ -3,20 +3,26 @@ build wrote."""
 
 from __future__ import annotations
 
-from .builds import Node
+from .builds import Node, path_name
 from .database import Rule
 from .gnumake import Make
 from .translating import Translation
 from .views import View, is_special
 
 
-def add_later(translation: Translation, makes: list[Make]) -> int:
+def add_later(translation: Translation, makes: list[Make], written: set[str]) -> int:
     """Adds to the nodes the prerequisites that they have after a build, and marks those that they
     no longer have.
 
-    `makes` are the makes of `make -n` after a build. Gives the number of prerequisites that were
-    added.
+    `makes` are those of a make after a build, and `written` has the dependency files that the build
+    wrote. Gives the number of prerequisites that were added.
     """
+    told = {
+        make.folder
+        for make in makes
+        for text in make.makefiles
+        if path_name(translation.root, make.folder, text) in written
+    }
     after: dict[tuple[object, ...], dict[str, list[Rule]]] = {}
     for make in makes:
         rules = after.setdefault(make.key, {})
@@ -38,7 +44,10 @@ def add_later(translation: Translation, makes: list[Make]) -> int:
         if rules is None or node is None or is_special(text) or name in translation.build.given:
             continue
         if len(rules) == 1 and len(view.rules[text]) == 1:
+            holder = translation.holder(node)
+            before = len(holder.late)
             count += compare(translation, view, node, view.rules[text][0], rules[0])
+            holder.told += holder.late[before:] if view.folder in told else []
     translation.fill_all()
     return count
 

@@ -84,6 +84,7 @@ def add_late(translation: NinjaBuild, edge: Edge, paths: list[str]) -> None:
     """Adds the prerequisites that a dependency file names."""
     build, node = translation.build, translation.leader(edge)
     known = {name for group in node.groups for name in group} | {*node.late, node.name}
+    before = len(node.late)
     inputs = Inputs()
     for path in paths:
         inputs.add(translation.resolver.resolve(canonical(path)))
@@ -97,6 +98,7 @@ def add_late(translation: NinjaBuild, edge: Edge, paths: list[str]) -> None:
             node.late.append(build.node(name).name)
         elif (found := translation.node_of(path)) is not None:
             node.late.append(found)
+    node.told += node.late[before:]
 
 
 def learn_outputs(translation: NinjaBuild, edge: Edge, built: Place) -> set[str]:

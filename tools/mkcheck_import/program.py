@@ -36,6 +36,7 @@ def words_of(arguments: list[str]) -> argparse.Namespace:
     add("-o", metavar="DIR", help="where the translation goes; without it .mkcheck in the project")
     add("--build", action="store_true", help="translate a real build, and not what make -n shows")
     add("--only", choices=STEPS, help="do this step alone; those before it must have been done")
+    add("--keep", action="store_true", help="take targets that are there already as they are")
     add("--fixed", metavar="PREFIX", action="append", default=[], help="files that never change")
     add(
         "--configured",
@@ -50,6 +51,8 @@ def words_of(arguments: list[str]) -> argparse.Namespace:
     asked = parser.parse_intermixed_args(arguments)
     if asked.f is not None and asked.tool == "ninja":
         parser.error("-f is for GNU make")
+    if asked.keep and asked.tool == "ninja":
+        parser.error("--keep is for GNU make")
     return asked
 
 

@@ -10,7 +10,16 @@ from mkcheck_record.faults import Fault
 from .builds import Build, Command, Kind, Node, Origin, Setting
 
 FORMAT = 1
-SETS = ("configured", "makefiles", "read_made", "read_again", "tried", "blind", "made")
+SETS = (
+    "configured",
+    "makefiles",
+    "read_made",
+    "read_again",
+    "old_dependencies",
+    "tried",
+    "blind",
+    "made",
+)
 
 
 def text_of_build(build: Build) -> str:
@@ -31,6 +40,7 @@ def build_of_text(text: str) -> Build:
             raise ValueError("it is of another version")
         fields = values["build"]
         fields["nodes"] = {name: node_of(node) for name, node in fields["nodes"].items()}
+        fields["starters"] = {int(make): name for make, name in fields["starters"].items()}
         for name in SETS:
             fields[name] = set(fields[name])
         return Build(**fields)

@@ -103,7 +103,20 @@ class Sentences:
         makefile = node.origin.makefile if node.origin else "the makefile"
         target = node.known_as or node.name
         advice = NinjaAdvice() if self.tool == "ninja" else Advice()
-        self.advice.setdefault(makefile, advice).add(target, self.spelled(node, word))
+        advice = self.advice.setdefault(makefile, advice)
+        advice.add(target, self.spelled(node, word))
+        above = self.started_for(node, file)
+        if above is not None:
+            # Without a rule make may look for the file before it is there.
+            advice.add(self.spelled(node, word), f"{above} ;")
+
+    def started_for(self, node: Node, file: str) -> str | None:
+        """The target whose recipe starts the make that writes a file for which the make of a node
+        has no rule."""
+        if file not in self.writers or f"{file}@make{node.make + 1}" in self.build.nodes:
+            return None
+        above = self.starter(self.node(self.writers[file][0]).make, node.make)
+        return None if above is None else self.node(above).known_as or self.called(above)
 
     def texts(self, findings: list[Finding]) -> list[str]:
         """The sentences, those of one recipe together, and after them the lines to add."""
@@ -159,7 +172,10 @@ class Sentences:
         """One finding that isn't a stale read."""
         when = ""
         if self.has_first and not finding.in_later:
-            when = " (in a first build, when no dependency file is there yet)"
+            node = self.build.nodes.get(finding.words[0])
+            is_told = node is not None and any(word in node.told for word in finding.words[1:])
+            when = ", when no dependency file is there yet" if is_told else ""
+            when = f" (in a first build{when})"
         if finding.kind == "race":
             recipe, writer, file = finding.words
             text = (
@@ -167,14 +183,10 @@ class Sentences:
                 f" {self.tool} may begin it before the recipe of {self.called(writer)}"
                 f" ({self.place(writer)}) has written that{when}"
             )
-            one, other = self.node(recipe), self.node(writer)
-            if one.make == other.make:
+            if self.node(recipe).make == self.node(writer).make:
                 self.need(recipe, file)
                 return text
-            return (
-                f"{text}; these are recipes of two makes: let the one in {other.folder} be done"
-                f" before the one in {one.folder} begins"
-            )
+            return f"{text}; these are recipes of two makes: {self.apart(recipe, writer)}"
         if finding.kind == "loose":
             target, writer = finding.words
             self.need(target, self.called(writer))
@@ -184,6 +196,40 @@ class Sentences:
                 f" so{when}"
             )
         return self.other(finding) + when
+
+    def apart(self, recipe: str, writer: str) -> str:
+        """What lets a recipe of one make wait for one of another make."""
+        one, other = self.node(recipe), self.node(writer)
+        above = self.starter(other.make, one.make)
+        if above is not None:
+            return (
+                f"let {self.called(recipe)} need {self.called(above)}, whose recipe starts the make"
+                f" in {other.folder}"
+            )
+        above = self.starter(one.make, other.make)
+        if above is not None:
+            return (
+                f"let {self.called(above)}, whose recipe starts the make in {one.folder}, need"
+                f" {self.called(writer)}"
+            )
+        if one.folder != other.folder:
+            return f"let the one in {other.folder} be done before the one in {one.folder} begins"
+        names = [self.called(self.build.starters.get(node.make, "")) for node in (other, one)]
+        return (
+            f"let the one that the recipe of {names[0]} starts be done before that of {names[1]}"
+            " begins"
+        )
+
+    def starter(self, make: int, above: int) -> str | None:
+        """The node of the make `above` whose recipe starts a make, or a make that starts it."""
+        seen: set[int] = set()
+        while make not in seen and make in self.build.starters:
+            seen.add(make)
+            name = self.build.starters[make]
+            if self.node(name).make == above:
+                return name
+            make = self.node(name).make
+        return None
 
     def other(self, finding: Finding) -> str:
         """A finding of another kind."""

@@ -70,6 +70,13 @@ class Settling:
                 f"{name} is made anew each time make reads its makefiles (by $(shell ..) or"
                 " $(file ..)): it is taken as a source that is always new"
             )
+        old = sorted(self.build.old_dependencies & set(self.writers))
+        if old:
+            self.build.note(
+                f"{old[0]}{f' and {len(old) - 1} more' * (len(old) > 1)}: dependency files of an"
+                " earlier build are there, so the first build is judged with what they say; remove"
+                " them to have one judged without them"
+            )
         for record in self.footprints.records.values() if self.build.made else ():
             for name in record.reads:
                 if self.is_gone(name) and name not in self.needed(record.target):

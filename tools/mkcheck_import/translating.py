@@ -24,12 +24,7 @@ class Translation(Commands):
     def translate(self) -> Build:
         """The build, without what the build tool knows only after a build."""
         self.index()
-        for make in self.makes:
-            if make.status != 0:
-                self.build.problem(
-                    f"make failed in {self.short(make.folder)} with status {make.status}:"
-                    f" {last_words(make.errors)}"
-                )
+        self.name_failed(self.makes)
         if not self.makes or not self.makes[0].transcript.is_whole:
             return self.build
         top = self.makes[0]
@@ -43,6 +38,20 @@ class Translation(Commands):
         self.fill_all()
         self.prune_given()
         return self.build
+
+    def name_failed(self, makes: list[Make]) -> None:
+        """Names makes that failed, though the one that started them may have gone on."""
+        for make in makes:
+            if make.status != 0:
+                self.build.problem(
+                    f"make failed in {self.short(make.folder)} with status {make.status}:"
+                    f" {last_words(make.errors)}"
+                )
+                self.build.failed = (
+                    "a make that a recipe starts fails, and the build goes on (by a `-` before the"
+                    " command, `-k` or `||`): what is left then can't be judged; mend that make, or"
+                    " leave it out"
+                )
 
     def fill_all(self) -> None:
         """Fills in all nodes that were met."""
@@ -235,6 +244,8 @@ class Translation(Commands):
         if any(self.makes_of(command) for command in rule.commands):
             self.recursive(view, node, rule, text)
             return
+        if node.kind is Kind.ORDER and rule.does_nothing:
+            return
         node.commands, node.setting = self.commands(view, node, rule.commands)
         node.varies = rule.varies and rule.ran
 
@@ -293,6 +304,12 @@ class Translation(Commands):
             plain = []
             for make in makes:
                 self.start(node, make)
+            if command.ignored:
+                self.build.note(
+                    f"{self.place_of(node)}: the recipe of {node.name} goes on when the make in"
+                    f" {self.short(makes[0].folder)} fails (by `-`): then a make that ends well may"
+                    " leave old files, which isn't judged"
+                )
             if runs_at_once(command.text):
                 self.build.problem(
                     f"{self.place_of(node)}: the recipe of {node.name} starts makes that run beside"
@@ -346,6 +363,7 @@ class Translation(Commands):
             return
         view = self.views[make.key]
         self.starts.append((make, node.name, len(node.groups)))
+        self.build.starters.setdefault(view.number, node.name)
         groups: list[list[str]] = [[]]
         for goal in make.goals:
             if any(rule.is_target for rule in view.rules.get(goal, [])):

@@ -117,7 +117,7 @@ class Knowledge:
                 if any(rule.has_recipe and not rule.is_phony for rule in rules):
                     self.recipes.setdefault(path, []).append(view)
         for path, makers in self.recipes.items():
-            own = [view for view in makers if not self.starts_makes(self.rules_of(view, path))]
+            own = [view for view in makers if self.makes_itself(self.rules_of(view, path))]
             self.recipes[path] = own or makers
 
     def add(self, make: Make) -> None:
@@ -205,6 +205,10 @@ class Knowledge:
         if self.after is not None:
             return path not in self.after
         return not any(rule.has_recipe for rule in rules) or self.starts_makes(rules)
+
+    def makes_itself(self, rules: list[Rule]) -> bool:
+        """Whether the recipe of a file makes it, and no make that it starts or waits for."""
+        return not self.starts_makes(rules) and not all(rule.does_nothing for rule in rules)
 
     def starts_makes(self, rules: list[Rule]) -> bool:
         """Whether commands of a file start makes."""
