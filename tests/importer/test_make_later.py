@@ -54,6 +54,22 @@ class DependencyFilesTest(MakeFolderTest):
         self.assertEqual([line for line in answer.lines if line.startswith("no ")], [])
         self.try_answer(answer)
 
+    def test_empty_dependency_file(self) -> None:
+        """As Automake's, it is there before the first build, and says nothing."""
+        self.write(
+            {
+                "Makefile": "all: h a.o\n.PHONY: all\nh: h.in\n\tcp h.in h\n"
+                "%.o: %.in cc\n\t./cc $< $@\ninclude a.d\n",
+                "a.in": "include h\n",
+                "h.in": "h\n",
+                "a.d": "# dummy\n",
+                "cc": CC,
+            }
+        )
+        answer = self.imported()
+        self.assertEqual(answer.findings, ["no race a.o h h"])
+        self.assertIn("(in a first build, when no dependency file is there yet)", answer.output)
+
     def test_targets_for_headers(self) -> None:
         """With -MP each header is a target without a rule."""
         self.write(

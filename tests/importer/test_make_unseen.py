@@ -195,6 +195,15 @@ class GoalsTest(UnseenTestCase):
         self.assertEqual(self.left({}, "release", "debug", "release"), ["g\na\n", "\na\n"])
         self.refused("the commands of prog depend on the target")
 
+    def test_macros_that_a_script_uses(self) -> None:
+        """Nothing but the environment hands the macro to the recipe."""
+        self.shared("debug: export mode = g\n", "./script")
+        self.write({"script": '#!/bin/sh\n{ echo "$mode"; cat a; } > prog\n'})
+        makefile = self.folder / "Makefile"
+        makefile.write_text(makefile.read_text() + "prog: script\n")
+        self.assertEqual(self.left({}, "release", "debug", "release"), ["g\na\n", "\na\n"])
+        self.refused("the commands of prog depend on the target")
+
     def test_macros_in_a_make_below(self) -> None:
         self.shared("debug: mode = g\n")
         (self.folder / "Makefile").rename(self.folder / "sub.mk")

@@ -22,14 +22,15 @@ class Asking:
     """Asks for other goals in a copy of the project at `root`.
 
     `shown` are the makes for all goals, and `words` those of the first one. `wrapper` stands for
-    make in commands. `run` asks make by words, and for a make below the first one also by its
-    folder and its environment.
+    make in commands. `exported` has, for each folder, the macros that single targets export. `run`
+    asks make by words, and for a make below the first one also by its folder and its environment.
     """
 
     root: str
     shown: list[Make]
     words: list[str]
     wrapper: str
+    exported: dict[str, set[str]]
     run: Callable[..., list[Make]]
     sentences: list[str] = field(default_factory=list)
     """What isn't the same for all goals."""
@@ -63,7 +64,7 @@ class Asking:
 
     def ask_owners(self, make: Make) -> None:
         """Asks for the targets whose macros may change the commands of what they need."""
-        found = inherited_in(make)
+        found = inherited_in(make, self.exported.get(make.folder, set()))
         free = [one.name for one in found if one.is_free]
         owners = list(dict.fromkeys(name for one in found for name in one.owners))
         if len(owners) > ASKED_AT_MOST:

@@ -28,15 +28,18 @@ class Inherited:
     is_free: bool
 
 
-def inherited_in(make: Make) -> list[Inherited]:
+def inherited_in(make: Make, exported: set[str]) -> list[Inherited]:
     """The files of a make whose recipes ran, may use a macro of a target that needs them, and are
-    reached without that target too. A file comes after all that it needs."""
+    reached without that target too. A file comes after all that it needs.
+
+    `exported` has macros that some targets hand to their commands by the environment.
+    """
     base = make.base
     wanted = reached(base, make.goals)
     macros = {name: own_macros(base, name) for name in wanted if name in base.rules}
     macros = {name: found for name, found in macros.items() if found and needs_of(base, name)}
     names = {name for found in macros.values() for name in found}
-    outside = names & make.environment.keys()
+    outside = names & (exported | make.environment.keys())
     users = {
         name: outside | (mentioned(base, rules) & names)
         for name, rules in base.rules.items()

@@ -9,14 +9,112 @@ from __future__ import annotations
 
 import os
 import subprocess
+from collections.abc import Callable, Iterable
+from dataclasses import dataclass, field
 from pathlib import Path
 
-from .builds import path_name
-from .gnumake import Make
+from .answers import counted
+from .builds import Build, path_name
+from .copies import Copies, listing
+from .gnumake import Make, option_words
 from .inherited import reached
 from .rereading import is_dependency_file
 
 CLEAN = "clean"
+
+
+@dataclass
+class Leftovers:
+    """What an earlier build left in a project, of which copies are made."""
+
+    copies: Copies
+    there: set[str] = field(default_factory=set)
+    """The files and folders of the project before make reads."""
+
+    tracked: set[str] | None = None
+    """The files that git tracks."""
+
+    is_cleaned: bool = False
+    """Whether `make clean` has told what an earlier build left."""
+
+    dependencies: set[str] = field(default_factory=set)
+    """Dependency files that say something before the build."""
+
+    def hide(self, shown: list[Make], words: list[str], run: Callable[..., list[Make]]) -> bool:
+        """Hides what an earlier build left; says whether there was something.
+
+        That is what `make clean` removes in a copy, by `run`, with the options among the words.
+        Where there is no such rule, it is each target that git doesn't track.
+        """
+        found = targets_there(self.copies.seen, shown, self.there)
+        if not found:
+            return False
+        self.tracked = tracked_files(self.copies.root)
+        gone = set()
+        if has_clean(shown[0]):
+            options = [word for option in option_words(words) for word in option]
+            cleaned = run("clean", is_real=True, words=[*options, CLEAN])
+            if cleaned[0].status == 0:
+                self.is_cleaned = True
+                gone = self.there - listing(self.copies.place("clean").folder)
+        elif self.tracked is not None:
+            gone = found
+        gone -= self.tracked or set()
+        self.copies.hide(gone)
+        return bool(gone)
+
+    def sentence(self) -> str:
+        """What is added to the sentence on a build that fails."""
+        if not self.copies.hidden:
+            return ""
+        return (
+            f" (it was built without {self.some(self.copies.hidden)}, which an earlier build left;"
+            " with --keep what is there is taken as it is)"
+        )
+
+    def some(self, names: Iterable[str]) -> str:
+        """How many files there are, and the first of them."""
+        files = sorted(name for name in names if f"{name}/" not in self.there and name[-1:] != "/")
+        return f"{counted(len(files), 'file')} ({', '.join(files[:5])}{', ..' * (len(files) > 5)})"
+
+    def find_dependencies(self, folder: str, makes: list[Make]) -> None:
+        """Finds dependency files in a folder that name prerequisites before any recipe has run."""
+        for make in makes:
+            for text in make.makefiles:
+                name = path_name(self.copies.seen, make.folder, text)
+                is_made = any(rule.has_recipe for rule in make.base.rules.get(text, []))
+                path = os.path.join(folder, name)
+                is_there = name in self.there and name not in self.copies.hidden
+                if is_there and not is_made and is_dependency_file(path) and has_rule(path):
+                    self.dependencies.add(name)
+
+    def name(self, build: Build, times: dict[str, int], keep: bool) -> None:
+        """Names what was hidden, and targets of which it isn't known whose they are. With `keep`
+        all that is there is the project's. `times` are those of the files before the build."""
+        if self.copies.hidden:
+            build.note(
+                f"{self.some(self.copies.hidden)} of an earlier build are left out, so that the"
+                " build begins from nothing; with --keep they are taken as they are"
+            )
+        build.old_dependencies = self.dependencies
+        if keep or self.is_cleaned:
+            return
+        old = {name for name in build.given if not self.came_with_it(build, name, times)}
+        if old:
+            build.problem(
+                f"{self.some(old)} with rules are there already, and nothing tells whether they"
+                " came with the project or an earlier build left them: run `make clean`, or remove"
+                " them; with --keep they are taken as they are"
+            )
+
+    def came_with_it(self, build: Build, name: str, times: dict[str, int]) -> bool:
+        """Whether a target came with the project: git tracks it, or it isn't newer than the
+        makefile with its rule."""
+        if self.tracked is not None:
+            return name in self.tracked
+        origin = build.nodes[name].origin if name in build.nodes else None
+        makefile = times.get(origin.makefile if origin is not None else "")
+        return makefile is not None and times.get(name, makefile + 1) <= makefile
 
 
 def has_clean(make: Make) -> bool:
@@ -50,19 +148,6 @@ def tracked_files(folder: str) -> set[str] | None:
         return None
     names = done.stdout.decode("utf-8", "surrogateescape").split("\0")
     return set(filter(None, names)) or None
-
-
-def old_dependency_files(root: str, folder: str, makes: list[Make], there: set[str]) -> set[str]:
-    """Dependency files that name prerequisites before any recipe has run."""
-    found = set()
-    for make in makes:
-        for text in make.makefiles:
-            name = path_name(root, make.folder, text)
-            is_made = any(rule.has_recipe for rule in make.base.rules.get(text, []))
-            path = os.path.join(folder, name)
-            if name in there and not is_made and is_dependency_file(path) and has_rule(path):
-                found.add(name)
-    return found
 
 
 def has_rule(path: str) -> bool:

@@ -4,7 +4,6 @@ from __future__ import annotations
 
 import functools
 import os
-from collections.abc import Iterable
 from dataclasses import dataclass, field
 
 from mkcheck_record.faults import Fault
@@ -20,7 +19,6 @@ from .gnumake import (
     content,
     find_make,
     last_words,
-    option_words,
     outer_environment,
     run_make,
     version_of,
@@ -28,7 +26,7 @@ from .gnumake import (
 )
 from .later import add_later
 from .leaving import leave_alone, times_in
-from .leftovers import CLEAN, has_clean, old_dependency_files, targets_there, tracked_files
+from .leftovers import Leftovers
 from .overlaps import name_overlaps
 from .rereading import changed, is_dependency_file, place_of, touch_sources
 from .translating import Translation
@@ -72,20 +70,8 @@ class MakeBuild:
     """Those of them that it makes anew each time, and that were the same before and after a build.
     """
 
-    there: set[str] = field(default_factory=set)
-    """The files and folders of the project before make reads."""
-
-    tracked: set[str] | None = None
-    """The files that git tracks."""
-
-    is_cleaned: bool = False
-    """Whether `make clean` has told what an earlier build left."""
-
     dependency_files: set[str] = field(default_factory=set)
     """The makefiles that hold prerequisites alone, after a build."""
-
-    old_dependencies: set[str] = field(default_factory=set)
-    """Dependency files that are there before the build."""
 
     watched: list[str] = field(default_factory=list)
     exported: dict[str, set[str]] = field(default_factory=dict)
@@ -97,6 +83,11 @@ class MakeBuild:
     after_files: set[str] | None = None
     before_times: dict[str, int] = field(default_factory=dict)
     after_times: dict[str, int] = field(default_factory=dict)
+
+    @functools.cached_property
+    def leftovers(self) -> Leftovers:
+        """What an earlier build left."""
+        return Leftovers(self.copies)
 
     @property
     def wrapper(self) -> str:
@@ -120,7 +111,8 @@ class MakeBuild:
             self.program, place, folder, words, self.scratch, is_real, self.watched, more
         )
         if not makes[0].transcript.is_whole:
-            raise Fault(f"GNU make could not read its makefile: {last_words(makes[0].errors)}")
+            said = last_words(makes[0].errors)
+            raise Fault(f"GNU make could not read its makefile: {said}{self.leftovers.sentence()}")
         return makes
 
     def read(self) -> str:
@@ -131,10 +123,10 @@ class MakeBuild:
             raise Fault(f"{version} is too old: GNU make 4.0 or a later one is needed")
         place = self.copies.place("read")
         times = times_in(place.folder)
-        self.there = listing(place.folder)
+        self.leftovers.there = listing(place.folder)
         self.shown = self.run("read", is_real=False)
-        if not self.keep:
-            self.hide_leftovers()
+        if not self.keep and self.leftovers.hide(self.shown, self.words, self.run):
+            self.shown = self.run("read", is_real=False)
         self.find_watched(place.folder, self.shown)
         if self.watched:
             self.shown = self.run("read", is_real=False)
@@ -143,34 +135,8 @@ class MakeBuild:
         found = self.before_times.items()
         self.read_made = {name for name, stamp in found if times.get(name) != stamp}
         self.links = links_in(place.folder)
-        self.old_dependencies = old_dependency_files(
-            self.copies.seen, place.folder, self.shown, self.there - self.copies.hidden
-        )
+        self.leftovers.find_dependencies(place.folder, self.shown)
         return f"{counted(len(self.shown), 'make')}, {version}"
-
-    def hide_leftovers(self) -> None:
-        """Hides what an earlier build left, and asks make again what it would do.
-
-        That is what `make clean` removes in a copy. Where there is no such rule, it is each target
-        that git doesn't track.
-        """
-        found = targets_there(self.copies.seen, self.shown, self.there)
-        if not found:
-            return
-        self.tracked = tracked_files(self.copies.root)
-        gone = set()
-        if has_clean(self.shown[0]):
-            options = [word for option in option_words(self.words) for word in option]
-            cleaned = self.run("clean", is_real=True, words=[*options, CLEAN])
-            if cleaned[0].status == 0:
-                self.is_cleaned = True
-                gone = self.there - listing(self.copies.place("clean").folder)
-        elif self.tracked is not None:
-            gone = found
-        gone -= self.tracked or set()
-        if gone:
-            self.copies.hide(gone)
-            self.shown = self.run("read", is_real=False)
 
     def find_watched(self, folder: str, makes: list[Make]) -> None:
         """Finds macros that are set for some targets alone, and that the environment has."""
@@ -197,7 +163,8 @@ class MakeBuild:
         if self.built[0].status != 0:
             raise Fault(
                 f"the build failed, so it can't be recorded: {last_words(failed[-1].errors)}; mend"
-                f" it until `make` in {self.folder} succeeds, and import again{self.hiding()}"
+                f" it until `make` in {self.folder} succeeds, and import again"
+                f"{self.leftovers.sentence()}"
             )
         times = times_in(self.copies.place("built").folder)
         self.after = self.run("built", is_real=True)
@@ -213,50 +180,11 @@ class MakeBuild:
         # A make that a recipe starts by its name isn't started by `make -n`.
         self.later = self.run("built", is_real=len(self.built) > len(self.shown))
         ask = functools.partial(self.run, "asked", False)
-        self.asking = Asking(self.copies.seen, self.shown, self.words, self.wrapper, ask)
+        self.asking = Asking(
+            self.copies.seen, self.shown, self.words, self.wrapper, self.exported, ask
+        )
         self.asking.ask()
         return counted(sum(rule.ran for rule in all_rules(self.built)), "recipe")
-
-    def hiding(self) -> str:
-        """What is added to the sentence on a build that fails."""
-        if not self.copies.hidden:
-            return ""
-        return (
-            f" (it was built without {self.some(self.copies.hidden)}, which an earlier build left;"
-            " with --keep what is there is taken as it is)"
-        )
-
-    def some(self, names: Iterable[str]) -> str:
-        """How many files there are, and the first of them."""
-        files = sorted(name for name in names if f"{name}/" not in self.there and name[-1:] != "/")
-        return f"{counted(len(files), 'file')} ({', '.join(files[:5])}{', ..' * (len(files) > 5)})"
-
-    def name_given(self, build: Build) -> None:
-        """Names the targets that are there already, and may be outputs of an earlier build."""
-        if self.copies.hidden:
-            build.note(
-                f"{self.some(self.copies.hidden)} of an earlier build are left out, so that the"
-                " build begins from nothing; with --keep they are taken as they are"
-            )
-        build.old_dependencies = self.old_dependencies
-        if self.keep or self.is_cleaned:
-            return
-        old = {name for name in build.given if not self.came_with_it(build, name)}
-        if old:
-            build.problem(
-                f"{self.some(old)} with rules are there already, and nothing tells whether they"
-                " came with the project or an earlier build left them: run `make clean`, or remove"
-                " them; with --keep they are taken as they are"
-            )
-
-    def came_with_it(self, build: Build, name: str) -> bool:
-        """Whether a target came with the project: git tracks it, or it isn't newer than the
-        makefile with its rule."""
-        if self.tracked is not None:
-            return name in self.tracked
-        origin = build.nodes[name].origin if name in build.nodes else None
-        makefile = self.before_times.get(origin.makefile if origin is not None else "")
-        return makefile is not None and self.before_times.get(name, makefile + 1) <= makefile
 
     def find_read_again(self, folder: str, times: dict[str, int]) -> None:
         """Finds the files that each reading of the makefiles makes anew, and alike. `folder` holds
@@ -326,11 +254,13 @@ class MakeBuild:
         if reason:
             build.note(f"the commands are those of a real build, not of `make -n`: {reason}")
         if self.after:
-            written = {name for name in self.dependency_files if name not in self.before_files}
+            before, after = self.before_times, self.after_times
+            files = self.dependency_files
+            written = {name for name in files if before.get(name) != after.get(name)}
             add_later(translation, self.after, written)
         name_overlaps(translation)
         self.name_changes(build, makes)
-        self.name_given(build)
+        self.leftovers.name(build, self.before_times, self.keep)
         self.name_makefiles(translation, makes)
         return build
 

@@ -80,28 +80,26 @@ def is_dependency_file(path: str) -> bool:
 def changed(used: list[Make], asked: list[Make]) -> list[tuple[Make, Rule, str]]:
     """The rules whose commands are others in makes that were asked again: the make, the rule as it
     was used, and what differs."""
-    known = {make.key: make for make in reversed(used)}
-    alike = {make.key[:2]: make for make in reversed(used)}
+    keys = [make.key for make in used]
+    known = dict(zip(reversed(keys), reversed(used)))
+    alike = {key[:2]: (key, make) for key, make in zip(reversed(keys), reversed(used))}
+    ran: dict[tuple[object, ...], list[Rule]] = {}
+    for key, make in zip(keys, used):
+        for name, rules in make.base.rules.items():
+            if any(rule.ran for rule in rules):
+                ran.setdefault((key, name), rules)
     found: dict[tuple[str, str], tuple[Make, Rule, str]] = {}
     for make in asked:
-        old = known.get(make.key) or alike.get(make.key[:2])
+        own = make.key
+        key, old = (own, known[own]) if own in known else alike.get(own[:2], (own, None))
         for name, rules in make.base.rules.items() if old is not None else ():
-            before = ran_in(used, old, name)
+            before = ran.get((key, name), [])
             what = difference(before, rules, old.transcript.is_one_shell)
-            if not what and before and old.key != make.key and any(rule.ran for rule in rules):
+            if not what and key != own and before and any(rule.ran for rule in rules):
                 what = "another environment"
             if what:
                 found.setdefault((make.folder, name), (old, before[0], what))
     return list(found.values())
-
-
-def ran_in(makes: list[Make], like: Make, name: str) -> list[Rule]:
-    """The rules of a file in the first make with a key that ran them; none where none did."""
-    for make in makes:
-        rules = make.base.rules.get(name, [])
-        if make.key == like.key and any(rule.ran for rule in rules):
-            return rules
-    return []
 
 
 def difference(used: list[Rule], asked: list[Rule], one_shell: bool = False) -> str:
