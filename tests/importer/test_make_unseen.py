@@ -134,6 +134,64 @@ class WhileReadingTest(UnseenTestCase):
 
 
 @can_judge
+class ReadingTest(UnseenTestCase):
+    """Files that make reads beside its makefiles, and that have a part in commands."""
+
+    def version(self, more: str = "", **files: str) -> None:
+        self.write(
+            {
+                "Makefile": "v := $(shell cat version)\n"
+                f"all: x y\n.PHONY: all\nx: a\n\techo $(v) > x; cat a >> x\ny: a\n\tcp a y\n{more}",
+                "a": "a\n",
+                "version": "1.0\n",
+                **files,
+            }
+        )
+
+    def test_commands(self) -> None:
+        self.version()
+        self.assertEqual(self.left({"version": "2.0\n"}, "x"), ["1.0\na\n", "2.0\na\n"])
+        answer = self.refused(
+            "    Makefile:5: the commands of x depend on version, which make reads beside its"
+            " makefiles (`echo 2.1 > x; cat a >> x` and not `echo 1.0 > x; cat a >> x`), and make"
+            " doesn't run them again when version changes; let what they make need version\n"
+        )
+        self.assertEqual(answer.output.count("depend on version"), 1)
+
+    def test_target_that_needs_it(self) -> None:
+        self.version("x: version\n")
+        self.assertEqual(self.left({"version": "2.0\n"}, "x"), ["2.0\na\n", "2.0\na\n"])
+        self.accepted()
+
+    def test_order_only(self) -> None:
+        self.version("x: | b\nb: version\n\tcp version b\n")
+        self.assertEqual(self.left({"version": "2.0\n"}, "x"), ["1.0\na\n", "2.0\na\n"])
+        self.refused("the commands of x depend on version")
+
+    def test_without_a_part(self) -> None:
+        self.version(".PHONY: $(shell cat notes > /dev/null)\nx: version\n", notes="1\n2\n")
+        self.accepted()
+
+    def test_list_of_files(self) -> None:
+        self.write(
+            {"Makefile": "x: $(shell cat list)\n\tcat $^ > x\n", "a": "a\n", "b": "b\n"}
+        )
+        self.write({"list": "a\nb\n"})
+        self.assertEqual(self.left({"list": "a\n"}, "x"), ["a\nb\n", "a\n"])
+        self.refused("the commands of x depend on list")
+
+    def test_make_below(self) -> None:
+        self.version()
+        (self.folder / "Makefile").rename(self.folder / "sub.mk")
+        self.write({"Makefile": "all:\n\t$(MAKE) -f sub.mk\n.PHONY: all\n"})
+        self.refused("    sub.mk:5: the commands of x depend on version")
+
+    def test_contents_that_make_refuses(self) -> None:
+        self.version("x: version\n$(if $(filter 1.0,$v),,$(error no))\n")
+        self.refused("make reads version beside its makefiles, and whether commands depend on it")
+
+
+@can_judge
 class GoalsTest(UnseenTestCase):
     """Goals that make one file by other commands."""
 
@@ -326,7 +384,7 @@ class RemovedFileTest(UnseenTestCase):
 class FolderTest(UnseenTestCase):
     """Recipes that look whether a folder is there."""
 
-    SENTENCE = "    Makefile:6: the recipe of b writes b otherwise where the folder d, which another"
+    SENTENCE = "    Makefile:6: the recipe of b writes b otherwise where the folder d, which"
     TEXT = "if [ -d d ]; then echo with; else echo without; fi > b"
 
     def looks(self, needs: str, recipe: str) -> None:

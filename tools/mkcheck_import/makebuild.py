@@ -28,6 +28,7 @@ from .later import add_later
 from .leaving import leave_alone, times_in
 from .leftovers import Leftovers
 from .overlaps import name_overlaps
+from .readings import Readings
 from .rereading import changed, is_dependency_file, place_of, touch_sources
 from .translating import Translation
 
@@ -59,6 +60,9 @@ class MakeBuild:
 
     asking: Asking | None = None
     """What make says for other goals."""
+
+    readings: Readings | None = None
+    """What make reads beside its makefiles."""
 
     makefiles: set[str] = field(default_factory=set)
     """The makefiles that hold commands or macros, and that no rule of their make makes."""
@@ -184,6 +188,10 @@ class MakeBuild:
             self.copies.seen, self.shown, self.words, self.wrapper, self.exported, ask
         )
         self.asking.ask()
+        self.readings = Readings(self.copies, self.shown, ask)
+        place = self.copies.place("asked")
+        top = os.path.normpath(os.path.join(place.seen, self.folder))
+        self.readings.try_all(self.program, place, top, self.words)
         return counted(sum(rule.ran for rule in all_rules(self.built)), "recipe")
 
     def find_read_again(self, folder: str, times: dict[str, int]) -> None:
@@ -209,7 +217,9 @@ class MakeBuild:
 
     def name_changes(self, build: Build, makes: list[Make]) -> None:
         """Names what isn't the same in each make, or only in the makefiles as they were read."""
+        varying = set()
         for make, rule, what in changed(makes, self.later):
+            varying.add((make.folder, rule.name))
             where, name = place_of(self.copies.seen, make, rule)
             build.problem(
                 f"{where}: after a build make has other commands for {name}:"
@@ -224,6 +234,8 @@ class MakeBuild:
             )
         for text in self.asking.sentences if self.asking is not None else []:
             build.problem(text)
+        if self.readings is not None:
+            self.readings.name(build, varying)
         build.makefiles, build.read_again = self.makefiles, self.read_again
         build.read_made = self.read_made - self.read_again
 

@@ -15,11 +15,12 @@ from collections.abc import Iterator
 
 from mkcheck_record.places import Place
 
-from .builds import Build, Kind, Node, path_name
+from .builds import Build, Node, path_name
 from .copies import run_here
 from .footprints import Footprints, Record
 from .gnumake import content
 from .plain import shell_text
+from .readings import followed
 
 BETWEEN_WORDS = re.compile(r"[\s;&|()<>\"'`=:{}\[\]]+")
 SCRIPT_AT_MOST = 1 << 20
@@ -104,7 +105,7 @@ class Probing:
                 continue
             if is_named(name, words) and not any(file.startswith(name + "/") for file in used):
                 makers = self.makers(name) - {record.target}
-                if not makers or not makers <= self.followed(node):
+                if not makers or not makers <= followed(self.build, node.name):
                     found.append(name)
         return found
 
@@ -143,21 +144,6 @@ class Probing:
             re.search(r"\b(mkdir|install|mv|cp|ln|tar|unzip)\b|\./", texts) is not None
             and is_named(folder, self.words_of(node, record))
         )
-
-    def followed(self, node: Node) -> set[str]:
-        """The recipes after which a node's own always runs too."""
-        seen: set[str] = set()
-        waiting = [node.name]
-        while waiting:
-            one = self.build.nodes.get(waiting.pop())
-            if one is None or one.kind is Kind.ORDER:
-                continue
-            ordered = set(one.order_only)
-            for name in one.prerequisites(later=True):
-                if name not in ordered and name not in seen:
-                    seen.add(name)
-                    waiting.append(name)
-        return seen
 
     def tried(self, node: Node, record: Record, folders: list[str]) -> str:
         """The first file that a recipe writes otherwise without folders, or with one more file in
