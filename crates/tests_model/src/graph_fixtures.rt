@@ -49,7 +49,7 @@ pub fn are_below(numbers: &[usize], bound: usize) -> bool
 }
 
 /// Whether each number in a row is the number of a row.
-fn are_rows(rows: &[Vec<usize>]) -> bool
+pub fn are_rows(rows: &[Vec<usize>]) -> bool
     ensures { IsTrue result → AreRows rows.now }
 {
     for numbers in rows {
@@ -161,7 +161,7 @@ pub fn digits(alloc: Global, text: &str) -> Result<Vec<usize>, AllocError> {
 }
 
 /// The groups of a text such as `12|3`. The empty text has none.
-fn groups_of(alloc: Global, text: &str) -> Result<Vec<Vec<usize>>, AllocError> {
+pub fn groups_of(alloc: Global, text: &str) -> Result<Vec<Vec<usize>>, AllocError> {
     let mut groups = Vec::new(alloc);
     if !text.is_empty() {
         for group in text.split('|') {

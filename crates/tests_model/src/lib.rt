@@ -15,6 +15,8 @@ mod graph_turns;
 #[cfg(test)]
 mod graphs;
 #[cfg(test)]
+mod needs;
+#[cfg(test)]
 mod plan_texts;
 #[cfg(test)]
 mod plans;

@@ -1,0 +1,5 @@
+mod Members
+mod Graphs
+mod Sound
+mod Needs
+mod Extending

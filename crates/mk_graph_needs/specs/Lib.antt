@@ -1,0 +1,4 @@
+pub mod Needs
+pub mod NeedsGraph
+pub mod Extending
+pub mod Laws
