@@ -9,8 +9,10 @@ import subprocess
 import sys
 import tempfile
 import unittest
+from collections.abc import Mapping
 from dataclasses import dataclass, replace
 from pathlib import Path
+from typing import Optional
 
 ROOT = Path(__file__).resolve().parents[2]
 RECORDER = ROOT / "tools" / "mkcheck-record"
@@ -20,6 +22,9 @@ UNTESTED = (
     " it wrote this time, and from its recorded reads alone\n"
 )
 SYSTEM = ("/usr/", "/lib/", "/lib64/", "/bin/", "/etc/", "/opt/")
+Environment = Mapping[str, Optional[str]]
+# What a make that runs the tests sets for them.
+OF_MAKE: Environment = {"MAKEFLAGS": None, "MAKELEVEL": None, "MFLAGS": None}
 
 
 def traces() -> bool:
@@ -91,27 +96,24 @@ class ProjectTest(unittest.TestCase):
             if text.startswith("#!"):
                 path.chmod(0o755)
 
-    def record(self, *words: str, environment: dict[str, str] | None = None) -> Outcome:
+    def record(self, *words: str, environment: Environment | None = None) -> Outcome:
         """Runs the recorder on the folder, for a file of footprints."""
         self.book.unlink(missing_ok=True)
         outcome = self.record_plainly("-o", str(self.book), *words, environment=environment)
         book = json.loads(self.book.read_text()) if self.book.exists() else None
         return replace(outcome, book=book)
 
-    def record_plainly(self, *words: str, environment: dict[str, str] | None = None) -> Outcome:
+    def record_plainly(self, *words: str, environment: Environment | None = None) -> Outcome:
         """Runs the recorder on the folder.
 
-        Replays are left out, but for tests that say `replays = True`.
+        Replays are left out, but for tests that say `replays = True`. `environment` has variables
+        that are set besides, and None for those that aren't.
         """
         unplayed = () if self.replays or "--no-replay" in words else ("--no-replay",)
-        kept = {
-            name: value
-            for name, value in os.environ.items()
-            if name not in ("MAKEFLAGS", "MAKELEVEL", "MFLAGS")
-        }
+        given = {**os.environ, **OF_MAKE, "MKCHECK": MKCHECK, **(environment or {})}
         done = subprocess.run(
             [sys.executable, str(RECORDER), "-C", str(self.folder), *unplayed, *words],
-            env={**kept, "MKCHECK": MKCHECK, **(environment or {})},
+            env={name: value for name, value in given.items() if value is not None},
             capture_output=True,
             text=True,
             check=False,
@@ -119,9 +121,9 @@ class ProjectTest(unittest.TestCase):
         errors = done.stderr if not unplayed else done.stderr.replace(UNTESTED, "")
         return Outcome(done.returncode, done.stdout, errors, None)
 
-    def recorded(self, *words: str) -> Outcome:
+    def recorded(self, *words: str, environment: Environment | None = None) -> Outcome:
         """Runs the recorder, which has to succeed."""
-        outcome = self.record(*words)
+        outcome = self.record(*words, environment=environment)
         self.assertEqual((outcome.status, outcome.output), (0, ""), outcome.errors)
         return outcome
 

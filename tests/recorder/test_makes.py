@@ -105,15 +105,30 @@ class MacroTest(ProjectTest):
                 "b": "",
             }
         )
-        outcome = self.recorded("--make") if shutil.which("make") else self.recorded()
-        self.assertEqual(outcome.own("out"), ({"a", "b"}, {"out"}))
-        self.assertEqual(
-            outcome.warnings(),
-            [
-                "the makefile sets SHELL to /bin/bash, so commands are run by it, as GNU make"
-                " does; other makes run them by /bin/sh"
-            ],
+        told = (
+            "the makefile sets SHELL to /bin/bash, so commands are run by it, as GNU make does;"
+            " other makes run them by /bin/sh"
         )
+        words = ("--make",) if shutil.which("make") else ()
+        # Without SHELL or HOME bash looks for its user in /etc/passwd at its start.
+        for named in (
+            {"SHELL": "/bin/sh", "HOME": "/"},
+            {"SHELL": None, "HOME": "/"},
+            {"SHELL": "/bin/sh", "HOME": None},
+            {"SHELL": None, "HOME": None},
+        ):
+            outcome = self.recorded(*words, environment=named)
+            self.assertEqual(outcome.own("out"), ({"a", "b"}, {"out"}))
+            self.assertEqual(outcome.warnings(), [told], named)
+
+    def test_the_variable_of_that_name(self) -> None:
+        self.write({"makefile": "out:\n\tcat $${SHELL-none} > out\n", "one": "", "none": ""})
+        words = ("--make",) if shutil.which("make") else ()
+        for operands in ((), ("SHELL=/bin/sh",)):
+            for value, read in (("one", "one"), (None, "none")):
+                outcome = self.recorded(*words, *operands, environment={"SHELL": value})
+                self.assertEqual(outcome.own("out"), ({read}, {"out"}))
+                self.assertEqual(outcome.warnings(), [], (operands, value))
 
     def test_a_shell_that_is_not_there(self) -> None:
         self.write({"makefile": "SHELL = /no/such/shell\nout:\n\techo > out\n"})

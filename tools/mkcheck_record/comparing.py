@@ -20,8 +20,10 @@ from .recording import Recorded, Workshop
 
 # The shell that make is told to use: it traces each command, and notes in which order they came.
 # Inside a traced command it is the plain shell, since a make that a recipe starts gets it too.
+# GNU make puts its name into the variable SHELL where the environment has none, which is undone.
 SHELL_NAME = "shell"
 SHELL = """#!/bin/sh
+{restored}
 if [ -n "$MKCHECK_RECORD_TRACED" ]; then exec {shell} "$@"; fi
 MKCHECK_RECORD_TRACED=1; export MKCHECK_RECORD_TRACED
 for text; do :; done
@@ -82,7 +84,10 @@ def compare_make(
 def run_make(shop: Workshop, words: list[str], traces: str, own: str) -> list[Traced]:
     """Runs make by a shell that traces and then is `own`; returns its commands in order."""
     shell = Path(traces, SHELL_NAME)
+    given = tracing.environment(shop.place, {})
+    named = given.get(tracing.SHELL)
     text = SHELL.format(
+        restored="unset SHELL" if named is None else f"SHELL={shlex.quote(named)}; export SHELL",
         folder=shlex.quote(traces),
         strace=shlex.join(tracing.strace()),
         shell=shlex.join(own.split()),
@@ -90,8 +95,7 @@ def run_make(shop: Workshop, words: list[str], traces: str, own: str) -> list[Tr
     shell.write_text(text)
     shell.chmod(shell.stat().st_mode | stat.S_IXUSR)
     # By its bare name, since that is then the value of MAKE, as it is in mkcheck's default text.
-    given = tracing.environment(shop.place, {})
-    done = places.run(["make", f"SHELL={shell}", *words], shop.place, given)
+    done = places.run(["make", *words, f"SHELL={shell}"], shop.place, given)
     if done.status != 0:
         raise RecipeFault(f"make failed, status {done.status}\n{done.output}".rstrip())
     order = Path(traces, "order")

@@ -21,6 +21,8 @@ from .places import Place
 
 # What a make hands down to the makes that it starts says nothing of this one.
 OF_MAKE = ("MAKEFLAGS", "MAKELEVEL", "MFLAGS", "MAKEOVERRIDES")
+# A variable of this name that no macro changes, by POSIX.
+SHELL = "SHELL"
 # Calls by which files could be opened and read unseen. Programs that are told that there are none
 # do without.
 REFUSED = ("io_uring_setup",)
@@ -68,16 +70,17 @@ def strace(links: bool = True, looking: bool = False) -> tuple[str, ...]:
 def environment(place: Place, operands: dict[str, str]) -> dict[str, str]:
     """What recipes find in their environment: macro operands too, as make hands them down.
 
-    PWD stays as it is where it names the folder, be it over a link, as a make started there would
-    leave it.
+    SHELL stays as it is, also where it isn't set: no macro changes it. PWD stays as it is where it
+    names the folder, be it over a link, as a make started there would leave it.
     """
     kept = {name: value for name, value in os.environ.items() if name not in OF_MAKE}
+    handed = {name: value for name, value in operands.items() if name != SHELL}
     named = kept.get("PWD", "")
     try:
         same = named.startswith("/") and os.path.samefile(named, place.seen)
     except OSError:
         same = False
-    return {**kept, **operands, "PWD": named if same else place.seen}
+    return {**kept, **handed, "PWD": named if same else place.seen}
 
 
 @dataclass
