@@ -85,6 +85,23 @@ class CallsTest(unittest.TestCase):
         self.assertEqual(read_calls(['12 open("x", O_RDONLY <unfinished ...>) = ?']), [])
         self.assertEqual(read_calls(["12 +++ exited with 0 +++", "12 vfork( <unfinished ...>"]), [])
 
+    def test_removals_in_vain_are_kept(self) -> None:
+        lines = [
+            '7 unlink("x") = -1 ENOENT (No such file or directory)',
+            '7 unlinkat(AT_FDCWD</d>, "x", 0) = -1 ENOENT (No such file or directory)',
+            '7 rename("x", "y") = -1 ENOENT (No such file or directory)',
+        ]
+        for line in lines:
+            (call,) = read_calls([line])
+            self.assertEqual((call.failed, call.result), (True, "ENOENT"), line)
+        others = [
+            '7 unlink("x") = -1 EISDIR (Is a directory)',
+            '7 unlink("x") = -1 EACCES (Permission denied)',
+            '7 unlink("x") = ? ERESTARTNOINTR (To be restarted)',
+            '7 mkdir("x/y", 0777) = -1 ENOENT (No such file or directory)',
+        ]
+        self.assertEqual(read_calls(others), [])
+
     def test_names_that_look_like_failures(self) -> None:
         for name in (
             "a) = -1 ENOENT (No such file)",

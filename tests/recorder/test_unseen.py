@@ -110,6 +110,104 @@ class ScratchTest(Refusals):
         )
         self.assertEqual(self.check(), ["no writers a t/b t"])
 
+    def test_a_removal_in_vain(self) -> None:
+        for way in ("rm -f a core", "rm -rf a", "-rmdir a", "-mv a core"):
+            outcome = self.of(f"all: clean a\na: x\n\tcp x a\nclean:\n\t{way}\n", {"x": ""})
+            self.assertEqual(
+                (outcome.own("clean"), outcome.own("a")), ((set(), {"a"}), ({"x"}, {"a"})), way
+            )
+            self.assertEqual(
+                outcome.warnings(),
+                [
+                    "the recipe of clean would take away a, which that of a uses too: with several"
+                    " jobs they destroy each other's, so it counts as written by each"
+                ],
+            )
+            self.assertIn("no writers clean a a", self.check())
+
+    def test_a_removal_in_vain_of_a_scratch_file(self) -> None:
+        outcome = self.of(
+            "all: a b\na: x\n\trm -f t; cp x a\nb: x\n\tcp x t; mv t b\n", {"x": ""}
+        )
+        self.assertEqual(
+            (outcome.own("a"), outcome.own("b")), (({"x"}, {"a", "t"}), ({"x"}, {"b", "t"}))
+        )
+        self.assertEqual(self.check(), ["no writers a b t"])
+
+    def test_removals_in_vain_that_disturb_nobody(self) -> None:
+        outcome = self.of(
+            (
+                "all: b c\n"
+                "a: x\n\trm -f a core *.tmp; rm -rf d; mkdir d; cp x d/1; cp x a\n"
+                "b: a\n\trm -f b core; cat a d/1 > b\n"
+                "c: a\n\trm -f c c.new; cp d/1 c.new; mv c.new c\n"
+            ),
+            {"x": ""},
+        )
+        self.assertEqual(outcome.own("a"), ({"x"}, {"a", "d/1"}))
+        self.assertEqual(outcome.own("b"), ({"a", "d/1"}, {"b"}))
+        self.assertEqual(outcome.own("c"), ({"d/1"}, {"c"}))
+        self.assertEqual(outcome.warnings(), [])
+
+    def test_a_folder_that_is_made_anew_and_that_another_recipe_fills(self) -> None:
+        outcome = self.of(
+            (
+                "all: a d/b\na: x\n\trm -rf d; mkdir d; cp x d/a; cp d/a a\n"
+                "d/b: x\n\tmkdir -p d; cp x d/b\n"
+            ),
+            {"x": ""},
+        )
+        self.assertEqual(
+            (outcome.own("a"), outcome.own("d/b")),
+            (({"x"}, {"a", "d/a", "d"}), ({"x"}, {"d/b", "d"})),
+        )
+        self.assertEqual(self.check(), ["no writers a d/b d"])
+
+    def test_scratch_files_outside_of_the_folder(self) -> None:
+        outside = self.scratch / "outside"
+        makes, would = "makes and takes away", "would take away"
+        for first, second, verb in (
+            ("cp x T; cp T a; rm T", "cp x T; cp T b; rm T", makes),
+            ("rm -f T; cp x a", "cp x T; cp T b; rm T", would),
+            ("mkdir T; cp x a; rmdir T", "mkdir T; cp x T/1; cp T/1 b; rm -r T", makes),
+        ):
+            text = f"all: a b\na: x\n\t{first}\nb: x\n\t{second}\n"
+            outcome = self.of(text.replace("T", str(outside)), {"x": ""})
+            self.assertEqual(outcome.own("a"), ({"x"}, {"a", str(outside)}), first)
+            self.assertIn(
+                f"the recipe of a {verb} {outside}, which that of b uses too: with several jobs"
+                " they destroy each other's, so it counts as written by each",
+                outcome.warnings(),
+            )
+            self.assertEqual(self.check(), [f"no writers a b {outside}"])
+
+    def test_scratch_files_outside_of_the_folder_of_one_recipe(self) -> None:
+        outcome = self.of(
+            (
+                f"all: a b\na: x\n\tcp x {self.scratch}/1; cp x a; rm {self.scratch}/1\n"
+                f"b: x\n\tf=`mktemp`; cp x $$f; cp $$f b; rm $$f; rm -f {self.scratch}/2\n"
+            ),
+            {"x": ""},
+        )
+        self.assertEqual((outcome.own("a"), outcome.own("b")), (({"x"}, {"a"}), ({"x"}, {"b"})))
+        self.assertEqual((outcome.warnings(), self.check()[0][:3]), ([], "yes"))
+
+    def test_a_shared_scratch_file_that_has_no_name(self) -> None:
+        said = self.refused(
+            "all: a b\na: x\n\tcp x 't 1'; mv 't 1' a\nb: x\n\tcp x 't 1'; mv 't 1' b\n",
+            {"x": ""},
+        )
+        self.assertEqual(
+            said,
+            (
+                "mkcheck-record: the recipe of a makes and takes away t 1, which that of b uses too:"
+                " with several jobs they destroy each other's, and footprints can't hold that name,"
+                " for a blank, a control character or a byte that isn't UTF-8: give each its own\n"
+            ),
+        )
+        outcome = self.of("a: x\n\tcp x 't 1'; mv 't 1' a\n", {"x": ""})
+        self.assertEqual((outcome.own("a"), outcome.warnings()), (({"x"}, {"a"}), []))
+
     def test_an_output_that_another_recipe_takes_away(self) -> None:
         outcome = self.of("b: a\n\tmv a b\na: x\n\tcp x a\n", {"x": ""})
         self.assertEqual(

@@ -207,6 +207,15 @@ class CountTest(UpdateTest):
         second = self.update()
         self.assertEqual((self.count(second), second.warnings()), (0, first))
 
+    def test_removals_in_vain_are_known(self) -> None:
+        text = "all: a b\na: s\n\trm -f t; cp s a\nb: r\n\tcp r b\n"
+        self.write({"makefile": text, "s": "", "r": ""})
+        self.assertEqual(self.count(self.update()), 2)
+        self.write({"makefile": text.replace("cp r b", "cp r t; mv t b")})
+        self.assertEqual(self.count(self.update()), 1)
+        self.assert_as_full()
+        self.assertEqual(self.full().own("a"), ({"s"}, {"a", "t"}))
+
     def test_a_tool_under_a_fixed_prefix(self) -> None:
         tools, others = self.scratch / "tools", self.scratch / "others"
         for folder in (tools, others):

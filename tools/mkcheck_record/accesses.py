@@ -7,7 +7,8 @@ import re
 from collections.abc import Iterable
 from dataclasses import dataclass, field
 
-from .calls import FORKS, LOOKS, LOOKS_IN_VAIN, SAME, Call, path_of, text_of
+from .calls import FORKS, LOOKS, LOOKS_IN_VAIN, NOTHING_THERE, REMOVALS, SAME, Call
+from .calls import path_of, text_of
 from .programs import interpreters_of
 from .trees import Owner, Tree
 
@@ -47,13 +48,15 @@ class Accesses:
     use.
 
     `touched` has all that it ever wrote or took away, `made` what of that wasn't there before, and
-    `lost` what it took away and hadn't made. `folders` has the folders that it made, `stamped` what
-    it gave a stamp. `moved` has the new names of what it renamed, which may be folders. `aliases`
-    has names that lead over a symbolic link. `over` has the links that no recipe made and that it
-    went over. `makes` has the makes that it started, each with the folder in which that went to
-    work, and `strange` what it did that a trace can't follow. `servers` has whom it asked over a
-    socket that isn't one of its own `sockets`. `looked` has the paths at which it looked, where
-    that is traced, and `listed` the folders whose names it may have read.
+    `lost` what it took away and hadn't made. `missed` has what it would have taken away, had it
+    been there. `alone` has the files outside of the folder that it made as `mkstemp` does. `folders`
+    has the folders that it made, `stamped` what it gave a stamp. `moved` has the new names of what
+    it renamed, which may be folders. `aliases` has names that lead over a symbolic link. `over` has
+    the links that no recipe made and that it went over. `makes` has the makes that it started, each
+    with the folder in which that went to work, and `strange` what it did that a trace can't follow.
+    `servers` has whom it asked over a socket that isn't one of its own `sockets`. `looked` has the
+    paths at which it looked, where that is traced, and `listed` the folders whose names it may have
+    read.
     """
 
     tree: Tree
@@ -62,6 +65,8 @@ class Accesses:
     touched: dict[str, None] = field(default_factory=dict)
     made: dict[str, None] = field(default_factory=dict)
     lost: dict[str, None] = field(default_factory=dict)
+    missed: dict[str, None] = field(default_factory=dict)
+    alone: set[str] = field(default_factory=set)
     folders: dict[str, None] = field(default_factory=dict)
     stamped: dict[str, None] = field(default_factory=dict)
     moved: dict[str, None] = field(default_factory=dict)
@@ -205,6 +210,7 @@ class Follower:
                 continue
             if call.failed or call.name in LOOKS:
                 self.looked_at(call)
+                self.removed_in_vain(call)
                 continue
             taken = getattr(self, f"on_{SAME.get(call.name, call.name)}", None)
             if taken is not None:
@@ -220,6 +226,15 @@ class Follower:
         folder, name = LOOKS.get(call.name) or LOOKS_IN_VAIN[call.name]
         if len(call.arguments) > name and text_of(call.arguments[name]):
             self.accesses.look(self.path(call, name, folder))
+
+    def removed_in_vain(self, call: Call) -> None:
+        """A removal or a renaming of what isn't there now."""
+        if call.name not in REMOVALS or call.result != NOTHING_THERE:
+            return
+        folder, name = LOOKS_IN_VAIN[call.name]
+        path = self.itself(call, name, folder)
+        if path not in self.accesses.tree.there and path not in self.accesses.tree.folders:
+            self.accesses.missed.setdefault(path)
 
     def standing(self, call: Call) -> Standing:
         """Where the process of a call stands."""
@@ -306,6 +321,8 @@ class Follower:
         written = "O_WRONLY" in flags or "O_RDWR" in flags
         if not new and not (written and "O_TRUNC" in flags):
             self.accesses.read(real)
+        if new and is_temporary(call, flags) and not self.accesses.tree.has(real):
+            self.accesses.alone.add(real)
         if written or new:
             self.accesses.write(real)
 
@@ -523,6 +540,12 @@ class Follower:
                 self.accesses.servers.setdefault(f"the socket {path}")
         elif host is not None and port is not None and port.group(1) not in ("0", "53"):
             self.accesses.servers.setdefault(f"{host.group(1)}, port {port.group(1)}")
+
+
+def is_temporary(call: Call, flags: str) -> bool:
+    """Whether a file is made as `mkstemp` makes it, which takes another name each time."""
+    private = any(one == "0600" or "mode=0600" in one for one in call.arguments)
+    return private and "O_RDWR" in flags and "O_EXCL" in flags
 
 
 def same(known: Owner, mode: str, user: str, group: str) -> bool:

@@ -52,9 +52,15 @@ LOOKS: dict[str, tuple[int | None, int]] = {
     **dict.fromkeys(("newfstatat", "fstatat64", "statx", "faccessat", "faccessat2"), (0, 1)),
 }
 LOOKS_IN_VAIN: dict[str, tuple[int | None, int]] = {
-    **dict.fromkeys(("open", "execve", "chdir", "readlink", "unlink", "mkdir", "rmdir"), (None, 0)),
-    **dict.fromkeys(("openat", "openat2", "execveat", "readlinkat", "unlinkat", "mkdirat"), (0, 1)),
+    **dict.fromkeys(("open", "execve", "chdir", "readlink", "mkdir"), (None, 0)),
+    **dict.fromkeys(("openat", "openat2", "execveat", "readlinkat", "mkdirat"), (0, 1)),
+    **dict.fromkeys(("unlink", "rmdir", "rename"), (None, 0)),
+    **dict.fromkeys(("unlinkat", "renameat", "renameat2"), (0, 1)),
 }
+# Calls that take a name away. Where nothing stands there they fail, and yet another time they might
+# not: these failures are kept.
+REMOVALS = ("unlink", "unlinkat", "rmdir", "rename", "renameat", "renameat2")
+NOTHING_THERE = "ENOENT"
 # Calls that do what another one does, with the same arguments up to the last ones.
 SAME = {
     "openat2": "openat",
@@ -86,7 +92,7 @@ UNFINISHED = " <unfinished ...>"
 # look like it: they stand in quotes or in `<>`, and what follows those in a call that succeeded is
 # none of this.
 FAILED = re.compile(
-    r"\) += (?:-1 E[A-Z0-9]+ \([^()]*\)(?: \(INJECTED\))?|\?(?: E[A-Z0-9_]+ \([^()]*\))?)$"
+    r"\) += (?:-1 (E[A-Z0-9]+) \([^()]*\)(?: \(INJECTED\))?|\?(?: E[A-Z0-9_]+ \([^()]*\))?)$"
 )
 RESULT = re.compile(r"\s+= (?:0x[0-9a-f]+|-?\d+)")
 
@@ -109,7 +115,7 @@ LETTERS = {
 @dataclass(frozen=True)
 class Call:
     """A call that succeeded, or one that failed. Its arguments and its result are as strace writes
-    them.
+    them; the result of one that failed is the name of the error.
 
     A call that makes a process counts from its beginning, since the new process may be seen before
     the call has returned; any other counts from its end.
@@ -136,7 +142,7 @@ class Trace:
     `alive` has each process that was seen and hasn't ended, `ended` for each that has the line that
     said so, and `programs` the program that a process started last, or its parent did before. A
     line that strace wouldn't write is a fault, since it was cut. `looking` keeps calls that look in
-    vain, too.
+    vain, too; removals in vain are always kept.
     """
 
     looking: bool = False
@@ -198,13 +204,19 @@ class Trace:
         call = call_of(order, self.lines, process, text)
         if call is not None:
             self.keep(call)
-        elif self.looking:
-            name = BEGUN.match(text)
-            if name is not None and name.group(1) in (*LOOKS, *LOOKS_IN_VAIN):
-                arguments, _ = split(text, name.end())
-                self.found.append(
-                    Call(self.lines, process, name.group(1), tuple(arguments), "", True)
-                )
+        else:
+            self.take_failed(process, text)
+
+    def take_failed(self, process: int, text: str) -> None:
+        """A call that failed: kept where it looks at names, if these are wanted, or removes one."""
+        begun, failed = BEGUN.match(text), FAILED.search(text, max(0, len(text) - 160))
+        if begun is None or failed is None:
+            return
+        name, error = begun.group(1), failed.group(1) or ""
+        removes = name in REMOVALS and error == NOTHING_THERE
+        if removes or (self.looking and name in (*LOOKS, *LOOKS_IN_VAIN)):
+            arguments, _ = split(text, begun.end())
+            self.found.append(Call(self.lines, process, name, tuple(arguments), error, True))
 
     def keep(self, call: Call) -> None:
         """Takes a call that succeeded."""
@@ -219,7 +231,7 @@ class Trace:
             self.programs[call.process] = text_of(call.arguments[call.name == "execveat"]) or ""
 
     def calls(self) -> list[Call]:
-        """The calls that succeeded, in order."""
+        """The calls that were kept, in order."""
         return sorted(self.found, key=lambda call: call.order)
 
     def is_whole(self) -> bool:
@@ -236,7 +248,7 @@ def cut(line: str) -> Fault:
 
 
 def read_calls(lines: Iterable[str]) -> list[Call]:
-    """The calls of a trace that succeeded, in order."""
+    """The calls of a trace that succeeded, and the removals in vain, in order."""
     trace = Trace()
     for line in lines:
         trace.feed(line)

@@ -7,7 +7,7 @@ import stat
 from collections.abc import Callable, Iterable, Iterator
 from dataclasses import dataclass, field
 
-from .accesses import Accesses
+from .accesses import DELETED, Accesses
 from .faults import RecipeFault
 from .folders import UNWRITTEN, Naming, is_plain_path
 from .graphs import Recipe
@@ -24,16 +24,17 @@ class Footprint:
     """The names that a recipe reads, and those that it leaves written, in the order of their first
     use.
 
-    `scratch` has the files and folders of the project's folder that it made or took away and that
-    are gone when it has ended. Those of them that stand in `writes` too are shared with other
-    recipes. `links` has the symbolic links of the project that no recipe made and that it went
-    over.
+    `scratch` has the files and folders that it made or took away and that are gone when it has
+    ended, and `missed` those that it would have taken away, had they been there. These two may hold
+    names that no footprint can, and files outside of the project's folder by their paths. `links`
+    has the symbolic links of the project that no recipe made and that it went over.
     """
 
     recipe: Recipe
     reads: list[str]
     writes: list[str]
     scratch: frozenset[str] = frozenset()
+    missed: frozenset[str] = frozenset()
     lost: frozenset[str] = frozenset()
     links: list[str] = field(default_factory=list)
 
@@ -95,12 +96,7 @@ def footprint_of(recipe: Recipe, accesses: Accesses, naming: Naming, warn: Warn)
     gone = [
         path
         for path in [*accesses.touched, *accesses.folders]
-        if tree.has(path) and path not in here
-    ]
-    gone = [
-        path
-        for path in gone
-        if kind_of(tree, path) not in (stat.S_IFREG, stat.S_IFLNK, stat.S_IFDIR)
+        if path not in here and is_gone(path, accesses)
     ]
     for path in [*accesses.touched, *written]:
         tree.refresh(path)
@@ -115,10 +111,25 @@ def footprint_of(recipe: Recipe, accesses: Accesses, naming: Naming, warn: Warn)
         recipe,
         named(read, naming),
         named(written, naming),
-        frozenset(named(gone, naming)),
+        frozenset(naming.name(path) or path for path in gone),
+        frozenset(naming.name(path) or path for path in accesses.missed if path not in here),
         frozenset(named(lost, naming)),
         named(accesses.over, naming),
     )
+
+
+def is_gone(path: str, accesses: Accesses) -> bool:
+    """Whether a file or a folder that a recipe made or took away is gone.
+
+    Outside of the folder those don't count that were made as `mkstemp` makes them: another time
+    they have other names.
+    """
+    tree = accesses.tree
+    if tree.has(path):
+        return kind_of(tree, path) not in (stat.S_IFREG, stat.S_IFLNK, stat.S_IFDIR)
+    if path.startswith(UNWRITTEN) or path.endswith(DELETED) or path in accesses.alone:
+        return False
+    return tree.status(path) is None
 
 
 def has_name(path: str, naming: Naming) -> bool:

@@ -1,53 +1,96 @@
 """Files and folders that are gone when a recipe has ended, and that other recipes use too.
 
 With several jobs such recipes destroy each other's. No footprint would show it, since nothing is
-left. So the name is put into the writes of each, and `mkcheck check` finds two writers.
+left. So the name is put into the writes of each, and `mkcheck check` finds two writers. A recipe
+that would have taken a file away, had it been there, counts as one that does: with several jobs, or
+another time, it is there.
 """
 
 from __future__ import annotations
 
 from collections.abc import Iterable
-from dataclasses import replace
+from dataclasses import dataclass, field, replace
 
-from .footprints import Footprint, Warn
+from .faults import RecipeFault
+from .folders import is_plain_path
+from .footprints import Footprint, Warn, shown
 
 
-Users = dict[str, set[str]]
+@dataclass
+class Uses:
+    """Targets by names: whose recipes use a file, or one in a folder; which write in a folder; and
+    which take a name away."""
+
+    users: dict[str, set[str]] = field(default_factory=dict)
+    fillers: dict[str, set[str]] = field(default_factory=dict)
+    takers: dict[str, set[str]] = field(default_factory=dict)
+
+    def take(self, footprint: Footprint) -> None:
+        """Takes what a recipe uses."""
+        target = footprint.recipe.target
+        for name in {*footprint.scratch, *footprint.writes, *footprint.reads}:
+            for place in (name, *folders_of(name)):
+                self.users.setdefault(place, set()).add(target)
+        for name in {*footprint.scratch, *footprint.writes}:
+            for place in folders_of(name):
+                self.fillers.setdefault(place, set()).add(target)
+        for name in {*footprint.scratch, *footprint.missed}:
+            self.takers.setdefault(name, set()).add(target)
+
+    def others(self, footprint: Footprint, name: str) -> set[str]:
+        """The other recipes that one would disturb by taking a name away.
+
+        Where it makes a folder of that name later, those that only read in it do so afterwards.
+        """
+        own = {footprint.recipe.target}
+        if name in footprint.missed and own <= self.fillers.get(name, set()):
+            return self.fillers[name] - own
+        return self.users.get(name, set()) - own
 
 
 def with_shared(footprints: list[Footprint], warn: Warn) -> list[Footprint]:
     """The footprints, with shared names in the writes of each recipe that made or removed them."""
-    users: Users = {}
-    takers: Users = {}
+    uses = Uses()
     for footprint in footprints:
-        target = footprint.recipe.target
-        for name in {*footprint.scratch, *footprint.writes, *footprint.reads}:
-            for place in (name, *folders_of(name)):
-                users.setdefault(place, set()).add(target)
-        for name in footprint.scratch:
-            takers.setdefault(name, set()).add(target)
-    return [with_own(footprint, users, takers, warn) for footprint in footprints]
+        uses.take(footprint)
+    return [with_own(footprint, uses, warn) for footprint in footprints]
 
 
-def with_own(footprint: Footprint, users: Users, takers: Users, warn: Warn) -> Footprint:
+def with_own(footprint: Footprint, uses: Uses, warn: Warn) -> Footprint:
     """A footprint with its scratch names that others use, and those of others that it uses."""
     target = footprint.recipe.target
-    shared = [name for name in sorted(footprint.scratch) if users[name] - {target}]
-    for name in shared:
-        verb = "takes away" if name in footprint.lost else "makes and takes away"
-        warn(
-            f"the recipe of {target} {verb} {name}, which"
-            f" {told(sorted(users[name] - {target}))} too: with several jobs they destroy each"
-            " other's, so it counts as written by each"
-        )
+    shared: list[str] = []
+    for name in sorted({*footprint.scratch, *footprint.missed}):
+        others = uses.others(footprint, name)
+        if others:
+            shared.append(name)
+            tell(footprint, name, told(sorted(others)), warn)
     own = {*footprint.scratch, *footprint.writes}
     around = {*own, *(place for name in own for place in folders_of(name))}
-    shared += sorted(name for name in around if takers.get(name, set()) - {target})
+    shared += sorted(name for name in around if uses.takers.get(name, set()) - {target})
     return replace(footprint, writes=list(dict.fromkeys([*footprint.writes, *shared])))
 
 
+def tell(footprint: Footprint, name: str, others: str, warn: Warn) -> None:
+    """Warns of a shared name, or refuses it where no footprint can hold it."""
+    verb = "makes and takes away"
+    if name in footprint.lost:
+        verb = "takes away"
+    elif name not in footprint.scratch:
+        verb = "would take away"
+    front = f"the recipe of {footprint.recipe.target} {verb} {shown(name)}, which {others} too"
+    if not is_plain_path(name):
+        raise RecipeFault(
+            f"{front}: with several jobs they destroy each other's, and footprints can't hold that"
+            " name, for a blank, a control character or a byte that isn't UTF-8: give each its own"
+        )
+    warn(
+        f"{front}: with several jobs they destroy each other's, so it counts as written by each"
+    )
+
+
 def folders_of(name: str) -> Iterable[str]:
-    """The folders in which a name lies, within the project's."""
+    """The folders in which a name lies, within the project's or from the root on."""
     while "/" in name:
         name = name.rpartition("/")[0]
         if name:

@@ -142,6 +142,7 @@ class Writer:
             "reads": own.reads,
             "writes": own.writes,
             "scratch": sorted(own.scratch),
+            "missed": sorted(own.missed),
             "lost": sorted(own.lost),
             "links": own.links,
             "looks": self.versions(entry.looks),
@@ -201,6 +202,7 @@ class Reader:
             texts(entry["reads"]),
             texts(entry["writes"]),
             frozenset(texts(entry["scratch"])),
+            frozenset(texts(entry["missed"])),
             frozenset(texts(entry["lost"])),
             texts(entry["links"]),
         )
