@@ -459,7 +459,7 @@ class UntracedTest(ReplayTest):
         self.write({"a": "1\n", "b": "1\n"})
         first, second = (version_of(str(self.folder / name)) for name in "ab")
         self.assertEqual(first, second)
-        (self.folder / "b").chmod(0o600)
+        (self.folder / "b").chmod(0o700)
         self.assertNotEqual(first, version_of(str(self.folder / "b")))
         (self.folder / "l").symlink_to("nowhere")
         self.assertEqual(version_of(str(self.folder / "l")), Version("link", 0, "nowhere"))

@@ -153,8 +153,8 @@ class CountTest(UpdateTest):
         self.assertEqual(self.after(lambda: put("two/x.h", "X\n")), 3)
         link = self.folder / "l"
         self.assertEqual(self.after(lambda: (link.unlink(), link.symlink_to("two/y.h"))), 2)
-        # A mode.
-        self.assertEqual(self.after(lambda: (self.folder / "b.c").chmod(0o600)), 1)
+        # A mode, which no mask gives.
+        self.assertEqual(self.after(lambda: (self.folder / "b.c").chmod(0o700)), 1)
 
     def test_commands(self) -> None:
         put = self.begin()
@@ -417,7 +417,8 @@ class StateTest(UpdateTest):
         self.assertEqual(self.count(self.update(environment={"TERM": "another", "SHLVL": "8"})), 0)
 
     def test_another_mask(self) -> None:
-        old = os.umask(0o077)
+        old = os.umask(0)
+        os.umask(old ^ 0o050)
         try:
             self.assertEqual(self.all_again(), "was written under other conditions (umask)")
         finally:
