@@ -170,6 +170,13 @@ class AgainTest(ReplayTest):
         what = "gives out the mode 600, which was 640 when it was recorded"
         self.refused(makefile, what, AGAIN)
 
+    def test_a_mode_of_a_folder(self) -> None:
+        makefile = "out:\n\tif test -f out; then m=700; else m=750; fi; echo > out; chmod $$m d\n"
+        what = "gives the folder d the mode 700, which was 750 when it was recorded"
+        self.write({"d/x": ""})
+        (self.folder / "d").chmod(0o755)
+        self.refused(makefile, what, AGAIN)
+
     def test_a_kind(self) -> None:
         makefile = "out: a\n\tif test -f out; then ln -sf a out; else cp a out; fi\n"
         self.refused(
@@ -308,6 +315,21 @@ class PassTest(ReplayTest):
             "out: tool s\n\t./tool; ./s > out\ntool:\n\techo 'echo' > tool; chmod 750 tool\n",
             {"s": "#!/bin/sh\necho 1\n"},
         )
+
+    def test_modes_of_folders(self) -> None:
+        self.write({"d/x": "1\n"})
+        (self.folder / "d").chmod(0o755)
+        makefile = (
+            "all: early closed late\n"
+            "early: d/x\n\tls -ld d | cut -c1-10 > early; cat d/x >> early\n"
+            "closed: early made/x\n\tchmod 500 d; chmod 750 made; echo > closed\n"
+            "made/x:\n\tmkdir -m 711 made; echo > made/x\n"
+            "late: closed d/x\n\tls -ld made | cut -c1-10 > late; cat d/x made/x >> late\n"
+        )
+        self.write({"makefile": makefile})
+        outcome = self.recorded()
+        self.assertEqual(outcome.own("closed")[1], {"closed", "d", "made"}, outcome.errors)
+        self.assertEqual(outcome.own("late")[0], {"d", "d/x", "made", "made/x"})
 
     @unittest.skipUnless(shutil.which("tar"), "no tar")
     def test_an_archive_of_a_folder(self) -> None:

@@ -404,6 +404,35 @@ class ContentTest(Refusals):
             ],
         )
 
+    def test_an_old_stamp_of_the_same_build(self) -> None:
+        old = (
+            "the recipe of b gives b an old stamp, as cp -p, touch -d and tar do: make takes it for"
+            " older than what it was made from; let the recipe touch it"
+        )
+        for way, told in (
+            ("cp -p a b", [old]),
+            ("cp a b; touch -r a b", [old]),
+            ("cp a b; touch -m -r a b", [old]),
+            ("cp -p a t; mv t b", [old]),
+            ("cp -p a b; touch b", []),
+            ("cp -p a b; touch -m b", []),
+            ("cp a t; cp a b; touch -r t b; rm t", []),
+            ("cp a b; touch -a -r a b", []),
+            ("cp a b; touch -d '10 seconds' b; touch b", []),
+        ):
+            outcome = self.of(f"b: a\n\t{way}\na: x\n\tcp x a; sleep 0.05\n", {"x": ""})
+            self.assertEqual(outcome.warnings(), told, way)
+
+    def test_a_stamp_of_the_future(self) -> None:
+        outcome = self.of("b: a\n\tcp a b; touch -d '10 seconds' b\n", {"a": ""})
+        self.assertEqual(
+            outcome.warnings(),
+            [
+                "the recipe of b gives b a stamp of the future: make takes it for newer than what"
+                " changes until then; let the recipe touch it"
+            ],
+        )
+
     def test_a_phony_target_with_a_file_of_its_name(self) -> None:
         said = self.refused(
             ".PHONY: test\nout: test\n\tsh test > out\ntest:\n\t@echo tested\n",
@@ -438,6 +467,61 @@ class ContentTest(Refusals):
         )
         self.assertEqual(outcome.own("x"), ({"s"}, {"s", "x"}))
         self.assertEqual(self.check()[0], "no writers s x s")
+
+    def test_a_mode_of_a_folder(self) -> None:
+        (self.folder / "d").mkdir()
+        (self.folder / "d").chmod(0o755)
+        outcome = self.of(
+            "all: a d/b\na: x\n\tchmod 700 d; cp x a\nd/b: x\n\tcp x d/b\n", {"x": ""}
+        )
+        self.assertEqual(
+            (outcome.own("a"), outcome.own("d/b")), (({"x"}, {"a", "d"}), ({"x", "d"}, {"d/b"}))
+        )
+        self.assertEqual(
+            outcome.warnings(),
+            [
+                "the recipe of a gives the folder d another mode, owner or attribute, which that of"
+                " d/b uses too: it counts as written by the one and read by the others"
+            ],
+        )
+        self.assertEqual(self.check(), ["no race d/b a d", "no stale d/b d"])
+        outcome = self.of("d/b: x a\n\tcp x d/b\na: x\n\tchmod 700 d; cp x a\n")
+        self.assertEqual(
+            (outcome.own("a"), outcome.own("d/b")), (({"x"}, {"a", "d"}), ({"x", "d"}, {"d/b"}))
+        )
+        self.assertEqual(self.check()[0][:3], "yes")
+
+    def test_modes_of_folders_that_disturb_nobody(self) -> None:
+        (self.folder / "d").mkdir()
+        (self.folder / "d").chmod(0o755)
+        outcome = self.of(
+            (
+                "all: a b c\n"
+                "a: x\n\tmkdir -p o/e; chmod 700 o/e; cp x o/e/1; cp x a\n"
+                "b: x\n\tmkdir -p o; chmod 755 d; cp x d/b; cp x b\n"
+                "c: a\n\tmkdir -p o/e; chmod 700 o/e; chmod 755 d; cp o/e/1 d/c; cp x c\n"
+            ),
+            {"x": ""},
+        )
+        self.assertEqual(outcome.own("a"), ({"x"}, {"o/e/1", "a"}))
+        self.assertEqual(outcome.own("b"), ({"x"}, {"d/b", "b"}))
+        self.assertEqual(outcome.own("c"), ({"o/e/1", "x"}, {"d/c", "c"}))
+        self.assertEqual(outcome.warnings(), [])
+
+    def test_modes_of_folders_that_have_no_name(self) -> None:
+        self.folder.chmod(0o755)
+        (self.scratch / "other").mkdir()
+        (self.scratch / "other").chmod(0o755)
+        end = (
+            " another mode, owner or attribute, which no footprint can say: other recipes may find"
+            " the one or the other; let it leave that folder as it is"
+        )
+        for path, name in (
+            (".", "the project's folder"),
+            (str(self.scratch / "other"), f"the folder {self.scratch}/other"),
+        ):
+            outcome = self.of(f"a: x\n\tchmod 700 {path}; cp x a\n", {"x": ""})
+            self.assertEqual(outcome.warnings(), [f"the recipe of a gives {name}{end}"])
 
     def test_a_mode_that_a_file_has_already(self) -> None:
         outcome = self.of(

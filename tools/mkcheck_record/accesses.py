@@ -50,7 +50,8 @@ class Accesses:
     `touched` has all that it ever wrote or took away, `made` what of that wasn't there before, and
     `lost` what it took away and hadn't made. `missed` has what it would have taken away, had it
     been there. `alone` has the files outside of the folder that it made as `mkstemp` does. `folders`
-    has the folders that it made, `stamped` what it gave a stamp. `moved` has the new names of what
+    has the folders that it made, `owned` the others to which it gave a mode, an owner or an
+    attribute, and `stamped` what it gave a stamp other than the present time. `moved` has the new names of what
     it renamed, which may be folders. `aliases` has names that lead over a symbolic link. `over` has
     the links that no recipe made and that it went over. `makes` has the makes that it started, each
     with the folder in which that went to work, and `strange` what it did that a trace can't follow.
@@ -68,6 +69,7 @@ class Accesses:
     missed: dict[str, None] = field(default_factory=dict)
     alone: set[str] = field(default_factory=set)
     folders: dict[str, None] = field(default_factory=dict)
+    owned: dict[str, None] = field(default_factory=dict)
     stamped: dict[str, None] = field(default_factory=dict)
     moved: dict[str, None] = field(default_factory=dict)
     aliases: dict[str, Alias] = field(default_factory=dict)
@@ -115,15 +117,22 @@ class Accesses:
             self.made.setdefault(path)
             self.tree.there.add(path)
 
-    def stamp(self, path: str) -> None:
-        """A file gets a stamp."""
-        self.stamped.setdefault(path)
+    def stamp(self, path: str, times: str) -> None:
+        """A file gets a stamp: the present time, or one that the recipe chose."""
+        if times != "NULL" and not times.endswith("UTIME_NOW]"):
+            self.stamped.setdefault(path)
         self.change(path)
 
     def change(self, path: str) -> None:
         """A writing that keeps what was there: a stamp, a mode, a part."""
         self.read(path)
         self.write(path)
+
+    def own(self, path: str) -> None:
+        """A file or a folder gets a mode, an owner or an attribute."""
+        self.change(path)
+        if path not in self.folders and os.path.isdir(self.tree.place.real(path)):
+            self.owned.setdefault(path)
 
     def remove(self, path: str) -> None:
         """A file is taken away."""
@@ -453,18 +462,18 @@ class Follower:
         self.accesses.write(real)
 
     def on_utime(self, call: Call) -> None:
-        self.accesses.stamp(self.behind(call, 0))
+        self.accesses.stamp(self.behind(call, 0), call.arguments[1])
 
     def on_utimes(self, call: Call) -> None:
-        self.accesses.stamp(self.behind(call, 0))
+        self.accesses.stamp(self.behind(call, 0), call.arguments[1])
 
     def on_futimesat(self, call: Call) -> None:
-        self.accesses.stamp(self.behind(call, 1, 0))
+        self.accesses.stamp(self.behind(call, 1, 0), call.arguments[2])
 
     def on_utimensat(self, call: Call) -> None:
         # The second time is the stamp; where it is omitted, only the time of access changes.
         if not call.arguments[2].endswith("UTIME_OMIT]"):
-            self.accesses.stamp(self.behind(call, 1, 0))
+            self.accesses.stamp(self.behind(call, 1, 0), call.arguments[2])
 
     def on_chmod(self, call: Call) -> None:
         self.owned(self.behind(call, 0), mode=call.arguments[1])
@@ -492,24 +501,26 @@ class Follower:
     def owned(
         self, path: str | None, mode: str = "-1", user: str = "-1", group: str = "-1"
     ) -> None:
-        """A file gets permissions, a user or a group. Those that it had already change nothing."""
+        """A file or a folder gets permissions, a user or a group. Those that it had already change
+        nothing.
+        """
         known = None if path is None else self.accesses.tree.owners.get(path)
         if path is None or (
             known is not None and not self.accesses.wrote(path) and same(known, mode, user, group)
         ):
             return
-        self.accesses.change(path)
+        self.accesses.own(path)
 
     def on_setxattr(self, call: Call) -> None:
-        self.accesses.change(self.behind(call, 0))
+        self.accesses.own(self.behind(call, 0))
 
     def on_lsetxattr(self, call: Call) -> None:
-        self.accesses.change(self.itself(call, 0))
+        self.accesses.own(self.itself(call, 0))
 
     def on_fsetxattr(self, call: Call) -> None:
         path = self.descriptor(call.arguments[0])
         if path is not None:
-            self.accesses.change(path)
+            self.accesses.own(path)
 
     def on_chroot(self, call: Call) -> None:
         self.accesses.strange.setdefault(call.name)

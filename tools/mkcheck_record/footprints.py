@@ -4,6 +4,7 @@ from __future__ import annotations
 
 import os
 import stat
+import time
 from collections.abc import Callable, Iterable, Iterator
 from dataclasses import dataclass, field
 
@@ -15,8 +16,9 @@ from .trees import Tree
 
 Warn = Callable[[str], None]
 TOLD_AT_MOST = 10
-# Clocks of file systems go on in steps, of some milliseconds or of two seconds.
-STAMPS_APART = 2.5
+# Some file systems keep stamps by two seconds.
+COARSE = 2_500_000_000
+SECOND = 1_000_000_000
 
 
 @dataclass(frozen=True)
@@ -27,7 +29,8 @@ class Footprint:
     `scratch` has the files and folders that it made or took away and that are gone when it has
     ended, and `missed` those that it would have taken away, had they been there. These two may hold
     names that no footprint can, and files outside of the project's folder by their paths. `links`
-    has the symbolic links of the project that no recipe made and that it went over.
+    has the symbolic links of the project that no recipe made and that it went over. `owned` has the
+    folders that it hadn't made and to which it gave a mode, an owner or an attribute.
     """
 
     recipe: Recipe
@@ -37,6 +40,7 @@ class Footprint:
     missed: frozenset[str] = frozenset()
     lost: frozenset[str] = frozenset()
     links: list[str] = field(default_factory=list)
+    owned: frozenset[str] = frozenset()
 
     def record(self) -> dict[str, object]:
         """The record of format 1."""
@@ -98,8 +102,11 @@ def footprint_of(recipe: Recipe, accesses: Accesses, naming: Naming, warn: Warn)
         for path in [*accesses.touched, *accesses.folders]
         if path not in here and is_gone(path, accesses)
     ]
-    for path in [*accesses.touched, *written]:
+    for path in [*accesses.touched, *written, *filter(tree.has, accesses.owned)]:
         tree.refresh(path)
+    for path in filter(tree.has, accesses.folders):
+        tree.refresh(path)
+    warn_of_folders(recipe, accesses, naming, warn)
     warn_of_links(recipe, accesses, naming, warn)
     for path in dict.fromkeys(path for path in [*read, *written] if tree.has(path)):
         warn_of_twins(recipe, tree, naming, path, warn)
@@ -115,6 +122,7 @@ def footprint_of(recipe: Recipe, accesses: Accesses, naming: Naming, warn: Warn)
         frozenset(naming.name(path) or path for path in accesses.missed if path not in here),
         frozenset(named(lost, naming)),
         named(accesses.over, naming),
+        frozenset(named(filter(tree.has, accesses.owned), naming)),
     )
 
 
@@ -217,21 +225,40 @@ def warn_of_links(recipe: Recipe, accesses: Accesses, naming: Naming, warn: Warn
             )
 
 
-def warn_of_stamps(footprint: Footprint, accesses: Accesses, begun: float, warn: Warn) -> None:
-    """A file to which a recipe gave an older stamp than its own begin is told."""
+def warn_of_folders(recipe: Recipe, accesses: Accesses, naming: Naming, warn: Warn) -> None:
+    """A folder that no footprint can name, and to which a recipe gave a mode, is told."""
+    for path in accesses.owned:
+        if not accesses.tree.has(path) or not has_name(path, naming):
+            name = "the project's folder" if path == naming.root else f"the folder {shown(path)}"
+            warn(
+                f"the recipe of {recipe.target} gives {name} another mode, owner or attribute, which"
+                " no footprint can say: other recipes may find the one or the other; let it leave"
+                " that folder as it is"
+            )
+
+
+def warn_of_stamps(footprint: Footprint, accesses: Accesses, begun: int, warn: Warn) -> None:
+    """A file is told to which a recipe gave a stamp from before its own begin, or of the future.
+
+    `begun` is the stamp of a file that was made then, in nanoseconds.
+    """
     tree = accesses.tree
     for name in footprint.writes:
         path = os.path.join(tree.root, name)
         status = tree.status(path) if path in accesses.stamped else None
-        if (
-            status is not None
-            and stat.S_ISREG(status.st_mode)
-            and status.st_mtime < begun - STAMPS_APART
-        ):
+        if status is None or not stat.S_ISREG(status.st_mode):
+            continue
+        apart = 0 if status.st_ctime_ns % SECOND else COARSE
+        front = f"the recipe of {footprint.recipe.target} gives {name}"
+        if status.st_mtime_ns < begun - apart:
             warn(
-                f"the recipe of {footprint.recipe.target} gives {name} an old stamp, as cp -p,"
-                " touch -d and tar do: make takes it for older than what it was made from; let the"
-                " recipe touch it"
+                f"{front} an old stamp, as cp -p, touch -d and tar do: make takes it for older than"
+                " what it was made from; let the recipe touch it"
+            )
+        elif status.st_mtime_ns > time.time_ns() + COARSE:
+            warn(
+                f"{front} a stamp of the future: make takes it for newer than what changes until"
+                " then; let the recipe touch it"
             )
 
 

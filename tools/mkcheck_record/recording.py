@@ -5,6 +5,7 @@ from __future__ import annotations
 import os
 import shlex
 import stat
+import tempfile
 import time
 from collections.abc import Callable
 from dataclasses import dataclass, field
@@ -131,13 +132,13 @@ def record_one(
     if shop.updating is not None:
         shop.updating.lay(tree)
         warn = shop.updating.noting(recipe, warn)
-    begun = time.time()
+    begun, stamp = time.time(), stamp_now(shop.scratch)
     accesses = run(recipe, shop, tree, progress)
     progress.clear()
     refuse_unmade(recipe, shop)
     made = named(folders_made(accesses), naming)
     footprint = footprint_of(recipe, accesses, naming, warn)
-    warn_of_stamps(footprint, accesses, begun, warn)
+    warn_of_stamps(footprint, accesses, stamp, warn)
     done.footprints.append(footprint)
     if done.world is None:
         left = {
@@ -147,6 +148,12 @@ def record_one(
         return
     trial = done.world.took(recipe, effects_of(footprint, accesses, made, naming), begun)
     done.contents.append({name: content_of(trial.after[name]) for name in footprint.writes})
+
+
+def stamp_now(folder: str) -> int:
+    """The stamp that a file gets now, by the clock of files, which goes on in steps."""
+    with tempfile.TemporaryFile(dir=folder) as file:
+        return os.fstat(file.fileno()).st_mtime_ns
 
 
 def effects_of(
@@ -182,6 +189,7 @@ def effects_of(
             for path in dict.fromkeys(listed)
             if not is_unwritten(path, naming)
         ),
+        tuple(sorted(footprint.owned)),
     )
 
 

@@ -27,7 +27,7 @@ from .graphs import Ancestors
 from .places import Place
 from .progress import Progress, first_line
 from .versions import FILE, FOLDER, LINK, Version, lay, version_of
-from .worlds import GIVEN, Trial, World, entries
+from .worlds import GIVEN, Trial, World, entries, mode_of
 
 BARE, AGAIN, DAMAGED = "bare", "again", "damaged"
 OTHER_BYTES = (
@@ -181,6 +181,7 @@ class Replay:
         laid = self.restore(trial, place.folder)
         paths = {name: os.path.join(place.folder, name) for name in outputs}
         old = {name: aged(path) for name, path in paths.items()}
+        self.close(trial, place.folder)
         found = self.one(trial, place, AGAIN, laid)
         kept = [name for name, path in paths.items() if old[name] == stamp_of(path)]
         if found.passed and kept:
@@ -199,6 +200,7 @@ class Replay:
         for name in damaged:
             damage(paths[name])
             old[name] = aged(paths[name])
+        self.close(trial, place.folder)
         found = self.one(trial, place, DAMAGED, laid)
         touched = {
             name
@@ -255,20 +257,22 @@ class Replay:
         twins: dict[tuple[int, int], str] = {}
         for name, version in trial.before.items():
             self.lay(name, version, folder, twins)
-        for name in self.world.given_folders:
-            self.liken(name, os.path.join(folder, name))
+        self.liken(trial, folder)
 
-    def liken(self, name: str, path: str) -> None:
-        """Gives a folder the mode and the stamp of the project's, as `tar` writes them down.
+    def liken(self, trial: Trial, folder: str) -> None:
+        """Gives folders the modes that they had when the recipe began, and the stamps of the
+        project's, as `tar` writes them down.
 
-        Where a recipe has changed the folder, its stamp is none that could come again.
+        Where a recipe has changed what a folder holds, its stamp is none that could come again.
         """
-        with contextlib.suppress(OSError):
-            status = os.stat(os.path.join(self.world.place, name))
-            if status.st_mode & 0o700 == 0o700:
-                os.chmod(path, stat.S_IMODE(status.st_mode))
-            if status.st_mtime < self.world.begun:
-                os.utime(path, ns=(status.st_mtime_ns, status.st_mtime_ns))
+        for name, mode in trial.modes.items():
+            path = os.path.join(folder, name)
+            with contextlib.suppress(OSError):
+                if mode & 0o700 == 0o700 or name in trial.given:
+                    os.chmod(path, mode)
+                status = os.stat(os.path.join(self.world.place, name))
+                if name in self.world.given_folders and status.st_mtime < self.world.begun:
+                    os.utime(path, ns=(status.st_mtime_ns, status.st_mtime_ns))
 
     def folders_of(self, trial: Trial) -> Iterator[str]:
         """The folders that are always there when a recipe begins."""
@@ -295,7 +299,13 @@ class Replay:
         lay(source, goal, full)
 
     def restore(self, trial: Trial, folder: str) -> dict[str, tuple[int, ...]]:
-        """Lays those reads anew that the recipe wrote or took away itself."""
+        """Lays those reads anew that the recipe wrote or took away itself.
+
+        Folders to which it gave a mode are open until `close` gives them their modes back.
+        """
+        for name in sorted(trial.given):
+            with contextlib.suppress(OSError):
+                os.chmod(os.path.join(folder, name), 0o700)
         for name, version in trial.before.items():
             if trial.after.get(name) is not version:
                 path = os.path.join(folder, name)
@@ -306,6 +316,12 @@ class Replay:
                 os.makedirs(os.path.dirname(path), exist_ok=True)
                 self.lay(name, version, folder, {})
         return stamps_of(trial, folder)
+
+    def close(self, trial: Trial, folder: str) -> None:
+        """Gives folders the modes that they had before the recipe gave them others."""
+        for name in sorted(trial.given, reverse=True):
+            with contextlib.suppress(OSError):
+                os.chmod(os.path.join(folder, name), trial.modes[name])
 
     def compared(
         self, trial: Trial, folder: str, laid: Mapping[str, tuple[int, ...]]
@@ -351,6 +367,14 @@ class Replay:
             if name not in trial.after and not (os.path.islink(path) and os.readlink(path) == goal):
                 yield Difference(
                     name, f"{changed(path)} the link {name}, which it wasn't recorded to write"
+                )
+        for name, mode in trial.given.items():
+            found = mode_of(os.path.join(folder, name))
+            if found != mode:
+                yield Difference(
+                    name,
+                    f"gives the folder {name} the mode {found:o}, which was {mode:o} when it was"
+                    " recorded",
                 )
         for name in trial.made:
             if not os.path.isdir(os.path.join(folder, name)):

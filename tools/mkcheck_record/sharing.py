@@ -4,6 +4,9 @@ With several jobs such recipes destroy each other's. No footprint would show it,
 left. So the name is put into the writes of each, and `mkcheck check` finds two writers. A recipe
 that would have taken a file away, had it been there, counts as one that does: with several jobs, or
 another time, it is there.
+
+A folder to which a recipe gave a mode is put into its writes, and into the reads of the recipes
+that use it or what is in it.
 """
 
 from __future__ import annotations
@@ -18,12 +21,13 @@ from .footprints import Footprint, Warn, shown
 
 @dataclass
 class Uses:
-    """Targets by names: whose recipes use a file, or one in a folder; which write in a folder; and
-    which take a name away."""
+    """Targets by names: whose recipes use a file, or one in a folder; which write in a folder; which
+    take a name away; and which give a folder a mode."""
 
     users: dict[str, set[str]] = field(default_factory=dict)
     fillers: dict[str, set[str]] = field(default_factory=dict)
     takers: dict[str, set[str]] = field(default_factory=dict)
+    owners: dict[str, set[str]] = field(default_factory=dict)
 
     def take(self, footprint: Footprint) -> None:
         """Takes what a recipe uses."""
@@ -36,6 +40,8 @@ class Uses:
                 self.fillers.setdefault(place, set()).add(target)
         for name in {*footprint.scratch, *footprint.missed}:
             self.takers.setdefault(name, set()).add(target)
+        for name in footprint.owned:
+            self.owners.setdefault(name, set()).add(target)
 
     def others(self, footprint: Footprint, name: str) -> set[str]:
         """The other recipes that one would disturb by taking a name away.
@@ -53,7 +59,7 @@ def with_shared(footprints: list[Footprint], warn: Warn) -> list[Footprint]:
     uses = Uses()
     for footprint in footprints:
         uses.take(footprint)
-    return [with_own(footprint, uses, warn) for footprint in footprints]
+    return [with_modes(with_own(footprint, uses, warn), uses, warn) for footprint in footprints]
 
 
 def with_own(footprint: Footprint, uses: Uses, warn: Warn) -> Footprint:
@@ -69,6 +75,24 @@ def with_own(footprint: Footprint, uses: Uses, warn: Warn) -> Footprint:
     around = {*own, *(place for name in own for place in folders_of(name))}
     shared += sorted(name for name in around if uses.takers.get(name, set()) - {target})
     return replace(footprint, writes=list(dict.fromkeys([*footprint.writes, *shared])))
+
+
+def with_modes(footprint: Footprint, uses: Uses, warn: Warn) -> Footprint:
+    """A footprint with the folders to which it gave a mode, and those of others that it uses."""
+    target = footprint.recipe.target
+    given = [name for name in sorted(footprint.owned) if uses.users.get(name, set()) - {target}]
+    for name in given:
+        others = told(sorted(uses.users[name] - {target}))
+        warn(
+            f"the recipe of {target} gives the folder {name} another mode, owner or attribute, which"
+            f" {others} too: it counts as written by the one and read by the others"
+        )
+    writes = list(dict.fromkeys([*footprint.writes, *given]))
+    used = {*footprint.scratch, *footprint.reads, *footprint.writes}
+    around = {*used, *(place for name in used for place in folders_of(name))}
+    found = {name for name in around if uses.owners.get(name, set()) - {target}}
+    reads = [*footprint.reads, *sorted(found.difference(writes))]
+    return replace(footprint, reads=list(dict.fromkeys(reads)), writes=writes)
 
 
 def tell(footprint: Footprint, name: str, others: str, warn: Warn) -> None:

@@ -35,9 +35,9 @@ class Owner:
 class Tree:
     """The folder as commands see it. All paths are real ones, as commands see them.
 
-    `there` has its files of each kind, and links with them; `folders` has its folders. `links` has
-    the texts of symbolic links, of those elsewhere too that were met. `made` has the links that
-    recipes made. `users` has, for each file of several names, the names that were used, each with
+    `there` has its files of each kind, and links with them; `folders` has its folders. `owners` has
+    the permissions of files and folders. `links` has the texts of symbolic links, of those
+    elsewhere too that were met. `made` has the links that recipes made. `users` has, for each file of several names, the names that were used, each with
     the first target whose recipe did.
     """
 
@@ -58,6 +58,7 @@ class Tree:
         waiting = [(place.folder, place.seen)]
         while waiting:
             folder, seen = waiting.pop()
+            tree.owners[seen] = Owner.of(os.stat(folder))
             for entry in entries_of(folder):
                 path = os.path.join(seen, entry.name)
                 if entry.is_dir(follow_symlinks=False):
@@ -106,6 +107,7 @@ class Tree:
             self.remove(path)
             if status is not None:
                 self.folders.add(path)
+                self.owners[path] = Owner.of(status)
             return
         self.folders.discard(path)
         if not stat.S_ISLNK(status.st_mode):
@@ -158,6 +160,8 @@ class Tree:
             inner = [path for path in self.folders if f"{path}/".startswith(f"{old}/")]
             self.folders.difference_update(inner)
             self.folders.update(new + path[len(old) :] for path in inner)
+            for path in inner:
+                self.owners.pop(path, None)
         return moved
 
     def inside(self, path: str) -> list[str]:

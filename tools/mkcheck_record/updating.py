@@ -154,7 +154,8 @@ class Updating:
         """Writes the state beside footprints that have just been written.
 
         `passed` has the targets whose replay showed nothing, or that had none, each with its
-        warnings. Another recipe has no entry: it is recorded again next time.
+        warnings. Another recipe has no entry, and so has one that gives a folder a mode: it is
+        recorded again next time.
         """
         assert self.world is not None
         trials = {trial.recipe.target: trial for trial in self.world.trials}
@@ -163,7 +164,7 @@ class Updating:
             target = footprint.recipe.target
             if target in self.reused:
                 entries[target] = self.reused[target]
-            elif target in passed:
+            elif target in passed and not footprint.owned:
                 entries[target] = self.entry_of(footprint, trials[target], passed[target])
         state = State(
             self.conditions.salted(secrets.token_hex(16)), states.digest_of(text), entries

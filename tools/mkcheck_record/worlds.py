@@ -4,6 +4,7 @@ from __future__ import annotations
 
 import hashlib
 import os
+import stat
 import time
 from collections.abc import Iterable, Iterator, Mapping
 from dataclasses import dataclass, field, replace
@@ -24,8 +25,8 @@ class Effects:
 
     `gone` are files that it took away and hadn't made, `made` are folders that it made, `links` are
     those over which it went and that no recipe made, `others` what it left that is no file, such as
-    pipes. `looked` are names at which it looked, be something there or not, and `listed` are
-    folders whose names it read.
+    pipes. `looked` are names at which it looked, be something there or not, `listed` are folders
+    whose names it read, and `owned` are others than `made` to which it gave a mode.
     """
 
     reads: tuple[str, ...]
@@ -36,6 +37,7 @@ class Effects:
     others: tuple[str, ...] = ()
     looked: tuple[str, ...] = ()
     listed: tuple[str, ...] = ()
+    owned: tuple[str, ...] = ()
 
 
 @dataclass(frozen=True)
@@ -47,7 +49,8 @@ class Trial:
     are the links over which it went and that no recipe made. `made` are folders that it made,
     `known` all folders that were there when it ended. `begun` and `ended` are times of the clock.
     `looks` has, where the world is watching, what stood at each name that it used or looked at
-    before it began, and `lists` digests of the names in folders that it read.
+    before it began, and `lists` digests of the names in folders that it read. `modes` has those of
+    all folders as they were when it began, and `given` those that it gave to folders.
     """
 
     recipe: Recipe
@@ -61,6 +64,8 @@ class Trial:
     ended: float
     looks: Mapping[str, Version | None] = field(default_factory=dict)
     lists: Mapping[str, str] = field(default_factory=dict)
+    modes: Mapping[str, int] = field(default_factory=dict)
+    given: Mapping[str, int] = field(default_factory=dict)
 
     @property
     def seconds(self) -> float:
@@ -75,7 +80,8 @@ class World:
     `folder` is the project's, `place` where the recipes run; they are one where no copy was made.
     `begun` is the time of the clock when the copy was made. `inside` has the names in each folder
     as they are now. `current` has the names that recipes wrote or took away, and `makers` the
-    folders that they made, each with the targets of these recipes.
+    folders that they made, each with the targets of these recipes. `modes` has those of folders: one
+    mapping, until a recipe changes it.
     """
 
     folder: str
@@ -87,6 +93,7 @@ class World:
     inside: dict[str, set[str]] = field(default_factory=dict)
     current: dict[str, Version | None] = field(default_factory=dict)
     makers: dict[str, list[str]] = field(default_factory=dict)
+    modes: Mapping[str, int] = field(default_factory=dict)
     trials: list[Trial] = field(default_factory=list)
     watching: bool = False
     seen: dict[str, Version | None] = field(default_factory=dict)
@@ -97,14 +104,14 @@ class World:
         """The world before the first recipe."""
         os.makedirs(store.folder, exist_ok=True)
         world = cls(folder, place, store, time.time())
-        folders = set()
+        folders: dict[str, int] = {}
         for name, entry in entries(place):
             world.inside.setdefault(os.path.dirname(name), set()).add(entry.name)
             if entry.is_symlink():
                 world.given_links[name] = os.readlink(entry.path)
             elif entry.is_dir(follow_symlinks=False):
-                folders.add(name)
-        world.given_folders = frozenset(folders)
+                folders[name] = mode_of(entry.path)
+        world.given_folders, world.modes = frozenset(folders), folders
         return world
 
     def took(self, recipe: Recipe, effects: Effects, begun: float) -> Trial:
@@ -122,6 +129,12 @@ class World:
             name for name in effects.made if name and os.path.isdir(os.path.join(self.place, name))
         )
         looks, lists = self.looks(effects, after) if self.watching else ({}, {})
+        modes = self.modes
+        owned = (name for name in effects.owned if name in modes)
+        given = {name: mode_of(os.path.join(self.place, name)) for name in owned}
+        new = {name: mode_of(os.path.join(self.place, name)) for name in made}
+        if given or new:
+            self.modes = {**modes, **given, **new}
         self.change(recipe.target, after, made)
         trial = Trial(
             recipe,
@@ -135,6 +148,8 @@ class World:
             time.time(),
             looks,
             lists,
+            modes,
+            given,
         )
         self.trials.append(trial)
         return trial
@@ -260,6 +275,14 @@ class World:
                 f"{name} isn't there any more: it was taken away while recipes ran; record again"
             )
         return path, found
+
+
+def mode_of(path: str) -> int:
+    """The bits of the mode of a folder; those of one that is gone are of no use."""
+    try:
+        return stat.S_IMODE(os.lstat(path).st_mode)
+    except OSError:
+        return 0o777
 
 
 def is_own(name: str) -> bool:
