@@ -60,7 +60,36 @@ class FaultTest(ProjectTest):
         self.write({"makefile": "a: b\nb: a\n"})
         outcome = self.record()
         self.assertEqual((outcome.status, outcome.book), (2, None))
-        self.assertEqual(outcome.errors, "mkcheck-record: mkcheck graph: refused 42 a b a\n")
+        self.assertEqual(
+            outcome.errors,
+            (
+                "mkcheck-record: mkcheck graph: refused 42 a b a: the names need each other in a"
+                " circle; take out the prerequisite that closes it\n"
+            ),
+        )
+
+    def test_what_a_refusal_means(self) -> None:
+        front, by = "mkcheck-record: mkcheck graph: refused", "mkcheck-import judges a makefile"
+        for text, number, sentence in (
+            ("a: $(wildcard *.c)\n", "11 makefile:1", "the line has no macro name of POSIX: "),
+            ("\nX := a\n", "22 makefile:2", "mkcheck doesn't judge :=, "),
+            ("ifdef X\nendif\n", "25 makefile:1", "the line is no rule, "),
+            ("%.o: %.c\n\tcc\n", "27 makefile:1", "a word of the line is no name: "),
+        ):
+            self.write({"makefile": text})
+            said = self.record().errors
+            self.assertTrue(said.startswith(f"{front} {number}: {sentence}"), said)
+            self.assertIn(by, said)
+        for text, words, number, sentence in (
+            ("a: b$\n", (), "16 makefile:1", "a $ stands alone; "),
+            ("a:\n", ("-f", "none"), "37 none", "there is no makefile; -f names it, and -C its"),
+            ("a:\n", ("%",), "27 goal:1", "the word is no name of a goal\n"),
+            ("a:\n", ("A+=b",), "11 operand:1", "the word with = sets no macro\n"),
+        ):
+            self.write({"makefile": text})
+            said = self.record(*words).errors
+            self.assertTrue(said.startswith(f"{front} {number}: {sentence}"), said)
+            self.assertNotIn(by, said)
 
     def test_a_name_that_nothing_makes(self) -> None:
         self.write({"makefile": "a: b\n\tcp b a\n"})

@@ -145,6 +145,43 @@ class MacroTest(ProjectTest):
         )
         self.assertEqual(self.recorded("SHELL=/bin/sh").warnings(), [])
 
+    def test_options_of_the_makefile(self) -> None:
+        for value, told in (
+            ("-k", ["-k in MAKEFLAGS, by which GNU make goes on with other targets"]),
+            ("ik", ["-i in MAKEFLAGS, by which", "-k in MAKEFLAGS, by which"]),
+            ("-r", ["-r in MAKEFLAGS, by which GNU make leaves out its default rules; give -r"]),
+            ("-j 8 --keep-going", ["--keep-going in MAKEFLAGS, by which GNU make goes on"]),
+            ("-I inc", ["-I in MAKEFLAGS: what make does by that isn't judged here"]),
+            ("--never-heard", ["--never-heard in MAKEFLAGS: what make does by that isn't"]),
+            ("-s X=1", ["X=1 in MAKEFLAGS: what make does by that isn't judged here"]),
+            ("-j8 -s --no-print-directory --output-sync=target -j 4 -l 2", []),
+            ("", []),
+        ):
+            self.write({"makefile": f"MAKEFLAGS = {value}\nout: a\n\tcp a out\n", "a": ""})
+            outcome = self.recorded()
+            self.assertEqual(len(outcome.warnings()), len(told), outcome.errors)
+            for warning, begin in zip(outcome.warnings(), told):
+                self.assertTrue(warning.startswith(f"the makefile sets {begin}"), warning)
+        self.write({"makefile": "MAKEFLAGS = -r\nout: a\n\tcp a out\n", "a": ""})
+        self.assertEqual(self.recorded("-r").warnings(), [])
+
+    def test_options_by_which_nothing_is_made(self) -> None:
+        for value, option, what in (
+            ("-t", "-t", "touches targets and doesn't run their commands"),
+            ("sn", "-n", "prints commands and doesn't run them"),
+            ("-j 4 --dry-run", "--dry-run", "prints commands and doesn't run them"),
+            ("-q", "-q", "runs no command"),
+            ("--old-file=a", "--old-file", "takes files for old ones that aren't"),
+            ("-W a", "-W", "takes files for new ones that aren't"),
+        ):
+            self.write({"makefile": f"MAKEFLAGS += {value}\nout: a\n\tcp a out\n", "a": ""})
+            outcome = self.record()
+            self.assertEqual((outcome.status, outcome.book), (2, None), outcome.errors)
+            begin = f"mkcheck-record: the makefile sets {option}"
+            self.assertTrue(outcome.errors.startswith(begin), outcome.errors)
+            end = f"in MAKEFLAGS, by which GNU make {what}: take it out of the makefile\n"
+            self.assertTrue(outcome.errors.endswith(end), outcome.errors)
+
     def test_macros_of_the_environment(self) -> None:
         self.write(
             {

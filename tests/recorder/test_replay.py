@@ -254,9 +254,13 @@ class DamagedTest(ReplayTest):
     def test_an_archive(self) -> None:
         self.write({"makefile": "out: a\n\tar rc out a\n", "a": "1\n"})
         (warning,) = self.recorded().warnings()
-        self.assertTrue(
-            warning.startswith(f"the recipe of out, run {FRONTS[DAMAGED]}, fails: "), warning
+        front = (
+            f"the recipe of out, run {FRONTS[DAMAGED]}, fails: after a make that was stopped, its"
+            " outputs may have to be removed by hand; begin the recipe with rm -f $@ ("
         )
+        self.assertTrue(warning.startswith(front), warning)
+        self.write({"makefile": "out: a\n\trm -f $@\n\tar rc $@ a\n"})
+        self.assertEqual(self.recorded().warnings(), [])
 
 
 @traced

@@ -12,6 +12,7 @@ from pathlib import Path
 
 from .faults import Fault
 from .folders import is_plain_path
+from .meanings import meaning
 
 PREFIXES = "@-+ \t"
 NO_RULE = "refused 41 "
@@ -21,7 +22,8 @@ class Refused(Fault):
     """mkcheck refused the makefile, by these words."""
 
     def __init__(self, said: str) -> None:
-        super().__init__(f"mkcheck graph: {said}")
+        sentence = meaning(said)
+        super().__init__(f"mkcheck graph: {said}{': ' if sentence else ''}{sentence}")
         self.said = said
 
     @property

@@ -1,4 +1,5 @@
-"""Macros by which makes differ: SHELL, those that the environment sets, and the default compiler.
+"""Macros by which makes differ: SHELL, MAKEFLAGS, those that the environment sets, and the default
+compiler.
 
 mkcheck itself is asked, over a makefile that includes the project's, so that nothing is guessed of
 its text.
@@ -14,6 +15,7 @@ from collections.abc import Callable, Mapping
 from dataclasses import dataclass, replace
 
 from .faults import Fault
+from .flags import check_options
 from .graphs import Checker, Graph
 
 PLAIN = re.compile(r"[A-Za-z0-9/._+-]+")
@@ -22,7 +24,7 @@ NAME = re.compile(r"[A-Za-z_][A-Za-z0-9_]*")
 # last.
 NOT_TAKEN = ("SHELL", "MAKEFLAGS", "MFLAGS", "MAKELEVEL", "MAKEOVERRIDES", "MAKE", "_", "SHLVL")
 PROBE = "mkcheck-record-probe"
-SAYS = "shell="
+SAYS = "value="
 POSIX_SHELLS = ("", "sh", "/bin/sh", "/usr/bin/sh")
 C17 = re.compile(r"(?:^|[;&|({]\s*)c17(?=\s|$)")
 
@@ -65,13 +67,14 @@ class Prober:
             else "Makefile"
         )
 
-    def shell(self) -> str:
-        """The value of SHELL, empty where the makefile sets none."""
+    def values(self, *names: str) -> list[str]:
+        """The values of macros, each empty where the makefile sets none."""
         operands = tuple(word for word in self.checker.words if "=" in word)
-        graph = self.ask("", f"{PROBE}: ; {SAYS}$(SHELL)\n", (*operands, PROBE))
-        if graph is None or not graph.recipes or not graph.recipes[-1].lines:
-            return ""
-        return graph.recipes[-1].lines[0][len(SAYS) :].strip()
+        lines = "".join(f"\t{SAYS}$({name})\n" for name in names)
+        graph = self.ask("", f"{PROBE}:\n{lines}", (*operands, PROBE))
+        if graph is None or not graph.recipes or len(graph.recipes[-1].lines) != len(names):
+            return ["" for _ in names]
+        return [line[len(SAYS) :].strip() for line in graph.recipes[-1].lines]
 
     def taken(self, graph: Graph, environment: Mapping[str, str]) -> list[str]:
         """The variables of the environment that would give another graph as macros."""
@@ -111,8 +114,12 @@ def escaped(value: str) -> str:
 
 
 def with_shell(graph: Graph, prober: Prober, warn: Callable[[str], None]) -> Graph:
-    """The graph, whose commands are run by the shell that the makefile names."""
-    shell = prober.shell()
+    """The graph, whose commands are run by the shell that the makefile names.
+
+    Options that the makefile gives to make are told, or refused.
+    """
+    shell, options = prober.values("SHELL", "MAKEFLAGS")
+    check_options(options, "-r" in prober.checker.options, warn)
     if shell in POSIX_SHELLS:
         return graph
     if shutil.which(shell.split()[0]) is None:

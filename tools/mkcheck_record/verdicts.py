@@ -157,9 +157,11 @@ def likely_causes(outcome: Outcome, makers: Mapping[str, list[str]]) -> list[str
 def warning(outcome: Outcome, run: str, failed: str) -> str:
     """The warning of a recipe that fails over outputs that only a make leaves which was stopped."""
     target = outcome.trial.recipe.target
+    outputs = "$@" if outcome.trial.writes == (target,) else "of its outputs"
     return (
         f"the recipe of {target}, run {SETTINGS[run]}, fails: after a make that was stopped, its"
-        f" outputs may have to be removed by hand ({last_line(failed)})"
+        f" outputs may have to be removed by hand; begin the recipe with rm -f {outputs}"
+        f" ({last_line(failed)})"
     )
 
 

@@ -1,0 +1,102 @@
+"""Options that a makefile gives to make by the macro MAKEFLAGS, as GNU make takes them from there."""
+
+from __future__ import annotations
+
+from collections.abc import Callable, Iterator
+
+from .faults import Fault
+
+# What these make of a build is none that mkcheck judges, nor one that is recorded here.
+REFUSED = {
+    "n": "prints commands and doesn't run them",
+    "o": "takes files for old ones that aren't",
+    "q": "runs no command",
+    "t": "touches targets and doesn't run their commands",
+    "W": "takes files for new ones that aren't",
+}
+WARNED = {
+    "B": "makes all anew each time",
+    "e": "takes variables of the environment before the macros of the makefile",
+    "i": "goes on where a command fails, and takes its target for made",
+    "k": "goes on with other targets where a command fails",
+    "L": "takes the stamp of a link for that of the file where it is the newer one",
+    "R": "leaves out its default macros and rules; give -r to mkcheck too",
+    "r": "leaves out its default rules; give -r to mkcheck too",
+}
+# These change neither what is made nor from what: jobs, load, what is printed.
+PLAIN = "bjlmOpSswdv"
+WITH_VALUE = "jlOoWCfIE"
+LONG = {
+    "always-make": "B",
+    "assume-new": "W",
+    "assume-old": "o",
+    "check-symlink-times": "L",
+    "dry-run": "n",
+    "environment-overrides": "e",
+    "ignore-errors": "i",
+    "jobs": "j",
+    "just-print": "n",
+    "keep-going": "k",
+    "load-average": "l",
+    "max-load": "l",
+    "new-file": "W",
+    "no-builtin-rules": "r",
+    "no-builtin-variables": "R",
+    "no-keep-going": "S",
+    "no-print-directory": "w",
+    "no-silent": "w",
+    "old-file": "o",
+    "output-sync": "O",
+    "print-directory": "w",
+    "question": "q",
+    "quiet": "s",
+    "recon": "n",
+    "silent": "s",
+    "stop": "S",
+    "touch": "t",
+    "trace": "d",
+    "debug": "d",
+    "warn-undefined-variables": "d",
+    "what-if": "W",
+}
+
+
+def options_of(value: str) -> Iterator[tuple[str, str]]:
+    """The options in a value of MAKEFLAGS: each as it stands there, and its letter, if it has one.
+
+    Letters in the first word need no hyphen.
+    """
+    words = value.split()
+    if words and not words[0].startswith("-") and "=" not in words[0]:
+        words[0] = f"-{words[0]}"
+    waits = False
+    for word in words:
+        if word.startswith("--"):
+            if word != "--":
+                yield word, LONG.get(word[2:].partition("=")[0], "")
+        elif word.startswith("-"):
+            waits = False
+            for at, letter in enumerate(word[1:], 2):
+                yield f"-{letter}", letter
+                if letter in WITH_VALUE:
+                    waits = not word[at:]
+                    break
+            continue
+        elif not waits:
+            yield word, ""
+        waits = False
+
+
+def check_options(value: str, without_rules: bool, warn: Callable[[str], None]) -> None:
+    """Refuses options by which make makes nothing, or something else, and warns of the others that
+    change a build. `without_rules` tells that mkcheck leaves out its default text too.
+    """
+    for shown, letter in options_of(value):
+        front = f"the makefile sets {shown} in MAKEFLAGS"
+        if letter in REFUSED:
+            raise Fault(f"{front}, by which GNU make {REFUSED[letter]}: take it out of the makefile")
+        if letter in WARNED:
+            if not (letter in "rR" and without_rules):
+                warn(f"{front}, by which GNU make {WARNED[letter]}")
+        elif not letter or letter not in PLAIN:
+            warn(f"{front}: what make does by that isn't judged here")
