@@ -4,10 +4,12 @@ from __future__ import annotations
 
 import os
 import shutil
+import subprocess
 import unittest
 
-from project import ProjectTest, traced
+from project import OF_MAKE, ProjectTest, traced
 
+GNU = "GNU Make" in os.popen("make --version 2>/dev/null").read()
 SUB = {"sub/makefile": "x: y\n\tcp y x\n", "sub/y": ""}
 
 
@@ -181,6 +183,54 @@ class MacroTest(ProjectTest):
             self.assertTrue(outcome.errors.startswith(begin), outcome.errors)
             end = f"in MAKEFLAGS, by which GNU make {what}: take it out of the makefile\n"
             self.assertTrue(outcome.errors.endswith(end), outcome.errors)
+
+    def test_built_in_rules_of_gnu_make(self) -> None:
+        for source, origin in (
+            ("p.c", "p.y"),
+            ("d/l.c", "d/l.l"),
+            ("x.info", "x.texi"),
+            ("t.out", "t"),
+            ("program", "program.cc"),
+            ("o.o", "o.S"),
+        ):
+            rule = f"all: {source}\n\tcat {source} > all\n"
+            told = (
+                f"GNU make makes {source} from {origin} by a built-in rule, which mkcheck doesn't"
+                f" have: {source} counts as a source here; write that rule into the makefile, or"
+                " give -r to make, to mkcheck and to mkcheck-record"
+            )
+            suffixes = ".SUFFIXES:\n.SUFFIXES: .c .o\n"
+            for text, words, warnings in (
+                (rule, (), [told]),
+                (f"{source}: h\n{rule}", (), [told]),
+                (rule, ("-r",), []),
+                (suffixes + rule, (), [told] if source == "t.out" else []),
+                (f"{source}: {origin}\n\tcp {origin} {source}\n{rule}", ("all",), []),
+            ):
+                self.write({"makefile": text, source: "", origin: "", "h": ""})
+                self.assertEqual(self.recorded(*words).warnings(), warnings, (text, words))
+                if GNU:
+                    self.assertEqual(self.runs_a_rule(origin, *words), bool(warnings), text)
+            (self.folder / origin).unlink()
+            self.write({"makefile": rule})
+            self.assertEqual(self.recorded().warnings(), [])
+
+    def runs_a_rule(self, origin: str, *words: str) -> bool:
+        """Whether make would run more than the recipes of the makefile, where a file is newer than
+        the others."""
+        for path in self.folder.iterdir():
+            os.utime(path, (1e9, 1e9))
+        os.utime(self.folder / origin)
+        done = subprocess.run(
+            ["make", "-n", *words],
+            cwd=self.folder,
+            env={name: value for name, value in os.environ.items() if name not in OF_MAKE},
+            capture_output=True,
+            text=True,
+            check=False,
+        )
+        own = ("cat ", "cp ", "make: ")
+        return not all(line.startswith(own) for line in done.stdout.splitlines())
 
     def test_macros_of_the_environment(self) -> None:
         self.write(

@@ -67,6 +67,10 @@ class Prober:
             else "Makefile"
         )
 
+    def with_files(self, *names: str) -> Prober:
+        """One that asks as if these files were there too."""
+        return replace(self, files=[*self.files, *names])
+
     def values(self, *names: str) -> list[str]:
         """The values of macros, each empty where the makefile sets none."""
         operands = tuple(word for word in self.checker.words if "=" in word)

@@ -11,6 +11,7 @@ from pathlib import Path
 
 from . import places, tracing
 from .books import make_book
+from .built_in import warn_of_rules
 from .comparing import compare_again, compare_make
 from .dates import dated
 from .faults import Fault, RecipeFault
@@ -144,6 +145,7 @@ def record_and_write(asked: argparse.Namespace, folder: str, scratch: str) -> No
     warn_of_environment(
         graph, prober, dict(operand(word) for word in asked.words if "=" in word), warn
     )
+    warn_of_rules(graph, prober, files, warn)
     shop = workshop(asked, folder, graph, hidden, scratch, warn)
     shop.updating = updating_of(asked, shop, fixed, warn)
     follows = not asked.no_replay or shop.updating is not None
