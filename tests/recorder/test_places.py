@@ -10,13 +10,14 @@ import sys
 import time
 import unittest
 from pathlib import Path
+from unittest import mock
 
 from project import MKCHECK, RECORDER, ROOT, ProjectTest, traced
 from test_unseen import left_with, processes_with
 
 sys.path.insert(0, str(ROOT / "tools"))
 
-from mkcheck_record import places  # noqa: E402
+from mkcheck_record import places, stopping  # noqa: E402
 from mkcheck_record.folders import scratch_folder  # noqa: E402
 from mkcheck_record.places import Place  # noqa: E402
 
@@ -250,6 +251,31 @@ def take_signals() -> None:
     """A shell starts what runs in the background with SIGINT ignored; the recorder isn't to be."""
     for number in (signal.SIGINT, signal.SIGTERM, signal.SIGHUP):
         signal.signal(number, signal.SIG_DFL)
+
+
+class BeginTest(unittest.TestCase):
+    """Signals that come while a process begins."""
+
+    def test_a_signal_while_a_process_begins(self) -> None:
+        begun: list[subprocess.Popen[bytes]] = []
+        own = subprocess.Popen
+
+        def popen(*words: object, **options: object) -> subprocess.Popen[bytes]:
+            """Starts a process, and gets a signal before it can tell of it."""
+            begun.append(own(*words, **options))
+            signal.raise_signal(signal.SIGTERM)
+            return begun[0]
+
+        for number in stopping.SIGNALS:
+            self.addCleanup(signal.signal, number, signal.getsignal(number))
+        take_signals()
+        stopping.catch_signals()
+        with open(os.devnull, "wb") as output, mock.patch.object(subprocess, "Popen", popen):
+            with self.assertRaises(stopping.Stopped) as raised:
+                with places.started(["sleep", "77"], "/", os.environ, output.fileno()):
+                    self.fail("the signal was lost")
+        self.assertEqual(raised.exception.status, 128 + signal.SIGTERM)
+        self.assertEqual([process.returncode for process in begun], [-signal.SIGKILL])
 
 
 @traced

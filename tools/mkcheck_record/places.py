@@ -20,6 +20,7 @@ from collections.abc import Iterator, Mapping, Sequence
 from dataclasses import dataclass
 from pathlib import Path
 
+from . import stopping
 from .faults import Fault
 
 # Binds a folder over another one, and goes on there, by the same name in PWD. OLDPWD is a trace of
@@ -154,24 +155,26 @@ def started(
     words: Sequence[str], folder: str, environment: Mapping[str, str], output: int
 ) -> Iterator[subprocess.Popen[bytes]]:
     """A process in a group of its own, which is killed at the end; its streams go to `output`."""
-    with _lock:
-        process = subprocess.Popen(
-            words,
-            cwd=folder,
-            env=dict(environment),
-            stdin=subprocess.DEVNULL,
-            stdout=output,
-            stderr=subprocess.STDOUT,
-            start_new_session=True,
-        )
-        _running[process.pid] = None
+    process = None
     try:
+        with stopping.held(), _lock:
+            process = subprocess.Popen(
+                words,
+                cwd=folder,
+                env=dict(environment),
+                stdin=subprocess.DEVNULL,
+                stdout=output,
+                stderr=subprocess.STDOUT,
+                start_new_session=True,
+            )
+            _running[process.pid] = None
         yield process
     finally:
-        kill_group(process.pid)
-        process.wait()
-        with _lock:
-            _running.pop(process.pid, None)
+        if process is not None:
+            kill_group(process.pid)
+            process.wait()
+            with _lock:
+                _running.pop(process.pid, None)
 
 
 def kill_group(leader: int) -> None:

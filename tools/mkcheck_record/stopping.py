@@ -2,11 +2,17 @@
 
 from __future__ import annotations
 
+import contextlib
 import signal
+import threading
+from collections.abc import Iterator
 from types import FrameType
-from typing import NoReturn
 
 SIGNALS = (signal.SIGINT, signal.SIGTERM, signal.SIGHUP)
+
+# How often the end is put off now, and the signals that came meanwhile.
+_held: list[None] = []
+_came: list[int] = []
 
 
 class Stopped(BaseException):
@@ -28,8 +34,25 @@ def catch_signals() -> None:
             signal.signal(number, stop)
 
 
-def stop(number: int, _frame: FrameType | None) -> NoReturn:
-    """Raises `Stopped`."""
+def stop(number: int, _frame: FrameType | None) -> None:
+    """Raises `Stopped`, or has that done later where the end is put off."""
     for other in SIGNALS:
         signal.signal(other, signal.SIG_IGN)
-    raise Stopped(number)
+    if not _held:
+        raise Stopped(number)
+    _came.append(number)
+
+
+@contextlib.contextmanager
+def held() -> Iterator[None]:
+    """Puts off the end by a signal, which raises in the main thread alone, to the end of this."""
+    if threading.current_thread() is not threading.main_thread():
+        yield
+        return
+    _held.append(None)
+    try:
+        yield
+    finally:
+        _held.pop()
+        if _came and not _held:
+            raise Stopped(_came.pop())
