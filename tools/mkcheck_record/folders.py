@@ -8,6 +8,7 @@ import os
 import shutil
 import stat
 import tempfile
+import time
 from collections.abc import Iterator
 from dataclasses import dataclass, field
 
@@ -21,6 +22,9 @@ NAME_AT_MOST = 4096
 # Where a copy may lie, if the folder for temporary files is the project's own.
 OTHER_PLACES = ("/tmp", "/var/tmp", "/dev/shm")
 CLONE = 0x40049409
+# How often a scratch folder is removed that comes again, and how long to wait between.
+TRIES = 20
+MOMENT = 0.05
 PIECE = 1 << 20
 
 
@@ -255,7 +259,12 @@ def scratch_folder(project: str) -> Iterator[str]:
     try:
         yield scratch
     finally:
-        remove(scratch)
+        # What was killed just now may still end a call that makes a file.
+        for _ in range(TRIES):
+            remove(scratch)
+            if not os.path.lexists(scratch):
+                break
+            time.sleep(MOMENT)
 
 
 def is_outside(place: str, project: str) -> bool:
