@@ -73,7 +73,7 @@ class FaultTest(ProjectTest):
         for text, number, sentence in (
             ("a: $(wildcard *.c)\n", "11 makefile:1", "the line has no macro name of POSIX: "),
             ("\nX := a\n", "22 makefile:2", "mkcheck doesn't judge :=, "),
-            ("ifdef X\nendif\n", "25 makefile:1", "the line is no rule, "),
+            ("ifdef X\nendif\n", "25 makefile:1", "the line is no rule, macro or include"),
             ("%.o: %.c\n\tcc\n", "27 makefile:1", "a word of the line is no name: "),
         ):
             self.write({"makefile": text})

@@ -5,9 +5,14 @@ from __future__ import annotations
 import os
 import shutil
 import subprocess
+import sys
 import unittest
 
-from project import OF_MAKE, ProjectTest, traced
+from project import OF_MAKE, ROOT, ProjectTest, traced
+
+sys.path.insert(0, str(ROOT / "tools"))
+
+from mkcheck_record.tracing import flags_of  # noqa: E402
 
 GNU = "GNU Make" in os.popen("make --version 2>/dev/null").read()
 SUB = {"sub/makefile": "x: y\n\tcp y x\n", "sub/y": ""}
@@ -90,6 +95,27 @@ class SubMakeTest(ProjectTest):
             (outcome.status, outcome.errors),
             (2, "mkcheck-record: --opaque c: the goals reach no recipe of that name\n"),
         )
+
+
+    @unittest.skipUnless(shutil.which("make"), "no make")
+    def test_operands_reach_an_opaque_one(self) -> None:
+        self.write(
+            {
+                "makefile": "out:\n\tcd sub && make\n",
+                "sub/makefile": "X = own\nall: ; cat $(X) > ../out; echo '$(Y)' > y\n",
+                "sub/own": "",
+                "sub/other": "",
+            }
+        )
+        outcome = self.recorded("--opaque", "out", "X=other", "Y=a \\ $$(X) b")
+        self.assertEqual(outcome.own("out")[0], {"sub/makefile", "sub/other"})
+        for word, value in (
+            ("X=1", "X=1"),
+            ("X=a b", "X=a\\ b"),
+            ("X=$(Y)\\", "X=$$(Y)\\\\"),
+        ):
+            self.assertEqual(flags_of(dict([word.split("=")])), value)
+        self.assertEqual(flags_of({"X": "1", "Y": "2"}), "X=1 Y=2")
 
 
 @traced
@@ -181,7 +207,7 @@ class MacroTest(ProjectTest):
             self.assertEqual((outcome.status, outcome.book), (2, None), outcome.errors)
             begin = f"mkcheck-record: the makefile sets {option}"
             self.assertTrue(outcome.errors.startswith(begin), outcome.errors)
-            end = f"in MAKEFLAGS, by which GNU make {what}: take it out of the makefile\n"
+            end = f"in MAKEFLAGS, by which GNU make {what}: take it out\n"
             self.assertTrue(outcome.errors.endswith(end), outcome.errors)
 
     def test_built_in_rules_of_gnu_make(self) -> None:

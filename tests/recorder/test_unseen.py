@@ -200,9 +200,10 @@ class ScratchTest(Refusals):
         self.assertEqual(
             said,
             (
-                "mkcheck-record: the recipe of a makes and takes away t 1, which that of b uses too:"
-                " with several jobs they destroy each other's, and footprints can't hold that name,"
-                " for a blank, a control character or a byte that isn't UTF-8: give each its own\n"
+                "mkcheck-record: the recipe of a makes and takes away t 1, which that of b uses"
+                " too: with several jobs they destroy each other's, and footprints can't hold that"
+                " name, for a blank, a control character or a byte that isn't UTF-8: give each its"
+                " own\n"
             ),
         )
         outcome = self.of("a: x\n\tcp x 't 1'; mv 't 1' a\n", {"x": ""})

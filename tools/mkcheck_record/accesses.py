@@ -49,15 +49,15 @@ class Accesses:
 
     `touched` has all that it ever wrote or took away, `made` what of that wasn't there before, and
     `lost` what it took away and hadn't made. `missed` has what it would have taken away, had it
-    been there. `alone` has the files outside of the folder that it made as `mkstemp` does. `folders`
-    has the folders that it made, `owned` the others to which it gave a mode, an owner or an
-    attribute, and `stamped` what it gave a stamp other than the present time. `moved` has the new names of what
-    it renamed, which may be folders. `aliases` has names that lead over a symbolic link. `over` has
-    the links that no recipe made and that it went over. `makes` has the makes that it started, each
-    with the folder in which that went to work, and `strange` what it did that a trace can't follow.
-    `servers` has whom it asked over a socket that isn't one of its own `sockets`. `looked` has the
-    paths at which it looked, where that is traced, and `listed` the folders whose names it may have
-    read.
+    been there. `alone` has the files outside of the folder that it made as `mkstemp` does.
+    `folders` has the folders that it made, `owned` the others to which it gave a mode, an owner or
+    an attribute, and `stamped` what it gave a stamp other than the present time. `moved` has the
+    new names of what it renamed, which may be folders. `aliases` has names that lead over a
+    symbolic link. `over` has the links that no recipe made and that it went over. `makes` has the
+    makes that it started, each with the folder in which that went to work, and `strange` what it
+    did that a trace can't follow. `servers` has whom it asked over a socket that isn't one of its
+    own `sockets`. `looked` has the paths at which it looked, where that is traced, and `listed` the
+    folders whose names it may have read.
     """
 
     tree: Tree

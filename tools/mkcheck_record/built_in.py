@@ -1,5 +1,5 @@
-"""Built-in rules of GNU make that mkcheck's default text lacks, where they make a file that counts as
-a source here.
+"""Built-in rules of GNU make that mkcheck's default text lacks, where they make a file that counts
+as a source here.
 """
 
 from __future__ import annotations

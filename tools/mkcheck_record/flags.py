@@ -1,4 +1,4 @@
-"""Options that a makefile gives to make by the macro MAKEFLAGS, as GNU make takes them from there."""
+"""Options that a makefile gives to make by the macro MAKEFLAGS: GNU make takes them from there."""
 
 from __future__ import annotations
 
@@ -94,7 +94,7 @@ def check_options(value: str, without_rules: bool, warn: Callable[[str], None]) 
     for shown, letter in options_of(value):
         front = f"the makefile sets {shown} in MAKEFLAGS"
         if letter in REFUSED:
-            raise Fault(f"{front}, by which GNU make {REFUSED[letter]}: take it out of the makefile")
+            raise Fault(f"{front}, by which GNU make {REFUSED[letter]}: take it out")
         if letter in WARNED:
             if not (letter in "rR" and without_rules):
                 warn(f"{front}, by which GNU make {WARNED[letter]}")

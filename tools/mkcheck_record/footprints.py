@@ -231,9 +231,9 @@ def warn_of_folders(recipe: Recipe, accesses: Accesses, naming: Naming, warn: Wa
         if not accesses.tree.has(path) or not has_name(path, naming):
             name = "the project's folder" if path == naming.root else f"the folder {shown(path)}"
             warn(
-                f"the recipe of {recipe.target} gives {name} another mode, owner or attribute, which"
-                " no footprint can say: other recipes may find the one or the other; let it leave"
-                " that folder as it is"
+                f"the recipe of {recipe.target} gives {name} another mode, owner or attribute,"
+                " which no footprint can say: other recipes may find the one or the other; let it"
+                " leave that folder as it is"
             )
 
 

@@ -1,5 +1,6 @@
-"""What a refusal of mkcheck means, in a sentence that says what to do. docs/REFERENCE.md has more of
-each.
+"""What a refusal of mkcheck means, in a sentence that says what to do.
+
+docs/REFERENCE.md has more of each.
 """
 
 from __future__ import annotations
@@ -21,7 +22,7 @@ MEANINGS = {
     22: "mkcheck doesn't judge :=, which makes read differently; write ::=",
     23: "mkcheck doesn't judge rules with two colons; write one rule for the target",
     24: "mkcheck doesn't judge macros of some targets alone; write the value into their recipes",
-    25: "the line is no rule, no macro and no include of POSIX: ifeq, define and the like are others",
+    25: "the line is no rule, macro or include of POSIX; ifeq, define and so on are GNU make's",
     26: "the command stands below no rule",
     27: "a word of the line is no name: a pattern with %, a * or the like",
     28: "mkcheck doesn't judge members of archives; make the archive anew from its objects",

@@ -53,9 +53,10 @@ def namespace() -> Namespace | None:
     allows none.
 
     It has its own System V shared memory and message queues too, which no trace shows: what one
-    command leaves there, no other one finds. Root needs no user namespace. Others get a user namespace, in which they are root for
-    the mount and then themselves again; where unshare is too old for that, programs see the user 0.
-    Files belong to the user who started this program in each case.
+    command leaves there, no other one finds. Root needs no user namespace. Others get a user
+    namespace, in which they are root for the mount and then themselves again; where unshare is too
+    old for that, programs see the user 0. Files belong to the user who started this program in each
+    case.
     """
     unshare = shutil.which("unshare")
     if unshare is None or shutil.which("mount") is None:

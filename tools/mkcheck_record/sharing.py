@@ -21,8 +21,9 @@ from .footprints import Footprint, Warn, shown
 
 @dataclass
 class Uses:
-    """Targets by names: whose recipes use a file, or one in a folder; which write in a folder; which
-    take a name away; and which give a folder a mode."""
+    """Targets by names: whose recipes use a file, or one in a folder; which write in a folder;
+    which take a name away; and which give a folder a mode.
+    """
 
     users: dict[str, set[str]] = field(default_factory=dict)
     fillers: dict[str, set[str]] = field(default_factory=dict)
@@ -84,8 +85,8 @@ def with_modes(footprint: Footprint, uses: Uses, warn: Warn) -> Footprint:
     for name in given:
         others = told(sorted(uses.users[name] - {target}))
         warn(
-            f"the recipe of {target} gives the folder {name} another mode, owner or attribute, which"
-            f" {others} too: it counts as written by the one and read by the others"
+            f"the recipe of {target} gives the folder {name} another mode, owner or attribute,"
+            f" which {others} too: it counts as written by the one and read by the others"
         )
     writes = list(dict.fromkeys([*footprint.writes, *given]))
     used = {*footprint.scratch, *footprint.reads, *footprint.writes}

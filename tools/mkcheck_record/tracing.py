@@ -6,6 +6,7 @@ import contextlib
 import fcntl
 import functools
 import os
+import re
 import shutil
 import signal
 import subprocess
@@ -23,6 +24,8 @@ from .places import Place
 OF_MAKE = ("MAKEFLAGS", "MAKELEVEL", "MFLAGS", "MAKEOVERRIDES")
 # A variable of this name that no macro changes, by POSIX.
 SHELL = "SHELL"
+# What would end a word of MAKEFLAGS.
+SPECIAL = re.compile(r"[\s\\]")
 # Calls by which files could be opened and read unseen. Programs that are told that there are none
 # do without.
 REFUSED = ("io_uring_setup",)
@@ -68,7 +71,8 @@ def strace(links: bool = True, looking: bool = False) -> tuple[str, ...]:
 
 
 def environment(place: Place, operands: dict[str, str]) -> dict[str, str]:
-    """What recipes find in their environment: macro operands too, as make hands them down.
+    """What recipes find in their environment: macro operands too, as make hands them down, and in
+    MAKEFLAGS, for makes that recipes start.
 
     SHELL stays as it is, also where it isn't set: no macro changes it. PWD stays as it is where it
     names the folder, be it over a link, as a make started there would leave it.
@@ -80,7 +84,14 @@ def environment(place: Place, operands: dict[str, str]) -> dict[str, str]:
         same = named.startswith("/") and os.path.samefile(named, place.seen)
     except OSError:
         same = False
-    return {**kept, **handed, "PWD": named if same else place.seen}
+    flags = {"MAKEFLAGS": flags_of(operands)} if operands else {}
+    return {**kept, **handed, **flags, "PWD": named if same else place.seen}
+
+
+def flags_of(operands: dict[str, str]) -> str:
+    """Macro operands as words of MAKEFLAGS, which a make takes apart and expands."""
+    words = (f"{name}={value.replace('$', '$$')}" for name, value in operands.items())
+    return " ".join(SPECIAL.sub(r"\\\g<0>", word) for word in words)
 
 
 @dataclass

@@ -37,8 +37,8 @@ class Tree:
 
     `there` has its files of each kind, and links with them; `folders` has its folders. `owners` has
     the permissions of files and folders. `links` has the texts of symbolic links, of those
-    elsewhere too that were met. `made` has the links that recipes made. `users` has, for each file of several names, the names that were used, each with
-    the first target whose recipe did.
+    elsewhere too that were met. `made` has the links that recipes made. `users` has, for each file
+    of several names, the names that were used, each with the first target whose recipe did.
     """
 
     place: Place

@@ -80,8 +80,8 @@ class World:
     `folder` is the project's, `place` where the recipes run; they are one where no copy was made.
     `begun` is the time of the clock when the copy was made. `inside` has the names in each folder
     as they are now. `current` has the names that recipes wrote or took away, and `makers` the
-    folders that they made, each with the targets of these recipes. `modes` has those of folders: one
-    mapping, until a recipe changes it.
+    folders that they made, each with the targets of these recipes. `modes` has those of folders:
+    one mapping, until a recipe changes it.
     """
 
     folder: str
