@@ -58,7 +58,9 @@ class Tree:
         waiting = [(place.folder, place.seen)]
         while waiting:
             folder, seen = waiting.pop()
-            tree.owners[seen] = Owner.of(os.stat(folder))
+            status = tree.status(seen)
+            if status is not None:
+                tree.owners[seen] = Owner.of(status)
             for entry in entries_of(folder):
                 path = os.path.join(seen, entry.name)
                 if entry.is_dir(follow_symlinks=False):
