@@ -15,6 +15,7 @@ from project import ROOT, Outcome, ProjectTest, compiled, traced
 sys.path.insert(0, str(ROOT / "tools"))
 
 from mkcheck_record import places  # noqa: E402
+from mkcheck_record.sharing import matches  # noqa: E402
 
 ARCHIVES = unittest.skipUnless(shutil.which("tar"), "no tar")
 
@@ -133,6 +134,38 @@ class ScratchTest(Refusals):
             (outcome.own("a"), outcome.own("b")), (({"x"}, {"a", "t"}), ({"x"}, {"b", "t"}))
         )
         self.assertEqual(self.check(), ["no writers a b t"])
+
+    def test_a_pattern_that_matched_nothing(self) -> None:
+        for pattern, name in (("*.o", "1.o"), ("d/[12].?", "d/1.o"), ("d/*", "d/e/1.o")):
+            outcome = self.of(
+                f"all: a {name}\na: x\n\trm -rf {pattern}; cp x a\n"
+                f"{name}: x\n\tmkdir -p d/e; cp x {name}\n",
+                {"x": ""},
+            )
+            self.assertEqual(
+                (outcome.own("a"), outcome.own(name)), (({"x"}, {"a", name}), ({"x"}, {name}))
+            )
+            self.assertIn(f"the recipe of a would take away {name}, ", outcome.errors)
+            self.assertEqual(self.check(), [f"no writers a {name} {name}"])
+        outcome = self.of(
+            (
+                "all: a b e/x.o\na: x\n\trm -f *.o d/*.o; cp x a.o; cp x a\n"
+                "b: a\n\tcp a.o b\ne/x.o: x\n\tmkdir -p e; cp x e/x.o\n"
+            ),
+            {"x": ""},
+        )
+        self.assertEqual((outcome.own("a"), outcome.warnings()), (({"x"}, {"a", "a.o"}), []))
+        for pattern, name, matched in (
+            ("*.o", "x.o", True),
+            ("*.o", ".x.o", False),
+            (".*.o", ".x.o", True),
+            ("*", "d/x", True),
+            ("d*", "d/x", True),
+            ("*.o", "d/x.o", False),
+            ("d/?", "d/xy", False),
+            ("d/[!x]y", "d/zy", True),
+        ):
+            self.assertEqual(matches(pattern, name), matched, (pattern, name))
 
     def test_removals_in_vain_that_disturb_nobody(self) -> None:
         outcome = self.of(

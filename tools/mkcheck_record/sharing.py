@@ -3,7 +3,8 @@
 With several jobs such recipes destroy each other's. No footprint would show it, since nothing is
 left. So the name is put into the writes of each, and `mkcheck check` finds two writers. A recipe
 that would have taken a file away, had it been there, counts as one that does: with several jobs, or
-another time, it is there.
+another time, it is there. Where a pattern such as `*.o` matches nothing, the shell leaves it as it
+is, and the program gets it for a name.
 
 A folder to which a recipe gave a mode is put into its writes, and into the reads of the recipes
 that use it or what is in it.
@@ -11,12 +12,17 @@ that use it or what is in it.
 
 from __future__ import annotations
 
+import fnmatch
+import re
 from collections.abc import Iterable
 from dataclasses import dataclass, field, replace
 
 from .faults import RecipeFault
 from .folders import is_plain_path
 from .footprints import Footprint, Warn, shown
+
+
+PATTERN = re.compile(r"[*?\[]")
 
 
 @dataclass
@@ -57,10 +63,32 @@ class Uses:
 
 def with_shared(footprints: list[Footprint], warn: Warn) -> list[Footprint]:
     """The footprints, with shared names in the writes of each recipe that made or removed them."""
+    footprints = with_matches(footprints)
     uses = Uses()
     for footprint in footprints:
         uses.take(footprint)
     return [with_modes(with_own(footprint, uses, warn), uses, warn) for footprint in footprints]
+
+
+def with_matches(footprints: list[Footprint]) -> list[Footprint]:
+    """The footprints, which miss too what others write and their own patterns match."""
+    written = {name for footprint in footprints for name in (*footprint.writes, *footprint.scratch)}
+    found = []
+    for footprint in footprints:
+        patterns = [name for name in footprint.missed if PATTERN.search(name)]
+        missed = {name for name in written if any(matches(one, name) for one in patterns)}
+        missed.difference_update(footprint.writes, footprint.scratch)
+        found.append(replace(footprint, missed=footprint.missed | missed))
+    return found
+
+
+def matches(pattern: str, name: str) -> bool:
+    """Whether a shell's pattern matches a name, or a folder in which that lies."""
+    parts, words = name.split("/"), pattern.split("/")
+    return len(parts) >= len(words) and all(
+        fnmatch.fnmatchcase(part, word) and (part[:1] != "." or word[:1] == ".")
+        for part, word in zip(parts, words)
+    )
 
 
 def with_own(footprint: Footprint, uses: Uses, warn: Warn) -> Footprint:
