@@ -47,6 +47,19 @@ class PlainTest(MakeFolderTest):
         )
         self.try_answer(answer)
 
+    def test_built_in_rules_that_the_translation_needs_not(self) -> None:
+        self.write(
+            {
+                "Makefile": "MAKEFLAGS += -r\nsum: a.out\n\tcat a.out a > sum\n",
+                "a.out": "1\n",
+                "a": "2\n",
+            }
+        )
+        answer = self.imported("sum")
+        self.assertNotIn("built-in", answer.output + answer.errors)
+        self.assertNotIn("MAKEFLAGS", answer.output + answer.errors)
+        self.assertEqual(answer.findings, ["no stale sum a"])
+
     def test_stale(self) -> None:
         self.write(
             {

@@ -239,7 +239,10 @@ class Import:
         """Whether the recorder warns of what the translation says already.
 
         Dependency files that a configure step left empty are there before, and recipes write them.
+        Built-in rules of GNU make stand in the translation where make uses them.
         """
+        if re.match(r"warning: GNU make makes \S+ from \S+ by a built-in rule", warning):
+            return True
         found = re.match(r"warning: (\S+) was there before, and a recipe writes it", warning)
         return found is not None and found.group(1) in self.build.configured
 
