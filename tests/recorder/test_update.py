@@ -406,13 +406,14 @@ class StateTest(UpdateTest):
         )
         self.assertEqual(
             self.all_again("CC=cc", environment={"A_VARIABLE": "2"}),
-            "was written under other conditions ($A_VARIABLE, $CC)",
+            "was written under other conditions ($A_VARIABLE, $CC, $MAKEFLAGS)",
         )
         self.assertNotIn("A_VARIABLE=", self.state.read_text())
         outcome = self.update(environment={"TERM": "other", "SHLVL": "7"})
         self.assertEqual(
             self.told(outcome)[0],
-            f"{self.state} was written under other conditions ($A_VARIABLE, $CC): {ALL}",
+            f"{self.state} was written under other conditions ($A_VARIABLE, $CC, $MAKEFLAGS):"
+            f" {ALL}",
         )
         self.assertEqual(self.count(self.update(environment={"TERM": "another", "SHLVL": "8"})), 0)
 
