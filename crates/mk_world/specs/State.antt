@@ -1,5 +1,5 @@
 -- The state of a world as lists, and the world that it represents.
-use Rattle.std.specs.Prelude.{◌≡◌, ℕ, List, [], ◌∷◌, map, max, filter, not, nat_eq, length, replicate, Option, None, Some, option_map, slice_index_or, slice_set, unwrap_or}
+use Rattle.std.specs.Prelude.{◌≡◌, ℕ, List, [], ◌∷◌, map, filter, not, nat_eq, length, replicate, Option, None, Some, option_map, slice_index_or, slice_set, unwrap_or}
 use Rattle.mk_lines.specs.Names.{place_from}
 use Rattle.mk_foot.specs.Setting as recorded
 use Rattle.mk_graph.specs.declared.node.Node.{Node}
@@ -76,16 +76,6 @@ disk_of d =
     record {
       files = λ f. option_map file_of (look d.names d.files f);
       clock = d.clock;
-      known = d.known;
-    }
-
--- The disk with its clock advanced to this stamp, unless it is already there or later.
-abbrev pub aged : DiskState → ℕ → DiskState
-aged d stamp =
-    record {
-      names = d.names;
-      files = d.files;
-      clock = max d.clock stamp;
       known = d.known;
     }
 

@@ -9,7 +9,7 @@ ghost use Rattle.mk_graph.specs.World.{content, written, last_stamp, outcome};
 ghost use Rattle.mk_graph.specs.Steps.{noted};
 ghost use Rattle.mk_graph.specs.Setting.{FileName};
 ghost use Rattle.mk_world.specs.Places.{content_at, place_among};
-ghost use Rattle.mk_world.specs.State.{aged, disk_of, finished};
+ghost use Rattle.mk_world.specs.State.{disk_of, finished};
 
 use crate::file::{File, Listed};
 use crate::first::first_files;
@@ -95,13 +95,6 @@ impl<'a> Disk<'a> {
         ensures { result ≡ self.now.clock }
     {
         self.clock
-    }
-
-    /// Advances the clock to this stamp, unless it is already there or later.
-    pub fn age(&mut self, stamp: u64)
-        ensures { self.new ≡ aged self.old stamp }
-    {
-        self.clock = self.clock.max(stamp);
     }
 
     /// What the recipe is known to write after reading this, or `None` if that isn't known.

@@ -6,7 +6,7 @@ ghost use Rattle.mk_graph.specs.Steps as model;
 ghost use Rattle.mk_graph.specs.Setting.{reads, writes};
 ghost use Rattle.mk_graph.specs.SerialMake.{rest_of_run, whole_run};
 ghost use Rattle.mk_world.specs.NamedStep.{step_view};
-ghost use Rattle.mk_world.specs.State.{aged, disk_of, number_of, setting};
+ghost use Rattle.mk_world.specs.State.{disk_of, number_of, setting};
 ghost use Rattle.mk_world.specs.First.{AreNamesOf, AreSorted};
 ghost use Rattle.mk_world.specs.Listing.{listing};
 ghost use Rattle.mk_world.specs.Steps.{Answers, IsFirstOf, MayTake, MayTakeAll, TakesAllowed, step_of};
@@ -192,18 +192,6 @@ impl<'a> World<'a> {
         ensures { result ≡ self.now.disk.clock }
     {
         self.disk.clock()
-    }
-
-    /// Advances the clock to this stamp, unless it is already there or later. The next write has a
-    /// later stamp. No file changes.
-    pub fn age(&mut self, stamp: u64)
-        ensures { self.new ≡ record {
-          scene = self.old.scene;
-          disk = aged self.old.disk stamp;
-          make = self.old.make;
-        } }
-    {
-        self.disk.age(stamp);
     }
 
     /// What `finish` writes for a recipe: the known outcome for what its reads contain now, or, if

@@ -92,18 +92,6 @@ const TWO_ROWS: &str =
 make 1/begin p/begin q => refused 64 line 3/s 1 1/
 make 1/begin p/finish p/begin q => plan ok/";
 
-/// Plans for the build with one recipe, each after the stamp to which the clock is advanced.
-const LATE_ROWS: &str = "18446744073709551615 edit a => refused 59 line 1/a 1 1/
-18446744073709551615 make 1/begin b/look b a/put b b 7 => refused 59 line 4/a 1 1/
-18446744073709551615 make 1/begin b/finish b => refused 59 line 3/a 1 1/
-18446744073709551614 edit a 5/edit a 6 => refused 59 line 2/a 5 18446744073709551615/
-18446744073709551614 make 1/run b/end/edit a => a 1 1/b 18446744073709551615 18446744073709551615/
-    refused 59 line 4/a 1 1/b 18446744073709551615 18446744073709551615/
-18446744073709551613 edit a/make 1/run b/end => a 18446744073709551614 18446744073709551614/
-    b 18446744073709551615 18446744073709551615/plan ok/
-1 edit a/make 1/run b/end => a 2 2/b 3 3/plan ok/
-0 edit a/make 1/run b/end => a 2 2/b 3 3/plan ok/";
-
 /// The number of a fault, 0 for out of memory.
 fn number_of(fault: &StepFault) -> usize {
     match fault {
@@ -143,9 +131,8 @@ fn printed_in(alloc: Global, world: &World, run: &Run) -> Result<String, AllocEr
     printed(alloc, run, files.as_str())
 }
 
-/// What the run of a plan prints after the clock is advanced to a stamp.
-fn run_in(alloc: Global, world: &mut World, stamp: u64, plan: &Plan) -> Result<String, AllocError> {
-    world.age(stamp);
+/// What the run of a plan prints.
+fn run_in(alloc: Global, world: &mut World, plan: &Plan) -> Result<String, AllocError> {
     let run = run_plan(alloc, world, plan)?;
     let text = printed_in(alloc, world, &run);
     drop(run);
@@ -157,11 +144,10 @@ fn simulated(
     alloc: Global,
     graph: &Graph,
     setting: &Setting,
-    stamp: u64,
     plan: &Plan,
 ) -> Result<String, AllocError> {
     let mut world = World::new(alloc, graph, setting)?;
-    let text = run_in(alloc, &mut world, stamp, plan);
+    let text = run_in(alloc, &mut world, plan);
     drop(world);
     text
 }
@@ -174,31 +160,15 @@ fn line_of(alloc: Global, fault: PlanFault) -> Result<String, AllocError> {
     }
 }
 
-/// What the run of a text as a plan prints after the clock is advanced to a stamp, or the line at
-/// which it isn't a plan.
-fn ran_at(
-    alloc: Global,
-    graph: &Graph,
-    setting: &Setting,
-    stamp: u64,
-    plan: &[u8],
-) -> Result<String, AllocError> {
+/// What the run of a text as a plan prints, or the line at which it isn't a plan.
+fn ran(alloc: Global, graph: &Graph, setting: &Setting, plan: &[u8]) -> Result<String, AllocError> {
     match read_plan(alloc, plan) {
         Ok(plan) => {
-            let text = simulated(alloc, graph, setting, stamp, &plan);
+            let text = simulated(alloc, graph, setting, &plan);
             drop(plan);
             text
         }
         Err(fault) => line_of(alloc, fault),
-    }
-}
-
-/// The stamp before a plan, 0 if there is none, and the plan.
-fn late_of(plan: &str) -> (u64, &str) {
-    let (front, rest) = plan.split_once(' ').unwrap_or((plan, ""));
-    match front.parse::<u64>() {
-        Ok(stamp) => (stamp, rest),
-        Err(_) => (0, plan),
     }
 }
 
@@ -211,9 +181,8 @@ fn see_row(
     row: &str,
 ) -> Result<(), AllocError> {
     let (plan, want) = row.split_once(" => ").unwrap_or((row, ""));
-    let (stamp, plan) = late_of(plan);
     let plan = lines_of(alloc, plan)?;
-    let got = ran_at(alloc, graph, setting, stamp, plan.as_bytes())?;
+    let got = ran(alloc, graph, setting, plan.as_bytes())?;
     let want = lines_of(alloc, want.trim_start())?;
     same(rt, got.as_str(), want.as_str(), row);
     Ok(())
@@ -262,7 +231,6 @@ pub fn see_plans(
 /// Nodes, goals, a footprint file, and rows of plans.
 const PLANS: &[(&str, &[usize], &str, &str)] = &[
     ("b!:1 a", &[0], COPY, COPY_ROWS),
-    ("b!:1 a", &[0], COPY, LATE_ROWS),
     ("b!:1 a", &[0], COPY, REFUSED_ROWS),
     ("c!:1 b!:2 a", &[0, 1], COPIES, COPIES_ROWS),
     ("all:12 p!:3 q!:3 s", &[0], TWO, TWO_ROWS),
