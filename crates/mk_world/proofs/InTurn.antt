@@ -1,5 +1,5 @@
 -- Steps that are taken one after another.
-use Rattle.std.proofs.Common.{◌≡◌, ◌<◌, List, [], ◌∷◌, ◌++◌, length, Result, Ok, Err, refl, sym, subst, arith, inl, inr, append_assoc}
+use Rattle.std.proofs.Common.{◌≡◌, ◌<◌, List, [], ◌∷◌, ◌++◌, length, Result, Ok, Err, refl, sym, ap, subst, arith, inl, inr, append_assoc}
 use Rattle.std.specs.Prelude.{OnErr}
 use Rattle.mk_graph.specs.Graph.{Graph}
 use Rattle.mk_graph.specs.Setting.{Setting}
@@ -9,7 +9,7 @@ use Rattle.mk_world.specs.declared.fault.StepFault.{StepFault}
 use Rattle.mk_world.specs.declared.fault.StepFault.TheVariants.{Memory}
 use Rattle.mk_world.specs.State.{Scene, setting}
 use Rattle.mk_world.specs.Steps.{Judges}
-use Rattle.mk_world.specs.Running.{TakesInTurn, LeadsTo}
+use Rattle.mk_world.specs.Running.{TakesInTurn, LeadsTo, LeavesPartly}
 
 -- a step that is taken, before others
 pub turn_next : (scene : Scene) (old mid new : World) (one : Step) (steps : List Step) (r : Result (Unit {0}) StepFault) → Judges scene old mid one (Ok tt) → TakesInTurn scene.graph (setting scene) mid new steps r → TakesInTurn scene.graph (setting scene) old new (one ∷ steps) r
@@ -48,6 +48,16 @@ turn_stops g s old new (x ∷ first) steps fault h = elim h [
 pub turn_short : (g : Graph) (s : Setting) (old : World) (steps : List Step) → 0 < length steps → TakesInTurn g s old old steps (Err Memory)
 turn_short g s old [] some = absurd (omega arith)
 turn_short g s old (one ∷ steps) some = inr (record { fault = Memory; is = refl; first = inl refl; unchanged = refl })
+
+-- of steps that are taken in turn the first are taken
+pub turn_front : (g : Graph) (s : Setting) (old new : World) (steps : List Step) (r : Result (Unit {0}) StepFault) → TakesInTurn g s old new steps r → LeavesPartly g s old new steps
+turn_front g s old new [] r h = record { front = []; rest = []; are = refl; leaves = h.0 }
+turn_front g s old new (one ∷ steps) r h = elim h [
+  | inl t ↦
+      let later = turn_front g s (after g s old one) new steps r t.1 in
+      record { front = one ∷ later.front; rest = later.rest; are = ap (λ (l : List Step). one ∷ l) later.are; leaves = later.leaves }
+  | inr refused ↦ record { front = []; rest = one ∷ steps; are = refl; leaves = refused.unchanged }
+]
 
 -- steps that are taken in turn lead somewhere
 pub turn_leads : (g : Graph) (s : Setting) (old new : World) (steps : List Step) (r : Result (Unit {0}) StepFault) → TakesInTurn g s old new steps r → LeadsTo g s old new

@@ -1,9 +1,10 @@
 -- Lines of plans that are followed.
-use Rattle.std.proofs.Common.{◌≡◌, ℕ, suc, ◌+◌, ◌<◌, Bool, true, false, cond, List, [], ◌∷◌, ◌++◌, length, map, Option, Some, None, option_map, Result, Ok, Err, refl, sym, ap, ◌∙◌, subst, arith, inl, inr, ◌⊎◌, unwrap_or, get_or, drop}
-use Rattle.std.specs.Prelude.{OnOk, IfErr}
+use Rattle.std.proofs.Common.{◌≡◌, ℕ, suc, ◌+◌, ◌<◌, Bool, true, false, cond, List, [], ◌∷◌, ◌++◌, length, map, Option, Some, None, option_map, Result, Ok, Err, refl, sym, ap, ◌∙◌, subst, arith, inl, inr, ◌⊎◌, unwrap_or, get_or, drop, take}
+use Rattle.std.specs.Prelude.{OnOk, OnErr, IfErr}
+use Rattle.std.specs.declared.alloc.AllocError.{AllocError}
 use Rattle.std.specs.List.{flat_map}
 use Rattle.std.specs.Str.{bytes_eq}
-use Rattle.std.proofs.lemmas.List.{length-map, append_assoc, drop_more, append-nil}
+use Rattle.std.proofs.lemmas.List.{length-map, append_assoc, drop_more, append-nil, take-append-drop, take_more}
 use Rattle.std.proofs.lemmas.Bool.{false≢true}
 use Rattle.mk_lines.specs.Names.{place_from}
 use Rattle.mk_graph.specs.declared.node.Node.{Node}
@@ -22,9 +23,12 @@ use Rattle.mk_world.specs.declared.file.Listed.{Listed}
 use Rattle.mk_world.specs.State.{State, DiskState, MakeState, Scene, setting, disk_of, world_of, world_in, number_of, file_of}
 use Rattle.mk_world.specs.Tables.{look}
 use Rattle.mk_world.specs.Listing.{there_among, entry, listing, listed_as}
-use Rattle.mk_world.specs.Running.{TakesInTurn, is_node, listed_at, files_text, file_text, steps_of, own_steps, Follows, Stage, stage_of, is_known, Prepares, AnswersInTurn, AnswersLine, IsRefusal, RunsTo, printed, LeadsTo}
+use Rattle.mk_world.specs.Running.{TakesInTurn, is_node, listed_at, files_text, file_text, steps_of, own_steps, Follows, Stage, stage_of, is_known, Prepares, AnswersInTurn, AnswersLine, IsRefusal, RunsTo, printed, LeadsTo, PassesSomeIn, PassesSomeBefore, FollowsPartly, StopsIn, RunsPartly}
 use Rattle.mk_world.specs.declared.plan.PlanCommand.{PlanCommand}
+use Rattle.mk_world.specs.declared.plan.PlanCommand.TheVariants as command
 use Rattle.mk_world.specs.declared.plan.PlanLine as planned
+use Rattle.mk_world.proofs.Fronts.{fronts_first}
+use Rattle.mk_world.proofs.Idle.{passes_lead}
 use Rattle.mk_world.proofs.InTurn.{turn_leads, leads_on}
 use Rattle.mk_world.proofs.Tables.{unplaced}
 
@@ -119,6 +123,24 @@ follows old mid new order r known before own =
       takes = subst (λ (k : Scene). TakesInTurn k.graph (setting k) (world_of mid) (world_of new) (own_steps k.graph (setting k) (model.disk_of (world_of mid)) order) r) before.scene takes;
     }
 
+-- passes of idle nodes lead somewhere
+in_lead : (g : Graph) (s : Setting) (old new : World) → PassesSomeIn g old new → LeadsTo g s old new
+in_lead g s (Idle d) new h = record { steps = []; legal = tt; leaves = h }
+in_lead g s (Busy m d) new h = subst (λ (w : World). LeadsTo g s (Busy m d) w) (sym h.leaves) (passes_lead g s d m h.nodes h.end h.passes)
+
+before_lead : (g : Graph) (s : Setting) (order : PlanCommand) (old new : World) → PassesSomeBefore g order old new → LeadsTo g s old new
+before_lead g s (command.Make jobs goals) old new h = record { steps = []; legal = tt; leaves = h }
+before_lead g s command.Stop old new h = record { steps = []; legal = tt; leaves = h }
+before_lead g s (command.Begin t) old new h = in_lead g s old new h
+before_lead g s (command.Look t f) old new h = record { steps = []; legal = tt; leaves = h }
+before_lead g s (command.Put t f c) old new h = record { steps = []; legal = tt; leaves = h }
+before_lead g s (command.Done t) old new h = record { steps = []; legal = tt; leaves = h }
+before_lead g s (command.Finish t) old new h = record { steps = []; legal = tt; leaves = h }
+before_lead g s (command.Run t) old new h = in_lead g s old new h
+before_lead g s (command.Pass t) old new h = in_lead g s old new h
+before_lead g s command.End old new h = in_lead g s old new h
+before_lead g s (command.Edit f c) old new h = record { steps = []; legal = tt; leaves = h }
+
 -- a line that is followed
 pub line_followed : (old mid new : State) (order : PlanCommand) (r : Result (Unit {0}) StepFault) → is_known old.scene.graph old.disk.names order ≡ true → Prepares old mid order (Ok tt) → AnswersInTurn mid new (steps_of mid order) r → AnswersLine old new order r
 unfolding follows
@@ -129,51 +151,29 @@ line_followed old mid new order r known before own =
       names = own.names ∙ before.names;
       ok = on_ok r all;
       err = on_err r all;
-      leads = leads_on old.scene.graph (setting old.scene) (world_of old) (world_of mid) (world_of new) before.leads (turn_leads old.scene.graph (setting old.scene) (world_of mid) (world_of new) _ r all.takes);
+      leads = leads_on old.scene.graph (setting old.scene) (world_of old) (world_of mid) (world_of new) (before_lead old.scene.graph (setting old.scene) order (world_of old) (world_of mid) before.some) (turn_leads old.scene.graph (setting old.scene) (world_of mid) (world_of new) _ r all.takes);
     }
   where
     on_ok : (r : Result (Unit {0}) StepFault) → Follows (stage_of old) (world_of old) (world_of new) order r → OnOk r (Follows (stage_of old) (world_of old) (world_of new) order (Ok tt))
     on_ok (Ok done) h = h
     on_ok (Err fault) h = tt
 
-    on_err : (r : Result (Unit {0}) StepFault) → Follows (stage_of old) (world_of old) (world_of new) order r → IfErr r (λ fault. (fault ≡ Memory) ⊎ IsRefusal (stage_of old) (world_of old) (world_of new) order fault)
+    on_err : (r : Result (Unit {0}) StepFault) → Follows (stage_of old) (world_of old) (world_of new) order r → IfErr r (λ fault. ((fault ≡ Memory) × FollowsPartly (stage_of old) (world_of old) (world_of new) order) ⊎ IsRefusal (stage_of old) (world_of old) (world_of new) order fault)
     on_err (Ok done) h = tt
-    on_err (Err fault) h = elim (memory_or fault) [ inl e ↦ inl e | inr not ↦ inr (inr (not, h)) ]
+    on_err (Err fault) h = elim (memory_or fault) [
+      | inl e ↦ inl (e, inr (subst (λ (f : StepFault). Follows (stage_of old) (world_of old) (world_of new) order (Err f)) e h))
+      | inr not ↦ inr (inr (not, h))
+    ]
 
--- What the run of the lines that are left makes of the run of all.
-pub record LinesLeft (stage : Stage) (first now : World) (all left : List planned.PlanLine) (text : List ℕ) : Type 0 where
-  pub each : (later : List ℕ) (refused : Option (ℕ × StepFault)) (new : World) → RunsTo stage now left later refused new → RunsTo stage first all (text ++ later) refused new
-
-pub nothing_run : (stage : Stage) (first : World) (all : List planned.PlanLine) (text : List ℕ) → text ≡ [] → LinesLeft stage first first all all text
-nothing_run stage first all text none = record { each = λ later refused new h. subst (λ (t : List ℕ). RunsTo stage first all (t ++ later) refused new) (sym none) h }
-
--- a line is followed
-pub one_run : (stage : Stage) (first now behind : World) (all left rest : List planned.PlanLine)
-    (line : planned.PlanLine) (text more : List ℕ) → LinesLeft stage first now all left text → left ≡ line
-    ∷ rest → Follows stage now behind line.order (Ok tt) → more ≡ text
-    ++ printed stage.names line.order behind → LinesLeft stage first behind all rest more
-one_run stage first now behind all left rest line text more so_far is follow prints =
-    record {
-      each = λ later refused new h.
-          let taken = subst (λ (l : List planned.PlanLine). RunsTo stage now l (printed stage.names line.order behind ++ later) refused new) (sym is) (inl (behind, later, follow, h, refl)) in
-          let joined = ap (λ (t : List ℕ). t ++ later) prints ∙ append_assoc text (printed stage.names line.order behind) later in
-          subst (λ (t : List ℕ). RunsTo stage first all t refused new) (sym joined) (so_far.each (printed stage.names line.order behind ++ later) refused new taken);
-    }
-
--- a line is refused
-pub one_refused : (stage : Stage) (first now new : World) (all left rest : List planned.PlanLine)
-    (line : planned.PlanLine) (text : List ℕ) (fault : StepFault) → LinesLeft stage first now all left text
-    → left ≡ line ∷ rest → IsRefusal stage now new line.order fault
-    → RunsTo stage first all text (Some (line.number, fault)) new
-one_refused stage first now new all left rest line text fault so_far is refusal =
-    let taken = subst (λ (l : List planned.PlanLine). RunsTo stage now l [] (Some (line.number, fault)) new) (sym is) (inr (fault, refusal, refl, refl)) in
-    subst (λ (t : List ℕ). RunsTo stage first all t (Some (line.number, fault)) new) (append-nil text) (so_far.each [] (Some (line.number, fault)) new taken)
-
--- all lines are followed
-pub all_run : (stage : Stage) (first now : World) (all left : List planned.PlanLine) (text : List ℕ) → LinesLeft stage first now all left text → left ≡ [] → RunsTo stage first all text None now
-all_run stage first now all left text so_far none =
-    let taken = subst (λ (l : List planned.PlanLine). RunsTo stage now l [] None now) (sym none) (refl, refl, refl) in
-    subst (λ (t : List ℕ). RunsTo stage first all t None now) (append-nil text) (so_far.each [] None now taken)
+-- a line whose idle nodes aren't all passed, since memory runs out
+pub line_cut : (old new : State) (order : PlanCommand) (e : AllocError) (fault : StepFault) → is_known old.scene.graph old.disk.names order ≡ true → Prepares old new order (Err e) → fault ≡ Memory → AnswersLine old new order (Err fault)
+line_cut old new order e fault known before memory = record {
+  scene = before.scene;
+  names = before.names;
+  ok = tt;
+  err = inl (memory, inl (known, before.some));
+  leads = before_lead old.scene.graph (setting old.scene) order (world_of old) (world_of new) before.some;
+}
 
 same_stage : (first now : State) → now.scene ≡ first.scene → now.disk.names ≡ first.disk.names → stage_of now ≡ stage_of first
 same_stage first now scene names = λ i. record { graph = (scene i).graph; setting = setting (scene i); names = names i }
@@ -186,32 +186,94 @@ pub leads_further : (first now new : State) → now.scene ≡ first.scene
 leads_further first now new scene before on =
     leads_on first.scene.graph (setting first.scene) (world_of first) (world_of now) (world_of new) before (subst (λ (k : Scene). LeadsTo k.graph (setting k) (world_of now) (world_of new)) scene on)
 
--- a line that is followed, and one that is refused, in lists
-pub line_run : (first now new : State) (all left rest : List planned.PlanLine) (line : planned.PlanLine)
-    (text more : List ℕ) → now.scene ≡ first.scene → now.disk.names ≡ first.disk.names → new.disk.names
-    ≡ now.disk.names → LinesLeft (stage_of first) (world_of first) (world_of now) all left text → left ≡ line
-    ∷ rest → Follows (stage_of now) (world_of now) (world_of new) line.order (Ok tt) → more ≡ text
-    ++ printed new.disk.names line.order (world_of new) → LinesLeft (stage_of first) (world_of first)
-    (world_of new) all rest more
-line_run first now new all left rest line text more scene names after so_far is follow prints =
-    one_run (stage_of first) (world_of first) (world_of now) (world_of new) all left rest line text more so_far is
-    (subst (λ (k : Stage). Follows k (world_of now) (world_of new) line.order (Ok tt)) (same_stage first now scene names) follow)
-    (prints ∙ ap (λ (ns : List FileName). text ++ printed ns line.order (world_of new)) (after ∙ names))
+-- A state has the stage of another one, and the run of some lines, without a refusal, leads from that one to it.
+pub record LinesRun (first now : State) (front : List planned.PlanLine) (text : List ℕ) : Type 0 where
+  pub scene : now.scene ≡ first.scene
+  pub names : now.disk.names ≡ first.disk.names
+  pub run : RunsTo (stage_of first) (world_of first) front text None (world_of now)
 
-pub line_refused : (first now new : State) (all left rest : List planned.PlanLine) (line : planned.PlanLine)
-    (text : List ℕ) (fault : StepFault) → now.scene ≡ first.scene → now.disk.names ≡ first.disk.names
-    → LinesLeft (stage_of first) (world_of first) (world_of now) all left text → left ≡ line ∷ rest
+pub nothing_run : (first : State) (text : List ℕ) → text ≡ [] → LinesRun first first [] text
+nothing_run first text none = record { scene = refl; names = refl; run = (none, refl, refl) }
+
+-- a line is followed
+pub one_run : (first now new : State) (front : List planned.PlanLine) (line : planned.PlanLine) (text more : List ℕ)
+    → LinesRun first now front text → new.scene ≡ now.scene → new.disk.names ≡ now.disk.names
+    → Follows (stage_of now) (world_of now) (world_of new) line.order (Ok tt)
+    → more ≡ text ++ printed new.disk.names line.order (world_of new)
+    → LinesRun first new (front ++ line ∷ []) more
+one_run first now new front line text more so_far scene names follow prints =
+    let stage = stage_of first in
+    let follows_there = subst (λ (k : Stage). Follows k (world_of now) (world_of new) line.order (Ok tt)) (same_stage first now so_far.scene so_far.names) follow in
+    let piece = printed stage.names line.order (world_of new) in
+    let joined : more ≡ text ++ (piece ++ []) = prints ∙ (ap (λ (ns : List FileName). text ++ printed ns line.order (world_of new)) (names ∙ so_far.names) ∙ ap (λ (t : List ℕ). text ++ t) (sym (append-nil piece))) in
+    record {
+      scene = scene ∙ so_far.scene;
+      names = names ∙ so_far.names;
+      run = (fronts_first stage (world_of first) (world_of now) front (line ∷ []) text so_far.run more None (world_of new)).1 (piece ++ [], inl (world_of new, [], follows_there, (refl, refl, refl), refl), joined);
+    }
+
+-- a line is refused
+pub one_refused : (first now new : State) (front rest : List planned.PlanLine) (line : planned.PlanLine) (text : List ℕ)
+    (fault : StepFault) → LinesRun first now front text
     → IsRefusal (stage_of now) (world_of now) (world_of new) line.order fault
-    → RunsTo (stage_of first) (world_of first) all text (Some (line.number, fault)) (world_of new)
-line_refused first now new all left rest line text fault scene names so_far is refusal =
-    one_refused (stage_of first) (world_of first) (world_of now) (world_of new) all left rest line text fault so_far is
-    (subst (λ (k : Stage). IsRefusal k (world_of now) (world_of new) line.order fault) (same_stage first now scene names) refusal)
+    → RunsTo (stage_of first) (world_of first) (front ++ line ∷ rest) text (Some (line.number, fault)) (world_of new)
+one_refused first now new front rest line text fault so_far refusal =
+    let stage = stage_of first in
+    let refused_there = subst (λ (k : Stage). IsRefusal k (world_of now) (world_of new) line.order fault) (same_stage first now so_far.scene so_far.names) refusal in
+    (fronts_first stage (world_of first) (world_of now) front (line ∷ rest) text so_far.run text (Some (line.number, fault)) (world_of new)).1 ([], inr (fault, refused_there, refl, refl), sym (append-nil text))
 
--- the next line of those that are left
-pub next_line : (lines : List planned.PlanLine) (i : ℕ) (line : planned.PlanLine) → i < length lines → line ≡ get_or lines i line → drop i lines ≡ line ∷ drop (i + 1) lines
-next_line lines i line lt is = drop_more lines i line lt ∙ ap (λ x. x ∷ drop (i + 1) lines) (sym is)
+-- memory runs out after a line
+pub cut_after : (first now : State) (front rest : List planned.PlanLine) (text : List ℕ) → LinesRun first now front text
+    → RunsPartly (stage_of first) (world_of first) (world_of now) (front ++ rest)
+cut_after first now front rest text so_far = record {
+  front = front;
+  rest = rest;
+  are = refl;
+  text = text;
+  behind = world_of now;
+  ran = so_far.run;
+  stops = nothing rest;
+}
+  where
+    nothing : (lines : List planned.PlanLine) → StopsIn (stage_of first) (world_of now) (world_of now) lines
+    nothing [] = refl
+    nothing (line ∷ lines) = inl refl
+
+-- memory runs out within a line
+pub cut_within : (first now new : State) (front rest : List planned.PlanLine) (line : planned.PlanLine) (text : List ℕ)
+    → LinesRun first now front text → FollowsPartly (stage_of now) (world_of now) (world_of new) line.order
+    → RunsPartly (stage_of first) (world_of first) (world_of new) (front ++ line ∷ rest)
+cut_within first now new front rest line text so_far part = record {
+  front = front;
+  rest = line ∷ rest;
+  are = refl;
+  text = text;
+  behind = world_of now;
+  ran = so_far.run;
+  stops = inr (subst (λ (k : Stage). FollowsPartly k (world_of now) (world_of new) line.order) (same_stage first now so_far.scene so_far.names) part);
+}
+
+-- the lines before one, that one, and the lines behind it
+pub line_at : (lines : List planned.PlanLine) (i : ℕ) (line : planned.PlanLine) → i < length lines → line ≡ get_or lines i line → take i lines ++ line ∷ drop (i + 1) lines ≡ lines
+line_at lines i line lt is =
+    ap (λ l. take i lines ++ l ∷ drop (i + 1) lines) is ∙ (ap (λ l. take i lines ++ l) (sym (drop_more lines i line lt)) ∙ take-append-drop i lines)
+
+-- the lines up to one
+pub up_to : (lines : List planned.PlanLine) (i : ℕ) (line : planned.PlanLine) → i < length lines → line ≡ get_or lines i line → take i lines ++ line ∷ [] ≡ take (i + 1) lines
+up_to lines i line lt is = ap (λ l. take i lines ++ l ∷ []) is ∙ sym (take_more lines i line lt)
 
 -- of two cases the other
-pub not_memory : {P Q : Type 0} → ¬ P → P ⊎ Q → Q
-not_memory not (inl p) = absurd (not p)
+pub not_memory : {P Q R : Type 0} → ¬ P → (P × Q) ⊎ R → R
+not_memory not (inl p) = absurd (not p.0)
 not_memory not (inr q) = q
+
+-- where memory runs out a part of the line is followed
+pub part_of : (stage : Stage) (old new : World) (order : PlanCommand) (fault : StepFault) → fault ≡ Memory → ((fault ≡ Memory) × FollowsPartly stage old new order) ⊎ IsRefusal stage old new order fault → FollowsPartly stage old new order
+part_of stage old new order fault e (inl p) = p.1
+part_of stage old new order fault e (inr (inl m)) = let same : PlanLine ≡ Memory = sym m.is ∙ e in absurd cc
+part_of stage old new order fault e (inr (inr f)) = absurd (f.0 e)
+
+-- what holds in any case holds on an error
+pub on_error : {T E P : Type 0} (r : Result T E) → P → OnErr r P
+on_error (Ok x) p = tt
+on_error (Err e) p = p

@@ -86,6 +86,26 @@ abbrev pub PassesAllIn : Graph → (old behind : World) → Type 0
 PassesAllIn g (Idle d) behind = behind ≡ Idle d
 PassesAllIn g (Busy m d) behind = PassesAll g m d behind
 
+-- Some idle nodes are passed in order; each is the first idle node at that point.
+pub record PassesSome (g : Graph) (m : Making) (d : Disk) (new : World) : Type 0 where
+  pub nodes : List ℕ
+  pub end : Making
+  pub passes : Passes g m nodes end
+  pub leaves : new ≡ Busy end d
+
+-- If a make is in progress, some of its idle nodes are passed.
+abbrev pub PassesSomeIn : Graph → (old new : World) → Type 0
+PassesSomeIn g (Idle d) new = new ≡ Idle d
+PassesSomeIn g (Busy m d) new = PassesSome g m d new
+
+-- Before `begin`, `run`, `pass` and `end` some of the idle nodes are passed.
+abbrev pub PassesSomeBefore : Graph → PlanCommand → (old new : World) → Type 0
+PassesSomeBefore g (Begin t) old new = PassesSomeIn g old new
+PassesSomeBefore g (Run t) old new = PassesSomeIn g old new
+PassesSomeBefore g (Pass t) old new = PassesSomeIn g old new
+PassesSomeBefore g End old new = PassesSomeIn g old new
+PassesSomeBefore g order old new = new ≡ old
+
 -- Before `begin`, `run`, `pass` and `end` the idle nodes are passed.
 abbrev pub PassesBefore : Graph → PlanCommand → (old behind : World) → Type 0
 PassesBefore g (Begin t) old behind = PassesAllIn g old behind
@@ -164,15 +184,23 @@ pub record LeadsTo (g : Graph) (s : Setting) (old new : World) : Type 0 where
   pub legal : model.IsLegal g s old steps
   pub leaves : new ≡ model.after_all g s old steps
 
+-- The world is what the first of these steps leave: none, some or all of them.
+pub record LeavesPartly (g : Graph) (s : Setting) (old new : World) (steps : List model.Step) :
+    Type 0 where
+  pub front : List model.Step
+  pub rest : List model.Step
+  pub are : steps ≡ front ++ rest
+  pub leaves : new ≡ model.after_all g s old front
+
 -- The result of taking allowed steps: the world is what the steps leave, or, if memory runs out,
--- what some of them leave. The graph, the build inputs and the names of the world don't change.
+-- what the first of them leave. The graph, the build inputs and the names of the world don't change.
 pub record TakesAllAllowed (old new : State) (steps : List model.Step)
     (result : Result (Unit {0}) AllocError) : Type 0 where
   pub scene : new.scene ≡ old.scene
   pub names : new.disk.names ≡ old.disk.names
   pub leaves : OnOk result (world_of new ≡
       model.after_all old.scene.graph (setting old.scene) (world_of old) steps)
-  pub leads : LeadsTo old.scene.graph (setting old.scene) (world_of old) (world_of new)
+  pub part : LeavesPartly old.scene.graph (setting old.scene) (world_of old) (world_of new) steps
 
 -- The steps of a command in this state, without the passes of idle nodes before it.
 abbrev pub steps_of : State → PlanCommand → List model.Step
@@ -237,7 +265,7 @@ pub record PassesIdle (old new : State) (result : Result (Unit {0}) AllocError) 
   pub scene : new.scene ≡ old.scene
   pub names : new.disk.names ≡ old.disk.names
   pub ok : OnOk result (PassesAllIn old.scene.graph (world_of old) (world_of new))
-  pub leads : LeadsTo old.scene.graph (setting old.scene) (world_of old) (world_of new)
+  pub some : PassesSomeIn old.scene.graph (world_of old) (world_of new)
 
 -- The result of preparing for a command; on out of memory some idle nodes have been passed.
 pub record Prepares (old new : State) (order : PlanCommand)
@@ -246,16 +274,24 @@ pub record Prepares (old new : State) (order : PlanCommand)
   pub scene : new.scene ≡ old.scene
   pub names : new.disk.names ≡ old.disk.names
   pub ok : OnOk result (PassesBefore old.scene.graph order (world_of old) (world_of new))
-  pub leads : LeadsTo old.scene.graph (setting old.scene) (world_of old) (world_of new)
+  pub some : PassesSomeBefore old.scene.graph order (world_of old) (world_of new)
 
--- The result of executing a line; on out of memory some of its steps have been taken.
+-- Memory runs out in a line whose names are known: some of the idle nodes that its command passes
+-- have been passed, or all of them and then the first of its steps have been taken, but not all.
+abbrev pub FollowsPartly : Stage → (old new : World) → PlanCommand → Type 0
+FollowsPartly stage old new order =
+    ((is_known stage.graph stage.names order ≡ true) × PassesSomeBefore stage.graph order old new) ⊎
+    Follows stage old new order (Err Memory)
+
+-- The result of executing a line; on out of memory a part of its steps has been taken.
 pub record AnswersLine (old new : State) (order : PlanCommand)
     (result : Result (Unit {0}) StepFault) :
     Type 0 where
   pub scene : new.scene ≡ old.scene
   pub names : new.disk.names ≡ old.disk.names
   pub ok : OnOk result (Follows (stage_of old) (world_of old) (world_of new) order (Ok tt))
-  pub err : IfErr result (λ fault. (fault ≡ Memory) ⊎
+  pub err : IfErr result (λ fault.
+      ((fault ≡ Memory) × FollowsPartly (stage_of old) (world_of old) (world_of new) order) ⊎
       IsRefusal (stage_of old) (world_of old) (world_of new) order fault)
   pub leads : LeadsTo old.scene.graph (setting old.scene) (world_of old) (world_of new)
 
@@ -269,3 +305,19 @@ RunsTo stage old (next ∷ lines) text refused new =
     (text ≡ printed stage.names next.order behind ++ later)) ⊎
     ((fault : StepFault) × IsRefusal stage old new next.order fault × (text ≡ []) ×
     (refused ≡ Some (next.number, fault)))
+
+-- Nothing is done, or memory runs out in the first of these lines.
+abbrev pub StopsIn : Stage → (old new : World) → List line.PlanLine → Type 0
+StopsIn stage old new [] = new ≡ old
+StopsIn stage old new (next ∷ lines) = (new ≡ old) ⊎ FollowsPartly stage old new next.order
+
+-- The run of a plan until memory runs out: the first lines are run whole, without a refusal, and at
+-- most a part of the next line's steps is taken.
+pub record RunsPartly (stage : Stage) (old new : World) (lines : List line.PlanLine) : Type 0 where
+  pub front : List line.PlanLine
+  pub rest : List line.PlanLine
+  pub are : lines ≡ front ++ rest
+  pub text : List ℕ
+  pub behind : World
+  pub ran : RunsTo stage old front text None behind
+  pub stops : StopsIn stage behind new rest

@@ -1,10 +1,10 @@
 //! Passing nodes without a recipe.
 
 ghost use Rattle.std.specs.Prelude.{◌≡◌, OnOk};
-ghost use Rattle.mk_world.specs.State.{DiskState, busy, disk_of, making_of, setting};
+ghost use Rattle.mk_world.specs.State.{DiskState, busy, disk_of, making_of};
 ghost use Rattle.mk_world.specs.Fits.{Fits};
 ghost use Rattle.mk_world.specs.Kept.{IsKept};
-ghost use Rattle.mk_world.specs.Running.{PassesAll, LeadsTo};
+ghost use Rattle.mk_world.specs.Running.{PassesAll, PassesSome};
 
 use crate::making::Making;
 use crate::scene::Scene;
@@ -26,8 +26,8 @@ pub fn pass_idle(
     ensures kept { IsKept scene.now making.new readiness.new }
     ensures ok { (d : DiskState) → OnOk result (PassesAll scene.now.graph
         (making_of scene.now making.old) (disk_of d) (busy scene.now making.new d)) }
-    ensures leads { (d : DiskState) → LeadsTo scene.now.graph (setting scene.now)
-        (busy scene.now making.old d) (busy scene.now making.new d) }
+    ensures some { (d : DiskState) → PassesSome scene.now.graph
+        (making_of scene.now making.old) (disk_of d) (busy scene.now making.new d) }
 {
     growth_laws::can_start_stays();
     while let Some(number) = readiness.next_idle() {

@@ -8,7 +8,7 @@ ghost use Rattle.mk_world.specs.State.{setting, world_of};
 ghost use Rattle.mk_graph.specs.Steps as model;
 ghost use Rattle.mk_world.specs.Steps.{Answers};
 ghost use Rattle.mk_world.specs.State as state;
-ghost use Rattle.mk_world.specs.Running.{is_known, is_node, goals_among, steps_of, run_steps, content_or_stamp, AnswersInTurn, AnswersLine, Prepares, file_text, files_text, printed, RunsTo, LeadsTo, stage_of};
+ghost use Rattle.mk_world.specs.Running.{is_known, is_node, goals_among, steps_of, run_steps, content_or_stamp, AnswersInTurn, AnswersLine, Prepares, file_text, files_text, printed, RunsTo, RunsPartly, LeadsTo, stage_of};
 
 use crate::fault::{StepFault, is_memory};
 use crate::file::Listed;
@@ -187,7 +187,8 @@ fn print(
 }
 
 /// Runs a plan in a world, line by line, up to the first line that is refused. Returns what it
-/// printed and the refusal. The only error is out of memory; the steps taken before it remain.
+/// printed and the refusal. The only error is out of memory: the first lines have been run then, and
+/// of the steps of the next line at most the first ones have been taken.
 ///
 /// Before `begin`, `run`, `pass` and `end`, if a make is in progress, every ready node without a
 /// recipe is passed, each time the first in the serial order, until there is none. `finish` reads
@@ -203,6 +204,8 @@ pub fn run_plan(alloc: Global, world: &mut World, plan: &Plan) -> Result<Run, Al
     ensures names { world.new.disk.names ≡ world.old.disk.names }
     ensures ran { IfOk result (λ run. RunsTo (stage_of world.old) (world_of world.old) plan.now
         (string_bytes run.text) run.refused (world_of world.new)) }
+    ensures part { OnErr result (RunsPartly (stage_of world.old) (world_of world.old)
+        (world_of world.new) plan.now) }
     ensures leads { LeadsTo world.old.scene.graph (setting world.old.scene) (world_of world.old)
         (world_of world.new) }
 {

@@ -1,10 +1,10 @@
-use Rattle.std.proofs.Common.{◌<◌, length, refl, sym, subst, arith}
+use Rattle.std.proofs.Common.{◌<◌, length, refl, sym, ap, subst, arith}
 use Rattle.mk_graph.specs.Graph.{IsGraph}
-use Rattle.mk_world.specs.State.{making_of, setting, disk_of, busy}
+use Rattle.mk_world.specs.State.{making_of, busy}
 use Rattle.mk_world.specs.State as lists
 use Rattle.mk_world.specs.Fits.{Fits}
 use Rattle.mk_world.proofs.Changes.{finished_fits}
-use Rattle.mk_world.proofs.Idle.{missing, idle_low, idle_fewer, passed_more, passes_lead}
+use Rattle.mk_world.proofs.Idle.{missing, idle_low, idle_fewer, passed_more}
 use Rattle.mk_world.proofs.Keeping.{first_from, none_from, kept_done}
 use Rattle.mk_world.proofs.passing.pass_idle.Goals as goal
 
@@ -64,10 +64,10 @@ loop-number-preserved c =
 pub returns-in_err-finish-clause-kept : goal.returns-in_err-finish-clause-kept
 returns-in_err-finish-clause-kept c = rw c.in_err-finish.ensures.err c.loop-number.invariant.kept
 
-pub returns-in_err-finish-clause-leads : goal.returns-in_err-finish-clause-leads
-returns-in_err-finish-clause-leads c =
+pub returns-in_err-finish-clause-some : goal.returns-in_err-finish-clause-some
+returns-in_err-finish-clause-some c =
     let scene = c.args.scene.now in
-    λ d. rw c.in_err-finish.ensures.err (passes_lead scene.graph (setting scene) (disk_of d) (making_of scene c.args.making.now) c.loop-number.invariant.passes.0 (making_of scene c.loop-number.making) c.loop-number.invariant.passes.1)
+    λ d. record { nodes = c.loop-number.invariant.passes.0; end = making_of scene c.loop-number.making; passes = c.loop-number.invariant.passes.1; leaves = ap (λ m. busy scene m d) c.in_err-finish.ensures.err }
 
 pub returns-clause-ok : goal.returns-clause-ok
 returns-clause-ok c =
@@ -75,7 +75,7 @@ returns-clause-ok c =
     let none = none_from scene c.can_start_stays.ensures c.loop-number.making c.loop-number.readiness c.loop-number.invariant.kept c.in_default.ensures.found in
     λ d. record { nodes = c.loop-number.invariant.passes.0; end = making_of scene c.loop-number.making; passes = c.loop-number.invariant.passes.1; none_left = none; leaves = refl }
 
-pub returns-clause-leads : goal.returns-clause-leads
-returns-clause-leads c =
+pub returns-clause-some : goal.returns-clause-some
+returns-clause-some c =
     let scene = c.args.scene.now in
-    λ d. passes_lead scene.graph (setting scene) (disk_of d) (making_of scene c.args.making.now) c.loop-number.invariant.passes.0 (making_of scene c.loop-number.making) c.loop-number.invariant.passes.1
+    λ d. record { nodes = c.loop-number.invariant.passes.0; end = making_of scene c.loop-number.making; passes = c.loop-number.invariant.passes.1; leaves = refl }

@@ -1,13 +1,13 @@
 use Rattle.std.proofs.Common.{Option, List, sym, refl, subst, Err}
 use Rattle.mk_graph.specs.SerialMake.{rest_of_run}
 use Rattle.mk_world.specs.declared.fault.StepFault.TheVariants.{NoMake}
-use Rattle.mk_world.specs.State.{MakeState, setting, world_in, disk_of, number_of}
+use Rattle.mk_world.specs.State.{MakeState, setting, world_in, disk_of}
 use Rattle.mk_graph.specs.Setting.{FileName}
 use Rattle.mk_world.specs.First.{AreNamesOf}
 use Rattle.mk_world.specs.Kept.{IsKeptIn}
 use Rattle.mk_world.specs.Places.{ArePlaces}
 use Rattle.mk_world.specs.Running.{TakesInTurn}
-use Rattle.mk_world.proofs.Lines.{idle_finish, node_low}
+use Rattle.mk_world.proofs.Lines.{idle_finish}
 use Rattle.mk_world.proofs.Keeping.{kept_finish, kept_unfinished}
 use Rattle.mk_world.proofs.world.World.finish_with.Goals as goal
 

@@ -2,7 +2,7 @@ use Rattle.std.proofs.lemmas.Bool.{false≢true}
 use Rattle.std.proofs.Common.{sym, ◌∙◌}
 use Rattle.mk_graph.specs.SerialMake.{whole_run}
 use Rattle.mk_world.specs.State.{setting, world_of}
-use Rattle.mk_world.proofs.InTurn.{turn_leads}
+use Rattle.mk_world.proofs.InTurn.{turn_front}
 use Rattle.mk_world.proofs.Whole.{all_leave, no_fault}
 use Rattle.mk_world.proofs.world.World.run_allowed.Goals as goal
 
@@ -18,7 +18,7 @@ returns-in-Ok c =
       scene = c.run_with.ensures.scene;
       names = c.run_with.ensures.names;
       leaves = all_leave g s (world_of w) (world_of new) steps c.run_with.result c.requires.allowed takes c.in-Ok.is;
-      leads = turn_leads g s (world_of w) (world_of new) steps c.run_with.result takes;
+      part = turn_front g s (world_of w) (world_of new) steps c.run_with.result takes;
     }
 
 pub returns-then-is_memory : goal.returns-then-is_memory
@@ -33,7 +33,7 @@ returns-then-is_memory c =
       scene = c.run_with.ensures.scene;
       names = c.run_with.ensures.names;
       leaves = tt;
-      leads = turn_leads g s (world_of w) (world_of new) steps c.run_with.result takes;
+      part = turn_front g s (world_of w) (world_of new) steps c.run_with.result takes;
     }
 
 pub returns-else-is_memory : goal.returns-else-is_memory
