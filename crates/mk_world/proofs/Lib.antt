@@ -16,6 +16,7 @@ pub mod Stamps
 pub mod Lines
 pub mod Fronts
 pub mod OneRun
+pub mod RunsAgree
 pub mod OneFirst
 pub mod Keeping
 pub mod Held

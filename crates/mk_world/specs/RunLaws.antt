@@ -1,6 +1,10 @@
 -- Laws of sequences of steps, and of runs of plans.
 use Rattle.std.specs.Prelude.{◌≡◌, ℕ, List, [], ◌∷◌, ◌++◌, map, Option, None, Result, Ok, Err, ◌⊎◌, ◌↔◌}
-use Rattle.mk_graph.specs.World.{World}
+use Rattle.mk_graph.specs.Graph.{Graph}
+use Rattle.mk_graph.specs.NodeByNode.{to_put}
+use Rattle.mk_graph.specs.SerialMake.{whole_run}
+use Rattle.mk_graph.specs.Setting.{Setting}
+use Rattle.mk_graph.specs.World.{World, disk_of}
 use Rattle.mk_graph.specs.Steps.{IsLegal, after_all}
 use Rattle.mk_world.specs.NamedStep.{Step}
 use Rattle.mk_world.specs.declared.fault.StepFault.{StepFault}
@@ -8,7 +12,7 @@ use Rattle.mk_world.specs.declared.fault.StepFault.TheVariants.{Memory}
 use Rattle.mk_world.specs.declared.plan.PlanLine.{PlanLine}
 use Rattle.mk_world.specs.State.{State, setting, world_of}
 use Rattle.mk_world.specs.Steps.{Answers, step_of}
-use Rattle.mk_world.specs.Running.{Stage, RunsTo}
+use Rattle.mk_world.specs.Running.{Stage, RunsTo, contents_of}
 
 -- The steps are requested one after another, all of them or up to the first that is refused.
 abbrev pub Asks : (old new : State) → List Step → Result (Unit {0}) StepFault → Type 0
@@ -48,3 +52,12 @@ FrontsRunFirst =
     (whole : List ℕ) (refused : Option (ℕ × StepFault)) (new : World) →
     RunsTo stage old (front ++ rest) whole refused new ↔
     ((later : List ℕ) × RunsTo stage mid rest later refused new × (whole ≡ text ++ later))
+
+-- A recipe writes the same contents when a plan runs it whole (`contents_of`) and when a schedule
+-- that shows a finding does (`to_put`), if the whole run with either is a trace.
+abbrev pub WholeRunsAgree : Type 0
+WholeRunsAgree =
+    (g : Graph) (s : Setting) (w : World) (t : ℕ) →
+    IsLegal g s w (whole_run g s t (contents_of g s (disk_of w) t)) ⊎
+    IsLegal g s w (whole_run g s t (to_put g s (disk_of w) t)) →
+    contents_of g s (disk_of w) t ≡ to_put g s (disk_of w) t

@@ -3,7 +3,7 @@
 
 ghost use Rattle.mk_world.specs.OneRun.{FirstWorldIsOne, RunIsOne};
 ghost use Rattle.mk_world.specs.StepLaws.{AllowedWhereAllHolds};
-ghost use Rattle.mk_world.specs.RunLaws.{TakenStepsAreLegal, LegalStepsAreTaken, FrontsRunFirst};
+ghost use Rattle.mk_world.specs.RunLaws.{TakenStepsAreLegal, LegalStepsAreTaken, FrontsRunFirst, WholeRunsAgree};
 
 /// A step is allowed exactly if all its tests hold.
 pub fn allowed_where_all_holds()
@@ -36,4 +36,10 @@ pub fn first_world_is_one()
 /// The lines of a plan have only one run from a world.
 pub fn run_is_one()
     ensures { RunIsOne }
+{}
+
+/// A recipe writes the same contents when a plan runs it whole and when a schedule that shows a
+/// finding does, if the whole run with either is a trace. So the two take the same steps.
+pub fn whole_runs_agree()
+    ensures { WholeRunsAgree }
 {}
