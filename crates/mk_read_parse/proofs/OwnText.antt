@@ -1,6 +1,6 @@
 -- The makefile's own text, and a whole reading.
 use Rattle.std.proofs.Common.{◌≡◌, ℕ, suc, Bool, true, false, List, [], codes, length, Option, None, Some, Result, Ok, Err, inl, inr, refl, sym, ap, subst, ◌∙◌, arith}
-use Rattle.std.specs.Prelude.{◌⊎◌, IfErr, OnErr}
+use Rattle.std.specs.Prelude.{◌⊎◌, IfErr, IsOk, OnErr, OnOk}
 use Rattle.mk_macros.specs.Table.{Macro}
 use Rattle.mk_read.specs.declared.fault.ReadFault.{ReadFault}
 use Rattle.mk_read.specs.declared.fault.ReadFault.TheVariants.{Memory, NoMakefile, ReadFailed}
@@ -137,6 +137,18 @@ module _ (name : Option (List ℕ)) (defaults : Bool) (operands : List (List ℕ
         went : request_read name defaults operands ≡ Ok table
         went = ap (λ (r : Result (Option (List ℕ)) ReadFault). r >>= λ file. after_default no_files defaults >>= λ start. with_operands 1 operands start.table) is
             ∙ (ap (λ (r : Result State ReadFault). r >>= λ start. with_operands 1 operands start.table) (begun_at none) ∙ fixed)
+
+    -- so it was accepted, whatever comes then
+    pub accepted : {A : Type 0} (then : Result A ReadFault) (old : State) (table : List Macro) → named name ≡ Ok name
+        → (old ≡ nothing_read → after_default no_files defaults ≡ Ok start)
+        → with_operands 1 operands start.table ≡ Ok table
+        → OnOk then (old ≡ nothing_read → IsOk (request_read name defaults operands))
+    accepted (Ok x) old table is begun_at fixed = λ none. at (request_read name defaults operands) (not_refused ⊥ old table is begun_at fixed none)
+      where
+        at : (r : Result (List Macro) ReadFault) → OnErr r ⊥ → IsOk r
+        at (Ok macros) h = refl
+        at (Err fault) h = absurd h
+    accepted (Err fault) old table is begun_at fixed = tt
 
   makefile_is : (reader : Reader) → makefile reader name defaults operands ≡ (state_read reader name defaults operands >>= λ state. Ok (makefile_of state))
   unfolding makefile

@@ -1,6 +1,6 @@
 //! Reads a whole makefile.
 
-ghost use Rattle.std.specs.Prelude.{◌≡◌, ◌⊎◌, ◌∷◌, [], true, ◌+◌, ◌<◌, ◌^◌, ◌-◌, ◌||◌, Some, None, codes, filter, map, IfOk, IfErr, OnErr};
+ghost use Rattle.std.specs.Prelude.{◌≡◌, ◌⊎◌, ◌∷◌, [], true, ◌+◌, ◌<◌, ◌^◌, ◌-◌, ◌||◌, Some, None, codes, filter, map, IfOk, IfErr, IsOk, OnErr, OnOk};
 ghost use Rattle.std.specs.List.{list_any};
 ghost use Rattle.std.specs.Option.{option_copied, option_map};
 ghost use Rattle.std.specs.Str.{bytes_eq};
@@ -343,6 +343,9 @@ fn read_all<F: Files>(
     ensures untouched { state.old ≡ nothing_read →
         OnErr (request_read (option_copied name.entry) defaults (map (λ operand.
         operand.items) operands.now)) (files.new ≡ files.old) }
+    ensures accepted { OnOk result (state.old ≡ nothing_read →
+        IsOk (request_read (option_copied name.entry) defaults (map (λ operand.
+        operand.items) operands.now))) }
 {
     default_text_says_this();
     test_name(alloc, name)?;
@@ -400,9 +403,11 @@ pub fn read_makefile<F: Files>(
     ensures memory { IfErr result (λ fault. is_out_of_memory fault ≡ true → fault ≡ Memory) }
     ensures noted { NotesFailure (F.failed files.old) (F.failed files.new) result }
 
-    // What is refused before any file is read leaves the reader as it was.
+    // What is refused before any file is read leaves the reader as it was, and gives no makefile.
     ensures untouched { OnErr (request_read (option_copied name.entry) defaults (map (λ operand.
         operand.items) operands.now)) (files.new ≡ files.old) }
+    ensures accepted { OnOk result (IsOk (request_read (option_copied name.entry) defaults
+        (map (λ operand. operand.items) operands.now))) }
 {
     let mut state = State::new(alloc);
     match read_all(alloc, files, name, defaults, operands, &mut state) {

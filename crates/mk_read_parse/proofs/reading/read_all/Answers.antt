@@ -10,7 +10,7 @@ use Rattle.mk_read.specs.Steps.{seen, Fails}
 use Rattle.mk_read_parse.specs.Views.{IsUnread}
 use Rattle.mk_read_parse.proofs.Histories.{notes_none}
 use Rattle.mk_read_parse.proofs.OperandLists.{texts_of}
-use Rattle.mk_read_parse.proofs.OwnText.{default_fails, not_refused, operands_fail, state_reads}
+use Rattle.mk_read_parse.proofs.OwnText.{accepted, default_fails, not_refused, operands_fail, state_reads}
 use Rattle.mk_read_parse.proofs.reading.read_all.Goals as goal
 
 pub returns-in_err-read_default-clause-follows : goal.returns-in_err-read_default-clause-follows
@@ -81,4 +81,16 @@ pub returns-in-None-clause-untouched : goal.returns-in-None-clause-untouched
 returns-in-None-clause-untouched g c =
     let table : c.state.inside.macros ≡ c.read_default.new.state.table = ap (λ (s : State). s.table) c.state.view_is in
     not_refused (option_copied c.args.name) c.args.defaults (texts_of c.args.operands.now) c.read_default.new.state (c.read_usual.new.files ≡ c.args.files.now) c.args.state.now c.fix_operands.new.macros c.in_ok-test_name.ensures.exact c.in_ok-read_default.ensures.exact
+    (ap (with_operands 1 (texts_of c.args.operands.now)) (sym table) ∙ c.in_ok-fix_operands.ensures.exact)
+
+pub returns-in-Some-clause-accepted : goal.returns-in-Some-clause-accepted
+returns-in-Some-clause-accepted g c =
+    let table : c.state.inside.macros ≡ c.read_default.new.state.table = ap (λ (s : State). s.table) c.state.view_is in
+    accepted (option_copied c.args.name) c.args.defaults (texts_of c.args.operands.now) c.read_default.new.state c.read_named.result c.args.state.now c.fix_operands.new.macros c.in_ok-test_name.ensures.exact c.in_ok-read_default.ensures.exact
+    (ap (with_operands 1 (texts_of c.args.operands.now)) (sym table) ∙ c.in_ok-fix_operands.ensures.exact)
+
+pub returns-in-None-clause-accepted : goal.returns-in-None-clause-accepted
+returns-in-None-clause-accepted g c =
+    let table : c.state.inside.macros ≡ c.read_default.new.state.table = ap (λ (s : State). s.table) c.state.view_is in
+    accepted (option_copied c.args.name) c.args.defaults (texts_of c.args.operands.now) c.read_default.new.state c.read_usual.result c.args.state.now c.fix_operands.new.macros c.in_ok-test_name.ensures.exact c.in_ok-read_default.ensures.exact
     (ap (with_operands 1 (texts_of c.args.operands.now)) (sym table) ∙ c.in_ok-fix_operands.ensures.exact)
