@@ -1,5 +1,6 @@
 -- What is answered where a step fails, and where all of them succeed.
 use Rattle.std.proofs.Common.{◌≡◌, ℕ, Bool, true, false, List, Option, None, Some, Result, Ok, Err, Vec, cond, inl, inr, refl, sym, ap, subst, ◌∙◌}
+use Rattle.std.specs.Prelude.{IsOk, OnErr}
 use Rattle.std.specs.declared.alloc.Global.{Global}
 use Rattle.std.specs.Option.{is_none, ok_or, option_map_or}
 use Rattle.std.specs.Str.{bytes_eq}
@@ -11,16 +12,18 @@ use Rattle.mk_infer.specs.Goals.{goal_names}
 use Rattle.mk_infer.specs.Selection.{Selects}
 use Rattle.mk_infer.specs.Steps as inferring
 use Rattle.mk_infer.specs.declared.fault.InferFault.{InferFault}
+use Rattle.mk_macros.specs.Table.{Macro}
 use Rattle.mk_read.specs.declared.fault.ReadFault.{ReadFault}
 use Rattle.mk_read.specs.Files.{Told, text_at}
 use Rattle.mk_read.specs.Following as following
 use Rattle.mk_read.specs.Reading.{Makefile, makefile}
+use Rattle.mk_read_parse.specs.Requests.{request_read}
 use Rattle.mk_core_text.specs.declared.fault.Fault.{Fault}
 use Rattle.mk_core_text.specs.declared.fault.Fault.TheVariants.{Read, Infer, Foot, Plan, Certificate, Verify, FileReadFailed, NoFile, Memory}
 use Rattle.mk_core.specs.declared.request.Request.{Request}
 use Rattle.mk_core.specs.Answer.{Answers, Draws, failed_file, failing_of}
 use Rattle.mk_core_text.specs.GraphText.{graph_text, shown_lines}
-use Rattle.mk_core.specs.Ready.{Ready, book_for, exists, makefile_for, ready_for, setting_of}
+use Rattle.mk_core.specs.Ready.{Ready, book_for, exists, macros_for, makefile_for, ready_for, setting_of}
 use Rattle.mk_core.specs.Steps.{◌>>=◌, as_fault, of_infer, of_read, seen}
 use Rattle.mk_core.specs.Views.{AnswersOver, DrawsOver, Finds, PrintsOver, ready_over, ready_with}
 use Rattle.mk_core.specs.Seen.{fault_same}
@@ -75,6 +78,24 @@ goals_fail files request m fault h = by_infer (λ f. Finds (λ failing. ready_ov
     by : inferring.is_out_of_memory fault ≡ false → inferring.Fails fault (goal_names m request.goals) → Finds (λ failing. ready_over files failing request m) (Err (Infer fault))
     by settled (inl k) = let e : true ≡ false = ap inferring.is_out_of_memory (sym k) ∙ settled in absurd cc
     by settled (inr is) = inr (ap (λ (r : Result (List (List ℕ)) InferFault). as_fault Infer r >>= ready_with files None request m) is)
+
+-- ---- what is refused before a file is read
+
+module _ (request : Request) (name : Option (List ℕ)) (operands : List (List ℕ)) (n : name ≡ request.makefile) (o : operands ≡ request.operands) where
+  same_macros : request_read name request.defaults operands ≡ macros_for request
+  same_macros = ap (λ (x : Option (List ℕ)). request_read x request.defaults operands) n ∙ ap (λ (words : List (List ℕ)). request_read request.makefile request.defaults words) o
+
+  -- what holds where the name or an operand is refused
+  pub untouched_by : (same : Type 0) → OnErr (request_read name request.defaults operands) same → OnErr (macros_for request) same
+  untouched_by same h = subst (λ (r : Result (List Macro) ReadFault). OnErr r same) same_macros h
+
+  -- neither is refused where a makefile is read
+  pub not_refused : (same : Type 0) → IsOk (request_read name request.defaults operands) → OnErr (macros_for request) same
+  not_refused same h = never (macros_for request) (subst (λ (r : Result (List Macro) ReadFault). IsOk r) same_macros h)
+    where
+      never : (r : Result (List Macro) ReadFault) → IsOk r → OnErr r same
+      never (Ok macros) k = tt
+      never (Err fault) k = absurd cc
 
 -- ---- the answer of a command
 

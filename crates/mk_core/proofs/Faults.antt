@@ -1,5 +1,6 @@
--- Faults of the lower crates as those of a request: how they count, and out of memory among them.
-use Rattle.std.proofs.Common.{◌≡◌, ℕ, Bool, true, false, cond, refl, sym, ap, ◌∙◌}
+-- Faults of the lower crates as those of a request: which failed reads they note, and out of memory
+-- among them.
+use Rattle.std.proofs.Common.{◌≡◌, ℕ, Bool, List, true, false, cond, refl, sym, ap, ◌∙◌}
 use Rattle.std.specs.Prelude.{not}
 use Rattle.mk_infer.specs.declared.fault.InferFault.{InferFault}
 use Rattle.mk_infer.specs.Steps as inferring
@@ -7,7 +8,7 @@ use Rattle.mk_read.specs.declared.fault.ReadFault.{ReadFault}
 use Rattle.mk_read.specs.Steps as reading
 use Rattle.mk_core_text.specs.declared.fault.Fault.{Fault}
 use Rattle.mk_core_text.specs.declared.fault.Fault.TheVariants.{Read, Infer, Memory}
-use Rattle.mk_core.specs.Answer.{Rises}
+use Rattle.mk_core.specs.Answer.{NotesFault}
 use Rattle.mk_core.specs.Steps.{is_out_of_memory, of_infer, of_read}
 
 -- what holds of Memory and of another fault holds of either
@@ -43,5 +44,5 @@ plain_read fault = by_read (λ f. is_out_of_memory f ≡ true → f ≡ Memory) 
 
 -- ---- faults that read nothing
 
-pub stays_infer : (old new : ℕ) (fault : InferFault) → new ≡ old → Rises old new (of_infer fault)
-stays_infer old new fault e = by_infer (Rises old new) fault e (λ _. e)
+pub notes_infer : (old new : List (List ℕ)) (fault : InferFault) → new ≡ old → NotesFault old new (of_infer fault)
+notes_infer old new fault e = by_infer (NotesFault old new) fault e (λ _. e)

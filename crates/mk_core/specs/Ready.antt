@@ -6,10 +6,12 @@ use Rattle.mk_foot.specs.Reading.{book_from}
 use Rattle.mk_foot.specs.Setting.{Setting}
 use Rattle.mk_infer.specs.Goals.{goal_names}
 use Rattle.mk_infer.specs.There.{Exists}
+use Rattle.mk_macros.specs.Table.{Macro}
 use Rattle.mk_read.specs.declared.fault.ReadFault.{ReadFault}
 use Rattle.mk_read.specs.Files.{Told}
 use Rattle.mk_read.specs.Following.{reader_of}
 use Rattle.mk_read.specs.Reading.{Makefile, Reader, makefile}
+use Rattle.mk_read_parse.specs.Requests.{request_read}
 use Rattle.mk_core_text.specs.declared.fault.Fault.{Fault}
 use Rattle.mk_core_text.specs.declared.fault.Fault.TheVariants.{Read, Infer, Foot}
 use Rattle.mk_core.specs.declared.request.Request.{Request}
@@ -34,6 +36,11 @@ exists ready =
       texts = ready.setting.texts;
       more = [];
     }
+
+-- The macros of a request before any file is read, or the fault of its makefile's name or of one of
+-- its operands.
+abbrev pub macros_for : Request → Result (List Macro) ReadFault
+macros_for request = request_read request.makefile request.defaults request.operands
 
 -- The makefile of a request, as the reader gives it.
 abbrev pub makefile_for : Request → Reader → Result Makefile ReadFault

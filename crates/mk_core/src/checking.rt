@@ -1,9 +1,10 @@
 //! The command `check`: the verdict on a build.
 
-ghost use Rattle.std.specs.Prelude.{◌≡◌, ◌<◌, ◌-◌, ◌^◌, true, IfErr, IfOk, OnOk};
+ghost use Rattle.std.specs.Prelude.{◌≡◌, true, IfErr, IfOk, OnErr};
 ghost use Rattle.mk_read.specs.Files.{IfFits, Keeps};
 ghost use Rattle.mk_core.specs.NotRead.{verdict_not_read};
 ghost use Rattle.mk_core.specs.Answer.{Answers, NotesFailure};
+ghost use Rattle.mk_core.specs.Ready.{macros_for};
 ghost use Rattle.mk_core.specs.CheckAnswer.{AnswersCheck, GivesVerdict, IsVerdict, IsYes};
 ghost use Rattle.mk_core.specs.Right.{IsRightFor};
 ghost use Rattle.mk_core.specs.Steps.{is_out_of_memory};
@@ -77,7 +78,8 @@ impl Judge for CheckBuild {
 /// the makefile (1 to 37); `InferencePrerequisites` (45), the goals (27, 28), `NoGoal` (44); the
 /// footprint file (35, 38, 51 to 58); `NoRule` (41) and `TooManyNodes` (43) as the walk from the
 /// goals meets them, `Cycle` (42); the commands (11 to 17), node by node in the serial order. Out
-/// of memory can come in place of any result.
+/// of memory can come in place of any result. A bad name of the makefile and a bad operand are
+/// refused before any file is read.
 pub fn check<F: Files>(alloc: Global, files: &mut F, request: &Request) -> Result<Verdict, Fault>
     ensures keeps { Keeps (F.fits files.old) (F.fits files.new) }
     ensures answer { IfFits (F.fits files.new)
@@ -86,6 +88,7 @@ pub fn check<F: Files>(alloc: Global, files: &mut F, request: &Request) -> Resul
         (λ told. IsYes result → IsRightFor told request.now) }
     ensures memory { IfErr result (λ fault. is_out_of_memory fault ≡ true → fault ≡ Memory) }
     ensures noted { NotesFailure (F.failed files.old) (F.failed files.new) result }
+    ensures untouched { OnErr (macros_for request.now) (files.new ≡ files.old) }
 {
     yes_is_right();
     answer_judged(alloc, files, request, CheckBuild)

@@ -1,10 +1,10 @@
 //! Commands of the program, and how each request is answered.
 
-ghost use Rattle.std.specs.Prelude.{◌≡◌, ◌⊎◌, ◌<◌, ◌-◌, ◌^◌, true, Result, Err, IfErr};
+ghost use Rattle.std.specs.Prelude.{◌≡◌, ◌⊎◌, true, Result, Err, IfErr, OnErr};
 ghost use Rattle.mk_read.specs.Files.{IfFits, Keeps, Told};
 ghost use Rattle.mk_read.specs.declared.fault.ReadFault as read;
 ghost use Rattle.mk_core.specs.Answer.{Answers, NotesFailure};
-ghost use Rattle.mk_core.specs.Ready.{Ready as ReadyValue};
+ghost use Rattle.mk_core.specs.Ready.{Ready as ReadyValue, macros_for};
 ghost use Rattle.mk_core.specs.Steps.{is_out_of_memory};
 ghost use Rattle.mk_core.specs.Views.{AnswersOver};
 ghost use Rattle.mk_core_text.specs.declared.fault.Fault as faults;
@@ -94,7 +94,8 @@ fn answer_over<F: Files, C: Command>(
 /// Answers a request: what the command answers to the prepared request, or the first fault before
 /// that, in this order: the makefile's name, the operands, the reading of the makefile (1 to 37);
 /// `InferencePrerequisites` (45), the goals (27, 28), `NoGoal` (44); the footprint file (35, 38, 51
-/// to 58). Out of memory can come in place of any result.
+/// to 58). Out of memory can come in place of any result. A bad name of the makefile and a bad
+/// operand are refused before any file is read.
 pub(crate) fn answer_request<F: Files, C: Command>(
     alloc: Global,
     files: &mut F,
@@ -106,6 +107,7 @@ pub(crate) fn answer_request<F: Files, C: Command>(
         (λ told. Answers told request.now (C.answers command.now told) result) }
     ensures memory { IfErr result (λ fault. is_out_of_memory fault ≡ true → fault ≡ Memory) }
     ensures noted { NotesFailure (F.failed files.old) (F.failed files.new) result }
+    ensures untouched { OnErr (macros_for request.now) (files.new ≡ files.old) }
 {
     let makefile = read_makefile(
         alloc,

@@ -1,6 +1,6 @@
 //! Reads files other than makefiles.
 
-ghost use Rattle.std.specs.Prelude.{◌≡◌, ◌<◌, ◌-◌, ◌^◌, true, IfErr};
+ghost use Rattle.std.specs.Prelude.{◌≡◌, true, IfErr};
 ghost use Rattle.mk_read.specs.Files.{IfFits, Keeps};
 ghost use Rattle.mk_core.specs.Answer.{NotesFailure};
 ghost use Rattle.mk_core.specs.FileText.{text_of};

@@ -1,9 +1,10 @@
 //! The command `graph`.
 
-ghost use Rattle.std.specs.Prelude.{◌≡◌, ◌<◌, ◌-◌, ◌^◌, ℕ, true, IfErr};
+ghost use Rattle.std.specs.Prelude.{◌≡◌, ℕ, List, true, IfErr, OnErr};
 ghost use Rattle.mk_read.specs.Files.{IfFits, Keeps};
 ghost use Rattle.mk_core.specs.NotRead.{graph_not_read};
 ghost use Rattle.mk_core.specs.Answer.{Answers, NotesFailure};
+ghost use Rattle.mk_core.specs.Ready.{macros_for};
 ghost use Rattle.mk_core.specs.GraphAnswer.{AnswersGraph};
 ghost use Rattle.mk_core.specs.Steps.{is_out_of_memory, seen};
 ghost use Rattle.mk_core.specs.Views.{DrawsOver, PrintsOver};
@@ -75,7 +76,8 @@ impl Command for DrawGraph {
 /// the makefile (1 to 37); `InferencePrerequisites` (45), the goals (27, 28), `NoGoal` (44); the
 /// footprint file (35, 38, 51 to 58); `NoRule` (41) and `TooManyNodes` (43) as the walk from the
 /// goals meets them, `Cycle` (42); and if commands are printed, those of the commands (11 to 17),
-/// node by node in the serial order. Out of memory can come in place of any result.
+/// node by node in the serial order. Out of memory can come in place of any result. A bad name of
+/// the makefile and a bad operand are refused before any file is read.
 pub fn graph_text<F: Files>(
     alloc: Global,
     files: &mut F,
@@ -88,6 +90,7 @@ pub fn graph_text<F: Files>(
         (seen (λ text. text.items) result)) }
     ensures memory { IfErr result (λ fault. is_out_of_memory fault ≡ true → fault ≡ Memory) }
     ensures noted { NotesFailure (F.failed files.old) (F.failed files.new) result }
+    ensures untouched { OnErr (macros_for request.now) (files.new ≡ files.old) }
 {
     let command = DrawGraph {
         commands: request.commands,

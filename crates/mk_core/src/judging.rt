@@ -1,12 +1,13 @@
 //! Commands that judge a build: what `check`, `check -e` and `verify` share.
 
-ghost use Rattle.std.specs.Prelude.{◌≡◌, ◌⊎◌, ◌<◌, ◌-◌, ◌^◌, true, Result, Ok, Err, IfErr};
+ghost use Rattle.std.specs.Prelude.{◌≡◌, ◌⊎◌, true, Result, Ok, Err, IfErr, OnErr};
 ghost use Rattle.mk_cert.specs.Subject.{Subject as SubjectValue};
 ghost use Rattle.mk_infer.specs.Selection.{Selects};
 ghost use Rattle.mk_read.specs.Files.{IfFits, Keeps, Told};
 ghost use Rattle.mk_read.specs.declared.fault.ReadFault as read;
 ghost use Rattle.mk_core.specs.NotRead.{judged_not_read};
 ghost use Rattle.mk_core.specs.Answer.{Answers, NotesFailure};
+ghost use Rattle.mk_core.specs.Ready.{macros_for};
 ghost use Rattle.mk_core.specs.Judging.{AnswersJudged, AnswersTold, recorded, subject_over};
 ghost use Rattle.mk_core.specs.Steps.{is_out_of_memory};
 ghost use Rattle.mk_core_text.specs.declared.fault.Fault as faults;
@@ -132,6 +133,7 @@ pub fn answer_judged<F: Files, J: Judge + Drop>(
         (λ told. Answers told request.now (AnswersJudged (J.judges judge told)) result) }
     ensures memory { IfErr result (λ fault. is_out_of_memory fault ≡ true → fault ≡ Memory) }
     ensures noted { NotesFailure (F.failed files.old) (F.failed files.new) result }
+    ensures untouched { OnErr (macros_for request.now) (files.new ≡ files.old) }
 {
     let command = Judged { judge };
     answer_request(alloc, files, request, &command)

@@ -1,6 +1,6 @@
 //! The command `simulate`.
 
-ghost use Rattle.std.specs.Prelude.{◌≡◌, ◌<◌, ◌-◌, ◌^◌, true, IfErr, IfOk};
+ghost use Rattle.std.specs.Prelude.{◌≡◌, true, IfErr, IfOk, OnErr};
 ghost use Rattle.mk_foot.specs.Setting.{Setting as SettingValue};
 ghost use Rattle.mk_graph.specs.Graph.{Graph as GraphValue};
 ghost use Rattle.mk_world.specs.Running.{stage_of};
@@ -9,6 +9,7 @@ ghost use Rattle.mk_world.specs.Steps.{IsFirstOf};
 ghost use Rattle.mk_read.specs.Files.{IfFits, Keeps};
 ghost use Rattle.mk_core.specs.NotRead.{simulation_not_read};
 ghost use Rattle.mk_core.specs.Answer.{Answers, NotesFailure};
+ghost use Rattle.mk_core.specs.Ready.{macros_for};
 ghost use Rattle.mk_core.specs.Simulation.{ShowsRun, last_lines};
 ghost use Rattle.mk_core.specs.SimulationAnswer.{AnswersSimulation};
 ghost use Rattle.mk_core.specs.Steps.{is_out_of_memory};
@@ -165,7 +166,8 @@ impl Command for SimulatePlan<'_> {
 /// the makefile (1 to 37); `InferencePrerequisites` (45), the goals (27, 28), `NoGoal` (44); the
 /// footprint file (35, 38, 51 to 58); `NoRule` (41) and `TooManyNodes` (43) as the walk from the
 /// goals meets them, `Cycle` (42); the plan file (35, 38, 69). Out of memory can come in place of
-/// any result. A line that is refused while the plan runs is no error: the output shows it.
+/// any result. A line that is refused while the plan runs is no error: the output shows it. A bad
+/// name of the makefile and a bad operand are refused before any file is read.
 pub fn simulate_text<F: Files>(
     alloc: Global,
     files: &mut F,
@@ -177,6 +179,7 @@ pub fn simulate_text<F: Files>(
         (λ told. Answers told request.now (AnswersSimulation told plan.now) result) }
     ensures memory { IfErr result (λ fault. is_out_of_memory fault ≡ true → fault ≡ Memory) }
     ensures noted { NotesFailure (F.failed files.old) (F.failed files.new) result }
+    ensures untouched { OnErr (macros_for request.now) (files.new ≡ files.old) }
 {
     answer_request(alloc, files, request, &SimulatePlan { plan })
 }

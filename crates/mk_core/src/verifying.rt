@@ -1,9 +1,10 @@
 //! The command `verify`.
 
-ghost use Rattle.std.specs.Prelude.{◌≡◌, ◌⊎◌, ◌<◌, ◌-◌, ◌^◌, ℕ, true, Err, IfErr, IfOk, OnOk};
+ghost use Rattle.std.specs.Prelude.{◌≡◌, ℕ, List, true, IfErr, OnOk, OnErr};
 ghost use Rattle.mk_read.specs.Files.{IfFits, Keeps};
 ghost use Rattle.mk_core.specs.NotRead.{verified_not_read};
 ghost use Rattle.mk_core.specs.Answer.{Answers, NotesFailure, failing_of};
+ghost use Rattle.mk_core.specs.Ready.{macros_for};
 ghost use Rattle.mk_core.specs.FileText.{text_of};
 ghost use Rattle.mk_core.specs.Right.{IsRightFor};
 ghost use Rattle.mk_core.specs.Steps.{is_out_of_memory, seen};
@@ -108,6 +109,7 @@ pub fn verify_text<F: Files>(
         (λ told. OnOk result (IsRightFor told request.now)) }
     ensures memory { IfErr result (λ fault. is_out_of_memory fault ≡ true → fault ≡ Memory) }
     ensures noted { NotesFailure (F.failed files.old) (F.failed files.new) result }
+    ensures untouched { OnErr (macros_for request.now) (files.new ≡ files.old) }
 {
     accepted_is_right();
     let judge = VerifyBuild { name: certificate };

@@ -1,11 +1,12 @@
 //! The command `check -e`: the plan that shows a finding.
 
-ghost use Rattle.std.specs.Prelude.{◌≡◌, ◌<◌, ◌-◌, ◌^◌, ℕ, true, map, option_map, IfErr, IfOk, MatchOption};
+ghost use Rattle.std.specs.Prelude.{◌≡◌, true, map, option_map, IfErr, IfOk, MatchOption, OnErr};
 ghost use Rattle.mk_cert.specs.declared.finding.Finding.{Finding as FindingValue};
 ghost use Rattle.mk_find.specs.Findings.{AreFindings};
 ghost use Rattle.mk_read.specs.Files.{IfFits, Keeps};
 ghost use Rattle.mk_core_evidence.specs.NotRead.{evidence_not_read};
 ghost use Rattle.mk_core.specs.Answer.{Answers, NotesFailure};
+ghost use Rattle.mk_core.specs.Ready.{macros_for};
 ghost use Rattle.mk_core.specs.CheckAnswer.{AnswersCheck};
 ghost use Rattle.mk_core.specs.Right.{IsRightFor};
 ghost use Rattle.mk_world.specs.NamedStep.{step_view};
@@ -166,6 +167,7 @@ pub fn evidence_or_verdict<F: Files>(
         (λ told. HasYes result → IsRightFor told request.now) }
     ensures memory { IfErr result (λ fault. is_out_of_memory fault ≡ true → fault ≡ Memory) }
     ensures noted { NotesFailure (F.failed files.old) (F.failed files.new) result }
+    ensures untouched { OnErr (macros_for request.now) (files.new ≡ files.old) }
 {
     yes_is_right();
     let leaves_memory = request.leaves_memory;
@@ -196,6 +198,7 @@ pub fn evidence_text<F: Files>(
         (seen (option_map (λ text. text.items)) result)) }
     ensures memory { IfErr result (λ fault. is_out_of_memory fault ≡ true → fault ≡ Memory) }
     ensures noted { NotesFailure (F.failed files.old) (F.failed files.new) result }
+    ensures untouched { OnErr (macros_for request.now) (files.new ≡ files.old) }
 {
     match evidence_or_verdict(alloc, files, request, number)? {
         Evidence::Plan(plan) => Ok(Some(plan)),

@@ -1,5 +1,5 @@
 use Rattle.std.proofs.lemmas.Result.{err_from_is_err_and}
-use Rattle.mk_core.proofs.Answering.{over, read_fails, read_well}
+use Rattle.mk_core.proofs.Answering.{not_refused, over, read_fails, read_well, untouched_by}
 use Rattle.mk_core.proofs.command.answer_request.Goals as goal
 
 pub returns-in_err-makefile-clause-answer : goal.returns-in_err-makefile-clause-answer
@@ -20,3 +20,11 @@ returns-clause-answer g c =
     (read_well told request (answers told) _ _ c.as_ref.ensures.value c.as_slice.ensures m
     (c.in_ok-makefile.ensures.answer told (c.answer_over-answer.ensures.keeps told fits)))
     (g.met.C.Command.not_read command told) found (c.answer_over-answer.ensures.answer told fits)
+
+pub returns-in_err-makefile-clause-untouched : goal.returns-in_err-makefile-clause-untouched
+returns-in_err-makefile-clause-untouched g c =
+    untouched_by c.args.request.now _ _ c.as_ref.ensures.value c.as_slice.ensures _ c.in_err-makefile.ensures.untouched
+
+pub returns-clause-untouched : goal.returns-clause-untouched
+returns-clause-untouched g c =
+    not_refused c.args.request.now _ _ c.as_ref.ensures.value c.as_slice.ensures _ c.in_ok-makefile.ensures.accepted

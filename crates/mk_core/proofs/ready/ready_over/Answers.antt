@@ -3,7 +3,7 @@ use Rattle.std.proofs.lemmas.Result.{err_from_is_err_and}
 use Rattle.mk_infer.specs.Goals.{goal_names}
 use Rattle.mk_infer.specs.Steps as inferring
 use Rattle.mk_core.proofs.Answering.{goals_fail, goals_found}
-use Rattle.mk_core.proofs.Faults.{plain_infer, stays_infer}
+use Rattle.mk_core.proofs.Faults.{plain_infer, notes_infer}
 use Rattle.mk_core.proofs.ready.ready_over.Goals as goal
 
 pub returns-in_err-goals-clause-ready : goal.returns-in_err-goals-clause-ready
@@ -18,10 +18,10 @@ returns-in_err-goals-clause-memory g c =
     let p = err_from_is_err_and c.from_residual.result c.from_residual.ensures.1 in
     rw (p.1, p.2) (plain_infer c.in_err-goals.field-0.0)
 
-pub returns-in_err-goals-clause-counted : goal.returns-in_err-goals-clause-counted
-returns-in_err-goals-clause-counted g c =
+pub returns-in_err-goals-clause-noted : goal.returns-in_err-goals-clause-noted
+returns-in_err-goals-clause-noted g c =
     let p = err_from_is_err_and c.from_residual.result c.from_residual.ensures.1 in
-    rw (p.1, p.2) (stays_infer (g.F.Files.failed c.args.files.now) (g.F.Files.failed c.args.files.now) c.in_err-goals.field-0.0 refl)
+    rw (p.1, p.2) (notes_infer (g.F.Files.failed c.args.files.now) (g.F.Files.failed c.args.files.now) c.in_err-goals.field-0.0 refl)
 
 pub returns-clause-ready : goal.returns-clause-ready
 returns-clause-ready g c =

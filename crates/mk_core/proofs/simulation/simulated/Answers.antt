@@ -3,7 +3,7 @@ use Rattle.std.proofs.lemmas.Result.{err_from_is_err_and}
 use Rattle.mk_foot.specs.Setting.{Setting}
 use Rattle.mk_infer.specs.There.{Exists}
 use Rattle.mk_core.specs.Views.{RunsTextOver, Selected}
-use Rattle.mk_core.proofs.Faults.{plain_infer, stays_infer}
+use Rattle.mk_core.proofs.Faults.{plain_infer, notes_infer}
 use Rattle.mk_core.proofs.Simulating.{no_graph, over_graph}
 use Rattle.mk_core.proofs.simulation.simulated.Goals as goal
 
@@ -20,10 +20,10 @@ returns-in_err-graph-clause-memory g c =
     let p = err_from_is_err_and c.from_residual.result c.from_residual.ensures.1 in
     rw (p.1, p.2) (plain_infer c.in_err-graph.field-0.0)
 
-pub returns-in_err-graph-clause-counted : goal.returns-in_err-graph-clause-counted
-returns-in_err-graph-clause-counted g c =
+pub returns-in_err-graph-clause-noted : goal.returns-in_err-graph-clause-noted
+returns-in_err-graph-clause-noted g c =
     let p = err_from_is_err_and c.from_residual.result c.from_residual.ensures.1 in
-    rw (p.1, p.2) (stays_infer (g.F.Files.failed c.args.files.now) (g.F.Files.failed c.args.files.now) c.in_err-graph.field-0.0 refl)
+    rw (p.1, p.2) (notes_infer (g.F.Files.failed c.args.files.now) (g.F.Files.failed c.args.files.now) c.in_err-graph.field-0.0 refl)
 
 pub returns-clause-answer : goal.returns-clause-answer
 returns-clause-answer g c =
