@@ -1,16 +1,16 @@
 -- What the parts of a run make together.
-use Rattle.std.proofs.Common.{◌≡◌, ◌⊎◌, ◌∙◌, ℕ, Bool, true, true≢false, nat_eq, List, Option, Some, None, refl, sym, ap, ap₂, subst, inl, inr, Result, Ok, Err, IfOk, arith}
-use Rattle.std.specs.Prelude.{unwrap_or}
+use Rattle.std.proofs.Common.{◌≡◌, ◌⊎◌, ◌∙◌, ℕ, Bool, true, true≢false, nat_eq, List, [], Option, Some, None, refl, sym, ap, ap₂, subst, inl, inr, Result, Ok, Err, IfOk, arith}
+use Rattle.std.specs.Prelude.{IsErr, OnErr, unwrap_or}
 use Rattle.std.specs.Option.{option_map}
 use Rattle.clap.specs.Words.{IsAmong, Kinds, Row, Text, is_simple, is_simple_and_free}
 use Rattle.clap.specs.declared.error.ErrorKind.{ErrorKind}
 use Rattle.clap.specs.declared.error.ErrorKind.TheVariants.{OutOfMemory}
 use Rattle.clap.proofs.OnLiterals.{clap_on_literals}
-use Rattle.mk_core.specs.Answer.{Answers, Counts}
+use Rattle.mk_core.specs.Answer.{Answers}
 use Rattle.mk_core.specs.CheckAnswer.{AnswersCheck}
+use Rattle.mk_core.specs.Ready.{macros_for}
 use Rattle.mk_core_evidence.specs.EvidenceAnswer.{AnswersEvidence, HasVerdict, plan_in}
 use Rattle.mk_core.specs.Files.{Told}
-use Rattle.mk_core.specs.Steps.{seen}
 use Rattle.mk_core_text.specs.declared.fault.Fault.{Fault}
 use Rattle.mk_core_text.specs.declared.fault.Fault.TheVariants.{Memory}
 use Rattle.mk_core.specs.declared.request.Request.{Request}
@@ -20,6 +20,7 @@ use Rattle.mk_core_text.specs.declared.verdict.Verdict.TheVariants.{Yes, No}
 use Rattle.mkcheck_run.specs.declared.invocation.Invocation.{Invocation}
 use Rattle.mkcheck_run.specs.declared.invocation.Invocation.TheVariants.{Check}
 use Rattle.mkcheck_run.specs.CommandLine.{command_line}
+use Rattle.mkcheck_run.specs.Invocation.{AreRefusedUnread, faults_of, invocation_of, request_in}
 use Rattle.mkcheck_host.specs.Outcome.{Written}
 use Rattle.mkcheck_run.specs.Run.{AnswersInvocation, Explains, Promises, Response, Shows, evidence_response}
 
@@ -42,11 +43,6 @@ pub is_simple_command : is_simple command_line ≡ true
 unfolding clap_on_literals
 is_simple_command = refl
 
--- the count with a result is the count with its view
-pub counts_seen : {X Y : Type 0} (view : X → Y) (old new : ℕ) (r : Result X Fault) → Counts old new r → Counts old new (seen view r)
-counts_seen view old new (Ok x) h = h
-counts_seen view old new (Err fault) h = h
-
 -- out of memory is a response to a request for a verdict
 pub no_memory_answers : (told : Told) (request : Request) (only_certificate : Bool) → AnswersInvocation told (Check request only_certificate None) (Err Memory)
 no_memory_answers told request only_certificate = (Err Memory, tt, refl)
@@ -66,6 +62,15 @@ module _ (told : Told) (request : Request) (only_certificate : Bool) (number : �
       → shown ≡ evidence_response only_certificate evidence → AnswersInvocation told (Check request only_certificate (Some number)) (Ok shown)
   evidence_answers evidence shown a v e =
       subst (λ (s : Response). AnswersInvocation told (Check request only_certificate (Some number)) (Ok s)) (sym e) (evidence_shows evidence a v)
+
+-- words without a fault are refused unread only with their makefile's name or an operand
+pub unread_by : (words : List Text) (same : Type 0) → faults_of words ≡ [] → OnErr (macros_for (request_in (invocation_of words))) same → AreRefusedUnread words → same
+unread_by words same none h (inl some) = absurd (some none)
+unread_by words same none h (inr is) = at (macros_for (request_in (invocation_of words))) h is
+  where
+    at : {A E : Type 0} (r : Result A E) → OnErr r same → IsErr r → same
+    at (Ok x) k is = absurd cc
+    at (Err fault) k is = k
 
 -- what status 0 of an answer promises, it promises where it is written
 pub promised : (told : Told) (asked : Invocation) (answer : Result Response Fault) (w : Written)

@@ -1,11 +1,12 @@
 -- The command that the words of a command line give.
-use Rattle.std.specs.Prelude.{ℕ, ◌^◌, Bool, true, false, not, ◌&&◌, nat_lt, List, None, Some, [], Option, option_and_then, codes, length, unwrap_or, if◌then◌else◌}
+use Rattle.std.specs.Prelude.{◌≢◌, ◌⊎◌, ℕ, ◌^◌, Bool, true, false, not, ◌&&◌, nat_lt, List, None, Some, [], Option, option_and_then, codes, length, unwrap_or, IsErr, if◌then◌else◌}
 use Rattle.std.specs.Char.{is_ascii_digit}
 use Rattle.std.specs.List.{list_all}
 use Rattle.std.specs.Str.{bytes_eq}
 use Rattle.std.specs.Str.Parse.{digits_value, without_leading_plus}
 use Rattle.clap.specs.Words.{Kinds, Row, Text, all_of, count_of, fault_of, first_of, subcommand_of}
 use Rattle.mk_core.specs.declared.request.Request.{Request}
+use Rattle.mk_core.specs.Ready.{macros_for}
 use Rattle.mk_core.specs.Words.{goals_of, operands_of}
 use Rattle.mkcheck_run.specs.declared.invocation.Invocation.{Invocation}
 use Rattle.mkcheck_run.specs.declared.invocation.Invocation.TheVariants.{Graph, Check, Verify, Simulate}
@@ -84,3 +85,16 @@ asked_with (Some met) = invocation_by met.0 met.1
 -- The command that the words give.
 abbrev pub invocation_of : List Text → Invocation
 invocation_of words = asked_with (subcommand_of command_line words)
+
+-- The request of a command.
+abbrev pub request_in : Invocation → Request
+request_in (Graph request) = request
+request_in (Check request only_certificate evidence) = request
+request_in (Verify request certificate) = request
+request_in (Simulate request plan) = request
+
+-- The words are refused before any file is read: they have a fault, or they give a makefile's name
+-- or a macro operand that is refused.
+abbrev pub AreRefusedUnread : List Text → Type 0
+AreRefusedUnread words =
+    (faults_of words ≢ []) ⊎ IsErr (macros_for (request_in (invocation_of words)))

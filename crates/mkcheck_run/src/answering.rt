@@ -1,11 +1,13 @@
 //! Carries out a command.
 
-ghost use Rattle.std.specs.Prelude.{◌≡◌, ◌<◌, ◌-◌, ◌^◌, ◌∷◌, ◌++◌, [], None, Some, IfOk};
+ghost use Rattle.std.specs.Prelude.{◌≡◌, ◌∷◌, ◌++◌, [], None, Some, IfOk, OnErr};
 ghost use Rattle.mk_core.specs.Files.{IfFits, Keeps};
 ghost use Rattle.mk_core.specs.Answer.{NotesFailure};
+ghost use Rattle.mk_core.specs.Ready.{macros_for};
 ghost use Rattle.mk_core.specs.Right.{IsRightFor};
 ghost use Rattle.mk_cert_text.specs.Writing.{value_of};
 ghost use Rattle.serde_json.specs.Written.{compact_text};
+ghost use Rattle.mkcheck_run.specs.Invocation.{request_in};
 ghost use Rattle.mkcheck_run.specs.Run.{AnswersInvocation, Promises, evidence_response, plan_response, run_response, text_response, verdict_response, response_without_plan};
 ghost use Rattle.mkcheck_run.specs.declared.invocation.Invocation.TheVariants.{Check};
 
@@ -123,6 +125,7 @@ fn answer_check<F: Files>(
     ensures right { IfFits (F.fits files.new)
         (λ told. IfOk result (λ shown. shown.status ≡ 0 → IsRightFor told request.now)) }
     ensures noted { NotesFailure (F.failed files.old) (F.failed files.new) result }
+    ensures untouched { OnErr (macros_for request.now) (files.new ≡ files.old) }
 {
     let verdict = check(alloc, files, request)?;
     let shown = verdict_response(alloc, &verdict, only_certificate)?;
@@ -159,6 +162,7 @@ fn answer_plan<F: Files>(
     ensures right { IfFits (F.fits files.new)
         (λ told. IfOk result (λ shown. shown.status ≡ 0 → IsRightFor told request.now)) }
     ensures noted { NotesFailure (F.failed files.old) (F.failed files.new) result }
+    ensures untouched { OnErr (macros_for request.now) (files.new ≡ files.old) }
 {
     let evidence = evidence_or_verdict(alloc, files, request, number)?;
     let shown = evidence_response(alloc, evidence, only_certificate)?;
@@ -174,6 +178,7 @@ pub fn answer<F: Files>(alloc: Global, files: &mut F, asked: &Invocation) -> Res
     ensures right { IfFits (F.fits files.new)
         (λ told. IfOk result (λ shown. shown.status ≡ 0 → Promises told asked.now)) }
     ensures noted { NotesFailure (F.failed files.old) (F.failed files.new) result }
+    ensures untouched { OnErr (macros_for (request_in asked.now)) (files.new ≡ files.old) }
 {
     match asked {
         Invocation::Graph(request) => {

@@ -1,9 +1,10 @@
 //! Runs the program over the words of its command line.
 
-ghost use Rattle.std.specs.Prelude.{ℕ, List, Option, length, ◌≡◌, ◌≢◌, ◌<◌, ◌^◌, ◌-◌, [], true, map, Err, IfOk};
+ghost use Rattle.std.specs.Prelude.{ℕ, List, Option, length, ◌≡◌, ◌≢◌, ◌<◌, ◌^◌, [], true, map, Err, IfOk, OnErr};
 ghost use Rattle.clap.specs.Words.{has_subcommand, kind_of, subcommand_rows_of};
 ghost use Rattle.mk_core.specs.Files.{IfFits, Keeps};
-ghost use Rattle.mkcheck_run.specs.Invocation.{invocation_of, asked_with, asking, faults_of};
+ghost use Rattle.mk_core.specs.Ready.{macros_for};
+ghost use Rattle.mkcheck_run.specs.Invocation.{AreRefusedUnread, invocation_of, asked_with, asking, faults_of, request_in};
 ghost use Rattle.mkcheck_run.specs.CommandLine.{HasNoOption, graph_words};
 ghost use Rattle.mkcheck_host.specs.Outcome.{written};
 ghost use Rattle.mkcheck_run.specs.Run.{Explains, IsAnswered, IsRefused, Promises, Shows};
@@ -90,6 +91,8 @@ fn answered<F: Files>(
         (F.failed files.new) (asked_with (subcommand_rows_of matches.now)) (written outcome)) }
     ensures right { IfOk result (λ outcome. outcome.status ≡ 0 → IfFits (F.fits files.new)
         (λ told. Promises told (asked_with (subcommand_rows_of matches.now)))) }
+    ensures untouched { OnErr (macros_for (request_in (asked_with (subcommand_rows_of matches.now))))
+        (files.new ≡ files.old) }
 {
     let (name, met) = matches.subcommand().unwrap();
     let asked = invocation_by(alloc, name, met)?;
@@ -127,10 +130,13 @@ pub fn run<F: Files, S: AsStr>(
         IsAnswered (F.fits files.new) (F.failed files.old) (F.failed files.new)
         (Graph (asking makefile asked)) (written outcome)) }
 
-    // Words with a fault are refused, and nothing is read.
+    // Words with a fault are refused.
     ensures refused { IfOk result (λ outcome. faults_of (map S.text words.now) ≢ [] →
-        IsRefused (faults_of (map S.text words.now)) (written outcome)
-        × (files.new ≡ files.old)) }
+        IsRefused (faults_of (map S.text words.now)) (written outcome)) }
+
+    // Words with a fault, a bad name of the makefile and a bad macro operand are refused before any
+    // file is read.
+    ensures untouched { AreRefusedUnread (map S.text words.now) → files.new ≡ files.old }
 {
     let command = command_line(alloc)?;
     match command.try_get_matches_from(words) {

@@ -1,9 +1,9 @@
 //! Runs the program from the words of the command line, or from the error in their place.
 
-ghost use Rattle.std.specs.Prelude.{◌≡◌, ◌≢◌, ◌<◌, ◌^◌, ◌-◌, [], map, Err, IfErr, IfOk, OnOk};
+ghost use Rattle.std.specs.Prelude.{◌≡◌, ◌≢◌, [], map, Err, IfErr, IfOk, OnErr, OnOk};
 ghost use Rattle.std.specs.IoError.{error_kind};
-ghost use Rattle.mk_core.specs.Files.{IfFits};
-ghost use Rattle.mkcheck_run.specs.Invocation.{invocation_of, faults_of};
+ghost use Rattle.mk_core.specs.Files.{IfFits, Keeps};
+ghost use Rattle.mkcheck_run.specs.Invocation.{AreRefusedUnread, invocation_of, faults_of};
 ghost use Rattle.mkcheck_host.specs.Outcome.{written};
 ghost use Rattle.mkcheck_run.specs.Run.{IsAnswered, Promises};
 
@@ -27,6 +27,8 @@ pub fn run_arguments<F: Files>(
     ensures words { IfErr words (λ error. error_kind error ≢ ErrorKind.OutOfMemory
         → result ≡ Err Stop.Words) }
 
+    ensures keeps { Keeps (F.fits files.old) (F.fits files.new) }
+
     // Words without a fault give a command, which is carried out; and status 0 of a verdict says
     // that the build is right.
     ensures taken { IfOk words (λ given. IfOk result (λ outcome.
@@ -37,6 +39,12 @@ pub fn run_arguments<F: Files>(
         faults_of (map ⟦<String as AsStr>⟧.text given.items) ≡ [] → outcome.status ≡ 0 →
         IfFits (F.fits files.new)
         (λ told. Promises told (invocation_of (map ⟦<String as AsStr>⟧.text given.items))))) }
+
+    // Words with a fault, a bad name of the makefile and a bad macro operand are refused before any
+    // file is read. Without words nothing is read.
+    ensures untouched { IfOk words (λ given.
+        AreRefusedUnread (map ⟦<String as AsStr>⟧.text given.items) → files.new ≡ files.old) }
+    ensures unread { OnErr words (files.new ≡ files.old) }
 
     // Where there are words, only out of memory can stand in place of an outcome.
     ensures want { OnOk words (IfErr result (λ stop. stop ≡ Stop.Memory)) }

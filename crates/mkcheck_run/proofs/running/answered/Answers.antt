@@ -1,9 +1,10 @@
 use Rattle.std.proofs.Common.{◌∙◌, sym, ap, subst}
 use Rattle.std.proofs.lemmas.Result.{IfOk-weaker}
-use Rattle.std.specs.Prelude.{◌≡◌, IfOk}
+use Rattle.std.specs.Prelude.{◌≡◌, IfOk, OnErr}
 use Rattle.clap.specs.Words.{found_of, rows_of}
+use Rattle.mk_core.specs.Ready.{macros_for}
 use Rattle.mkcheck_run.specs.declared.invocation.Invocation.{Invocation}
-use Rattle.mkcheck_run.specs.Invocation.{asked_with}
+use Rattle.mkcheck_run.specs.Invocation.{asked_with, request_in}
 use Rattle.mkcheck_run.specs.Run.{AnswersInvocation, Promises}
 use Rattle.mkcheck_run.proofs.RunLemmas.{met_found, promised}
 use Rattle.mkcheck_run.proofs.running.answered.Goals as goal
@@ -18,7 +19,7 @@ returns-clause-answered g c =
       answers = λ told fits.
           subst (λ (a : Invocation). AnswersInvocation told a found) asks
           (c.answer-found.ensures.answer told fits);
-      counts = c.answer-found.ensures.counted;
+      noted = c.answer-found.ensures.noted;
       shows = h;
     }) c.shown.ensures
 
@@ -30,3 +31,9 @@ returns-clause-right g c =
     IfOk-weaker c.shown.result _ _ (λ outcome shows done told fits. promised told _ found _
     (subst (λ (a : Invocation). IfOk found (λ shown. shown.status ≡ 0 → Promises told a)) asks
     (c.answer-found.ensures.right told fits)) shows done) c.shown.ensures
+
+pub returns-clause-untouched : goal.returns-clause-untouched
+returns-clause-untouched g c =
+    let met = met_found (λ p. p.0.now) (λ p. rows_of (found_of p.1.now)) _ _ _ c.subcommand.result c.unwrap.result c.subcommand.ensures.name c.subcommand.ensures.rows c.unwrap.ensures in
+    let asks = c.in_ok-asked.ensures ∙ sym (ap asked_with met) in
+    subst (λ (a : Invocation). OnErr (macros_for (request_in a)) _) asks c.answer-found.ensures.untouched

@@ -1,13 +1,15 @@
 use Rattle.std.proofs.Common.{◌≡◌, ◌∙◌, [], ap, subst, map, refl}
 use Rattle.std.proofs.lemmas.Result.{IfOk-weaker}
+use Rattle.std.specs.Prelude.{OnErr}
 use Rattle.clap.specs.Words.{App, HasKind, IsAmong, fault_of, is_simple, is_simple_and_free, kind_of, subcommand_of}
 use Rattle.mkcheck_run.specs.declared.invocation.Invocation.{Invocation}
-use Rattle.mkcheck_run.specs.Invocation.{invocation_of, asked_with, faults_of}
+use Rattle.mkcheck_run.specs.Invocation.{invocation_of, asked_with, faults_of, request_in}
 use Rattle.mk_core.specs.Files.{IfFits}
+use Rattle.mk_core.specs.Ready.{macros_for}
 use Rattle.mkcheck_host.specs.Outcome.{written}
 use Rattle.mkcheck_run.specs.Run.{IsAnswered, Promises}
 use Rattle.mkcheck_run.proofs.PlainWords.{plain_asked, plain_taken}
-use Rattle.mkcheck_run.proofs.RunLemmas.{IfOk-each, explained_kind, is_simple_command, is_simple_line}
+use Rattle.mkcheck_run.proofs.RunLemmas.{IfOk-each, explained_kind, is_simple_command, is_simple_line, unread_by}
 use Rattle.mkcheck_run.proofs.running.run.Goals as goal
 
 pub returns-in-Ok-clause-refused : goal.returns-in-Ok-clause-refused
@@ -29,7 +31,7 @@ returns-in-Err-clause-refused g c =
     let app = c.in_ok-command.ensures.app in
     let words = map g.S.AsStr.text c.args.words.now in
     let kinds = subst (λ (a : App). HasKind (fault_of a words) c.in-Err.error) app (c.in-Err.ensures.kinds (ap is_simple_and_free app ∙ is_simple_line)) in
-    IfOk-weaker c.explained.result _ _ (λ outcome h some. ((kind_of c.in-Err.error, explained_kind _ _ _ h kinds, h), refl)) c.explained.ensures
+    IfOk-weaker c.explained.result _ _ (λ outcome h some. (kind_of c.in-Err.error, explained_kind _ _ _ h kinds, h)) c.explained.ensures
 
 pub returns-in-Ok-clause-plain : goal.returns-in-Ok-clause-plain
 returns-in-Ok-clause-plain g c =
@@ -72,3 +74,11 @@ returns-in-Err-clause-right g c =
     let words = map g.S.AsStr.text c.args.words.now in
     let kinds = subst (λ (a : App). HasKind (fault_of a words) c.in-Err.error) app (c.in-Err.ensures.kinds (ap is_simple_and_free app ∙ is_simple_line)) in
     IfOk-weaker c.explained.result _ _ (λ outcome h none done. absurd (subst (IsAmong (kind_of c.in-Err.error)) none (explained_kind _ _ _ h kinds))) c.explained.ensures
+
+pub returns-in-Ok-clause-untouched : goal.returns-in-Ok-clause-untouched
+returns-in-Ok-clause-untouched g c =
+    let app = c.in_ok-command.ensures.app in
+    let words = map g.S.AsStr.text c.args.words.now in
+    let none = subst (λ (a : App). fault_of a words ≡ []) app (c.in-Ok.ensures.kinds (ap is_simple_and_free app ∙ is_simple_line)) in
+    let met = (c.in-Ok.ensures.matches (ap is_simple app ∙ is_simple_command)).1 ∙ ap (λ (a : App). subcommand_of a words) app in
+    unread_by words _ none (subst (λ (a : Invocation). OnErr (macros_for (request_in a)) _) (ap asked_with met) c.answered.ensures.untouched)
