@@ -1,8 +1,5 @@
 //! Rows on the public calls, over files in memory.
 
-ghost use Rattle.std.specs.Prelude.{◌≡◌, ◌<◌, ◌-◌, ◌^◌, IfOk};
-ghost use Rattle.mk_read_parse.specs.MemFiles.{failures_of};
-
 use crate::expecting::expect_rows;
 use mk_core::{Fault, Files, FilesError, MemFiles, Name, Names, split_words};
 use mk_infer::InferFault;
@@ -278,9 +275,7 @@ fn refuses_names_before_operands(rt: HostRuntime) -> Result<(), Fail> {
 
 /// Makes a makefile that includes `f1`, the files `f1` to `f15`, each of which includes the next
 /// one, and `f16` with the text `last`.
-fn chain(alloc: Global, last: &str) -> Result<MemFiles, Fail>
-    ensures { IfOk result (λ files. failures_of files ≡ 0) }
-{
+fn chain(alloc: Global, last: &str) -> Result<MemFiles, Fail> {
     let mut files = MemFiles::new(alloc);
     files.add("makefile", b"include f1\n")?;
     for i in 1..16 {
@@ -293,14 +288,12 @@ fn chain(alloc: Global, last: &str) -> Result<MemFiles, Fail>
     Ok(files)
 }
 
-/// Returns what is printed for `chain` if the read with this number fails, and how many reads
-/// failed.
-fn over_chain(alloc: Global, last: &str, failing: u64) -> Result<(String, u64), Fail> {
+/// Returns what is printed for `chain` if the read with this number fails.
+fn over_chain(alloc: Global, last: &str, failing: u64) -> Result<String, Fail> {
     let asked = request(alloc, None, "")?;
     let mut files = chain(alloc, last)?;
     files.fail_at(failing);
-    let got = answer(alloc, &mut files, &asked)?;
-    Ok((got, files.failures()))
+    answer(alloc, &mut files, &asked)
 }
 
 #[test]
@@ -309,9 +302,8 @@ fn includes_16_levels_deep(rt: HostRuntime) -> Result<(), Fail> {
         ("a:\n", "goals a\na:\n"),
         ("include f17\n", "refused 33 f16:1"),
     ] {
-        let (got, failures) = over_chain(rt.alloc(), last, 0)?;
+        let got = over_chain(rt.alloc(), last, 0)?;
         assert_eq!(rt; got.as_str(), printed);
-        assert_eq!(rt; failures, 0);
     }
     Ok(())
 }
@@ -329,14 +321,12 @@ fn failed(alloc: Global, read: u64) -> Result<String, AllocError> {
 #[test]
 fn answers_each_failed_read(rt: HostRuntime) -> Result<(), Fail> {
     for read in 1..18 {
-        let (got, failures) = over_chain(rt.alloc(), "a:\n", read)?;
+        let got = over_chain(rt.alloc(), "a:\n", read)?;
         let want = failed(rt.alloc(), read)?;
         assert_eq!(rt; got.as_str(), want.as_str());
-        assert_eq!(rt; failures, 1);
     }
-    let (got, failures) = over_chain(rt.alloc(), "a:\n", 18)?;
+    let got = over_chain(rt.alloc(), "a:\n", 18)?;
     assert_eq!(rt; got.as_str(), "goals a\na:\n");
-    assert_eq!(rt; failures, 0);
     Ok(())
 }
 
@@ -347,21 +337,28 @@ fn over_includes(alloc: Global, line: &str, failing: u64) -> Result<String, Fail
     let asked = request(alloc, None, "")?;
     let mut files = MemFiles::new(alloc);
     files.add("makefile", text.as_bytes())?;
-    files.add("y.mk", b"")?;
     files.add("x.mk", b"")?;
+    files.add("y.mk", b"")?;
+    files.add("z.mk", b"")?;
     files.fail_at(failing);
     answer(alloc, &mut files, &asked)
 }
 
 #[test]
 fn answers_failed_includes(rt: HostRuntime) -> Result<(), Fail> {
-    for (line, failing) in [
-        ("include x.mk", 2),
-        ("-include x.mk", 2),
-        ("include y.mk x.mk", 3),
+    for (line, failing, printed) in [
+        ("include x.mk", 2, "refused 35 makefile:3 x.mk"),
+        ("-include x.mk", 2, "refused 35 makefile:3 x.mk"),
+        ("include z.mk x.mk y.mk", 2, "refused 35 makefile:3 z.mk"),
+        ("include z.mk x.mk y.mk", 3, "refused 35 makefile:3 x.mk"),
+        ("include z.mk x.mk y.mk", 4, "refused 35 makefile:3 y.mk"),
+        ("include z.mk x.mk y.mk", 5, "goals a\na:\n"),
+        ("-include v.mk x.mk w.mk", 2, "refused 35 makefile:3 v.mk"),
+        ("-include v.mk x.mk w.mk", 3, "refused 35 makefile:3 x.mk"),
+        ("-include v.mk x.mk w.mk", 4, "refused 35 makefile:3 w.mk"),
     ] {
         let got = over_includes(rt.alloc(), line, failing)?;
-        assert_eq!(rt; got.as_str(), "refused 35 makefile:3 x.mk", "over {line:?}");
+        assert_eq!(rt; got.as_str(), printed, "over {line:?}");
     }
     Ok(())
 }
@@ -372,9 +369,7 @@ fn expect_or_memory(
     alloc: Global,
     files: &mut MemFiles,
     printed: &str,
-) -> Result<(), Fail>
-    requires { failures_of files.old < 2 ^ 64 - 1 }
-{
+) -> Result<(), Fail> {
     let got = answer(alloc, files, &request(alloc, None, "")?)?;
     let is_known = got.as_str() == printed || got.as_str() == "want of memory";
     assert!(rt; is_known, "over {printed:?}");
@@ -641,9 +636,7 @@ fn tells_goals_from_operands(rt: HostRuntime) -> Result<(), Fail> {
 }
 
 /// Makes files of which the second read fails.
-fn failing_second(alloc: Global) -> Result<MemFiles, AllocError>
-    ensures { IfOk result (λ files. failures_of files ≡ 0) }
-{
+fn failing_second(alloc: Global) -> Result<MemFiles, AllocError> {
     let mut files = MemFiles::new(alloc);
     files.add("a", b"x")?;
     files.fail_at(2);
@@ -651,15 +644,13 @@ fn failing_second(alloc: Global) -> Result<MemFiles, AllocError>
 }
 
 #[test]
-fn counts_failed_reads(rt: HostRuntime) -> Result<(), Fail> {
+fn fails_at_one_read(rt: HostRuntime) -> Result<(), Fail> {
     let mut files = failing_second(rt.alloc())?;
     let text = files.read(rt.alloc(), "a");
     assert!(rt; matches!(&text, Ok(Some(text)) if text.as_slice() == b"x".as_slice()));
     let text = files.read(rt.alloc(), "a");
     assert!(rt; matches!(&text, Err(FilesError::ReadFailed)));
-    assert_eq!(rt; files.failures(), 1);
     let text = files.read(rt.alloc(), "b");
     assert!(rt; matches!(&text, Ok(None)));
-    assert_eq!(rt; files.failures(), 1);
     Ok(())
 }

@@ -1,8 +1,5 @@
 //! Rows on inference rules, commands and footprints, over files in memory.
 
-ghost use Rattle.std.specs.Prelude.{◌≡◌};
-ghost use Rattle.mk_read_parse.specs.MemFiles.{failures_of};
-
 use crate::expecting::expect_rows;
 use mk_core::MemFiles;
 use std::process::Abort;

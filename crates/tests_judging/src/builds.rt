@@ -3,7 +3,6 @@
 ghost use Rattle.std.specs.Prelude.{◌≡◌, [], false, map, Ok, IfOk};
 ghost use Rattle.mk_graph.specs.Setting as build;
 ghost use Rattle.mk_infer.specs.Selection.{Selects};
-ghost use Rattle.mk_read_parse.specs.MemFiles.{failures_of};
 
 use crate::calls::{Call, answer};
 use mk_cert::Subject;
@@ -21,9 +20,7 @@ use std::test::Fail;
 use tests_tables::{footprints, part, rows, unfolded};
 
 /// Files in memory: a `makefile` with this text.
-fn files_of(alloc: Global, text: &str) -> Result<MemFiles, Fail>
-    ensures { IfOk result (λ files. failures_of files ≡ 0) }
-{
+fn files_of(alloc: Global, text: &str) -> Result<MemFiles, Fail> {
     let mut files = MemFiles::new(alloc);
     files.add("makefile", unfolded(alloc, text)?.as_bytes())?;
     Ok(files)

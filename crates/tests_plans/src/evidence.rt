@@ -1,8 +1,5 @@
 //! Rows of plans that show findings, and of the runs of these plans.
 
-ghost use Rattle.std.specs.Prelude.{◌≡◌, ◌<◌, ◌-◌, ◌^◌};
-ghost use Rattle.mk_read_parse.specs.MemFiles.{failures_of};
-
 use crate::simulations::printed;
 use mk_core::{Fault, MemFiles, Request, Verdict, render};
 use mk_core_evidence::{Evidence, evidence_or_verdict, evidence_text};
@@ -28,9 +25,7 @@ fn plan_over(
     files: &mut MemFiles,
     asked: &Request,
     number: u64,
-) -> Result<Vec<u8>, AllocError>
-    requires { failures_of files.old < 2 ^ 64 - 1 }
-{
+) -> Result<Vec<u8>, AllocError> {
     told(alloc, evidence_text(alloc, files, asked, number))
 }
 
@@ -181,9 +176,7 @@ fn evidence_over(
     files: &mut MemFiles,
     asked: &Request,
     number: u64,
-) -> Result<Vec<u8>, AllocError>
-    requires { failures_of files.old < 2 ^ 64 - 1 }
-{
+) -> Result<Vec<u8>, AllocError> {
     told_of(alloc, evidence_or_verdict(alloc, files, asked, number))
 }
 
@@ -215,6 +208,22 @@ fn expect_evidence(rt: &impl Abort, alloc: Global, row: &str) -> Result<(), Fail
 fn answers_plans_or_verdicts(rt: HostRuntime) -> Result<(), Fail> {
     for row in &rows(rt.alloc(), PLANS_OR_VERDICTS)? {
         expect_evidence(&rt, rt.alloc(), row)?;
+    }
+    Ok(())
+}
+
+/// A build with a stale read, of a makefile and footprints.
+const READS: &str = "p: s¶→mk p¶‖‖s t‖p: s t > p = mk p";
+
+#[test]
+fn refuses_reads_that_fail(rt: HostRuntime) -> Result<(), Fail> {
+    let alloc = rt.alloc();
+    for (read, printed) in [(1, "refused 35 makefile"), (2, "refused 35 B")] {
+        let mut files = files_of_build(alloc, READS)?;
+        files.fail_at(read);
+        let bytes = evidence_over(alloc, &mut files, &request_of(alloc, READS)?, 1)?;
+        let got = String::from_utf8(bytes)?;
+        assert_eq!(rt; got.as_str(), printed);
     }
     Ok(())
 }

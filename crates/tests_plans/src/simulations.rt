@@ -1,8 +1,5 @@
 //! Rows of plans, over files in memory.
 
-ghost use Rattle.std.specs.Prelude.{◌≡◌, ◌<◌, ◌-◌, ◌^◌};
-ghost use Rattle.mk_read_parse.specs.MemFiles.{failures_of};
-
 use mk_core::{Fault, MemFiles, Request, Simulation, simulate_text};
 use std::alloc::{AllocError, Global};
 use std::process::Abort;
@@ -66,9 +63,7 @@ pub(crate) fn printed(
     alloc: Global,
     files: &mut MemFiles,
     request: &Request,
-) -> Result<String, Fail>
-    requires { failures_of files.old < 2 ^ 64 - 1 }
-{
+) -> Result<String, Fail> {
     let bytes = text_of(alloc, simulate_text(alloc, files, request, "P"))?;
     Ok(String::from_utf8(bytes)?)
 }

@@ -71,6 +71,34 @@ fn prints_what_is_not_read(rt: HostRuntime) -> Result<(), Fail> {
     Ok(())
 }
 
+/// Command lines whose makefile's name or operand is refused, and what is printed.
+const UNREAD: [(&str, &str); 6] = [
+    ("graph -f - b=1", "refused 27 -\n"),
+    ("graph CC+=cc", "refused 11 operand:1\n"),
+    ("check -b B -f a/ a", "refused 27 a/\n"),
+    ("check -b B -e 1 b=1 CC+=cc", "refused 11 operand:2\n"),
+    ("verify -b B -k K -f - CC+=cc", "refused 27 -\n"),
+    ("simulate -b B -p P CC+=cc", "refused 11 operand:1\n"),
+];
+
+/// Runs a command line where the first read fails.
+fn without_reads(alloc: Global, words: &str) -> Result<Outcome, AllocError> {
+    let words: Vec<&str> = words.split_whitespace().collect(alloc)?;
+    let mut files = MemFiles::new(alloc);
+    files.fail_at(1);
+    run(alloc, &mut files, &words)
+}
+
+#[test]
+fn refuses_before_it_reads(rt: HostRuntime) -> Result<(), Fail> {
+    for (words, printed) in UNREAD {
+        let outcome = without_reads(rt.alloc(), words)?;
+        assert_eq!(rt; outcome.out.as_slice(), printed.as_bytes(), "of {words:?}");
+        assert!(rt; outcome.err.is_empty() && outcome.status == 2, "of {words:?}");
+    }
+    Ok(())
+}
+
 /// Runs of the plan in the file `P`.
 const PLANS: &str = r"b: a¶→cp a b¶‖simulate -b B -p P‖a
     ‖b: a > b = cp a b‖2

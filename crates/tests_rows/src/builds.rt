@@ -1,9 +1,6 @@
 //! Answers about the builds of rows. A build is `makefile‖words‖sources‖records`, as in
 //! tests_tables; the words are those of the command line in addition to `-b B`.
 
-ghost use Rattle.std.specs.Prelude.{◌≡◌, ◌<◌, ◌-◌, ◌^◌, IfOk};
-ghost use Rattle.mk_read_parse.specs.MemFiles.{failures_of};
-
 use crate::rows::{asked_by, bytes_of};
 use mk_cert_text::certificate_text;
 use mk_core::{Fault, MemFiles, Request, Verdict, check, fault_text, render, verify_text};
@@ -12,9 +9,7 @@ use std::test::Fail;
 use tests_tables::{footprints, part, unfolded};
 
 /// Makes the files of a build: `makefile`, and the footprint file `B`.
-pub fn files_of_build(alloc: Global, build: &str) -> Result<MemFiles, Fail>
-    ensures { IfOk result (λ files. failures_of files ≡ 0) }
-{
+pub fn files_of_build(alloc: Global, build: &str) -> Result<MemFiles, Fail> {
     let makefile = unfolded(alloc, part(build, 0))?;
     let book = footprints(alloc, build)?;
     let mut files = MemFiles::new(alloc);
@@ -47,9 +42,7 @@ fn certificate_in(alloc: Global, answer: Result<Verdict, Fault>) -> Result<Strin
 }
 
 /// Checks a request and returns what is printed.
-pub fn verdict_over(alloc: Global, files: &mut MemFiles, asked: &Request) -> Result<String, Fail>
-    requires { failures_of files.old < 2 ^ 64 - 1 }
-{
+pub fn verdict_over(alloc: Global, files: &mut MemFiles, asked: &Request) -> Result<String, Fail> {
     let bytes = rendered(alloc, check(alloc, files, asked))?;
     Ok(String::from_utf8(bytes)?)
 }
@@ -63,9 +56,7 @@ pub fn verdict(alloc: Global, build: &str) -> Result<String, Fail> {
 
 /// Checks a request and returns the text of the certificate of a yes, and nothing for another
 /// answer.
-fn certificate_over(alloc: Global, files: &mut MemFiles, asked: &Request) -> Result<String, Fail>
-    requires { failures_of files.old < 2 ^ 64 - 1 }
-{
+fn certificate_over(alloc: Global, files: &mut MemFiles, asked: &Request) -> Result<String, Fail> {
     Ok(certificate_in(alloc, check(alloc, files, asked))?)
 }
 
@@ -77,9 +68,7 @@ pub fn certificate_of(alloc: Global, build: &str) -> Result<String, Fail> {
 }
 
 /// Verifies the certificate in `K` and returns what is printed.
-pub fn answer_over(alloc: Global, files: &mut MemFiles, asked: &Request) -> Result<String, Fail>
-    requires { failures_of files.old < 2 ^ 64 - 1 }
-{
+pub fn answer_over(alloc: Global, files: &mut MemFiles, asked: &Request) -> Result<String, Fail> {
     let bytes = bytes_of(alloc, verify_text(alloc, files, asked, "K"))?;
     Ok(String::from_utf8(bytes)?)
 }

@@ -1,8 +1,5 @@
 //! Rows of tests: files in memory, words of a command line, and what is printed.
 
-ghost use Rattle.std.specs.Prelude.{◌≡◌, ◌<◌, ◌-◌, ◌^◌, IfOk};
-ghost use Rattle.mk_read_parse.specs.MemFiles.{failures_of};
-
 use mk_core::{Fault, MemFiles, Name, Request, fault_text, graph_text, split_words};
 use std::alloc::{AllocError, Global};
 use std::test::Fail;
@@ -82,9 +79,7 @@ pub fn bytes_of(alloc: Global, answer: Result<Vec<u8>, Fault>) -> Result<Vec<u8>
 }
 
 /// Returns the printed graph, or the line of its fault.
-pub fn answer(alloc: Global, files: &mut MemFiles, request: &Request) -> Result<String, Fail>
-    requires { failures_of files.old < 2 ^ 64 - 1 }
-{
+pub fn answer(alloc: Global, files: &mut MemFiles, request: &Request) -> Result<String, Fail> {
     let bytes = bytes_of(alloc, graph_text(alloc, files, request))?;
     Ok(String::from_utf8(bytes)?)
 }
@@ -104,9 +99,7 @@ fn add_fields(
     fields: &[&str],
     name: usize,
     text: usize,
-) -> Result<(), Fail>
-    ensures { failures_of files.new ≡ failures_of files.old }
-{
+) -> Result<(), Fail> {
     let name = field(alloc, fields, name)?;
     let text = field(alloc, fields, text)?;
     files.add(name.as_str(), text.as_bytes())?;
@@ -115,9 +108,7 @@ fn add_fields(
 
 /// Makes the files of a row: `makefile`, and up to two more, whose names and texts are the fields
 /// from the fourth on.
-pub fn files_of(alloc: Global, fields: &[&str]) -> Result<MemFiles, Fail>
-    ensures { IfOk result (λ files. failures_of files ≡ 0) }
-{
+pub fn files_of(alloc: Global, fields: &[&str]) -> Result<MemFiles, Fail> {
     let makefile = field(alloc, fields, 0)?;
     let mut files = MemFiles::new(alloc);
     files.add("makefile", makefile.as_bytes())?;

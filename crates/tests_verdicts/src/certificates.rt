@@ -1,8 +1,5 @@
 //! Rows of certificates, over files in memory.
 
-ghost use Rattle.std.specs.Prelude.{◌≡◌, ◌<◌, ◌-◌, ◌^◌};
-ghost use Rattle.mk_read_parse.specs.MemFiles.{failures_of};
-
 use crate::expecting::expect_answers;
 use std::alloc::Global;
 use std::process::Abort;

@@ -1,8 +1,5 @@
 //! Rows of findings, over files in memory.
 
-ghost use Rattle.std.specs.Prelude.{◌≡◌, ◌<◌, ◌-◌, ◌^◌};
-ghost use Rattle.mk_read_parse.specs.MemFiles.{failures_of};
-
 use crate::expecting::expect_verdicts;
 use mk_core::MemFiles;
 use std::process::Abort;

@@ -1,8 +1,5 @@
 //! Rows of verdicts, over files in memory.
 
-ghost use Rattle.std.specs.Prelude.{◌≡◌, ◌<◌, ◌-◌, ◌^◌};
-ghost use Rattle.mk_read_parse.specs.MemFiles.{failures_of};
-
 use crate::expecting::expect_verdicts;
 use mk_core::{MemFiles, Request};
 use std::alloc::Global;
@@ -197,10 +194,12 @@ const COPY: &str = "b: a¶→cp a b¶‖‖a‖b: a > b = cp a b";
 #[test]
 fn refuses_reads_that_fail(rt: HostRuntime) -> Result<(), Fail> {
     let alloc = rt.alloc();
-    let mut files = files_of_build(alloc, COPY)?;
-    files.fail_at(2);
-    let got = verdict_over(alloc, &mut files, &request_of(alloc, COPY)?)?;
-    assert_eq!(rt; got.as_str(), "refused 35 B");
+    for (read, printed) in [(1, "refused 35 makefile"), (2, "refused 35 B")] {
+        let mut files = files_of_build(alloc, COPY)?;
+        files.fail_at(read);
+        let got = verdict_over(alloc, &mut files, &request_of(alloc, COPY)?)?;
+        assert_eq!(rt; got.as_str(), printed);
+    }
     Ok(())
 }
 
