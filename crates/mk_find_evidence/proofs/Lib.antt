@@ -3,7 +3,6 @@ pub mod Numbers
 pub mod Steps
 pub mod FirstDisks
 pub mod Counts
-pub mod Stamps
 pub mod Names
 pub mod Histories
 pub mod Notes

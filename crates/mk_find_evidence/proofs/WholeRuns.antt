@@ -1,5 +1,5 @@
 -- Recipes that are run whole.
-use Rattle.std.proofs.Common.{◌≡◌, ℕ, ◌-◌, ◌<◌, ◌≤◌, List, [], ◌∷◌, ◌++◌, length, map, take, drop, get_or, Option, Some, None, refl, sym, ap, ◌∙◌, subst, append_assoc, arith}
+use Rattle.std.proofs.Common.{◌≡◌, ℕ, ◌-◌, ◌<◌, ◌≤◌, List, [], ◌∷◌, ◌++◌, length, map, take, drop, get_or, Option, Some, None, refl, sym, ap, ◌∙◌, subst, append_assoc, arith, inr}
 use Rattle.std.proofs.lemmas.List.{take_rest}
 use Rattle.mk_graph.specs.Setting.{FileName, reads, writes}
 use Rattle.mk_graph.specs.World as world
@@ -7,9 +7,9 @@ use Rattle.mk_graph.specs.World.{Disk}
 use Rattle.mk_graph.specs.Steps.{Step, Begin, Look, Put, End}
 use Rattle.mk_graph.specs.SerialMake.{puts, whole_run}
 use Rattle.mk_world.specs.Running.{contents_of}
+use Rattle.mk_world.specs.RunLaws.{WholeRunsAgree}
 use Rattle.mk_world.specs.State.{Scene, State, DiskState, MakeState, setting, disk_of, world_in, world_of}
 use Rattle.mk_find_evidence.specs.Histories.{History, MayGoOn, Notes, looks_and_puts, puts_in}
-use Rattle.mk_find_evidence.proofs.Stamps.{contents_are}
 use Rattle.mk_find_evidence.proofs.Notes.{notes_further}
 
 -- the next put of those that are left
@@ -46,13 +46,13 @@ same_disk scene d None = refl
 same_disk scene d (Some m) = refl
 
 -- what a recipe is to put in a history is what it puts in a plan
-pub puts_are : (h : History) (t : ℕ) (cs : List ℕ) → cs ≡ contents_of h.world.scene.graph (setting h.world.scene) (disk_of h.world.disk) t → MayGoOn h (whole_run h.world.scene.graph (setting h.world.scene) t (puts_in h t)) → cs ≡ puts_in h t
-puts_are h t cs are legal =
+pub puts_are : WholeRunsAgree → (h : History) (t : ℕ) (cs : List ℕ) → cs ≡ contents_of h.world.scene.graph (setting h.world.scene) (disk_of h.world.disk) t → MayGoOn h (whole_run h.world.scene.graph (setting h.world.scene) t (puts_in h t)) → cs ≡ puts_in h t
+puts_are agree h t cs are legal =
     let g = h.world.scene.graph in
     let s = setting h.world.scene in
-    are ∙ (ap (λ (d : Disk). contents_of g s d t) (sym (same_disk h.world.scene h.world.disk h.world.make)) ∙ contents_are g s (world_of h.world) t legal)
+    are ∙ (ap (λ (d : Disk). contents_of g s d t) (sym (same_disk h.world.scene h.world.disk h.world.make)) ∙ agree g s (world_of h.world) t (inr legal))
 
 -- so the whole run with it is the one of the plan
-pub run_is : (h : History) (t : ℕ) (cs : List ℕ) → cs ≡ contents_of h.world.scene.graph (setting h.world.scene) (disk_of h.world.disk) t → MayGoOn h (whole_run h.world.scene.graph (setting h.world.scene) t (puts_in h t))
+pub run_is : WholeRunsAgree → (h : History) (t : ℕ) (cs : List ℕ) → cs ≡ contents_of h.world.scene.graph (setting h.world.scene) (disk_of h.world.disk) t → MayGoOn h (whole_run h.world.scene.graph (setting h.world.scene) t (puts_in h t))
     → whole_run h.world.scene.graph (setting h.world.scene) t cs ≡ whole_run h.world.scene.graph (setting h.world.scene) t (puts_in h t)
-run_is h t cs are legal = ap (whole_run h.world.scene.graph (setting h.world.scene) t) (puts_are h t cs are legal)
+run_is agree h t cs are legal = ap (whole_run h.world.scene.graph (setting h.world.scene) t) (puts_are agree h t cs are legal)

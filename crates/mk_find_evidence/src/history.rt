@@ -16,6 +16,7 @@ ghost use Rattle.mk_find_evidence.specs.Numbers.{HasSmallNumbers, HaveSmallNumbe
 
 use mk_foot::Setting;
 use mk_graph::{Graph, Node};
+use mk_world::laws::whole_runs_agree;
 use mk_world::{Step, World};
 use std::alloc::{AllocError, Global};
 use std::marker::Model;
@@ -294,6 +295,7 @@ impl<'a> History<'a> {
         ensures { OnOk result (GoesOn self.old self.new (whole_run self.old.world.scene.graph
             (setting self.old.world.scene) number (puts_in self.old number))) }
     {
+        whole_runs_agree();
         let contents = self.world.contents_for(number)?;
         self.world.run_allowed(number, &contents)?;
         self.push_run(number, &contents)?;
