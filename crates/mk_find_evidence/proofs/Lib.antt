@@ -17,3 +17,5 @@ pub mod StaleSteps
 pub mod MakingGoals
 pub mod Told
 pub mod Shown
+pub mod PlainNames
+pub mod RunsAsPlan

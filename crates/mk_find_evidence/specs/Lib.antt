@@ -3,3 +3,4 @@ pub mod Histories
 pub mod Makes
 pub mod Shown
 pub mod Laws
+pub mod PlanLaws

@@ -5,6 +5,7 @@ mod bound;
 mod history;
 pub mod laws;
 mod making;
+pub mod plan_laws;
 mod race;
 mod showing;
 mod stale;
