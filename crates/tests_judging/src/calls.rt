@@ -1,9 +1,10 @@
-//! The public calls of mk_cert and mk_find over a subject, with their results as texts.
+//! The public calls of mk_cert, mk_find and mk_repair over a subject, with their results as texts.
 
 use mk_cert::{CertFault, Finding, Subject, counts, races, static_findings, verify};
 use mk_cert_text::{certificate_text, read_certificate};
 use mk_find::laws::no_findings;
 use mk_find::{certify, findings, judge};
+use mk_repair::{lines_text, words_of};
 use std::alloc::Global;
 use std::test::Fail;
 
@@ -22,6 +23,8 @@ pub enum Call<'a> {
     Certify,
     /// `judge`.
     Judge,
+    /// `words_of` for the findings of `findings`, then `lines_text`.
+    Lines,
     /// `verify`, with the text of a certificate.
     Verify(&'a str),
 }
@@ -76,6 +79,15 @@ fn judged(alloc: Global, subject: &Subject<'_>) -> Result<String, Fail> {
     }
 }
 
+/// The lines for the findings of `findings`, or `none` if one of them gives no word.
+fn repaired(alloc: Global, subject: &Subject<'_>) -> Result<String, Fail> {
+    let found = findings(alloc, subject)?;
+    match words_of(alloc, subject, &found)? {
+        Some(words) => Ok(String::from_utf8(lines_text(alloc, &words)?)?),
+        None => Ok(String::from_str(alloc, "none")?),
+    }
+}
+
 /// A fault's number and names.
 fn fault_words(alloc: Global, fault: &CertFault) -> Result<String, Fail> {
     let text = match fault {
@@ -106,6 +118,7 @@ pub fn answer(alloc: Global, subject: &Subject<'_>, call: &Call<'_>) -> Result<S
         Call::Findings => found(alloc, subject),
         Call::Certify => certified(alloc, subject),
         Call::Judge => judged(alloc, subject),
+        Call::Lines => repaired(alloc, subject),
         Call::Verify(text) => verified(alloc, subject, text),
     }
 }

@@ -1,4 +1,5 @@
-//! Tests of the public calls of mk_cert and mk_find, over makefiles and footprints in memory.
+//! Tests of the public calls of mk_cert, mk_find and mk_repair, over makefiles and footprints in
+//! memory.
 #![tactic(auto)]
 
 #[cfg(test)]
@@ -9,3 +10,5 @@ mod calls;
 mod certificates;
 #[cfg(test)]
 mod findings;
+#[cfg(test)]
+mod repairs;

@@ -1,0 +1,111 @@
+//! The words that findings give.
+
+ghost use Rattle.std.specs.Prelude.{◌≡◌, option_map, IfOk};
+ghost use Rattle.mk_lines.specs.Names.{HoldsNames};
+ghost use Rattle.mk_repair.specs.FindingWords.{can_be_written, needed, word_for, word_of, words_of};
+ghost use Rattle.mk_repair.specs.Provider.{provider};
+ghost use Rattle.mk_repair.specs.Word.{needs};
+ghost use Rattle.mk_repair.specs.Words.{word_view};
+
+use crate::make_name::is_make_name;
+use crate::needed::needed_names;
+use crate::provider::provider;
+use crate::word::Word;
+use crate::words::Words;
+use mk_cert::{Finding, Subject};
+use mk_lines::BorrowedNames;
+use std::alloc::{AllocError, Global};
+
+/// The word that the recipe needs what provides the file, if something does.
+fn need_of<'a>(subject: &'a Subject<'_>, recipe: &'a str, file: &'a str) -> Option<Word<'a>>
+    ensures { option_map word_view result ≡
+        option_map (needs recipe.entry.now) (provider subject.entry.now file.entry.now) }
+{
+    let prerequisite = provider(subject, file)?;
+    Some(Word::Needs {
+        target: recipe,
+        prerequisite,
+    })
+}
+
+/// The word for a finding, whatever its names are.
+fn word_for<'a>(
+    subject: &'a Subject<'_>,
+    needed: &BorrowedNames<'_>,
+    finding: &'a Finding,
+) -> Option<Word<'a>>
+    requires { HoldsNames needed.now (needed subject.now) }
+    ensures { option_map word_view result ≡ word_for subject.entry.now finding.entry.now }
+{
+    match finding {
+        Finding::NoTarget { recipe } => {
+            let target = recipe.as_str();
+            if needed.contains(target) {
+                return None;
+            }
+            Some(Word::Phony { target })
+        }
+        Finding::Loose { name, writer } => Some(Word::Needs {
+            target: name.as_str(),
+            prerequisite: writer.as_str(),
+        }),
+        Finding::Race { recipe, file, .. } => need_of(subject, recipe.as_str(), file.as_str()),
+        Finding::Stale { recipe, file } => need_of(subject, recipe.as_str(), file.as_str()),
+        _ => None,
+    }
+}
+
+/// Whether a makefile can hold the names of a word.
+fn can_be_written(word: Word<'_>) -> bool
+    ensures { result ≡ can_be_written (word_view word.entry) }
+{
+    match word {
+        Word::Needs {
+            target,
+            prerequisite,
+        } => is_make_name(target) && is_make_name(prerequisite),
+        Word::Phony { target } => is_make_name(target),
+    }
+}
+
+/// The word that a finding gives, if it gives one. Allocates nothing.
+fn word_of<'a>(
+    subject: &'a Subject<'_>,
+    needed: &BorrowedNames<'_>,
+    finding: &'a Finding,
+) -> Option<Word<'a>>
+    requires { HoldsNames needed.now (needed subject.now) }
+    ensures { option_map word_view result ≡ word_of subject.entry.now finding.entry.now }
+{
+    let word = word_for(subject, needed, finding)?;
+    if can_be_written(word) {
+        Some(word)
+    } else {
+        None
+    }
+}
+
+/// The words of the findings, each once, in the order of the findings; `None` if a finding gives no
+/// word. Takes time linear in the graph and the findings. The only error is out of memory.
+///
+/// A stale read or a race says that its recipe needs the file, or the recipe that writes it where
+/// the file is neither a source nor a node. A loose name needs its writer. A recipe that doesn't
+/// write its target is phony, unless a recipe that isn't phony needs it. Other findings give no
+/// word, and neither does a name that a makefile can't hold.
+pub fn words_of(
+    alloc: Global,
+    subject: &Subject<'_>,
+    findings: &[Finding],
+) -> Result<Option<Words>, AllocError>
+    ensures { IfOk result (λ words. words ≡ words_of subject.now findings.now) }
+{
+    let needed = needed_names(alloc, subject)?;
+    let mut words = Words::new(alloc);
+    for finding in findings {
+        let Some(word) = word_of(subject, &needed, finding) else {
+            return Ok(None);
+        };
+        words.insert(alloc, word)?;
+    }
+    Ok(Some(words))
+}

@@ -1,0 +1,19 @@
+//! Computes the makefile lines that mend a makefile: from findings to words, which say what the
+//! makefile lacks, and from words to the text of lines.
+#![tactic(auto)]
+
+mod finding_words;
+mod gathering;
+mod lines;
+mod make_name;
+mod needed;
+mod pieces;
+mod provider;
+mod rows;
+mod word;
+mod words;
+
+pub use finding_words::words_of;
+pub use lines::lines_text;
+pub use word::Word;
+pub use words::Words;

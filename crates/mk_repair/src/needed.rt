@@ -1,0 +1,48 @@
+//! The names that recipes need which aren't phony.
+
+ghost use Rattle.std.specs.Prelude.{◌≡◌, fold, map, IfOk, OnOk};
+ghost use Rattle.mk_lines.specs.Names.{HoldsNames, with_name};
+ghost use Rattle.mk_cert.specs.Subject.{name_of};
+ghost use Rattle.mk_repair.specs.FindingWords.{needed};
+
+use mk_cert::Subject;
+use mk_lines::BorrowedNames;
+use std::alloc::{AllocError, Global};
+
+/// Adds the names of nodes. The only error is out of memory.
+fn insert_names<'a>(
+    set: &mut BorrowedNames<'a>,
+    subject: &'a Subject<'_>,
+    numbers: &[usize],
+) -> Result<(), AllocError>
+    ensures { OnOk result (set.new ≡
+        fold with_name set.old (map (name_of subject.entry.now) numbers.now)) }
+{
+    let names = subject.names().as_slice();
+    for number in numbers {
+        let name = match names.get(*number) {
+            Some(name) => *name,
+            None => "",
+        };
+        set.insert(name)?;
+    }
+    Ok(())
+}
+
+/// The names of all direct prerequisites of recipes that aren't phony. Takes time linear in the
+/// graph. The only error is out of memory.
+pub fn needed_names<'a>(
+    alloc: Global,
+    subject: &'a Subject<'_>,
+) -> Result<BorrowedNames<'a>, AllocError>
+    ensures { IfOk result (λ set. HoldsNames set (needed subject.entry.now)) }
+{
+    let graph = subject.graph();
+    let mut set = BorrowedNames::new(alloc);
+    for (number, node) in graph.nodes().iter().enumerate() {
+        if node.recipe && !node.phony {
+            insert_names(&mut set, subject, graph.prerequisites(number))?;
+        }
+    }
+    Ok(set)
+}
