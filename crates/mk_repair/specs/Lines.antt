@@ -4,7 +4,7 @@ use Rattle.std.specs.Cmp.Lexicographic.{pointwise}
 use Rattle.std.specs.List.{flat_map}
 use Rattle.std.specs.Str.{bytes_eq}
 use Rattle.mk_repair.specs.Word.{Word, needs, phony}
-use Rattle.mk_repair.specs.Gathering.{gathered}
+use Rattle.mk_repair.specs.Gathering.{gathered, turned}
 
 -- The targets that the words say are phony.
 abbrev pub phony_targets : List Word → List (List ℕ)
@@ -28,7 +28,7 @@ lacking words = gathered bytes_eq (needed_pairs words)
 
 -- Each list of prerequisites, with the targets that lack just this list.
 abbrev pub grouped : List (List ℕ × List (List ℕ)) → List (List (List ℕ) × List (List ℕ))
-grouped rows = gathered names_eq (map (λ row. (row.1, row.0)) rows)
+grouped rows = gathered names_eq (turned rows)
 
 -- The names with a space between.
 abbrev pub spaced : List (List ℕ) → List ℕ
@@ -67,16 +67,25 @@ abbrev pub lines_between : List (List ℕ) → List (List ℕ) → List Line
 lines_between targets prerequisites =
     flat_map (λ part. lines_with part (pieces prerequisites)) (pieces targets)
 
--- The lines that say the words: those of `.PHONY`, then those of each group.
+-- The lines that say which targets are phony.
+abbrev pub phony_lines : List Word → List Line
+phony_lines words = lines_between (codes ".PHONY" ∷ []) (phony_targets words)
+
+-- The lines that say which targets need which prerequisites, group by group.
+abbrev pub needs_lines : List Word → List Line
+needs_lines words = flat_map (λ group. lines_between group.1 group.0) (grouped (lacking words))
+
+-- The lines that say the words.
 abbrev pub lines : List Word → List Line
-lines words =
-    lines_between (codes ".PHONY" ∷ []) (phony_targets words) ++
-    flat_map (λ group. lines_between group.1 group.0) (grouped (lacking words))
+lines words = phony_lines words ++ needs_lines words
+
+-- The text of a line, from those of its targets and of its prerequisites.
+abbrev pub line_with : (targets prerequisites : List ℕ) → List ℕ
+line_with targets prerequisites = targets ++ (codes ": " ++ (prerequisites ++ codes "\n"))
 
 -- The text of a line.
 abbrev pub line_text : Line → List ℕ
-line_text line =
-    spaced line.targets ++ (codes ": " ++ (spaced line.prerequisites ++ codes "\n"))
+line_text line = line_with (spaced line.targets) (spaced line.prerequisites)
 
 -- The text of the lines that say the words.
 abbrev pub lines_text : List Word → List ℕ

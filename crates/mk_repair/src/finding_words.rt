@@ -51,7 +51,14 @@ fn word_for<'a>(
         }),
         Finding::Race { recipe, file, .. } => need_of(subject, recipe.as_str(), file.as_str()),
         Finding::Stale { recipe, file } => need_of(subject, recipe.as_str(), file.as_str()),
-        _ => None,
+        Finding::NoRecord { .. }
+        | Finding::OtherCommands { .. }
+        | Finding::VaryingCommands { .. }
+        | Finding::TwoWriters { .. }
+        | Finding::GivenWritten { .. }
+        | Finding::OwnRead { .. }
+        | Finding::UnknownRead { .. }
+        | Finding::Selection { .. } => None,
     }
 }
 

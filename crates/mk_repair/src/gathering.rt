@@ -1,7 +1,8 @@
 //! Gathers values by keys.
 
-ghost use Rattle.std.specs.Prelude.{◌≡◌, map, OnOk};
+ghost use Rattle.std.specs.Prelude.{◌≡◌, OnOk};
 ghost use Rattle.mk_repair.specs.Gathering.{with_value};
+ghost use Rattle.mk_repair.specs.Rows.{table_rows};
 
 use indexmap::IndexMap;
 use std::alloc::{AllocError, Global};
@@ -15,8 +16,8 @@ pub fn add_value<K: Eq + Hash + Drop, V: Drop>(
     key: K,
     value: V,
 ) -> Result<(), AllocError>
-    ensures { OnOk result (map (λ row. (row.0, row.1.items)) rows.new.entries ≡
-        with_value K.eq (map (λ row. (row.0, row.1.items)) rows.old.entries) key value) }
+    ensures { OnOk result (table_rows rows.new.entries ≡
+        with_value K.eq (table_rows rows.old.entries) key value) }
 {
     let row = rows.entry(key)?.or_insert(Vec::new(alloc));
     row.push(value)?;

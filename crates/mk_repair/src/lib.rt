@@ -7,6 +7,7 @@ mod gathering;
 mod lines;
 mod make_name;
 mod needed;
+mod node_name;
 mod pieces;
 mod provider;
 mod rows;

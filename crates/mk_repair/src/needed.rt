@@ -1,13 +1,22 @@
 //! The names that recipes need which aren't phony.
 
-ghost use Rattle.std.specs.Prelude.{◌≡◌, fold, map, IfOk, OnOk};
+ghost use Rattle.std.specs.Prelude.{◌≡◌, ◌&&◌, not, fold, map, IfOk, OnOk};
 ghost use Rattle.mk_lines.specs.Names.{HoldsNames, with_name};
 ghost use Rattle.mk_cert.specs.Subject.{name_of};
 ghost use Rattle.mk_repair.specs.FindingWords.{needed};
 
+use crate::node_name;
 use mk_cert::Subject;
+use mk_graph::Node;
 use mk_lines::BorrowedNames;
 use std::alloc::{AllocError, Global};
+
+/// Whether a node has a recipe and isn't phony.
+fn makes_a_file(node: &Node) -> bool
+    ensures { result ≡ (node.now.recipe && not node.now.phony) }
+{
+    node.recipe && !node.phony
+}
 
 /// Adds the names of nodes. The only error is out of memory.
 fn insert_names<'a>(
@@ -18,13 +27,8 @@ fn insert_names<'a>(
     ensures { OnOk result (set.new ≡
         fold with_name set.old (map (name_of subject.entry.now) numbers.now)) }
 {
-    let names = subject.names().as_slice();
     for number in numbers {
-        let name = match names.get(*number) {
-            Some(name) => *name,
-            None => "",
-        };
-        set.insert(name)?;
+        set.insert(node_name::name_of(subject, *number))?;
     }
     Ok(())
 }
@@ -40,9 +44,10 @@ pub fn needed_names<'a>(
     let graph = subject.graph();
     let mut set = BorrowedNames::new(alloc);
     for (number, node) in graph.nodes().iter().enumerate() {
-        if node.recipe && !node.phony {
-            insert_names(&mut set, subject, graph.prerequisites(number))?;
+        if !makes_a_file(node) {
+            continue;
         }
+        insert_names(&mut set, subject, graph.prerequisites(number))?;
     }
     Ok(set)
 }

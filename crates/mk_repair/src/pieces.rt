@@ -31,10 +31,10 @@ pub fn pieces_of(alloc: Global, names: &[&str]) -> Result<Vec<String>, AllocErro
         if has_room(piece.as_str(), name) {
             piece.push_str(" ")?;
             piece.push_str(name)?;
-        } else {
-            pieces.push(piece)?;
-            piece = String::from_str(alloc, name)?;
+            continue;
         }
+        pieces.push(piece)?;
+        piece = String::from_str(alloc, name)?;
     }
     pieces.push(piece)?;
     Ok(pieces)

@@ -3,6 +3,7 @@
 ghost use Rattle.std.specs.Prelude.{◌≡◌, option_map};
 ghost use Rattle.mk_repair.specs.Provider.{provider};
 
+use crate::node_name::name_of;
 use mk_cert::Subject;
 
 /// What a recipe needs that reads the file: the file itself where it is a source or the name of a
@@ -15,5 +16,5 @@ pub fn provider<'a>(subject: &'a Subject<'_>, file: &'a str) -> Option<&'a str>
         return Some(file);
     }
     let writer = subject.writers(file).first()?;
-    subject.names().as_slice().get(*writer).copied()
+    Some(name_of(subject, *writer))
 }

@@ -24,13 +24,14 @@ pub fn rows_of<'a>(alloc: Global, words: &'a [StoredWord]) -> Result<Rows<'a>, A
 {
     let mut rows = IndexMap::new(alloc);
     for word in words {
-        if let Word::Needs {
+        let Word::Needs {
             target,
             prerequisite,
         } = word.as_word()
-        {
-            add_value(alloc, &mut rows, target, prerequisite)?;
-        }
+        else {
+            continue;
+        };
+        add_value(alloc, &mut rows, target, prerequisite)?;
     }
     Ok(rows)
 }
@@ -43,9 +44,10 @@ pub fn groups_of<'a>(alloc: Global, rows: &'a Rows<'a>) -> Result<Groups<'a>, Al
 {
     let mut groups = IndexMap::new(alloc);
     for place in 0..rows.len() {
-        if let Some((target, prerequisites)) = rows.get_index(place) {
-            add_value(alloc, &mut groups, prerequisites.as_slice(), *target)?;
-        }
+        let Some((target, prerequisites)) = rows.get_index(place) else {
+            continue;
+        };
+        add_value(alloc, &mut groups, prerequisites.as_slice(), *target)?;
     }
     Ok(groups)
 }

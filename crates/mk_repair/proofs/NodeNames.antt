@@ -1,0 +1,35 @@
+-- Names of nodes, and sets of them.
+use Rattle.std.proofs.Common.{◌≡◌, ℕ, ◌<◌, ◌≤◌, Bool, true, false, cond, List, [], ◌∷◌, ◌++◌, length, map, get_or, zero, suc, refl, sym, ap, ◌∙◌, arith}
+use Rattle.std.specs.Borrow.{Bor}
+use Rattle.std.specs.Prelude.{fold}
+use Rattle.std.proofs.lemmas.List.{get_or-map, get_or_past, length-map}
+use Rattle.mk_graph.specs.declared.node.Node.{Node}
+use Rattle.mk_graph.specs.Graph.{no_node}
+use Rattle.mk_cert.specs.FileInfo.{all_names}
+use Rattle.mk_cert.specs.Subject.{Subject, name_of}
+
+-- what a function gives at an index, also past the end
+map_default : {A B : Type 0} (f : A → B) (xs : List A) (i : ℕ) (d : A) → get_or (map f xs) i (f d) ≡ f (get_or xs i d)
+map_default f [] i d = refl
+map_default f (x ∷ xs) zero d = refl
+map_default f (x ∷ xs) (suc i) d = map_default f xs i d
+
+-- the name of a node, among all names
+among_names : (x : Subject) (i : ℕ) → get_or (all_names x) i [] ≡ name_of x i
+among_names x i = map_default (λ (n : Node). n.name) x.graph.nodes i no_node
+
+-- a name that was read
+pub name_read : (x : Subject) (names : List (Bor (List ℕ))) (i : ℕ) (name : Bor (List ℕ)) → map (λ n. n.now) names ≡ all_names x → i < length names → name ≡ get_or names i name → name.now ≡ name_of x i
+name_read x names i name e lt is =
+    ap (λ (n : Bor (List ℕ)). n.now) is ∙ (sym (get_or-map (λ (n : Bor (List ℕ)). n.now) names i name [] lt) ∙ (ap (λ l. get_or l i []) e ∙ among_names x i))
+
+-- a number without a node
+pub name_past : (x : Subject) (names : List (Bor (List ℕ))) (i : ℕ) → map (λ n. n.now) names ≡ all_names x → length names ≤ i → [] ≡ name_of x i
+name_past x names i e le =
+    let past : length (map (λ (n : Bor (List ℕ)). n.now) names) ≤ i = omega (arith, length-map names (λ (n : Bor (List ℕ)). n.now)) in
+    sym (get_or_past (map (λ (n : Bor (List ℕ)). n.now) names) i [] past) ∙ (ap (λ l. get_or l i []) e ∙ among_names x i)
+
+-- a fold over two lists
+pub fold_both : {A B : Type 0} (f : B → A → B) (start : B) (xs ys : List A) → fold f start (xs ++ ys) ≡ fold f (fold f start xs) ys
+fold_both f start [] ys = refl
+fold_both f start (x ∷ xs) ys = fold_both f (f start x) xs ys

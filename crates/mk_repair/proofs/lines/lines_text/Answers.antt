@@ -1,0 +1,12 @@
+use Rattle.std.proofs.Common.{ℕ, ◌∙◌, ◌++◌, List, ap}
+use Rattle.std.specs.List.{flat_map}
+use Rattle.mk_repair.specs.Word.{Word}
+use Rattle.mk_repair.specs.Lines.{line_text, lines_between, phony_lines, grouped, lacking}
+use Rattle.mk_repair.proofs.LineTexts.{all_text}
+use Rattle.mk_repair.proofs.lines.lines_text.Goals as goal
+
+pub returns : goal.returns
+returns c =
+    all_text c.args.words.now c.new-out.result.items c.push_phony.new.out.items c.push_lacking.new.out.items c.new-out.ensures.items
+    (c.in_ok-push_phony.ensures ∙ ap (λ (words : List Word). c.new-out.result.items ++ flat_map line_text (phony_lines words)) c.as_slice.ensures)
+    (c.in_ok-push_lacking.ensures ∙ ap (λ (words : List Word). c.push_phony.new.out.items ++ flat_map (λ group. flat_map line_text (lines_between group.1 group.0)) (grouped (lacking words))) c.as_slice-2.ensures)
