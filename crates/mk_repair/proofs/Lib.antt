@@ -4,3 +4,6 @@ pub mod PieceTexts
 pub mod Sets
 pub mod LineTexts
 pub mod NodeNames
+pub mod HeldRows
+pub mod CutPieces
+pub mod WordLines

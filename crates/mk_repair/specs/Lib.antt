@@ -5,3 +5,4 @@ pub mod FindingWords
 pub mod Gathering
 pub mod Lines
 pub mod Rows
+pub mod Laws

@@ -99,10 +99,10 @@ fn word_of<'a>(
 /// the file is neither a source nor a node. A loose name needs its writer. A recipe that doesn't
 /// write its target is phony, unless a recipe that isn't phony needs it. Other findings give no
 /// word, and neither does a name that a makefile can't hold.
-pub fn words_of(
+pub fn words_of<'a>(
     alloc: Global,
-    subject: &Subject<'_>,
-    findings: &[Finding],
+    subject: &'a Subject<'_>,
+    findings: &'a [Finding],
 ) -> Result<Option<Words>, AllocError>
     ensures { IfOk result (λ words. words ≡ words_of subject.now findings.now) }
 {

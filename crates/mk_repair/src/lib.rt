@@ -4,6 +4,7 @@
 
 mod finding_words;
 mod gathering;
+pub mod laws;
 mod lines;
 mod make_name;
 mod needed;
