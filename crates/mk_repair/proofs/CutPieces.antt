@@ -57,13 +57,16 @@ from_cut piece (name ∷ names) found n there h =
     longer (inl old) = inl old
     longer (inr (inl e)) = inr (inl e)
     longer (inr (inr none)) = absurd none
+
     joined : Has (piece ++ name ∷ []) n ⊎ Has names n → Has piece n ⊎ ((name ≡ n) ⊎ Has names n)
     joined (inl here) = longer (has_cases piece (name ∷ []) n here)
     joined (inr later) = inr (inr later)
+
     apart : Has (name ∷ []) n ⊎ Has names n → Has piece n ⊎ ((name ≡ n) ⊎ Has names n)
     apart (inl (inl e)) = inr (inl e)
     apart (inl (inr none)) = absurd none
     apart (inr later) = inr (inr later)
+
     at : (b : Bool) → Has (cond b (pieces_from (piece ++ name ∷ []) names) (piece ∷ pieces_from (name ∷ []) names)) found → (Has (pieces_from (piece ++ name ∷ []) names) found → Has (piece ++ name ∷ []) n ⊎ Has names n)
         → (Has (pieces_from (name ∷ []) names) found → Has (name ∷ []) n ⊎ Has names n) → Has piece n ⊎ ((name ≡ n) ⊎ Has names n)
     at true k more new = joined (more k)

@@ -62,10 +62,12 @@ module _ {K V : Type 0} (same : K → K → Bool) (decides : (x y : K) → same 
       shifted : ((k ≡ row.0) × (v ≡ w)) ⊎ Holds rows row.0 w → ((k ≡ row.0) × (v ≡ w)) ⊎ Holds (r ∷ rows) row.0 w
       shifted (inl new) = inl new
       shifted (inr old) = inr (record { row = old.row; among = inr old.among; keyed = old.keyed; held = old.held })
+
       longer : same k r.0 ≡ true → (e : (r.0, r.1 ++ v ∷ []) ≡ row) → Has r.1 w ⊎ Has (v ∷ []) w → ((k ≡ row.0) × (v ≡ w)) ⊎ Holds (r ∷ rows) row.0 w
       longer b e (inl old) = inr (record { row = r; among = inl refl; keyed = ap (λ (s : K × List V). s.0) e; held = old })
       longer b e (inr (inl d)) = inl (decides k r.0 b ∙ ap (λ (s : K × List V). s.0) e, d)
       longer b e (inr (inr none)) = absurd none
+
       at : (b : Bool) → same k r.0 ≡ b → Has (cond b ((r.0, r.1 ++ v ∷ []) ∷ rows) (r ∷ with_value same rows k v)) row → (Has (with_value same rows k v) row → ((k ≡ row.0) × (v ≡ w)) ⊎ Holds rows row.0 w) → ((k ≡ row.0) × (v ≡ w)) ⊎ Holds (r ∷ rows) row.0 w
       at true b (inl e) ih = longer b e (has_cases r.1 (v ∷ []) w (subst (λ (s : K × List V). Has s.1 w) (sym e) h))
       at true b (inr later) ih = inr (record { row = row; among = inr later; keyed = refl; held = h })
@@ -80,6 +82,7 @@ module _ {K V : Type 0} (same : K → K → Bool) (decides : (x y : K) → same 
       first : (old : Holds (with_value same rows p.0 p.1) row.0 w) → ((p.0 ≡ old.row.0) × (p.1 ≡ w)) ⊎ Holds rows old.row.0 w → ((p ≡ (row.0, w)) ⊎ Has pairs (row.0, w)) ⊎ Holds rows row.0 w
       first old (inl new) = inl (inl (λ i. ((new.0 ∙ old.keyed) i, new.1 i)))
       first old (inr before) = inr (record { row = before.row; among = before.among; keyed = before.keyed ∙ old.keyed; held = before.held })
+
       earlier : Has pairs (row.0, w) ⊎ Holds (with_value same rows p.0 p.1) row.0 w → ((p ≡ (row.0, w)) ⊎ Has pairs (row.0, w)) ⊎ Holds rows row.0 w
       earlier (inl later) = inl (inr later)
       earlier (inr old) = first old (value_from rows p.0 p.1 old.row w old.among old.held)

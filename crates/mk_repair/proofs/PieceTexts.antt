@@ -27,6 +27,7 @@ piece_texts first others (name ∷ names) =
   where
     longer : (text name : List ℕ) → length (text ++ 32 ∷ name) ≡ length text + (length name + 1)
     longer text name = omega (arith, length-append text (32 ∷ name))
+
     at : (b c : Bool) → b ≡ c → map spaced (pieces_from (first ∷ (others ++ name ∷ [])) names) ≡ texts_from (spaced (first ∷ others) ++ 32 ∷ name) names → map spaced (pieces_from (name ∷ []) names) ≡ texts_from name names
         → map spaced (cond b (pieces_from (first ∷ (others ++ name ∷ [])) names) ((first ∷ others) ∷ pieces_from (name ∷ []) names)) ≡ cond c (texts_from (spaced (first ∷ others) ++ 32 ∷ name) names) (spaced (first ∷ others) ∷ texts_from name names)
     at true true e more new = more
