@@ -28,19 +28,20 @@ fn need_of<'a>(subject: &'a Subject<'_>, recipe: &'a str, file: &'a str) -> Opti
     })
 }
 
-/// The word for a finding, whatever its names are.
+/// The word for a finding, whatever its names are. The set has the names that recipes need which
+/// aren't phony.
 fn word_for<'a>(
     subject: &'a Subject<'_>,
-    needed: &BorrowedNames<'_>,
+    names: &BorrowedNames<'_>,
     finding: &'a Finding,
 ) -> Option<Word<'a>>
-    requires { HoldsNames needed.now (needed subject.now) }
+    requires { HoldsNames names.now (needed subject.now) }
     ensures { option_map word_view result ≡ word_for subject.entry.now finding.entry.now }
 {
     match finding {
         Finding::NoTarget { recipe } => {
             let target = recipe.as_str();
-            if needed.contains(target) {
+            if names.contains(target) {
                 return None;
             }
             Some(Word::Phony { target })
@@ -75,16 +76,17 @@ fn can_be_written(word: Word<'_>) -> bool
     }
 }
 
-/// The word that a finding gives, if it gives one. Allocates nothing.
+/// The word that a finding gives, if it gives one, with the set as for `word_for`. Allocates
+/// nothing.
 fn word_of<'a>(
     subject: &'a Subject<'_>,
-    needed: &BorrowedNames<'_>,
+    names: &BorrowedNames<'_>,
     finding: &'a Finding,
 ) -> Option<Word<'a>>
-    requires { HoldsNames needed.now (needed subject.now) }
+    requires { HoldsNames names.now (needed subject.now) }
     ensures { option_map word_view result ≡ word_of subject.entry.now finding.entry.now }
 {
-    let word = word_for(subject, needed, finding)?;
+    let word = word_for(subject, names, finding)?;
     if can_be_written(word) {
         Some(word)
     } else {
@@ -106,10 +108,10 @@ pub fn words_of<'a>(
 ) -> Result<Option<Words>, AllocError>
     ensures { IfOk result (λ words. words ≡ words_of subject.now findings.now) }
 {
-    let needed = needed_names(alloc, subject)?;
+    let names = needed_names(alloc, subject)?;
     let mut words = Words::new(alloc);
     for finding in findings {
-        let Some(word) = word_of(subject, &needed, finding) else {
+        let Some(word) = word_of(subject, &names, finding) else {
             return Ok(None);
         };
         words.insert(alloc, word)?;
