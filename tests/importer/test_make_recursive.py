@@ -419,7 +419,8 @@ class TargetWithoutRecipeTest(MakeFolderTest):
             }
         )
         answer = self.imported("app") if "all:" not in top else self.imported()
-        self.assertIn("give that rule an empty recipe, as in 'lib/x: PREREQUISITES ;'", answer.output)
+        advice = "give that rule an empty recipe, as in 'lib/x: PREREQUISITES ;'"
+        self.assertIn(advice, answer.output)
         if "all:" not in top:
             self.try_answer(answer, "app")
         return answer.findings
@@ -458,7 +459,8 @@ class MakesThatAreNotJudgedTest(MakeFolderTest):
         self.assertIn(sentence, answer.output)
 
     def test_by_another_path(self) -> None:
-        """What such a make prints hides the commands before it, so that `cp` alone would be left."""
+        """What such a make prints hides the commands before it, so that `cp` alone would be left.
+        """
         self.refused(
             "all: x\nx: a\n\tenv PATH=/usr/bin:/bin make -C sub out\n\tcp a x\n",
             "a recipe starts a make by a path or with another PATH",

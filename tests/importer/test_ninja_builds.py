@@ -585,7 +585,8 @@ class NotTranslatedTest(NinjaFolderTest):
 
     def test_restat_of_several_outputs(self) -> None:
         """Each output of such a line counts by itself."""
-        rule = "rule keep\n  command = for n in a c; do cmp -s s $$n || cp s $$n; done\n  restat = 1\n"
+        command = "for n in a c; do cmp -s s $$n || cp s $$n; done"
+        rule = f"rule keep\n  command = {command}\n  restat = 1\n"
         lines = "build a | c: keep s\nbuild b: copy a\n  more = c\nbuild d: copy c\n"
         self.write({"build.ninja": rule + COPY + lines, "s": "s\n"})
         answer = self.answer()

@@ -157,7 +157,7 @@ class NinjaBuild:
         return self.build.node(name).name
 
     def linked(self, path: str, name: str, place: str) -> str | None:
-        """The node of a source that is reached over links: the file itself, as ninja compares it."""
+        """The node of a source that is reached over links: the file that ninja compares."""
         front = os.path.realpath(self.place.folder) + "/"
         target = place[len(front) :] if place.startswith(front) else name
         if target in self.makers:

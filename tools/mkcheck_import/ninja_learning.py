@@ -132,8 +132,8 @@ def test_phony(translation: NinjaBuild, edge: Edge, built: Place) -> None:
         if os.path.exists(translation.real(path, built)):
             maker = translation.manifest.maker[path]
             translation.build.problem(
-                f"{path} is a phony name of {maker.file}:{maker.line}, and a file or a folder of this"
-                f" name is there after a build. Then ninja compares its own time, and"
+                f"{path} is a phony name of {maker.file}:{maker.line}, and a file or a folder of"
+                f" this name is there after a build. Then ninja compares its own time, and"
                 f" {edge.outputs[0]} isn't made again when the inputs of {path} change: give it"
                 " another name"
             )
@@ -168,9 +168,9 @@ def try_restat(
                 " with what is there (cmp -s)"
             )
         build.note(
-            f"{where} has `restat`, and its command leaves {os.path.basename(left[0])} as it was when"
-            " nothing changed. Then ninja doesn't build what needs that; so a change of what the"
-            " command reads counts as reaching its outputs alone, and it isn't replayed"
+            f"{where} has `restat`, and its command leaves {os.path.basename(left[0])} as it was"
+            " when nothing changed. Then ninja doesn't build what needs that; so a change of what"
+            " the command reads counts as reaching its outputs alone, and it isn't replayed"
         )
     else:
         build.note(f"{where} has `restat`; its command was seen to always write its outputs")

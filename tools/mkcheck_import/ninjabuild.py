@@ -73,8 +73,8 @@ class NinjaFolder:
             raise Fault(str(fault)) from None
         if self.is_late:
             translation.build.note(
-                "the first build with one job failed, and the second one succeeded: a file comes too"
-                " late"
+                "the first build with one job failed, and the second one succeeded: a file comes"
+                " too late"
             )
         if built is not None:
             learn(translation, built, outer_environment())

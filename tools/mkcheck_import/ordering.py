@@ -6,7 +6,7 @@ from .builds import Build, Node
 
 
 class Order:
-    """What is always done before what, in the first build. Sets of nodes are the bits of a number."""
+    """What is always done before what, in the first build. Sets of nodes are bits of a number."""
 
     def __init__(self, build: Build) -> None:
         self.build = build

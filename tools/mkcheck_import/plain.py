@@ -22,7 +22,7 @@ SIMPLE = re.compile(r"[\w ./,:=@%+-]*")
 
 @dataclass(frozen=True)
 class Names:
-    """The names of nodes in the makefile: the node's own, or a stand-in where it can't be written."""
+    """The names of nodes in the makefile: their own, or stand-ins where they can't be written."""
 
     written: dict[str, str]
 
@@ -211,7 +211,8 @@ def goes_on(line: str) -> bool:
 
 
 def quoted(text: str) -> str:
-    """A word of the shell with this value, on one line of a makefile. Newlines at its end are lost."""
+    """A word of the shell with this value, on one line of a makefile. Newlines at its end are
+    lost."""
     if "\n" not in text:
         return shlex.quote(text)
     lines = " ".join(shlex.quote(line) for line in text.split("\n"))

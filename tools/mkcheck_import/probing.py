@@ -90,8 +90,8 @@ class Probing:
             self.build.problem(
                 f"{self.where(node)}: the recipe of {node.name} writes {what} otherwise where the"
                 f" folder {folders[0]}, which another recipe makes, isn't there or holds other"
-                f" names; {node.name} isn't made again when that changes; let it look at a file that"
-                " it needs"
+                f" names; {node.name} isn't made again when that changes; let it look at a file"
+                " that it needs"
             )
 
     def met(self, node: Node, record: Record) -> list[str]:

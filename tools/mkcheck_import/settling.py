@@ -253,7 +253,7 @@ class Settling:
             self.footprints.records[new] = record
 
     def drop_configured(self) -> None:
-        """Files of the configure step never change, unless a recipe writes them: reads need no way."""
+        """Files of the configure step that no recipe writes never change: they need no way."""
         fixed = self.build.configured - set(self.writers)
         for record in self.footprints.records.values() if fixed else ():
             record.reads = [name for name in record.reads if name not in fixed]

@@ -30,7 +30,7 @@ def marking(watched: list[str]) -> str:
 
 
 def value_of(name: str) -> str:
-    """An expression that gives the value of a macro after `=`, and nothing where it is undefined."""
+    """An expression for the value of a macro after `=`, and nothing where it is undefined."""
     return f"$(if $(filter undefined,$(origin {name})),,=$({name}))"
 
 
