@@ -4,15 +4,56 @@ from __future__ import annotations
 
 import os
 import shutil
+import socket
 import subprocess
+import sys
+import tempfile
 import unittest
+from pathlib import Path
 
-from make_folder import Answer, MakeFolderTest, can_judge
+from make_folder import ENVIRONMENT, IMPORTER, Answer, MakeFolderTest, can_judge
+
+sys.path.insert(0, str(IMPORTER.parent))
+
+from mkcheck_record.places import namespace  # noqa: E402
 
 # The object lacks the header that it reads; the program is made from the object.
 MAKEFILE = "prog: a.o\n\tcat a.o > prog\na.o: a.in\n\tcat a.in h > a.o\n"
 CLEAN = "clean:\n\trm -f prog *.o *.d\n.PHONY: clean\n"
 has_git = unittest.skipUnless(shutil.which("git"), "no git")
+# Asks one of two servers.
+ASK = """#!/usr/bin/env python3
+import socket, sys
+if sys.argv[1] == "0":
+    socket.create_connection(("127.0.0.1", {}))
+else:
+    socket.socket(socket.AF_UNIX).connect("{}")
+"""
+# The number of a user who owns nothing.
+NOBODY = 65534
+# Runs the importer with a limit of two seconds for `make clean`.
+IMPATIENT = """
+import sys
+sys.argv[0] = sys.argv.pop(1)
+sys.path.insert(0, sys.argv.pop(1))
+from mkcheck_import import leftovers, program
+leftovers.CLEAN_SECONDS = 2
+sys.exit(program.main(sys.argv[1:]))
+"""
+
+
+def may_confine(user: int | None = None) -> bool:
+    """Whether the system allows what `make clean` needs, to a user too."""
+    words = ["unshare", "--user", "--map-root-user", "--mount", "--pid", "--fork", "--net", "--"]
+    words += [sys.executable, str(IMPORTER), "--version"]
+    try:
+        done = subprocess.run(words, user=user, group=user, capture_output=True, check=False)
+    except (OSError, subprocess.SubprocessError):
+        return False
+    return done.returncode == 0 and namespace() is not None
+
+
+can_confine = unittest.skipUnless(may_confine(), "no namespaces in which make clean could run")
 
 
 class LeftoversTestCase(MakeFolderTest):
@@ -39,6 +80,7 @@ class LeftoversTestCase(MakeFolderTest):
 
 
 @can_judge
+@can_confine
 class CleanTest(LeftoversTestCase):
     """What `make clean` removes is of an earlier build."""
 
@@ -120,9 +162,182 @@ class CleanTest(LeftoversTestCase):
         self.project(MAKEFILE + "clean:\n\trm -f prog; false\n")
         self.build()
         (self.folder / "prog").unlink()
+        self.unknown("1 file (a.o)", "")
+
+    def unknown(self, files: str, said: str) -> None:
+        """`make clean` fails, and nothing else tells what is there already."""
         answer = self.imported()
         self.assertEqual(answer.status, 2, answer.output + answer.errors)
+        self.assertIn(f" {files} with rules are there already", answer.output + answer.errors)
+        self.assertIn("`make clean` tells nothing, since it", answer.output + answer.errors)
+        self.assertIn(said, answer.output + answer.errors)
+
+    def test_clean_that_cannot_be_read(self) -> None:
+        self.project(
+            MAKEFILE + CLEAN + "ifeq ($(MAKECMDGOALS),clean)\n$(error not now)\nendif\n"
+        )
+        self.build()
+        self.unknown("2 files (a.o, prog)", "not now")
+
+    @has_git
+    def test_clean_that_fails_in_git(self) -> None:
+        """Then git tells."""
+        self.project(MAKEFILE + "clean:\n\tfalse\n")
+        for words in (["init", "-q"], ["add", "."]):
+            subprocess.run(["git", "-C", str(self.folder), *words], check=True)
+        self.build()
+        answer = self.imported()
+        self.stale(answer)
+        self.assertIn("    2 files (a.o, prog) of an earlier build are left out", answer.output)
+
+    @has_git
+    def test_clean_that_is_not_needed(self) -> None:
+        """It isn't run where no output can be there."""
+        self.project("prog: p.c\n\tcp p.c prog\np.c: p.y\n\tcp p.y p.c\nclean:\n\tfalse\n")
+        self.write({"p.y": "p\n"})
+        self.assertNotIn("`make clean` tells nothing", self.imported().output)
+        self.write({"p.c": "p\n"})
+        self.assertIn("`make clean` tells nothing", self.imported().output)
+        for words in (["init", "-q"], ["add", "."]):
+            subprocess.run(["git", "-C", str(self.folder), *words], check=True)
+        self.assertNotIn("`make clean` tells nothing", self.imported().output)
+
+    def test_clean_that_does_not_end(self) -> None:
+        self.project(MAKEFILE + f"clean:\n\trm -f prog *.o\n\tsleep 6{os.getpid()}\n")
+        self.build()
+        words = [sys.executable, "-c", IMPATIENT, str(IMPORTER), str(IMPORTER.parent)]
+        done = subprocess.run(
+            [*words, "--no-replay", "-C", str(self.folder)],
+            env=ENVIRONMENT,
+            capture_output=True,
+            text=True,
+            check=False,
+        )
+        self.assertEqual(done.returncode, 2, done.stderr)
+        self.assertIn(" 2 files (a.o, prog) with rules are there already", done.stderr)
+        self.assertIn("(GNU make didn't end in 2 seconds)", done.stderr)
+        commands = [content(path) for path in Path("/proc").glob("[0-9]*/cmdline")]
+        self.assertNotIn(f"sleep\0006{os.getpid()}\0".encode(), commands)
+
+
+def content(path: Path) -> bytes:
+    """What a file holds, where it is still there."""
+    try:
+        return path.read_bytes()
+    except OSError:
+        return b""
+
+
+@can_judge
+@can_confine
+class HarmTest(LeftoversTestCase):
+    """What `make clean` removes elsewhere is still there, and the answer is right."""
+
+    def setUp(self) -> None:
+        super().setUp()
+        self.beside = self.scratch / "beside"
+        self.beside.write_text("beside\n")
+
+    def cleaned(self, recipe: str, **environment: str) -> Answer:
+        """Imports a project that was built, with a recipe of `clean`."""
+        self.project(MAKEFILE + CLEAN.replace(".PHONY", f"\t{recipe}\n.PHONY"))
+        self.build()
+        (self.folder / "prog").unlink()
+        answer = self.imported(environment=environment)
+        self.assertEqual(self.beside.read_text(), "beside\n")
+        return answer
+
+    def told(self, recipe: str, **environment: str) -> None:
+        """`make clean` succeeds, and its answer is taken."""
+        answer = self.cleaned(recipe, **environment)
+        self.stale(answer)
+        self.assertIn("    1 file (a.o) of an earlier build are left out", answer.output)
+
+    def not_told(self, recipe: str) -> None:
+        """It fails, so that nothing tells what is there."""
+        answer = self.cleaned(recipe)
+        self.assertEqual(answer.status, 2, answer.output + answer.errors)
         self.assertIn("    1 file (a.o) with rules are there already", answer.output)
+        self.assertIn("Read-only file system", answer.output)
+
+    def test_beside(self) -> None:
+        self.not_told("rm -f ../beside")
+        self.not_told("rm -rf ../beside .git")
+        self.not_told("echo > ../beside")
+
+    def test_failure_that_is_ignored(self) -> None:
+        self.told("-rm -rf ../beside")
+
+    def test_absolute_path(self) -> None:
+        self.not_told(f"rm -f {self.beside}")
+
+    def test_link(self) -> None:
+        (self.folder / "link").symlink_to(self.beside)
+        self.not_told("echo > link")
+
+    def test_home(self) -> None:
+        home = self.scratch / "home"
+        (home / "cache").mkdir(parents=True)
+        (home / "cache" / "x").write_text("x\n")
+        self.told("rm -rf $(HOME)/cache ~/cache", HOME=str(home))
+        self.assertEqual((home / "cache" / "x").read_text(), "x\n")
+
+    def test_folders_for_temporary_files(self) -> None:
+        for place in ("/tmp", "/var/tmp"):
+            with tempfile.NamedTemporaryFile(dir=place) as file:
+                self.told(f"rm {file.name} || test ! -f {file.name}; echo > {place}/mkcheck")
+                self.assertTrue(os.path.exists(file.name))
+                self.assertFalse(os.path.exists(f"{place}/mkcheck"))
+
+    def test_mounts(self) -> None:
+        """Root can't take back what is read-only."""
+        self.told(
+            "-mount -o remount,rw /; mount -o remount,bind,rw $(dir $(CURDIR)); umount $(CURDIR);"
+            f" rm -f ../beside {self.beside}; unshare -m mount -o remount,rw /"
+        )
+
+    def test_processes(self) -> None:
+        with subprocess.Popen(["sleep", "600"]) as process:
+            self.addCleanup(process.kill)
+            self.told(f"-kill -9 {process.pid}")
+            self.assertIsNone(process.poll())
+            process.kill()
+
+    def test_servers(self) -> None:
+        path = str(self.scratch / "server")
+        with socket.socket() as far, socket.socket(socket.AF_UNIX) as near:
+            far.bind(("127.0.0.1", 0))
+            near.bind(path)
+            for number, server in enumerate((far, near)):
+                server.listen()
+                server.settimeout(0.1)
+                self.write({"ask": ASK.format(far.getsockname()[1], path)})
+                self.told(f"-./ask {number}")
+                with self.assertRaises(TimeoutError):
+                    server.accept()
+                self.assertEqual(subprocess.run([self.folder / "ask", str(number)]).returncode, 0)
+
+    @unittest.skipUnless(os.getuid() == 0 and may_confine(NOBODY), "not root, or it is all")
+    def test_other_user(self) -> None:
+        """A user who isn't root: the home is his, and so is what lies beside the project."""
+        harm = "\t-rm -f ../beside; echo > ../beside\n.PHONY"
+        self.project(MAKEFILE + CLEAN.replace(".PHONY", harm))
+        self.build()
+        for path in (self.scratch, *self.scratch.rglob("*")):
+            os.chown(path, NOBODY, NOBODY)
+        done = subprocess.run(
+            [sys.executable, str(IMPORTER), "-C", str(self.folder), "--no-replay"],
+            user=NOBODY,
+            group=NOBODY,
+            extra_groups=[],
+            env=ENVIRONMENT,
+            capture_output=True,
+            text=True,
+            check=False,
+        )
+        self.stale(self.read_answer(done))
+        self.assertIn("    2 files (a.o, prog) of an earlier build are left out", done.stdout)
+        self.assertEqual(self.beside.read_text(), "beside\n")
 
 
 @can_judge

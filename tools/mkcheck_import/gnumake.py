@@ -191,13 +191,15 @@ def run_make(
     is_real: bool,
     watched: list[str],
     more: dict[str, str] | None = None,
+    seconds: float | None = None,
 ) -> list[Make]:
     """Runs make in a folder of the place, and gives it and all makes that it started, in the order
     of their starts.
 
     With `is_real` the build is made, else the commands are only shown, as by `-n`. `scratch` is a
     folder of its own. Of `watched` macros the values for each target are told with its commands.
-    `more` are further variables of the environment.
+    `more` are further variables of the environment. `Fault` is raised where make can't be started,
+    or doesn't end in so many seconds.
     """
     shutil.rmtree(scratch, ignore_errors=True)
     os.makedirs(scratch)
@@ -216,10 +218,12 @@ def run_make(
     own = [*how, "-p", "-j1", f"MAKE={wrapper}", marking(watched), f"--eval={EVAL}"]
     enter = 'cd "$1" && shift && exec "$@"'
     command = ["/bin/sh", "-c", enter, "sh", folder, wrapper, *own, *words]
-    run(command, place, environment)
+    ended = run(command, place, environment, seconds)
+    if ended.timed_out:
+        raise Fault(f"GNU make didn't end in {seconds:g} seconds")
     count = int(Path(scratch, "count").read_text() or 0)
     if count == 0:
-        raise Fault("GNU make could not be started")
+        raise Fault(f"GNU make could not be started: {last_words(ended.output)}")
     makes = [read_make(scratch, number, set(own), watched) for number in range(1, count + 1)]
     attach(makes, scratch)
     return makes

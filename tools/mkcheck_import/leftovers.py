@@ -13,14 +13,19 @@ from collections.abc import Callable, Iterable
 from dataclasses import dataclass, field
 from pathlib import Path
 
+from mkcheck_record.faults import Fault
+from mkcheck_record.places import namespace
+
 from .answers import counted
 from .builds import Build, path_name
 from .copies import Copies, listing
-from .gnumake import Make, option_words
+from .gnumake import Make, last_words, option_words
 from .inherited import reached
 from .rereading import is_dependency_file
 
 CLEAN = "clean"
+# How long it may take.
+CLEAN_SECONDS = 60
 
 
 @dataclass
@@ -37,6 +42,9 @@ class Leftovers:
     is_cleaned: bool = False
     """Whether `make clean` has told what an earlier build left."""
 
+    not_cleaned: str = ""
+    """Why it hasn't, where the makefile has such a rule."""
+
     dependencies: set[str] = field(default_factory=set)
     """Dependency files that say something before the build."""
 
@@ -44,24 +52,25 @@ class Leftovers:
         """Hides what an earlier build left; says whether there was something.
 
         That is what `make clean` removes in a copy, by `run`, with the options among the words.
-        Where there is no such rule, it is each target that git doesn't track.
+        Where there is no such rule, or it fails, it is each target that git doesn't track.
         """
         found = targets_there(self.copies.seen, shown, self.there)
+        if found:
+            self.tracked = tracked_files(self.copies.root)
+        found -= self.tracked or set()
         if not found:
             return False
-        self.tracked = tracked_files(self.copies.root)
-        gone = set()
         if has_clean(shown[0]):
             options = [word for option in option_words(words) for word in option]
-            cleaned = run("clean", is_real=True, words=[*options, CLEAN])
-            if cleaned[0].status == 0:
-                self.is_cleaned = True
-                gone = self.there - listing(self.copies.place("clean").folder)
-        elif self.tracked is not None:
-            gone = found
-        gone -= self.tracked or set()
-        self.copies.hide(gone)
-        return bool(gone)
+            self.not_cleaned = clean([*options, CLEAN], run)
+            self.is_cleaned = not self.not_cleaned
+        if self.is_cleaned:
+            left = listing(self.copies.place("clean").folder)
+            found = self.there - left - (self.tracked or set())
+        elif self.tracked is None:
+            found = set()
+        self.copies.hide(found)
+        return bool(found)
 
     def sentence(self) -> str:
         """What is added to the sentence on a build that fails."""
@@ -99,13 +108,21 @@ class Leftovers:
         build.old_dependencies = self.dependencies
         if keep or self.is_cleaned:
             return
+        why = ""
+        if self.not_cleaned:
+            why = (
+                "`make clean` tells nothing, since it fails in a copy, where it can change nothing"
+                f" else and has no network ({self.not_cleaned})"
+            )
         old = {name for name in build.given if not self.came_with_it(build, name, times)}
         if old:
             build.problem(
                 f"{self.some(old)} with rules are there already, and nothing tells whether they"
                 " came with the project or an earlier build left them: run `make clean`, or remove"
-                " them; with --keep they are taken as they are"
+                f" them; with --keep they are taken as they are{why and '; ' + why}"
             )
+        elif why:
+            build.note(why)
 
     def came_with_it(self, build: Build, name: str, times: dict[str, int]) -> bool:
         """Whether a target came with the project: git tracks it, or it isn't newer than the
@@ -115,6 +132,18 @@ class Leftovers:
         origin = build.nodes[name].origin if name in build.nodes else None
         makefile = times.get(origin.makefile if origin is not None else "")
         return makefile is not None and times.get(name, makefile + 1) <= makefile
+
+
+def clean(words: list[str], run: Callable[..., list[Make]]) -> str:
+    """Runs `make clean` in a copy, where it can change nothing else; says why it failed, and
+    nothing where it didn't."""
+    if namespace() is None:
+        return "this system allows no mount namespace"
+    try:
+        makes = run("clean", is_real=True, words=words, seconds=CLEAN_SECONDS)
+    except Fault as fault:
+        return str(fault)
+    return last_words(makes[0].errors) if makes[0].status != 0 else ""
 
 
 def has_clean(make: Make) -> bool:

@@ -12,6 +12,7 @@ from .answers import counted
 from .asking import Asking
 from .builds import Build, path_name
 from .commands import is_export
+from .confining import OWN, Confined
 from .copies import Copies, links_in, listing
 from .database import Rule
 from .gnumake import (
@@ -105,15 +106,18 @@ class MakeBuild:
         words: list[str] | None = None,
         folder: str | None = None,
         more: dict[str, str] | None = None,
+        seconds: float | None = None,
     ) -> list[Make]:
         """Runs make in a copy, with its own words or with others, and perhaps in another folder of
-        it, with further variables of the environment."""
+        it, with further variables of the environment. With a limit of seconds it can change nothing
+        but the copy."""
         place = self.copies.place(word)
+        if seconds is not None:
+            place, more = Confined(place.folder, place.seen, (self.scratch,)), OWN
         folder = folder or os.path.normpath(os.path.join(place.seen, self.folder))
         words = self.words if words is None else words
-        makes = run_make(
-            self.program, place, folder, words, self.scratch, is_real, self.watched, more
-        )
+        how = is_real, self.watched, more, seconds
+        makes = run_make(self.program, place, folder, words, self.scratch, *how)
         if not makes[0].transcript.is_whole:
             said = last_words(makes[0].errors)
             raise Fault(f"GNU make could not read its makefile: {said}{self.leftovers.sentence()}")
