@@ -186,6 +186,54 @@ class ReadingTest(UnseenTestCase):
         self.write({"Makefile": "all:\n\t$(MAKE) -f sub.mk\n.PHONY: all\n"})
         self.refused("    sub.mk:5: the commands of x depend on version")
 
+    def test_file_that_can_be_run(self) -> None:
+        """Only what make starts, and scripts, are programs."""
+        self.version()
+        (self.folder / "version").chmod(0o755)
+        self.refused("the commands of x depend on version")
+        self.write({"version": "#!/bin/sh\necho 1.0\n"})
+        self.version(version="#!/bin/sh\necho 1.0\n")
+        makefile = self.folder / "Makefile"
+        makefile.write_text(makefile.read_text().replace("cat version", "./version"))
+        self.accepted()
+
+    def test_link(self) -> None:
+        self.version()
+        (self.folder / "version").unlink()
+        (self.folder / "v1").write_text("1.0\n")
+        (self.folder / "version").symlink_to("v1")
+        self.refused("the commands of x depend on v1")
+        makefile = self.folder / "Makefile"
+        makefile.write_text(makefile.read_text().replace("cat version", "readlink version"))
+        self.refused("make reads version beside its makefiles, and whether commands depend on it")
+
+    def test_long_file(self) -> None:
+        self.version(version="1" + "0" * (1 << 20) + "\n")
+        makefile = self.folder / "Makefile"
+        makefile.write_text(makefile.read_text().replace("cat version", "head -c1 version"))
+        self.refused("make reads version beside its makefiles, and whether commands depend on it")
+
+    def by_name(self, **files: str) -> None:
+        """A make below that `make -n` doesn't start."""
+        self.version(**files)
+        (self.folder / "Makefile").rename(self.folder / "sub.mk")
+        self.write({"Makefile": "all:\n\tmake -f sub.mk\n.PHONY: all\n"})
+
+    def test_make_by_its_name(self) -> None:
+        self.by_name()
+        self.assertEqual(self.left({"version": "2.0\n"}, "x"), ["1.0\na\n", "2.0\na\n"])
+        self.refused(
+            "    the make in the folder . reads version beside its makefiles, and whether its"
+            " commands depend on it can't be asked, since a recipe starts it by its name: start it"
+            " by $(MAKE)"
+        )
+
+    def test_make_by_its_name_that_reads_nothing(self) -> None:
+        self.by_name()
+        makefile = self.folder / "sub.mk"
+        makefile.write_text(makefile.read_text().replace("$(shell cat version)", "1.0"))
+        self.accepted()
+
     def test_contents_that_make_refuses(self) -> None:
         self.version("x: version\n$(if $(filter 1.0,$v),,$(error no))\n")
         self.refused("make reads version beside its makefiles, and whether commands depend on it")
@@ -267,6 +315,13 @@ class GoalsTest(UnseenTestCase):
         (self.folder / "Makefile").rename(self.folder / "sub.mk")
         self.write({"Makefile": "all:\n\t$(MAKE) -f sub.mk all\n.PHONY: all\n"})
         self.refused("    sub.mk:7: the commands of prog depend on the target")
+
+    def test_macros_in_a_make_by_its_name(self) -> None:
+        """`make -n` doesn't start it, so it can't be asked."""
+        self.shared("debug: mode = g\n")
+        (self.folder / "Makefile").rename(self.folder / "sub.mk")
+        self.write({"Makefile": "all:\n\tmake -f sub.mk all\n.PHONY: all\n"})
+        self.refused("    sub.mk:7: whether the commands of prog depend on the target for which")
 
     def test_macros_of_patterns(self) -> None:
         self.shared("%bug: mode = g\n")
@@ -429,6 +484,18 @@ class FolderTest(UnseenTestCase):
     def test_prerequisite(self) -> None:
         self.looks("a", self.TEXT)
         self.assertEqual(self.left({"a.in": "no\n"}, "b"), ["without\n", "without\n"])
+        self.accepted()
+
+    def test_recipe_that_fails_again(self) -> None:
+        """It is tried without what it wrote, and where it fails then too, it isn't judged."""
+        self.looks("| a", "ln -s b.in b; if test -d d; then echo with; fi > c")
+        self.refused(self.SENTENCE.replace("b otherwise", "c otherwise"))
+        self.looks("| a", "ls d; mkdir e; cp b.in b")
+        self.refused(
+            "    Makefile:6: whether what the recipe of b writes depends on the folder d couldn't"
+            " be tried, since that recipe fails when it runs again"
+        )
+        self.looks("| a", "ls d; ln -s b.in b")
         self.accepted()
 
     def test_same_without_it(self) -> None:

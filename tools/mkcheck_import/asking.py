@@ -78,6 +78,17 @@ class Asking:
             if goals:
                 self.compare(make, found, goals)
 
+    def name_unseen(self, make: Make, exported: set[str]) -> None:
+        """Names files of a make that `make -n` doesn't start, where such macros may change their
+        commands."""
+        for one in inherited_in(make, exported)[:1]:
+            where, name = place_of(self.root, make, make.base.rules[one.name][0])
+            self.sentences.append(
+                f"{where}: whether the commands of {name} depend on the target for which it is made"
+                f" first ({', '.join(one.owners[:5])}) can't be asked, since a recipe starts this"
+                " make by its name: start it by $(MAKE)"
+            )
+
     def compare(self, make: Make, found: list[Inherited], goals: list[str]) -> None:
         """Compares the commands of files with those that a make has for other goals."""
         words = [*make.words, *(word for word in self.words if "=" in word)]

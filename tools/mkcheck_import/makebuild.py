@@ -25,6 +25,7 @@ from .gnumake import (
     version_of,
     wrapper_in,
 )
+from .inherited import all_macros
 from .later import add_later
 from .leaving import leave_alone, times_in
 from .leftovers import Leftovers
@@ -149,16 +150,20 @@ class MakeBuild:
     def find_watched(self, folder: str, makes: list[Make]) -> None:
         """Finds macros that are set for some targets alone, and that the environment has."""
         for make in makes:
-            inside = folder + make.folder[len(self.copies.seen) :]
-            base = make.base
-            rules = [rule for found in base.rules.values() for rule in found]
-            for macro in [*base.pattern_macros, *(one for rule in rules for one in rule.macros)]:
-                if is_export(macro, inside) or ".EXPORT_ALL_VARIABLES" in base.rules:
-                    self.exported.setdefault(make.folder, set()).add(macro.name)
-                elif macro.name not in make.environment:
+            exported = self.exported_by(make, folder)
+            if exported:
+                self.exported.setdefault(make.folder, set()).update(exported)
+            for name in (macro.name for macro in all_macros(make.base)):
+                if name not in exported and name not in make.environment:
                     continue
-                if macro.name not in self.watched and macro.name not in ("SHELL", "MAKEFLAGS"):
-                    self.watched.append(macro.name)
+                if name not in self.watched and name not in ("SHELL", "MAKEFLAGS"):
+                    self.watched.append(name)
+
+    def exported_by(self, make: Make, folder: str) -> set[str]:
+        """The macros that single targets of a make export; the project lies in a folder."""
+        inside = folder + make.folder[len(self.copies.seen) :]
+        is_all = ".EXPORT_ALL_VARIABLES" in make.base.rules
+        return {macro.name for macro in all_macros(make.base) if is_all or is_export(macro, inside)}
 
     def build(self) -> str:
         """Makes the build, and then once more, for what make knows only after a build; gives a
@@ -192,11 +197,32 @@ class MakeBuild:
             self.copies.seen, self.shown, self.words, self.wrapper, self.exported, ask
         )
         self.asking.ask()
-        self.readings = Readings(self.copies, self.shown, ask)
+        makefiles = {
+            path_name(self.copies.seen, make.folder, text)
+            for make in [*self.shown, *self.built, *self.after]
+            for text in make.makefiles
+        }
+        self.readings = Readings(self.copies, self.shown, makefiles, ask)
         place = self.copies.place("asked")
         top = os.path.normpath(os.path.join(place.seen, self.folder))
         self.readings.try_all(self.program, place, top, self.words)
+        self.ask_unseen(made)
         return counted(sum(rule.ran for rule in all_rules(self.built)), "recipe")
+
+    def ask_unseen(self, made: set[str]) -> None:
+        """Names what can't be asked of makes that `make -n` doesn't start. `made` has the files
+        that the build made."""
+        known = {make.key for make in self.shown}
+        unseen = {make.key: make for make in self.built if make.key not in known}
+        if not unseen or self.asking is None or self.readings is None:
+            return
+        place = self.copies.place("built")
+        touch_sources(self.copies.seen, place.folder, [*self.built, *self.after], made)
+        macros = [word for word in self.words if "=" in word and word[0] != "-"]
+        makes = list(unseen.values())
+        self.readings.name_unseen(self.program, place, makes, macros)
+        for make in makes:
+            self.asking.name_unseen(make, self.exported_by(make, place.folder))
 
     def find_read_again(self, folder: str, times: dict[str, int]) -> None:
         """Finds the files that each reading of the makefiles makes anew, and alike. `folder` holds

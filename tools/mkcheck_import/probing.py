@@ -85,7 +85,10 @@ class Probing:
         if what == "":
             self.build.tried.update(f"{record.target} {name}" for name in folders)
         elif what == "fails":
-            self.build.note(f"{text} couldn't be tried, since that recipe fails when it runs again")
+            self.build.problem(
+                f"{text} couldn't be tried, since that recipe fails when it runs again; let it"
+                " succeed then, or need a file in the folder"
+            )
         else:
             self.build.problem(
                 f"{self.where(node)}: the recipe of {node.name} writes {what} otherwise where the"
@@ -147,25 +150,38 @@ class Probing:
 
     def tried(self, node: Node, record: Record, folders: list[str]) -> str:
         """The first file that a recipe writes otherwise without folders, or with one more file in
-        each; empty where there is none, or where it fails then, which nobody overlooks."""
+        each; empty where there is none, or where it fails then, which nobody overlooks.
+
+        Where it fails over what it wrote before, as `ln -s` does, it is tried without that.
+        """
         assert self.built is not None
         writes = [os.path.join(self.built.folder, name) for name in record.writes]
         paths = [os.path.join(self.built.folder, name) for name in folders]
         paths = [path for path in paths if os.path.isdir(path)]
+        gone: list[str] = []
         if self.run(node):
-            return "fails"
+            gone = [path for path in writes if not os.path.isdir(path)]
+            if self.run_without(node, gone):
+                return "fails"
         before = [content(path) for path in writes]
         found = []
         for change in (without_folder, with_file):
             with contextlib.ExitStack() as stack:
                 for path in paths:
                     stack.enter_context(change(path))
-                if self.run(node) == 0:
+                if self.run_without(node, gone) == 0:
                     after = [content(path) for path in writes]
                     pairs = zip(record.writes, before, after)
                     found += [name for name, old, new in pairs if old != new]
-        self.run(node)
+        self.run_without(node, gone)
         return found[0] if found else ""
+
+    def run_without(self, node: Node, paths: list[str]) -> int:
+        """Runs a recipe when these files are gone."""
+        for path in paths:
+            with contextlib.suppress(OSError):
+                os.unlink(path)
+        return self.run(node)
 
     def run(self, node: Node) -> int:
         """Runs a recipe in the copy that was built, and gives its status."""

@@ -14,6 +14,7 @@ from pathlib import Path
 
 from mkcheck_record import tracing
 from mkcheck_record.accesses import Accesses, Follower
+from mkcheck_record.calls import Call
 from mkcheck_record.faults import Fault
 from mkcheck_record.places import Place
 from mkcheck_record.trees import Tree
@@ -21,20 +22,35 @@ from mkcheck_record.trees import Tree
 from .builds import Build, Kind, path_name
 from .copies import Copies
 from .database import Rule
-from .gnumake import Make, outer_environment
+from .gnumake import Make, outer_environment, own_environment
 from .rereading import changed, place_of
 
 SKIPPED = re.compile(r"(.*/)?\.(git|hg|svn|mkcheck)/")
 TRIED_AT_MOST = 24
 LONGEST = 1 << 20
+UNKNOWN = "whether commands depend on files that make reads beside its makefiles isn't known"
+
+
+@dataclass
+class Reader(Follower):
+    """Follows what make does when it reads its makefiles. `programs` are those that it starts."""
+
+    programs: set[str] = field(default_factory=set)
+
+    def started(self, call: Call, name: str) -> None:
+        """A program is started."""
+        self.programs.add(self.accesses.reach(name))
+        super().started(call, name)
 
 
 @dataclass
 class Readings:
-    """Tries whether commands depend on such files, in a copy. `run` asks make there."""
+    """Tries whether commands depend on such files, in a copy. `run` asks make there.
+    `makefiles` has the names of all that makes read as their makefiles."""
 
     copies: Copies
     shown: list[Make]
+    makefiles: set[str]
     run: Callable[[], list[Make]]
     found: list[tuple[Make, Rule, str, str]] = field(default_factory=list)
     """The rules whose commands are others when a file says something else: the make, the rule, what
@@ -43,18 +59,37 @@ class Readings:
     sentences: list[str] = field(default_factory=list)
     """What couldn't be tried."""
 
-    def try_all(self, program: str, place: Place, folder: str, words: list[str]) -> None:
-        """Finds the files that make reads in a place, and tries each."""
+    def read_in(
+        self, program: str, place: Place, folder: str, words: list[str], more: dict[str, str]
+    ) -> list[str]:
+        """The files of the project that a make reads in a place and that are no makefiles. `more`
+        are further variables of its environment."""
         scratch = os.path.join(self.copies.scratch, "traced")
         os.makedirs(scratch, exist_ok=True)
         enter = 'cd "$1" && shift && exec "$@"'
         command = ["/bin/sh", "-c", enter, "sh", folder, program, "-n", "-k", "-j1", *words]
         tree = Tree.of(place)
-        traced = tracing.run(command, place, outer_environment(), scratch)
-        accesses = Accesses(tree)
-        Follower(accesses, place.seen).follow(traced.calls)
-        names = [path_name(place.seen, place.seen, path) for path in accesses.reads]
-        names = [name for name in dict.fromkeys(names) if self.is_data(place, name)]
+        traced = tracing.run(command, place, {**outer_environment(), **more}, scratch)
+        reader = Reader(Accesses(tree), place.seen)
+        reader.follow(traced.calls)
+        paths = [path for path in reader.accesses.reads if path not in reader.programs]
+        names = dict.fromkeys(path_name(place.seen, place.seen, path) for path in paths)
+        return [name for name in names if self.is_data(place, name)]
+
+    def try_all(self, program: str, place: Place, folder: str, words: list[str]) -> None:
+        """Finds the files that make reads in a place, and tries each."""
+        try:
+            names = self.read_in(program, place, folder, words, {})
+        except Fault as fault:
+            self.sentences.append(f"{UNKNOWN}: {fault}")
+            return
+        for name in names:
+            if not is_plain(os.path.join(place.folder, name)):
+                self.sentences.append(
+                    f"make reads {name} beside its makefiles, and whether commands depend on it"
+                    " wasn't tried, since it is a link or has over 1 MiB; let a recipe read it"
+                )
+        names = [name for name in names if is_plain(os.path.join(place.folder, name))]
         if len(names) > TRIED_AT_MOST:
             self.sentences.append(
                 f"make reads {len(names)} files beside its makefiles ({', '.join(names[:5])}, ..),"
@@ -64,18 +99,32 @@ class Readings:
         for name in names[:TRIED_AT_MOST]:
             self.try_one(os.path.join(place.folder, name), name)
 
+    def name_unseen(self, program: str, place: Place, makes: list[Make], words: list[str]) -> None:
+        """Names what other makes read that `make -n` doesn't start, in a place where all that they
+        make is out of date. `words` are macros for them."""
+        for make in makes:
+            own = [*make.words, *words]
+            try:
+                names = self.read_in(
+                    program, place, make.folder, own, own_environment(make.environment)
+                )
+            except Fault as fault:
+                self.sentences.append(f"{UNKNOWN}: {fault}")
+                return
+            if names:
+                folder = path_name(self.copies.seen, self.copies.seen, make.folder)
+                self.sentences.append(
+                    f"the make in the folder {folder} reads {names[0]} beside its makefiles, and"
+                    " whether its commands depend on it can't be asked, since a recipe starts it by"
+                    " its name: start it by $(MAKE)"
+                )
+
     def is_data(self, place: Place, name: str) -> bool:
-        """Whether a file of the project is no makefile, and no program."""
+        """Whether a name is that of a file of the project which is no makefile and no script."""
         path = os.path.join(place.folder, name)
         if name.startswith("/") or SKIPPED.match(name) or not os.path.isfile(path):
             return False
-        if os.path.islink(path) or os.access(path, os.X_OK) or os.path.getsize(path) > LONGEST:
-            return False
-        return not any(
-            path_name(self.copies.seen, make.folder, text) == name
-            for make in self.shown
-            for text in make.makefiles
-        )
+        return name not in self.makefiles and not is_script(path)
 
     def try_one(self, path: str, name: str) -> None:
         """Asks make what it would do if a file said something else."""
@@ -118,6 +167,17 @@ class Readings:
             )
         for text in self.sentences:
             build.problem(text)
+
+
+def is_plain(path: str) -> bool:
+    """Whether other contents of a file can be tried."""
+    return not os.path.islink(path) and os.path.getsize(path) <= LONGEST
+
+
+def is_script(path: str) -> bool:
+    """Whether a file is a script that can be run."""
+    with open(path, "rb") as file:
+        return os.access(path, os.X_OK) and file.read(2) == b"#!"
 
 
 def has_run(make: Make) -> bool:
