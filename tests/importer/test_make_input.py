@@ -2,6 +2,7 @@
 
 from __future__ import annotations
 
+import os
 import resource
 import signal
 import subprocess
@@ -165,6 +166,27 @@ class StepsTest(MakeFolderTest):
         for _ in range(2):
             answer = self.imported("--only", "check", keep=True)
             self.assertEqual((answer.status, answer.findings), (1, ["no stale x b"]))
+
+    def test_without_strace(self) -> None:
+        """The translation is there, and says what isn't known."""
+        self.write({"Makefile": "x: a\n\tcp a x\n", "a": "a\n"})
+        programs = self.scratch / "bin"
+        programs.mkdir()
+        for folder in filter(os.path.isdir, os.environ["PATH"].split(":")):
+            for name in set(os.listdir(folder)) - {"strace"} - set(os.listdir(programs)):
+                (programs / name).symlink_to(os.path.join(folder, name))
+        path = {"PATH": str(programs)}
+        answer = self.imported(environment=path)
+        self.assertEqual((answer.status, answer.makefile), (2, ""))
+        self.assertIn("strace isn't there", answer.errors)
+        self.assertNotIn("build ", answer.errors)
+        answer = self.imported("--only", "translate", "--build", environment=path)
+        self.assertEqual((answer.status, answer.rules().count("\t")), (2, 1), answer.errors)
+        self.assertIn(
+            "not translated: whether commands depend on files that make reads beside its makefiles"
+            " isn't known: strace isn't there",
+            answer.output,
+        )
 
     def test_translation_without_a_build(self) -> None:
         """It may lack what make knows only after a build, so it is never a yes."""

@@ -15,6 +15,7 @@ from typing import Protocol
 from mkcheck_record.faults import Fault
 from mkcheck_record.graphs import find_checker
 from mkcheck_record.places import Place
+from mkcheck_record.tracing import strace
 
 from .answers import answer_of, counted
 from .builds import Build
@@ -164,10 +165,12 @@ class Import:
             self.say(text)
 
     def find_programs(self) -> None:
-        """Finds mkcheck and its recorder; one that isn't there is told before the build."""
+        """Finds mkcheck, its recorder and strace; what isn't there is told before the build."""
         if self.asked.only not in ("read", "translate"):
             find_checker(Path(sys.argv[0]).resolve().parent)
             self.recorder()
+        if self.asked.only in (None, "record"):
+            strace()
 
     def end_early(self) -> int:
         """The status of a step that was asked for alone."""
