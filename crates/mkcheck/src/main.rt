@@ -18,5 +18,9 @@ fn main(rt: HostRuntime) -> ExitCode {
     keep_pages(rt.alloc());
     let mut disk = Disk::new(HostFiles::new(&rt));
     let ran = run_arguments(rt.alloc(), &mut disk, words(&rt));
-    conclude(&mut Sink::new(rt.stdout()), &mut Sink::new(rt.stderr()), &ran)
+    conclude(
+        &mut Sink::new(rt.stdout()),
+        &mut Sink::new(rt.stderr()),
+        &ran,
+    )
 }

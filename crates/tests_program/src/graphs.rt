@@ -94,7 +94,10 @@ fn refuses_before_it_reads(rt: HostRuntime) -> Result<(), Fail> {
     for (words, printed) in UNREAD {
         let outcome = without_reads(rt.alloc(), words)?;
         assert_eq!(rt; outcome.out.as_slice(), printed.as_bytes(), "of {words:?}");
-        assert!(rt; outcome.err.is_empty() && outcome.status == 2, "of {words:?}");
+        assert!(rt;
+            outcome.err.is_empty() && outcome.status == 2,
+            "of {words:?}"
+        );
     }
     Ok(())
 }
