@@ -1,7 +1,8 @@
 -- What the parts of a run make together.
-use Rattle.std.proofs.Common.{◌≡◌, ◌⊎◌, ◌∙◌, ℕ, Bool, true, true≢false, nat_eq, List, [], Option, Some, None, refl, sym, ap, ap₂, subst, inl, inr, Result, Ok, Err, IfOk, arith}
+use Rattle.std.proofs.Common.{◌≡◌, ◌⊎◌, ◌∙◌, ℕ, Bool, true, true≢false, nat_eq, List, [], String, Global, map, Option, Some, None, refl, sym, ap, ap₂, subst, inl, inr, Result, Ok, Err, IfOk, arith}
 use Rattle.std.specs.Prelude.{IsErr, OnErr, unwrap_or}
 use Rattle.std.specs.Option.{option_map}
+use Rattle.std.specs.String.{string_bytes}
 use Rattle.clap.specs.Words.{IsAmong, Kinds, Row, Text, is_simple, is_simple_and_free}
 use Rattle.clap.specs.declared.error.ErrorKind.{ErrorKind}
 use Rattle.clap.specs.declared.error.ErrorKind.TheVariants.{OutOfMemory}
@@ -62,6 +63,10 @@ module _ (told : Told) (request : Request) (only_certificate : Bool) (number : �
       → shown ≡ evidence_response only_certificate evidence → AnswersInvocation told (Check request only_certificate (Some number)) (Ok shown)
   evidence_answers evidence shown a v e =
       subst (λ (s : Response). AnswersInvocation told (Check request only_certificate (Some number)) (Ok s)) (sym e) (evidence_shows evidence a v)
+
+-- what the words spell
+abbrev pub texts_of : List (String Global) → List Text
+texts_of words = map (λ (word : String Global). string_bytes word) words
 
 -- words without a fault are refused unread only with their makefile's name or an operand
 pub unread_by : (words : List Text) (same : Type 0) → faults_of words ≡ [] → OnErr (macros_for (request_in (invocation_of words))) same → AreRefusedUnread words → same

@@ -36,4 +36,4 @@ pub returns-clause-untouched : goal.returns-clause-untouched
 returns-clause-untouched g c =
     let met = met_found (λ p. p.0.now) (λ p. rows_of (found_of p.1.now)) _ _ _ c.subcommand.result c.unwrap.result c.subcommand.ensures.name c.subcommand.ensures.rows c.unwrap.ensures in
     let asks = c.in_ok-asked.ensures ∙ sym (ap asked_with met) in
-    subst (λ (a : Invocation). OnErr (macros_for (request_in a)) _) asks c.answer-found.ensures.untouched
+    subst (λ (a : Invocation). OnErr (macros_for (request_in a)) (c.answer-found.new.files ≡ c.args.files.now)) asks c.answer-found.ensures.untouched

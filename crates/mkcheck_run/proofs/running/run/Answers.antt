@@ -81,4 +81,5 @@ returns-in-Ok-clause-untouched g c =
     let words = map g.S.AsStr.text c.args.words.now in
     let none = subst (λ (a : App). fault_of a words ≡ []) app (c.in-Ok.ensures.kinds (ap is_simple_and_free app ∙ is_simple_line)) in
     let met = (c.in-Ok.ensures.matches (ap is_simple app ∙ is_simple_command)).1 ∙ ap (λ (a : App). subcommand_of a words) app in
-    unread_by words _ none (subst (λ (a : Invocation). OnErr (macros_for (request_in a)) _) (ap asked_with met) c.answered.ensures.untouched)
+    let same = c.answered.new.files ≡ c.args.files.now in
+    unread_by words same none (subst (λ (a : Invocation). OnErr (macros_for (request_in a)) same) (ap asked_with met) c.answered.ensures.untouched)
