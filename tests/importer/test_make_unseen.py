@@ -488,14 +488,14 @@ class FolderTest(UnseenTestCase):
 
     def test_recipe_that_fails_again(self) -> None:
         """It is tried without what it wrote, and where it fails then too, it isn't judged."""
-        self.looks("| a", "ln -s b.in b; if test -d d; then echo with; fi > c")
+        self.looks("| a", "ln -s b.in b && if test -d d; then echo with; fi > c")
         self.refused(self.SENTENCE.replace("b otherwise", "c otherwise"))
-        self.looks("| a", "ls d; mkdir e; cp b.in b")
+        self.looks("| a", "ls d && mkdir e && cp b.in b")
         self.refused(
             "    Makefile:6: whether what the recipe of b writes depends on the folder d couldn't"
             " be tried, since that recipe fails when it runs again"
         )
-        self.looks("| a", "ls d; ln -s b.in b")
+        self.looks("| a", "ls d && ln -s b.in b")
         self.accepted()
 
     def test_same_without_it(self) -> None:
