@@ -1,8 +1,8 @@
 //! What the disk's reader answers over files in memory, whose opener tells what it holds.
 
-ghost use Rattle.std.specs.Prelude.{◌≡◌, Some};
+ghost use Rattle.std.specs.Prelude.{◌≡◌, Some, map};
 ghost use Rattle.std.specs.Option.{option_map};
-ghost use Rattle.tests_program.specs.Shelves.{held};
+ghost use Rattle.mk_core.specs.Files.{text_at};
 
 use mk_core::FilesError;
 use mkcheck_host::{Disk, Opener};
@@ -41,7 +41,8 @@ struct File<'a> {
 
 // The first file with this name.
 fn file_named<'a>(files: &'a [File<'a>], name: &str) -> Option<&'a File<'a>>
-    ensures { option_map (λ file. file.now.bytes.now) result ≡ held files.now name.now }
+    ensures { option_map (λ file. file.now.bytes.now) result ≡
+        text_at (map (λ file. (file.name.now, file.bytes.now)) files.now) name.now }
 {
     for file in files {
         if file.name == name {
@@ -61,7 +62,8 @@ struct Shelf<'a> {
 impl<'a> Opener for Shelf<'a> {
     type File = Pieces<'a>;
 
-    ghost holds = { λ shelf name. Some (held shelf.files.now name) };
+    ghost holds = { λ shelf name. Some
+        (text_at (map (λ file. (file.name.now, file.bytes.now)) shelf.files.now) name) };
 
     fn open(&mut self, name: &str) -> io::Result<Pieces<'a>> {
         let files = self.files;
