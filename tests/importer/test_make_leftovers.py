@@ -42,18 +42,21 @@ sys.exit(program.main(sys.argv[1:]))
 """
 
 
-def may_confine(user: int | None = None) -> bool:
-    """Whether the system allows what `make clean` needs, to a user too."""
+def python_for(user: int | None = None) -> str | None:
+    """A Python by which the importer starts in what `make clean` needs, for another user too."""
     words = ["unshare", "--user", "--map-root-user", "--mount", "--pid", "--fork", "--net", "--"]
-    words += [sys.executable, str(IMPORTER), "--version"]
-    try:
-        done = subprocess.run(words, user=user, group=user, capture_output=True, check=False)
-    except (OSError, subprocess.SubprocessError):
-        return False
-    return done.returncode == 0 and namespace() is not None
+    for python in (sys.executable, "/usr/bin/python3"):
+        whole = [*words, python, str(IMPORTER), "--version"]
+        try:
+            done = subprocess.run(whole, user=user, group=user, capture_output=True, check=False)
+        except (OSError, subprocess.SubprocessError):
+            return None
+        if done.returncode == 0 and namespace() is not None:
+            return python
+    return None
 
 
-can_confine = unittest.skipUnless(may_confine(), "no namespaces in which make clean could run")
+can_confine = unittest.skipUnless(python_for(), "no namespaces in which make clean could run")
 
 
 class LeftoversTestCase(MakeFolderTest):
@@ -317,16 +320,18 @@ class HarmTest(LeftoversTestCase):
                     server.accept()
                 self.assertEqual(subprocess.run([self.folder / "ask", str(number)]).returncode, 0)
 
-    @unittest.skipUnless(os.getuid() == 0 and may_confine(NOBODY), "not root, or it is all")
+    @unittest.skipUnless(
+        os.getuid() == 0 and python_for(NOBODY), "another user can't be tried, or can't confine"
+    )
     def test_other_user(self) -> None:
-        """A user who isn't root: the home is his, and so is what lies beside the project."""
+        """A user who isn't root, and owns the project and what lies beside it."""
         harm = "\t-rm -f ../beside; echo > ../beside\n.PHONY"
         self.project(MAKEFILE + CLEAN.replace(".PHONY", harm))
         self.build()
         for path in (self.scratch, *self.scratch.rglob("*")):
             os.chown(path, NOBODY, NOBODY)
         done = subprocess.run(
-            [sys.executable, str(IMPORTER), "-C", str(self.folder), "--no-replay"],
+            [str(python_for(NOBODY)), str(IMPORTER), "-C", str(self.folder), "--no-replay"],
             user=NOBODY,
             group=NOBODY,
             extra_groups=[],

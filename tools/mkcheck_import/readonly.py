@@ -92,7 +92,8 @@ def cover(folder: str, seen: str) -> None:
     if seen.startswith(folder + "/"):
         part = os.path.join(folder, seen[len(folder) + 1 :].split("/")[0])
     file = opened(part) if part is not None and part != seen else None
-    mount("none", folder, "tmpfs", options="mode=1777")
+    # Were it one for all users, nobody could open devices of root in it by `> /dev/null`.
+    mount("none", folder, "tmpfs", options="mode=755")
     if file is not None and part is not None:
         os.makedirs(part)
         bind(file, part)
