@@ -46,8 +46,8 @@ def footprints(size: int, records: int) -> str:
 
 
 def prefixes(count: int) -> str:
-    """A file of format 1 of so many fixed prefixes, of 200 lengths, and as many sources, none under
-    a prefix."""
+    """A footprint file of format 1 with `count` fixed prefixes of 200 lengths, and with as many
+    sources, none of which is under a prefix."""
     fixed = [f"fixed/{'d' * (n % 200)}{n:05d}/" for n in range(count)]
     sources = [f"fixed/{'d' * 200}{n:05d}/x" for n in range(count)]
     return json.dumps({"format": 1, "fixed": fixed, "sources": sources, "records": []})

@@ -94,8 +94,8 @@ def suffixes(count: int) -> Case:
 
 
 def rules_for(names: int, listed: int) -> Case:
-    """As many suffixes, each with a rule for objects, as prerequisites, which have names of 250
-    bytes, so many of them different."""
+    """`listed` suffixes, each with a rule for objects, and as many prerequisites. Their names have
+    some 250 bytes; `names` of them differ."""
     rules = "".join(f".s{number}.o:\n\ttouch $@\n" for number in range(listed))
     words = [f"{'n' * 245}{number % names:04}.o" for number in range(listed)]
     known = lined(".SUFFIXES:", [f".s{number}" for number in range(listed)]) + ".SUFFIXES: .o\n"

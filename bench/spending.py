@@ -52,8 +52,8 @@ def spent(command: list[str], statuses: set[int], output: Path) -> Measure:
 
 
 def in_turns(tasks: list[Callable[[], Told]], rounds: int) -> list[list[Told]]:
-    """What each of these tells in so many rounds. They take turns, so that where the machine grows
-    slow it does for all."""
+    """The results of each task, one for each round. The tasks take turns, so that a machine that
+    grows slow slows all of them."""
     told = [[task() for task in tasks] for _ in range(rounds)]
     return [list(column) for column in zip(*told)]
 
