@@ -126,6 +126,37 @@ class ScratchTest(Refusals):
             )
             self.assertIn("no writers clean a a", self.check())
 
+    def test_a_look_in_vain(self) -> None:
+        for way, read in (
+            ("if test -e flag; then cp x b; else cp y b; fi", "y"),
+            ("if [ -f flag ]; then cp x b; else cp y b; fi", "y"),
+            ("cat flag > b 2>/dev/null || cp y b", "y"),
+            ("./flag 2>/dev/null || cp y b", "y"),
+        ):
+            outcome = self.of(
+                f"all: b flag\nb: y x\n\t{way}\nflag: x\n\tcp x flag\n", {"x": "1", "y": "2"}
+            )
+            self.assertEqual(outcome.own("b"), ({read, "flag"}, {"b"}), way)
+            self.assertEqual(
+                outcome.warnings(),
+                [
+                    "the recipe of b looks for flag, which wasn't there yet and which the recipe of"
+                    " flag makes: another time it is there, so it counts as read. Let b need flag,"
+                    " and record again"
+                ],
+            )
+            self.assertIn("no race b flag flag", self.check())
+
+    def test_looks_in_vain_for_what_nobody_else_makes(self) -> None:
+        outcome = self.of(
+            "all: b c\nb: x\n\ttest -e other || test -e b || cp x b\nc: b\n\ttest -e b; cp b c\n",
+            {"x": ""},
+        )
+        self.assertEqual(
+            (outcome.own("b"), outcome.own("c")), (({"x"}, {"b"}), ({"b"}, {"c"}))
+        )
+        self.assertEqual(outcome.warnings(), [])
+
     def test_a_removal_in_vain_of_a_scratch_file(self) -> None:
         outcome = self.of(
             "all: a b\na: x\n\trm -f t; cp x a\nb: x\n\tcp x t; mv t b\n", {"x": ""}

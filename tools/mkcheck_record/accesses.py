@@ -49,7 +49,8 @@ class Accesses:
 
     `touched` has all that it ever wrote or took away, `made` what of that wasn't there before, and
     `lost` what it took away and hadn't made. `missed` has what it would have taken away, had it
-    been there. `alone` has the files outside of the folder that it made as `mkstemp` does.
+    been there, and `sought` the paths at which it looked when nothing was there. `alone` has the
+    files outside of the folder that it made as `mkstemp` does.
     `folders` has the folders that it made, `owned` the others to which it gave a mode, an owner or
     an attribute, and `stamped` what it gave a stamp other than the present time. `moved` has the
     new names of what it renamed, which may be folders. `aliases` has names that lead over a
@@ -67,6 +68,7 @@ class Accesses:
     made: dict[str, None] = field(default_factory=dict)
     lost: dict[str, None] = field(default_factory=dict)
     missed: dict[str, None] = field(default_factory=dict)
+    sought: dict[str, None] = field(default_factory=dict)
     alone: set[str] = field(default_factory=set)
     folders: dict[str, None] = field(default_factory=dict)
     owned: dict[str, None] = field(default_factory=dict)
@@ -184,6 +186,12 @@ class Accesses:
         for path in (real, *links, self.tree.own(name)[0]):
             self.looked.setdefault(path)
 
+    def seek(self, name: str) -> None:
+        """The recipe looks for a file that isn't there and that it didn't take away itself."""
+        path, _ = self.tree.follow(name)
+        if path not in self.touched and path not in self.folders:
+            self.sought.setdefault(path)
+
     def reach(self, name: str) -> str:
         """The real path of a file that is reached by a name, over links."""
         real, links = self.tree.follow(name)
@@ -234,7 +242,10 @@ class Follower:
         """
         folder, name = LOOKS.get(call.name) or LOOKS_IN_VAIN[call.name]
         if len(call.arguments) > name and text_of(call.arguments[name]):
-            self.accesses.look(self.path(call, name, folder))
+            path = self.path(call, name, folder)
+            self.accesses.look(path)
+            if call.failed and call.result == NOTHING_THERE and call.name not in REMOVALS:
+                self.accesses.seek(path)
 
     def removed_in_vain(self, call: Call) -> None:
         """A removal or a renaming of what isn't there now."""

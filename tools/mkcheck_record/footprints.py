@@ -30,7 +30,8 @@ class Footprint:
     ended, and `missed` those that it would have taken away, had they been there. These two may hold
     names that no footprint can, and files outside of the project's folder by their paths. `links`
     has the symbolic links of the project that no recipe made and that it went over. `owned` has the
-    folders that it hadn't made and to which it gave a mode, an owner or an attribute.
+    folders that it hadn't made and to which it gave a mode, an owner or an attribute. `sought` has
+    the names in the project that it looked for and that weren't there.
     """
 
     recipe: Recipe
@@ -41,6 +42,7 @@ class Footprint:
     lost: frozenset[str] = frozenset()
     links: list[str] = field(default_factory=list)
     owned: frozenset[str] = frozenset()
+    sought: frozenset[str] = frozenset()
 
     def record(self) -> dict[str, object]:
         """The record of format 1."""
@@ -123,6 +125,7 @@ def footprint_of(recipe: Recipe, accesses: Accesses, naming: Naming, warn: Warn)
         frozenset(named(lost, naming)),
         named(accesses.over, naming),
         frozenset(named(filter(tree.has, accesses.owned), naming)),
+        frozenset(named(accesses.sought, naming)),
     )
 
 

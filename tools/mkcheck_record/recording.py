@@ -211,10 +211,8 @@ def run(recipe: Recipe, shop: Workshop, tree: Tree, progress: Progress) -> Acces
     for command in recipe.commands:
         progress.step(command.text)
         # Where there is no link yet, the command can only read one that it made itself.
-        looking = shop.updating is not None
-        done = tracing.run(
-            command.words, shop.place, given, shop.scratch, tree.has_links or looking, looking
-        )
+        links = tree.has_links or shop.updating is not None
+        done = tracing.run(command.words, shop.place, given, shop.scratch, links, True)
         output += done.output
         Follower(accesses, shop.place.seen).follow(done.calls)
         refuse_unseen(recipe, accesses, done.left, shop)

@@ -6,6 +6,9 @@ that would have taken a file away, had it been there, counts as one that does: w
 another time, it is there. Where a pattern such as `*.o` matches nothing, the shell leaves it as it
 is, and the program gets it for a name.
 
+A file that a recipe looked for in vain and that another recipe makes counts as read: another time
+it is there, and the recipe may do something else.
+
 A folder to which a recipe gave a mode is put into its writes, and into the reads of the recipes
 that use it or what is in it.
 """
@@ -67,7 +70,29 @@ def with_shared(footprints: list[Footprint], warn: Warn) -> list[Footprint]:
     uses = Uses()
     for footprint in footprints:
         uses.take(footprint)
-    return [with_modes(with_own(footprint, uses, warn), uses, warn) for footprint in footprints]
+    makers: dict[str, set[str]] = {}
+    for footprint in footprints:
+        for name in footprint.writes:
+            makers.setdefault(name, set()).add(footprint.recipe.target)
+    found = [with_sought(footprint, makers, warn) for footprint in footprints]
+    return [with_modes(with_own(footprint, uses, warn), uses, warn) for footprint in found]
+
+
+def with_sought(footprint: Footprint, makers: dict[str, set[str]], warn: Warn) -> Footprint:
+    """A footprint that reads too what it looked for in vain and another recipe makes."""
+    target = footprint.recipe.target
+    own = {*footprint.reads, *footprint.writes, *footprint.scratch, *footprint.missed}
+    found = []
+    for name in sorted(footprint.sought - own):
+        others = sorted(makers.get(name, set()) - {target})
+        if others:
+            found.append(name)
+            warn(
+                f"the recipe of {target} looks for {name}, which wasn't there yet and which the"
+                f" recipe of {others[0]} makes: another time it is there, so it counts as read. Let"
+                f" {target} need {name}, and record again"
+            )
+    return replace(footprint, reads=[*footprint.reads, *found])
 
 
 def with_matches(footprints: list[Footprint]) -> list[Footprint]:

@@ -143,6 +143,7 @@ class Writer:
             "writes": own.writes,
             "scratch": sorted(own.scratch),
             "missed": sorted(own.missed),
+            "sought": sorted(own.sought),
             "lost": sorted(own.lost),
             "links": own.links,
             "looks": self.versions(entry.looks),
@@ -205,6 +206,7 @@ class Reader:
             frozenset(texts(entry["missed"])),
             frozenset(texts(entry["lost"])),
             texts(entry["links"]),
+            sought=frozenset(texts(entry["sought"])),
         )
         after = self.versions(entry["after"])
         made = texts(entry["made"])
