@@ -25,34 +25,43 @@ module _ (g : Graph) (s : Setting) (p : Runs) (start : ℕ) (m : Making) (d : Di
   began_here : (t : ℕ) → x ≡ t → now.began t ≡ d.clock
   began_here t same = changed_at_here p.began x t d.clock same
 
+  -- so with the number of steps before it
+  step_there : (t : ℕ) → ¬ (x ≡ t) → now.begin_step t ≡ p.begin_step t
+  step_there t differ = changed_at_there p.begin_step x t p.steps differ
+
+  step_here : (t : ℕ) → x ≡ t → now.begin_step t ≡ p.steps
+  step_here t same = changed_at_here p.begin_step x t p.steps same
+
   -- what doesn't run now is another one, and didn't run before
   other : (t : ℕ) → ¬ (Has (x ∷ m.running) t) → ¬ (x ≡ t)
   other t stopped same = stopped (inl same)
 
   -- a recipe that was through is through, unless it began now
-  through_there : (t clock : ℕ) → ¬ (x ≡ t) → WasThrough g s (p.last t) m.running d t clock → WasThrough g s (p.last t) (x ∷ m.running) d t clock
-  through_there t clock differ was = record { stopped = λ h. ⊎_elim differ was.stopped h; early = was.early; ended = was.ended }
+  through_there : (t clock step : ℕ) → ¬ (x ≡ t) → WasThrough g s (p.last t) m.running d t clock step → WasThrough g s (p.last t) (x ∷ m.running) d t clock step
+  through_there t clock step differ was = record { stopped = λ h. ⊎_elim differ was.stopped h; early = was.early; ended = was.ended; end_step = was.end_step }
 
   -- at this clock all is through that doesn't run
-  through_now : (t clock : ℕ) → ¬ (x ≡ t) → ¬ (Has m.running t) → clock ≡ d.clock → WasThrough g s (p.last t) (x ∷ m.running) d t clock
-  through_now t clock differ stopped at = record { stopped = λ h. ⊎_elim differ stopped h; early = λ f stamp wrote has. let came = fits.stamped f stamp has in omega arith; ended = λ run is_last. let came = fits.ended t run is_last in omega arith }
+  through_now : (t clock step : ℕ) → ¬ (x ≡ t) → ¬ (Has m.running t) → clock ≡ d.clock → step ≡ p.steps → WasThrough g s (p.last t) (x ∷ m.running) d t clock step
+  through_now t clock step differ stopped at after = record { stopped = λ h. ⊎_elim differ stopped h; early = λ f stamp wrote has. let came = fits.stamped f stamp has in omega arith; ended = λ run is_last. let came = fits.ended t run is_last in omega arith; end_step = λ run is_last. let came = fits.end_step t run is_last in omega arith }
+
+  -- the begin of another recipe is as before
+  moved : (o t : ℕ) → ¬ (x ≡ t) → WasThrough g s (p.last o) (x ∷ m.running) d o (p.began t) (p.begin_step t) → WasThrough g s (p.last o) (x ∷ m.running) d o (now.began t) (now.begin_step t)
+  moved o t differ was = subst (λ (k : ℕ). WasThrough g s (p.last o) (x ∷ m.running) d o (now.began t) k) (sym (step_there t differ)) (subst (λ (k : ℕ). WasThrough g s (p.last o) (x ∷ m.running) d o k (p.begin_step t)) (sym (began_there t differ)) was)
 
   -- of two of which one is before the other, one was through when the other last began
-  apart_begun : (o t : ℕ) → Before g o t → WasThrough g s (p.last o) (x ∷ m.running) d o (now.began t) ⊎ WasThrough g s (p.last t) (x ∷ m.running) d t (now.began o)
+  apart_begun : (o t : ℕ) → Before g o t → WasThrough g s (p.last o) (x ∷ m.running) d o (now.began t) (now.begin_step t) ⊎ WasThrough g s (p.last t) (x ∷ m.running) d t (now.began o) (now.begin_step o)
   apart_begun o t before =
       ⊎_elim (λ same. let o_done : Has m.done o = subst (λ (k : ℕ). Before g o k) (sym same) before recipe
       m.goals m.done is.order.part is.order.turns ready.0 in inl
-      (through_now o (now.began t) (λ here. ready.0.not_done
+      (through_now o (now.began t) (now.begin_step t) (λ here. ready.0.not_done
       (subst (λ (k : ℕ). Has m.done k) (sym here) o_done))
-      (λ runs. runs_not_done g m is.order o runs o_done) (began_here t same)))
-      (λ differ. ⊎_elim (λ same. inr (through_now t (now.began o) differ
+      (λ runs. runs_not_done g m is.order o runs o_done) (began_here t same) (step_here t same)))
+      (λ differ. ⊎_elim (λ same. inr (through_now t (now.began o) (now.begin_step o) differ
       (λ runs. ready.0.not_done (subst (λ (k : ℕ). Has m.done k) (sym same)
       (before (is.order.recipes t runs) m.goals m.done is.order.part is.order.turns
-      (is.order.running t runs)))) (began_here o same)))
-      (λ apart. ⊎_elim (λ one. inl (subst (λ (k : ℕ). WasThrough g s (p.last o) (x ∷ m.running) d o k)
-      (sym (began_there t differ)) (through_there o (p.began t) apart one)))
-      (λ two. inr (subst (λ (k : ℕ). WasThrough g s (p.last t) (x ∷ m.running) d t k)
-      (sym (began_there o apart)) (through_there t (p.began o) differ two))) (fits.apart o t before))
+      (is.order.running t runs)))) (began_here o same) (step_here o same)))
+      (λ apart. ⊎_elim (λ one. inl (moved o t differ (through_there o (p.began t) (p.begin_step t) apart one)))
+      (λ two. inr (moved t o apart (through_there t (p.began o) (p.begin_step o) differ two))) (fits.apart o t before))
       (cases_eq x o)) (cases_eq x t)
 
   -- the disk fits the runs after the begin
@@ -61,7 +70,8 @@ module _ (g : Graph) (s : Setting) (p : Runs) (start : ℕ) (m : Making) (d : Di
     stamped = fits.stamped;
     began = λ t. ⊎_elim (λ same. let at = began_here t same in omega arith) (λ differ. let same = began_there t differ in let came = fits.began t in omega arith) (cases_eq x t);
     ended = fits.ended;
-    last_begun = λ t run stopped is_last. fits.last_begun t run (λ runs. stopped (inr runs)) is_last ∙ sym (began_there t (other t stopped));
+    end_step = λ t run is_last. let came = fits.end_step t run is_last in omega arith;
+    begin_step = λ t run stopped is_last. fits.begin_step t run (λ runs. stopped (inr runs)) is_last ∙ sym (step_there t (other t stopped));
     after_begin = λ t f stamp stopped wrote has. let same = began_there t (other t stopped) in let late = fits.after_begin t f stamp (λ runs. stopped (inr runs)) wrote has in omega arith;
     whole = λ t stopped. fits.whole t (λ runs. stopped (inr runs));
     saw = fits.saw;

@@ -8,7 +8,7 @@ use Rattle.mk_graph.specs.Graph.{Graph, node}
 use Rattle.mk_graph.specs.Setting.{FileName, Setting, reads, writes}
 use Rattle.mk_graph.specs.World.{Outcome, Disk, Making, Busy, content}
 use Rattle.mk_graph.specs.Steps.{End, Ready, MayEnd, finished, noted, changed_at, seen_by, put_by}
-use Rattle.mk_graph.specs.Runs.{WholeRun, Runs, run_of, runs_after}
+use Rattle.mk_graph.specs.Runs.{WholeRun, Runs, run_of, runs_after, one_later}
 use Rattle.mk_graph.proofs.Changes.{changed_at_here, changed_at_there}
 use Rattle.mk_graph.proofs.InOrder.{runs_not_done, finished_in_order, Has-without, Has-from_without}
 use Rattle.mk_graph.proofs.Outcomes.{noted_new, noted_old}
@@ -35,8 +35,8 @@ module _ (g : Graph) (s : Setting) (p : Runs) (start : ℕ) (m : Making) (d : Di
   stopped_before t stopped differ runs = stopped (Has-from_without x t m.running runs differ)
 
   -- what was through is through
-  through_finished : (t clock : ℕ) (last : Option WholeRun) → WasThrough g s last m.running d t clock → WasThrough g s last (finished m x).running d t clock
-  through_finished t clock last was = record { stopped = λ runs. was.stopped (Has-without x t m.running runs).0; early = was.early; ended = was.ended }
+  through_finished : (t clock step : ℕ) (last : Option WholeRun) → WasThrough g s last m.running d t clock step → WasThrough g s last (finished m x).running d t clock step
+  through_finished t clock step last was = record { stopped = λ runs. was.stopped (Has-without x t m.running runs).0; early = was.early; ended = was.ended; end_step = was.end_step }
 
   -- what waits now is another one, which waited
   waits_finished : (t : ℕ) → ¬ (Has (x ∷ m.done) t) → ¬ (Has (finished m x).running t) → p.began t ≤ start
@@ -104,10 +104,15 @@ module _ (g : Graph) (s : Setting) (p : Runs) (start : ℕ) (m : Making) (d : Di
     }
 
     -- what was through is through, and isn't the one that ends
-    through_ended : (t clock : ℕ) → WasThrough g s (p.last t) m.running d t clock → WasThrough g s (last t) (finished m x).running (noted d result) t clock
-    through_ended t clock was =
-        let now = through_finished t clock (p.last t) was in
-        record { stopped = now.stopped; early = now.early; ended = λ r is_last. ⊎_elim (λ here. absurd (was.stopped (subst (λ (k : ℕ). Has m.running k) here.0 may.runs))) (λ there. was.ended r there.1) (last_cases t r is_last) }
+    through_ended : (t clock step : ℕ) → WasThrough g s (p.last t) m.running d t clock step → WasThrough g s (last t) (finished m x).running (noted d result) t clock step
+    through_ended t clock step was =
+        let now = through_finished t clock step (p.last t) was in
+        record {
+          stopped = now.stopped;
+          early = now.early;
+          ended = λ r is_last. ⊎_elim (λ here. absurd (was.stopped (subst (λ (k : ℕ). Has m.running k) here.0 may.runs))) (λ there. was.ended r there.1) (last_cases t r is_last);
+          end_step = λ r is_last. ⊎_elim (λ here. absurd (was.stopped (subst (λ (k : ℕ). Has m.running k) here.0 may.runs))) (λ there. was.end_step r there.1) (last_cases t r is_last);
+        }
 
     -- a recipe that doesn't run has none of its files or is as its last run left it
     whole_ended : (t : ℕ) → ¬ (Has (finished m x).running t) → IsUntouched g s (noted d result) t ⊎ ((r : WholeRun) × (last t ≡ Some r) × HasRunWhole g s r (noted d result) t)
@@ -127,19 +132,20 @@ module _ (g : Graph) (s : Setting) (p : Runs) (start : ℕ) (m : Making) (d : Di
         ⊎_elim (λ here. inl (sees_now f (subst (λ (k : ℕ). Has (reads g s k) f) (sym here.0) read) ∙ ap (λ (k : WholeRun). k.saw f) here.1)) (λ there. fits.saw t r there.1 f read) (last_cases t r is_last)
 
     -- the disk fits the runs after the end
-    fits_ended : Fits g s (record p { last = last }) (finished m x).running (noted d result)
+    fits_ended : Fits g s (record (one_later p) { last = last }) (finished m x).running (noted d result)
     fits_ended = record {
       stamped = fits.stamped;
       began = fits.began;
       ended = λ t r is_last. ⊎_elim (λ here. let same = ap (λ (k : WholeRun). k.ended) here.1 in omega arith) (λ there. fits.ended t r there.1) (last_cases t r is_last);
-      last_begun = λ t r stopped is_last. ⊎_elim (λ here. sym (ap (λ (k : WholeRun). k.began) here.1) ∙ ap p.began here.0) (λ there. fits.last_begun t r (stopped_before t stopped there.0) there.1) (last_cases t r is_last);
+      end_step = λ t r is_last. ⊎_elim (λ here. let same = ap (λ (k : WholeRun). k.end_step) here.1 in omega arith) (λ there. let came = fits.end_step t r there.1 in omega arith) (last_cases t r is_last);
+      begin_step = λ t r stopped is_last. ⊎_elim (λ here. sym (ap (λ (k : WholeRun). k.begin_step) here.1) ∙ ap p.begin_step here.0) (λ there. fits.begin_step t r (stopped_before t stopped there.0) there.1) (last_cases t r is_last);
       after_begin = λ t f stamp stopped wrote has. ⊎_elim (λ same. subst (λ (k : ℕ). p.began k < stamp) same
           (let own = subst (λ (k : ℕ). Has (writes g s k) f) (sym same) wrote in is.put_late x f
           (unwrap_or (m.put x f) 0) stamp may.runs own (put_somewhere (m.put x f) (may.put f own)) has))
           (λ differ. fits.after_begin t f stamp (stopped_before t stopped differ) wrote has) (cases_eq x t);
       whole = whole_ended;
       saw = saw_ended;
-      apart = λ o t before. ⊎_elim (λ one. inl (through_ended o (p.began t) one)) (λ two. inr (through_ended t (p.began o) two)) (fits.apart o t before);
+      apart = λ o t before. ⊎_elim (λ one. inl (through_ended o (p.began t) (p.begin_step t) one)) (λ two. inr (through_ended t (p.began o) (p.begin_step o) two)) (fits.apart o t before);
     }
 
     -- the invariant after the end of a recipe
@@ -180,11 +186,12 @@ module _ (g : Graph) (s : Setting) (p : Runs) (start : ℕ) (m : Making) (d : Di
         stamped = fits.stamped;
         began = fits.began;
         ended = fits.ended;
-        last_begun = λ t r stopped is_last. fits.last_begun t r (stopped_passed t stopped) is_last;
+        end_step = fits.end_step;
+        begin_step = λ t r stopped is_last. fits.begin_step t r (stopped_passed t stopped) is_last;
         after_begin = λ t f stamp stopped wrote has. fits.after_begin t f stamp (stopped_passed t stopped) wrote has;
         whole = λ t stopped. fits.whole t (stopped_passed t stopped);
         saw = fits.saw;
-        apart = λ o t before. ⊎_elim (λ one. inl (through_finished o (p.began t) (p.last o) one)) (λ two. inr (through_finished t (p.began o) (p.last t) two)) (fits.apart o t before);
+        apart = λ o t before. ⊎_elim (λ one. inl (through_finished o (p.began t) (p.begin_step t) (p.last o) one)) (λ two. inr (through_finished t (p.began o) (p.begin_step o) (p.last t) two)) (fits.apart o t before);
       };
       make = record {
         order = finished_in_order g m is.order x ready.0;

@@ -7,13 +7,13 @@ use Rattle.mk_graph.specs.Graph.{Graph, node, IsGraph}
 use Rattle.mk_graph.specs.Setting.{FileName, Setting, is_editable, reads, writes}
 use Rattle.mk_graph.specs.World.{File, Disk, Making, World, Idle, Busy, IsStartDisk, content, HasStamp, written, disk_of, outcome}
 use Rattle.mk_graph.specs.Schedules.{IsPart}
-use Rattle.mk_graph.specs.Steps.{Step, Edit, Make, Begin, Look, Put, End, Pass, Stop, EndMake, MustRun, Ready, Allowed, after, make_of, finished, IsLegal, after_all, disk_after}
+use Rattle.mk_graph.specs.Steps.{Step, Edit, Make, Begin, Look, Put, End, Pass, Stop, EndMake, MustRun, Ready, Allowed, after, make_of, finished, looked, has_put, IsLegal, after_all, disk_after}
 use Rattle.mk_graph.specs.Runs.{WholeRun, Runs, no_runs, runs_after, runs_after_all, runs_of}
 use Rattle.mk_graph.specs.Ways.{Carries}
 use Rattle.mk_graph.specs.Right.{AreSound, HaveNoRace, HaveWays, IsRightAt}
 use Rattle.mk_graph.specs.RunLaws.{SawOrWasWrittenAfter, RanBefore}
 use Rattle.mk_graph.proofs.Sound.{editable_is_not_written}
-use Rattle.mk_graph.proofs.Invariant.{IsUntouched, SawOrLater, Fits, IsUpToDate, AreUpToDate, Holds, IsInvariant, IsSettled, start_after}
+use Rattle.mk_graph.proofs.Invariant.{IsUntouched, SawOrLater, Fits, IsUpToDate, AreUpToDate, Holds, IsInvariant, IsSettled, start_after, fits_later, holds_later, up_later}
 use Rattle.mk_graph.proofs.Writing.{map_same, fits_written}
 use Rattle.mk_graph.proofs.Putting.{put_holds, put_settled, look_holds}
 use Rattle.mk_graph.proofs.Passing.{cases_file, ready_ran_after, passed_is_up_to_date}
@@ -57,11 +57,12 @@ module _ (g : Graph) (s : Setting) (graph : IsGraph g) (sound : AreSound g s) wh
     stamped = λ f stamp has. let is = stamped_file d f stamp has in let early = start.stamped f is.0 is.1 in let same = is.2 in omega arith;
     began = λ t. omega arith;
     ended = λ t run e. no_last run e;
-    last_begun = λ t run stopped e. no_last run e;
+    end_step = λ t run e. no_last run e;
+    begin_step = λ t run stopped e. no_last run e;
     after_begin = λ t f stamp stopped wrote has. absurd (no_stamp d t (untouched_at_start d start t) f stamp wrote has);
     whole = λ t stopped. inl (untouched_at_start d start t);
     saw = λ t run e. no_last run e;
-    apart = λ o t before. inl (record { stopped = λ h. h; early = λ f stamp wrote has. absurd (no_stamp d o (untouched_at_start d start o) f stamp wrote has); ended = λ run e. no_last run e });
+    apart = λ o t before. inl (record { stopped = λ h. h; early = λ f stamp wrote has. absurd (no_stamp d o (untouched_at_start d start o) f stamp wrote has); ended = λ run e. no_last run e; end_step = λ run e. no_last run e });
   }
 
   -- after an edit
@@ -90,8 +91,8 @@ module _ (g : Graph) (s : Setting) (graph : IsGraph g) (sound : AreSound g s) wh
   module _ (no_race : HaveNoRace g s) where
     -- each step keeps the invariant
     pub step_keeps : (p : Runs) (start : ℕ) (w : World) (step : Step) → IsInvariant g s p start w → Allowed g s w step → IsInvariant g s (runs_after w step p) (start_after w step start) (after g s w step)
-    step_keeps p start (Idle d) (Edit f c) is may = edit_fits p d f c is may.0
-    step_keeps p start (Idle d) (Make jobs goals) is may = make_holds p d jobs goals is may.1
+    step_keeps p start (Idle d) (Edit f c) is may = fits_later g s p [] (written d f c) (edit_fits p d f c is may.0)
+    step_keeps p start (Idle d) (Make jobs goals) is may = holds_later g s p d.clock (make_of jobs goals) d (make_holds p d jobs goals is may.1)
     step_keeps p start (Idle d) (Begin t) is may = absurd may
     step_keeps p start (Idle d) (Look t f) is may = absurd may
     step_keeps p start (Idle d) (Put t f c) is may = absurd may
@@ -102,12 +103,12 @@ module _ (g : Graph) (s : Setting) (graph : IsGraph g) (sound : AreSound g s) wh
     step_keeps p start (Busy m d) (Edit f c) is may = absurd may
     step_keeps p start (Busy m d) (Make jobs goals) is may = absurd may
     step_keeps p start (Busy m d) (Begin t) is may = begin_holds g s p start m d is.fits is.make t may.0 may.1
-    step_keeps p start (Busy m d) (Look t f) is may = look_holds g s p start m d is.fits is.make t f
-    step_keeps p start (Busy m d) (Put t f c) is may = put_holds g s graph sound no_race p start m d is.fits is.make t f c may.0 may.1
+    step_keeps p start (Busy m d) (Look t f) is may = holds_later g s p start (looked m t f (content d f)) d (look_holds g s p start m d is.fits is.make t f)
+    step_keeps p start (Busy m d) (Put t f c) is may = holds_later g s p start (has_put m t f c) (written d f c) (put_holds g s graph sound no_race p start m d is.fits is.make t f c may.0 may.1)
     step_keeps p start (Busy m d) (End t) is may = end_holds g s p start m d is.fits is.make t may
-    step_keeps p start (Busy m d) (Pass n) is may = pass_holds g s p start m d is.fits is.make n may.0
-    step_keeps p start (Busy m d) Stop is may = rest_after p start m d is may
-    step_keeps p start (Busy m d) EndMake is may = rest_after p start m d is may.1
+    step_keeps p start (Busy m d) (Pass n) is may = holds_later g s p start (finished m n) d (pass_holds g s p start m d is.fits is.make n may.0)
+    step_keeps p start (Busy m d) Stop is may = fits_later g s p [] d (rest_after p start m d is may)
+    step_keeps p start (Busy m d) EndMake is may = fits_later g s p [] d (rest_after p start m d is may.1)
 
     -- the invariant after a legal history
     pub history_fits : (d : Disk) (steps : List Step) → IsStartDisk s d → IsLegal g s (Idle d) steps → (start : ℕ) × IsInvariant g s (runs_of g s d steps) start (after_all g s (Idle d) steps)
@@ -154,10 +155,10 @@ module _ (g : Graph) (s : Setting) (graph : IsGraph g) (sound : AreSound g s) wh
     step_settles passes p start (Busy m d) (Edit f c) is may = absurd may
     step_settles passes p start (Busy m d) (Make jobs goals) is may = absurd may
     step_settles passes p start (Busy m d) (Begin t) is may = begin_settled g s p start m d is.0.fits is.0.make t may.0 may.1 is.1
-    step_settles passes p start (Busy m d) (Look t f) is may = is.1
-    step_settles passes p start (Busy m d) (Put t f c) is may = put_settled g s graph sound no_race p start m d is.0.fits is.0.make t f c may.0 may.1 is.1
+    step_settles passes p start (Busy m d) (Look t f) is may = up_later g s p start (looked m t f (content d f)) d is.1
+    step_settles passes p start (Busy m d) (Put t f c) is may = up_later g s p start (has_put m t f c) (written d f c) (put_settled g s graph sound no_race p start m d is.0.fits is.0.make t f c may.0 may.1 is.1)
     step_settles passes p start (Busy m d) (End t) is may = end_settled g s p start m d is.0.fits is.0.make t may is.1
-    step_settles passes p start (Busy m d) (Pass n) is may = pass_keeps_settled p start m d n is.0 is.1 (passes p start m d is.0 is.1) may
+    step_settles passes p start (Busy m d) (Pass n) is may = up_later g s p start (finished m n) d (pass_keeps_settled p start m d n is.0 is.1 (passes p start m d is.0 is.1) may)
     step_settles passes p start (Busy m d) Stop is may = tt
     step_settles passes p start (Busy m d) EndMake is may = tt
 

@@ -1,12 +1,12 @@
 -- What holds in each state of each legal history where footprints are sound.
-use Rattle.std.proofs.Common.{◌≡◌, ℕ, ◌<◌, ◌≤◌, List, [], true, Option, Some, None, map, ◌⊎◌}
+use Rattle.std.proofs.Common.{◌≡◌, ℕ, ◌<◌, ◌≤◌, List, [], true, Option, Some, None, map, ◌⊎◌, arith}
 use Rattle.mk_graph.specs.Membership.{Has}
 use Rattle.mk_graph.specs.Graph.{Graph, node}
 use Rattle.mk_graph.specs.Setting.{FileName, Setting, reads, writes}
 use Rattle.mk_graph.specs.World.{Disk, Making, World, Idle, Busy, content, HasStamp, WasWrittenAfter, outcome}
 use Rattle.mk_graph.specs.Schedules.{Before}
 use Rattle.mk_graph.specs.Steps.{Step, Make, MustRun}
-use Rattle.mk_graph.specs.Runs.{WholeRun, Runs}
+use Rattle.mk_graph.specs.Runs.{WholeRun, Runs, one_later}
 use Rattle.mk_graph.specs.Ways.{CanChange}
 use Rattle.mk_graph.proofs.InOrder.{InOrder}
 
@@ -22,11 +22,13 @@ pub record HasRunWhole (g : Graph) (s : Setting) (run : WholeRun) (d : Disk) (t 
 abbrev pub IsUntouched : Graph → Setting → Disk → ℕ → Type 0
 IsUntouched g s d t = (f : FileName) → Has (writes g s t) f → d.files f ≡ None
 
--- The recipe was through at this clock: it isn't running, and what it wrote and its last whole run are no later.
-pub record WasThrough (g : Graph) (s : Setting) (last : Option WholeRun) (running : List ℕ) (d : Disk) (t clock : ℕ) : Type 0 where
+-- The recipe was through at this clock and before this step: it isn't running, what it wrote is no later than the clock,
+-- and its last whole run ended no later and before the step.
+pub record WasThrough (g : Graph) (s : Setting) (last : Option WholeRun) (running : List ℕ) (d : Disk) (t clock step : ℕ) : Type 0 where
   pub stopped : ¬ (Has running t)
   pub early : (f : FileName) (stamp : ℕ) → Has (writes g s t) f → HasStamp d f stamp → stamp ≤ clock
   pub ended : (run : WholeRun) → last ≡ Some run → run.ended ≤ clock
+  pub end_step : (run : WholeRun) → last ≡ Some run → run.end_step < step
 
 -- Each file that a recipe reads holds what its last whole run saw, or can change and was written after that run.
 abbrev pub SawOrLater : Graph → Setting → WholeRun → Disk → ℕ → Type 0
@@ -40,11 +42,12 @@ pub record Fits (g : Graph) (s : Setting) (p : Runs) (running : List ℕ) (d : D
   pub stamped : (f : FileName) (stamp : ℕ) → HasStamp d f stamp → stamp ≤ d.clock
   pub began : (t : ℕ) → p.began t ≤ d.clock
   pub ended : (t : ℕ) (run : WholeRun) → p.last t ≡ Some run → run.ended ≤ d.clock
-  pub last_begun : (t : ℕ) (run : WholeRun) → ¬ (Has running t) → p.last t ≡ Some run → run.began ≡ p.began t
+  pub end_step : (t : ℕ) (run : WholeRun) → p.last t ≡ Some run → run.end_step < p.steps
+  pub begin_step : (t : ℕ) (run : WholeRun) → ¬ (Has running t) → p.last t ≡ Some run → run.begin_step ≡ p.begin_step t
   pub after_begin : (t : ℕ) (f : FileName) (stamp : ℕ) → ¬ (Has running t) → Has (writes g s t) f → HasStamp d f stamp → p.began t < stamp
   pub whole : (t : ℕ) → ¬ (Has running t) → IsUntouched g s d t ⊎ ((run : WholeRun) × (p.last t ≡ Some run) × HasRunWhole g s run d t)
   pub saw : (t : ℕ) (run : WholeRun) → p.last t ≡ Some run → SawOrLater g s run d t
-  pub apart : (o t : ℕ) → Before g o t → WasThrough g s (p.last o) running d o (p.began t) ⊎ WasThrough g s (p.last t) running d t (p.began o)
+  pub apart : (o t : ℕ) → Before g o t → WasThrough g s (p.last o) running d o (p.began t) (p.begin_step t) ⊎ WasThrough g s (p.last t) running d t (p.began o) (p.begin_step o)
 
 -- A done recipe is up to date: it is as its last whole run left it, each file that it read holds what it saw, and it
 -- need not run or has run since the make began.
@@ -89,3 +92,37 @@ IsSettled g s p start (Busy m d) = AreUpToDate g s p start m d
 abbrev pub start_after : World → Step → ℕ → ℕ
 start_after (Idle d) (Make jobs goals) start = d.clock
 start_after world other start = start
+
+-- what fits the runs fits them after one step more
+pub fits_later : (g : Graph) (s : Setting) (p : Runs) (running : List ℕ) (d : Disk) → Fits g s p running d → Fits g s (one_later p) running d
+fits_later g s p running d fits = record {
+  stamped = fits.stamped;
+  began = fits.began;
+  ended = fits.ended;
+  end_step = λ t run is_last. let came = fits.end_step t run is_last in omega arith;
+  begin_step = fits.begin_step;
+  after_begin = fits.after_begin;
+  whole = fits.whole;
+  saw = fits.saw;
+  apart = fits.apart;
+}
+
+pub holds_later : (g : Graph) (s : Setting) (p : Runs) (start : ℕ) (m : Making) (d : Disk) → Holds g s p start m d → Holds g s (one_later p) start m d
+holds_later g s p start m d is = record {
+  fits = fits_later g s p m.running d is.fits;
+  make = record {
+    order = is.make.order;
+    start_came = is.make.start_came;
+    seen = is.make.seen;
+    put = is.make.put;
+    put_late = is.make.put_late;
+    waits = is.make.waits;
+    runs = is.make.runs;
+  };
+}
+
+-- what is up to date is so after one step more
+pub up_later : (g : Graph) (s : Setting) (p : Runs) (start : ℕ) (m : Making) (d : Disk) → AreUpToDate g s p start m d → AreUpToDate g s (one_later p) start m d
+up_later g s p start m d are t done recipe =
+    let up = are t done recipe in
+    record { run = up.run; is_last = up.is_last; whole = up.whole; sees = up.sees; settled = up.settled }

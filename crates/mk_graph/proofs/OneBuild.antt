@@ -4,14 +4,14 @@ use Rattle.std.proofs.lemmas.Bool.{cases_Bool}
 use Rattle.mk_graph.specs.Membership.{Has}
 use Rattle.mk_graph.specs.Graph.{Graph, node, IsGraph}
 use Rattle.mk_graph.specs.Setting.{FileName, Setting, name, writes}
-use Rattle.mk_graph.specs.World.{Disk, Making, World, Idle, Busy, IsStartDisk}
-use Rattle.mk_graph.specs.Steps.{Step, Edit, Make, Begin, Look, Put, End, Pass, Stop, EndMake, MustRun, Ready, Allowed, after, make_of, finished, IsLegal, after_all}
+use Rattle.mk_graph.specs.World.{Disk, Making, World, Idle, Busy, IsStartDisk, content, written}
+use Rattle.mk_graph.specs.Steps.{Step, Edit, Make, Begin, Look, Put, End, Pass, Stop, EndMake, MustRun, Ready, Allowed, after, make_of, finished, looked, has_put, IsLegal, after_all}
 use Rattle.mk_graph.specs.Runs.{Runs, no_runs, runs_after}
 use Rattle.mk_graph.specs.Right.{AreSound, HaveNoRace, IsRightAt}
 use Rattle.mk_graph.specs.BuildLaws.{IsInside, AreInside}
 use Rattle.mk_graph.proofs.Changes.{cases_name, changed_there}
 use Rattle.mk_graph.proofs.InOrder.{Has-from_without}
-use Rattle.mk_graph.proofs.Invariant.{IsUntouched, IsSettled, start_after}
+use Rattle.mk_graph.proofs.Invariant.{IsUntouched, IsSettled, start_after, up_later}
 use Rattle.mk_graph.proofs.Beginning.{begin_settled}
 use Rattle.mk_graph.proofs.Putting.{put_settled}
 use Rattle.mk_graph.proofs.Ending.{end_settled}
@@ -68,10 +68,10 @@ module _ (g : Graph) (s : Setting) (graph : IsGraph g) (sound : AreSound g s) (n
   inside_settles p start (Busy m d) (Edit f c) inside none is may = absurd inside
   inside_settles p start (Busy m d) (Make jobs goals) inside none is may = absurd inside
   inside_settles p start (Busy m d) (Begin t) inside none is may = begin_settled g s p start m d is.0.fits is.0.make t may.0 may.1 is.1
-  inside_settles p start (Busy m d) (Look t f) inside none is may = is.1
-  inside_settles p start (Busy m d) (Put t f c) inside none is may = put_settled g s graph sound no_race p start m d is.0.fits is.0.make t f c may.0 may.1 is.1
+  inside_settles p start (Busy m d) (Look t f) inside none is may = up_later g s p start (looked m t f (content d f)) d is.1
+  inside_settles p start (Busy m d) (Put t f c) inside none is may = up_later g s p start (has_put m t f c) (written d f c) (put_settled g s graph sound no_race p start m d is.0.fits is.0.make t f c may.0 may.1 is.1)
   inside_settles p start (Busy m d) (End t) inside none is may = end_settled g s p start m d is.0.fits is.0.make t may is.1
-  inside_settles p start (Busy m d) (Pass n) inside none is may = pass_keeps_settled g s graph sound no_race p start m d n is.0 is.1 (none_passed p start m d none) may
+  inside_settles p start (Busy m d) (Pass n) inside none is may = up_later g s p start (finished m n) d (pass_keeps_settled g s graph sound no_race p start m d n is.0 is.1 (none_passed p start m d none) may)
   inside_settles p start (Busy m d) Stop inside none is may = absurd inside
   inside_settles p start (Busy m d) EndMake inside none is may = absurd inside
 

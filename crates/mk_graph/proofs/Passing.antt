@@ -80,15 +80,15 @@ module _ (g : Graph) (s : Setting) (graph : IsGraph g) (sound : AreSound g s) (p
     link_is_late = fits.after_begin o (name g carries.0) link_is_there.0 (λ runs. runs_not_done g m is.order o runs carried_is_done) carries.2 link_is_there.1
 
     -- what is carried was through when the recipe last began
-    carried_was_through : WasThrough g s (p.last o) m.running d o (p.began t)
+    carried_was_through : WasThrough g s (p.last o) m.running d o (p.began t) (p.begin_step t)
     carried_was_through =
         let target = target_is_there g d t passed.need_not in
         let bound = no_later g d t carries.0 target.0 link_is_there.0 passed.need_not carries.1 target.1 link_is_there.1 in
         ⊎_elim (λ one. one) (λ other. let early = other.early (name g t) target.0 (own_target t passed) target.1 in let late = link_is_late in absurd (omega arith)) (fits.apart o t (carried_is_before g s graph sound t o carries))
 
     -- so its last whole run lies before the last begin of the recipe
-    carried_ran_before : (first : WholeRun) × (p.last o ≡ Some first) × (first.ended ≤ p.began t)
-    carried_ran_before = let up = done o carried_is_done carried_has_recipe in (up.run, up.is_last, carried_was_through.ended up.run up.is_last)
+    carried_ran_before : (first : WholeRun) × (p.last o ≡ Some first) × (first.end_step < p.begin_step t)
+    carried_ran_before = let up = done o carried_is_done carried_has_recipe in (up.run, up.is_last, carried_was_through.end_step up.run up.is_last)
 
     -- it last began before the recipe
     began_before : p.began o < p.began t
@@ -140,7 +140,7 @@ module _ (g : Graph) (s : Setting) (graph : IsGraph g) (sound : AreSound g s) (p
     ready_ran_after o carries =
         let first = carried_ran_before t o ready_is_passed carries in
         let own = ready_ran_whole in
-        let same = fits.last_begun t own.0 ready.1 own.1 in
+        let same = fits.begin_step t own.0 ready.1 own.1 in
         record { first = first.0; second = own.0; is_of_first = first.1; is_of_second = own.1; in_order = let early = first.2 in omega arith }
 
     -- it is up to date

@@ -75,8 +75,8 @@ module _ (g : Graph) (s : Setting) (p : Runs) (running : List ℕ) (d : Disk) (f
       (fits.saw t run is_last h read)) (cases_name f h)
 
   -- what was through was through
-  through_written : (t clock : ℕ) → WasThrough g s (p.last t) running d t clock → WasThrough g s (p.last t) running (written d f c) t clock
-  through_written t clock is = record { stopped = is.stopped; early = λ h stamp wrote has. is.early h stamp wrote (own_stamp t h stamp is.stopped wrote has); ended = is.ended }
+  through_written : (t clock step : ℕ) → WasThrough g s (p.last t) running d t clock step → WasThrough g s (p.last t) running (written d f c) t clock step
+  through_written t clock step is = record { stopped = is.stopped; early = λ h stamp wrote has. is.early h stamp wrote (own_stamp t h stamp is.stopped wrote has); ended = is.ended; end_step = is.end_step }
 
   -- the disk fits the runs after the writing
   pub fits_written : Fits g s p running (written d f c)
@@ -84,11 +84,12 @@ module _ (g : Graph) (s : Setting) (p : Runs) (running : List ℕ) (d : Disk) (f
     stamped = λ h stamp has. ⊎_elim (λ same. let new = stamp_is d f c h stamp same has in omega arith) (λ differ. let came = fits.stamped h stamp (stamp_there d f c h stamp differ has) in omega arith) (cases_name f h);
     began = λ t. let came = fits.began t in omega arith;
     ended = λ t run is_last. let came = fits.ended t run is_last in omega arith;
-    last_begun = fits.last_begun;
+    end_step = fits.end_step;
+    begin_step = fits.begin_step;
     after_begin = λ t h stamp stopped wrote has. fits.after_begin t h stamp stopped wrote (own_stamp t h stamp stopped wrote has);
     whole = λ t stopped. ⊎_elim (λ none. inl (λ h wrote. changed_there d.files f h (Some (record { content = c; stamp = d.clock + 1 })) (not_here t h stopped wrote) ∙ none h wrote)) (λ is. inr (is.0, is.1, whole_written t is.0 stopped is.2)) (fits.whole t stopped);
     saw = saw_written;
-    apart = λ o t before. ⊎_elim (λ one. inl (through_written o (p.began t) one)) (λ other. inr (through_written t (p.began o) other)) (fits.apart o t before);
+    apart = λ o t before. ⊎_elim (λ one. inl (through_written o (p.began t) (p.begin_step t) one)) (λ other. inr (through_written t (p.began o) (p.begin_step o) other)) (fits.apart o t before);
   }
 
   -- a recipe that must run after the writing had to run before it, if the file is neither its target nor one of its

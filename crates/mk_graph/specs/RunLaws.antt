@@ -1,5 +1,5 @@
 -- Laws about the runs of recipes: what the last runs saw, and which run came before which.
-use Rattle.std.specs.Prelude.{◌≡◌, ℕ, ◌≤◌, List, Some, true, ◌⊎◌}
+use Rattle.std.specs.Prelude.{◌≡◌, ℕ, ◌<◌, List, Some, true, ◌⊎◌}
 use Rattle.mk_graph.specs.Membership.{Has}
 use Rattle.mk_graph.specs.Graph.{Graph, node, IsGraph}
 use Rattle.mk_graph.specs.Setting.{FileName, Setting, reads}
@@ -23,14 +23,14 @@ LastRunsSawWhatIsThere =
     (t : ℕ) (run : WholeRun) → (runs_of g s d steps).last t ≡ Some run →
     (f : FileName) → Has (reads g s t) f → SawOrWasWrittenAfter run (disk_after g s d steps) f
 
--- Both recipes have run whole, and the last run of the first ended before the last run of the
--- second began.
+-- Both recipes have run whole, and the step that ended the last run of the first came before the
+-- step that began the last run of the second.
 pub record RanBefore (runs : Runs) (o t : ℕ) : Type 0 where
   pub first : WholeRun
   pub second : WholeRun
   pub is_of_first : runs.last o ≡ Some first
   pub is_of_second : runs.last t ≡ Some second
-  pub in_order : first.ended ≤ second.began
+  pub in_order : first.end_step < second.begin_step
 
 -- If footprints are sound, there is no race, each read of a file that can change has a way, and a
 -- recipe may be passed, then the last run of each recipe that it carries ended before its own last

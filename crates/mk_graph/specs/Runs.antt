@@ -1,37 +1,61 @@
 -- The runs of recipes in a list of steps: when each recipe last began, and its last whole run.
-use Rattle.std.specs.Prelude.{ℕ, List, [], ◌∷◌, Option, Some, None}
+use Rattle.std.specs.Prelude.{ℕ, ◌+◌, List, [], ◌∷◌, Option, Some, None}
 use Rattle.std.specs.Option.{option_flatten}
 use Rattle.mk_graph.specs.Graph.{Graph}
 use Rattle.mk_graph.specs.Setting.{FileName, Setting}
 use Rattle.mk_graph.specs.World.{Disk, Making, World, Idle, Busy}
 use Rattle.mk_graph.specs.Steps.{Step, Begin, End, after, changed_at}
 
--- A whole run of a recipe: the clock at its begin and at its end, and what it saw in each file.
+-- A whole run of a recipe: the clock at its end, the number of steps before its begin and before
+-- its end, and what it saw in each file.
 pub record WholeRun : Type 0 where
-  pub began : ℕ
   pub ended : ℕ
+  pub begin_step : ℕ
+  pub end_step : ℕ
   pub saw : FileName → Option ℕ
 
--- For each recipe, the clock when it last began, and its last whole run, if there is one.
+-- The number of steps, and for each recipe the clock when it last began, the number of steps before
+-- that begin, and its last whole run, if there is one.
 pub record Runs : Type 0 where
+  pub steps : ℕ
   pub began : ℕ → ℕ
+  pub begin_step : ℕ → ℕ
   pub last : ℕ → Option WholeRun
 
--- No recipe has run.
+-- There was no step, and no recipe has run.
 abbrev pub no_runs : Runs
-no_runs = record { began = λ t. 0; last = λ t. None }
+no_runs = record { steps = 0; began = λ t. 0; begin_step = λ t. 0; last = λ t. None }
 
 -- The run of a recipe that ends now.
 abbrev pub run_of : Runs → Making → Disk → ℕ → WholeRun
 run_of runs m d t =
-    record { began = runs.began t; ended = d.clock; saw = λ f. option_flatten (m.seen t f) }
+    record {
+      ended = d.clock;
+      begin_step = runs.begin_step t;
+      end_step = runs.steps;
+      saw = λ f. option_flatten (m.seen t f);
+    }
 
--- The runs after a step. Only a recipe's begin and end change them.
+-- The same runs after one step more.
+abbrev pub one_later : Runs → Runs
+one_later runs =
+    record {
+      steps = runs.steps + 1;
+      began = runs.began;
+      begin_step = runs.begin_step;
+      last = runs.last;
+    }
+
+-- The runs after a step, which is counted. Only a recipe's begin and end change more.
 abbrev pub runs_after : World → Step → Runs → Runs
-runs_after (Busy m d) (Begin t) runs = record runs { began = changed_at runs.began t d.clock }
+runs_after (Busy m d) (Begin t) runs =
+    record (one_later runs) {
+      began = changed_at runs.began t d.clock;
+      begin_step = changed_at runs.begin_step t runs.steps;
+    }
 runs_after (Busy m d) (End t) runs =
-    record runs { last = changed_at runs.last t (Some (run_of runs m d t)) }
-runs_after world other runs = runs
+    record (one_later runs) { last = changed_at runs.last t (Some (run_of runs m d t)) }
+runs_after world other runs = one_later runs
 
 -- The runs after these steps.
 abbrev pub runs_after_all : Graph → Setting → World → List Step → Runs → Runs
