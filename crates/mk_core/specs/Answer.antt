@@ -38,8 +38,8 @@ Answers files request answers (Err (Read fault)) =
 Answers files request answers answer =
     Draws answers (ready_for files (failing_of answer) request) answer
 
--- The names whose reads failed, before and after a fault: with a failed read the file that the fault
--- names is one more, and with any other fault they stay.
+-- The names whose reads failed, before and after a fault: with a failed read the file that the
+-- fault names is one more, and with any other fault they stay.
 abbrev pub NotesFault : List (List ℕ) → List (List ℕ) → Fault → Type 0
 NotesFault old new (Read (ReadFailed place name)) = new ≡ name ∷ old
 NotesFault old new (FileReadFailed name) = new ≡ name ∷ old

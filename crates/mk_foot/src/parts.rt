@@ -2,7 +2,7 @@
 
 use std::marker::Model;
 
-/// A record as it stands in the file. A contract sees lists of bytes.
+/// A record of a footprint file. In a contract its texts are lists of bytes.
 #[derive(Drop)]
 pub struct RawRecord {
     pub target: String,

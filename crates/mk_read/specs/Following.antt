@@ -44,8 +44,8 @@ Answers told reads_as (Err (ReadFailed place name)) =
     (k : ℕ) × (reads_as (reader_of told (Some k)) ≡ Err (ReadFailed place name))
 Answers told reads_as (Err fault) = Fails fault (reads_as (reader_of told None))
 
--- The names whose reads failed, before and after a fault: with `ReadFailed` the file that it names is
--- one more, and with any other fault they stay.
+-- The names whose reads failed, before and after a fault: with `ReadFailed` the file that it names
+-- is one more, and with any other fault they stay.
 abbrev pub NotesFault : List (List ℕ) → List (List ℕ) → ReadFault → Type 0
 NotesFault old new (ReadFailed place name) = new ≡ name ∷ old
 NotesFault old new fault = new ≡ old

@@ -2,7 +2,7 @@
 use Rattle.std.specs.Prelude.{◌≡◌, ◌⊎◌, ℕ, List, [], ◌∷◌, Option}
 use Rattle.mk_read.specs.Files.{Told, text_at}
 
--- The answers of a reader, the last one first: each name that was found out about, with its text, or
+-- The answers of a reader, the last one first: each name that was asked for, with its text, or
 -- without one where the file doesn't exist; and the names whose reads failed.
 pub record Answers : Type 0 where
   pub found : List (List ℕ × Option (List ℕ))

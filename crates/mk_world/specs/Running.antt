@@ -193,7 +193,7 @@ pub record LeavesPartly (g : Graph) (s : Setting) (old new : World) (steps : Lis
   pub leaves : new ≡ model.after_all g s old front
 
 -- The result of taking allowed steps: the world is what the steps leave, or, if memory runs out,
--- what the first of them leave. The graph, the build inputs and the names of the world don't change.
+-- what the first of them leave. The graph, the build inputs and the names of the world stay.
 pub record TakesAllAllowed (old new : State) (steps : List model.Step)
     (result : Result (Unit {0}) AllocError) : Type 0 where
   pub scene : new.scene ≡ old.scene

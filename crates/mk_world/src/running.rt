@@ -187,8 +187,8 @@ fn print(
 }
 
 /// Runs a plan in a world, line by line, up to the first line that is refused. Returns what it
-/// printed and the refusal. The only error is out of memory: the first lines have been run then, and
-/// of the steps of the next line at most the first ones have been taken.
+/// printed and the refusal. The only error is out of memory: then the first lines have been run,
+/// and of the steps of the next line at most the first ones have been taken.
 ///
 /// Before `begin`, `run`, `pass` and `end`, if a make is in progress, every ready node without a
 /// recipe is passed, each time the first in the serial order, until there is none. `finish` reads

@@ -11,8 +11,8 @@ pub trait Opener {
     /// An opened file.
     type File: io::Read + Drop;
 
-    /// What the opener holds under a name, where it tells that: the bytes of the file, or that there
-    /// is none.
+    /// What the opener holds under a name, where it tells that: the bytes of the file, or that
+    /// there is none.
     ghost holds: { Self → List ℕ → Option (Option (List ℕ)) };
 
     /// Opens the file with this name.
@@ -21,7 +21,7 @@ pub trait Opener {
             (λ held. IsOpening Self.File.remaining held result) };
 }
 
-/// Opens the files of the runtime. Nothing is told of what they hold.
+/// Opens files on the disk. It doesn't tell what they hold.
 #[derive(Drop)]
 pub struct HostFiles<'a, R> {
     rt: &'a R,

@@ -65,8 +65,8 @@ fn expect_plan(rt: &impl Abort, alloc: Global, row: &str) -> Result<(), Fail> {
     Ok(())
 }
 
-/// Each row of the table is a build, `‖`, the number of a finding, `‖`, its plan, `‖`, and what the
-/// plan's run prints.
+/// Each row of the table is a build, `‖`, the number of a finding, `‖`, its plan, `‖`, and what
+/// the plan's run prints.
 fn expect_plans(rt: &impl Abort, alloc: Global, table: &str) -> Result<(), Fail> {
     for row in &rows(alloc, table)? {
         expect_plan(rt, alloc, row)?;
