@@ -17,6 +17,11 @@ sys.path.insert(0, str(ROOT / "tools"))
 from mkcheck_record import places  # noqa: E402
 from mkcheck_record.sharing import matches  # noqa: E402
 
+OLD = (
+    "the recipe of NAME gives NAME an old stamp, as cp -p, touch -r and tar do: after a change of"
+    " what it is made from it may still look old, and what needs it isn't made again; let the"
+    " recipe end with touch NAME"
+)
 ARCHIVES = unittest.skipUnless(shutil.which("tar"), "no tar")
 
 
@@ -140,9 +145,9 @@ class ScratchTest(Refusals):
             self.assertEqual(
                 outcome.warnings(),
                 [
-                    "the recipe of b looks for flag, which wasn't there yet and which the recipe of"
-                    " flag makes: another time it is there, so it counts as read. Let b need flag,"
-                    " and record again"
+                    "the recipe of b looks for flag, which the recipe of flag makes later: with"
+                    " several jobs, or in another make, it is there, so it counts as read; let b"
+                    " need flag, and record again"
                 ],
             )
             self.assertIn("no race b flag flag", self.check())
@@ -156,6 +161,54 @@ class ScratchTest(Refusals):
             (outcome.own("b"), outcome.own("c")), (({"x"}, {"b"}), ({"b"}, {"c"}))
         )
         self.assertEqual(outcome.warnings(), [])
+
+    def test_a_look_in_vain_for_what_needs_the_recipe(self) -> None:
+        outcome = self.of(
+            "c: b\n\tcp b c\nb: x\n\ttest -e c && cp c b || cp x b\n", {"x": ""}
+        )
+        self.assertEqual(outcome.own("b"), ({"x", "c"}, {"b"}))
+        self.assertEqual(
+            outcome.warnings(),
+            [
+                "the recipe of b looks for c, which the recipe of c makes later: with several jobs,"
+                " or in another make, it is there, so it counts as read; c needs b, so let the"
+                " recipe of b do without that"
+            ],
+        )
+        self.assertEqual(self.check(), ["no race b c c", "no stale b c"])
+
+    def test_a_look_in_vain_for_a_second_output(self) -> None:
+        outcome = self.of(
+            "all: b c\nb: x\n\ttest -e c.log || cp x b\nc: x\n\tcp x c; cp x c.log\n", {"x": ""}
+        )
+        self.assertEqual(outcome.own("b"), ({"x", "c.log"}, {"b"}))
+        (warning,) = outcome.warnings()
+        self.assertTrue(warning.endswith("; let b need c, and record again"), warning)
+
+    def test_looks_in_vain_for_several_files(self) -> None:
+        rules = "".join(f"{name}: x\n\tcp x {name}\n" for name in "cdef")
+        outcome = self.of(
+            f"all: b c d e f\nb: x\n\tcat c d e f 2>/dev/null || cp x b\n{rules}", {"x": ""}
+        )
+        self.assertEqual(outcome.own("b"), ({"x", "c", "d", "e", "f"}, {"b"}))
+        self.assertEqual(
+            outcome.warnings(),
+            [
+                "the recipe of b looks for c, d, e and 1 more, which other recipes make later: with"
+                " several jobs, or in another make, they are there, so they count as read; let b"
+                " need c, d, e and 1 more, and record again"
+            ],
+        )
+
+    def test_a_look_in_vain_for_a_scratch_file(self) -> None:
+        outcome = self.of(
+            "all: b c\nb: x\n\ttest -e lock || cp x b\nc: x\n\t: > lock; cp x c; rm lock\n",
+            {"x": ""},
+        )
+        self.assertEqual(
+            (outcome.own("b"), outcome.own("c")), (({"x", "lock"}, {"b"}), ({"x"}, {"c", "lock"}))
+        )
+        self.assertEqual(self.check(), ["no race b c lock", "no stale b lock"])
 
     def test_a_removal_in_vain_of_a_scratch_file(self) -> None:
         outcome = self.of(
@@ -226,6 +279,52 @@ class ScratchTest(Refusals):
             (({"x"}, {"a", "d/a", "d"}), ({"x"}, {"d/b", "d"})),
         )
         self.assertEqual(self.check(), ["no writers a d/b d"])
+
+    def test_an_empty_folder_that_another_recipe_made(self) -> None:
+        uses = "which that of a uses too"
+        end = ": with several jobs they destroy each other's, so it counts as written by each"
+        for way in ("rmdir d", "rm -r d", "mv d e"):
+            outcome = self.of(
+                f"b: x a\n\t{way}; cp x b\na: x\n\tmkdir d; cp x a\n", {"x": ""}
+            )
+            self.assertEqual(
+                (outcome.own("a"), outcome.own("b")), (({"x"}, {"a", "d"}), ({"x"}, {"b", "d"}))
+            )
+            self.assertEqual(
+                outcome.warnings(),
+                [
+                    "the recipe of b takes away the folder d, which it didn't make",
+                    f"the recipe of b takes away the folder d, {uses}{end}",
+                ],
+            )
+            self.assertEqual(self.check(), ["no writers a b d"])
+        outcome = self.of(
+            "all: a b\na: x\n\tmkdir -p d; cp x d/a; cp x a\nb: x\n\t-rmdir d\n\tcp x b\n",
+            {"x": ""},
+        )
+        self.assertEqual(
+            (outcome.own("a"), outcome.own("b")),
+            (({"x"}, {"a", "d/a", "d"}), ({"x"}, {"b", "d"})),
+        )
+        self.assertEqual(
+            outcome.warnings(), [f"the recipe of b would take away d, {uses}{end}"]
+        )
+        self.assertEqual(self.check(), ["no writers a b d"])
+
+    def test_folders_that_recipes_take_away_and_nobody_else_uses(self) -> None:
+        outcome = self.of(
+            (
+                "all: a b c\na: x\n\tmkdir d; cp x d/1; rm d/1; rmdir d; cp x a\n"
+                "b: x\n\tmkdir -p e; rmdir e; mkdir e; cp x e/b; cp x b\n"
+                "c: b\n\tmkdir -p e; -rmdir f; rm -rf e/f; cp b c\n"
+            ).replace("-rmdir f", "rmdir f 2>/dev/null || :"),
+            {"x": ""},
+        )
+        self.assertEqual(
+            [outcome.own(name) for name in "abc"],
+            [({"x"}, {"a"}), ({"x"}, {"e/b", "b"}), ({"b"}, {"c"})],
+        )
+        self.assertEqual(outcome.warnings(), [])
 
     def test_scratch_files_outside_of_the_folder(self) -> None:
         outside = self.scratch / "outside"
@@ -459,33 +558,49 @@ class ContentTest(Refusals):
         self.assertEqual(outcome.own("stamp"), (set(), {"stamp"}))
 
     def test_an_old_stamp(self) -> None:
-        self.write({"makefile": "out: a\n\tcp -p a out\n", "a": ""})
+        self.write({"makefile": "out: a b\n\tcat b; cp -p a out\n", "a": "", "b": ""})
         os.utime(self.folder / "a", (1e9, 1e9))
-        self.assertEqual(
-            self.recorded().warnings(),
-            [
-                "the recipe of out gives out an old stamp, as cp -p, touch -d and tar do: make"
-                " takes it for older than what it was made from; let the recipe touch it"
-            ],
-        )
+        self.assertEqual(self.recorded().warnings(), [OLD.replace("NAME", "out")])
+        self.write({"makefile": "out: b\n\tcp b out; touch -d @1000000000 out\n"})
+        self.assertEqual(self.recorded().warnings(), [OLD.replace("NAME", "out")])
+
+    @ARCHIVES
+    def test_an_old_stamp_from_an_archive(self) -> None:
+        self.write({"makefile": "a: a.tar\n\ttar -xf a.tar\n", "a": ""})
+        os.utime(self.folder / "a", (1e9, 1e9))
+        subprocess.run(["tar", "-cf", "a.tar", "a"], cwd=self.folder, check=True)
+        (self.folder / "a").unlink()
+        self.assertEqual(self.recorded().warnings(), [OLD.replace("NAME", "a")])
+
+    def test_the_stamp_of_the_only_read(self) -> None:
+        """A change of the file that is read gives its copy a stamp that is as late."""
+        for way in (
+            "cp -p a b",
+            "cp a b; touch -r a b",
+            "cp a b; touch -m -r a b",
+            "cp -p a t; mv t b",
+        ):
+            for makefile in (f"b: a\n\t{way}\na: x\n\tcp x a; sleep 0.05\n", f"b: a\n\t{way}\n"):
+                outcome = self.of(makefile, {"x": "", "a": ""})
+                self.assertEqual(outcome.warnings(), [], way)
+                (self.folder / "a").unlink()
 
     def test_an_old_stamp_of_the_same_build(self) -> None:
-        old = (
-            "the recipe of b gives b an old stamp, as cp -p, touch -d and tar do: make takes it for"
-            " older than what it was made from; let the recipe touch it"
-        )
+        old = OLD.replace("NAME", "b")
         for way, told in (
-            ("cp -p a b", [old]),
-            ("cp a b; touch -r a b", [old]),
-            ("cp a b; touch -m -r a b", [old]),
-            ("cp -p a t; mv t b", [old]),
-            ("cp -p a b; touch b", []),
-            ("cp -p a b; touch -m b", []),
+            ("cat y; cp -p a b", [old]),
+            ("cat y; cp a b; touch -r a b", [old]),
+            ("cat y; cp a b; touch -m -r a b", [old]),
+            ("cat y; cp -p a t; mv t b", [old]),
+            ("cat y; cp -p a b; touch b", []),
+            ("cat y; cp -p a b; touch -m b", []),
             ("cp a t; cp a b; touch -r t b; rm t", []),
-            ("cp a b; touch -a -r a b", []),
-            ("cp a b; touch -d '10 seconds' b; touch b", []),
+            ("cat y; cp a b; touch -a -r a b", []),
+            ("cat y; cp a b; touch -d '10 seconds' b; touch b", []),
         ):
-            outcome = self.of(f"b: a\n\t{way}\na: x\n\tcp x a; sleep 0.05\n", {"x": ""})
+            outcome = self.of(
+                f"b: a y\n\t{way}\na: x\n\tcp x a; sleep 0.05\n", {"x": "", "y": ""}
+            )
             self.assertEqual(outcome.warnings(), told, way)
 
     def test_a_stamp_of_the_future(self) -> None:
@@ -494,7 +609,7 @@ class ContentTest(Refusals):
             outcome.warnings(),
             [
                 "the recipe of b gives b a stamp of the future: make takes it for newer than what"
-                " changes until then; let the recipe touch it"
+                " changes until then; let the recipe end with touch b"
             ],
         )
 
@@ -842,6 +957,102 @@ class ProcessTest(Refusals):
         self.assertIn(
             "the trace ends before the command does: strace was killed, or couldn't go on",
             outcome.errors,
+        )
+
+
+@traced
+class LateTest(Refusals):
+    """Files that other recipes make later, where a recipe listed a folder or looked for one."""
+
+    replays = True
+
+    def setUp(self) -> None:
+        super().setUp()
+        if places.namespace() is None:
+            self.skipTest("no mount namespace is allowed")
+
+    def test_files_that_are_used(self) -> None:
+        late = "list: x\n\tWAY\nd/b.txt: x\n\tmkdir -p d; cp x d/b.txt\n"
+        for way, folder in (
+            ("ls d > list", "d"),
+            ("cat d/*.txt > list 2>/dev/null || cp x list", "d"),
+            ("find d -name '*.txt' -print0 | xargs -0r cat > list", "d"),
+            ("find . -type d > list", ""),
+            ("cp x list; test ! -d d || echo 2 > list", ""),
+        ):
+            shutil.rmtree(self.folder / "d", ignore_errors=True)
+            files = {"x": "1\n", **({f"{folder}/.keep": ""} if folder else {})}
+            outcome = self.of("all: list d/b.txt\n" + late.replace("WAY", way), files)
+            self.assertEqual(outcome.own("list"), ({"x", "d/b.txt"} - self.unread(way), {"list"}))
+            self.assertEqual(
+                outcome.warnings(),
+                [
+                    "the recipe of list does something else where d/b.txt is there, which the"
+                    " recipe of d/b.txt makes later: with several jobs, or in another make, it is"
+                    " there, so it counts as read; let list need d/b.txt, and record again"
+                ],
+                way,
+            )
+            self.assertIn("no race list d/b.txt d/b.txt", self.check())
+            # As the warning says.
+            mended = "all: list\n" + late.replace("WAY", way).replace("list: x", "list: x d/b.txt")
+            outcome = self.of(mended, files)
+            self.assertEqual(outcome.warnings(), [], way)
+            self.assertEqual(self.check()[0][:3], "yes", way)
+
+    def unread(self, way: str) -> set[str]:
+        """What a way of using files doesn't read."""
+        return set() if "cp x" in way else {"x"}
+
+    def test_files_that_are_not_used(self) -> None:
+        outcome = self.of(
+            "all: b d/c.o d/e/f.c\nb: d/a.c\n\tcat d/*.c > b; find . -name '*.none' >> b\n"
+            "\ttest -d g || cat d/*.c > b\n"
+            "d/c.o: x\n\tcp x d/c.o\nd/e/f.c: x\n\tmkdir -p d/e g; cp x g/f.c; cp x d/e/f.c\n",
+            {"x": "", "d/a.c": "1\n"},
+        )
+        self.assertEqual(outcome.own("b"), ({"d/a.c"}, {"b"}))
+        self.assertEqual((outcome.warnings(), self.check()[0][:3]), ([], "yes"))
+
+    def test_files_that_are_taken_away(self) -> None:
+        for way in ("rm -f d/*.txt", "for f in d/*; do test -s $$f && cp x $$f; done; :"):
+            outcome = self.of(
+                f"all: b d/b.txt\nb: x\n\tcp x d/a.txt; {way}; cp x b\n"
+                "d/b.txt: x\n\tcp x d/b.txt\n",
+                {"x": "1\n", "d/.keep": ""},
+            )
+            self.assertIn("d/b.txt", outcome.own("b")[1], way)
+            self.assertIn(
+                "the recipe of b would write or take away d/b.txt, which that of d/b.txt uses too:"
+                " with several jobs they destroy each other's, so it counts as written by each",
+                outcome.warnings(),
+            )
+            self.assertIn("no writers b d/b.txt d/b.txt", self.check())
+
+    def test_files_of_recipes_before(self) -> None:
+        """A recipe that looks at what it needs is recorded to read it, if the replay needs it."""
+        flag = "flag: x\n\tcp x flag\n"
+        for way, reads in (
+            ("if test -e flag; then cp x b; else cp y b; fi", {"x", "flag"}),
+            ("test -e flag || :; cp y b", {"y"}),
+            ("ls . | grep flag; cp y b", {"y", "flag"}),
+        ):
+            outcome = self.of(f"b: x y flag\n\t{way}\n{flag}", {"x": "1\n", "y": "2\n"})
+            self.assertEqual(outcome.own("b"), (reads, {"b"}), way)
+            self.assertEqual((outcome.warnings(), self.check()[0][:3]), ([], "yes"), way)
+            outcome = self.of(f"all: flag b\nb: x y\n\t{way}\n{flag}")
+            self.assertEqual(outcome.own("b"), (reads, {"b"}), way)
+            self.assertEqual("no race b flag flag" in self.check(), "flag" in reads, way)
+
+    def test_a_listing_that_is_not_tested(self) -> None:
+        makefile = "all: list d/b\nlist: x\n\tls d > list\nd/b: x\n\tcp x d/b\n"
+        outcome = self.of(makefile, {"x": "", "d/.keep": ""}, "--no-replay")
+        self.assertEqual(
+            outcome.warnings(),
+            [
+                "the recipe of list listed folders, or looked for some, in which other recipes make"
+                " files later, such as d/b: nothing tests whether it uses these"
+            ],
         )
 
 

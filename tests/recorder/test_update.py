@@ -341,6 +341,25 @@ class RandomTest(UpdateTest):
 
 
 @traced
+class LateTest(UpdateTest):
+    """Recipes that list a folder are recorded again when other recipes make other files in it."""
+
+    replays = True
+
+    def test_files_that_come_later(self) -> None:
+        text = "all: list d/b\nlist: x\n\tls d > list\nd/b: x\n\tcp x d/b\n"
+        self.write({"makefile": text, "x": "1\n", "d/.keep": ""})
+        first = self.update()
+        self.assertEqual(self.count(first), 2)
+        second = self.update()
+        self.assertEqual((self.count(second), second.warnings()), (0, first.warnings()))
+        self.write({"makefile": text.replace("d/b", "d/c")})
+        self.assertEqual(self.count(self.update()), 2)
+        self.assert_as_full()
+        self.assertIn("d/c", self.full().own("list")[0])
+
+
+@traced
 class StateTest(UpdateTest):
     """States that are wrong, old or torn."""
 
@@ -368,13 +387,13 @@ class StateTest(UpdateTest):
             "",
             "[]",
             "{}",
-            '{"format":1,"digest":"","state":{}}',
+            '{"format":2,"digest":"","state":{}}',
         ):
             self.state.write_text(text)
             self.assertEqual(self.all_again(), "isn't whole")
         self.state.write_bytes(b"\xff")
         self.assertEqual(self.all_again(), "can't be read")
-        self.state.write_text(whole.replace('"format":1', '"format":2', 1))
+        self.state.write_text(whole.replace('"format":2', '"format":3', 1))
         self.assertEqual(self.all_again(), "is of another version of mkcheck-record")
 
     def test_changed_by_hand(self) -> None:

@@ -7,7 +7,7 @@ import re
 from collections.abc import Iterable
 from dataclasses import dataclass, field
 
-from .calls import FORKS, LOOKS, LOOKS_IN_VAIN, NOTHING_THERE, REMOVALS, SAME, Call
+from .calls import FORKS, LOOKS, LOOKS_IN_VAIN, NOT_EMPTY, NOTHING_THERE, REMOVALS, SAME, Call
 from .calls import path_of, text_of
 from .programs import interpreters_of
 from .trees import Owner, Tree
@@ -51,14 +51,15 @@ class Accesses:
     `lost` what it took away and hadn't made. `missed` has what it would have taken away, had it
     been there, and `sought` the paths at which it looked when nothing was there. `alone` has the
     files outside of the folder that it made as `mkstemp` does.
-    `folders` has the folders that it made, `owned` the others to which it gave a mode, an owner or
-    an attribute, and `stamped` what it gave a stamp other than the present time. `moved` has the
+    `folders` has the folders that it made, `dropped` those that it took away or renamed and hadn't
+    made, `owned` the others to which it gave a mode, an owner or an attribute, and `stamped` what
+    it gave a stamp other than the present time. `moved` has the
     new names of what it renamed, which may be folders. `aliases` has names that lead over a
     symbolic link. `over` has the links that no recipe made and that it went over. `makes` has the
     makes that it started, each with the folder in which that went to work, and `strange` what it
     did that a trace can't follow. `servers` has whom it asked over a socket that isn't one of its
     own `sockets`. `looked` has the paths at which it looked, where that is traced, and `listed` the
-    folders whose names it may have read.
+    folders whose names it read.
     """
 
     tree: Tree
@@ -71,6 +72,7 @@ class Accesses:
     sought: dict[str, None] = field(default_factory=dict)
     alone: set[str] = field(default_factory=set)
     folders: dict[str, None] = field(default_factory=dict)
+    dropped: dict[str, None] = field(default_factory=dict)
     owned: dict[str, None] = field(default_factory=dict)
     stamped: dict[str, None] = field(default_factory=dict)
     moved: dict[str, None] = field(default_factory=dict)
@@ -141,12 +143,20 @@ class Accesses:
         self.lose(path)
         self.tree.remove(path)
 
+    def remove_folder(self, path: str) -> None:
+        """A folder is taken away, which is empty then."""
+        if path in self.tree.folders and path not in self.folders:
+            self.dropped.setdefault(path)
+        self.tree.folders.discard(path)
+
     def rename(self, old: str, new: str) -> None:
         """A file is renamed, or a folder with all files that are known in it."""
         inside = (path for path in self.writes if path.startswith(old + "/"))
         files = dict.fromkeys([*self.tree.inside(old), *inside])
         if not files and old not in self.tree.folders:
             files[old] = None
+        elif old in self.tree.folders and old not in self.folders:
+            self.dropped.setdefault(old)
         for path in self.tree.inside(new):
             self.lose(path)
         for path in files:
@@ -248,12 +258,16 @@ class Follower:
                 self.accesses.seek(path)
 
     def removed_in_vain(self, call: Call) -> None:
-        """A removal or a renaming of what isn't there now."""
-        if call.name not in REMOVALS or call.result != NOTHING_THERE:
+        """A removal or a renaming of what isn't there now, or of a folder that isn't empty now."""
+        if call.name not in REMOVALS or call.result not in (NOTHING_THERE, *NOT_EMPTY):
             return
         folder, name = LOOKS_IN_VAIN[call.name]
         path = self.itself(call, name, folder)
-        if path not in self.accesses.tree.there and path not in self.accesses.tree.folders:
+        is_folder = path in self.accesses.tree.folders
+        if call.result in NOT_EMPTY:
+            if is_folder and not call.name.startswith("rename"):
+                self.accesses.missed.setdefault(path)
+        elif path not in self.accesses.tree.there and not is_folder:
             self.accesses.missed.setdefault(path)
 
     def standing(self, call: Call) -> Standing:
@@ -331,8 +345,6 @@ class Follower:
             self.accesses.reach_itself(name)
         else:
             self.accesses.reach(name)
-        if "O_DIRECTORY" in flags and "O_PATH" not in flags:
-            self.accesses.listed.setdefault(real)
         if "O_PATH" in flags or "O_DIRECTORY" in flags or "O_TMPFILE" in flags:
             return
         if self.accesses.tree.has(real):
@@ -345,6 +357,12 @@ class Follower:
             self.accesses.alone.add(real)
         if written or new:
             self.accesses.write(real)
+
+    def on_getdents(self, call: Call) -> None:
+        """The names in a folder are read."""
+        path = self.descriptor(call.arguments[0])
+        if path is not None:
+            self.accesses.listed.setdefault(path)
 
     def on_readlink(self, call: Call) -> None:
         self.looked_into(self.itself(call, 0))
@@ -442,7 +460,7 @@ class Follower:
     def on_unlinkat(self, call: Call) -> None:
         path = self.itself(call, 1, 0)
         if "AT_REMOVEDIR" in call.arguments[2]:
-            self.accesses.tree.folders.discard(path)
+            self.accesses.remove_folder(path)
         else:
             self.accesses.remove(path)
 
@@ -464,7 +482,7 @@ class Follower:
         self.accesses.tree.folders.add(path)
 
     def on_rmdir(self, call: Call) -> None:
-        self.accesses.tree.folders.discard(self.itself(call, 0))
+        self.accesses.remove_folder(self.itself(call, 0))
 
     def on_truncate(self, call: Call) -> None:
         real = self.behind(call, 0)

@@ -9,6 +9,7 @@ from .faults import Fault, RecipeFault
 from .folders import SYSTEM
 from .footprints import Footprint, Warn
 from .graphs import Checker, Graph
+from .late import Late
 from .sharing import with_shared
 
 
@@ -47,13 +48,14 @@ def make_book(
     footprints: list[Footprint],
     scratch: str,
     warn: Warn,
+    late: Late | None = None,
 ) -> Book:
     """The book.
 
     Its sources are the files that the graph names and that recipes read, and none that recipes
-    write.
+    write. `late` has the late files of recipes, where it is to be told which weren't tested.
     """
-    footprints = with_shared(footprints, warn)
+    footprints = with_shared(footprints, graph, warn, late)
     refuse_phony_reads(graph, files, footprints)
     written = {name for footprint in footprints for name in footprint.writes}
     names = {

@@ -9,8 +9,8 @@ from dataclasses import dataclass, field
 
 from .faults import Fault
 
-# What is traced: whatever opens, starts, links, renames, removes, stamps or changes a file, and
-# what is needed to follow relative paths. strace passes over those that a machine doesn't have.
+# What is traced: whatever opens, lists, starts, links, renames, removes, stamps or changes a file,
+# and what is needed to follow relative paths. strace passes over those that a machine doesn't have.
 FORKS = ("clone", "clone3", "fork", "vfork")
 OF_LINKS = ("readlink", "readlinkat")
 TRACED = (
@@ -27,6 +27,7 @@ TRACED = (
     ),
     *("rename", "renameat", "renameat2", "link", "linkat", "symlink", "symlinkat", *OF_LINKS),
     *("unlink", "unlinkat", "mknod", "mknodat", "mkdir", "mkdirat", "rmdir"),
+    *("getdents", "getdents64"),
     *("truncate", "truncate64", "utime", "utimes", "utimensat", "utimensat_time64", "futimesat"),
     *("chmod", "fchmod", "fchmodat", "fchmodat2", "chown", "lchown", "fchown", "fchownat"),
     *("chown32", "lchown32", "fchown32"),
@@ -57,13 +58,15 @@ LOOKS_IN_VAIN: dict[str, tuple[int | None, int]] = {
     **dict.fromkeys(("unlink", "rmdir", "rename"), (None, 0)),
     **dict.fromkeys(("unlinkat", "renameat", "renameat2"), (0, 1)),
 }
-# Calls that take a name away. Where nothing stands there they fail, and yet another time they might
-# not: these failures are kept.
+# Calls that take a name away. Where nothing stands there, or a folder that isn't empty, they fail,
+# and yet another time they might not: these failures are kept.
 REMOVALS = ("unlink", "unlinkat", "rmdir", "rename", "renameat", "renameat2")
 NOTHING_THERE = "ENOENT"
+NOT_EMPTY = ("ENOTEMPTY", "EEXIST")
 # Calls that do what another one does, with the same arguments up to the last ones.
 SAME = {
     "openat2": "openat",
+    "getdents64": "getdents",
     "renameat2": "renameat",
     "truncate64": "truncate",
     "utimensat_time64": "utimensat",
@@ -213,7 +216,7 @@ class Trace:
         if begun is None or failed is None:
             return
         name, error = begun.group(1), failed.group(1) or ""
-        removes = name in REMOVALS and error == NOTHING_THERE
+        removes = name in REMOVALS and error in (NOTHING_THERE, *NOT_EMPTY)
         if removes or (self.looking and name in (*LOOKS, *LOOKS_IN_VAIN)):
             arguments, _ = split(text, begun.end())
             self.found.append(Call(self.lines, process, name, tuple(arguments), error, True))

@@ -28,10 +28,16 @@ class Footprint:
 
     `scratch` has the files and folders that it made or took away and that are gone when it has
     ended, and `missed` those that it would have taken away, had they been there. These two may hold
-    names that no footprint can, and files outside of the project's folder by their paths. `links`
-    has the symbolic links of the project that no recipe made and that it went over. `owned` has the
-    folders that it hadn't made and to which it gave a mode, an owner or an attribute. `sought` has
-    the names in the project that it looked for and that weren't there.
+    names that no footprint can, and files outside of the project's folder by their paths. `lost`
+    has the files that it took away and hadn't made, and `dropped` the folders in which it found no
+    file. `links` has the symbolic links of the project that no recipe made and that it went over.
+    `owned` has the folders that it hadn't made and to which it gave a mode, an owner or an
+    attribute. `sought` has the names in the project that it looked for and that weren't there.
+    `made` has the folders that it made and left there, and `listed` those of the project that it
+    listed, `.` for the project's own. `late` tells its late files from others, if the replay has
+    run it beside these: then `met` has those that it reads, and `taken` those that it writes or
+    takes away. `seen` has files of others at which it looked, where the replay shows that it needs
+    them.
     """
 
     recipe: Recipe
@@ -43,6 +49,13 @@ class Footprint:
     links: list[str] = field(default_factory=list)
     owned: frozenset[str] = frozenset()
     sought: frozenset[str] = frozenset()
+    dropped: frozenset[str] = frozenset()
+    made: frozenset[str] = frozenset()
+    listed: frozenset[str] = frozenset()
+    late: str = ""
+    met: frozenset[str] = frozenset()
+    taken: frozenset[str] = frozenset()
+    seen: frozenset[str] = frozenset()
 
     def record(self) -> dict[str, object]:
         """The record of format 1."""
@@ -99,6 +112,13 @@ def footprint_of(recipe: Recipe, accesses: Accesses, naming: Naming, warn: Warn)
             " make"
         )
     here = set(written)
+    dropped = [path for path in accesses.dropped if is_gone(path, accesses)]
+    dropped = [path for path in dropped if not any(one.startswith(path + "/") for one in lost)]
+    for path in dropped:
+        warn(
+            f"the recipe of {recipe.target} takes away the folder {naming.name(path) or path},"
+            " which it didn't make"
+        )
     gone = [
         path
         for path in [*accesses.touched, *accesses.folders]
@@ -120,13 +140,38 @@ def footprint_of(recipe: Recipe, accesses: Accesses, naming: Naming, warn: Warn)
         recipe,
         named(read, naming),
         named(written, naming),
-        frozenset(naming.name(path) or path for path in gone),
+        frozenset(naming.name(path) or path for path in [*gone, *dropped]),
         frozenset(naming.name(path) or path for path in accesses.missed if path not in here),
         frozenset(named(lost, naming)),
         named(accesses.over, naming),
         frozenset(named(filter(tree.has, accesses.owned), naming)),
         frozenset(named(accesses.sought, naming)),
+        frozenset(naming.name(path) or path for path in dropped),
+        frozenset(named(folders_made(accesses), naming)),
+        frozenset(listed_in(accesses, naming)),
     )
+
+
+def folders_made(accesses: Accesses) -> Iterator[str]:
+    """The folders that a recipe made, or renamed with what is in them, and that are there."""
+    tree = accesses.tree
+    moved: list[str] = []
+    for path in accesses.moved:
+        real = tree.place.real(path)
+        if not os.path.islink(real):
+            moved += [path + folder[len(real) :] for folder, _, _ in os.walk(real)]
+    for path in dict.fromkeys([*accesses.folders, *moved]):
+        if kind_of(tree, path) == stat.S_IFDIR:
+            yield path
+
+
+def listed_in(accesses: Accesses, naming: Naming) -> Iterator[str]:
+    """The folders of the project whose names a recipe read."""
+    for path in accesses.listed:
+        if path == naming.root:
+            yield "."
+        elif accesses.tree.has(path):
+            yield path[len(naming.root) + 1 :]
 
 
 def is_gone(path: str, accesses: Accesses) -> bool:
@@ -240,12 +285,18 @@ def warn_of_folders(recipe: Recipe, accesses: Accesses, naming: Naming, warn: Wa
             )
 
 
-def warn_of_stamps(footprint: Footprint, accesses: Accesses, begun: int, warn: Warn) -> None:
+def warn_of_stamps(
+    footprint: Footprint, accesses: Accesses, naming: Naming, begun: int, warn: Warn
+) -> None:
     """A file is told to which a recipe gave a stamp from before its own begin, or of the future.
 
-    `begun` is the stamp of a file that was made then, in nanoseconds.
+    `begun` is the stamp of a file that was made then, in nanoseconds. The stamp of the only file
+    that the recipe reads and that can change is new enough: each change of that file gives a later
+    one.
     """
     tree = accesses.tree
+    changing = [name for name in footprint.reads if not naming.is_fixed(name)]
+    only = tree.status(os.path.join(tree.root, changing[0])) if len(changing) == 1 else None
     for name in footprint.writes:
         path = os.path.join(tree.root, name)
         status = tree.status(path) if path in accesses.stamped else None
@@ -254,14 +305,17 @@ def warn_of_stamps(footprint: Footprint, accesses: Accesses, begun: int, warn: W
         apart = 0 if status.st_ctime_ns % SECOND else COARSE
         front = f"the recipe of {footprint.recipe.target} gives {name}"
         if status.st_mtime_ns < begun - apart:
+            if only is not None and only.st_mtime_ns == status.st_mtime_ns:
+                continue
             warn(
-                f"{front} an old stamp, as cp -p, touch -d and tar do: make takes it for older than"
-                " what it was made from; let the recipe touch it"
+                f"{front} an old stamp, as cp -p, touch -r and tar do: after a change of what it is"
+                " made from it may still look old, and what needs it isn't made again; let the"
+                f" recipe end with touch {name}"
             )
         elif status.st_mtime_ns > time.time_ns() + COARSE:
             warn(
                 f"{front} a stamp of the future: make takes it for newer than what changes until"
-                " then; let the recipe touch it"
+                f" then; let the recipe end with touch {name}"
             )
 
 

@@ -7,6 +7,7 @@ import os
 import sys
 import traceback
 from collections.abc import Callable
+from functools import partial
 from pathlib import Path
 
 from . import places, tracing
@@ -17,6 +18,7 @@ from .dates import dated
 from .faults import Fault, RecipeFault
 from .folders import SYSTEM, Naming, prefix_of, scratch_folder, sources_in
 from .graphs import Checker, Graph, asked_graph, find_checker
+from .late import with_met
 from .macros import Prober, refuse_absent_compiler, warn_of_environment, with_shell
 from .places import Place
 from .recording import Recorded, Workshop, record
@@ -149,21 +151,28 @@ def record_and_write(asked: argparse.Namespace, folder: str, scratch: str) -> No
     shop = workshop(asked, folder, graph, hidden, scratch, warn)
     shop.updating = updating_of(asked, shop, fixed, warn)
     follows = not asked.no_replay or shop.updating is not None
-    recorded = record(shop, graph.recipes, tuple(fixed), warn, shop.follow if follows else None)
+    follow = shop.follow if follows else None
+    recorded = record(shop, graph.recipes, tuple(fixed), warn, follow)
+    while shop.updating is not None and must_repeat(asked, shop.updating, recorded):
+        recorded = record(shop, graph.recipes, tuple(fixed), warn, follow)
     if shop.passed:
         warn(f"not copied, since they can't be read or are no files: {listed(shop.passed)}")
+    book = partial(make_book, checker, graph, files, prefixes, scratch=scratch, warn=warn)
     if not recorded.failures:
         compare(asked, shop, recorded, tuple(fixed), warn)
-        text = make_book(checker, graph, files, prefixes, recorded.footprints, scratch, warn).text()
+        text = book(recorded.footprints).text()
     verdict = (
         Verdict() if asked.no_replay else replayed(shop, graph, recorded, frozenset(asked.trust))
     )
+    footprints = with_met(recorded.footprints, recorded.late, verdict.met)
     for warning in (text for texts in verdict.warnings.values() for text in texts):
         warn(warning)
     for said in verdict.trusted:
         tell(said)
     if recorded.failures or verdict.errors:
         raise RecipeFault("\nmkcheck-record: ".join([*recorded.failures, *verdict.errors]))
+    if recorded.late or footprints != recorded.footprints:
+        text = book(footprints, late=recorded.late).text()
     if asked.no_replay:
         tell(UNTESTED)
     write(text, asked.update or asked.o)
@@ -175,7 +184,12 @@ def record_and_write(asked: argparse.Namespace, folder: str, scratch: str) -> No
         )
         targets = [name for name in graph.names if name not in asked.trust]
         passed = {target: verdict.warnings.get(target, []) for target in targets}
-        shop.updating.save(text, recorded.footprints, passed)
+        shop.updating.save(text, footprints, passed)
+
+
+def must_repeat(asked: argparse.Namespace, updating: Updating, recorded: Recorded) -> bool:
+    """Whether recipes were kept that have to be recorded, since others make other files now."""
+    return not asked.no_replay and not recorded.failures and updating.refuse(recorded.late)
 
 
 def updating_of(
@@ -241,9 +255,10 @@ def replayed(shop: Workshop, graph: Graph, recorded: Recorded, trusted: frozense
         tell(UNREPLAYED)
         return Verdict()
     scratch = os.path.join(shop.scratch, "replays")
-    outcomes = Replay(world, shop.place.seen, scratch, shop.environment, shop.ancestors).run(
-        world.trials
+    replay = Replay(
+        world, shop.place.seen, scratch, shop.environment, shop.ancestors, recorded.late
     )
+    outcomes = replay.run(world.trials)
     verdict = judge(outcomes, trusted, graph.once, world.makers)
     for trial in world.trials:
         for warning in dated(world, trial):

@@ -2,6 +2,7 @@
 
 from __future__ import annotations
 
+import functools
 import os
 import shlex
 import stat
@@ -16,6 +17,7 @@ from .faults import RecipeFault
 from .folders import UNWRITTEN, Naming, copy
 from .footprints import Footprint, Warn, footprint_of, kind_of, named, warn_of_stamps
 from .graphs import Ancestors, Command, Recipe
+from .late import Late, late_files
 from .places import Place
 from .progress import Progress
 from .refusals import refuse_unmade, refuse_unseen
@@ -67,12 +69,21 @@ class Workshop:
 
 @dataclass(frozen=True)
 class Recorded:
-    """Footprints, and for each recipe the contents of what it left written, by a digest."""
+    """Footprints, and for each recipe the contents of what it left written, by a digest.
+
+    `given` has the files and folders of the project that were there at first.
+    """
 
     footprints: list[Footprint]
     contents: list[dict[str, str]]
     failures: list[str] = field(default_factory=list)
     world: World | None = None
+    given: frozenset[str] = frozenset()
+
+    @functools.cached_property
+    def late(self) -> Late:
+        """The late files of recipes."""
+        return late_files(self.footprints, self.given)
 
 
 def record(
@@ -92,7 +103,8 @@ def record(
     world = follow() if follow is not None else None
     naming = Naming(shop.place.seen, fixed)
     progress = Progress(len(recipes))
-    done = Recorded([], [], [], world)
+    given = frozenset(named([*tree.there, *tree.folders], naming))
+    done = Recorded([], [], [], world, given)
     failed: set[str] = set()
     try:
         for recipe in recipes:
@@ -136,9 +148,8 @@ def record_one(
     accesses = run(recipe, shop, tree, progress)
     progress.clear()
     refuse_unmade(recipe, shop)
-    made = named(folders_made(accesses), naming)
     footprint = footprint_of(recipe, accesses, naming, warn)
-    warn_of_stamps(footprint, accesses, stamp, warn)
+    warn_of_stamps(footprint, accesses, naming, stamp, warn)
     done.footprints.append(footprint)
     if done.world is None:
         left = {
@@ -146,7 +157,7 @@ def record_one(
         }
         done.contents.append({name: content_of(version) for name, version in left.items()})
         return
-    trial = done.world.took(recipe, effects_of(footprint, accesses, made, naming), begun)
+    trial = done.world.took(recipe, effects_of(footprint, accesses, naming), begun)
     done.contents.append({name: content_of(trial.after[name]) for name in footprint.writes})
 
 
@@ -156,9 +167,7 @@ def stamp_now(folder: str) -> int:
         return os.fstat(file.fileno()).st_mtime_ns
 
 
-def effects_of(
-    footprint: Footprint, accesses: Accesses, made: list[str], naming: Naming
-) -> Effects:
+def effects_of(footprint: Footprint, accesses: Accesses, naming: Naming) -> Effects:
     """What a recipe did, by the names of files, for other runs of it.
 
     What lies in no file system counts for nothing.
@@ -172,24 +181,21 @@ def effects_of(
     looked = [
         naming.name(path) or path for path in accesses.looked if not is_unwritten(path, naming)
     ]
-    listed = [
-        *accesses.listed,
-        *(path for path in accesses.reads if kind_of(tree, path) == stat.S_IFDIR),
-    ]
     return Effects(
         tuple(footprint.reads),
         tuple(footprint.writes),
         tuple(footprint.lost),
-        tuple(made),
+        tuple(sorted(footprint.made)),
         tuple(footprint.links),
         tuple(pipes),
         (*looked, *sorted(footprint.scratch)),
         tuple(
             name_of_folder(path, naming)
-            for path in dict.fromkeys(listed)
+            for path in accesses.listed
             if not is_unwritten(path, naming)
         ),
         tuple(sorted(footprint.owned)),
+        tuple(sorted(filter(is_own, footprint.dropped))),
     )
 
 
@@ -236,14 +242,3 @@ def content_of(version: Version | None) -> str:
 def is_pipe(tree: Tree, path: str) -> bool:
     """Whether a pipe or a socket stands at a path: footprints don't name these."""
     return kind_of(tree, path) in (stat.S_IFIFO, stat.S_IFSOCK)
-
-
-def folders_made(accesses: Accesses) -> list[str]:
-    """The folders that a recipe made, or renamed with what is in them."""
-    tree = accesses.tree
-    moved: list[str] = []
-    for path in accesses.moved:
-        real = tree.place.real(path)
-        if not os.path.islink(real):
-            moved += [path + folder[len(real) :] for folder, _, _ in os.walk(real)]
-    return list(dict.fromkeys([*accesses.folders, *moved]))

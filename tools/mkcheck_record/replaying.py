@@ -1,9 +1,12 @@
 """Runs each recipe again in a folder that holds only what its record names, and compares.
-Three runs, each in a folder that appears at the project's own path:
+Three runs, and for a recipe with late files a fourth, each in a folder that appears at the
+project's own path:
 
 - *bare*: the folder holds the recorded reads, as they were when the recipe ran.
 - *again*: the same, and the recipe's own outputs.
 - *damaged*: the same, but its outputs hold other bytes and have the newest stamps.
+- *late*: the folder of the bare run, with a short file for each late one. Traced, since it tells
+  which of them the recipe uses.
 
 Folders that no recipe made are there too, folders that recipes make which always run before, and
 the links over which the recipe went when it was recorded.
@@ -20,12 +23,18 @@ import time
 from collections.abc import Iterator, Mapping
 from concurrent.futures import Future, ThreadPoolExecutor
 from dataclasses import dataclass, field, replace
+from pathlib import Path
 
 from . import places
+from .accesses import Accesses, Follower
+from .faults import Fault
 from .folders import remove
 from .graphs import Ancestors
+from .late import Late, Met, folders_of
 from .places import Place
 from .progress import Progress, first_line
+from .tracing import read_trace, strace
+from .trees import Tree
 from .versions import FILE, FOLDER, LINK, Version, lay, version_of
 from .worlds import GIVEN, Trial, World, entries, mode_of
 
@@ -58,7 +67,7 @@ class Difference:
 class Outcome:
     """What a replay showed: the run in which it stopped, what was wrong, what to warn of.
     `folders` are the folders that the bare run left, and `absent` those that were there when the
-    recipe was recorded, and not in the bare run that failed.
+    recipe was recorded, and not in the bare run that failed. `met` tells what else it needed.
     """
 
     trial: Trial
@@ -68,6 +77,7 @@ class Outcome:
     warning: str = ""
     folders: frozenset[str] = frozenset()
     absent: frozenset[str] = frozenset()
+    met: Met | None = None
 
     @property
     def passed(self) -> bool:
@@ -79,8 +89,8 @@ class Outcome:
 class Replay:
     """Replays the recipes of a world.
 
-    `environment` is that of the recipes. Where no folder can be bound over `seen`, the recipes ran
-    there, and are replayed there one at a time.
+    `environment` is that of the recipes, and `late` are their late files. Where no folder can be
+    bound over `seen`, the recipes ran there, and are replayed there one at a time.
     """
 
     world: World
@@ -88,6 +98,7 @@ class Replay:
     scratch: str
     environment: Mapping[str, str]
     ancestors: Ancestors
+    late: Late = field(default_factory=dict)
     _stopped: threading.Event = field(default_factory=threading.Event)
 
     def run(self, trials: list[Trial]) -> list[Outcome]:
@@ -151,13 +162,37 @@ class Replay:
         bound = places.namespace() is not None
         folder = os.path.join(self.scratch, str(number)) if bound else self.seen
         try:
-            self.furnish(trial, folder, folders)
-            outcome = self.runs(trial, Place(folder, self.seen))
-            if outcome.run != BARE:
-                return outcome
-            return replace(outcome, absent=trial.known - {*self.folders_of(trial), *folders})
+            place = Place(folder, self.seen)
+            late = self.late.get(trial.recipe.target, ())
+            failed = None
+            for seen in self.seen_by(trial):
+                tried = trial.with_reads(seen)
+                self.furnish(tried, folder, folders)
+                outcome = self.runs(tried, place)
+                remove(folder)
+                if outcome.run != BARE:
+                    met = Met(seen=frozenset(seen))
+                    if late:
+                        self.furnish(tried, folder, folders)
+                        met = replace(self.beside(tried, place, late), seen=met.seen)
+                    return replace(outcome, met=met)
+                failed = failed or outcome
+            assert failed is not None
+            return replace(failed, absent=trial.known - {*self.folders_of(trial), *folders})
         finally:
             remove(folder)
+
+    def seen_by(self, trial: Trial) -> Iterator[Mapping[str, Version]]:
+        """Files that recipes before had made and that a recipe may need besides its reads: first
+        none, then those at which it looked, then those in folders that it listed.
+        """
+        yield {}
+        looked = self.world.noticed(trial, False)
+        if looked:
+            yield looked
+        listed = self.world.noticed(trial, True)
+        if len(listed) > len(looked):
+            yield listed
 
     def runs(self, trial: Trial, place: Place) -> Outcome:
         """The runs of a recipe in a folder, up to the first that shows something."""
@@ -222,17 +257,61 @@ class Replay:
             return Outcome(trial, run, failed)
         return Outcome(trial, run, "", tuple(self.compared(trial, place.folder, laid)))
 
-    def run_commands(self, trial: Trial, place: Place) -> str:
-        """Runs the commands of a recipe; tells how it failed, or nothing where it ended well."""
+    def beside(self, trial: Trial, place: Place, late: tuple[str, ...]) -> Met:
+        """Runs a recipe beside its late files, and tells which it uses.
+
+        Where it does something else and opens none of them, it may use any.
+        """
+        folders = {folder for name in late for folder in folders_of(name)}
+        for folder in sorted(folders):
+            os.makedirs(os.path.join(place.folder, folder), exist_ok=True)
+        for name in late:
+            self.stand_in(name, os.path.join(place.folder, name))
+        laid = stamps_of(trial, place.folder)
+        accesses = Accesses(Tree.of(place))
+        try:
+            failed = self.run_commands(trial, place, Follower(accesses, place.seen))
+        except Fault:
+            failed = "its trace ends before it does"
+        paths = {name: os.path.join(place.seen, name) for name in late}
+        taken = frozenset(name for name, path in paths.items() if path in accesses.touched)
+        read = frozenset(name for name, path in paths.items() if path in accesses.reads)
+        if taken or read:
+            return Met(read - taken, taken)
+        changed = (one.name for one in self.compared(trial, place.folder, laid))
+        other = failed or any(name not in paths and name not in folders for name in changed)
+        return Met(frozenset(late) if other else frozenset())
+
+    def stand_in(self, name: str, path: str) -> None:
+        """Puts something at the path of a late file: of its kind and mode, and empty if it is."""
+        version = self.world.first_made(name)
+        if os.path.lexists(path) or version is None:
+            return
+        if version.kind == LINK:
+            os.symlink(version.content, path)
+            return
+        with open(path, "xb") as file:
+            file.write(b"" if version.content == EMPTY else OTHER_BYTES)
+        os.chmod(path, version.mode)
+
+    def run_commands(
+        self, trial: Trial, place: Place, follower: Follower | None = None
+    ) -> str:
+        """Runs the commands of a recipe; tells how it failed, or nothing where it ended well.
+
+        `follower` takes the calls, if they are to be traced.
+        """
+        trace = f"{place.folder}.trace" if place.is_bound else os.path.join(self.scratch, "trace")
         allowed = LEAST_SECONDS + TIMES_AS_LONG * trial.seconds
         until = time.monotonic() + allowed
         output = ""
         for command in trial.recipe.commands:
             if self._stopped.is_set():
                 return "it was stopped"
-            ended = places.run(
-                command.words, place, self.environment, max(0.0, until - time.monotonic())
-            )
+            words = command.words if follower is None else [*strace(), trace, *command.words]
+            ended = places.run(words, place, self.environment, max(0.0, until - time.monotonic()))
+            if follower is not None:
+                follower.follow(read_trace(Path(trace)))
             output += ended.output
             if ended.timed_out:
                 head = (
@@ -276,7 +355,7 @@ class Replay:
 
     def folders_of(self, trial: Trial) -> Iterator[str]:
         """The folders that are always there when a recipe begins."""
-        yield from self.world.given_folders
+        yield from self.world.given_folders & trial.known
         for name in trial.before:
             if os.path.dirname(name):
                 yield os.path.dirname(name)

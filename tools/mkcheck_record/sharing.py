@@ -6,6 +6,8 @@ that would have taken a file away, had it been there, counts as one that does: w
 another time, it is there. Where a pattern such as `*.o` matches nothing, the shell leaves it as it
 is, and the program gets it for a name.
 
+A folder that a recipe takes away and hadn't made is used by the recipes that made it, too.
+
 A file that a recipe looked for in vain and that another recipe makes counts as read: another time
 it is there, and the recipe may do something else.
 
@@ -23,9 +25,46 @@ from dataclasses import dataclass, field, replace
 from .faults import RecipeFault
 from .folders import is_plain_path
 from .footprints import Footprint, Warn, shown
-
+from .graphs import Graph
+from .late import Late, folders_of, key_of
+from .refusals import listed
 
 PATTERN = re.compile(r"[*?\[]")
+
+
+@dataclass
+class Makers:
+    """Targets by the names that their recipes make, be it for a moment."""
+
+    graph: Graph
+    makers: dict[str, set[str]] = field(default_factory=dict)
+    momentary: set[str] = field(default_factory=set)
+
+    def __post_init__(self) -> None:
+        self.ancestors = self.graph.ancestors()
+
+    def take(self, footprint: Footprint) -> None:
+        """Takes what a recipe makes."""
+        self.momentary |= footprint.scratch - footprint.lost - footprint.dropped
+        for name in (*footprint.writes, *(footprint.scratch & self.momentary)):
+            self.makers.setdefault(name, set()).add(footprint.recipe.target)
+
+    def others(self, footprint: Footprint, name: str) -> list[str]:
+        """The other recipes that make a name."""
+        return sorted(self.makers.get(name, set()) - {footprint.recipe.target})
+
+    def cure(self, target: str, names: list[str]) -> str:
+        """What helps a recipe that looks for what others make."""
+        makers = [self.makers[name] - {target} for name in names]
+        later = sorted(
+            one for others in makers for one in others if self.ancestors.any_before((target,), one)
+        )
+        if later:
+            return f"{later[0]} needs {target}, so let the recipe of {target} do without that"
+        needs = dict.fromkeys(
+            name if name in others else min(others) for name, others in zip(names, makers)
+        )
+        return f"let {target} need {listed(needs)}, and record again"
 
 
 @dataclass
@@ -39,10 +78,11 @@ class Uses:
     takers: dict[str, set[str]] = field(default_factory=dict)
     owners: dict[str, set[str]] = field(default_factory=dict)
 
-    def take(self, footprint: Footprint) -> None:
+    def take(self, footprint: Footprint, makers: Makers) -> None:
         """Takes what a recipe uses."""
         target = footprint.recipe.target
-        for name in {*footprint.scratch, *footprint.writes, *footprint.reads}:
+        used = {*footprint.scratch, *footprint.writes, *footprint.reads, *footprint.made}
+        for name in used | (footprint.sought & makers.momentary):
             for place in (name, *folders_of(name)):
                 self.users.setdefault(place, set()).add(target)
         for name in {*footprint.scratch, *footprint.writes}:
@@ -64,35 +104,69 @@ class Uses:
         return self.users.get(name, set()) - own
 
 
-def with_shared(footprints: list[Footprint], warn: Warn) -> list[Footprint]:
-    """The footprints, with shared names in the writes of each recipe that made or removed them."""
+def with_shared(
+    footprints: list[Footprint], graph: Graph, warn: Warn, late: Late | None = None
+) -> list[Footprint]:
+    """The footprints, with shared names in the writes of each recipe that made or removed them, and
+    in the reads of each that looked for them.
+
+    `late` has the late files of recipes, where a warning is to tell which the replay didn't test.
+    """
     footprints = with_matches(footprints)
-    uses = Uses()
+    uses, makers = Uses(), Makers(graph)
     for footprint in footprints:
-        uses.take(footprint)
-    makers: dict[str, set[str]] = {}
+        makers.take(footprint)
     for footprint in footprints:
-        for name in footprint.writes:
-            makers.setdefault(name, set()).add(footprint.recipe.target)
+        uses.take(footprint, makers)
+    if late is not None:
+        warn_of_untested(footprints, late, warn)
     found = [with_sought(footprint, makers, warn) for footprint in footprints]
     return [with_modes(with_own(footprint, uses, warn), uses, warn) for footprint in found]
 
 
-def with_sought(footprint: Footprint, makers: dict[str, set[str]], warn: Warn) -> Footprint:
-    """A footprint that reads too what it looked for in vain and another recipe makes."""
+def with_sought(footprint: Footprint, makers: Makers, warn: Warn) -> Footprint:
+    """A footprint that reads too what another recipe makes and what it looked at, looked for in
+    vain, or uses when it is there.
+    """
     target = footprint.recipe.target
     own = {*footprint.reads, *footprint.writes, *footprint.scratch, *footprint.missed}
-    found = []
-    for name in sorted(footprint.sought - own):
-        others = sorted(makers.get(name, set()) - {target})
-        if others:
-            found.append(name)
-            warn(
-                f"the recipe of {target} looks for {name}, which wasn't there yet and which the"
-                f" recipe of {others[0]} makes: another time it is there, so it counts as read. Let"
-                f" {target} need {name}, and record again"
-            )
-    return replace(footprint, reads=[*footprint.reads, *found])
+    sought = [name for name in sorted(footprint.sought - own) if makers.others(footprint, name)]
+    met = sorted(footprint.met - own - footprint.sought)
+    if sought:
+        warn_of_late(footprint, sought, f"looks for {listed(sought)}", makers, warn)
+    if met:
+        they = f"{listed(met)} {'is' if len(met) == 1 else 'are'}"
+        warn_of_late(footprint, met, f"does something else where {they} there", makers, warn)
+    seen = sorted(footprint.seen - own)
+    return replace(footprint, reads=[*footprint.reads, *sought, *met, *seen])
+
+
+def warn_of_late(
+    footprint: Footprint, names: list[str], verb: str, makers: Makers, warn: Warn
+) -> None:
+    """Warns of files that a recipe looks for and that others make later."""
+    target = footprint.recipe.target
+    others = sorted({other for name in names for other in makers.others(footprint, name)})
+    who = f"the recipe of {others[0]} makes" if len(others) == 1 else "other recipes make"
+    they = "it is there, so it counts" if len(names) == 1 else "they are there, so they count"
+    warn(
+        f"the recipe of {target} {verb}, which {who} later: with several jobs, or in another make,"
+        f" {they} as read; {makers.cure(target, names)}"
+    )
+
+
+def warn_of_untested(footprints: list[Footprint], late: Late, warn: Warn) -> None:
+    """Tells which recipes weren't run beside their late files."""
+    tested = {footprint.recipe.target: footprint.late for footprint in footprints}
+    found = {target: names for target, names in late.items() if tested[target] != key_of(names)}
+    if found:
+        one = len(found) == 1
+        example = next(iter(found.values()))[0]
+        warn(
+            f"the recipe{'' if one else 's'} of {listed(found)} listed folders, or looked for some,"
+            f" in which other recipes make files later, such as {example}: nothing tests whether"
+            f" {'it uses' if one else 'they use'} these"
+        )
 
 
 def with_matches(footprints: list[Footprint]) -> list[Footprint]:
@@ -102,6 +176,7 @@ def with_matches(footprints: list[Footprint]) -> list[Footprint]:
     for footprint in footprints:
         patterns = [name for name in footprint.missed if PATTERN.search(name)]
         missed = {name for name in written if any(matches(one, name) for one in patterns)}
+        missed |= footprint.taken
         missed.difference_update(footprint.writes, footprint.scratch)
         found.append(replace(footprint, missed=footprint.missed | missed))
     return found
@@ -125,7 +200,7 @@ def with_own(footprint: Footprint, uses: Uses, warn: Warn) -> Footprint:
         if others:
             shared.append(name)
             tell(footprint, name, told(sorted(others)), warn)
-    own = {*footprint.scratch, *footprint.writes}
+    own = {*footprint.scratch, *footprint.writes, *footprint.made}
     around = {*own, *(place for name in own for place in folders_of(name))}
     shared += sorted(name for name in around if uses.takers.get(name, set()) - {target})
     return replace(footprint, writes=list(dict.fromkeys([*footprint.writes, *shared])))
@@ -154,6 +229,10 @@ def tell(footprint: Footprint, name: str, others: str, warn: Warn) -> None:
     verb = "makes and takes away"
     if name in footprint.lost:
         verb = "takes away"
+    elif name in footprint.dropped:
+        verb = "takes away the folder"
+    elif name in footprint.taken:
+        verb = "would write or take away"
     elif name not in footprint.scratch:
         verb = "would take away"
     front = f"the recipe of {footprint.recipe.target} {verb} {shown(name)}, which {others} too"
@@ -165,14 +244,6 @@ def tell(footprint: Footprint, name: str, others: str, warn: Warn) -> None:
     warn(
         f"{front}: with several jobs they destroy each other's, so it counts as written by each"
     )
-
-
-def folders_of(name: str) -> Iterable[str]:
-    """The folders in which a name lies, within the project's or from the root on."""
-    while "/" in name:
-        name = name.rpartition("/")[0]
-        if name:
-            yield name
 
 
 def told(targets: list[str]) -> str:

@@ -20,7 +20,7 @@ from .graphs import Recipe
 from .versions import FILE, FOLDER, LINK, THERE, Version
 from .worlds import Effects, Trial, is_own
 
-FORMAT = 1
+FORMAT = 2
 DIGEST = re.compile(r"[0-9a-f]{64}")
 KINDS = (FILE, LINK, FOLDER, THERE, "pipe", "socket", "device")
 
@@ -150,6 +150,11 @@ class Writer:
             "lists": dict(entry.lists),
             "after": self.versions(entry.after),
             "made": list(entry.made),
+            "listed": sorted(own.listed),
+            "late": own.late,
+            "met": sorted(own.met),
+            "taken": sorted(own.taken),
+            "seen": sorted(own.seen),
             "warnings": list(entry.warnings),
         }
 
@@ -207,6 +212,12 @@ class Reader:
             frozenset(texts(entry["lost"])),
             texts(entry["links"]),
             sought=frozenset(texts(entry["sought"])),
+            made=frozenset(texts(entry["made"])),
+            listed=frozenset(texts(entry["listed"])),
+            late=text(entry["late"]),
+            met=frozenset(texts(entry["met"])),
+            taken=frozenset(texts(entry["taken"])),
+            seen=frozenset(texts(entry["seen"])),
         )
         after = self.versions(entry["after"])
         made = texts(entry["made"])

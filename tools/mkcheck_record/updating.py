@@ -18,6 +18,7 @@ from pathlib import Path
 from . import states, tracing
 from .footprints import Footprint, Warn
 from .graphs import Recipe
+from .late import Late, key_of
 from .places import Place
 from .states import Entry, State, Unusable
 from .trees import Tree
@@ -70,7 +71,8 @@ class Updating:
     """What an update knows and has found so far.
 
     `state` is what is believed of the recording before, if anything. `pending` are recipes that are
-    kept, and whose files aren't in the copy yet. `warnings` are those of this recording, by target.
+    kept, and whose files aren't in the copy yet. `warnings` are those of this recording, by target,
+    and `refused` are targets whose recipes aren't kept.
     """
 
     book: str
@@ -80,19 +82,37 @@ class Updating:
     pending: list[Entry] = field(default_factory=list)
     reused: dict[str, Entry] = field(default_factory=dict)
     warnings: dict[str, list[str]] = field(default_factory=dict)
+    refused: set[str] = field(default_factory=set)
     warn: Warn = print
 
     def begin(self, world: World) -> None:
-        """The copy is there now."""
+        """The copy is there now, for the first time or anew."""
+        self.pending.clear()
+        self.reused.clear()
+        self.warnings.clear()
         world.watching = True
         if self.state is not None:
             world.store = replace(world.store, older=states.path_of_store(self.book))
         self.world = world
 
+    def refuse(self, late: Late) -> bool:
+        """Refuses to keep recipes that weren't run beside these late files; tells whether there
+        were any, so that all has to be recorded once more.
+        """
+        found = {
+            target
+            for target, entry in self.reused.items()
+            if entry.footprint.late != key_of(late.get(target, ()))
+        }
+        self.refused |= found
+        return bool(found)
+
     def kept(self, recipe: Recipe) -> Footprint | None:
         """The footprint of a recipe that needn't run; its files count as written then."""
         world, entry = self.world, self.entry(recipe.target)
         if world is None or entry is None or entry.footprint.recipe != recipe:
+            return None
+        if recipe.target in self.refused:
             return None
         if not all(world.is_as_before(name, version) for name, version in entry.looks.items()):
             return None
@@ -154,8 +174,8 @@ class Updating:
         """Writes the state beside footprints that have just been written.
 
         `passed` has the targets whose replay showed nothing, or that had none, each with its
-        warnings. Another recipe has no entry, and so has one that gives a folder a mode: it is
-        recorded again next time.
+        warnings. Another recipe has no entry, and so has one that gives a folder a mode or takes
+        one away: it is recorded again next time.
         """
         assert self.world is not None
         trials = {trial.recipe.target: trial for trial in self.world.trials}
@@ -164,7 +184,7 @@ class Updating:
             target = footprint.recipe.target
             if target in self.reused:
                 entries[target] = self.reused[target]
-            elif target in passed and not footprint.owned:
+            elif target in passed and not footprint.owned and not footprint.dropped:
                 entries[target] = self.entry_of(footprint, trials[target], passed[target])
         state = State(
             self.conditions.salted(secrets.token_hex(16)), states.digest_of(text), entries

@@ -8,6 +8,7 @@ from dataclasses import dataclass, field
 
 from .faults import Fault
 from .graphs import Recipe
+from .late import Met
 from .replaying import AGAIN, BARE, DAMAGED, Outcome
 
 SHOWN_AT_MOST = 10
@@ -21,7 +22,7 @@ SETTINGS = {
 MEANINGS = {
     BARE: (
         "it depends on something that isn't recorded, such as the time, a random name, a process"
-        " number, a variable or a file that it only looks for"
+        " number, a variable, a source that it only looks at or the names in a folder"
     ),
     AGAIN: (
         "what it leaves depends on what was left before, so each make after the first may leave"
@@ -57,11 +58,14 @@ FAILURE_CURES = {
 
 @dataclass
 class Verdict:
-    """What the replays say: errors, warnings by target, and a line for each trusted recipe."""
+    """What the replays say: errors, warnings by target, a line for each trusted recipe, and what
+    recipes did beside their late files, by target.
+    """
 
     errors: list[str] = field(default_factory=list)
     warnings: dict[str, list[str]] = field(default_factory=dict)
     trusted: list[str] = field(default_factory=list)
+    met: dict[str, Met] = field(default_factory=dict)
 
     def warn(self, target: str, text: str) -> None:
         """Adds a warning of a recipe."""
@@ -90,6 +94,8 @@ def judge(
     verdict = Verdict()
     for outcome in outcomes:
         target = outcome.trial.recipe.target
+        if outcome.met is not None:
+            verdict.met[target] = outcome.met
         if target in trusted:
             verdict.trusted.append(said_of_trusted(outcome))
         elif outcome.run == AGAIN and outcome.failed and target in once:

@@ -26,7 +26,8 @@ class Effects:
     `gone` are files that it took away and hadn't made, `made` are folders that it made, `links` are
     those over which it went and that no recipe made, `others` what it left that is no file, such as
     pipes. `looked` are names at which it looked, be something there or not, `listed` are folders
-    whose names it read, and `owned` are others than `made` to which it gave a mode.
+    whose names it read, `owned` are others than `made` to which it gave a mode, and `dropped` are
+    folders that it took away and hadn't made.
     """
 
     reads: tuple[str, ...]
@@ -38,6 +39,7 @@ class Effects:
     looked: tuple[str, ...] = ()
     listed: tuple[str, ...] = ()
     owned: tuple[str, ...] = ()
+    dropped: tuple[str, ...] = ()
 
 
 @dataclass(frozen=True)
@@ -47,10 +49,13 @@ class Trial:
     `before` has the files of the project that it reads, as they were when it began, and `after`
     these and those that it wrote, as they were when it ended; None where nothing was there. `links`
     are the links over which it went and that no recipe made. `made` are folders that it made,
-    `known` all folders that were there when it ended. `begun` and `ended` are times of the clock.
+    `known` all folders that were there when it began or that it made. `begun` and `ended` are times
+    of the clock.
     `looks` has, where the world is watching, what stood at each name that it used or looked at
     before it began, and `lists` digests of the names in folders that it read. `modes` has those of
-    all folders as they were when it began, and `given` those that it gave to folders.
+    all folders as they were when it began, and `given` those that it gave to folders. `number` is
+    its place in the serial order. `looked` are names of the project at which it looked, and
+    `listed` its folders whose names it read.
     """
 
     recipe: Recipe
@@ -66,6 +71,13 @@ class Trial:
     lists: Mapping[str, str] = field(default_factory=dict)
     modes: Mapping[str, int] = field(default_factory=dict)
     given: Mapping[str, int] = field(default_factory=dict)
+    number: int = 0
+    looked: tuple[str, ...] = ()
+    listed: tuple[str, ...] = ()
+
+    def with_reads(self, reads: Mapping[str, Version]) -> Trial:
+        """The same recipe, recorded to read these too."""
+        return replace(self, before={**self.before, **reads}, after={**self.after, **reads})
 
     @property
     def seconds(self) -> float:
@@ -79,9 +91,11 @@ class World:
 
     `folder` is the project's, `place` where the recipes run; they are one where no copy was made.
     `begun` is the time of the clock when the copy was made. `inside` has the names in each folder
-    as they are now. `current` has the names that recipes wrote or took away, and `makers` the
-    folders that they made, each with the targets of these recipes. `modes` has those of folders:
-    one mapping, until a recipe changes it.
+    as they are now. `current` has the names that recipes wrote or took away, and `history`
+    what they left there, each with its place in the serial order, of which `count` have ended.
+    `makers` has the folders that they made, each with the
+    targets of these recipes, and `dropped` the folders that they took away and that aren't there
+    now. `modes` has those of folders: one mapping, until a recipe changes it.
     """
 
     folder: str
@@ -92,7 +106,10 @@ class World:
     given_links: dict[str, str] = field(default_factory=dict)
     inside: dict[str, set[str]] = field(default_factory=dict)
     current: dict[str, Version | None] = field(default_factory=dict)
+    history: dict[str, list[tuple[int, Version | None]]] = field(default_factory=dict)
+    count: int = 0
     makers: dict[str, list[str]] = field(default_factory=dict)
+    dropped: set[str] = field(default_factory=set)
     modes: Mapping[str, int] = field(default_factory=dict)
     trials: list[Trial] = field(default_factory=list)
     watching: bool = False
@@ -135,7 +152,11 @@ class World:
         new = {name: mode_of(os.path.join(self.place, name)) for name in made}
         if given or new:
             self.modes = {**modes, **given, **new}
+        number = self.count
         self.change(recipe.target, after, made)
+        known = self.given_folders.union(self.makers).difference(self.dropped)
+        for name in effects.dropped:
+            self.drop(name)
         trial = Trial(
             recipe,
             before,
@@ -143,13 +164,16 @@ class World:
             effects.writes,
             links,
             made,
-            self.given_folders.union(self.makers),
+            known,
             begun,
             time.time(),
             looks,
             lists,
             modes,
             given,
+            number,
+            tuple(filter(is_own, effects.looked)),
+            tuple(filter(is_own, effects.listed)),
         )
         self.trials.append(trial)
         return trial
@@ -188,14 +212,49 @@ class World:
     def change(self, target: str, after: Mapping[str, Version | None], made: Iterable[str]) -> None:
         """A recipe leaves these versions and makes these folders."""
         self.current.update(after)
+        for name, version in after.items():
+            self.history.setdefault(name, []).append((self.count, version))
+        self.count += 1
         for name in made:
             self.makers.setdefault(name, []).append(target)
+            self.dropped.discard(name)
             self.appear(name)
         for name, version in after.items():
             if version is not None:
                 self.appear(name)
             else:
                 self.inside.get(os.path.dirname(name), set()).discard(os.path.basename(name))
+
+    def drop(self, folder: str) -> None:
+        """A folder isn't there any more, until a recipe makes it again."""
+        self.dropped.add(folder)
+        self.inside.pop(folder, None)
+        self.inside.get(os.path.dirname(folder), set()).discard(os.path.basename(folder))
+
+    def noticed(self, trial: Trial, listed: bool) -> dict[str, Version]:
+        """Files that recipes before had made and at which a recipe looked, or, if `listed`, that
+        lay in a folder that it listed.
+        """
+        names = [name for name in trial.looked if name in self.history]
+        if listed:
+            folders = {"" if folder == "." else folder for folder in trial.listed}
+            names += [name for name in self.history if os.path.dirname(name) in folders]
+        found = {name: self.made_before(name, trial.number) for name in dict.fromkeys(names)}
+        return {
+            name: version
+            for name, version in found.items()
+            if version is not None and version.kind in (FILE, LINK) and name not in trial.after
+        }
+
+    def made_before(self, name: str, number: int) -> Version | None:
+        """What recipes before this one left at a name."""
+        left = [version for count, version in self.history[name] if count < number]
+        return left[-1] if left else None
+
+    def first_made(self, name: str) -> Version | None:
+        """What stood at a name when a recipe first made it."""
+        left = (version for _, version in self.history.get(name, ()))
+        return next((version for version in left if version is not None), None)
 
     def appear(self, name: str) -> None:
         """A name is there now, and with it the folders above it."""
@@ -219,7 +278,8 @@ class World:
 
     def is_folder(self, name: str) -> bool:
         """Whether a name is that of a folder now."""
-        return name in self.inside or name in self.makers or name in self.given_folders
+        known = name in self.makers or name in self.given_folders
+        return name in self.inside or (known and name not in self.dropped)
 
     def version(
         self, name: str, changed: Mapping[str, Version | None] | None = None
