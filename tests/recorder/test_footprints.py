@@ -10,6 +10,10 @@ from project import ProjectTest, compiled, traced
 MAIN = '#include "a.h"\nint main(void) { return A; }\n'
 EMPTY = "int main(void) { return 0; }\n"
 COPY = "b: a\n\tcp a b\n"
+LINKS = (
+    "over a symbolic link: to mkcheck these are two files, so let rules and recipes use one name"
+)
+TWINS = "which are one file: mkcheck takes them for two, so let rules and recipes use one name"
 
 
 @traced
@@ -206,7 +210,7 @@ class ShellTest(ProjectTest):
         outcome = self.recorded()
         self.assertEqual(outcome.own("d/x"), ({"s/x", "s/t/y"}, {"d/x", "d/t/y"}))
         away = [
-            f"the recipe of d/x takes away {name}, which it didn't make"
+            f"the recipe of d/x takes away {name}, which it didn't make: let it leave that there"
             for name in ("s/t/y", "s/x")
         ]
         self.assertEqual(outcome.warnings(), away)
@@ -243,7 +247,7 @@ class ShellTest(ProjectTest):
         self.assertEqual(outcome.own("l"), (set(), {"l"}))
         self.assertEqual(outcome.own("out"), ({"l", "a"}, {"out"}))
         self.assertEqual(
-            outcome.warnings(), ["the recipe of out reaches a as l too, over a symbolic link"]
+            outcome.warnings(), [f"the recipe of out reaches a as l too, {LINKS}"]
         )
         self.assertEqual(self.check()[1:], ["way out l written out l", "way out a source out l"])
 
@@ -259,14 +263,14 @@ class ShellTest(ProjectTest):
         self.assertEqual(outcome.own("out"), ({"s/a.h"}, {"out"}))
         self.assertEqual(
             outcome.warnings(),
-            ["the recipe of out reaches s/a.h as i/a.h too, over a symbolic link"],
+            [f"the recipe of out reaches s/a.h as i/a.h too, {LINKS}"],
         )
 
     def test_a_second_name_of_a_file(self) -> None:
         self.write({"makefile": "b: a\n\tln a b\n", "a": ""})
         outcome = self.recorded()
         self.assertEqual(outcome.own("b"), ({"a"}, {"b"}))
-        self.assertEqual(outcome.warnings(), ["the recipe of b uses a and b, which are one file"])
+        self.assertEqual(outcome.warnings(), [f"the recipe of b uses a and b, {TWINS}"])
 
     def test_a_second_name_that_another_recipe_uses(self) -> None:
         self.write(
@@ -280,7 +284,7 @@ class ShellTest(ProjectTest):
         )
         os.link(self.folder / "a", self.folder / "b")
         os.link(self.folder / "s" / "c", self.folder / "d")
-        told = ["the recipe of y uses b, and that of x a, which are one file"]
+        told = [f"the recipe of y uses b, and that of x a, {TWINS}"]
         for words in ((), ("--in-place",), ("--again",)):
             outcome = self.recorded(*words)
             self.assertEqual(outcome.own("y"), ({"b"}, {"y"}))
@@ -289,7 +293,7 @@ class ShellTest(ProjectTest):
     def test_a_second_name_that_a_recipe_makes_for_others(self) -> None:
         self.write({"makefile": "x: a b\n\tcat b > x\nb: a\n\tln a b\n", "a": ""})
         self.assertEqual(
-            self.recorded().warnings(), ["the recipe of b uses a and b, which are one file"]
+            self.recorded().warnings(), [f"the recipe of b uses a and b, {TWINS}"]
         )
 
     def test_names_that_are_one_file_no_more(self) -> None:
@@ -304,7 +308,7 @@ class ShellTest(ProjectTest):
         (self.folder / "b").unlink()
         os.link(self.folder / "a", self.folder / "b")
         outcome = self.recorded("--again")
-        self.assertIn("the recipe of x uses a and b, which are one file", outcome.warnings())
+        self.assertIn(f"the recipe of x uses a and b, {TWINS}", outcome.warnings())
         self.assertEqual((self.folder / "a").read_text(), "")
 
     def test_a_link_of_the_project_that_another_recipe_uses(self) -> None:
@@ -318,14 +322,17 @@ class ShellTest(ProjectTest):
         outcome = self.recorded()
         self.assertEqual((outcome.own("x"), outcome.own("y")), (({"s/a"}, {"x"}), ({"s/a"}, {"y"})))
         self.assertEqual(
-            outcome.warnings(), ["the recipe of y reaches s/a as i/a too, over a symbolic link"]
+            outcome.warnings(), [f"the recipe of y reaches s/a as i/a too, {LINKS}"]
         )
 
     def test_a_file_that_is_taken_away(self) -> None:
         self.write({"makefile": "b: a\n\tmv a b\n", "a": ""})
         outcome = self.recorded()
         self.assertEqual(outcome.own("b"), ({"a"}, {"b"}))
-        self.assertEqual(outcome.warnings(), ["the recipe of b takes away a, which it didn't make"])
+        self.assertEqual(
+            outcome.warnings(),
+            ["the recipe of b takes away a, which it didn't make: let it leave that there"],
+        )
 
     def test_commands_of_more_lines_and_prefixes(self) -> None:
         self.write(

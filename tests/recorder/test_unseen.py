@@ -293,7 +293,8 @@ class ScratchTest(Refusals):
             self.assertEqual(
                 outcome.warnings(),
                 [
-                    "the recipe of b takes away the folder d, which it didn't make",
+                    "the recipe of b takes away the folder d, which it didn't make: let it leave"
+                    " that there",
                     f"the recipe of b takes away the folder d, {uses}{end}",
                 ],
             )
@@ -929,7 +930,7 @@ class ProcessTest(Refusals):
                 self.recorded("--fixed", os.path.dirname(os.path.dirname(python))).warnings(),
                 [
                     f"the recipe of out asks the socket {path}: what that does or answers isn't"
-                    " recorded"
+                    " recorded, so no make notices where it changes; let the recipe do without it"
                 ],
             )
         self.write({"makefile": f"out: ask\n\t{python} -IB ask own own; rm own\n"})

@@ -58,6 +58,8 @@ LOOKS_IN_VAIN: dict[str, tuple[int | None, int]] = {
     **dict.fromkeys(("unlink", "rmdir", "rename"), (None, 0)),
     **dict.fromkeys(("unlinkat", "renameat", "renameat2"), (0, 1)),
 }
+# How many arguments of a look tell the name.
+NAMES_AT_MOST = 2
 # Calls that take a name away. Where nothing stands there, or a folder that isn't empty, they fail,
 # and yet another time they might not: these failures are kept.
 REMOVALS = ("unlink", "unlinkat", "rmdir", "rename", "renameat", "renameat2")
@@ -91,6 +93,8 @@ SUPERSEDED = re.compile(r"\+\+\+ superseded by execve in pid (\d+) \+\+\+$")
 # Stops by a signal, and a note on programs for another processor.
 NOTE = re.compile(r"--- .* ---$|\[ .* \]$")
 UNFINISHED = " <unfinished ...>"
+# A look at what a descriptor has open, as C's fstat is one.
+OF_DESCRIPTOR = re.compile(r'(?:newfstatat|fstatat64|statx)\(\d+(?:<[^<>]*>)?, "", ')
 # The end of a call that failed, was interrupted and begins anew, or never returned. Names can't
 # look like it: they stand in quotes or in `<>`, and what follows those in a call that succeeded is
 # none of this.
@@ -193,6 +197,8 @@ class Trace:
     def take(self, process: int, text: str) -> None:
         """A call, or a part of one."""
         order = self.lines
+        if OF_DESCRIPTOR.match(text) and not text.endswith(UNFINISHED):
+            return
         if text.endswith(UNFINISHED):
             if process in self.pending or not BEGUN.match(text):
                 raise cut(text)
@@ -218,7 +224,7 @@ class Trace:
         name, error = begun.group(1), failed.group(1) or ""
         removes = name in REMOVALS and error in (NOTHING_THERE, *NOT_EMPTY)
         if removes or (self.looking and name in (*LOOKS, *LOOKS_IN_VAIN)):
-            arguments, _ = split(text, begun.end())
+            arguments, _ = split(text, begun.end(), NAMES_AT_MOST)
             self.found.append(Call(self.lines, process, name, tuple(arguments), error, True))
 
     def keep(self, call: Call) -> None:
@@ -265,6 +271,9 @@ def call_of(began: int, ended: int, process: int, text: str) -> Call | None:
         raise cut(text)
     if text[-1] in ")?" and FAILED.search(text, max(0, len(text) - 160)):
         return None
+    if name.group(1) in LOOKS and text.endswith(") = 0"):
+        arguments, _ = split(text, name.end(), NAMES_AT_MOST)
+        return Call(ended, process, name.group(1), tuple(arguments), "0")
     arguments, end = split(text, name.end())
     if not RESULT.match(text, end):
         raise cut(text)
@@ -272,8 +281,8 @@ def call_of(began: int, ended: int, process: int, text: str) -> Call | None:
     return Call(order, process, name.group(1), tuple(arguments), text[end:].lstrip()[2:])
 
 
-def split(text: str, start: int) -> tuple[list[str], int]:
-    """The arguments from a place on, and where the bracket that closes them ends."""
+def split(text: str, start: int, most: int = 0) -> tuple[list[str], int]:
+    """The arguments from a place on, at most so many if that isn't 0, and where they end."""
     arguments: list[str] = []
     current: list[str] = []
     depth = 0
@@ -282,7 +291,7 @@ def split(text: str, start: int) -> tuple[list[str], int]:
         if depth == 0 and piece in ",)":
             arguments.append("".join(current).strip())
             current = []
-            if piece == ")":
+            if piece == ")" or len(arguments) == most:
                 return arguments, part.end()
             continue
         if piece in "([{":

@@ -16,6 +16,7 @@ from .trees import Tree
 
 Warn = Callable[[str], None]
 TOLD_AT_MOST = 10
+TWINS = "which are one file: mkcheck takes them for two, so let rules and recipes use one name"
 # Some file systems keep stamps by two seconds.
 COARSE = 2_500_000_000
 SECOND = 1_000_000_000
@@ -109,7 +110,7 @@ def footprint_of(recipe: Recipe, accesses: Accesses, naming: Naming, warn: Warn)
     for path in lost:
         warn(
             f"the recipe of {recipe.target} takes away {naming.name(path) or path}, which it didn't"
-            " make"
+            " make: let it leave that there"
         )
     here = set(written)
     dropped = [path for path in accesses.dropped if is_gone(path, accesses)]
@@ -117,7 +118,7 @@ def footprint_of(recipe: Recipe, accesses: Accesses, naming: Naming, warn: Warn)
     for path in dropped:
         warn(
             f"the recipe of {recipe.target} takes away the folder {naming.name(path) or path},"
-            " which it didn't make"
+            " which it didn't make: let it leave that there"
         )
     gone = [
         path
@@ -134,7 +135,8 @@ def footprint_of(recipe: Recipe, accesses: Accesses, naming: Naming, warn: Warn)
         warn_of_twins(recipe, tree, naming, path, warn)
     for server in accesses.servers:
         warn(
-            f"the recipe of {recipe.target} asks {server}: what that does or answers isn't recorded"
+            f"the recipe of {recipe.target} asks {server}: what that does or answers isn't"
+            " recorded, so no make notices where it changes; let the recipe do without it"
         )
     return Footprint(
         recipe,
@@ -269,7 +271,7 @@ def warn_of_links(recipe: Recipe, accesses: Accesses, naming: Naming, warn: Warn
             )
             warn(
                 f"the recipe of {recipe.target} reaches {second} as {first} too, over a symbolic"
-                " link"
+                " link: to mkcheck these are two files, so let rules and recipes use one name"
             )
 
 
@@ -330,7 +332,7 @@ def warn_of_twins(recipe: Recipe, tree: Tree, naming: Naming, path: str, warn: W
         name, other_name, target = naming.name(path), naming.name(other), users[other]
         own = f"the recipe of {recipe.target} uses"
         if target == recipe.target:
-            warn(f"{own} {other_name} and {name}, which are one file")
+            warn(f"{own} {other_name} and {name}, {TWINS}")
         else:
-            warn(f"{own} {name}, and that of {target} {other_name}, which are one file")
+            warn(f"{own} {name}, and that of {target} {other_name}, {TWINS}")
     users.setdefault(path, recipe.target)
