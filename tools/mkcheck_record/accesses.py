@@ -197,9 +197,13 @@ class Accesses:
             self.looked.setdefault(path)
 
     def seek(self, name: str) -> None:
-        """The recipe looks for a file that isn't there and that it didn't take away itself."""
+        """The recipe looks for a file that isn't there and that it didn't take away itself.
+
+        One that is there was looked for over a folder that isn't.
+        """
         path, _ = self.tree.follow(name)
-        if path not in self.touched and path not in self.folders:
+        known = path in self.tree.there or path in self.tree.folders
+        if not known and path not in self.touched and path not in self.folders:
             self.sought.setdefault(path)
 
     def reach(self, name: str) -> str:
