@@ -263,10 +263,9 @@ class Replay:
         Where it does something else and opens none of them, it may use any.
         """
         folders = {folder for name in late for folder in folders_of(name)}
-        for folder in sorted(folders):
-            os.makedirs(os.path.join(place.folder, folder), exist_ok=True)
         for name in late:
-            self.stand_in(name, os.path.join(place.folder, name))
+            with contextlib.suppress(OSError):
+                self.stand_in(name, os.path.join(place.folder, name))
         laid = stamps_of(trial, place.folder)
         accesses = Accesses(Tree.of(place))
         try:
@@ -275,7 +274,8 @@ class Replay:
             failed = "its trace ends before it does"
         paths = {name: os.path.join(place.seen, name) for name in late}
         taken = frozenset(name for name, path in paths.items() if path in accesses.touched)
-        read = frozenset(name for name, path in paths.items() if path in accesses.reads)
+        opened = {*accesses.reads, *accesses.over}
+        read = frozenset(name for name, path in paths.items() if path in opened)
         if taken or read:
             return Met(read - taken, taken)
         changed = (one.name for one in self.compared(trial, place.folder, laid))
@@ -285,6 +285,7 @@ class Replay:
     def stand_in(self, name: str, path: str) -> None:
         """Puts something at the path of a late file: of its kind and mode, and empty if it is."""
         version = self.world.first_made(name)
+        os.makedirs(os.path.dirname(path), exist_ok=True)
         if os.path.lexists(path) or version is None:
             return
         if version.kind == LINK:

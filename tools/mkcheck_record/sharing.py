@@ -130,8 +130,10 @@ def with_sought(footprint: Footprint, makers: Makers, warn: Warn) -> Footprint:
     """
     target = footprint.recipe.target
     own = {*footprint.reads, *footprint.writes, *footprint.scratch, *footprint.missed}
-    sought = [name for name in sorted(footprint.sought - own) if makers.others(footprint, name)]
-    met = sorted(footprint.met - own - footprint.sought)
+    wanted = sorted((footprint.sought | footprint.met) - own)
+    wanted = [name for name in wanted if makers.others(footprint, name)]
+    sought = [name for name in wanted if name in footprint.sought]
+    met = [name for name in wanted if name not in footprint.sought]
     if sought:
         warn_of_late(footprint, sought, f"looks for {listed(sought)}", makers, warn)
     if met:
