@@ -196,6 +196,9 @@ class Build:
     tried: set[str] = field(default_factory=set)
     """Recipes and folders, as `RECIPE FOLDER`: the recipe does the same without the folder."""
 
+    looked: dict[str, list[str]] = field(default_factory=dict)
+    """For each recipe the folders at which it looked, of those that the build makes."""
+
     blind: set[str] = field(default_factory=set)
     """Targets without a recipe that another recipe writes, and that the tool doesn't look at again
     then; what needs them only waits for them. Known when the recording is there."""
