@@ -19,6 +19,7 @@ from mkcheck_import.builds import (  # noqa: E402
 )
 from mkcheck_import.database import read_database  # noqa: E402
 from mkcheck_import.gnumake import Make, is_harmless, options_of  # noqa: E402
+from mkcheck_import.judging import PROGRESS  # noqa: E402
 from mkcheck_import.ordering import Order  # noqa: E402
 from mkcheck_import.plain import makefile, quoted, shell_text  # noqa: E402
 from mkcheck_import.recursion import is_only_makes, without_makes  # noqa: E402
@@ -171,6 +172,16 @@ class TranscriptTest(unittest.TestCase):
         ):
             with self.subTest(line):
                 self.assertEqual(prefix_of(line, values), prefix)
+
+
+class ProgressTest(unittest.TestCase):
+    """What the recorder says of its progress, which is left out where it fails."""
+
+    def test_lines(self) -> None:
+        for line in ("[9/20 0:17 left] x.o: cc -c x.c", "[replay 21/30 1:00:07 left] y", "[1/2] x"):
+            self.assertTrue(PROGRESS.match(line), line)
+        for line in ("mkcheck-record: no strace", "[a]", "\tx [1/2] y", "[1/2 of it] x"):
+            self.assertFalse(PROGRESS.match(line), line)
 
 
 class WordsTest(unittest.TestCase):

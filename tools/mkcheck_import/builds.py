@@ -176,6 +176,9 @@ class Build:
     """Files of the project that were written when it was configured: they never change, and aren't
     sources."""
 
+    generators: dict[str, str] = field(default_factory=dict)
+    """The tools that wrote makefiles when the project was configured."""
+
     makefiles: set[str] = field(default_factory=set)
     """Makefiles with commands or macros that no rule of their make makes: where a recipe writes
     one, the build isn't the same after it."""

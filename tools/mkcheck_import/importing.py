@@ -210,6 +210,8 @@ class Import:
         """Marks the files of a configure step that are there before the build."""
         found = configured_files(self.judge.place.folder, self.asked.configured)
         self.build.configured |= found.files
+        origins = {node.origin.makefile for node in self.build.nodes.values() if node.origin}
+        self.build.generators = {name: found.tools[name] for name in origins & found.files}
         for text in found.notes:
             self.build.note(text)
 

@@ -23,6 +23,8 @@ LATER = "makefile"
 # What orders recipes in the first build and in later ones; only asked for races.
 BETWEEN = "makefile.between"
 NODES_AT_MOST = 4096
+# How far a recorder is.
+PROGRESS = re.compile(r"\[(?:\w+ )?\d+/\d+(?: [\d:]+ left)?\] ")
 
 
 @dataclass(frozen=True)
@@ -184,7 +186,8 @@ class Judge:
         words = [*recorder, "-f", self.path(name), "-C", self.place.seen, how, book]
         status, said, errors = run_here(self.place, words, self.environment)
         if status != 0:
-            raise RecordingFault(said + errors)
+            lines = (said + errors).splitlines(keepends=True)
+            raise RecordingFault("".join(line for line in lines if not PROGRESS.match(line)))
         return errors
 
     def looks(self, names: set[str]) -> dict[str, list[str]]:
