@@ -127,7 +127,8 @@ class Trial:
             more = [name for name in users.get(waiting.pop(), []) if name not in varied]
             varied.update(more)
             waiting += more
-        for makefile, number, line in self.lines:
+        for makefile, number, text in self.lines:
+            line = text.replace("$$", "")
             directive = DIRECTIVE.match(line)
             if directive is None and FUNCTION.search(line) is None:
                 continue
