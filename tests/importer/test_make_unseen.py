@@ -260,7 +260,8 @@ class ReadingTest(UnseenTestCase):
         self.mode("flag := $(shell if grep -q debug mode; then echo -g; fi)\n")
         self.refused("the commands of x depend on mode, which make reads")
         self.mode('flag := $(shell if test "$$(cat mode)" = debug; then echo -g; fi)\n')
-        self.refused("make reads mode beside its makefiles, and whether commands depend on it isn't")
+        sentence = "make reads mode beside its makefiles, and whether commands depend on it isn't"
+        self.refused(sentence)
 
     def test_condition_that_asks_for_nothing(self) -> None:
         """An empty file is tried."""
@@ -284,7 +285,15 @@ class ReadingTest(UnseenTestCase):
         self.assertEqual(
             self.left({"list": "a\n", "b": "c\n"}, "x"), ["a\nb\n", "a\nc\n"]
         )
-        self.refused("the commands of x depend on list")
+        sentence = (
+            "    Makefile:2: what x needs depends on list, which make reads beside its makefiles"
+            " (b), and its commands don't, so they may read what it doesn't need when list changes;"
+        )
+        self.refused(sentence)
+        # It runs again when the list changes, and not when the other file does later.
+        makefile = self.folder / "Makefile"
+        makefile.write_text(makefile.read_text() + "x: list\n")
+        self.refused(sentence)
 
     def test_link_to_a_folder(self) -> None:
         self.version()

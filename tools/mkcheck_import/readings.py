@@ -73,6 +73,9 @@ class Readings:
     """The rules whose commands are others when a file says something else: the make, the rule, what
     differs and the file."""
 
+    needs: list[tuple[Make, Rule, str, str]] = field(default_factory=list)
+    """The same of rules whose prerequisites alone are others."""
+
     hidden: dict[str, str] = field(default_factory=dict)
     """The files on which commands may depend, though no contents that were tried show it: for each
     the sentence."""
@@ -195,8 +198,9 @@ class Readings:
         before = trial.before[0].makes
         for said in asked:
             self.found += [(*one, name) for one in changed(before, said.makes)]
-            self.found += [(*one, name) for one in other_needs(before, said.makes)]
-        if not any(has_run(make) for said in asked for make in said.makes):
+            self.needs += [(*one, name) for one in other_needs(before, said.makes)]
+        asked = [said for said in asked if any(map(has_run, said.makes))]
+        if not asked:
             self.sentences.append(
                 f"make reads {name} beside its makefiles, and whether commands depend on it"
                 " couldn't be tried, since make refuses other contents"
@@ -232,6 +236,15 @@ class Readings:
                 f" its makefiles ({what}), and make doesn't run them again when {file} changes; let"
                 f" what they make need {file}"
             )
+        for make, rule, words, file in self.needs:
+            where, name = place_of(self.copies.seen, make, rule)
+            if file not in met:
+                met[file] = {}
+                build.problem(
+                    f"{where}: what {name} needs depends on {file}, which make reads beside its"
+                    f" makefiles ({words}), and its commands don't, so they may read what it"
+                    f" doesn't need when {file} changes; write out what it needs"
+                )
         for file, text in self.hidden.items():
             if file not in met and not all_need(build, file):
                 build.problem(text)

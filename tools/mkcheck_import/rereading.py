@@ -172,7 +172,7 @@ def other_needs(used: list[Make], asked: list[Make]) -> list[tuple[Make, Rule, s
                 texts = [[command.text for command in rule.commands] for rule in (one, other)]
                 if is_run and texts[0] == texts[1] and set(one.needs) != set(other.needs):
                     words = sorted(set(one.needs) ^ set(other.needs))
-                    found.append((old, one, f"what they need: {short(' '.join(words))}"))
+                    found.append((old, one, short(" ".join(words))))
     return found
 
 

@@ -115,13 +115,14 @@ class Trial:
         """Where a makefile compares a macro that has other values with some contents; empty where
         none does. That a macro may be empty was tried where it was."""
         values = [macros(said.makes) for said in [*self.before, *asked]]
-        steady = {name for name in values[0] if values[0][name] == values[1].get(name)}
-        varied = {name for name in steady if any(one.get(name) != values[0][name] for one in values)}
+        first = values[0]
+        steady = {name for name in first if first[name] == values[1].get(name)}
+        varied = {name for name in steady if any(one.get(name) != first[name] for one in values)}
         emptied = {name for name in varied if any(not one.get(name, "").strip() for one in values)}
         waiting = list(varied)
         users: dict[str, list[str]] = {}
         for name in steady:
-            for word in references(values[0][name]):
+            for word in references(first[name]):
                 users.setdefault(word, []).append(name)
         while waiting:
             more = [name for name in users.get(waiting.pop(), []) if name not in varied]
