@@ -24,6 +24,10 @@ from trials import Tally, Trial
 
 HERE = Path(__file__).resolve().parent
 ROOT = HERE.parents[1]
+sys.path.insert(0, str(ROOT / "tools"))
+
+from orders import Orders  # It needs the modules of the importer.
+
 PROJECTS = HERE / "projects.json"
 COUNTS = HERE / "counts.json"
 STEP = re.compile(r"mkcheck-import: (\w+) +([0-9.]+) s")
@@ -42,6 +46,8 @@ class Outcome:
     seconds: dict[str, float] = field(default_factory=dict)
     stale: Tally = field(default_factory=Tally)
     ways: Tally = field(default_factory=Tally)
+    races: Tally = field(default_factory=Tally)
+    writers: Tally = field(default_factory=Tally)
     trouble: str = ""
     """What couldn't be done, in a sentence."""
 
@@ -138,6 +144,33 @@ def try_project(
     outcome.ways = trial.try_ways(ways, samples, name)
 
 
+def try_orders(
+    project: dict[str, object],
+    archive: Archive,
+    folder: Path,
+    output: Path,
+    samples: int,
+    outcome: Outcome,
+    lines: list[str],
+) -> None:
+    """Tries a sample of the races and of the files with two writers, where make builds."""
+    races = [line for line in lines if line.startswith("no race ")]
+    writers = [line for line in lines if line.startswith("no writers ")]
+    words = [str(word) for word in project["build"]]
+    if not (races or writers) or words[0] != "make":
+        return
+
+    def renew() -> None:
+        lay_configured(archive, folder)
+
+    scratch = archive.cache / "orders"
+    scratch.mkdir(exist_ok=True)
+    orders = Orders(folder, words, output, scratch)
+    renew()
+    outcome.writers = orders.try_writers(writers, samples, outcome.name)
+    outcome.races = orders.try_races(races, samples, outcome.name, renew)
+
+
 def other_reads(book: dict[str, object], stale: list[str]) -> list[str]:
     """A no prints no ways: so the reads of sources that aren't stale stand for them."""
     sources = set(book["sources"])
@@ -154,15 +187,21 @@ def other_reads(book: dict[str, object], stale: list[str]) -> list[str]:
 def prepare(project: dict[str, object], archive: Archive, folder: Path, again: bool) -> None:
     """Unpacks and configures a project; `again` takes what an earlier run left configured."""
     kept = archive.cache / "configured" / folder.name
-    shutil.rmtree(folder, ignore_errors=True)
     if not (again and kept.exists()):
+        shutil.rmtree(folder, ignore_errors=True)
         description = archive.fetch(str(project["package"]), str(project["version"]))
         archive.unpack(description, folder, bool(project.get("patched", True)))
         configure(project, folder)
         shutil.rmtree(kept, ignore_errors=True)
         kept.parent.mkdir(exist_ok=True)
         folder.rename(kept)
-    shutil.copytree(kept, folder, symlinks=True)
+    lay_configured(archive, folder)
+
+
+def lay_configured(archive: Archive, folder: Path) -> None:
+    """Lays down a project as it was configured, in place of what is there."""
+    shutil.rmtree(folder, ignore_errors=True)
+    shutil.copytree(archive.cache / "configured" / folder.name, folder, symlinks=True)
 
 
 def do_project(
@@ -178,6 +217,7 @@ def do_project(
         outcome, lines = import_project(project, folder, output, asked.option)
         if outcome.status in (0, 1) and asked.samples:
             try_project(project, folder, output, asked.samples, outcome, lines)
+            try_orders(project, archive, folder, output, asked.samples, outcome, lines)
     except (FetchFault, RuntimeError, OSError, ValueError) as fault:
         outcome.trouble = str(fault)
     if not asked.keep:
@@ -191,14 +231,15 @@ def row(outcome: Outcome) -> list[str]:
     """The words of a project's line in the table."""
     found = ", ".join(f"{count} {kind}" for kind, count in sorted(outcome.findings.items())) or "-"
     seconds = [f"{outcome.seconds[step]:.1f}" if step in outcome.seconds else "-" for step in STEPS]
-    tried = [str(outcome.stale), str(outcome.ways)]
+    tried = [str(one) for one in (outcome.stale, outcome.ways, outcome.races, outcome.writers)]
     cells = [outcome.name, outcome.kind, str(outcome.recipes), outcome.answer, found]
     return [*cells, *tried, *seconds]
 
 
 def print_table(outcomes: list[Outcome]) -> None:
     """Prints a line for each project."""
-    heads = ["project", "kind", "recipes", "answer", "findings", "stale true", "ways true", *STEPS]
+    trues = [f"{kind} true" for kind in ("stale", "ways", "races", "writers")]
+    heads = ["project", "kind", "recipes", "answer", "findings", *trues, *STEPS]
     rows = [heads, *map(row, outcomes)]
     widths = [max(len(cells[at]) for cells in rows) for at in range(len(heads))]
     for cells in rows:
@@ -208,7 +249,8 @@ def print_table(outcomes: list[Outcome]) -> None:
 def differences(outcome: Outcome, expected: object) -> list[str]:
     """What is wrong with an outcome, in sentences."""
     found = [f"{outcome.name}: {outcome.trouble}"] if outcome.trouble else []
-    for kind, tally in (("finding", outcome.stale), ("way", outcome.ways)):
+    findings = [("finding", one) for one in (outcome.stale, outcome.races, outcome.writers)]
+    for kind, tally in (*findings, ("way", outcome.ways)):
         found += [f"{outcome.name}: a {kind} is false: {line}" for line in tally.false]
     if expected is None:
         found.append(f"{outcome.name}: {outcome.counts()}, and no counts are stored")

@@ -38,6 +38,18 @@ class ConfiguredTest(NinjaFolderTest):
         expected = "8 files in out that CMake wrote when it configured are taken as never changing"
         self.assertEqual(notes, [expected])
 
+    def test_meson(self) -> None:
+        """Meson's own files are, but neither configured headers nor files of other folders."""
+        own = ["out/build.ninja", "out/compile_commands.json", "out/meson-info/intro-tests.json"]
+        own += ["out/meson-private/coredata.dat", "out/meson-private/meson_exe_a.dat"]
+        others = ["out/config.h", "out/meson-private/a.c", "build.ninja", "out/sub/build.ninja"]
+        self.write({name: "" for name in [*own, *others, "meson.build"]})
+        self.assertEqual(self.files(), sorted(own))
+        found = configured_files(str(self.folder))
+        expected = "5 files in out that Meson wrote when it configured are taken as never changing"
+        self.assertEqual(found.notes, [expected])
+        self.assertEqual(found.tools["out/build.ninja"], "Meson")
+
     def test_config_status(self) -> None:
         """Makefiles, stamps and lists of prerequisites are, but neither headers nor scripts."""
         own = [

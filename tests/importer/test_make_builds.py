@@ -81,6 +81,24 @@ class PlainTest(MakeFolderTest):
         self.assertEqual(answer.status, 0, answer.output + answer.errors)
         self.try_answer(answer)
 
+    def test_makefile_that_a_tool_wrote(self) -> None:
+        """A line that is added to it is lost when somebody configures again."""
+        self.write(
+            {
+                "Makefile": "x: a\n\tcat a b > x\n",
+                "config.status": 'config_files=" Makefile"\n',
+                "a": "a\n",
+                "b": "b\n",
+            }
+        )
+        answer = self.imported()
+        self.assertEqual(answer.findings, ["no stale x b"])
+        self.assertIn(
+            "Add to Makefile (config.status writes it, so say it in Makefile.am or Makefile.in):\n"
+            "    x: b\n",
+            answer.output,
+        )
+
     def test_findings_of_one_sentence(self) -> None:
         """The first line counts findings, and says how many sentences tell of them."""
         self.write(

@@ -3,8 +3,10 @@
 from __future__ import annotations
 
 import sys
+import tempfile
 import unittest
 from pathlib import Path
+from types import SimpleNamespace
 
 sys.path.insert(0, str(Path(__file__).resolve().parents[2] / "tools"))
 
@@ -17,14 +19,16 @@ from mkcheck_import.builds import (  # noqa: E402
     Setting,
     path_name,
 )
-from mkcheck_import.database import read_database  # noqa: E402
+from mkcheck_import.database import Database, read_database  # noqa: E402
 from mkcheck_import.gnumake import Make, is_harmless, options_of  # noqa: E402
+from mkcheck_import.judging import PROGRESS  # noqa: E402
 from mkcheck_import.ordering import Order  # noqa: E402
 from mkcheck_import.plain import makefile, quoted, shell_text  # noqa: E402
 from mkcheck_import.recursion import is_only_makes, without_makes  # noqa: E402
 from mkcheck_import.saving import build_of_text, text_of_build  # noqa: E402
 from mkcheck_import.transcripts import MARK, prefix_of, read_transcript  # noqa: E402
 from mkcheck_import.translating import Translation  # noqa: E402
+from mkcheck_import.trying import Said, Trial  # noqa: E402
 
 # As GNU make 4.3 prints it, shortened.
 BASE = """
@@ -171,6 +175,67 @@ class TranscriptTest(unittest.TestCase):
         ):
             with self.subTest(line):
                 self.assertEqual(prefix_of(line, values), prefix)
+
+
+class ProgressTest(unittest.TestCase):
+    """What the recorder says of its progress, which is left out where it fails."""
+
+    def test_lines(self) -> None:
+        for line in ("[9/20 0:17 left] x.o: cc -c x.c", "[replay 21/30 1:00:07 left] y", "[1/2] x"):
+            self.assertTrue(PROGRESS.match(line), line)
+        for line in ("mkcheck-record: no strace", "[a]", "\tx [1/2] y", "[1/2 of it] x"):
+            self.assertFalse(PROGRESS.match(line), line)
+
+
+class ConditionTest(unittest.TestCase):
+    """Lines of makefiles that compare a macro whose value comes from a file."""
+
+    def place(self, text: str, value: str = "V = 1\nW = x$(V)", *others: str) -> str:
+        """Where a makefile compares `V` or `W`, which have these values, and others with other
+        contents of a file."""
+
+        def said(values: str) -> Said:
+            pairs = dict(line.split(" = ") for line in values.splitlines())
+            return Said([SimpleNamespace(base=Database(values=pairs))], [])
+
+        with tempfile.TemporaryDirectory() as folder:
+            Path(folder, "Makefile").write_text(text)
+            trial = Trial(folder, {"Makefile"}, set(), lambda is_confined: [])
+            trial.__dict__["before"] = [said(value), said(value)]
+            return trial.conditional([said(one) for one in others or ("V = 2\nW = x$(V)",)])
+
+    def test_conditions(self) -> None:
+        for line in (
+            "ifeq ($(V),1)",
+            "else ifneq (${V}, 2)",
+            "F = $(if $V,a)",
+            "F = $(filter 1,$(W))",
+            "F = $(F_$(V))",
+            "include $(V).mk",
+            "-include a \\\n $(W).mk",
+            "\techo $(shell test $(V) = 1)",
+            "ifdef W",
+        ):
+            self.assertEqual(self.place(f"\n{line}\nx:\n"), "Makefile:2", line)
+
+    def test_plain_uses(self) -> None:
+        for line in (
+            "F = $(V) $(subst 1,2,$(W)) $(patsubst %,a,$(V))",
+            "\techo $$($(SED) -n $(V)) | $(F)",
+            "V := $(shell cat file)",
+            "ifeq ($(F),1)",
+            "F = $(if $(G),a)",
+        ):
+            self.assertEqual(self.place(f"\n{line}\nx:\n"), "", line)
+
+    def test_emptiness(self) -> None:
+        """That a macro is empty was tried, where it was."""
+        tried = "V = 1\nW = 1", "V = \nW = 2"
+        for line in ("ifeq ($(V),)", "ifneq (,$(V)) # it is there", 'ifeq "$(V)" ""', "ifdef V"):
+            self.assertEqual(self.place(f"\n{line}\nx:\n", *tried), "", line)
+            self.assertEqual(self.place(f"\n{line}\nx:\n"), "Makefile:2", line)
+        self.assertEqual(self.place("ifeq ($(W),)\n", *tried), "Makefile:1")
+        self.assertEqual(self.place("ifeq ($(V),1)\n", *tried), "Makefile:1")
 
 
 class WordsTest(unittest.TestCase):

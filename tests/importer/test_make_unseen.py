@@ -116,6 +116,37 @@ class WhileReadingTest(UnseenTestCase):
         self.assertEqual(self.left({"b": "2\n"}, "x"), ["a\n1\n", "a\n"])
         self.refused("    version: it is made when make reads its makefiles")
 
+    def test_from_an_output_that_is_alike_once(self) -> None:
+        """A build leaves it as it was, and a later one doesn't."""
+        self.write(
+            {
+                "Makefile": "$(shell if grep -q z y 2> /dev/null; then echo 1; else echo 0; fi"
+                " > version)\nall: x y\n.PHONY: all\n"
+                "x: a version\n\tcat a version > x\ny: b\n\tcp b y\n",
+                "a": "a\n",
+                "b": "b\n",
+            }
+        )
+        built = self.built()
+        self.edit(built, {"b": "z\n"})
+        for left in ("a\n0\n", "a\n1\n"):
+            time.sleep(0.02)  # The clock of the file system is that coarse.
+            self.run_make(built, "")
+            self.assertEqual((built / "x").read_text(), left)
+        self.refused("    version: it is made when make reads its makefiles")
+
+    def test_from_a_file_that_is_there_later(self) -> None:
+        """Nothing is read of it: make only looks whether it is there."""
+        self.write(
+            {
+                "Makefile": "$(shell test -f y; echo 0 > version)\nall: x y\n.PHONY: all\n"
+                "x: a version\n\tcat a version > x\ny: b\n\tcp b y\n",
+                "a": "a\n",
+                "b": "b\n",
+            }
+        )
+        self.refused("    version: it is made when make reads its makefiles")
+
     def test_each_time(self) -> None:
         self.write(
             {
@@ -169,8 +200,112 @@ class ReadingTest(UnseenTestCase):
         self.refused("the commands of x depend on version")
 
     def test_without_a_part(self) -> None:
-        self.version(".PHONY: $(shell cat notes > /dev/null)\nx: version\n", notes="1\n2\n")
+        self.version("unused := $(shell cat notes)\nx: version\n", notes="1\n2\n")
         self.accepted()
+
+    def test_without_an_effect(self) -> None:
+        """Where nothing changes with other contents, these may be the wrong ones."""
+        self.version(".PHONY: $(shell cat notes > /dev/null)\nx: version\n", notes="1\n2\n")
+        sentence = (
+            "make reads notes beside its makefiles, and whether commands depend on it isn't known,"
+            " since make has the same macros and rules with all other contents that were tried;"
+            " let all that is made need notes, or let a recipe read it"
+        )
+        self.refused(sentence)
+        more = "unused := $(shell cat notes > /dev/null)\nx y: version notes\n"
+        self.version(more, notes="1\n2\n")
+        self.accepted()
+
+    def mode(self, lines: str, needs: str = "") -> None:
+        """A flag that `lines` set, where the file `mode` holds `debug`."""
+        self.write(
+            {
+                "Makefile": f"{lines}x: a {needs}\n\techo $(flag) > x; cat a >> x\n",
+                "a": "a\n",
+                "mode": "release\n",
+            }
+        )
+        left = "\na\n" if not needs else "-g\na\n"
+        self.assertEqual(self.left({"mode": "debug\n"}, "x"), [left, "-g\na\n"])
+
+    def test_condition(self) -> None:
+        lines = "mode := $(shell cat mode)\nifeq ($(mode),debug)\nflag := -g\nendif\n"
+        self.mode(lines)
+        self.refused(
+            "    Makefile:2: a condition depends on mode, which make reads beside its makefiles,"
+            " and whether it has a part in commands was tried for a few contents alone; let all"
+            " that is made need mode"
+        )
+        self.mode(lines, "mode")
+        self.accepted()
+
+    def test_condition_of_a_function(self) -> None:
+        mode = "mode := $(shell cat mode)\n"
+        self.mode(mode + "flag = $(if $(filter debug,$(mode)),-g)\n")
+        self.refused("the commands of x depend on mode, which make reads")
+        self.mode(mode + "flag = $(if $(filter debug,$(word 1,$(mode))),-g)\n")
+        self.refused("    Makefile:2: a condition depends on mode")
+        self.mode(mode + "flag_debug := -g\nflag = $(flag_$(mode))\n")
+        self.refused("    Makefile:3: a condition depends on mode")
+
+    def test_condition_of_a_macro_behind_it(self) -> None:
+        self.mode(
+            "file := $(shell cat mode)\nmode = x$(file)\n"
+            "ifeq ($(mode),xdebug)\nflag := -g\nendif\n"
+        )
+        self.refused("    Makefile:3: a condition depends on mode")
+
+    def test_condition_of_the_shell(self) -> None:
+        """A word that the makefile names is tried; a whole file can't be guessed."""
+        self.mode("flag := $(shell if grep -q debug mode; then echo -g; fi)\n")
+        self.refused("the commands of x depend on mode, which make reads")
+        self.mode('flag := $(shell if test "$$(cat mode)" = debug; then echo -g; fi)\n')
+        sentence = "make reads mode beside its makefiles, and whether commands depend on it isn't"
+        self.refused(sentence)
+
+    def test_condition_that_asks_for_nothing(self) -> None:
+        """An empty file is tried."""
+        self.version("ifeq ($(v),)\n$(warning no version)\nendif\nx: version\n")
+        self.accepted()
+
+    def test_confined(self) -> None:
+        """What make does with other contents harms nothing."""
+        kept = self.scratch / "kept"
+        kept.mkdir()
+        (kept / "file").write_text("")
+        command = f"case $(v) in (1.0) ;; (*) rm -rf '{kept}';; esac"
+        self.version(f"u := $(shell {command})\nx y: version\n")
+        self.imported()
+        self.assertTrue((kept / "file").exists())
+
+    def test_prerequisites_alone(self) -> None:
+        """The commands read what the list doesn't name any more."""
+        self.write({"Makefile": "x: $(shell cat list)\n\tcat a b > x\n", "list": "a\nb\n"})
+        self.write({"a": "a\n", "b": "b\n"})
+        self.assertEqual(
+            self.left({"list": "a\n", "b": "c\n"}, "x"), ["a\nb\n", "a\nc\n"]
+        )
+        sentence = (
+            "    Makefile:2: what x needs depends on list, which make reads beside its makefiles"
+            " (b), and its commands don't, so they may read what it doesn't need when list changes;"
+        )
+        self.refused(sentence)
+        # It runs again when the list changes, and not when the other file does later.
+        makefile = self.folder / "Makefile"
+        makefile.write_text(makefile.read_text() + "x: list\n")
+        self.refused(sentence)
+
+    def test_link_to_a_folder(self) -> None:
+        self.version()
+        (self.folder / "version").unlink()
+        self.write({"v1/file": "1\n", "v2/file": "2\n"})
+        (self.folder / "version").symlink_to("v1")
+        makefile = self.folder / "Makefile"
+        makefile.write_text(makefile.read_text().replace("cat version", "readlink version"))
+        self.refused("make reads version beside its makefiles, and whether commands depend on it")
+        makefile.write_text(makefile.read_text().replace("readlink version", "cat version/file"))
+        self.write({"v1/file": "1\n"})
+        self.refused("the commands of x depend on v1/file")
 
     def test_list_of_files(self) -> None:
         self.write(
@@ -195,7 +330,11 @@ class ReadingTest(UnseenTestCase):
         self.version(version="#!/bin/sh\necho 1.0\n")
         makefile = self.folder / "Makefile"
         makefile.write_text(makefile.read_text().replace("cat version", "./version"))
-        self.accepted()
+        self.assertIn(
+            "    make starts version when it reads its makefiles: what make starts so counts as a"
+            " makefile, so import again when it changes\n",
+            self.accepted().output,
+        )
 
     def test_link(self) -> None:
         self.version()
@@ -236,7 +375,12 @@ class ReadingTest(UnseenTestCase):
 
     def test_contents_that_make_refuses(self) -> None:
         self.version("x: version\n$(if $(filter 1.0,$v),,$(error no))\n")
-        self.refused("make reads version beside its makefiles, and whether commands depend on it")
+        self.refused("    Makefile:9: a condition depends on version")
+        self.version("x: version\n$(if $(filter-out 1.0,$v)$(if $v,,no),$(error no))\n")
+        self.refused(
+            "make reads version beside its makefiles, and whether commands depend on it couldn't be"
+            " tried, since make refuses other contents"
+        )
 
 
 @can_judge
@@ -386,6 +530,19 @@ class ChangedCommandsTest(UnseenTestCase):
         self.assertEqual(self.left({"sub/a": "b\n"}, "sub/x"), ["x\nb\n", "\nb\n"])
         self.refused("sub/Makefile:2: after a build make has other commands for sub/x")
 
+    def test_target_that_needs_what_a_makefile_is_made_from(self) -> None:
+        self.write(
+            {
+                "Makefile": "all: x y\n.PHONY: all\ny: b\n\tcp b y\n"
+                "x: conf\n\tcat conf $(wildcard y) > x\n"
+                "gen.mk: conf\n\techo > gen.mk\ninclude gen.mk\n",
+                "b": "b\n",
+                "conf": "c\n",
+            }
+        )
+        self.assertEqual(self.left({"conf": "d\n"}, "x"), ["d\nb\n", "d\n"])
+        self.refused("Makefile:6: after a build make has other commands for x: `cat conf y > x`")
+
     def test_clock(self) -> None:
         self.write({"Makefile": "x: a\n\tcp a x; : $(shell date +%N)\n", "a": "a\n"})
         self.refused("Makefile:2: after a build make has other commands for x")
@@ -463,6 +620,17 @@ class FolderTest(UnseenTestCase):
         self.looks("look | a", "./look")
         self.assertEqual(self.left({"a.in": "no\n"}, "b"), ["with\n", "without\n"])
         self.refused(self.SENTENCE)
+
+    def test_program(self) -> None:
+        """Neither the command nor a script names the folder: what a program looks at is traced."""
+        self.looks("look | a", "sh look")
+        (self.folder / "look").chmod(0o644)
+        self.assertEqual(self.left({"a.in": "no\n"}, "b"), ["with\n", "without\n"])
+        self.refused(self.SENTENCE)
+        self.imported("--only", "translate", "--build")
+        self.imported("--only", "record", keep=True)
+        answer = self.imported("--only", "check", keep=True)
+        self.assertIn("whether what the recipe of b writes depends on the folder d", answer.output)
 
     def test_not_ordered(self) -> None:
         self.looks("", "[ -d d ] && cat b.in > b || echo without > b")

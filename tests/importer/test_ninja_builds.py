@@ -545,6 +545,25 @@ class NotTranslatedTest(NinjaFolderTest):
         self.assertIn(["b", "s", "source", "b", "a"], answer.ways)
         self.try_answer(answer)
 
+    def test_symbols_of_a_library(self) -> None:
+        """Meson lets ninja link a program again when these are others, and only then."""
+        self.write(
+            {
+                "build.ninja": COPY
+                + "rule SHSYM\n  command = : symbolextractor; head -n 1 $in > t;"
+                " cmp -s t $out || cp t $out\n  restat = 1\n"
+                "build a.so: copy s\nbuild a.sym: SHSYM a.so\nbuild b: copy c | a.sym\n"
+                "  more = a.so\n",
+                "s": "s\nt\n",
+                "c": "c\n",
+            }
+        )
+        answer = self.answer()
+        self.assertEqual(answer.findings, ["no stale b a.so"])
+        note = "is Meson's: programs are linked again only when the symbols of a.so change"
+        self.assertTrue(any(note in text for text in answer.notes), answer.notes)
+        self.try_answer(answer)
+
     def test_restat_without_a_comparison(self) -> None:
         """A command that leaves an output as it is, whatever its input says, isn't judged."""
         lines = COPY + "rule keep\n  command = {} || cp $in $out\n  restat = 1\n"

@@ -176,6 +176,9 @@ class Build:
     """Files of the project that were written when it was configured: they never change, and aren't
     sources."""
 
+    generators: dict[str, str] = field(default_factory=dict)
+    """The tools that wrote makefiles when the project was configured."""
+
     makefiles: set[str] = field(default_factory=set)
     """Makefiles with commands or macros that no rule of their make makes: where a recipe writes
     one, the build isn't the same after it."""
@@ -195,6 +198,9 @@ class Build:
 
     tried: set[str] = field(default_factory=set)
     """Recipes and folders, as `RECIPE FOLDER`: the recipe does the same without the folder."""
+
+    looked: dict[str, list[str]] = field(default_factory=dict)
+    """For each recipe the folders at which it looked, of those that the build makes."""
 
     blind: set[str] = field(default_factory=set)
     """Targets without a recipe that another recipe writes, and that the tool doesn't look at again

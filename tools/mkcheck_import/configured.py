@@ -24,6 +24,8 @@ OF_CMAKE = (
     "DartConfiguration.tcl",
     "compile_commands.json",
 )
+# What Meson writes beside `build.ninja`, for itself.
+OF_MESON = ("meson-private", "meson-info", "meson-logs")
 CMAKE_HEADING = b"# CMAKE generated file: DO NOT EDIT!"
 # What a compiler could read is a source, wherever it lies.
 SOURCES = ("*.h", "*.hh", "*.hpp", "*.hxx", "*.inc", "*.c", "*.cc", "*.cpp", "*.cxx", "*.m", "*.s")
@@ -39,11 +41,14 @@ class Configured:
 
     files: set[str] = field(default_factory=set)
     notes: list[str] = field(default_factory=list)
+    tools: dict[str, str] = field(default_factory=dict)
+    """The tool that wrote each."""
 
     def add(self, names: Iterable[str], tool: str, folder: str) -> None:
         """Adds what a tool wrote in a folder, and says so."""
         found = set(names) - self.files
         self.files |= found
+        self.tools.update((name, tool) for name in found)
         if found:
             self.notes.append(
                 f"{count(found, 'file')} in {folder} that {tool} wrote when it configured"
@@ -57,7 +62,8 @@ def count(found: set[str], noun: str) -> str:
 
 
 def configured_files(root: str, asked: Iterable[str] = ()) -> Configured:
-    """The files that CMake or config.status wrote, and all files in the folders that are asked for.
+    """The files that CMake, Meson or config.status wrote, and all files in the folders that are
+    asked for.
 
     The folders are paths from the root. A file that a rule makes may be among the files.
     """
@@ -73,6 +79,11 @@ def configured_files(root: str, asked: Iterable[str] = ()) -> Configured:
         if base == "CMakeCache.txt":
             below = [one for one in files if is_below(one, folder)]
             found.add((one for one in below if is_of_cmake(root, one)), "CMake", folder or ".")
+        elif base == "coredata.dat" and os.path.basename(folder) == OF_MESON[0]:
+            folder = os.path.dirname(folder)
+            below = [one for one in files if is_below(one, folder)]
+            own = (one for one in below if is_of_meson(os.path.relpath(one, folder or ".")))
+            found.add(own, "Meson", folder or ".")
         elif base == "config.status":
             below = [one for one in files if is_below(one, folder)]
             found.add(of_config_status(root, folder, below), "config.status", folder or ".")
@@ -108,6 +119,13 @@ def is_of_cmake(root: str, name: str) -> bool:
             return file.read(len(CMAKE_HEADING)) == CMAKE_HEADING
     except OSError:
         return False
+
+
+def is_of_meson(path: str) -> bool:
+    """Whether Meson wrote a file for itself or for ninja, by its path from the build folder."""
+    if any(fnmatch.fnmatchcase(path.lower(), pattern) for pattern in SOURCES):
+        return False
+    return path in ("build.ninja", "compile_commands.json") or path.split("/")[0] in OF_MESON
 
 
 def of_config_status(root: str, folder: str, below: list[str]) -> set[str]:

@@ -12,6 +12,7 @@ Three handles, none of which changes a makefile:
 
 from __future__ import annotations
 
+import functools
 import os
 import re
 import shlex
@@ -110,7 +111,7 @@ class Make:
         flags = re.match(r"[A-Za-z]*", self.environment.get("MAKEFLAGS", ""))
         return flags is not None and "i" in flags.group()
 
-    @property
+    @functools.cached_property
     def key(self) -> tuple[object, ...]:
         """Makes with one key know the same rules and macros."""
         options = tuple(word for word in options_of(self.words) if not is_harmless(word))

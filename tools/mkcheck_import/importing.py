@@ -34,6 +34,11 @@ STEPS = ("read", "translate", "graph", "record", "check")
 # The translation, for steps that are done one at a time.
 SAVED = "translation.json"
 OUTPUT = ("makefile", FIRST, "footprint.json", "map.json", "import.log", SAVED)
+# What the recorder says of what the translation knows already, and of its own state.
+OF_RECORDER = re.compile(
+    r"warning: GNU make makes \S+ from \S+ by a built-in rule|.*\.state isn't there:"
+    r"|\d+ of \d+ recipes were recorded"
+)
 MAKEFILES = ("GNUmakefile", "makefile", "Makefile")
 
 
@@ -205,6 +210,8 @@ class Import:
         """Marks the files of a configure step that are there before the build."""
         found = configured_files(self.judge.place.folder, self.asked.configured)
         self.build.configured |= found.files
+        origins = {node.origin.makefile for node in self.build.nodes.values() if node.origin}
+        self.build.generators = {name: found.tools[name] for name in origins & found.files}
         for text in found.notes:
             self.build.note(text)
 
@@ -223,7 +230,9 @@ class Import:
         words += [word for target in self.trusted() for word in ("--trust", target)]
         words += ["--no-replay"] if self.asked.no_replay else []
         recorder = [sys.executable, str(self.recorder()), *words]
-        text = self.judge.record(recorder, self.has_first)
+        folders = {name.rstrip("/") for name in self.build.made if name.endswith("/")}
+        text = self.judge.record(recorder, self.has_first, bool(folders))
+        self.build.looked = self.judge.looks(folders) if folders else {}
         front = "mkcheck-record: "
         lines = [line for line in text.splitlines() if line.startswith(front)]
         self.log += lines
@@ -244,7 +253,7 @@ class Import:
         Dependency files that a configure step left empty are there before, and recipes write them.
         Built-in rules of GNU make stand in the translation where make uses them.
         """
-        if re.match(r"warning: GNU make makes \S+ from \S+ by a built-in rule", warning):
+        if OF_RECORDER.match(warning):
             return True
         found = re.match(r"warning: (\S+) was there before, and a recipe writes it", warning)
         return found is not None and found.group(1) in self.build.configured

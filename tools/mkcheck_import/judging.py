@@ -10,6 +10,8 @@ from pathlib import Path
 
 from mkcheck_record.faults import Fault
 from mkcheck_record.places import Place
+from mkcheck_record.states import Unusable, path_of_state
+from mkcheck_record.states import read as read_state
 
 from .builds import Build
 from .copies import run_here
@@ -21,6 +23,8 @@ LATER = "makefile"
 # What orders recipes in the first build and in later ones; only asked for races.
 BETWEEN = "makefile.between"
 NODES_AT_MOST = 4096
+# How far a recorder is.
+PROGRESS = re.compile(r"\[(?:\w+ )?\d+/\d+(?: [\d:]+ left)?\] ")
 
 
 @dataclass(frozen=True)
@@ -172,16 +176,33 @@ class Judge:
         """Asks mkcheck, in the folder of the project."""
         return run_here(self.place, [self.mkcheck, *words], self.environment)
 
-    def record(self, recorder: list[str], first: bool) -> str:
-        """Records the build; gives what the recorder said."""
+    def record(self, recorder: list[str], first: bool, looking: bool) -> str:
+        """Records the build, with the names at which recipes look where that is asked for; gives
+        what the recorder said."""
         book = self.path("footprint.json")
-        Path(book).unlink(missing_ok=True)
-        name = FIRST if first else LATER
-        words = [*recorder, "-f", self.path(name), "-C", self.place.seen, "-o", book]
+        for path in (book, path_of_state(book)):
+            Path(path).unlink(missing_ok=True)
+        name, how = FIRST if first else LATER, "--update" if looking else "-o"
+        words = [*recorder, "-f", self.path(name), "-C", self.place.seen, how, book]
         status, said, errors = run_here(self.place, words, self.environment)
         if status != 0:
-            raise RecordingFault(said + errors)
+            lines = (said + errors).splitlines(keepends=True)
+            raise RecordingFault("".join(line for line in lines if not PROGRESS.match(line)))
         return errors
+
+    def looks(self, names: set[str]) -> dict[str, list[str]]:
+        """At which of these names each recipe looked, where that was recorded."""
+        book = self.path("footprint.json")
+        try:
+            state = read_state(path_of_state(book), Path(book).read_text(encoding="utf-8"))
+        except Unusable as why:
+            raise Fault(f"what recipes looked at {why}: import again") from None
+        back = {word: name for name, word in self.names().written.items() if "\0" not in name}
+        found = {
+            back.get(target, target): sorted(names & {*entry.looks, *entry.lists})
+            for target, entry in state.entries.items()
+        }
+        return {target: looked for target, looked in found.items() if looked}
 
     def read_book(self) -> Footprints:
         """The footprints, their targets and files named as nodes are."""

@@ -35,6 +35,8 @@ from .rereading import changed, is_dependency_file, place_of, touch_sources
 from .translating import Translation
 
 ENOUGH = (4, 0)
+# How long make may take to say what it would do.
+SECONDS_TO_ASK = 600
 
 
 @dataclass
@@ -202,12 +204,21 @@ class MakeBuild:
             for make in [*self.shown, *self.built, *self.after]
             for text in make.makefiles
         }
-        self.readings = Readings(self.copies, self.shown, makefiles, ask)
+        self.readings = Readings(self.copies, makefiles, self.read_made, self.ask_about)
+        top = os.path.normpath(os.path.join(self.copies.seen, self.folder))
+        if self.read_again:
+            # Of a file that is made from an output nothing is known when it comes out alike once.
+            place = self.copies.place("built")
+            if self.readings.outputs_used(self.program, place, top, self.words, made):
+                self.read_again.clear()
         place = self.copies.place("asked")
-        top = os.path.normpath(os.path.join(place.seen, self.folder))
         self.readings.try_all(self.program, place, top, self.words)
         self.ask_unseen(made)
         return counted(sum(rule.ran for rule in all_rules(self.built)), "recipe")
+
+    def ask_about(self, is_confined: bool) -> list[Make]:
+        """Asks make what it would do in the copy in which files are changed for that."""
+        return self.run("asked", False, seconds=SECONDS_TO_ASK if is_confined else None)
 
     def ask_unseen(self, made: set[str]) -> None:
         """Names what can't be asked of makes that `make -n` doesn't start. `made` has the files

@@ -172,6 +172,12 @@ def try_restat(
             " when nothing changed. Then ninja doesn't build what needs that; so a change of what"
             " the command reads counts as reaching its outputs alone, and it isn't replayed"
         )
+        if "symbolextractor" in edge.value("command"):
+            build.note(
+                f"{where} is Meson's: programs are linked again only when the symbols of"
+                f" {edge.inputs[0]} change, so that they aren't made again when its other contents"
+                " change is on purpose"
+            )
     else:
         build.note(f"{where} has `restat`; its command was seen to always write its outputs")
 

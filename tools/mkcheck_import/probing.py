@@ -98,15 +98,16 @@ class Probing:
             )
 
     def met(self, node: Node, record: Record) -> list[str]:
-        """The folders that a recipe names, where it uses no file in them, and doesn't always run
-        when their makers do."""
+        """The folders that a recipe names or looks at, where it uses no file in them, and doesn't
+        always run when their makers do."""
         used = [*record.reads, *record.writes]
-        words = self.words_of(node, record)
+        words, looked = self.words_of(node, record), self.build.looked.get(record.target, [])
         found = []
         for name in self.folders:
             if name == node.name:
                 continue
-            if is_named(name, words) and not any(file.startswith(name + "/") for file in used):
+            is_met = name in looked or is_named(name, words)
+            if is_met and not any(file.startswith(name + "/") for file in used):
                 makers = self.makers(name) - {record.target}
                 if not makers or not makers <= followed(self.build, node.name):
                     found.append(name)

@@ -8,9 +8,8 @@ from __future__ import annotations
 
 import os
 import re
-from collections.abc import Callable, Iterator
+from collections.abc import Callable
 from dataclasses import dataclass, field
-from pathlib import Path
 
 from mkcheck_record import tracing
 from mkcheck_record.accesses import Accesses, Follower
@@ -23,7 +22,8 @@ from .builds import Build, Kind, path_name
 from .copies import Copies
 from .database import Rule
 from .gnumake import Make, outer_environment, own_environment
-from .rereading import changed, place_of
+from .rereading import changed, other_needs, place_of
+from .trying import Trial
 
 SKIPPED = re.compile(r"(.*/)?\.(git|hg|svn|mkcheck)/")
 TRIED_AT_MOST = 24
@@ -33,48 +33,106 @@ UNKNOWN = "whether commands depend on files that make reads beside its makefiles
 
 @dataclass
 class Reader(Follower):
-    """Follows what make does when it reads its makefiles. `programs` are those that it starts."""
+    """Follows what make does when it reads its makefiles. `programs` are those that it starts,
+    `links` those to folders whose text is read, and `looked` the names at which programs look."""
 
     programs: set[str] = field(default_factory=set)
+    links: dict[str, None] = field(default_factory=dict)
+    looked: set[str] = field(default_factory=set)
 
     def started(self, call: Call, name: str) -> None:
         """A program is started."""
         self.programs.add(self.accesses.reach(name))
         super().started(call, name)
 
+    def looked_into(self, link: str) -> None:
+        """The text of a link is read."""
+        super().looked_into(link)
+        if link in self.accesses.over:
+            self.links.setdefault(link)
+
+    def looked_at(self, call: Call) -> None:
+        """A name is looked at. A make itself looks at all that it may have to make."""
+        self.accesses.looked = {}
+        super().looked_at(call)
+        if call.process not in self.makers:
+            self.looked.update(self.accesses.looked)
+
 
 @dataclass
 class Readings:
-    """Tries whether commands depend on such files, in a copy. `run` asks make there.
-    `makefiles` has the names of all that makes read as their makefiles."""
+    """Tries whether commands depend on such files, in a copy. `run` asks make there, and is told
+    whether that is to be confined. `makefiles` has the names of all that makes read as their
+    makefiles, and `written` the files that they write then."""
 
     copies: Copies
-    shown: list[Make]
     makefiles: set[str]
-    run: Callable[[], list[Make]]
+    written: set[str]
+    run: Callable[[bool], list[Make]]
     found: list[tuple[Make, Rule, str, str]] = field(default_factory=list)
     """The rules whose commands are others when a file says something else: the make, the rule, what
     differs and the file."""
 
+    needs: list[tuple[Make, Rule, str, str]] = field(default_factory=list)
+    """The same of rules whose prerequisites alone are others."""
+
+    hidden: dict[str, str] = field(default_factory=dict)
+    """The files on which commands may depend, though no contents that were tried show it: for each
+    the sentence."""
+
+    programs: set[str] = field(default_factory=set)
+    """The programs of the project that make starts."""
+
     sentences: list[str] = field(default_factory=list)
     """What couldn't be tried."""
 
-    def read_in(
-        self, program: str, place: Place, folder: str, words: list[str], more: dict[str, str]
-    ) -> list[str]:
-        """The files of the project that a make reads in a place and that are no makefiles. `more`
-        are further variables of its environment."""
+    def follow(
+        self,
+        program: str,
+        place: Place,
+        folder: str,
+        words: list[str],
+        more: dict[str, str],
+        looking: bool = False,
+    ) -> Reader:
+        """Lets a make read its makefiles in a place, and follows it. `more` are further variables
+        of its environment, and `looking` says whether it is followed at which names it looks."""
         scratch = os.path.join(self.copies.scratch, "traced")
         os.makedirs(scratch, exist_ok=True)
         enter = 'cd "$1" && shift && exec "$@"'
         command = ["/bin/sh", "-c", enter, "sh", folder, program, "-n", "-k", "-j1", *words]
-        tree = Tree.of(place)
-        traced = tracing.run(command, place, {**outer_environment(), **more}, scratch)
-        reader = Reader(Accesses(tree), place.seen)
-        reader.follow(traced.calls)
+        reader = Reader(Accesses(Tree.of(place)), place.seen)
+        environment = {**outer_environment(), **more}
+        reader.follow(tracing.run(command, place, environment, scratch, looking=looking).calls)
+        return reader
+
+    def read_in(
+        self, program: str, place: Place, folder: str, words: list[str], more: dict[str, str]
+    ) -> list[str]:
+        """The files and links of the project that a make reads in a place and that are no
+        makefiles."""
+        reader = self.follow(program, place, folder, words, more)
+        programs = {path_name(place.seen, place.seen, path) for path in reader.programs}
+        self.programs |= {name for name in programs if self.is_own(place, name)}
         paths = [path for path in reader.accesses.reads if path not in reader.programs]
         names = dict.fromkeys(path_name(place.seen, place.seen, path) for path in paths)
-        return [name for name in names if self.is_data(place, name)]
+        links = [path_name(place.seen, place.seen, path) for path in reader.links]
+        links = [name for name in links if name not in names and not SKIPPED.match(name)]
+        return [*(name for name in names if self.is_data(place, name)), *links]
+
+    def outputs_used(
+        self, program: str, place: Place, folder: str, words: list[str], made: set[str]
+    ) -> set[str]:
+        """The files among `made` that a make reads in a place beside its makefiles, or that
+        programs look at which it starts then."""
+        try:
+            reader = self.follow(program, place, folder, words, {}, looking=True)
+        except Fault as fault:
+            self.sentences.append(f"{UNKNOWN}: {fault}")
+            return set()
+        paths = [*reader.accesses.reads, *reader.looked]
+        names = {path_name(place.seen, place.seen, path) for path in paths}
+        return {name for name in (names & made) - self.makefiles if self.is_own(place, name)}
 
     def try_all(self, program: str, place: Place, folder: str, words: list[str]) -> None:
         """Finds the files that make reads in a place, and tries each."""
@@ -96,8 +154,10 @@ class Readings:
                 f" and whether commands depend on them was tried for {TRIED_AT_MOST}; let fewer be"
                 " read"
             )
-        for name in names[:TRIED_AT_MOST]:
-            self.try_one(os.path.join(place.folder, name), name)
+        if names:
+            trial = Trial(place.folder, self.makefiles, self.written, self.run)
+            for name in names[:TRIED_AT_MOST]:
+                self.try_one(trial, name)
 
     def name_unseen(self, program: str, place: Place, makes: list[Make], words: list[str]) -> None:
         """Names what other makes read that `make -n` doesn't start, in a place where all that they
@@ -119,33 +179,44 @@ class Readings:
                     " its name: start it by $(MAKE)"
                 )
 
+    def is_own(self, place: Place, name: str) -> bool:
+        """Whether a name is that of a file of the project."""
+        return (
+            not name.startswith("/")
+            and SKIPPED.match(name) is None
+            and os.path.isfile(os.path.join(place.folder, name))
+        )
+
     def is_data(self, place: Place, name: str) -> bool:
         """Whether a name is that of a file of the project which is no makefile and no script."""
-        path = os.path.join(place.folder, name)
-        if name.startswith("/") or SKIPPED.match(name) or not os.path.isfile(path):
-            return False
-        return name not in self.makefiles and not is_script(path)
+        is_own = self.is_own(place, name) and name not in self.makefiles
+        return is_own and not is_script(os.path.join(place.folder, name))
 
-    def try_one(self, path: str, name: str) -> None:
+    def try_one(self, trial: Trial, name: str) -> None:
         """Asks make what it would do if a file said something else."""
-        before = Path(path).read_bytes()
-        stamp = os.stat(path).st_mtime_ns
-        is_tried = False
-        for text in others(before):
-            Path(path).write_bytes(text)
-            os.utime(path, ns=(stamp, stamp))
-            try:
-                makes = self.run()
-            except Fault:
-                continue
-            is_tried = is_tried or any(map(has_run, makes))
-            self.found += [(*one, name) for one in changed(self.shown, makes)]
-        Path(path).write_bytes(before)
-        os.utime(path, ns=(stamp, stamp))
-        if not is_tried:
+        asked = trial.ask(name)
+        before = trial.before[0].makes
+        for said in asked:
+            self.found += [(*one, name) for one in changed(before, said.makes)]
+            self.needs += [(*one, name) for one in other_needs(before, said.makes)]
+        asked = [said for said in asked if any(map(has_run, said.makes))]
+        if not asked:
             self.sentences.append(
                 f"make reads {name} beside its makefiles, and whether commands depend on it"
                 " couldn't be tried, since make refuses other contents"
+            )
+            return
+        if not trial.is_seen(asked):
+            self.hidden[name] = (
+                f"make reads {name} beside its makefiles, and whether commands depend on it isn't"
+                " known, since make has the same macros and rules with all other contents that"
+                f" were tried; let all that is made need {name}, or let a recipe read it"
+            )
+        elif place := trial.conditional(asked):
+            self.hidden[name] = (
+                f"{place}: a condition depends on {name}, which make reads beside its makefiles,"
+                " and whether it has a part in commands was tried for a few contents alone; let"
+                f" all that is made need {name}"
             )
 
     def name(self, build: Build, varying: set[tuple[str, str]]) -> None:
@@ -165,8 +236,33 @@ class Readings:
                 f" its makefiles ({what}), and make doesn't run them again when {file} changes; let"
                 f" what they make need {file}"
             )
+        for make, rule, words, file in self.needs:
+            where, name = place_of(self.copies.seen, make, rule)
+            if file not in met:
+                met[file] = {}
+                build.problem(
+                    f"{where}: what {name} needs depends on {file}, which make reads beside its"
+                    f" makefiles ({words}), and its commands don't, so they may read what it"
+                    f" doesn't need when {file} changes; write out what it needs"
+                )
+        for file, text in self.hidden.items():
+            if file not in met and not all_need(build, file):
+                build.problem(text)
         for text in self.sentences:
             build.problem(text)
+        if self.programs:
+            names = sorted(self.programs)
+            some = ", ".join(names[:5]) + (" .." if len(names) > 5 else "")
+            build.note(
+                f"make starts {some} when it reads its makefiles: what make starts so counts as a"
+                " makefile, so import again when it changes"
+            )
+
+
+def all_need(build: Build, file: str) -> bool:
+    """Whether all recipes of a build run again when a file changes."""
+    names = [name for name, node in build.nodes.items() if node.commands]
+    return all(file in followed(build, name) for name in names)
 
 
 def is_plain(path: str) -> bool:
@@ -199,13 +295,3 @@ def followed(build: Build, name: str) -> set[str]:
                 seen.add(word)
                 waiting.append(word)
     return seen
-
-
-def others(text: bytes) -> Iterator[bytes]:
-    """Other contents of a file: with other digits, with one line less, with longer words."""
-    if re.search(rb"\d", text):
-        yield re.sub(rb"\d", lambda found: b"%d" % ((int(found.group()) + 1) % 10), text)
-    lines = text.splitlines(keepends=True)
-    if len(lines) > 1:
-        yield b"".join(lines[:-1])
-    yield re.sub(rb"\w+", lambda found: found.group() + b"x", text)

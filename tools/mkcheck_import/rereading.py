@@ -16,6 +16,8 @@ from .gnumake import Make
 
 # So much older are files that another make of the build makes, in nanoseconds.
 OLDER = 1_000_000
+# A time that is older than that of any file of a project.
+OLD = 1
 DEPENDENCIES = re.compile(r"(?:[^\s:=#$][^:=#$]*:(?![:=])[^=#$;]*|\s*)$")
 
 
@@ -24,7 +26,7 @@ def touch_sources(root: str, folder: str, makes: list[Make], made: set[str]) -> 
 
     `root` is the path at which the makes saw the folder, and `made` has the files that the build
     made: these are older than sources, and newer than all else. What makefiles are made anew from
-    stays as it is, but for dependency files.
+    stays as it is, but for dependency files. A target that needs nothing else gets an old time.
     """
     left = {name for make in makes for name in for_makefiles(root, folder, make)}
     names: dict[str, None] = {}
@@ -34,12 +36,47 @@ def touch_sources(root: str, folder: str, makes: list[Make], made: set[str]) -> 
                 if not any(is_made(rule) for rule in make.base.rules.get(word, [])):
                     names.setdefault(path_name(root, make.folder, word))
     now = time.time_ns()
-    for name in names:
-        path = os.path.join(folder, name)
-        inside = not name.startswith("/") and os.path.realpath(path) == path
-        if inside and name not in left and os.path.isfile(path):
-            stamp = now - OLDER if name in made else now
-            os.utime(path, ns=(stamp, stamp))
+    touched = {name for name in names if name not in left and is_inside(folder, name)}
+    for name in touched:
+        stamp = now - OLDER if name in made else now
+        os.utime(os.path.join(folder, name), ns=(stamp, stamp))
+    left.update(path_name(root, make.folder, text) for make in makes for text in make.makefiles)
+    for make in makes:
+        for name in untouched(root, make, touched):
+            if name not in left and is_inside(folder, name):
+                os.utime(os.path.join(folder, name), (OLD, OLD))
+
+
+def is_inside(folder: str, name: str) -> bool:
+    """Whether a name is that of a file in a folder, which no link leads to."""
+    path = os.path.join(folder, name)
+    inside = not name.startswith("/") and os.path.realpath(path) == path
+    return inside and os.path.isfile(path)
+
+
+def untouched(root: str, make: Make, touched: set[str]) -> list[str]:
+    """The files that a make made, that need something, and that nothing makes out of date when
+    these files are touched."""
+    users: dict[str, list[str]] = {}
+    for name, rules in make.base.rules.items():
+        for word in (word for rule in rules for word in rule.needs):
+            users.setdefault(word, []).append(name)
+    waiting = [
+        name
+        for name in {*users, *make.base.rules}
+        if path_name(root, make.folder, name) in touched
+        or any(rule.is_phony for rule in make.base.rules.get(name, []))
+    ]
+    reached = set(waiting)
+    while waiting:
+        more = [name for name in users.get(waiting.pop(), []) if name not in reached]
+        reached.update(more)
+        waiting += more
+    return [
+        path_name(root, make.folder, name)
+        for name, rules in make.base.rules.items()
+        if name not in reached and any(rule.ran and rule.needs for rule in rules)
+    ]
 
 
 def is_made(rule: Rule) -> bool:
@@ -119,6 +156,24 @@ def difference(used: list[Rule], asked: list[Rule], one_shell: bool = False) -> 
         if one.watched != other.watched:
             return "another environment"
     return "" if len(old) == len(new) else f"{len(new)} and not {len(old)}"
+
+
+def other_needs(used: list[Make], asked: list[Make]) -> list[tuple[Make, Rule, str]]:
+    """The rules that have the same commands and other prerequisites in makes that were asked again:
+    what `changed` gives of others."""
+    known = {make.key: make for make in reversed(used)}
+    found = []
+    for make in asked:
+        old = known.get(make.key)
+        for name, rules in make.base.rules.items() if old is not None else ():
+            before = old.base.rules.get(name, [])
+            for one, other in zip(before, rules):
+                is_run = one.ran and other.ran and not one.is_phony and not one.varies
+                texts = [[command.text for command in rule.commands] for rule in (one, other)]
+                if is_run and texts[0] == texts[1] and set(one.needs) != set(other.needs):
+                    words = sorted(set(one.needs) ^ set(other.needs))
+                    found.append((old, one, short(" ".join(words))))
+    return found
 
 
 def place_of(root: str, make: Make, rule: Rule) -> tuple[str, str]:

@@ -26,6 +26,15 @@ OTHERS = {
 }
 
 
+# What is said of a makefile that a tool wrote, to which lines are to be added.
+GENERATED = {
+    "CMake": "CMake writes it, so say it in CMakeLists.txt, by DEPENDS, OBJECT_DEPENDS or"
+    " LINK_DEPENDS",
+    "Meson": "Meson writes it, so say it in meson.build, by depends, depend_files or link_depends",
+    "config.status": "config.status writes it, so say it in Makefile.am or Makefile.in",
+}
+
+
 @dataclass
 class Advice:
     """Lines to add to one makefile, each once."""
@@ -148,7 +157,9 @@ class Sentences:
                 f" {listed(files)} changes"
             )
         for makefile, advice in self.advice.items():
-            found += ["", f"Add to {makefile}:", *(f"    {line}" for line in advice.texts())]
+            how = GENERATED.get(self.build.generators.get(makefile, ""))
+            heading = f"Add to {makefile} ({how}):" if how else f"Add to {makefile}:"
+            found += ["", heading, *(f"    {line}" for line in advice.texts())]
         return found
 
     def is_unseen(self, recipe: str, file: str) -> bool:

@@ -247,6 +247,8 @@ class Settling:
             other.order_only = [new if n == old else n for n in other.order_only]
             other.late = [new if n == old else n for n in other.late]
             other.first_only = [new if n == old else n for n in other.first_only]
+        if old in self.build.looked:
+            self.build.looked[new] = self.build.looked.pop(old)
         record = self.footprints.records.pop(old, None)
         if record is not None:
             record.target = new
