@@ -1,6 +1,6 @@
 -- What is answered where a step fails, and where all of them succeed.
 use Rattle.std.proofs.Common.{◌≡◌, ℕ, Bool, true, false, List, Option, None, Some, Result, Ok, Err, Vec, cond, inl, inr, refl, sym, ap, subst, ◌∙◌}
-use Rattle.std.specs.Prelude.{IsOk, OnErr}
+use Rattle.std.specs.Prelude.{IsOk, OnErr, OnOk}
 use Rattle.std.specs.declared.alloc.Global.{Global}
 use Rattle.std.specs.Option.{is_none, ok_or, option_map_or}
 use Rattle.std.specs.Str.{bytes_eq}
@@ -96,6 +96,11 @@ module _ (request : Request) (name : Option (List ℕ)) (operands : List (List �
       never : (r : Result (List Macro) ReadFault) → IsOk r → OnErr r same
       never (Ok macros) k = tt
       never (Err fault) k = absurd cc
+
+  -- neither is refused where there is an answer
+  pub were_accepted : {A : Type 0} (answer : Result A Fault) → IsOk (request_read name request.defaults operands) → OnOk answer (IsOk (macros_for request))
+  were_accepted (Ok x) h = subst (λ (r : Result (List Macro) ReadFault). IsOk r) same_macros h
+  were_accepted (Err fault) h = tt
 
 -- ---- the answer of a command
 

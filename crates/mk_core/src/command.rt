@@ -1,6 +1,6 @@
 //! Commands of the program, and how each request is answered.
 
-ghost use Rattle.std.specs.Prelude.{◌≡◌, ◌⊎◌, true, Result, Err, IfErr, OnErr};
+ghost use Rattle.std.specs.Prelude.{◌≡◌, ◌⊎◌, true, Result, Err, IfErr, IsOk, OnErr, OnOk};
 ghost use Rattle.mk_read.specs.Files.{IfFits, Keeps, Told};
 ghost use Rattle.mk_read.specs.declared.fault.ReadFault as read;
 ghost use Rattle.mk_core.specs.Answer.{Answers, NotesFailure};
@@ -108,6 +108,7 @@ pub(crate) fn answer_request<F: Files, C: Command>(
     ensures memory { IfErr result (λ fault. is_out_of_memory fault ≡ true → fault ≡ Memory) }
     ensures noted { NotesFailure (F.failed files.old) (F.failed files.new) result }
     ensures untouched { OnErr (macros_for request.now) (files.new ≡ files.old) }
+    ensures accepted { OnOk result (IsOk (macros_for request.now)) }
 {
     let makefile = read_makefile(
         alloc,

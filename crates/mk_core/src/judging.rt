@@ -1,6 +1,6 @@
 //! Commands that judge a build: what `check`, `check -e` and `verify` share.
 
-ghost use Rattle.std.specs.Prelude.{◌≡◌, ◌⊎◌, true, Result, Ok, Err, IfErr, OnErr};
+ghost use Rattle.std.specs.Prelude.{◌≡◌, ◌⊎◌, true, Result, Ok, Err, IfErr, IsOk, OnErr, OnOk};
 ghost use Rattle.mk_cert.specs.Subject.{Subject as SubjectValue};
 ghost use Rattle.mk_infer.specs.Selection.{Selects};
 ghost use Rattle.mk_read.specs.Files.{IfFits, Keeps, Told};
@@ -121,7 +121,8 @@ impl<J: Judge + Drop> Command for Judged<J> {
 
 /// Answers a request with a command that judges the build of its goals.
 ///
-/// The error is the first fault in the order that `check` lists, then that of the command itself.
+/// The error is the first fault in the order that `check` lists, then that of the command itself. A
+/// bad name of the makefile and a bad operand are refused before any file is read.
 pub fn answer_judged<F: Files, J: Judge + Drop>(
     alloc: Global,
     files: &mut F,
@@ -134,6 +135,7 @@ pub fn answer_judged<F: Files, J: Judge + Drop>(
     ensures memory { IfErr result (λ fault. is_out_of_memory fault ≡ true → fault ≡ Memory) }
     ensures noted { NotesFailure (F.failed files.old) (F.failed files.new) result }
     ensures untouched { OnErr (macros_for request.now) (files.new ≡ files.old) }
+    ensures accepted { OnOk result (IsOk (macros_for request.now)) }
 {
     let command = Judged { judge };
     answer_request(alloc, files, request, &command)

@@ -9,6 +9,6 @@ mod wording;
 
 pub use fault::Fault;
 pub use printing::text_of;
-pub use rendering::{render, yes_line};
+pub use rendering::{findings_text, render, yes_line};
 pub use verdict::{Findings, Verdict};
 pub use wording::{fault_text, step_fault_text};

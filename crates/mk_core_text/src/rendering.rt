@@ -67,8 +67,8 @@ fn push_finding(out: &mut String, finding: &Finding) -> Result<(), AllocError>
     writeln!(out, "no {finding}")
 }
 
-/// A line for each finding.
-fn findings_text(alloc: Global, found: &[Finding]) -> Result<Vec<u8>, AllocError>
+/// What `mkcheck check` prints for a no: a line for each finding. The only error is out of memory.
+pub fn findings_text(alloc: Global, found: &[Finding]) -> Result<Vec<u8>, AllocError>
     ensures { IfOk result (λ text. text.items ≡ findings_text found.now) }
 {
     let mut out = String::new(alloc);

@@ -1,9 +1,10 @@
 -- The words that findings give.
-use Rattle.std.specs.Prelude.{ℕ, Bool, not, ◌&&◌, List, [], ◌∷◌, map, Option, None, Some, option_and_then, option_map, if◌then◌else◌}
+use Rattle.std.specs.Prelude.{ℕ, Bool, not, ◌&&◌, ◌||◌, List, [], ◌∷◌, map, Option, None, Some, option_and_then, option_map, if◌then◌else◌}
 use Rattle.std.specs.List.{flat_map}
 use Rattle.mk_lines.specs.Names.{has_name}
 use Rattle.mk_graph.specs.declared.node.Node.{Node}
 use Rattle.mk_read.specs.Names.{is_make_name}
+use Rattle.mk_read.specs.Rules.{is_commanded}
 use Rattle.mk_cert.specs.Subject.{Subject, name_of}
 use Rattle.mk_cert.specs.declared.finding.Finding.{Finding}
 use Rattle.mk_cert.specs.declared.finding.Finding.TheVariants.{NoRecord, OtherCommands, VaryingCommands, NoTarget, TwoWriters, GivenWritten, OwnRead, UnknownRead, Loose, Race, Stale, Selection}
@@ -20,10 +21,15 @@ needed_by x node =
 abbrev pub needed : Subject → List (List ℕ)
 needed x = flat_map (needed_by x) x.graph.nodes
 
--- The word for a finding, whatever its names are. A target becomes phony only where it isn't
--- needed by a recipe that isn't phony, since every make would run that recipe.
+-- Whether the target stays what it is: a recipe that isn't phony needs it, which every make would
+-- run then; or its commands are those of an inference rule, which a phony target hasn't.
+abbrev pub stays_a_file : Subject → List ℕ → Bool
+stays_a_file x target =
+    has_name (needed x) target || not (is_commanded x.makefile.rules target)
+
+-- The word for a finding, whatever its names are.
 abbrev pub word_for : Subject → Finding → Option Word
-word_for x (NoTarget target) = if has_name (needed x) target then None else Some (phony target)
+word_for x (NoTarget target) = if stays_a_file x target then None else Some (phony target)
 word_for x (Loose target writer) = Some (needs target writer)
 word_for x (Race recipe writer file) = option_map (needs recipe) (provider x file)
 word_for x (Stale recipe file) = option_map (needs recipe) (provider x file)

@@ -7,6 +7,7 @@ ghost use Rattle.mk_repair.specs.Provider.{provider};
 ghost use Rattle.mk_repair.specs.Word.{needs};
 ghost use Rattle.mk_repair.specs.Words.{word_view};
 
+use crate::commanded::is_commanded;
 use crate::make_name::is_make_name;
 use crate::needed::needed_names;
 use crate::provider::provider;
@@ -41,7 +42,7 @@ fn word_for<'a>(
     match finding {
         Finding::NoTarget { recipe } => {
             let target = recipe.as_str();
-            if names.contains(target) {
+            if names.contains(target) || !is_commanded(subject.makefile(), target) {
                 return None;
             }
             Some(Word::Phony { target })
@@ -98,9 +99,9 @@ fn word_of<'a>(
 /// word. Takes time linear in the graph and the findings. The only error is out of memory.
 ///
 /// A stale read or a race says that its recipe needs the file, or the recipe that writes it where
-/// the file is neither a source nor a node. A loose name needs its writer. A recipe that doesn't
-/// write its target is phony, unless a recipe that isn't phony needs it. Other findings give no
-/// word, and neither does a name that a makefile can't hold.
+/// the file is neither a source nor a node. A loose name needs its writer. A target with commands of
+/// its own whose recipe doesn't write it is phony, unless a recipe that isn't phony needs it. Other
+/// findings give no word, and neither does a name that a makefile can't hold.
 pub fn words_of<'a>(
     alloc: Global,
     subject: &'a Subject<'_>,

@@ -2,6 +2,7 @@
 //! makefile lacks, and from words to the text of lines.
 #![tactic(auto)]
 
+mod commanded;
 mod finding_words;
 mod gathering;
 pub mod laws;

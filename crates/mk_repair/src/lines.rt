@@ -14,24 +14,24 @@ use crate::words::Words;
 use std::alloc::{AllocError, Global};
 
 /// Appends a line with these targets and prerequisites. The only error is out of memory.
-fn push_line(out: &mut Vec<u8>, targets: &str, prerequisites: &str) -> Result<(), AllocError>
-    ensures { OnOk result (out.new.items ≡
-        out.old.items ++ line_with targets.now prerequisites.now) }
+fn push_line(out: &mut String, targets: &str, prerequisites: &str) -> Result<(), AllocError>
+    ensures { OnOk result (string_bytes out.new ≡
+        string_bytes out.old ++ line_with targets.now prerequisites.now) }
 {
-    out.extend_from_slice(targets.as_bytes())?;
-    out.extend_from_slice(b": ")?;
-    out.extend_from_slice(prerequisites.as_bytes())?;
-    out.extend_from_slice(b"\n")
+    out.push_str(targets)?;
+    out.push_str(": ")?;
+    out.push_str(prerequisites)?;
+    out.push_str("\n")
 }
 
 /// Appends a line with these targets for each piece of the prerequisites. The only error is out of
 /// memory.
 fn push_lines_with(
-    out: &mut Vec<u8>,
+    out: &mut String,
     targets: &str,
     prerequisites: &[String],
 ) -> Result<(), AllocError>
-    ensures { OnOk result (out.new.items ≡ out.old.items ++
+    ensures { OnOk result (string_bytes out.new ≡ string_bytes out.old ++
         flat_map (λ part. line_with targets.now (string_bytes part)) prerequisites.now) }
 {
     for part in prerequisites {
@@ -43,11 +43,11 @@ fn push_lines_with(
 /// Appends a line for each piece of the targets and each piece of the prerequisites. The only error
 /// is out of memory.
 fn push_lines(
-    out: &mut Vec<u8>,
+    out: &mut String,
     targets: &[String],
     prerequisites: &[String],
 ) -> Result<(), AllocError>
-    ensures { OnOk result (out.new.items ≡ out.old.items ++ flat_map (λ piece.
+    ensures { OnOk result (string_bytes out.new ≡ string_bytes out.old ++ flat_map (λ piece.
         flat_map (λ part. line_with (string_bytes piece) (string_bytes part)) prerequisites.now)
         targets.now) }
 {
@@ -61,11 +61,11 @@ fn push_lines(
 /// of memory.
 fn push_lines_between(
     alloc: Global,
-    out: &mut Vec<u8>,
+    out: &mut String,
     targets: &[&str],
     prerequisites: &[&str],
 ) -> Result<(), AllocError>
-    ensures { OnOk result (out.new.items ≡ out.old.items ++ flat_map line_text
+    ensures { OnOk result (string_bytes out.new ≡ string_bytes out.old ++ flat_map line_text
         (lines_between (names_view targets.now) (names_view prerequisites.now))) }
 {
     let targets = pieces_of(alloc, targets)?;
@@ -89,8 +89,8 @@ fn phony_targets<'a>(alloc: Global, words: &'a [StoredWord]) -> Result<Vec<&'a s
 }
 
 /// Appends the lines of phony targets. The only error is out of memory.
-fn push_phony(alloc: Global, out: &mut Vec<u8>, words: &[StoredWord]) -> Result<(), AllocError>
-    ensures { OnOk result (out.new.items ≡ out.old.items ++ flat_map line_text
+fn push_phony(alloc: Global, out: &mut String, words: &[StoredWord]) -> Result<(), AllocError>
+    ensures { OnOk result (string_bytes out.new ≡ string_bytes out.old ++ flat_map line_text
         (phony_lines (map stored_view words.now))) }
 {
     let targets = phony_targets(alloc, words)?;
@@ -98,8 +98,8 @@ fn push_phony(alloc: Global, out: &mut Vec<u8>, words: &[StoredWord]) -> Result<
 }
 
 /// Appends the lines of each group. The only error is out of memory.
-fn push_groups(alloc: Global, out: &mut Vec<u8>, groups: &Groups<'_>) -> Result<(), AllocError>
-    ensures { OnOk result (out.new.items ≡ out.old.items ++ flat_map (λ group.
+fn push_groups(alloc: Global, out: &mut String, groups: &Groups<'_>) -> Result<(), AllocError>
+    ensures { OnOk result (string_bytes out.new ≡ string_bytes out.old ++ flat_map (λ group.
         flat_map line_text (lines_between group.1 group.0)) (groups_view groups.now.entries)) }
 {
     for place in 0..groups.len() {
@@ -112,8 +112,8 @@ fn push_groups(alloc: Global, out: &mut Vec<u8>, groups: &Groups<'_>) -> Result<
 }
 
 /// Appends the lines of the targets of the rows. The only error is out of memory.
-fn push_rows(alloc: Global, out: &mut Vec<u8>, rows: &Rows<'_>) -> Result<(), AllocError>
-    ensures { OnOk result (out.new.items ≡ out.old.items ++ flat_map (λ group.
+fn push_rows(alloc: Global, out: &mut String, rows: &Rows<'_>) -> Result<(), AllocError>
+    ensures { OnOk result (string_bytes out.new ≡ string_bytes out.old ++ flat_map (λ group.
         flat_map line_text (lines_between group.1 group.0))
         (grouped (rows_view rows.now.entries))) }
 {
@@ -122,8 +122,8 @@ fn push_rows(alloc: Global, out: &mut Vec<u8>, rows: &Rows<'_>) -> Result<(), Al
 }
 
 /// Appends the lines of targets that lack prerequisites. The only error is out of memory.
-fn push_lacking(alloc: Global, out: &mut Vec<u8>, words: &[StoredWord]) -> Result<(), AllocError>
-    ensures { OnOk result (out.new.items ≡ out.old.items ++ flat_map (λ group.
+fn push_lacking(alloc: Global, out: &mut String, words: &[StoredWord]) -> Result<(), AllocError>
+    ensures { OnOk result (string_bytes out.new ≡ string_bytes out.old ++ flat_map (λ group.
         flat_map line_text (lines_between group.1 group.0))
         (grouped (lacking (map stored_view words.now)))) }
 {
@@ -135,10 +135,10 @@ fn push_lacking(alloc: Global, out: &mut Vec<u8>, words: &[StoredWord]) -> Resul
 /// that lack the same prerequisites share a line, in the order of their first words. A list of over
 /// 2,000 bytes is cut into several lines. Each line ends with a newline. The only error is out of
 /// memory.
-pub fn lines_text(alloc: Global, words: &Words) -> Result<Vec<u8>, AllocError>
-    ensures { IfOk result (λ text. text.items ≡ lines_text words.now) }
+pub fn lines_text(alloc: Global, words: &Words) -> Result<String, AllocError>
+    ensures { IfOk result (λ text. string_bytes text ≡ lines_text words.now) }
 {
-    let mut out = Vec::new(alloc);
+    let mut out = String::new(alloc);
     push_phony(alloc, &mut out, words.as_slice())?;
     push_lacking(alloc, &mut out, words.as_slice())?;
     Ok(out)

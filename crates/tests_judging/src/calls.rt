@@ -83,7 +83,7 @@ fn judged(alloc: Global, subject: &Subject<'_>) -> Result<String, Fail> {
 fn repaired(alloc: Global, subject: &Subject<'_>) -> Result<String, Fail> {
     let found = findings(alloc, subject)?;
     match words_of(alloc, subject, &found)? {
-        Some(words) => Ok(String::from_utf8(lines_text(alloc, &words)?)?),
+        Some(words) => Ok(lines_text(alloc, &words)?),
         None => Ok(String::from_str(alloc, "none")?),
     }
 }

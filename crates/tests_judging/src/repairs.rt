@@ -118,7 +118,7 @@ fn writes_lines_of_words(rt: HostRuntime) -> Result<(), Fail> {
     for row in &rows(alloc, LINES)? {
         let mut words = Words::new(alloc);
         add_words(alloc, &mut words, part(row, 0))?;
-        let text = String::from_utf8(lines_text(alloc, &words)?)?;
+        let text = lines_text(alloc, &words)?;
         let want = unfolded(alloc, part(row, 1))?;
         assert_eq!(rt; text.as_str(), want.as_str(), "of {row:?}");
     }
@@ -134,7 +134,7 @@ fn adds_the_words_of_a_later_round(rt: HostRuntime) -> Result<(), Fail> {
     add_words(alloc, &mut more, "a.o x.h, all, b.o y.h")?;
     assert!(rt; words.add_all(alloc, &more)?);
     assert_eq!(rt; words.len(), 4);
-    let text = String::from_utf8(lines_text(alloc, &words)?)?;
+    let text = lines_text(alloc, &words)?;
     assert_eq!(rt; text.as_str(), ".PHONY: all\nb.o: x.h y.h\na.o: x.h\n");
     assert!(rt; !words.add_all(alloc, &more)?);
     assert_eq!(rt; words.len(), 4);

@@ -1,5 +1,5 @@
 use Rattle.std.proofs.lemmas.Result.{err_from_is_err_and}
-use Rattle.mk_core.proofs.Answering.{not_refused, over, read_fails, read_well, untouched_by}
+use Rattle.mk_core.proofs.Answering.{not_refused, over, read_fails, read_well, untouched_by, were_accepted}
 use Rattle.mk_core.proofs.command.answer_request.Goals as goal
 
 pub returns-in_err-makefile-clause-answer : goal.returns-in_err-makefile-clause-answer
@@ -28,3 +28,7 @@ returns-in_err-makefile-clause-untouched g c =
 pub returns-clause-untouched : goal.returns-clause-untouched
 returns-clause-untouched g c =
     not_refused c.args.request.now _ _ c.as_ref.ensures.value c.as_slice.ensures _ c.in_ok-makefile.ensures.accepted
+
+pub returns-clause-accepted : goal.returns-clause-accepted
+returns-clause-accepted g c =
+    were_accepted c.args.request.now _ _ c.as_ref.ensures.value c.as_slice.ensures _ c.in_ok-makefile.ensures.accepted

@@ -6,5 +6,5 @@ use Rattle.mk_repair.proofs.lines.push_lines.Given as goal
 -- the text so far, with the lines that are left
 abbrev pub invariant-loop-piece : goal.invariant-loop-piece
 invariant-loop-piece l =
-    l.out.items ++ flat_map (λ piece. flat_map (λ part. line_with (string_bytes piece) (string_bytes part)) l.prerequisites) (drop l.piece-index l.targets)
-    ≡ l.fn.out.items ++ flat_map (λ piece. flat_map (λ part. line_with (string_bytes piece) (string_bytes part)) l.prerequisites) l.targets
+    string_bytes l.out ++ flat_map (λ piece. flat_map (λ part. line_with (string_bytes piece) (string_bytes part)) l.prerequisites) (drop l.piece-index l.targets)
+    ≡ string_bytes l.fn.out ++ flat_map (λ piece. flat_map (λ part. line_with (string_bytes piece) (string_bytes part)) l.prerequisites) l.targets

@@ -9,4 +9,4 @@ returns c =
     let parts = ap (map string_bytes) c.deref-2.ensures.value ∙ c.in_ok-prerequisites.ensures in
     let heads = ap (map string_bytes) c.deref.ensures.value ∙ c.in_ok-targets.ensures in
     IfOk-equal c.push_lines.result _ _ _ c.push_lines.ensures
-    (ap (λ (text : List ℕ). c.args.out.now.items ++ text) (between string_bytes c.deref-2.result.now c.deref.result.now (names_view c.args.targets.now) (names_view c.args.prerequisites.now) parts heads))
+    (ap (λ (text : List ℕ). string_bytes c.args.out.now ++ text) (between string_bytes c.deref-2.result.now c.deref.result.now (names_view c.args.targets.now) (names_view c.args.prerequisites.now) parts heads))

@@ -1,0 +1,9 @@
+pub mod Amending
+pub mod Known
+pub mod Survey
+pub mod Outcome
+pub mod Rounds
+pub mod RepairAnswer
+pub mod Views
+pub mod NotRead
+pub mod RepairText

@@ -1,0 +1,85 @@
+-- The answer of the command `repair`.
+use Rattle.std.specs.Prelude.{◌≡◌, ◌⊎◌, ℕ, List, [], ◌∷◌, None, Result, Ok, Err}
+use Rattle.mk_cert.specs.Subject.{footprints}
+use Rattle.mk_graph.specs.Graph.{Graph, IsGraph}
+use Rattle.mk_graph.specs.Right.{AreSound, HaveNoRace}
+use Rattle.mk_graph_needs.specs.Extending.{Extends}
+use Rattle.mk_infer.specs.Selection.{Selects}
+use Rattle.mk_foot.specs.Names.{Has}
+use Rattle.mk_read.specs.Files.{Told}
+use Rattle.mk_core_text.specs.declared.fault.Fault.{Fault}
+use Rattle.mk_core_text.specs.declared.fault.Fault.TheVariants.{FileReadFailed}
+use Rattle.mk_core_text.specs.declared.verdict.Verdict.{Verdict}
+use Rattle.mk_core.specs.declared.request.Request.{Request}
+use Rattle.mk_core.specs.Answer.{Answers}
+use Rattle.mk_core.specs.CheckAnswer.{AnswersCheck, IsYes}
+use Rattle.mk_core.specs.Judging.{AnswersJudged, recorded}
+use Rattle.mk_core.specs.Ready.{Ready, ready_for}
+use Rattle.mk_core.specs.Right.{IsRightFor}
+use Rattle.mk_core_repair.specs.declared.outcome.Repair.{Repair}
+use Rattle.mk_core_repair.specs.declared.outcome.Repair.TheVariants as repairs
+use Rattle.mk_core_repair.specs.declared.outcome.Why.TheVariants as whys
+use Rattle.mk_core_repair.specs.declared.surveying.First.{First}
+use Rattle.mk_core_repair.specs.Amending.{amended, names_known}
+use Rattle.mk_core_repair.specs.Outcome.{outcome_of}
+use Rattle.mk_core_repair.specs.Rounds.{AfterFirst}
+use Rattle.mk_core_repair.specs.Survey.{GivesFirst}
+
+-- The first judgement gives this survey.
+abbrev pub IsFirstOf : Told → Request → First → Type 0
+IsFirstOf files request first = Answers files request (AnswersJudged GivesFirst) (Ok first)
+
+-- The file is one of those that are read again after the first judgement.
+abbrev pub IsReadAgain : Told → Request → List ℕ → Type 0
+IsReadAgain files request name =
+    (first : First) × IsFirstOf files request first ×
+    Has (names_known files request first.survey.files) name
+
+-- The answers to a request when the files have these contents: the outcome by the rule. A fault is
+-- that of `check`, or `FileReadFailed` where a file of the first judgement can't be read again. Out
+-- of memory is always allowed.
+abbrev pub AnswersRepair : Told → Request → Result Repair Fault → Type 0
+AnswersRepair files request (Ok repair) =
+    (first : First) × IsFirstOf files request first ×
+    AfterFirst (names_known files request first.survey.files) files request first.survey.verdict
+    first.survey.words first.cycle (outcome_of repair)
+AnswersRepair files request (Err (FileReadFailed name)) =
+    Answers files request AnswersCheck (Err (FileReadFailed name)) ⊎
+    IsReadAgain files request name
+AnswersRepair files request (Err fault) = Answers files request AnswersCheck (Err fault)
+
+-- `check` says yes to the request over these files, and the build is right.
+pub record IsAccepted (files : Told) (request : Request) : Type 0 where
+  pub verdict : Verdict
+  pub is_checked : Answers files request AnswersCheck (Ok verdict)
+  pub is_yes : IsYes (Ok verdict)
+  pub is_right : IsRightFor files request
+
+-- The text mends the makefile: with the text appended the build is accepted. The empty text says
+-- that it is accepted as it is.
+abbrev pub Mends : Told → Request → List ℕ → Type 0
+Mends files request [] = IsAccepted files request
+Mends files request (first ∷ rest) = IsAccepted (amended files request (first ∷ rest)) request
+
+-- Where the makefile is right, or lines mend it, the text that is printed mends it.
+abbrev pub Suffices : Told → Request → Result Repair Fault → Type 0
+Suffices files request (Ok repairs.Right) = Mends files request []
+Suffices files request (Ok (repairs.Mended text)) = Mends files request text.items
+Suffices files request answer = Unit {0}
+
+-- The files and the request give a makefile, goals and footprints, and these give a graph. No graph
+-- that has all nodes, recipes and prerequisites of this one, whatever else it has and whatever is
+-- phony, has sound footprints and no race.
+pub record CannotBeMended (files : Told) (request : Request) : Type 0 where
+  pub ready : Ready
+  pub graph : Graph
+  pub is_ready : ready_for files None request ≡ Ok ready
+  pub is_selected : Selects ready.makefile (recorded ready) ready.goals (Ok graph)
+  pub is_graph : IsGraph graph
+  pub no_mending : (other : Graph) → IsGraph other → Extends graph other →
+      AreSound other (footprints ready.setting) → ¬ (HaveNoRace other (footprints ready.setting))
+
+-- A cycle is the answer.
+abbrev pub IsCycle : Result Repair Fault → Type 0
+IsCycle (Ok (repairs.Unmended found (whys.Cycle names))) = Unit {0}
+IsCycle answer = ⊥

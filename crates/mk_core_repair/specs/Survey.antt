@@ -1,0 +1,44 @@
+-- What one judgement finds: the verdict, the words of its findings, and which files were read.
+use Rattle.std.specs.Prelude.{◌≡◌, ℕ, List, [], ◌++◌, Option, Some, Result, Ok}
+use Rattle.mk_cert.specs.Subject.{Subject, footprints}
+use Rattle.mk_graph_needs.specs.NeedsGraph.{needs_graph, IsFirstCycle}
+use Rattle.mk_core.specs.CheckAnswer.{IsVerdict}
+use Rattle.mk_core_text.specs.declared.fault.Fault.{Fault}
+use Rattle.mk_core_text.specs.declared.verdict.Verdict.{Verdict}
+use Rattle.mk_core_text.specs.declared.verdict.Verdict.TheVariants.{Yes, No}
+use Rattle.mk_repair.specs.FindingWords.{words_of}
+use Rattle.mk_repair.specs.Word.{Word}
+use Rattle.mk_core_repair.specs.declared.surveying.Survey.{Survey}
+use Rattle.mk_core_repair.specs.declared.surveying.First.{First}
+
+-- The words of the findings of a verdict; none if one of the findings gives no word. A yes lacks no
+-- word.
+abbrev pub words_for : Subject → Verdict → Option (List Word)
+words_for x (Yes certificate recipes reads) = Some []
+words_for x (No found) = words_of x found
+
+-- The verdict on the subject, the words of its findings, and the names of the makefile's texts and
+-- of the missing files that its reading passed over.
+pub record IsSurvey (x : Subject) (survey : Survey) : Type 0 where
+  pub is_verdict : IsVerdict x survey.verdict
+  pub has_words : survey.words ≡ words_for x survey.verdict
+  pub has_files : survey.files ≡ x.makefile.texts ++ x.makefile.passed_over
+
+-- The answer is the survey of the subject, without a fault.
+abbrev pub GivesSurvey : Subject → Result Survey Fault → Type 0
+GivesSurvey x answer = (survey : Survey) × IsSurvey x survey × (answer ≡ Ok survey)
+
+-- The first cycle of what the nodes need, where a no has words; else nothing is said.
+abbrev pub IsCycleFor : Subject → Verdict → Option (List Word) → Option (List (List ℕ)) → Type 0
+IsCycleFor x (No found) (Some words) cycle =
+    IsFirstCycle (needs_graph x.graph (footprints x.setting)) cycle
+IsCycleFor x verdict words cycle = Unit {0}
+
+-- The survey of the subject, with the first cycle of what its nodes need.
+abbrev pub IsFirst : Subject → First → Type 0
+IsFirst x first =
+    IsSurvey x first.survey × IsCycleFor x first.survey.verdict first.survey.words first.cycle
+
+-- The answer is the first survey of the subject, without a fault.
+abbrev pub GivesFirst : Subject → Result First Fault → Type 0
+GivesFirst x answer = (first : First) × IsFirst x first × (answer ≡ Ok first)

@@ -1,0 +1,17 @@
+//! Mends a makefile: what `mkcheck repair` prints.
+#![tactic(auto)]
+
+mod freeing;
+mod known_files;
+mod needing;
+mod outcome;
+mod own_makefile;
+mod rendering;
+mod repairing;
+mod round_files;
+mod rounds;
+mod surveying;
+
+pub use outcome::{Repair, Why};
+pub use rendering::repair_text;
+pub use repairing::repair;

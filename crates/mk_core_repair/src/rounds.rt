@@ -1,0 +1,213 @@
+//! Appends lines to a makefile and judges it again, until it is right or nothing more is known.
+
+ghost use Rattle.std.specs.Prelude.{◌≡◌, ◌++◌, ◌∷◌, ℕ, List, true, length, nat_lt, Ok, Err, IfErr, IfOk};
+ghost use Rattle.std.specs.Option.{option_copied};
+ghost use Rattle.mk_cert.specs.declared.finding.Finding as finding;
+ghost use Rattle.mk_read.specs.Files.{Told};
+ghost use Rattle.mk_core.specs.Steps.{is_out_of_memory};
+ghost use Rattle.mk_core_text.specs.declared.fault.Fault.TheVariants.{Memory};
+ghost use Rattle.mk_core_repair.specs.declared.surveying.Survey as value;
+ghost use Rattle.mk_core_repair.specs.Amending.{max_makefile};
+ghost use Rattle.mk_core_repair.specs.Known.{IsBase};
+ghost use Rattle.mk_core_repair.specs.Outcome.{untried};
+ghost use Rattle.mk_core_repair.specs.Rounds.{IsRound, Rounds, first_unknown, max_rounds, more_words};
+ghost use Rattle.mk_core_repair.specs.Views.{HasMore, IsFound, end_outcome};
+
+use crate::freeing::freeing;
+use crate::known_files::KnownFiles;
+use crate::outcome::{Repair, Why};
+use crate::own_makefile::OwnMakefile;
+use crate::round_files::RoundFiles;
+use crate::surveying::{JudgeAgain, Survey};
+use mk_core::{Fault, Findings, Name, Names, Request, Verdict, answer_judged};
+use mk_lines::NameTable;
+use mk_repair::{Words, lines_text};
+use std::alloc::{AllocError, Global};
+
+/// The most rounds: with the first judgement the makefile is judged at most 64 times.
+const MAX_ROUNDS: u32 = 63;
+
+/// The most bytes of an amended makefile.
+const MAX_MAKEFILE: usize = 16_777_216;
+
+/// An empty line and then the lines. The only error is out of memory.
+fn added_text(alloc: Global, lines: &str) -> Result<Vec<u8>, AllocError>
+    ensures { IfOk result (λ text. text.items ≡ 10 ∷ lines.now) }
+{
+    let mut text = vec![in alloc; b'\n']?;
+    text.extend_from_slice(lines.as_bytes())?;
+    Ok(text)
+}
+
+/// The text of the makefile with more appended. The only error is out of memory.
+fn amended_text(alloc: Global, own: &OwnMakefile, added: &[u8]) -> Result<Vec<u8>, AllocError>
+    ensures { IfOk result (λ text. text.items ≡ own.now.text.items ++ added.now) }
+{
+    let mut text = Vec::from_slice(alloc, &own.text)?;
+    text.extend_from_slice(added)?;
+    Ok(text)
+}
+
+/// What `check` finds of the makefile with this text appended, among the known files.
+fn judge_amended(
+    alloc: Global,
+    request: &Request,
+    own: &OwnMakefile,
+    known: &KnownFiles,
+    added: &[u8],
+) -> Result<Survey, Fault>
+    ensures round { (told : Told) → IsBase told request.now own.now known.now →
+        IsRound known.now.names told request.now added.now result }
+    ensures memory { IfErr result (λ fault. is_out_of_memory fault ≡ true → fault ≡ Memory) }
+{
+    let request = freeing(alloc, request)?;
+    let text = amended_text(alloc, own, added)?;
+    let mut files = RoundFiles::new(own.name.as_str(), &text, known);
+    answer_judged(alloc, &mut files, &request, JudgeAgain)
+}
+
+/// The first of the files that isn't among these names. Allocates nothing.
+fn first_unknown<'a>(names: &NameTable, files: &'a Names) -> Option<&'a Name>
+    ensures { option_copied result ≡ first_unknown names.now files.entry.now }
+{
+    for file in files.as_slice() {
+        if !names.contains(file.as_str()) {
+            return Some(file);
+        }
+    }
+    None
+}
+
+/// What a round found.
+#[derive(Drop)]
+enum Found {
+    /// The amended makefile is right.
+    Right,
+    /// This file was read, which isn't known.
+    Unknown(Name),
+    /// These findings, and whether they gave further words.
+    Lacks(Findings, bool),
+}
+
+/// Adds the new words. Returns whether there were new ones; `false` if a finding gives no word. The
+/// only error is out of memory.
+fn add_words(alloc: Global, words: &mut Words, new: Option<&Words>) -> Result<bool, AllocError>
+    ensures { IfOk result (λ is_new.
+        HasMore is_new words.new (more_words words.old (option_copied new.entry))) }
+{
+    match new {
+        Some(new) => words.add_all(alloc, new),
+        None => Ok(false),
+    }
+}
+
+/// What a round found, by its verdict. Adds the new words. The only error is out of memory.
+fn found_by(
+    alloc: Global,
+    known: &KnownFiles,
+    words: &mut Words,
+    survey: Survey,
+) -> Result<Found, AllocError>
+    ensures { IfOk result (λ found.
+        IsFound known.now.names words.old words.new survey found) }
+{
+    let Survey {
+        verdict,
+        words: new,
+        files,
+    } = survey;
+    if let Some(name) = first_unknown(&known.names, &files) {
+        return Ok(Found::Unknown(name.clone()?));
+    }
+    match verdict {
+        Verdict::Yes { .. } => Ok(Found::Right),
+        Verdict::No(found) => {
+            let is_new = add_words(alloc, words, new.as_ref())?;
+            Ok(Found::Lacks(found, is_new))
+        }
+    }
+}
+
+/// One round: judges the makefile with this text appended, and adds the new words. The error is the
+/// refusal of the amended makefile, or out of memory.
+fn round(
+    alloc: Global,
+    request: &Request,
+    own: &OwnMakefile,
+    known: &KnownFiles,
+    words: &mut Words,
+    added: &[u8],
+) -> Result<Found, Fault>
+    ensures ok { IfOk result (λ found. (survey : value.Survey) ×
+        IsFound known.now.names words.old words.new survey found ×
+        ((told : Told) → IsBase told request.now own.now known.now →
+        IsRound known.now.names told request.now added.now (Ok survey))) }
+    ensures err { IfErr result (λ fault. (told : Told) →
+        IsBase told request.now own.now known.now →
+        IsRound known.now.names told request.now added.now (Err fault)) }
+    ensures memory { IfErr result (λ fault. is_out_of_memory fault ≡ true → fault ≡ Memory) }
+{
+    let survey = judge_amended(alloc, request, own, known, added)?;
+    Ok(found_by(alloc, known, words, survey)?)
+}
+
+/// Whether the makefile would be too long with this text appended.
+fn is_too_long(own: &OwnMakefile, added: &[u8]) -> bool
+    ensures { result ≡ nat_lt max_makefile (length (own.now.text.items ++ added.now)) }
+{
+    added.len() > MAX_MAKEFILE || own.text.len() > MAX_MAKEFILE - added.len()
+}
+
+/// How the rounds end.
+#[derive(Drop)]
+pub enum End {
+    /// The makefile with this text appended is right.
+    Mended(Vec<u8>),
+    /// No lines mend it, and why.
+    Unmended(Why),
+}
+
+/// The rounds that begin with these words. The only error is out of memory.
+pub fn rounds(
+    alloc: Global,
+    request: &Request,
+    own: &OwnMakefile,
+    known: &KnownFiles,
+    words: Words,
+) -> Result<End, Fault>
+    ensures answer { IfOk result (λ end. (told : Told) →
+        IsBase told request.now own.now known.now → (first : List finding.Finding) →
+        Rounds max_rounds known.now.names told request.now first words untried
+        (end_outcome first end)) }
+    ensures memory { IfErr result (λ fault. fault ≡ Memory) }
+{
+    let mut words = words;
+    let mut why = Why::Untried;
+    for _done in 0..MAX_ROUNDS {
+        let lines = lines_text(alloc, &words)?;
+        let added = added_text(alloc, lines.as_str())?;
+        if is_too_long(own, &added) {
+            return Ok(End::Unmended(why));
+        }
+        match round(alloc, request, own, known, &mut words, &added) {
+            Ok(Found::Right) => return Ok(End::Mended(added)),
+            Ok(Found::Unknown(name)) => {
+                let fault = Fault::FileReadFailed(name);
+                return Ok(End::Unmended(Why::Tried(lines, Err(fault))));
+            }
+            Ok(Found::Lacks(found, is_new)) => {
+                why = Why::Tried(lines, Ok(found));
+                if !is_new {
+                    return Ok(End::Unmended(why));
+                }
+            }
+            Err(fault) => {
+                if fault.is_out_of_memory() {
+                    return Err(Fault::Memory);
+                }
+                return Ok(End::Unmended(Why::Tried(lines, Err(fault))));
+            }
+        }
+    }
+    Ok(End::Unmended(why))
+}
