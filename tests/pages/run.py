@@ -1,6 +1,7 @@
 """Tries the makefiles that docs/FROM_GNU_MAKE.md shows, each of which is refused by its number or
 read, and our own; and the sessions that README.md, examples/ and docs/ show; follows the links from
-page to page; holds the lengths that docs/WHY.md says to the files; and reads the manual pages.
+page to page; holds the lengths that docs/WHY.md says to the files, and what `mkcheck explain`
+prints to docs/REFERENCE.md; and reads the manual pages.
 
 The word is the path of mkcheck; without it MKCHECK names it, else it is bin/mkcheck.
 """
@@ -15,6 +16,7 @@ import tempfile
 from collections.abc import Sequence
 from pathlib import Path
 
+from explained import wrong_explanations
 from lengths import wrong_lengths
 from links import broken_links
 from sessions import try_page
@@ -101,7 +103,8 @@ def main() -> int:
             wrong += 1
             print(f"pages: {said or 'read'} and not {number or 'read'}:\n{makefile}")
     print(f"pages: {len(blocks) + 1 - wrong} makefiles as they are said to be, {wrong} not")
-    wrong += try_sessions(mkcheck) + broken_links() + wrong_lengths() + read_manuals()
+    wrong += try_sessions(mkcheck) + wrong_explanations(mkcheck)
+    wrong += broken_links() + wrong_lengths() + read_manuals()
     return 1 if wrong else 0
 
 

@@ -1,0 +1,4 @@
+pub mod Known
+pub mod Texts
+pub mod Explain
+pub mod Laws

@@ -1,0 +1,79 @@
+//! Explanations of a finding and of a fault, and the overview.
+
+use mk_explain::{explain, fault_name, fault_sentence, overview};
+use std::process::Abort;
+use std::test::Fail;
+
+/// The explanation of `DoubleColon`.
+const DOUBLE_COLON: &str = "\
+DoubleColon (23): a rule line has `::`; write one colon
+
+`refused 23 FILE:LINE`: a rule line has `::` after its targets.
+
+    all:: a
+
+Write one colon. A target may be on any number of lines, one of which may have
+commands.
+";
+
+/// The explanation of `loose`.
+const LOOSE: &str = "\
+loose: a target's file is written by a recipe that it doesn't need; add it
+
+`no loose T R`: T is a name that the goals reach and that has no recipe, R
+writes it, and R isn't a direct prerequisite of T. So T may count as done while
+R still writes it.
+
+    p.h:
+    p.c: p.y
+    \tbison -d p.y -o p.c
+
+The recipe of `p.c` writes `p.h` too: `no loose p.h p.c`. Write `p.h: p.c`.
+";
+
+#[test]
+fn explains(rt: HostRuntime) -> Result<(), Fail> {
+    let wanted = [
+        ("23", DOUBLE_COLON),
+        ("DoubleColon", DOUBLE_COLON),
+        ("loose", LOOSE),
+    ];
+    for (what, text) in wanted {
+        let told = explain(rt.alloc(), what)?;
+        assert!(rt;
+            told.is_some_and(|told| told.as_str() == text),
+            "of {what:?}"
+        );
+    }
+    for what in ["", "0", "4", "023", "+23", "loose p.h p.c", "doublecolon"] {
+        assert!(rt; explain(rt.alloc(), what)?.is_none(), "of {what:?}");
+    }
+    Ok(())
+}
+
+#[test]
+fn names_faults(rt: HostRuntime) -> Result<(), Fail> {
+    assert!(rt; fault_name(31).is_some_and(|name| name == "TwoRecipes"));
+    assert!(rt; fault_name(32).is_some_and(|name| name == "IncludeMissing"));
+    assert!(rt; fault_name(39).is_none());
+    Ok(())
+}
+
+#[test]
+fn says_what_to_do(rt: HostRuntime) -> Result<(), Fail> {
+    let sentence = "a rule line has `::`; write one colon";
+    assert!(rt; fault_sentence(23).is_some_and(|said| said == sentence));
+    assert!(rt; fault_sentence(78).is_none());
+    Ok(())
+}
+
+#[test]
+fn lists_all(rt: HostRuntime) -> Result<(), Fail> {
+    let text = overview(rt.alloc())?;
+    let finding = "loose: a target's file is written by a recipe that it doesn't need; add it";
+    assert!(rt; text.as_str().lines().any(|line| line == finding));
+    let fault = "23 DoubleColon: a rule line has `::`; write one colon";
+    assert!(rt; text.as_str().lines().any(|line| line == fault));
+    assert!(rt; text.as_str().lines().count() == 77);
+    Ok(())
+}

@@ -1,0 +1,5 @@
+//! Tests of the public calls of mk_explain.
+#![tactic(auto)]
+
+#[cfg(test)]
+mod explanations;
