@@ -16,7 +16,7 @@ fn words<R: Env + AllocGlobal>(rt: &R) -> io::Result<Vec<String>> {
 
 fn main(rt: HostRuntime) -> ExitCode {
     keep_pages(rt.alloc());
-    let mut disk = Disk::new(HostFiles::new(&rt));
+    let mut disk = Disk::new(HostFiles::new(rt.alloc(), &rt));
     let ran = run_arguments(rt.alloc(), &mut disk, words(&rt));
     conclude(
         &mut Sink::new(rt.stdout()),

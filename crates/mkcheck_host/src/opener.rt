@@ -3,6 +3,8 @@
 ghost use Rattle.std.specs.Prelude.{ℕ, List, Option, None, IfSome};
 ghost use Rattle.mkcheck_host.specs.Opening.{IsOpening};
 
+use std::alloc::Global;
+use std::io::ErrorKind;
 use std::{fs, io, rt};
 
 /// Opens files to be read. Where it tells what it holds under a name, contracts know what a read of
@@ -21,16 +23,44 @@ pub trait Opener {
             (λ held. IsOpening Self.File.remaining held result) };
 }
 
-/// Opens files on the disk. It doesn't tell what they hold.
+/// Opens files on the disk. It doesn't tell what they hold. A pipe can be opened once: its bytes are
+/// gone then, so a second read would give another text.
 #[derive(Drop)]
 pub struct HostFiles<'a, R> {
     rt: &'a R,
+    alloc: Global,
+    /// The names that were opened and aren't those of regular files.
+    pipes: Vec<String>,
 }
 
 impl<'a, R> HostFiles<'a, R> {
     /// The files that the runtime can open.
-    pub fn new(rt: &'a R) -> HostFiles<'a, R> {
-        HostFiles { rt }
+    pub fn new(alloc: Global, rt: &'a R) -> HostFiles<'a, R> {
+        HostFiles {
+            rt,
+            alloc,
+            pipes: Vec::new(alloc),
+        }
+    }
+
+    /// Whether a pipe with this name was opened.
+    fn has_opened(&self, name: &str) -> bool {
+        for pipe in &self.pipes {
+            if pipe.as_str() == name {
+                return true;
+            }
+        }
+        false
+    }
+}
+
+impl<'a, R: rt::Files> HostFiles<'a, R> {
+    /// Whether the name is of something else than a regular file.
+    fn is_pipe(&self, name: &str) -> bool {
+        match fs::metadata(self.rt, name) {
+            Ok(found) => !found.is_file(),
+            Err(_) => false,
+        }
     }
 }
 
@@ -40,6 +70,12 @@ impl<'a, R: rt::Files> Opener for HostFiles<'a, R> {
     ghost holds = { λ _ _. None };
 
     fn open(&mut self, name: &str) -> io::Result<R::File> {
+        if self.has_opened(name) {
+            return Err(io::Error::from(ErrorKind::NotSeekable));
+        }
+        if self.is_pipe(name) {
+            self.pipes.push(String::from_str(self.alloc, name)?)?;
+        }
         fs::open(self.rt, name)
     }
 }

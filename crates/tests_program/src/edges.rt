@@ -127,7 +127,7 @@ fn reads_a_pipe(rt: HostRuntime) -> Result<(), Fail> {
 
 #[test]
 fn reads_the_disk(rt: HostRuntime) -> Result<(), Fail> {
-    let mut disk = Disk::new(HostFiles::new(&rt));
+    let mut disk = Disk::new(HostFiles::new(rt.alloc(), &rt));
     let text = disk.read(rt.alloc(), "/dev/null")?;
     assert!(rt; matches!(&text, Some(text) if text.is_empty()));
     for name in ["/dev/none", "/none/none", ""] {
@@ -139,7 +139,7 @@ fn reads_the_disk(rt: HostRuntime) -> Result<(), Fail> {
 // A folder, an endless file, a file that can be opened but not read, and a path through a file.
 #[test]
 fn fails_to_read_the_disk(rt: HostRuntime) {
-    let mut disk = Disk::new(HostFiles::new(&rt));
+    let mut disk = Disk::new(HostFiles::new(rt.alloc(), &rt));
     for name in ["/", "/dev/zero", "/proc/self/mem", "/dev/null/x"] {
         let text = disk.read(rt.alloc(), name);
         assert!(rt; matches!(&text, Err(FilesError::ReadFailed)));
