@@ -27,7 +27,8 @@ proved:
 
 # Shows the program on the examples. The lines with cmp compare its answers with the
 # stored ones, those with `if` its status with that of a no, which is 1. The second
-# check is of a copy of the makefile from which one header is left out.
+# check is of a copy of the makefile from which one header is left out. To the makefile
+# of figlet `repair` says which lines it lacks; with these the answer is yes.
 demo: build
 	@bin/mkcheck --version
 	cd examples/wordcount && cat makefile
@@ -42,6 +43,10 @@ demo: build
 	cd examples/lua && cat check.txt
 	@cd examples/figlet && ../../bin/mkcheck check -b footprint.json | cmp - check.txt
 	cd examples/figlet && if ../../bin/mkcheck check -b footprint.json; then false; else test $$? -eq 1; fi
+	cd examples/figlet && ../../bin/mkcheck repair -b footprint.json
+	@cd examples/figlet && ../../bin/mkcheck repair -b footprint.json | cat Makefile - > mended.mk
+	cd examples/figlet && ../../bin/mkcheck check -f mended.mk -b footprint.json | sed -n 1p
+	@cd examples/figlet && ../../bin/mkcheck check -f mended.mk -b footprint.json | grep -q '^yes '
 	@cd examples/awk && ../../bin/mkcheck check -b footprint.json | cmp - check.txt
 	cd examples/awk && if ../../bin/mkcheck check -b footprint.json; then false; else test $$? -eq 1; fi
 	@echo 'Shown with the program that `bin/mkcheck --version` names. `make proved` proves it.'
@@ -107,6 +112,7 @@ bench: proved
 	@python3 bench/certificates.py
 	@python3 bench/judging.py
 	@python3 bench/evidence.py
+	@python3 bench/repairs.py
 	@python3 bench/plans.py
 	@python3 bench/hostile.py
 
@@ -128,3 +134,4 @@ clean:
 	rm -rf bin bench/data bench/__pycache__ crates/*/out
 	rm -rf tools/*/__pycache__ tests/*/__pycache__
 	cd examples/wordcount && rm -f wordcount *.o counted.txt forgotten.mk
+	rm -f examples/figlet/mended.mk

@@ -48,6 +48,14 @@ BESIDE_RULES = (
 BESIDE = """{"format":1,"fixed":[],"sources":["m.c","gram.y"],"records":[
 {"target":"m.o","commands":["cc -c m.c"],"reads":["m.c","y.tab.h"],"writes":["m.o"]},
 {"target":"y.tab.c","commands":["yacc -d gram.y"],"reads":["gram.y"],"writes":["y.tab.c","y.tab.h"]}]}"""
+TRIED_RULES = "t: b\n\tt\nb:\n\tb\n"
+TRIED = """{"format":1,"fixed":[],"sources":["a"],"records":[
+{"target":"t","commands":["t"],"reads":[],"writes":[]},
+{"target":"b","commands":["b"],"reads":["a"],"writes":["b"]}]}"""
+BOTH_RULES = "all: a b\na:\n\tdo a\nb:\n\tdo b\n"
+BOTH = """{"format":1,"fixed":[],"sources":[],"records":[
+{"target":"a","commands":["do a"],"reads":["b"],"writes":["a"]},
+{"target":"b","commands":["do b"],"reads":["a"],"writes":["b"]}]}"""
 
 
 def nested(last: str) -> dict[str, str]:
@@ -200,6 +208,33 @@ EXAMPLES = {
         1,
         "no plan\n",
     ),
+    "a mended makefile": (
+        {"makefile": TRIED_RULES, "B": TRIED},
+        ["repair", "-b", "B"],
+        0,
+        "\n.PHONY: t\nb: a\n",
+    ),
+    "a makefile that lines don't mend": (
+        {
+            "makefile": TRIED_RULES.replace("\tb\n", "\tb $^\n"),
+            "B": TRIED.replace('"b"]', '"b "]', 1),
+        },
+        ["repair", "-b", "B"],
+        1,
+        "no target t\ntried .PHONY: t\ntried b: a\nno commands b\n",
+    ),
+    "a cycle of what recipes need": (
+        {"makefile": BOTH_RULES, "B": BOTH},
+        ["repair", "-b", "B"],
+        1,
+        "no race a b b\nno race b a a\nno stale a b\nno stale b a\ncycle a b a\n",
+    ),
+    "a makefile that needs no repair": (
+        {"makefile": PLAIN_RULES, "B": RECORDED},
+        ["repair", "-b", "B"],
+        0,
+        "",
+    ),
     "a yes verified": (
         {"makefile": PLAIN_RULES, "B": FAR_READ, "C": FAR_CERTIFICATE},
         ["verify", "-b", "B", "-k", "C"],
@@ -222,7 +257,8 @@ EXAMPLES = {
 
 
 # Those of the gate: a graph, includes at their limit, a plan that is refused, a yes, a certificate,
-# a race, plans that show what was found, and a certificate that is judged.
+# a race, plans that show what was found, lines that mend a makefile in two rounds, and a certificate
+# that is judged.
 GATE = [
     "plain rules",
     "includes to the last level",
@@ -234,6 +270,7 @@ GATE = [
     "a race",
     "a yes of a file that is written beside another",
     "a plan of a stale read",
+    "a mended makefile",
     "a yes verified",
 ]
 

@@ -44,6 +44,10 @@ PLACES = {
         "mk_world/src/world.rt",
         "return Err(AllocError);",
     ): "behind the test that the fault is want of memory",
+    (
+        "mk_core_repair/src/rounds.rt",
+        "return Err(Fault::Memory);",
+    ): "behind the test that the fault is want of memory",
     ("mkcheck_run/src/starting.rt", "Err(_) => Err(Stop::Memory),"): "the call has no other error",
     (
         "mkcheck_run/src/running.rt",

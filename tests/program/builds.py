@@ -1,4 +1,5 @@
-"""Builds with their footprints, judged by `check`: what is printed, and the status."""
+"""Builds with their footprints, judged by `check` and mended by `repair`: what is printed, and the
+status."""
 
 import json
 from collections.abc import Iterator
@@ -80,6 +81,7 @@ RIGHT = [
         ],
     ),
 ]
+# Such a build, the findings, and the lines that mend it; nothing known mends those without lines.
 WRONG = [
     (
         LOGGED,
@@ -90,18 +92,34 @@ WRONG = [
             *(f"no writers {one} {other} log" for one, other in combinations(LOGGING, 2)),
             "no own w16 log",
         ],
+        [],
     ),
-    (OBJECT, "", "a.c h.h", COMPILED.replace("a.o: a.c", "a.o: a.c h.h"), ["no stale a.o h.h"]),
-    (OBJECT, "", "a.c", "", ["no record a.o", "no record p"]),
-    (".PHONY: b\nall: x y\nx: a .WAIT b\ny: b\n" + BOTH, "", "", READ, ["no race b a a"]),
-    (".NOTPARALLEL:\n.PHONY: b\nall: b a\n" + BOTH, "", "", READ, ["no race b a a"]),
-    (".NOTPARALLEL:\n.PHONY: b\nall: a b\n" + BOTH, "a b", "", READ, ["no race b a a"]),
+    (
+        OBJECT,
+        "",
+        "a.c h.h",
+        COMPILED.replace("a.o: a.c", "a.o: a.c h.h"),
+        ["no stale a.o h.h"],
+        ["a.o: h.h"],
+    ),
+    (OBJECT, "", "a.c", "", ["no record a.o", "no record p"], []),
+    (
+        ".PHONY: b\nall: x y\nx: a .WAIT b\ny: b\n" + BOTH,
+        "",
+        "",
+        READ,
+        ["no race b a a"],
+        ["b: a"],
+    ),
+    (".NOTPARALLEL:\n.PHONY: b\nall: b a\n" + BOTH, "", "", READ, ["no race b a a"], ["b: a"]),
+    (".NOTPARALLEL:\n.PHONY: b\nall: a b\n" + BOTH, "a b", "", READ, ["no race b a a"], ["b: a"]),
     (
         "b: a\n\tdo b\na:\n\tdo a\n",
         "",
         "",
         "a: > a log = do a; b: a > b log = do b",
         ["no writers a b log"],
+        [],
     ),
     (
         "all: y.tab.c .WAIT m.o\n" + YACC + "y.tab.h:\n" + MADE,
@@ -109,6 +127,7 @@ WRONG = [
         "m.c gram.y",
         PARSED,
         ["no loose y.tab.h y.tab.c"],
+        ["y.tab.h: y.tab.c"],
     ),
     (
         "lib.a: a.o\n\tar rv $@ $?\n",
@@ -116,6 +135,7 @@ WRONG = [
         "a.o",
         "lib.a: a.o > lib.a = ar rv lib.a ",
         ["no varying lib.a"],
+        [],
     ),
     (
         SUFFIXES + "all: gen .WAIT x.o\ngen:\n\tmk\n",
@@ -123,6 +143,7 @@ WRONG = [
         "x.s",
         "gen: > gen x.c = mk; x.o: x.s > x.o = as -o x.o x.s",
         ["no selection x.o x.c"],
+        [],
     ),
     (
         "-include a.d\na.o: a.c\n\tcc -MMD -c a.c\n",
@@ -130,24 +151,29 @@ WRONG = [
         "a.c",
         "a.o: a.c > a.o a.d = cc -MMD -c a.c",
         ["no given a.o a.d"],
+        [],
     ),
 ]
 
 
 def builds() -> Iterator[tuple[list[str], int, str, dict[str, str]]]:
     """The words, the status, what is printed and the files of each run."""
-    for status, rows in ((0, RIGHT), (1, WRONG)):
-        for makefile, goals, sources, records, lines in rows:
-            book = {
-                "format": 1,
-                "fixed": [],
-                "sources": sources.split(),
-                "records": told(records) if records else [],
-            }
-            files = {"makefile": makefile, "B": json.dumps(book)}
-            yield ["check", "-b", "B", *goals.split()], status, "".join(
-                f"{line}\n" for line in lines
-            ), files
+    for makefile, goals, sources, records, lines, *mending in RIGHT + WRONG:
+        book = {
+            "format": 1,
+            "fixed": [],
+            "sources": sources.split(),
+            "records": told(records) if records else [],
+        }
+        files = {"makefile": makefile, "B": json.dumps(book)}
+        words = ["-b", "B", *goals.split()]
+        verdict = "".join(f"{line}\n" for line in lines)
+        yield ["check", *words], len(mending), verdict, files
+        if mending == [[]]:
+            yield ["repair", *words], 1, verdict, files
+        else:
+            lacking = "".join(f"\n{line}\n" for more in mending for line in more)
+            yield ["repair", *words], 0, lacking, files
     for left in range(len(SIX) + 1):
         ways = [
             {"recipe": "t", "file": name, "end": "source", "path": ["t"]}

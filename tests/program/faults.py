@@ -37,6 +37,8 @@ CHECKS = [
     ["check", "-c", "-b", "B"],
     ["check", "-b", "B", "-e", "1"],
     ["check", "-r", "-b", "B"],
+    ["repair", "-b", "B"],
+    ["repair", "-r", "-b", "B"],
 ]
 JUDGING = [*CHECKS, *VERIFIES]
 EXPANDING = [["graph", "-c", "-b", "B"], ["graph", "-r", "-c", "-b", "B"], *JUDGING]

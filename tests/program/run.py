@@ -16,6 +16,7 @@ from pathlib import Path
 from builds import builds
 from faults import faults
 from orders import orders
+from repairs import repairs
 
 HERE = Path(__file__).resolve().parent
 PROGRAM = HERE.parent.parent / "bin" / "mkcheck"
@@ -60,8 +61,11 @@ PLAN = (
 HINT = "\n\nFor more information, try '--help'.\n"
 PROGRAM_USAGE = "\n\nUsage: mkcheck <COMMAND>" + HINT
 CHECK_USAGE = "\n\nUsage: mkcheck check [-f F] [-r] -b BOOK [-c] [-e N] [WORD]..." + HINT
+REPAIR_USAGE = "\n\nUsage: mkcheck repair [-f F] [-r] -b BOOK [WORD]..." + HINT
 VERIFY_USAGE = "\n\nUsage: mkcheck verify [-f F] [-r] -b BOOK -k CERT [WORD]..." + HINT
 SIMULATE_USAGE = "\n\nUsage: mkcheck simulate [-f F] [-r] -b BOOK -p PLAN [WORD]..." + HINT
+NOTHING = "no finding and no fault is called {}; mkcheck explain lists all of them\n"
+UNEXPECTED = "error: unexpected argument 'race' found\n\nUsage: mkcheck explain [WHAT]" + HINT
 MISSING = "error: the following required arguments were not provided:\n  "
 NO_TEXT = "error: a word of the command line is not UTF-8\n"
 
@@ -133,6 +137,10 @@ ANSWERS = [
     ),
     Run(["simulate", "-b", "B", "-p", "Q"], 0, "a 1 1\nb 2 2\nplan ok\n", files=COPY),
     Run(["simulate", "-b", "B", "-p", "N"], 2, "refused 38 N\n", files=COPY),
+    Run(["repair", "-b", "B"], 0),
+    Run(["repair", "-b", "H"], 0, "\na.o: h.h\n"),
+    Run(["repair", "-b", "U"], 1, "no record a.o\nno record p\n"),
+    Run(["repair", "-b", "N"], 2, "refused 38 N\n"),
 ]
 
 # Help, the version, and command lines that can't be read.
@@ -142,11 +150,18 @@ WORDS = [
     Run(["graph", "--help"], 0, text("graph")),
     Run(["check", "--help"], 0, text("check")),
     Run(["check", "-h"], 0, text("check")),
+    Run(["repair", "--help"], 0, text("repair")),
     Run(["verify", "--help"], 0, text("verify")),
     Run(["simulate", "--help"], 0, text("simulate")),
+    Run(["explain", "--help"], 0, text("explain")),
+    Run(["explain", "frob"], 2, NOTHING.format("frob"), files={}),
+    Run(["explain", ""], 2, NOTHING.format(""), files={}),
+    Run(["explain", "027"], 2, NOTHING.format("027"), files={}),
+    Run(["explain", "stale", "race"], 2, err=UNEXPECTED),
     Run(["frob"], 2, err="error: unrecognized subcommand 'frob'" + PROGRAM_USAGE),
     Run(["-x"], 2, err="error: unexpected argument '-x' found" + PROGRAM_USAGE),
     Run(["check"], 2, err=MISSING + "-b <BOOK>" + CHECK_USAGE),
+    Run(["repair"], 2, err=MISSING + "-b <BOOK>" + REPAIR_USAGE),
     Run(["verify", "-b", "B"], 2, err=MISSING + "-k <CERT>" + VERIFY_USAGE),
     Run(["simulate", "-b", "B"], 2, err=MISSING + "-p <PLAN>" + SIMULATE_USAGE),
     Run(
@@ -177,9 +192,16 @@ PLACES = [
     Run(["check", "-b", "/dev/stdin", "-e", "1"], 0, WAYS, stdin=RECORDS),
     Run(["check", "-b", "/dev/stdin", "-e", "1"], 1, PLAN, stdin=HEADER),
     Run(["check", "-b", "/dev/stdin", "-e", "1"], 1, "no plan\n", stdin=UNTOLD),
+    # A pipe is read once. `repair` reads again only what it amends.
+    Run(["repair", "-b", "/dev/stdin"], 0, stdin=RECORDS),
+    Run(["repair", "-b", "/dev/stdin"], 1, "no record a.o\nno record p\n", stdin=UNTOLD),
+    Run(["repair", "-b", "/dev/stdin"], 2, "refused 35 /dev/stdin\n", stdin=HEADER),
+    Run(["repair", "-f", "/dev/stdin", "-b", "H"], 2, "refused 35 /dev/stdin\n", stdin=RULES),
     Run(["graph"], 2, err="write failed\n", sink="/dev/full"),
     Run(["check", "-b", "H"], 2, err="write failed\n", sink="/dev/full"),
     Run(["check", "-b", "N"], 2, err="write failed\n", sink="/dev/full"),
+    Run(["repair", "-b", "H"], 2, err="write failed\n", sink="/dev/full"),
+    Run(["repair", "-b", "U"], 2, err="write failed\n", sink="/dev/full"),
     Run(["--help"], 2, err="write failed\n", sink="/dev/full"),
 ]
 
@@ -252,13 +274,29 @@ def ran(program: Path, run: Run, folder: str) -> tuple[int, bytes, bytes]:
     return done.returncode, done.stdout or b"", done.stderr
 
 
+def is_right(program: Path, run: Run, folder: str) -> bool:
+    """Whether `check` says yes once what `repair` printed is appended to the makefile."""
+    named = run.words[run.words.index("-f") + 1] if "-f" in run.words else "makefile"
+    makefile = Path(folder, named if named in run.files else "Makefile")
+    with makefile.open("a") as file:
+        file.write(run.out)
+    files = {name: text for name, text in run.files.items() if name != makefile.name}
+    checked = Run(["check", *run.words[1:]], 0, files=files, stdin=run.stdin)
+    status, out, err = ran(program, checked, folder)
+    if status == 0 and out.startswith(b"yes ") and not err:
+        return True
+    print(f"program: {checked.words} with what {run.words} prints answers\n  {str(out)[:1000]}")
+    return False
+
+
 def differs(program: Path, run: Run) -> bool:
     """Whether the run answers something else than it must; then it is printed."""
     with tempfile.TemporaryDirectory() as folder:
         got = ran(program, run, folder)
-    wanted = (run.status, run.out.encode(), run.err.encode())
-    if got == wanted:
-        return False
+        wanted = (run.status, run.out.encode(), run.err.encode())
+        if got == wanted:
+            mends = run.words[0] == "repair" and "-b" in run.words and run.status == 0
+            return mends and not is_right(program, run, folder)
     print(f"program: {run.words} answers\n  {str(got)[:1000]}\nand not\n  {str(wanted)[:1000]}")
     return True
 
@@ -290,7 +328,7 @@ def main() -> None:
     ran_of, wrong = 0, 0
     tables = (
         Run(words, status, out, files=files)
-        for words, status, out, files in chain(builds(), faults(), orders())
+        for words, status, out, files in chain(builds(), faults(), orders(), repairs())
     )
     for run in chain(ANSWERS, WORDS, versions(program), PLACES, SIZES, tables):
         ran_of += 1

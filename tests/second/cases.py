@@ -7,6 +7,8 @@ from book import read_book
 from certificates import certificate_of
 from footprints import Model, book_of, format_one
 from judge import Subject
+from lacking import book_of as true_book
+from lacking import lacking
 from lines import Refused
 from makefiles import mutated, structural
 from plans import WRONG, plan_of
@@ -232,7 +234,9 @@ def book_for(model, names, valid):
 
 def case_of(rng, command):
     """A case of a command."""
-    share = {"graph": 0.0, "check": 0.75, "verify": 0.9, "simulate": 0.9}[command]
+    if command == "repair" and rng.random() < 0.85:
+        return lacking_case(rng)
+    share = {"graph": 0.0, "check": 0.75, "repair": 0.9, "verify": 0.9, "simulate": 0.9}[command]
     valid = rng.random() < share
     project = project_of(rng, command, valid)
     names = project.targets[:]
@@ -244,7 +248,7 @@ def case_of(rng, command):
     project.targets = names
     if command == "graph" and rng.random() < 0.7:
         return Case(project.files, mixed(rng, words, others))
-    needed = {"graph": [], "check": [], "verify": ["-k", "K"], "simulate": ["-p", "P"]}[command]
+    needed = {"verify": ["-k", "K"], "simulate": ["-p", "P"]}.get(command, [])
     model = model_of(rng, project, words + ["-b", "B"] + needed + others)
     files = project.files
     files[b"B"] = book_for(model, project.names, valid and rng.random() < 0.8)
@@ -258,6 +262,19 @@ def case_of(rng, command):
     if rng.random() < 0.01:
         broken_word(rng, files, words)
     return Case(files, mixed(rng, words, others))
+
+
+def lacking_case(rng):
+    """A case of `repair`, over a build whose makefile says too little of it."""
+    truth, project = lacking(rng)
+    named(rng, "repair", project)
+    words = words_of(rng, "repair", True)
+    others = other_words(rng, project, True)
+    words += ["-b", "B"]
+    project.files[b"B"] = true_book(truth, WithoutFolders(project), words + others)
+    if rng.random() < 0.01:
+        broken_word(rng, project.files, words)
+    return Case(project.files, mixed(rng, words, others))
 
 
 def broken_word(rng, files, words):

@@ -19,14 +19,21 @@ import sys
 import tempfile
 import time
 
-from cases import FOLDER, case_of
+from cases import FOLDER, Case, case_of
 from evidence import shows
 from limits import limits
-from request import Disk
+from request import Disk, Request
 from second import answered
 
-COMMANDS = ["graph", "check", "verify", "simulate", "evidence"]
-GATE_CASES = {"graph": 300, "check": 300, "verify": 250, "simulate": 250, "evidence": 150}
+COMMANDS = ["graph", "check", "verify", "simulate", "evidence", "repair"]
+GATE_CASES = {
+    "graph": 300,
+    "check": 300,
+    "verify": 250,
+    "simulate": 250,
+    "evidence": 150,
+    "repair": 250,
+}
 GATE_SEED = 20261124
 KEPT = 20
 SECONDS = 300
@@ -91,6 +98,12 @@ def asked(program, words, folder):
     return done.stdout, done.returncode
 
 
+def kind_of(line):
+    """What a line of a no tells of."""
+    words = line.split()
+    return (words[1] if words[0] == b"no" else words[0]).decode()
+
+
 def sort_of(told):
     """A short name for what was told, to be counted."""
     text, status = told
@@ -99,9 +112,10 @@ def sort_of(told):
         return "usage" if status == 2 else "status %d" % status
     if text == b"no plan\n":
         return "no plan"
+    if text.startswith(b"\n"):
+        return "mended"
     if words[0] == b"no":
-        kinds = {line.split()[1].decode() for line in text.splitlines() if line}
-        return "no " + " ".join(sorted(kinds))
+        return "no " + " ".join(sorted({kind_of(line) for line in text.splitlines()}))
     if words[0] == b"refused":
         return b" ".join(words).decode("utf-8", "replace")
     if b"\nrefused " in text:
@@ -133,10 +147,29 @@ class Comparer:
         if sum(self.tried.values()) % 5000 == 0:
             print(f"fuzz: {sum(self.tried.values())} cases so far", file=sys.stderr, flush=True)
         self.sorts[command][sort_of(second)] += 1
-        if first == second or command == "evidence" and shows(first, second, case.words, disk):
+        if first == second:
+            if case.words[:1] == ["repair"] and first[0].startswith(b"\n"):
+                self.compare_amended(label, case, first[0])
+            return
+        if command == "evidence" and shows(first, second, case.words, disk):
             return
         self.differing += 1
         self.report(label, case, first, second)
+
+    def compare_amended(self, label, case, lines):
+        """Appends the lines to the makefile that was read, and asks both whether that is right."""
+        name = Request(list(case.words)).values.get("f", b"makefile")
+        path = os.path.join(self.folder, os.fsdecode(name))
+        if not os.path.exists(path):
+            path = os.path.join(self.folder, "Makefile")
+        with open(path, "ab") as file:
+            file.write(lines)
+        words = ["check", *case.words[1:]]
+        first = asked(self.program, words, self.folder)
+        second = answered(words, Disk(self.folder))
+        if first != second or second[1] != 0:
+            self.differing += 1
+            self.report(f"{label}, amended,", Case(case.files, words), first, second)
 
     def report(self, label, case, first, second):
         print(f"fuzz: {label} differs: mkcheck {' '.join(map(repr, case.words))}")

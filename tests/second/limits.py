@@ -3,6 +3,7 @@
 from cases import FOLDER, Case
 from corners import corners
 from documents import documents
+from mendings import mendings
 from texts import MISSES
 
 RULE = b"a: b\n\tc\n"
@@ -154,6 +155,7 @@ def near_misses():
 QUICK = (
     corners,
     documents,
+    mendings,
     near_misses,
     lines_at_limit,
     values_at_limit,

@@ -40,9 +40,9 @@ class Usage(Exception):
 class Request:
     """The words of a command line, told apart."""
 
-    VALUES = {"graph": "fb", "check": "fbe", "verify": "fbk", "simulate": "fbp"}
-    FLAGS = {"graph": "rc", "check": "rc", "verify": "r", "simulate": "r"}
-    NEEDED = {"graph": "", "check": "b", "verify": "bk", "simulate": "bp"}
+    VALUES = {"graph": "fb", "check": "fbe", "repair": "fb", "verify": "fbk", "simulate": "fbp"}
+    FLAGS = {"graph": "rc", "check": "rc", "repair": "r", "verify": "r", "simulate": "r"}
+    NEEDED = {"graph": "", "check": "b", "repair": "b", "verify": "bk", "simulate": "bp"}
 
     def __init__(self, arguments):
         if not arguments or arguments[0] not in self.VALUES:

@@ -6,6 +6,7 @@ import sys
 from evidence import plan_of_finding
 from judge import Subject
 from lines import Refused
+from repair import printed, repaired
 from request import Disk, Request, Usage, file_of, prepared
 from world import World, read_plan, run_plan
 
@@ -14,6 +15,8 @@ sys.setrecursionlimit(20000)
 
 def answer(request, files):
     """What is printed, and the status."""
+    if request.command == "repair":
+        return repaired(request, files)
     graph, book, passed_over = prepared(request, files)
     if request.command == "graph":
         return graph.text("c" in request.flags), 0
@@ -32,7 +35,7 @@ def answer(request, files):
 def verdict(subject, certificate):
     found = subject.findings()
     if found:
-        return b"".join(b" ".join([b"no"] + words) + b"\n" for words in found), 1
+        return printed(found), 1
     if certificate:
         return subject.certificate() + b"\n", 0
     lines = [subject.counts()]

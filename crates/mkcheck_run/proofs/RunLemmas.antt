@@ -1,5 +1,5 @@
 -- What the parts of a run make together.
-use Rattle.std.proofs.Common.{◌≡◌, ◌⊎◌, ◌∙◌, ℕ, Bool, true, true≢false, nat_eq, List, [], String, Global, map, Option, Some, None, refl, sym, ap, ap₂, subst, inl, inr, Result, Ok, Err, IfOk, arith}
+use Rattle.std.proofs.Common.{◌≡◌, ◌⊎◌, ◌∙◌, ℕ, Bool, true, true≢false, nat_eq, List, [], String, Global, map, Option, Some, None, refl, sym, ap, ap₂, subst, inl, inr, Result, Ok, Err, IfOk}
 use Rattle.std.specs.Prelude.{IsErr, OnErr, unwrap_or}
 use Rattle.std.specs.Option.{option_map}
 use Rattle.std.specs.String.{string_bytes}
@@ -12,18 +12,22 @@ use Rattle.mk_core.specs.CheckAnswer.{AnswersCheck}
 use Rattle.mk_core.specs.Ready.{macros_for}
 use Rattle.mk_core_evidence.specs.EvidenceAnswer.{AnswersEvidence, HasVerdict, plan_in}
 use Rattle.mk_core.specs.Files.{Told}
+use Rattle.mk_core_repair.specs.declared.outcome.Repair.{Repair as Repaired}
+use Rattle.mk_core_repair.specs.declared.outcome.Repair.TheVariants as repairs
+use Rattle.mk_core_repair.specs.Outcome.{outcome_of}
+use Rattle.mk_core_repair.specs.RepairAnswer.{Mends, Suffices}
+use Rattle.mk_core_repair.specs.RepairText.{outcome_text}
 use Rattle.mk_core_text.specs.declared.fault.Fault.{Fault}
 use Rattle.mk_core_text.specs.declared.fault.Fault.TheVariants.{Memory}
 use Rattle.mk_core.specs.declared.request.Request.{Request}
 use Rattle.mk_core_evidence.specs.declared.showing.Evidence.{Evidence}
 use Rattle.mk_core_evidence.specs.declared.showing.Evidence.TheVariants.{Plan, NoPlan}
-use Rattle.mk_core_text.specs.declared.verdict.Verdict.TheVariants.{Yes, No}
 use Rattle.mkcheck_run.specs.declared.invocation.Invocation.{Invocation}
-use Rattle.mkcheck_run.specs.declared.invocation.Invocation.TheVariants.{Check}
+use Rattle.mkcheck_run.specs.declared.invocation.Invocation.TheVariants.{Check, Repair}
 use Rattle.mkcheck_run.specs.CommandLine.{command_line}
 use Rattle.mkcheck_run.specs.Invocation.{AreRefusedUnread, faults_of, invocation_of, request_in}
 use Rattle.mkcheck_host.specs.Outcome.{Written}
-use Rattle.mkcheck_run.specs.Run.{AnswersInvocation, Explains, Promises, Response, Shows, evidence_response}
+use Rattle.mkcheck_run.specs.Run.{AnswersInvocation, Explains, Promises, Response, Shows, evidence_response, repair_response, repair_status}
 
 -- the port says which words the command line takes
 pub is_simple_line : is_simple_and_free command_line ≡ true
@@ -64,6 +68,22 @@ module _ (told : Told) (request : Request) (only_certificate : Bool) (number : �
   evidence_answers evidence shown a v e =
       subst (λ (s : Response). AnswersInvocation told (Check request only_certificate (Some number)) (Ok s)) (sym e) (evidence_shows evidence a v)
 
+-- and to one to mend a makefile
+pub no_memory_mends : (told : Told) (request : Request) → AnswersInvocation told (Repair request) (Err Memory)
+no_memory_mends told request = (Err Memory, tt, refl)
+
+module _ (told : Told) (request : Request) where
+  text_mends : (found : Repaired) → Suffices told request (Ok found) → repair_status (outcome_of found) ≡ 0 → Mends told request (outcome_text (outcome_of found))
+  text_mends repairs.Right s e = s
+  text_mends (repairs.Mended text) s e = s
+  text_mends (repairs.Unmended list why) s e = absurd cc
+
+  -- with status 0 the text that is shown mends the makefile
+  pub shown_mends : (found : Repaired) (shown : Response) → Suffices told request (Ok found) → shown ≡ repair_response found → shown.status ≡ 0 → Mends told request shown.text
+  shown_mends found shown s e done =
+      let ends = sym (ap (λ (r : Response). r.status) e) ∙ done in
+      subst (λ (r : Response). Mends told request r.text) (sym e) (text_mends found s ends)
+
 -- what the words spell
 abbrev pub texts_of : List (String Global) → List Text
 texts_of words = map (λ (word : String Global). string_bytes word) words
@@ -79,8 +99,9 @@ unread_by words same none h (inr is) = at (macros_for (request_in (invocation_of
 
 -- what status 0 of an answer promises, it promises where it is written
 pub promised : (told : Told) (asked : Invocation) (answer : Result Response Fault) (w : Written)
-    → IfOk answer (λ shown. shown.status ≡ 0 → Promises told asked) → Shows answer w → w.status ≡ 0 → Promises told asked
-promised told asked (Ok shown) w h shows e = h (sym (ap (λ (x : Written). x.status) shows) ∙ e)
+    → IfOk answer (λ shown. shown.status ≡ 0 → Promises told asked shown.text) → Shows answer w → w.status ≡ 0 → Promises told asked w.out
+promised told asked (Ok shown) w h shows e =
+    subst (λ (x : Written). Promises told asked x.out) (sym shows) (h (sym (ap (λ (x : Written). x.status) shows) ∙ e))
 promised told asked (Err fault) w h shows e =
     let bad : 2 ≡ 0 = sym (ap (λ (x : Written). x.status) shows.1) ∙ e in absurd (true≢false (ap (λ (n : ℕ). nat_eq n 2) bad))
 

@@ -59,6 +59,10 @@ words_argument =
       value_names = 1;
     }
 
+-- `[WHAT]`
+abbrev pub what_argument : Rule
+what_argument = record (new_rule (codes "what")) { value_names = 1 }
+
 -- The subcommand `graph`, without its options.
 abbrev pub named_graph : App
 named_graph = new_app (codes "graph")
@@ -70,6 +74,10 @@ named_check = new_app (codes "check")
 -- The subcommand `verify`, without its options.
 abbrev pub named_verify : App
 named_verify = new_app (codes "verify")
+
+-- The subcommand `repair`, without its options.
+abbrev pub named_repair : App
+named_repair = new_app (codes "repair")
 
 -- The subcommand `simulate`, without its options.
 abbrev pub named_simulate : App
@@ -97,11 +105,19 @@ verify_command =
     with_rule (with_rule (with_rule (with_reading named_verify) needed_book_option)
     certificate_option) words_argument
 
+-- `repair [-f F] [-r] -b BOOK [WORD..]`
+abbrev pub repair_command : App
+repair_command = with_rule (with_rule (with_reading named_repair) needed_book_option) words_argument
+
 -- `simulate [-f F] [-r] -b BOOK -p PLAN [WORD..]`
 abbrev pub simulate_command : App
 simulate_command =
     with_rule (with_rule (with_rule (with_reading named_simulate) needed_book_option) plan_option)
     words_argument
+
+-- `explain [WHAT]`
+abbrev pub explain_command : App
+explain_command = with_rule (new_app (codes "explain")) what_argument
 
 -- The program `mkcheck`, which has a version.
 abbrev pub named_program : App
@@ -120,14 +136,19 @@ program =
           { no_binary_name = true; subcommand_required = true; disable_help_subcommand = true };
     }
 
--- A program with `check` and `verify`.
+-- A program with `check`, `repair` and `verify`.
 abbrev pub with_judging : App → App
-with_judging app = with_subcommand (with_subcommand app check_command.top) verify_command.top
+with_judging app =
+    with_subcommand (with_subcommand (with_subcommand app check_command.top) repair_command.top)
+    verify_command.top
 
--- `mkcheck` with its four subcommands.
+-- A program with `simulate` and `explain`.
+abbrev pub with_telling : App → App
+with_telling app = with_subcommand (with_subcommand app simulate_command.top) explain_command.top
+
+-- `mkcheck` with its six subcommands.
 abbrev pub command_line : App
-command_line =
-    with_subcommand (with_judging (with_subcommand program graph_command.top)) simulate_command.top
+command_line = with_telling (with_judging (with_subcommand program graph_command.top))
 
 -- The word is read as an option or as `--`: it is a `-` and at least one more byte.
 abbrev pub is_option : List ℕ → Bool

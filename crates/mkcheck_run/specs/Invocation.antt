@@ -9,7 +9,7 @@ use Rattle.mk_core.specs.declared.request.Request.{Request}
 use Rattle.mk_core.specs.Ready.{macros_for}
 use Rattle.mk_core.specs.Words.{goals_of, operands_of}
 use Rattle.mkcheck_run.specs.declared.invocation.Invocation.{Invocation}
-use Rattle.mkcheck_run.specs.declared.invocation.Invocation.TheVariants.{Graph, Check, Verify, Simulate}
+use Rattle.mkcheck_run.specs.declared.invocation.Invocation.TheVariants.{Graph, Check, Repair, Explain, Verify, Simulate}
 use Rattle.mkcheck_run.specs.CommandLine.{command_line}
 
 -- The kinds of fault that the command line finds in the words; none where it accepts them.
@@ -70,11 +70,13 @@ invocation_by name rows =
     if bytes_eq name (codes "check")
     then Check (requested rows) (is_set (codes "only-certificate") rows)
     (number_at (codes "evidence") rows) else
+    (if bytes_eq name (codes "repair") then Repair (requested rows) else
+    (if bytes_eq name (codes "explain") then Explain (first_of (codes "what") rows) else
     (if bytes_eq name (codes "verify")
     then Verify (requested rows) (needed (codes "certificate") rows) else
     (if bytes_eq name (codes "simulate")
     then Simulate (requested rows) (needed (codes "plan") rows)
-    else Graph (requested rows)))
+    else Graph (requested rows)))))
 
 -- The command for the subcommand that the words name. Words without a subcommand are never
 -- accepted, so that case is arbitrary.
@@ -86,10 +88,12 @@ asked_with (Some met) = invocation_by met.0 met.1
 abbrev pub invocation_of : List Text → Invocation
 invocation_of words = asked_with (subcommand_of command_line words)
 
--- The request of a command.
+-- The request of a command. `explain` reads no file, so its request is arbitrary.
 abbrev pub request_in : Invocation → Request
 request_in (Graph request) = request
 request_in (Check request only_certificate evidence) = request
+request_in (Repair request) = request
+request_in (Explain what) = requested []
 request_in (Verify request certificate) = request
 request_in (Simulate request plan) = request
 

@@ -1,9 +1,10 @@
 -- The outcome of a run.
-use Rattle.std.specs.Prelude.{◌≡◌, ℕ, Bool, false, List, [], ◌∷◌, ◌++◌, codes, Option, None, Some, Result, Ok, Err, if◌then◌else◌}
+use Rattle.std.specs.Prelude.{◌≡◌, ◌⊎◌, ℕ, Bool, false, List, [], ◌∷◌, ◌++◌, codes, Option, None, Some, Result, Ok, Err, if◌then◌else◌}
 use Rattle.clap.specs.Words.{IsAmong, Kinds}
 use Rattle.clap.specs.declared.error.ErrorKind.{ErrorKind}
 use Rattle.clap.specs.declared.error.ErrorKind.TheVariants.{DisplayHelp, DisplayVersion, OutOfMemory}
 use Rattle.mk_core_text.specs.declared.fault.Fault.{Fault}
+use Rattle.mk_core_text.specs.declared.fault.Fault.TheVariants.{Memory}
 use Rattle.mk_core.specs.declared.request.Request.{Request}
 use Rattle.mk_core.specs.Answer.{Answers, NotesFailure}
 use Rattle.mk_core.specs.CheckAnswer.{AnswersCheck}
@@ -16,6 +17,11 @@ use Rattle.mk_core.specs.Right.{IsRightFor}
 use Rattle.mk_core.specs.Steps.{is_out_of_memory, seen}
 use Rattle.mk_core_text.specs.VerdictText.{verdict_text}
 use Rattle.mk_core.specs.VerifyAnswer.{AnswersVerify}
+use Rattle.mk_explain.specs.Explain.{explained, overview_text}
+use Rattle.mk_core_repair.specs.declared.outcome.Repair.{Repair as Repaired}
+use Rattle.mk_core_repair.specs.Outcome.{Outcome, right, mended, unmended, outcome_of}
+use Rattle.mk_core_repair.specs.RepairAnswer.{AnswersRepair, Mends}
+use Rattle.mk_core_repair.specs.RepairText.{outcome_text}
 use Rattle.mk_core_evidence.specs.declared.showing.Evidence.{Evidence}
 use Rattle.mk_core_evidence.specs.declared.showing.Evidence.TheVariants.{Plan, NoPlan}
 use Rattle.mk_core_text.specs.declared.verdict.Verdict.{Verdict}
@@ -24,7 +30,7 @@ use Rattle.mk_core.specs.Files.{IfFits, Told}
 use Rattle.mk_cert_text.specs.Writing.{value_of}
 use Rattle.serde_json.specs.Written.{compact_text}
 use Rattle.mkcheck_run.specs.declared.invocation.Invocation.{Invocation}
-use Rattle.mkcheck_run.specs.declared.invocation.Invocation.TheVariants.{Graph, Check, Verify, Simulate}
+use Rattle.mkcheck_run.specs.declared.invocation.Invocation.TheVariants.{Graph, Check, Repair, Explain, Verify, Simulate}
 use Rattle.mkcheck_host.specs.Outcome.{Written}
 
 -- The response to a command: a text for standard output, and the exit status.
@@ -60,9 +66,39 @@ abbrev pub evidence_response : Bool → Evidence → Response
 evidence_response only_certificate (Plan plan) = plan_response plan.items
 evidence_response only_certificate (NoPlan verdict) = response_without_plan only_certificate verdict
 
+-- The status of what comes of mending: 1 where nothing known mends the makefile, else 0.
+abbrev pub repair_status : Outcome → ℕ
+repair_status right = 0
+repair_status (mended text) = 0
+repair_status (unmended found reason) = 1
+
+-- The response with what comes of mending.
+abbrev pub repair_response : Repaired → Response
+repair_response found =
+    record {
+      text = outcome_text (outcome_of found);
+      status = repair_status (outcome_of found);
+    }
+
 -- The response with the run of a plan: status 2 where a line was refused, else 0.
 abbrev pub run_response : Simulation → Response
 run_response run = record { text = run.text; status = if run.refused then 2 else 0 }
+
+-- What is printed where nothing is called so.
+abbrev pub unknown_text : List ℕ → List ℕ
+unknown_text what =
+    codes "no finding and no fault is called " ++ (what ++
+    codes "; mkcheck explain lists all of them\n")
+
+-- The response with the explanation of what is called so, or with status 2 where nothing is.
+abbrev pub explained_response : List ℕ → Option (List ℕ) → Response
+explained_response what (Some text) = text_response text
+explained_response what None = record { text = unknown_text what; status = 2 }
+
+-- The response to `explain`: an explanation, or without a name the overview.
+abbrev pub explain_response : Option (List ℕ) → Response
+explain_response None = text_response overview_text
+explain_response (Some what) = explained_response what (explained what)
 
 -- The response to `check`: the verdict as it is shown, or the fault.
 abbrev pub ShowsVerdict : Told → Request → (Verdict → Response) → Result Response Fault → Type 0
@@ -90,6 +126,11 @@ AnswersInvocation files (Check request only_certificate (Some number)) answer =
     (plan : Result (Option (List ℕ)) Fault) ×
     Answers files request (AnswersEvidence number) plan ×
     ShowsPlan files request only_certificate plan answer
+AnswersInvocation files (Repair request) answer =
+    (found : Result Repaired Fault) ×
+    AnswersRepair files request found × (answer ≡ seen repair_response found)
+AnswersInvocation files (Explain what) answer =
+    (answer ≡ Err Memory) ⊎ (answer ≡ Ok (explain_response what))
 AnswersInvocation files (Verify request certificate) answer =
     (text : Result (List ℕ) Fault) ×
     Answers files request (AnswersVerify files certificate) text ×
@@ -98,12 +139,13 @@ AnswersInvocation files (Simulate request plan) answer =
     (run : Result Simulation Fault) ×
     Answers files request (AnswersSimulation files plan) run × (answer ≡ seen run_response run)
 
--- What status 0 of a command says, over files with this map: the build that `check` or `verify`
--- judges is right.
-abbrev pub Promises : Told → Invocation → Type 0
-Promises files (Check request only_certificate evidence) = IsRightFor files request
-Promises files (Verify request certificate) = IsRightFor files request
-Promises files asked = Unit {0}
+-- What status 0 of a command with this text on standard output says, over files with this map: the
+-- build that `check` or `verify` judges is right, and the text that `repair` prints mends it.
+abbrev pub Promises : Told → Invocation → List ℕ → Type 0
+Promises files (Check request only_certificate evidence) text = IsRightFor files request
+Promises files (Repair request) text = Mends files request text
+Promises files (Verify request certificate) text = IsRightFor files request
+Promises files asked text = Unit {0}
 
 -- The response is written to standard output, with its status; a fault as a refusal on a line, with
 -- status 2. Out of memory isn't written here.

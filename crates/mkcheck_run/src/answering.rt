@@ -1,24 +1,28 @@
 //! Carries out a command.
 
-ghost use Rattle.std.specs.Prelude.{◌≡◌, ◌∷◌, ◌++◌, [], None, Some, IfOk, OnErr};
-ghost use Rattle.mk_core.specs.Files.{IfFits, Keeps};
+ghost use Rattle.std.specs.Prelude.{◌≡◌, ◌∷◌, ◌++◌, [], None, Some, IfErr, IfOk, OnErr};
+ghost use Rattle.mk_core.specs.Files.{IfFits, Keeps, Told};
+ghost use Rattle.mk_core_text.specs.declared.fault.Fault.TheVariants.{Memory};
+ghost use Rattle.mk_explain.specs.Explain.{explained};
 ghost use Rattle.mk_core.specs.Answer.{NotesFailure};
 ghost use Rattle.mk_core.specs.Ready.{macros_for};
 ghost use Rattle.mk_core.specs.Right.{IsRightFor};
 ghost use Rattle.mk_cert_text.specs.Writing.{value_of};
 ghost use Rattle.serde_json.specs.Written.{compact_text};
 ghost use Rattle.mkcheck_run.specs.Invocation.{request_in};
-ghost use Rattle.mkcheck_run.specs.Run.{AnswersInvocation, Promises, evidence_response, plan_response, run_response, text_response, verdict_response, response_without_plan};
-ghost use Rattle.mkcheck_run.specs.declared.invocation.Invocation.TheVariants.{Check};
+ghost use Rattle.mkcheck_run.specs.Run.{AnswersInvocation, Promises, evidence_response, plan_response, repair_response, explain_response, explained_response, run_response, text_response, verdict_response, response_without_plan};
+ghost use Rattle.mkcheck_run.specs.declared.invocation.Invocation.TheVariants.{Check, Explain, Repair as Mend};
 
 use crate::invocation::Invocation;
 use crate::running::{DONE, NO, REFUSED};
 use mk_cert_text::{Certificate, certificate_text};
 use mk_core::{
-    Fault, Files, Request, Simulation, Verdict, check, drop_or_leak, graph_text, render,
+    Fault, Files, Name, Request, Simulation, Verdict, check, drop_or_leak, graph_text, render,
     simulate_text, verify_text,
 };
 use mk_core_evidence::{Evidence, evidence_or_verdict};
+use mk_core_repair::{Repair, repair, repair_text};
+use mk_explain::{explain, overview};
 use std::alloc::{AllocError, Global};
 use std::marker::Model;
 
@@ -169,14 +173,85 @@ fn answer_plan<F: Files>(
     Ok(shown)
 }
 
+// The response with the explanation of what is called so, or with status 2 where nothing is.
+fn explained_response(alloc: Global, what: &str) -> Result<Response, AllocError>
+    ensures { IfOk result (λ shown. shown ≡ explained_response what.now (explained what.now)) }
+{
+    match explain(alloc, what)? {
+        Some(text) => Ok(text_response(text.into_bytes())),
+        None => {
+            let text = format!(in alloc;
+                "no finding and no fault is called {what}; mkcheck explain lists all of them\n"
+            )?;
+            Ok(Response {
+                text: text.into_bytes(),
+                status: REFUSED,
+            })
+        }
+    }
+}
+
+// The response to `explain`.
+fn explain_response(alloc: Global, what: &Option<Name>) -> Result<Response, AllocError>
+    ensures { IfOk result (λ shown. shown ≡ explain_response what.now) }
+{
+    match what {
+        Some(what) => explained_response(alloc, what.as_str()),
+        None => Ok(text_response(overview(alloc)?.into_bytes())),
+    }
+}
+
+// Carries out `explain`. The only error is out of memory.
+fn answer_explain(alloc: Global, what: &Option<Name>) -> Result<Response, Fault>
+    ensures answer { (told : Told) → AnswersInvocation told (Explain what.now) result }
+    ensures memory { IfErr result (λ fault. fault ≡ Memory) }
+{
+    let shown = explain_response(alloc, what)?;
+    Ok(shown)
+}
+
+// The response with what comes of mending: status 1 where nothing known mends the makefile.
+fn repair_response(alloc: Global, found: &Repair) -> Result<Response, AllocError>
+    ensures { IfOk result (λ shown. shown ≡ repair_response found.now) }
+{
+    let text = repair_text(alloc, found)?;
+    let status = match found {
+        Repair::Right | Repair::Mended(_) => DONE,
+        Repair::Unmended(..) => NO,
+    };
+    Ok(Response { text, status })
+}
+
+// Carries out `repair`.
+fn answer_repair<F: Files>(
+    alloc: Global,
+    files: &mut F,
+    request: &Request,
+) -> Result<Response, Fault>
+    ensures keeps { Keeps (F.fits files.old) (F.fits files.new) }
+    ensures answer { IfFits (F.fits files.new)
+        (λ told. AnswersInvocation told (Mend request.now) result) }
+    ensures right { IfFits (F.fits files.new)
+        (λ told. IfOk result (λ shown.
+        shown.status ≡ 0 → Promises told (Mend request.now) shown.text)) }
+    ensures noted { NotesFailure (F.failed files.old) (F.failed files.new) result }
+    ensures untouched { OnErr (macros_for request.now) (files.new ≡ files.old) }
+{
+    let found = repair(alloc, files, request)?;
+    let shown = repair_response(alloc, &found)?;
+    drop_or_leak(found, request.leaves_memory);
+    Ok(shown)
+}
+
 /// Carries out a command, and returns the response. On an error nothing is returned; the error is
 /// the first fault, or `Memory`, out of memory. Status 0 for `check` and `verify` says that the
-/// build is right.
+/// build is right, and for `repair` that it is with the text appended to the makefile.
 pub fn answer<F: Files>(alloc: Global, files: &mut F, asked: &Invocation) -> Result<Response, Fault>
     ensures keeps { Keeps (F.fits files.old) (F.fits files.new) }
     ensures answer { IfFits (F.fits files.new) (λ told. AnswersInvocation told asked.now result) }
     ensures right { IfFits (F.fits files.new)
-        (λ told. IfOk result (λ shown. shown.status ≡ 0 → Promises told asked.now)) }
+        (λ told. IfOk result (λ shown.
+        shown.status ≡ 0 → Promises told asked.now shown.text)) }
     ensures noted { NotesFailure (F.failed files.old) (F.failed files.new) result }
     ensures untouched { OnErr (macros_for (request_in asked.now)) (files.new ≡ files.old) }
 {
@@ -195,6 +270,8 @@ pub fn answer<F: Files>(alloc: Global, files: &mut F, asked: &Invocation) -> Res
             only_certificate,
             evidence: Some(number),
         } => answer_plan(alloc, files, request, *only_certificate, *number),
+        Invocation::Repair(request) => answer_repair(alloc, files, request),
+        Invocation::Explain(what) => answer_explain(alloc, what),
         Invocation::Verify {
             request,
             certificate,

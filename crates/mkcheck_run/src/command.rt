@@ -1,9 +1,9 @@
 //! Declares the command line.
 
-ghost use Rattle.std.specs.Prelude.{◌≡◌, IfOk, false};
-ghost use Rattle.clap.specs.Words.{app_of, rule_of, with_rule};
+ghost use Rattle.std.specs.Prelude.{◌≡◌, IfOk, codes, false};
+ghost use Rattle.clap.specs.Words.{app_of, new_app, rule_of, with_rule};
 ghost use Rattle.clap.specs.declared.builder.command.Command.TheViews.{out-Command as fields_of};
-ghost use Rattle.mkcheck_run.specs.CommandLine.{book_option, certificate_option, check_command, command_line, commands_option, evidence_option, graph_command, makefile_option, named_check, named_graph, named_program, named_simulate, named_verify, needed_book_option, no_defaults_option, only_certificate_option, plan_option, program, simulate_command, verify_command, with_judging, with_reading, words_argument};
+ghost use Rattle.mkcheck_run.specs.CommandLine.{book_option, certificate_option, check_command, command_line, commands_option, evidence_option, explain_command, graph_command, makefile_option, named_check, named_graph, named_program, named_repair, named_simulate, named_verify, needed_book_option, no_defaults_option, only_certificate_option, plan_option, program, repair_command, simulate_command, verify_command, what_argument, with_judging, with_reading, with_telling, words_argument};
 
 use clap::{Arg, ArgAction, Command, value_parser};
 use std::alloc::{AllocError, Global};
@@ -31,9 +31,15 @@ const BEHIND_CHECK: &str = with_statuses!(
     Example: mkcheck check -b footprints.json -e 1 prog > plan.txt\n\n"
 );
 
+const BEHIND_REPAIR: &str = with_statuses!(
+    "Example: mkcheck repair -b footprints.json prog > more && cat more >> makefile\n\n"
+);
+
 const BEHIND_VERIFY: &str = with_statuses!(
     "Example: mkcheck verify -b footprints.json -k certificate.json prog\n\n"
 );
+
+const BEHIND_EXPLAIN: &str = with_statuses!("Example: mkcheck explain stale\n\n");
 
 const BEHIND_SIMULATE: &str = with_statuses!(
     "Example: mkcheck simulate -b footprints.json -p plan.txt prog\n\n"
@@ -135,6 +141,15 @@ fn commands_option<'a>(alloc: Global) -> Arg<'a>
         .help("Prints the commands of each target behind its line, expanded")
 }
 
+fn what_argument<'a>(alloc: Global) -> Arg<'a>
+    ensures rule { rule_of result ≡ what_argument }
+    ensures local { result.global ≡ false }
+{
+    Arg::new(alloc, "what").value_name("WHAT").help(
+        "The first word of a finding, or a fault's number or name; without it all are listed",
+    )
+}
+
 fn words_argument<'a>(alloc: Global) -> Arg<'a>
     ensures rule { rule_of result ≡ words_argument }
     ensures local { result.global ≡ false }
@@ -168,6 +183,18 @@ fn named_check<'a>(alloc: Global) -> Command<'a>
         .after_help(BEHIND_CHECK)
 }
 
+fn named_repair<'a>(alloc: Global) -> Command<'a>
+    ensures app { app_of result ≡ named_repair }
+    ensures local { (fields_of result).has_globals ≡ false }
+{
+    Command::new(alloc, "repair")
+        .about(
+            "Prints the lines to append to the makefile so that check says yes, or why none help",
+        )
+        .override_usage("mkcheck repair [-f F] [-r] -b BOOK [WORD]...")
+        .after_help(BEHIND_REPAIR)
+}
+
 fn named_verify<'a>(alloc: Global) -> Command<'a>
     ensures app { app_of result ≡ named_verify }
     ensures local { (fields_of result).has_globals ≡ false }
@@ -188,7 +215,18 @@ fn named_simulate<'a>(alloc: Global) -> Command<'a>
         .after_help(BEHIND_SIMULATE)
 }
 
-// Adds the options that every subcommand has, `-f` and `-r`.
+// The subcommand `explain`, without its argument.
+fn named_explain<'a>(alloc: Global) -> Command<'a>
+    ensures app { app_of result ≡ new_app (codes "explain") }
+    ensures local { (fields_of result).has_globals ≡ false }
+{
+    Command::new(alloc, "explain")
+        .about("Says what a finding or a fault means, when it comes and what to do")
+        .override_usage("mkcheck explain [WHAT]")
+        .after_help(BEHIND_EXPLAIN)
+}
+
+// Adds the options that every subcommand that reads a makefile has, `-f` and `-r`.
 fn with_reading<'a>(alloc: Global, command: Command<'a>) -> Result<Command<'a>, AllocError>
     requires { (fields_of command).has_globals ≡ false }
     ensures app { IfOk result (λ c. app_of c ≡ with_reading (app_of command.entry)) }
@@ -229,6 +267,15 @@ fn check_command<'a>(alloc: Global) -> Result<Command<'a>, AllocError>
     with_showing(alloc, needing)?.arg(words_argument(alloc))
 }
 
+fn repair_command<'a>(alloc: Global) -> Result<Command<'a>, AllocError>
+    ensures app { IfOk result (λ c. app_of c ≡ repair_command) }
+    ensures local { IfOk result (λ c. (fields_of c).has_globals ≡ false) }
+{
+    with_reading(alloc, named_repair(alloc))?
+        .arg(needed_book_option(alloc))?
+        .arg(words_argument(alloc))
+}
+
 fn verify_command<'a>(alloc: Global) -> Result<Command<'a>, AllocError>
     ensures app { IfOk result (λ c. app_of c ≡ verify_command) }
     ensures local { IfOk result (λ c. (fields_of c).has_globals ≡ false) }
@@ -247,6 +294,13 @@ fn simulate_command<'a>(alloc: Global) -> Result<Command<'a>, AllocError>
         .arg(needed_book_option(alloc))?
         .arg(plan_option(alloc))?
         .arg(words_argument(alloc))
+}
+
+fn explain_command<'a>(alloc: Global) -> Result<Command<'a>, AllocError>
+    ensures app { IfOk result (λ c. app_of c ≡ explain_command) }
+    ensures local { IfOk result (λ c. (fields_of c).has_globals ≡ false) }
+{
+    named_explain(alloc).arg(what_argument(alloc))
 }
 
 fn named_program<'a>(alloc: Global) -> Command<'a>
@@ -269,7 +323,7 @@ fn program<'a>(alloc: Global) -> Command<'a>
         .disable_help_subcommand(true)
 }
 
-// Adds the subcommands that judge a build, `check` and `verify`.
+// Adds the subcommands that judge a build, `check`, `repair` and `verify`.
 fn with_judging<'a>(alloc: Global, command: Command<'a>) -> Result<Command<'a>, AllocError>
     requires { (fields_of command).has_globals ≡ false }
     ensures app { IfOk result (λ c. app_of c ≡ with_judging (app_of command.entry)) }
@@ -277,17 +331,30 @@ fn with_judging<'a>(alloc: Global, command: Command<'a>) -> Result<Command<'a>, 
 {
     command
         .subcommand(check_command(alloc)?)?
+        .subcommand(repair_command(alloc)?)?
         .subcommand(verify_command(alloc)?)
 }
 
+// Adds the subcommands `simulate` and `explain`.
+fn with_telling<'a>(alloc: Global, command: Command<'a>) -> Result<Command<'a>, AllocError>
+    requires { (fields_of command).has_globals ≡ false }
+    ensures app { IfOk result (λ c. app_of c ≡ with_telling (app_of command.entry)) }
+    ensures local { IfOk result (λ c. (fields_of c).has_globals ≡ false) }
+{
+    command
+        .subcommand(simulate_command(alloc)?)?
+        .subcommand(explain_command(alloc)?)
+}
+
 /// The command line of the program, which reads the words after the program's name: `graph [-f F]
-/// [-r] [-b BOOK] [-c] [WORD..]`, `check [-f F] [-r] -b BOOK [-c] [-e N] [WORD..]`, `verify [-f F]
-/// [-r] -b BOOK -k CERT [WORD..]`, `simulate [-f F] [-r] -b BOOK -p PLAN [WORD..]`, `--help` and
-/// `--version`. The only error is out of memory.
+/// [-r] [-b BOOK] [-c] [WORD..]`, `check [-f F] [-r] -b BOOK [-c] [-e N] [WORD..]`, `repair [-f F]
+/// [-r] -b BOOK [WORD..]`, `verify [-f F] [-r] -b BOOK -k CERT [WORD..]`, `simulate [-f F] [-r] -b
+/// BOOK -p PLAN [WORD..]`, `explain [WHAT]`, `--help` and `--version`. The only error is out of
+/// memory.
 pub fn command_line<'a>(alloc: Global) -> Result<Command<'a>, AllocError>
     ensures app { IfOk result (λ c. app_of c ≡ command_line) }
     ensures local { IfOk result (λ c. (fields_of c).has_globals ≡ false) }
 {
     let drawing = program(alloc).subcommand(graph_command(alloc)?)?;
-    with_judging(alloc, drawing)?.subcommand(simulate_command(alloc)?)
+    with_telling(alloc, with_judging(alloc, drawing)?)
 }

@@ -23,6 +23,8 @@ pub enum Invocation {
         /// For a no, the number of the finding whose plan alone is printed.
         evidence: Option<u64>,
     },
+    /// `repair`: prints the lines that mend the makefile, or why nothing does.
+    Repair(Request),
     /// `verify`: says whether the certificate in this file shows that the build is right.
     Verify {
         /// The makefile, the goals and the footprints.
@@ -30,6 +32,8 @@ pub enum Invocation {
         /// The file of the certificate.
         certificate: Name,
     },
+    /// `explain`: says what a finding or a fault means; without a name it lists all.
+    Explain(Option<Name>),
     /// `simulate`: runs the plan in this file.
     Simulate {
         /// The makefile, the goals and the footprints.
@@ -116,6 +120,8 @@ pub fn invocation_by(
             only_certificate: matches.get_count("only-certificate") > 0,
             evidence: number_at(matches, "evidence"),
         }),
+        "repair" => Ok(Invocation::Repair(request)),
+        "explain" => Ok(Invocation::Explain(named(alloc, matches, "what")?)),
         "verify" => Ok(Invocation::Verify {
             request,
             certificate: needed(alloc, matches, "certificate")?,

@@ -90,7 +90,7 @@ fn answered<F: Files>(
     ensures answered { IfOk result (λ outcome. IsAnswered (F.fits files.new) (F.failed files.old)
         (F.failed files.new) (asked_with (subcommand_rows_of matches.now)) (written outcome)) }
     ensures right { IfOk result (λ outcome. outcome.status ≡ 0 → IfFits (F.fits files.new)
-        (λ told. Promises told (asked_with (subcommand_rows_of matches.now)))) }
+        (λ told. Promises told (asked_with (subcommand_rows_of matches.now)) outcome.out.items)) }
     ensures untouched { OnErr (macros_for (request_in (asked_with (subcommand_rows_of matches.now))))
         (files.new ≡ files.old) }
 {
@@ -117,11 +117,12 @@ pub fn run<F: Files, S: AsStr>(
         IsAnswered (F.fits files.new) (F.failed files.old) (F.failed files.new)
         (invocation_of (map S.text words.now)) (written outcome)) }
 
-    // Where the command judges a build, status 0 says that the build is right, for each map that
-    // fits what was read.
+    // Where the command judges a build, status 0 says that the build is right; where it mends one,
+    // that it is right with the printed text appended to the makefile; for each map that fits what
+    // was read.
     ensures right { IfOk result (λ outcome. faults_of (map S.text words.now) ≡ [] →
         outcome.status ≡ 0 → IfFits (F.fits files.new)
-        (λ told. Promises told (invocation_of (map S.text words.now)))) }
+        (λ told. Promises told (invocation_of (map S.text words.now)) outcome.out.items)) }
 
     // Without any option but `-f F`, `graph [-f F] WORD..` is the command that it says.
     ensures plain { IfOk result (λ outcome. (makefile : Option (List ℕ)) (asked : List (List ℕ)) →

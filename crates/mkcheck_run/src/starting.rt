@@ -30,7 +30,7 @@ pub fn run_arguments<F: Files>(
     ensures keeps { Keeps (F.fits files.old) (F.fits files.new) }
 
     // Words without a fault give a command, which is carried out; and status 0 of a verdict says
-    // that the build is right.
+    // that the build is right, of `repair` that it is with the printed text appended.
     ensures taken { IfOk words (λ given. IfOk result (λ outcome.
         faults_of (map ⟦<String as AsStr>⟧.text given.items) ≡ [] →
         IsAnswered (F.fits files.new) (F.failed files.old) (F.failed files.new)
@@ -38,7 +38,8 @@ pub fn run_arguments<F: Files>(
     ensures right { IfOk words (λ given. IfOk result (λ outcome.
         faults_of (map ⟦<String as AsStr>⟧.text given.items) ≡ [] → outcome.status ≡ 0 →
         IfFits (F.fits files.new)
-        (λ told. Promises told (invocation_of (map ⟦<String as AsStr>⟧.text given.items))))) }
+        (λ told. Promises told (invocation_of (map ⟦<String as AsStr>⟧.text given.items))
+        outcome.out.items))) }
 
     // Words with a fault, a bad name of the makefile and a bad macro operand are refused before any
     // file is read. Without words nothing is read.

@@ -72,11 +72,13 @@ fn prints_what_is_not_read(rt: HostRuntime) -> Result<(), Fail> {
 }
 
 /// Command lines whose makefile's name or operand is refused, and what is printed.
-const UNREAD: [(&str, &str); 6] = [
+const UNREAD: [(&str, &str); 8] = [
     ("graph -f - b=1", "refused 27 -\n"),
     ("graph CC+=cc", "refused 11 operand:1\n"),
     ("check -b B -f a/ a", "refused 27 a/\n"),
     ("check -b B -e 1 b=1 CC+=cc", "refused 11 operand:2\n"),
+    ("repair -b B -f - CC+=cc", "refused 27 -\n"),
+    ("repair -b B b=1 CC+=cc", "refused 11 operand:2\n"),
     ("verify -b B -k K -f - CC+=cc", "refused 27 -\n"),
     ("simulate -b B -p P CC+=cc", "refused 11 operand:1\n"),
 ];

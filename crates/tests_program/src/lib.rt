@@ -6,8 +6,12 @@ mod edges;
 #[cfg(test)]
 mod expecting;
 #[cfg(test)]
+mod explanations;
+#[cfg(test)]
 mod graphs;
 #[cfg(test)]
 mod openings;
+#[cfg(test)]
+mod repairs;
 #[cfg(test)]
 mod verdicts;

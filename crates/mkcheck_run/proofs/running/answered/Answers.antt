@@ -29,7 +29,7 @@ returns-clause-right g c =
     let met = met_found (λ p. p.0.now) (λ p. rows_of (found_of p.1.now)) _ _ _ c.subcommand.result c.unwrap.result c.subcommand.ensures.name c.subcommand.ensures.rows c.unwrap.ensures in
     let asks = c.in_ok-asked.ensures ∙ sym (ap asked_with met) in
     IfOk-weaker c.shown.result _ _ (λ outcome shows done told fits. promised told _ found _
-    (subst (λ (a : Invocation). IfOk found (λ shown. shown.status ≡ 0 → Promises told a)) asks
+    (subst (λ (a : Invocation). IfOk found (λ shown. shown.status ≡ 0 → Promises told a shown.text)) asks
     (c.answer-found.ensures.right told fits)) shows done) c.shown.ensures
 
 pub returns-clause-untouched : goal.returns-clause-untouched

@@ -1,4 +1,4 @@
-use Rattle.std.proofs.Common.{◌≡◌, ◌∙◌, [], ap, subst, map, refl}
+use Rattle.std.proofs.Common.{◌≡◌, ◌∙◌, [], ap, subst, map}
 use Rattle.std.proofs.lemmas.Result.{IfOk-weaker}
 use Rattle.std.specs.Prelude.{OnErr}
 use Rattle.clap.specs.Words.{App, HasKind, IsAmong, fault_of, is_simple, is_simple_and_free, kind_of, subcommand_of}
@@ -66,7 +66,7 @@ returns-in-Ok-clause-right g c =
     let words = map g.S.AsStr.text c.args.words.now in
     let met = (c.in-Ok.ensures.matches (ap is_simple app ∙ is_simple_command)).1 ∙ ap (λ (a : App). subcommand_of a words) app in
     IfOk-weaker c.answered.result _ _ (λ outcome h taken done.
-    subst (λ (a : Invocation). IfFits (g.F.Files.fits c.answered.new.files) (λ files. Promises files a)) (ap asked_with met) (h done)) c.answered.ensures.right
+    subst (λ (a : Invocation). IfFits (g.F.Files.fits c.answered.new.files) (λ files. Promises files a outcome.out.items)) (ap asked_with met) (h done)) c.answered.ensures.right
 
 pub returns-in-Err-clause-right : goal.returns-in-Err-clause-right
 returns-in-Err-clause-right g c =

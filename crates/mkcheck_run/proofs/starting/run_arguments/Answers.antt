@@ -1,5 +1,4 @@
-use Rattle.std.proofs.Common.{◌≡◌, ℕ, List, [], String, Global, map, subst}
-use Rattle.std.specs.String.{string_bytes}
+use Rattle.std.proofs.Common.{◌≡◌, List, [], String, Global, subst}
 use Rattle.mk_core.specs.Files.{IfFits}
 use Rattle.mkcheck_run.specs.Invocation.{AreRefusedUnread, faults_of, invocation_of}
 use Rattle.mkcheck_run.specs.Run.{Promises}
@@ -9,7 +8,7 @@ use Rattle.mkcheck_run.proofs.starting.run_arguments.Goals as goal
 pub returns-in-Ok-run-clause-right : goal.returns-in-Ok-run-clause-right
 returns-in-Ok-run-clause-right g c =
     rw c.in-Ok.is
-    (subst (λ (words : List (String Global)). faults_of (texts_of words) ≡ [] → c.in-Ok-run.outcome.status ≡ 0 → IfFits (g.F.Files.fits c.run.new.files) (λ told. Promises told (invocation_of (texts_of words))))
+    (subst (λ (words : List (String Global)). faults_of (texts_of words) ≡ [] → c.in-Ok-run.outcome.status ≡ 0 → IfFits (g.F.Files.fits c.run.new.files) (λ told. Promises told (invocation_of (texts_of words)) c.in-Ok-run.outcome.out.items))
     c.as_slice.ensures.value c.in-Ok-run.ensures.right)
 
 pub returns-in-Ok-run-clause-untouched : goal.returns-in-Ok-run-clause-untouched

@@ -1,0 +1,195 @@
+"""`repair`: the lines that mend a makefile, or its findings and why nothing known mends it."""
+
+from judge import Subject
+from lines import Refused, is_make_name
+from request import FILE_LIMIT, prepared
+
+JUDGEMENTS = 64
+SIDE_LIMIT = 2000
+
+
+class Appended:
+    """Files, of which one has a text appended."""
+
+    def __init__(self, files, name, text):
+        self.files = files
+        self.name = name
+        self.text = text
+
+    def read(self, name):
+        found = self.files.read(name)
+        return found + self.text if name == self.name else found
+
+
+def judged(request, files):
+    """What `check` judges, and the name of its makefile."""
+    graph, book, passed_over = prepared(request, files)
+    return Subject(graph, book, passed_over), graph.rules.makefile.texts[0]
+
+
+def printed(findings):
+    return b"".join(b" ".join([b"no"] + words) + b"\n" for words in findings)
+
+
+# Words: (target, prerequisite), or (target, None) for a target that is phony.
+
+
+def maker(subject, file):
+    """What a recipe needs that reads a file."""
+    if file in subject.there.sources or file in subject.graph.nodes:
+        return file
+    return subject.writers[file][0]
+
+
+def is_needed(subject, target):
+    """Whether a recipe that isn't phony has the target as a direct prerequisite."""
+    return any(
+        node.recipe and not node.phony and target in node.prerequisites
+        for node in subject.graph.serial
+    )
+
+
+def is_inferred(subject, target):
+    """Whether the commands of a target are those of an inference rule, which a phony target hasn't."""
+    return subject.rules.own_commands(target) is None
+
+
+def word_of(subject, finding):
+    """The word of a finding, or None."""
+    kind, first = finding[:2]
+    if kind == b"target":
+        stays = is_needed(subject, first) or is_inferred(subject, first)
+        word = None if stays else (first, None)
+    elif kind == b"loose":
+        word = first, finding[2]
+    elif kind in (b"race", b"stale"):
+        word = first, maker(subject, finding[-1])
+    else:
+        word = None
+    if word is None or not all(name is None or is_make_name(name) for name in word):
+        return None
+    return word
+
+
+def words_of(subject, findings):
+    """The words of all findings, each once, or None where one gives none."""
+    words = [word_of(subject, finding) for finding in findings]
+    return None if None in words else list(dict.fromkeys(words))
+
+
+# Lines.
+
+
+def cut(names):
+    """The names in rows that are short enough, each as long as it may be."""
+    rows = []
+    for name in names:
+        if rows and len(b" ".join(rows[-1] + [name])) <= SIDE_LIMIT:
+            rows[-1].append(name)
+        else:
+            rows.append([name])
+    return rows
+
+
+def lines_between(targets, prerequisites):
+    return [
+        b" ".join(left) + b": " + b" ".join(right) + b"\n"
+        for left in cut(targets)
+        for right in cut(prerequisites)
+    ]
+
+
+def lines_of(words):
+    """The lines that say the words."""
+    phony = [target for target, prerequisite in words if prerequisite is None]
+    lacking = {}
+    for target, prerequisite in words:
+        if prerequisite is not None:
+            lacking.setdefault(target, []).append(prerequisite)
+    alike = {}
+    for target, prerequisites in lacking.items():
+        alike.setdefault(tuple(prerequisites), []).append(target)
+    lines = lines_between([b".PHONY"], phony)
+    for prerequisites, targets in alike.items():
+        lines += lines_between(targets, prerequisites)
+    return lines
+
+
+# What nodes need.
+
+
+def needs(subject, node):
+    """What has to be done before a node: its prerequisites, the writers of what its recipe reads,
+    and, where it has no recipe, its own writers."""
+    needed = list(node.prerequisites)
+    if not node.recipe:
+        return needed + subject.writers.get(node.name, [])
+    for file in subject.reads(node.name):
+        needed += [writer for writer in subject.writers.get(file, []) if writer != node.name]
+    return needed
+
+
+def first_cycle(subject):
+    """The names of the first cycle that a walk from the goals closes, the first one repeated; or
+    None."""
+    done = set()
+    for goal in subject.graph.goals:
+        path = [] if goal in done else [goal]
+        rest = [iter(needs(subject, subject.node(goal)))] if path else []
+        while path:
+            name = next(rest[-1], None)
+            if name is None:
+                done.add(path.pop())
+                rest.pop()
+            elif name in path:
+                return path[path.index(name) :] + [name]
+            elif name not in done:
+                path.append(name)
+                rest.append(iter(needs(subject, subject.node(name))))
+    return None
+
+
+# Rounds.
+
+
+def repaired(request, files):
+    """What is printed, and the status."""
+    subject, name = judged(request, files)
+    findings = subject.findings()
+    if not findings:
+        return b"", 0
+    words = words_of(subject, findings)
+    if words is None:
+        return printed(findings), 1
+    cycle = first_cycle(subject)
+    if cycle:
+        return printed(findings) + b" ".join([b"cycle"] + cycle) + b"\n", 1
+    lines, reason = mended(request, files, name, words)
+    if reason is None:
+        return b"\n" + b"".join(lines), 0
+    return printed(findings) + b"".join(b"tried " + line for line in lines) + reason, 1
+
+
+def mended(request, files, name, words):
+    """The lines that mend the makefile, and None; or those that were tried last, and what `check`
+    says with them."""
+    size = len(files.read(name))
+    tried, said = [], b""
+    for _ in range(JUDGEMENTS - 1):
+        lines = lines_of(words)
+        text = b"\n" + b"".join(lines)
+        if size + len(text) > FILE_LIMIT:
+            break
+        try:
+            subject, _name = judged(request, Appended(files, name, text))
+        except Refused as fault:
+            return lines, fault.line() + b"\n"
+        findings = subject.findings()
+        if not findings:
+            return lines, None
+        tried, said = lines, printed(findings)
+        more = words_of(subject, findings)
+        if more is None or set(more) <= set(words):
+            break
+        words = list(dict.fromkeys(words + more))
+    return tried, said
