@@ -21,8 +21,8 @@ const LOOSE: &str = "\
 loose: a target's file is written by a recipe that it doesn't need; add it
 
 `no loose T R`: T is a name that the goals reach and that has no recipe, R
-writes it, and R isn't a direct prerequisite of T. So T may count as done while
-R still writes it.
+writes it, and R isn't a direct prerequisite of T. So T may count as done
+while R still writes it.
 
     p.h:
     p.c: p.y
