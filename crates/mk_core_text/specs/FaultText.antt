@@ -1,11 +1,12 @@
 -- The printed text of a fault.
-use Rattle.std.specs.Prelude.{ℕ, List, [], ◌∷◌, ◌++◌, codes, Option, option_to_list}
+use Rattle.std.specs.Prelude.{ℕ, List, [], ◌∷◌, ◌++◌, codes, Option, None, Some, option_to_list}
 use Rattle.std.specs.List.{flat_map}
-use Rattle.std.specs.Option.{option_map}
+use Rattle.std.specs.Option.{option_map, unwrap_or}
 use Rattle.std.specs.Fmt.{decimal}
 use Rattle.mk_cert.specs.Text as finding
 use Rattle.mk_cert.specs.declared.fault.CertFault.{CertFault}
 use Rattle.mk_cert.specs.declared.fault.CertFault.TheVariants as cert
+use Rattle.mk_explain.specs.Explain.{named_sentence}
 use Rattle.mk_foot.specs.Keys.{spelling}
 use Rattle.mk_foot.specs.declared.fault.FootFault.{FootFault}
 use Rattle.mk_foot.specs.declared.fault.FootFault.TheVariants as foot
@@ -30,161 +31,225 @@ use Rattle.mk_world.specs.declared.fault.StepFault.TheVariants as step
 use Rattle.mk_world.specs.declared.plan.PlanFault.{PlanFault}
 use Rattle.mk_world.specs.declared.plan.PlanFault.TheVariants as plan
 use Rattle.mk_core_text.specs.declared.fault.Fault.{Fault}
+use Rattle.mk_core_text.specs.declared.refusal.Form.{Form}
+use Rattle.mk_core_text.specs.declared.refusal.Form.TheVariants.{InWords, Numbered}
 use Rattle.mk_core_text.specs.declared.fault.Fault.TheVariants.{Read, Infer, Foot, Plan, Certificate, Verify, FileReadFailed, NoFile, Memory}
 
 -- A place as `FILE:LINE`.
 abbrev pub place_text : Place → List ℕ
 place_text place = place.file ++ 58 ∷ decimal place.line
 
--- `refused`, the number, and the words, each after a space.
-abbrev pub refusal : ℕ → List (List ℕ) → List ℕ
-refusal number words = codes "refused " ++ (decimal number ++ flat_map (λ word. 32 ∷ word) words)
+-- Each word after a space.
+abbrev pub words_text : List (List ℕ) → List ℕ
+words_text words = flat_map (λ word. 32 ∷ word) words
+
+-- `refused`, the number, the place if there is one, and the words, each after a space.
+abbrev pub numbered : ℕ → Option (List ℕ) → List (List ℕ) → List ℕ
+numbered number place words =
+    codes "refused " ++ (decimal number ++ words_text (option_to_list place ++ words))
+
+-- The place with `: `, if there is one.
+abbrev pub place_part : Option (List ℕ) → List ℕ
+place_part None = []
+place_part (Some place) = place ++ codes ": "
+
+-- `:` and each word after a space, if there are any.
+abbrev pub words_part : List (List ℕ) → List ℕ
+words_part [] = []
+words_part (word ∷ words) = 58 ∷ words_text (word ∷ words)
+
+-- The place, the name, the number in brackets, the words, and the sentence of the fault with this
+-- name.
+abbrev pub in_words : ℕ → List ℕ → Option (List ℕ) → List (List ℕ) → List ℕ
+in_words number name place words =
+    place_part place ++
+    (name ++
+    (codes " (" ++
+    (decimal number ++
+    (41 ∷ (words_part words ++ (codes ": " ++ unwrap_or (named_sentence name) []))))))
+
+-- The refusal in this form by the fault with this number and this name.
+unfoldable pub refusal : Form → ℕ → List ℕ → Option (List ℕ) → List (List ℕ) → List ℕ
+refusal Numbered number name place words = numbered number place words
+refusal InWords number name place words = in_words number name place words
 
 -- The text that is printed for out of memory.
 abbrev pub no_memory : List ℕ
 no_memory = codes "want of memory"
 
--- A refusal whose only word is a place.
-abbrev pub refusal_at : ℕ → Place → List ℕ
-refusal_at number place = refusal number (place_text place ∷ [])
+-- A refusal with a place and no words.
+abbrev pub refusal_at : Form → ℕ → List ℕ → Place → List ℕ
+refusal_at form number name place = refusal form number name (Some (place_text place)) []
 
--- A refusal whose words are a place and a name.
-abbrev pub refusal_of : ℕ → Place → List ℕ → List ℕ
-refusal_of number place name = refusal number (place_text place ∷ name ∷ [])
+-- A refusal with a place and one word.
+abbrev pub refusal_of : Form → ℕ → List ℕ → Place → List ℕ → List ℕ
+refusal_of form number name place word =
+    refusal form number name (Some (place_text place)) (word ∷ [])
 
--- A refusal whose only word is a line of this file.
-abbrev pub refusal_in : ℕ → List ℕ → ℕ → List ℕ
-refusal_in number file first = refusal_at number (record { file = file; line = first })
+-- A refusal with a line of this file and no words.
+abbrev pub refusal_in : Form → ℕ → List ℕ → List ℕ → ℕ → List ℕ
+refusal_in form number name file first =
+    refusal_at form number name (record { file = file; line = first })
+
+-- A refusal with these words and no place.
+abbrev pub refusal_with : Form → ℕ → List ℕ → List (List ℕ) → List ℕ
+refusal_with form number name words = refusal form number name None words
 
 -- The text of a fault of a text's lines (1 to 3).
-abbrev pub line_fault_text : List ℕ → LineFault → List ℕ
-line_fault_text file (line.NulByte first) = refusal_in 1 file first
-line_fault_text file (line.LineTooLong first) = refusal_in 2 file first
-line_fault_text file (line.TooManyLines first) = refusal_in 3 file first
-line_fault_text file line.Memory = no_memory
+abbrev pub line_fault_text : Form → List ℕ → LineFault → List ℕ
+line_fault_text form file (line.NulByte first) = refusal_in form 1 (codes "NulByte") file first
+line_fault_text form file (line.LineTooLong first) =
+    refusal_in form 2 (codes "LineTooLong") file first
+line_fault_text form file (line.TooManyLines first) =
+    refusal_in form 3 (codes "TooManyLines") file first
+line_fault_text form file line.Memory = no_memory
 
 -- The text of a fault of a macro (11 to 17).
-abbrev pub macro_fault_text : Place → MacroFault → List ℕ
-macro_fault_text place macro.BadMacroName = refusal_at 11 place
-macro_fault_text place (macro.Recursive name) = refusal_of 12 place name
-macro_fault_text place macro.Unclosed = refusal_at 13 place
-macro_fault_text place macro.TooManyReferences = refusal_at 14 place
-macro_fault_text place macro.ValueTooLong = refusal_at 15 place
-macro_fault_text place macro.LoneDollar = refusal_at 16 place
-macro_fault_text place macro.MemberMacro = refusal_at 17 place
-macro_fault_text place macro.Memory = no_memory
+abbrev pub macro_fault_text : Form → Place → MacroFault → List ℕ
+macro_fault_text form place macro.BadMacroName = refusal_at form 11 (codes "BadMacroName") place
+macro_fault_text form place (macro.Recursive name) =
+    refusal_of form 12 (codes "Recursive") place name
+macro_fault_text form place macro.Unclosed = refusal_at form 13 (codes "Unclosed") place
+macro_fault_text form place macro.TooManyReferences =
+    refusal_at form 14 (codes "TooManyReferences") place
+macro_fault_text form place macro.ValueTooLong = refusal_at form 15 (codes "ValueTooLong") place
+macro_fault_text form place macro.LoneDollar = refusal_at form 16 (codes "LoneDollar") place
+macro_fault_text form place macro.MemberMacro = refusal_at form 17 (codes "MemberMacro") place
+macro_fault_text form place macro.Memory = no_memory
 
 -- The text of a fault of a line's kind (21 to 25).
-abbrev pub kind_fault_text : Place → KindFault → List ℕ
-kind_fault_text place kind.ShellAssign = refusal_at 21 place
-kind_fault_text place kind.ColonAssign = refusal_at 22 place
-kind_fault_text place kind.DoubleColon = refusal_at 23 place
-kind_fault_text place kind.TargetMacro = refusal_at 24 place
-kind_fault_text place kind.NotALine = refusal_at 25 place
-kind_fault_text place kind.Memory = no_memory
-
--- The words of a failed read: the place of the include line, where there is one, and the name of
--- the file.
-abbrev pub failed_read_words : Option Place → List ℕ → List (List ℕ)
-failed_read_words place name = option_to_list (option_map place_text place) ++ name ∷ []
+abbrev pub kind_fault_text : Form → Place → KindFault → List ℕ
+kind_fault_text form place kind.ShellAssign = refusal_at form 21 (codes "ShellAssign") place
+kind_fault_text form place kind.ColonAssign = refusal_at form 22 (codes "ColonAssign") place
+kind_fault_text form place kind.DoubleColon = refusal_at form 23 (codes "DoubleColon") place
+kind_fault_text form place kind.TargetMacro = refusal_at form 24 (codes "TargetMacro") place
+kind_fault_text form place kind.NotALine = refusal_at form 25 (codes "NotALine") place
+kind_fault_text form place kind.Memory = no_memory
 
 -- The text of a fault of a makefile (1 to 37).
-unfoldable pub read_fault_text : ReadFault → List ℕ
-read_fault_text (read.Line file fault) = line_fault_text file fault
-read_fault_text (read.Macro place fault) = macro_fault_text place fault
-read_fault_text (read.Kind place fault) = kind_fault_text place fault
-read_fault_text (read.StrayCommand place) = refusal_at 26 place
-read_fault_text (read.BadName place) = refusal_at 27 place
-read_fault_text (read.BadMakefileName name) = refusal 27 (name ∷ [])
-read_fault_text (read.ArchiveMember place) = refusal_at 28 place
-read_fault_text (read.UnknownSpecial place) = refusal_at 29 place
-read_fault_text (read.SpecialShape place) = refusal_at 30 place
-read_fault_text (read.TwoRecipes place target) = refusal_of 31 place target
-read_fault_text (read.IncludeMissing place name) = refusal_of 32 place name
-read_fault_text (read.IncludeDepth place) = refusal_at 33 place
-read_fault_text (read.IncludeEmpty place) = refusal_at 34 place
-read_fault_text (read.ReadFailed place name) = refusal 35 (failed_read_words place name)
-read_fault_text (read.TooManyFiles place) = refusal_at 36 place
-read_fault_text (read.NoMakefile name) = refusal 37 (option_to_list name)
-read_fault_text read.Memory = no_memory
+unfoldable pub read_fault_text : Form → ReadFault → List ℕ
+read_fault_text form (read.Line file fault) = line_fault_text form file fault
+read_fault_text form (read.Macro place fault) = macro_fault_text form place fault
+read_fault_text form (read.Kind place fault) = kind_fault_text form place fault
+read_fault_text form (read.StrayCommand place) = refusal_at form 26 (codes "StrayCommand") place
+read_fault_text form (read.BadName place) = refusal_at form 27 (codes "BadName") place
+read_fault_text form (read.BadMakefileName name) =
+    refusal_with form 27 (codes "BadMakefileName") (name ∷ [])
+read_fault_text form (read.ArchiveMember place) = refusal_at form 28 (codes "ArchiveMember") place
+read_fault_text form (read.UnknownSpecial place) = refusal_at form 29 (codes "UnknownSpecial") place
+read_fault_text form (read.SpecialShape place) = refusal_at form 30 (codes "SpecialShape") place
+read_fault_text form (read.TwoRecipes place target) =
+    refusal_of form 31 (codes "TwoRecipes") place target
+read_fault_text form (read.IncludeMissing place name) =
+    refusal_of form 32 (codes "IncludeMissing") place name
+read_fault_text form (read.IncludeDepth place) = refusal_at form 33 (codes "IncludeDepth") place
+read_fault_text form (read.IncludeEmpty place) = refusal_at form 34 (codes "IncludeEmpty") place
+read_fault_text form (read.ReadFailed place name) =
+    refusal form 35 (codes "ReadFailed") (option_map place_text place) (name ∷ [])
+read_fault_text form (read.TooManyFiles place) = refusal_at form 36 (codes "TooManyFiles") place
+read_fault_text form (read.NoMakefile name) =
+    refusal_with form 37 (codes "NoMakefile") (option_to_list name)
+read_fault_text form read.Memory = no_memory
 
 -- The text of a fault of a graph (42, 43).
-abbrev pub graph_fault_text : GraphFault → List ℕ
-graph_fault_text (graph.Cycle names) = refusal 42 names
-graph_fault_text graph.TooManyNodes = refusal 43 []
-graph_fault_text graph.Memory = no_memory
+abbrev pub graph_fault_text : Form → GraphFault → List ℕ
+graph_fault_text form (graph.Cycle names) = refusal_with form 42 (codes "Cycle") names
+graph_fault_text form graph.TooManyNodes = refusal_with form 43 (codes "TooManyNodes") []
+graph_fault_text form graph.Memory = no_memory
 
 -- The text of a fault of goals, of their graph, or of commands (11 to 17, 27, 28, 41 to 45).
-unfoldable pub infer_fault_text : InferFault → List ℕ
-infer_fault_text (infer.BadGoal place) = refusal_at 27 place
-infer_fault_text (infer.GoalIsMember place) = refusal_at 28 place
-infer_fault_text (infer.NoRule name) = refusal 41 (name ∷ [])
-infer_fault_text infer.NoGoal = refusal 44 []
-infer_fault_text (infer.InferencePrerequisites place) = refusal_at 45 place
-infer_fault_text (infer.Macro place fault) = macro_fault_text place fault
-infer_fault_text (infer.Graph fault) = graph_fault_text fault
-infer_fault_text infer.Memory = no_memory
+unfoldable pub infer_fault_text : Form → InferFault → List ℕ
+infer_fault_text form (infer.BadGoal place) = refusal_at form 27 (codes "BadGoal") place
+infer_fault_text form (infer.GoalIsMember place) = refusal_at form 28 (codes "GoalIsMember") place
+infer_fault_text form (infer.NoRule name) = refusal_with form 41 (codes "NoRule") (name ∷ [])
+infer_fault_text form infer.NoGoal = refusal_with form 44 (codes "NoGoal") []
+infer_fault_text form (infer.InferencePrerequisites place) =
+    refusal_at form 45 (codes "InferencePrerequisites") place
+infer_fault_text form (infer.Macro place fault) = macro_fault_text form place fault
+infer_fault_text form (infer.Graph fault) = graph_fault_text form fault
+infer_fault_text form infer.Memory = no_memory
 
 -- The text of a fault of footprints (51 to 58).
-unfoldable pub foot_fault_text : FootFault → List ℕ
-foot_fault_text foot.NotJson = refusal 51 []
-foot_fault_text (foot.Shape key) = refusal 52 (spelling key ∷ [])
-foot_fault_text foot.OtherFormat = refusal 53 []
-foot_fault_text (foot.TwoRecords target) = refusal 54 (target ∷ [])
-foot_fault_text (foot.BadName key) = refusal 55 (spelling key ∷ [])
-foot_fault_text (foot.SourceIsFixed name) = refusal 56 (name ∷ [])
-foot_fault_text foot.NoGroup = refusal 57 []
-foot_fault_text foot.NoList = refusal 58 []
-foot_fault_text foot.Memory = no_memory
+unfoldable pub foot_fault_text : Form → FootFault → List ℕ
+foot_fault_text form foot.NotJson = refusal_with form 51 (codes "NotJson") []
+foot_fault_text form (foot.Shape key) = refusal_with form 52 (codes "Shape") (spelling key ∷ [])
+foot_fault_text form foot.OtherFormat = refusal_with form 53 (codes "OtherFormat") []
+foot_fault_text form (foot.TwoRecords target) =
+    refusal_with form 54 (codes "TwoRecords") (target ∷ [])
+foot_fault_text form (foot.BadName key) =
+    refusal_with form 55 (codes "FootFault::BadName") (spelling key ∷ [])
+foot_fault_text form (foot.SourceIsFixed name) =
+    refusal_with form 56 (codes "SourceIsFixed") (name ∷ [])
+foot_fault_text form foot.NoGroup = refusal_with form 57 (codes "NoGroup") []
+foot_fault_text form foot.NoList = refusal_with form 58 (codes "NoList") []
+foot_fault_text form foot.Memory = no_memory
 
 -- A refusal of a line of a plan.
-abbrev pub refusal_of_line : ℕ → ℕ → List ℕ
-refusal_of_line number line = refusal number (codes "line" ∷ decimal line ∷ [])
+abbrev pub refusal_of_line : Form → ℕ → List ℕ → ℕ → List ℕ
+refusal_of_line form number name line =
+    refusal_with form number name (codes "line" ∷ decimal line ∷ [])
 
 -- The text of a fault of a plan (69).
-abbrev pub plan_fault_text : PlanFault → List ℕ
-plan_fault_text (plan.Line line) = refusal_of_line 69 line
-plan_fault_text plan.Memory = no_memory
+abbrev pub plan_fault_text : Form → PlanFault → List ℕ
+plan_fault_text form (plan.Line line) = refusal_of_line form 69 (codes "PlanFault::Line") line
+plan_fault_text form plan.Memory = no_memory
 
 -- The text of a fault of a certificate's text (71, 72).
-abbrev pub certificate_fault_text : CertTextFault → List ℕ
-certificate_fault_text ways.NotJson = refusal 71 []
-certificate_fault_text (ways.Shape k) = refusal 72 (key.spelling k ∷ [])
-certificate_fault_text ways.Memory = no_memory
+abbrev pub certificate_fault_text : Form → CertTextFault → List ℕ
+certificate_fault_text form ways.NotJson = refusal_with form 71 (codes "CertTextFault::NotJson") []
+certificate_fault_text form (ways.Shape k) =
+    refusal_with form 72 (codes "CertTextFault::Shape") (key.spelling k ∷ [])
+certificate_fault_text form ways.Memory = no_memory
 
 -- The text of why a certificate isn't accepted (73 to 76).
-abbrev pub verify_fault_text : CertFault → List ℕ
-verify_fault_text cert.OtherGoals = refusal 73 []
-verify_fault_text (cert.NoWay recipe file) = refusal 74 (recipe ∷ file ∷ [])
-verify_fault_text (cert.BadWay recipe file) = refusal 75 (recipe ∷ file ∷ [])
-verify_fault_text (cert.Static found) = refusal 76 (finding.text found ∷ [])
-verify_fault_text cert.Memory = no_memory
+abbrev pub verify_fault_text : Form → CertFault → List ℕ
+verify_fault_text form cert.OtherGoals = refusal_with form 73 (codes "OtherGoals") []
+verify_fault_text form (cert.NoWay recipe file) =
+    refusal_with form 74 (codes "NoWay") (recipe ∷ file ∷ [])
+verify_fault_text form (cert.BadWay recipe file) =
+    refusal_with form 75 (codes "BadWay") (recipe ∷ file ∷ [])
+verify_fault_text form (cert.Static found) =
+    refusal_with form 76 (codes "Static") (finding.text found ∷ [])
+verify_fault_text form cert.Memory = no_memory
 
 -- The text of why a step refuses this line of a plan (59 to 70, 77).
-unfoldable pub step_fault_text : ℕ → StepFault → List ℕ
-step_fault_text line step.ClockSpent = refusal_of_line 59 line
-step_fault_text line step.OtherOutcome = refusal_of_line 60 line
-step_fault_text line step.NoMake = refusal_of_line 61 line
-step_fault_text line step.MakeRuns = refusal_of_line 62 line
-step_fault_text line step.NotReady = refusal_of_line 63 line
-step_fault_text line step.NoJobFree = refusal_of_line 64 line
-step_fault_text line step.OutOfDate = refusal_of_line 65 line
-step_fault_text line step.NotRunning = refusal_of_line 66 line
-step_fault_text line step.NotInFootprint = refusal_of_line 67 line
-step_fault_text line step.NotAllDone = refusal_of_line 68 line
-step_fault_text line step.PlanLine = refusal_of_line 69 line
-step_fault_text line step.NotEditable = refusal_of_line 70 line
-step_fault_text line step.NotAGoal = refusal_of_line 77 line
-step_fault_text line step.Memory = no_memory
+unfoldable pub step_fault_text_in : Form → ℕ → StepFault → List ℕ
+step_fault_text_in form line step.ClockSpent = refusal_of_line form 59 (codes "ClockSpent") line
+step_fault_text_in form line step.OtherOutcome = refusal_of_line form 60 (codes "OtherOutcome") line
+step_fault_text_in form line step.NoMake = refusal_of_line form 61 (codes "NoMake") line
+step_fault_text_in form line step.MakeRuns = refusal_of_line form 62 (codes "MakeRuns") line
+step_fault_text_in form line step.NotReady = refusal_of_line form 63 (codes "NotReady") line
+step_fault_text_in form line step.NoJobFree = refusal_of_line form 64 (codes "NoJobFree") line
+step_fault_text_in form line step.OutOfDate = refusal_of_line form 65 (codes "OutOfDate") line
+step_fault_text_in form line step.NotRunning = refusal_of_line form 66 (codes "NotRunning") line
+step_fault_text_in form line step.NotInFootprint =
+    refusal_of_line form 67 (codes "NotInFootprint") line
+step_fault_text_in form line step.NotAllDone = refusal_of_line form 68 (codes "NotAllDone") line
+step_fault_text_in form line step.PlanLine = refusal_of_line form 69 (codes "PlanLine") line
+step_fault_text_in form line step.NotEditable = refusal_of_line form 70 (codes "NotEditable") line
+step_fault_text_in form line step.NotAGoal = refusal_of_line form 77 (codes "NotAGoal") line
+step_fault_text_in form line step.Memory = no_memory
 
 -- The text of a fault, without a newline.
+unfoldable pub fault_text_in : Form → Fault → List ℕ
+fault_text_in form (Read fault) = read_fault_text form fault
+fault_text_in form (Infer fault) = infer_fault_text form fault
+fault_text_in form (Foot fault) = foot_fault_text form fault
+fault_text_in form (Plan fault) = plan_fault_text form fault
+fault_text_in form (Certificate fault) = certificate_fault_text form fault
+fault_text_in form (Verify fault) = verify_fault_text form fault
+fault_text_in form (FileReadFailed name) = refusal_with form 35 (codes "FileReadFailed") (name ∷ [])
+fault_text_in form (NoFile name) = refusal_with form 38 (codes "NoFile") (name ∷ [])
+fault_text_in form Memory = no_memory
+
+-- The text of why a step refuses this line of a plan, with numbers.
+unfoldable pub step_fault_text : ℕ → StepFault → List ℕ
+step_fault_text line fault = step_fault_text_in Numbered line fault
+
+-- The text of a fault with numbers, without a newline.
 unfoldable pub fault_text : Fault → List ℕ
-fault_text (Read fault) = read_fault_text fault
-fault_text (Infer fault) = infer_fault_text fault
-fault_text (Foot fault) = foot_fault_text fault
-fault_text (Plan fault) = plan_fault_text fault
-fault_text (Certificate fault) = certificate_fault_text fault
-fault_text (Verify fault) = verify_fault_text fault
-fault_text (FileReadFailed name) = refusal 35 (name ∷ [])
-fault_text (NoFile name) = refusal 38 (name ∷ [])
-fault_text Memory = no_memory
+fault_text fault = fault_text_in Numbered fault
+
+-- The text of a fault in words, without a newline.
+unfoldable pub fault_words : Fault → List ℕ
+fault_words fault = fault_text_in InWords fault

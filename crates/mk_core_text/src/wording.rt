@@ -1,12 +1,13 @@
 //! The printed text of a fault.
 
-ghost use Rattle.std.specs.Prelude.{◌≡◌, ◌∷◌, ◌++◌, [], map, IfOk, OnOk, option_to_list};
-ghost use Rattle.std.specs.List.{flat_map};
-ghost use Rattle.std.specs.Option.{option_copied};
-ghost use Rattle.std.specs.String.{string_bytes};
-ghost use Rattle.mk_core_text.specs.FaultText.{certificate_fault_text, failed_read_words, fault_text, foot_fault_text, graph_fault_text, infer_fault_text, kind_fault_text, line_fault_text, macro_fault_text, no_memory, place_text, plan_fault_text, read_fault_text, refusal, refusal_at, refusal_in, refusal_of, refusal_of_line, step_fault_text, verify_fault_text};
+ghost use Rattle.std.specs.Prelude.{◌≡◌, ◌∷◌, [], codes, map, IfOk, option_to_list};
+ghost use Rattle.std.specs.Option.{option_map};
+ghost use Rattle.mk_core_text.specs.FaultText.{certificate_fault_text, fault_text, fault_text_in, fault_words, foot_fault_text, graph_fault_text, infer_fault_text, kind_fault_text, line_fault_text, macro_fault_text, place_text, plan_fault_text, read_fault_text, refusal, refusal_with, step_fault_text, step_fault_text_in, verify_fault_text};
 
 use crate::fault::Fault;
+use crate::refusal::{
+    Form, no_memory, refusal_at, refusal_in, refusal_of, refusal_of_line, refusal_with,
+};
 use mk_cert::CertFault;
 use mk_cert_text::CertTextFault;
 use mk_foot::FootFault;
@@ -17,64 +18,6 @@ use mk_macros::MacroFault;
 use mk_read::{KindFault, Place, ReadFault};
 use mk_world::{PlanFault, StepFault};
 use std::alloc::{AllocError, Global};
-
-/// A place as `FILE:LINE`.
-fn place_text(alloc: Global, place: &Place) -> Result<String, AllocError>
-    ensures { IfOk result (λ text. string_bytes text ≡ place_text place.now) }
-{
-    let file = place.file.as_str();
-    let line = place.line;
-    format!(in alloc; "{file}:{line}")
-}
-
-/// `refused`, the number, and the words, each after a space.
-fn refusal(alloc: Global, number: usize, words: &[&[u8]]) -> Result<Vec<u8>, AllocError>
-    ensures { IfOk result (λ text. text.items ≡ refusal number (map (λ word. word.now) words.now)) }
-{
-    let mut text = format!(in alloc; "refused {number}")?.into_bytes();
-    for word in words {
-        text.push(b' ')?;
-        text.extend_from_slice(word)?;
-    }
-    Ok(text)
-}
-
-/// A refusal whose only word is a place.
-fn refusal_at(alloc: Global, number: usize, place: &Place) -> Result<Vec<u8>, AllocError>
-    ensures { IfOk result (λ text. text.items ≡ refusal_at number place.now) }
-{
-    let place = place_text(alloc, place)?;
-    refusal(alloc, number, &[place.as_bytes()])
-}
-
-/// A refusal whose words are a place and a name.
-fn refusal_of(
-    alloc: Global,
-    number: usize,
-    place: &Place,
-    name: &[u8],
-) -> Result<Vec<u8>, AllocError>
-    ensures { IfOk result (λ text. text.items ≡ refusal_of number place.now name.now) }
-{
-    let place = place_text(alloc, place)?;
-    refusal(alloc, number, &[place.as_bytes(), name])
-}
-
-/// A refusal whose only word is a line of this file.
-fn refusal_in(alloc: Global, number: usize, file: &Name, line: usize) -> Result<Vec<u8>, AllocError>
-    ensures { IfOk result (λ text. text.items ≡ refusal_in number file.now line) }
-{
-    let file = file.as_str();
-    let place = format!(in alloc; "{file}:{line}")?;
-    refusal(alloc, number, &[place.as_bytes()])
-}
-
-/// The text that is printed for out of memory.
-fn no_memory(alloc: Global) -> Result<Vec<u8>, AllocError>
-    ensures { IfOk result (λ text. text.items ≡ no_memory) }
-{
-    Vec::from_slice(alloc, b"want of memory")
-}
 
 /// The bytes of the names.
 fn spellings<'a>(alloc: Global, names: &'a [Name]) -> Result<Vec<&'a [u8]>, AllocError>
@@ -88,43 +31,60 @@ fn spellings<'a>(alloc: Global, names: &'a [Name]) -> Result<Vec<&'a [u8]>, Allo
 }
 
 /// The text of a fault of a text's lines.
-fn line_fault_text(alloc: Global, file: &Name, fault: &LineFault) -> Result<Vec<u8>, AllocError>
-    ensures { IfOk result (λ text. text.items ≡ line_fault_text file.now fault.now) }
+fn line_fault_text(
+    alloc: Global,
+    form: Form,
+    file: &Name,
+    fault: &LineFault,
+) -> Result<Vec<u8>, AllocError>
+    ensures { IfOk result (λ text. text.items ≡ line_fault_text form file.now fault.now) }
 {
     match fault {
-        LineFault::NulByte(line) => refusal_in(alloc, 1, file, *line),
-        LineFault::LineTooLong(line) => refusal_in(alloc, 2, file, *line),
-        LineFault::TooManyLines(line) => refusal_in(alloc, 3, file, *line),
+        LineFault::NulByte(line) => refusal_in(alloc, form, 1, "NulByte", file, *line),
+        LineFault::LineTooLong(line) => refusal_in(alloc, form, 2, "LineTooLong", file, *line),
+        LineFault::TooManyLines(line) => refusal_in(alloc, form, 3, "TooManyLines", file, *line),
         LineFault::Memory => no_memory(alloc),
     }
 }
 
 /// The text of a fault of a macro.
-fn macro_fault_text(alloc: Global, place: &Place, fault: &MacroFault) -> Result<Vec<u8>, AllocError>
-    ensures { IfOk result (λ text. text.items ≡ macro_fault_text place.now fault.now) }
+fn macro_fault_text(
+    alloc: Global,
+    form: Form,
+    place: &Place,
+    fault: &MacroFault,
+) -> Result<Vec<u8>, AllocError>
+    ensures { IfOk result (λ text. text.items ≡ macro_fault_text form place.now fault.now) }
 {
     match fault {
-        MacroFault::BadMacroName => refusal_at(alloc, 11, place),
-        MacroFault::Recursive(name) => refusal_of(alloc, 12, place, name.as_bytes()),
-        MacroFault::Unclosed => refusal_at(alloc, 13, place),
-        MacroFault::TooManyReferences => refusal_at(alloc, 14, place),
-        MacroFault::ValueTooLong => refusal_at(alloc, 15, place),
-        MacroFault::LoneDollar => refusal_at(alloc, 16, place),
-        MacroFault::MemberMacro => refusal_at(alloc, 17, place),
+        MacroFault::BadMacroName => refusal_at(alloc, form, 11, "BadMacroName", place),
+        MacroFault::Recursive(name) => {
+            refusal_of(alloc, form, 12, "Recursive", place, name.as_bytes())
+        }
+        MacroFault::Unclosed => refusal_at(alloc, form, 13, "Unclosed", place),
+        MacroFault::TooManyReferences => refusal_at(alloc, form, 14, "TooManyReferences", place),
+        MacroFault::ValueTooLong => refusal_at(alloc, form, 15, "ValueTooLong", place),
+        MacroFault::LoneDollar => refusal_at(alloc, form, 16, "LoneDollar", place),
+        MacroFault::MemberMacro => refusal_at(alloc, form, 17, "MemberMacro", place),
         MacroFault::Memory => no_memory(alloc),
     }
 }
 
 /// The text of a fault of a line's kind.
-fn kind_fault_text(alloc: Global, place: &Place, fault: &KindFault) -> Result<Vec<u8>, AllocError>
-    ensures { IfOk result (λ text. text.items ≡ kind_fault_text place.now fault.now) }
+fn kind_fault_text(
+    alloc: Global,
+    form: Form,
+    place: &Place,
+    fault: &KindFault,
+) -> Result<Vec<u8>, AllocError>
+    ensures { IfOk result (λ text. text.items ≡ kind_fault_text form place.now fault.now) }
 {
     match fault {
-        KindFault::ShellAssign => refusal_at(alloc, 21, place),
-        KindFault::ColonAssign => refusal_at(alloc, 22, place),
-        KindFault::DoubleColon => refusal_at(alloc, 23, place),
-        KindFault::TargetMacro => refusal_at(alloc, 24, place),
-        KindFault::NotALine => refusal_at(alloc, 25, place),
+        KindFault::ShellAssign => refusal_at(alloc, form, 21, "ShellAssign", place),
+        KindFault::ColonAssign => refusal_at(alloc, form, 22, "ColonAssign", place),
+        KindFault::DoubleColon => refusal_at(alloc, form, 23, "DoubleColon", place),
+        KindFault::TargetMacro => refusal_at(alloc, form, 24, "TargetMacro", place),
+        KindFault::NotALine => refusal_at(alloc, form, 25, "NotALine", place),
         KindFault::Memory => no_memory(alloc),
     }
 }
@@ -132,131 +92,151 @@ fn kind_fault_text(alloc: Global, place: &Place, fault: &KindFault) -> Result<Ve
 /// The text of a failed read, with the place of the include line where there is one.
 fn failed_read_text(
     alloc: Global,
+    form: Form,
     place: &Option<Place>,
     name: &Name,
 ) -> Result<Vec<u8>, AllocError>
-    ensures { IfOk result (λ text. text.items ≡ refusal 35 (failed_read_words place.now name.now)) }
+    ensures { IfOk result (λ text. text.items ≡
+        refusal form 35 (codes "ReadFailed") (option_map place_text place.now) (name.now ∷ [])) }
 {
+    let name = name.as_str().as_bytes();
     match place {
-        Some(place) => refusal_of(alloc, 35, place, name.as_str().as_bytes()),
-        None => refusal(alloc, 35, &[name.as_str().as_bytes()]),
+        Some(place) => refusal_of(alloc, form, 35, "ReadFailed", place, name),
+        None => refusal_with(alloc, form, 35, "ReadFailed", &[name]),
     }
 }
 
 /// The text for a makefile that doesn't exist.
-fn no_makefile_text(alloc: Global, name: &Option<Name>) -> Result<Vec<u8>, AllocError>
-    ensures { IfOk result (λ text. text.items ≡ refusal 37 (option_to_list name.now)) }
+fn no_makefile_text(alloc: Global, form: Form, name: &Option<Name>) -> Result<Vec<u8>, AllocError>
+    ensures { IfOk result (λ text. text.items ≡
+        refusal_with form 37 (codes "NoMakefile") (option_to_list name.now)) }
 {
     match name {
-        Some(name) => refusal(alloc, 37, &[name.as_str().as_bytes()]),
-        None => refusal(alloc, 37, &[]),
+        Some(name) => refusal_with(alloc, form, 37, "NoMakefile", &[name.as_str().as_bytes()]),
+        None => refusal_with(alloc, form, 37, "NoMakefile", &[]),
     }
 }
 
 /// The text of a fault of a makefile.
 #[tactic(auto, unfolding(crate::specs::FaultText::read_fault_text))]
-fn read_fault_text(alloc: Global, fault: &ReadFault) -> Result<Vec<u8>, AllocError>
-    ensures { IfOk result (λ text. text.items ≡ read_fault_text fault.now) }
+fn read_fault_text(alloc: Global, form: Form, fault: &ReadFault) -> Result<Vec<u8>, AllocError>
+    ensures { IfOk result (λ text. text.items ≡ read_fault_text form fault.now) }
 {
     match fault {
-        ReadFault::Line(file, fault) => line_fault_text(alloc, file, fault),
-        ReadFault::Macro(place, fault) => macro_fault_text(alloc, place, fault),
-        ReadFault::Kind(place, fault) => kind_fault_text(alloc, place, fault),
-        ReadFault::StrayCommand(place) => refusal_at(alloc, 26, place),
-        ReadFault::BadName(place) => refusal_at(alloc, 27, place),
-        ReadFault::BadMakefileName(name) => refusal(alloc, 27, &[name.as_str().as_bytes()]),
-        ReadFault::ArchiveMember(place) => refusal_at(alloc, 28, place),
-        ReadFault::UnknownSpecial(place) => refusal_at(alloc, 29, place),
-        ReadFault::SpecialShape(place) => refusal_at(alloc, 30, place),
+        ReadFault::Line(file, fault) => line_fault_text(alloc, form, file, fault),
+        ReadFault::Macro(place, fault) => macro_fault_text(alloc, form, place, fault),
+        ReadFault::Kind(place, fault) => kind_fault_text(alloc, form, place, fault),
+        ReadFault::StrayCommand(place) => refusal_at(alloc, form, 26, "StrayCommand", place),
+        ReadFault::BadName(place) => refusal_at(alloc, form, 27, "BadName", place),
+        ReadFault::BadMakefileName(name) => {
+            let word = name.as_str().as_bytes();
+            refusal_with(alloc, form, 27, "BadMakefileName", &[word])
+        }
+        ReadFault::ArchiveMember(place) => refusal_at(alloc, form, 28, "ArchiveMember", place),
+        ReadFault::UnknownSpecial(place) => refusal_at(alloc, form, 29, "UnknownSpecial", place),
+        ReadFault::SpecialShape(place) => refusal_at(alloc, form, 30, "SpecialShape", place),
         ReadFault::TwoRecipes(place, target) => {
-            refusal_of(alloc, 31, place, target.as_str().as_bytes())
+            let word = target.as_str().as_bytes();
+            refusal_of(alloc, form, 31, "TwoRecipes", place, word)
         }
         ReadFault::IncludeMissing(place, name) => {
-            refusal_of(alloc, 32, place, name.as_str().as_bytes())
+            let word = name.as_str().as_bytes();
+            refusal_of(alloc, form, 32, "IncludeMissing", place, word)
         }
-        ReadFault::IncludeDepth(place) => refusal_at(alloc, 33, place),
-        ReadFault::IncludeEmpty(place) => refusal_at(alloc, 34, place),
-        ReadFault::ReadFailed(place, name) => failed_read_text(alloc, place, name),
-        ReadFault::TooManyFiles(place) => refusal_at(alloc, 36, place),
-        ReadFault::NoMakefile(name) => no_makefile_text(alloc, name),
+        ReadFault::IncludeDepth(place) => refusal_at(alloc, form, 33, "IncludeDepth", place),
+        ReadFault::IncludeEmpty(place) => refusal_at(alloc, form, 34, "IncludeEmpty", place),
+        ReadFault::ReadFailed(place, name) => failed_read_text(alloc, form, place, name),
+        ReadFault::TooManyFiles(place) => refusal_at(alloc, form, 36, "TooManyFiles", place),
+        ReadFault::NoMakefile(name) => no_makefile_text(alloc, form, name),
         ReadFault::Memory => no_memory(alloc),
     }
 }
 
 /// The text of a fault of a graph.
-fn graph_fault_text(alloc: Global, fault: &GraphFault) -> Result<Vec<u8>, AllocError>
-    ensures { IfOk result (λ text. text.items ≡ graph_fault_text fault.now) }
+fn graph_fault_text(alloc: Global, form: Form, fault: &GraphFault) -> Result<Vec<u8>, AllocError>
+    ensures { IfOk result (λ text. text.items ≡ graph_fault_text form fault.now) }
 {
     match fault {
         GraphFault::Cycle(names) => {
             let words = spellings(alloc, names.as_slice())?;
-            refusal(alloc, 42, &words)
+            refusal_with(alloc, form, 42, "Cycle", &words)
         }
-        GraphFault::TooManyNodes => refusal(alloc, 43, &[]),
+        GraphFault::TooManyNodes => refusal_with(alloc, form, 43, "TooManyNodes", &[]),
         GraphFault::Memory => no_memory(alloc),
     }
 }
 
 /// The text of a fault of goals, of their graph, or of commands.
 #[tactic(auto, unfolding(crate::specs::FaultText::infer_fault_text))]
-fn infer_fault_text(alloc: Global, fault: &InferFault) -> Result<Vec<u8>, AllocError>
-    ensures { IfOk result (λ text. text.items ≡ infer_fault_text fault.now) }
+fn infer_fault_text(alloc: Global, form: Form, fault: &InferFault) -> Result<Vec<u8>, AllocError>
+    ensures { IfOk result (λ text. text.items ≡ infer_fault_text form fault.now) }
 {
     match fault {
-        InferFault::BadGoal(place) => refusal_at(alloc, 27, place),
-        InferFault::GoalIsMember(place) => refusal_at(alloc, 28, place),
-        InferFault::NoRule(name) => refusal(alloc, 41, &[name.as_str().as_bytes()]),
-        InferFault::NoGoal => refusal(alloc, 44, &[]),
-        InferFault::InferencePrerequisites(place) => refusal_at(alloc, 45, place),
-        InferFault::Macro(place, fault) => macro_fault_text(alloc, place, fault),
-        InferFault::Graph(fault) => graph_fault_text(alloc, fault),
+        InferFault::BadGoal(place) => refusal_at(alloc, form, 27, "BadGoal", place),
+        InferFault::GoalIsMember(place) => refusal_at(alloc, form, 28, "GoalIsMember", place),
+        InferFault::NoRule(name) => {
+            refusal_with(alloc, form, 41, "NoRule", &[name.as_str().as_bytes()])
+        }
+        InferFault::NoGoal => refusal_with(alloc, form, 44, "NoGoal", &[]),
+        InferFault::InferencePrerequisites(place) => {
+            refusal_at(alloc, form, 45, "InferencePrerequisites", place)
+        }
+        InferFault::Macro(place, fault) => macro_fault_text(alloc, form, place, fault),
+        InferFault::Graph(fault) => graph_fault_text(alloc, form, fault),
         InferFault::Memory => no_memory(alloc),
     }
 }
 
 /// The text of a fault of footprints.
 #[tactic(auto, unfolding(crate::specs::FaultText::foot_fault_text))]
-fn foot_fault_text(alloc: Global, fault: &FootFault) -> Result<Vec<u8>, AllocError>
-    ensures { IfOk result (λ text. text.items ≡ foot_fault_text fault.now) }
+fn foot_fault_text(alloc: Global, form: Form, fault: &FootFault) -> Result<Vec<u8>, AllocError>
+    ensures { IfOk result (λ text. text.items ≡ foot_fault_text form fault.now) }
 {
     match fault {
-        FootFault::NotJson => refusal(alloc, 51, &[]),
-        FootFault::Shape(key) => refusal(alloc, 52, &[key.as_str().as_bytes()]),
-        FootFault::OtherFormat => refusal(alloc, 53, &[]),
-        FootFault::TwoRecords(name) => refusal(alloc, 54, &[name.as_str().as_bytes()]),
-        FootFault::BadName(key) => refusal(alloc, 55, &[key.as_str().as_bytes()]),
-        FootFault::SourceIsFixed(name) => refusal(alloc, 56, &[name.as_str().as_bytes()]),
-        FootFault::NoGroup => refusal(alloc, 57, &[]),
-        FootFault::NoList => refusal(alloc, 58, &[]),
+        FootFault::NotJson => refusal_with(alloc, form, 51, "NotJson", &[]),
+        FootFault::Shape(key) => refusal_with(alloc, form, 52, "Shape", &[key.as_str().as_bytes()]),
+        FootFault::OtherFormat => refusal_with(alloc, form, 53, "OtherFormat", &[]),
+        FootFault::TwoRecords(name) => {
+            refusal_with(alloc, form, 54, "TwoRecords", &[name.as_str().as_bytes()])
+        }
+        FootFault::BadName(key) => {
+            let word = key.as_str().as_bytes();
+            refusal_with(alloc, form, 55, "FootFault::BadName", &[word])
+        }
+        FootFault::SourceIsFixed(name) => {
+            let word = name.as_str().as_bytes();
+            refusal_with(alloc, form, 56, "SourceIsFixed", &[word])
+        }
+        FootFault::NoGroup => refusal_with(alloc, form, 57, "NoGroup", &[]),
+        FootFault::NoList => refusal_with(alloc, form, 58, "NoList", &[]),
         FootFault::Memory => no_memory(alloc),
     }
 }
 
-/// A refusal of a line of a plan.
-fn refusal_of_line(alloc: Global, number: usize, line: usize) -> Result<Vec<u8>, AllocError>
-    ensures { IfOk result (λ text. text.items ≡ refusal_of_line number line) }
-{
-    let line = format!(in alloc; "{line}")?;
-    refusal(alloc, number, &[b"line", line.as_bytes()])
-}
-
 /// The text of a fault of a plan.
-fn plan_fault_text(alloc: Global, fault: &PlanFault) -> Result<Vec<u8>, AllocError>
-    ensures { IfOk result (λ text. text.items ≡ plan_fault_text fault.now) }
+fn plan_fault_text(alloc: Global, form: Form, fault: &PlanFault) -> Result<Vec<u8>, AllocError>
+    ensures { IfOk result (λ text. text.items ≡ plan_fault_text form fault.now) }
 {
     match fault {
-        PlanFault::Line(line) => refusal_of_line(alloc, 69, *line),
+        PlanFault::Line(line) => refusal_of_line(alloc, form, 69, "PlanFault::Line", *line),
         PlanFault::Memory => no_memory(alloc),
     }
 }
 
 /// The text of a fault of a certificate's text.
-fn certificate_fault_text(alloc: Global, fault: &CertTextFault) -> Result<Vec<u8>, AllocError>
-    ensures { IfOk result (λ text. text.items ≡ certificate_fault_text fault.now) }
+fn certificate_fault_text(
+    alloc: Global,
+    form: Form,
+    fault: &CertTextFault,
+) -> Result<Vec<u8>, AllocError>
+    ensures { IfOk result (λ text. text.items ≡ certificate_fault_text form fault.now) }
 {
     match fault {
-        CertTextFault::NotJson => refusal(alloc, 71, &[]),
-        CertTextFault::Shape(key) => refusal(alloc, 72, &[key.as_str().as_bytes()]),
+        CertTextFault::NotJson => refusal_with(alloc, form, 71, "CertTextFault::NotJson", &[]),
+        CertTextFault::Shape(key) => {
+            let word = key.as_str().as_bytes();
+            refusal_with(alloc, form, 72, "CertTextFault::Shape", &[word])
+        }
         CertTextFault::Memory => no_memory(alloc),
     }
 }
@@ -264,52 +244,94 @@ fn certificate_fault_text(alloc: Global, fault: &CertTextFault) -> Result<Vec<u8
 /// A refusal whose words are a recipe and a file.
 fn refusal_of_read(
     alloc: Global,
+    form: Form,
     number: usize,
+    name: &str,
     recipe: &Name,
     file: &Name,
 ) -> Result<Vec<u8>, AllocError>
-    ensures { IfOk result (λ text. text.items ≡ refusal number (recipe.now ∷ file.now ∷ [])) }
+    ensures { IfOk result (λ text. text.items ≡
+        refusal_with form number name.now (recipe.now ∷ file.now ∷ [])) }
 {
     let words = [recipe.as_str().as_bytes(), file.as_str().as_bytes()];
-    refusal(alloc, number, &words)
+    refusal_with(alloc, form, number, name, &words)
 }
 
 /// The text of why a certificate isn't accepted.
-fn verify_fault_text(alloc: Global, fault: &CertFault) -> Result<Vec<u8>, AllocError>
-    ensures { IfOk result (λ text. text.items ≡ verify_fault_text fault.now) }
+fn verify_fault_text(alloc: Global, form: Form, fault: &CertFault) -> Result<Vec<u8>, AllocError>
+    ensures { IfOk result (λ text. text.items ≡ verify_fault_text form fault.now) }
 {
     match fault {
-        CertFault::OtherGoals => refusal(alloc, 73, &[]),
-        CertFault::NoWay { recipe, file } => refusal_of_read(alloc, 74, recipe, file),
-        CertFault::BadWay { recipe, file } => refusal_of_read(alloc, 75, recipe, file),
+        CertFault::OtherGoals => refusal_with(alloc, form, 73, "OtherGoals", &[]),
+        CertFault::NoWay { recipe, file } => {
+            refusal_of_read(alloc, form, 74, "NoWay", recipe, file)
+        }
+        CertFault::BadWay { recipe, file } => {
+            refusal_of_read(alloc, form, 75, "BadWay", recipe, file)
+        }
         CertFault::Static(finding) => {
             let words = format!(in alloc; "{finding}")?;
-            refusal(alloc, 76, &[words.as_bytes()])
+            refusal_with(alloc, form, 76, "Static", &[words.as_bytes()])
         }
         CertFault::Memory => no_memory(alloc),
     }
 }
 
-/// The text of why a step refuses this line of a plan. The only error is out of memory.
+/// The text of why a step refuses this line of a plan.
+#[tactic(auto, unfolding(crate::specs::FaultText::step_fault_text_in))]
+fn step_fault_text_in(
+    alloc: Global,
+    form: Form,
+    line: usize,
+    fault: &StepFault,
+) -> Result<Vec<u8>, AllocError>
+    ensures { IfOk result (λ text. text.items ≡ step_fault_text_in form line fault.now) }
+{
+    match fault {
+        StepFault::ClockSpent => refusal_of_line(alloc, form, 59, "ClockSpent", line),
+        StepFault::OtherOutcome => refusal_of_line(alloc, form, 60, "OtherOutcome", line),
+        StepFault::NoMake => refusal_of_line(alloc, form, 61, "NoMake", line),
+        StepFault::MakeRuns => refusal_of_line(alloc, form, 62, "MakeRuns", line),
+        StepFault::NotReady => refusal_of_line(alloc, form, 63, "NotReady", line),
+        StepFault::NoJobFree => refusal_of_line(alloc, form, 64, "NoJobFree", line),
+        StepFault::OutOfDate => refusal_of_line(alloc, form, 65, "OutOfDate", line),
+        StepFault::NotRunning => refusal_of_line(alloc, form, 66, "NotRunning", line),
+        StepFault::NotInFootprint => refusal_of_line(alloc, form, 67, "NotInFootprint", line),
+        StepFault::NotAllDone => refusal_of_line(alloc, form, 68, "NotAllDone", line),
+        StepFault::PlanLine => refusal_of_line(alloc, form, 69, "PlanLine", line),
+        StepFault::NotEditable => refusal_of_line(alloc, form, 70, "NotEditable", line),
+        StepFault::NotAGoal => refusal_of_line(alloc, form, 77, "NotAGoal", line),
+        StepFault::Memory => no_memory(alloc),
+    }
+}
+
+/// The text of why a step refuses this line of a plan, as that of `fault_text`. The only error is
+/// out of memory.
 #[tactic(auto, unfolding(crate::specs::FaultText::step_fault_text))]
 pub fn step_fault_text(alloc: Global, line: usize, fault: &StepFault) -> Result<Vec<u8>, AllocError>
     ensures { IfOk result (λ text. text.items ≡ step_fault_text line fault.now) }
 {
+    step_fault_text_in(alloc, Form::Numbered, line, fault)
+}
+
+/// The text of a fault.
+#[tactic(auto, unfolding(crate::specs::FaultText::fault_text_in))]
+fn fault_text_in(alloc: Global, form: Form, fault: &Fault) -> Result<Vec<u8>, AllocError>
+    ensures { IfOk result (λ text. text.items ≡ fault_text_in form fault.now) }
+{
     match fault {
-        StepFault::ClockSpent => refusal_of_line(alloc, 59, line),
-        StepFault::OtherOutcome => refusal_of_line(alloc, 60, line),
-        StepFault::NoMake => refusal_of_line(alloc, 61, line),
-        StepFault::MakeRuns => refusal_of_line(alloc, 62, line),
-        StepFault::NotReady => refusal_of_line(alloc, 63, line),
-        StepFault::NoJobFree => refusal_of_line(alloc, 64, line),
-        StepFault::OutOfDate => refusal_of_line(alloc, 65, line),
-        StepFault::NotRunning => refusal_of_line(alloc, 66, line),
-        StepFault::NotInFootprint => refusal_of_line(alloc, 67, line),
-        StepFault::NotAllDone => refusal_of_line(alloc, 68, line),
-        StepFault::PlanLine => refusal_of_line(alloc, 69, line),
-        StepFault::NotEditable => refusal_of_line(alloc, 70, line),
-        StepFault::NotAGoal => refusal_of_line(alloc, 77, line),
-        StepFault::Memory => no_memory(alloc),
+        Fault::Read(fault) => read_fault_text(alloc, form, fault),
+        Fault::Infer(fault) => infer_fault_text(alloc, form, fault),
+        Fault::Foot(fault) => foot_fault_text(alloc, form, fault),
+        Fault::Plan(fault) => plan_fault_text(alloc, form, fault),
+        Fault::Certificate(fault) => certificate_fault_text(alloc, form, fault),
+        Fault::Verify(fault) => verify_fault_text(alloc, form, fault),
+        Fault::FileReadFailed(name) => {
+            let word = name.as_str().as_bytes();
+            refusal_with(alloc, form, 35, "FileReadFailed", &[word])
+        }
+        Fault::NoFile(name) => refusal_with(alloc, form, 38, "NoFile", &[name.as_str().as_bytes()]),
+        Fault::Memory => no_memory(alloc),
     }
 }
 
@@ -319,15 +341,15 @@ pub fn step_fault_text(alloc: Global, line: usize, fault: &StepFault) -> Result<
 pub fn fault_text(alloc: Global, fault: &Fault) -> Result<Vec<u8>, AllocError>
     ensures { IfOk result (λ text. text.items ≡ fault_text fault.now) }
 {
-    match fault {
-        Fault::Read(fault) => read_fault_text(alloc, fault),
-        Fault::Infer(fault) => infer_fault_text(alloc, fault),
-        Fault::Foot(fault) => foot_fault_text(alloc, fault),
-        Fault::Plan(fault) => plan_fault_text(alloc, fault),
-        Fault::Certificate(fault) => certificate_fault_text(alloc, fault),
-        Fault::Verify(fault) => verify_fault_text(alloc, fault),
-        Fault::FileReadFailed(name) => refusal(alloc, 35, &[name.as_str().as_bytes()]),
-        Fault::NoFile(name) => refusal(alloc, 38, &[name.as_str().as_bytes()]),
-        Fault::Memory => no_memory(alloc),
-    }
+    fault_text_in(alloc, Form::Numbered, fault)
+}
+
+/// The text of a fault in words, without a newline: its place, its name, its number, what it names,
+/// and a sentence that says what is wrong and what to do; for out of memory `want of memory`. The
+/// only error is out of memory.
+#[tactic(auto, unfolding(crate::specs::FaultText::fault_words))]
+pub fn fault_words(alloc: Global, fault: &Fault) -> Result<Vec<u8>, AllocError>
+    ensures { IfOk result (λ text. text.items ≡ fault_words fault.now) }
+{
+    fault_text_in(alloc, Form::InWords, fault)
 }

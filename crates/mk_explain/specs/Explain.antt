@@ -17,6 +17,10 @@ finding_sentences = map (λ row. (row.0.now, row.1.now)) FINDINGS
 abbrev pub fault_sentences : List (ℕ × List ℕ)
 fault_sentences = map (λ row. (row.0, row.2.now)) FAULTS
 
+-- The sentences of faults, each with the fault's name.
+abbrev pub named_sentences : List (List ℕ × List ℕ)
+named_sentences = map (λ row. (row.1.now, row.2.now)) FAULTS
+
 -- What the first entry with this number says.
 abbrev pub lookup : ℕ → List (ℕ × List ℕ) → Option (List ℕ)
 lookup number entries = option_map (λ entry. entry.1) (find (λ entry. entry.0 == number) entries)
@@ -37,6 +41,10 @@ fault_name number = lookup number fault_names
 -- The sentence of the fault with this number.
 unfoldable pub fault_sentence : ℕ → Option (List ℕ)
 fault_sentence number = lookup number fault_sentences
+
+-- The sentence of the fault with this name.
+unfoldable pub named_sentence : List ℕ → Option (List ℕ)
+named_sentence name = lookup_word name named_sentences
 
 -- The fault has this name or, in decimal, this number.
 abbrev pub is_called : ℕ × List ℕ → List ℕ → Bool

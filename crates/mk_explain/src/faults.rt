@@ -6,7 +6,7 @@ ghost use Rattle.std.specs.Fmt.{decimal};
 ghost use Rattle.std.specs.Option.{option_map};
 ghost use Rattle.std.specs.Str.{bytes_eq};
 ghost use Rattle.std.specs.String.{string_bytes};
-ghost use Rattle.mk_explain.specs.Explain.{all_fault_lines, fault_line, fault_name, fault_sentence, is_called, lookup, number_in, number_named};
+ghost use Rattle.mk_explain.specs.Explain.{all_fault_lines, fault_line, fault_name, fault_sentence, is_called, lookup, lookup_word, named_sentence, number_in, number_named};
 
 use std::alloc::{AllocError, Global};
 
@@ -355,6 +355,34 @@ pub fn fault_sentence(number: u32) -> Option<&'static str>
     ensures { option_map (λ sentence. sentence.now) result ≡ fault_sentence number }
 {
     sentence_in(&FAULTS, number)
+}
+
+/// The first row with this name.
+fn row_named<'a>(rows: &'a [Row], name: &str) -> Option<&'a Row>
+    ensures { option_map (λ row. row.now) result ≡
+        find (λ row. bytes_eq row.1.now name.now) rows.now }
+{
+    rows.iter().find(|row| row.1 == name)
+}
+
+/// The sentence in the first row with this name.
+fn named_sentence_in(rows: &[Row], name: &str) -> Option<&'static str>
+    ensures { option_map (λ sentence. sentence.now) result ≡
+        lookup_word name.now (map (λ row. (row.1.now, row.2.now)) rows.now) }
+{
+    match row_named(rows, name) {
+        Some(row) => Some(row.2),
+        None => None,
+    }
+}
+
+/// For the fault with this name, if there is one: a sentence that says what is wrong and what to
+/// do.
+#[tactic(auto, unfolding(crate::specs::Explain::named_sentence))]
+pub fn named_sentence(name: &str) -> Option<&'static str>
+    ensures { option_map (λ sentence. sentence.now) result ≡ named_sentence name.now }
+{
+    named_sentence_in(&FAULTS, name)
 }
 
 /// Whether this is the name of the fault, or its number in decimal.

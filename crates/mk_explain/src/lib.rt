@@ -17,4 +17,4 @@ mod names;
 mod plans;
 
 pub use explaining::{explain, overview};
-pub use faults::{fault_name, fault_sentence};
+pub use faults::{fault_name, fault_sentence, named_sentence};

@@ -1,6 +1,6 @@
 //! Explanations of a finding and of a fault, and the overview.
 
-use mk_explain::{explain, fault_name, fault_sentence, overview};
+use mk_explain::{explain, fault_name, fault_sentence, named_sentence, overview};
 use std::process::Abort;
 use std::test::Fail;
 
@@ -64,6 +64,10 @@ fn says_what_to_do(rt: HostRuntime) -> Result<(), Fail> {
     let sentence = "a rule line has `::`; write one colon";
     assert!(rt; fault_sentence(23).is_some_and(|said| said == sentence));
     assert!(rt; fault_sentence(78).is_none());
+    assert!(rt; named_sentence("DoubleColon").is_some_and(|said| said == sentence));
+    let other = "a goal is no name, or is `.WAIT` or `-`; give another one";
+    assert!(rt; named_sentence("BadGoal").is_some_and(|said| said == other));
+    assert!(rt; named_sentence("23").is_none());
     Ok(())
 }
 

@@ -1,0 +1,80 @@
+//! Faults in words.
+
+use mk_core_text::{Fault, fault_words};
+use mk_graph::GraphFault;
+use mk_infer::InferFault;
+use mk_lines::{Name, Names};
+use mk_read::{Place, ReadFault};
+use std::alloc::{AllocError, Global};
+use std::process::Abort;
+use std::test::Fail;
+
+/// This line of `makefile`.
+fn place(alloc: Global, line: usize) -> Result<Place, AllocError> {
+    Ok(Place {
+        file: Name::new(alloc, "makefile")?,
+        line,
+    })
+}
+
+/// Returns a cycle of two names.
+fn cycle(alloc: Global) -> Result<Fault, AllocError> {
+    let mut names = Vec::new(alloc);
+    for word in ["a", "b", "a"] {
+        names.push(Name::new(alloc, word)?)?;
+    }
+    Ok(Fault::Infer(InferFault::Graph(GraphFault::Cycle(Names::new(names)))))
+}
+
+/// Whether this is the text of the fault in words. Drops the fault.
+fn is_said(alloc: Global, fault: Fault, wanted: &str) -> Result<bool, AllocError> {
+    let text = fault_words(alloc, &fault);
+    drop(fault);
+    Ok(text?.as_slice() == wanted.as_bytes())
+}
+
+#[test]
+fn says_a_place(rt: HostRuntime) -> Result<(), Fail> {
+    let alloc = rt.alloc();
+    let fault = Fault::Read(ReadFault::BadName(place(alloc, 3747)?));
+    let wanted = "makefile:3747: BadName (27): \
+                  a word is no name of a file; write each name out plainly";
+    assert!(rt; is_said(alloc, fault, wanted)?);
+    Ok(())
+}
+
+#[test]
+fn says_a_place_and_a_word(rt: HostRuntime) -> Result<(), Fail> {
+    let alloc = rt.alloc();
+    let target = Name::new(alloc, "prog")?;
+    let fault = Fault::Read(ReadFault::TwoRecipes(place(alloc, 7)?, target));
+    let wanted = "makefile:7: TwoRecipes (31): prog: \
+                  a target has commands on two lines; keep those of one";
+    assert!(rt; is_said(alloc, fault, wanted)?);
+    Ok(())
+}
+
+#[test]
+fn says_a_word(rt: HostRuntime) -> Result<(), Fail> {
+    let alloc = rt.alloc();
+    let fault = Fault::Infer(InferFault::NoRule(Name::new(alloc, "x.c")?));
+    let wanted = "NoRule (41): x.c: nothing makes a name; write a rule for it, or record again";
+    assert!(rt; is_said(alloc, fault, wanted)?);
+    Ok(())
+}
+
+#[test]
+fn says_words(rt: HostRuntime) -> Result<(), Fail> {
+    let alloc = rt.alloc();
+    let wanted = "Cycle (42): a b a: prerequisites form a cycle; remove the one that closes it";
+    assert!(rt; is_said(alloc, cycle(alloc)?, wanted)?);
+    Ok(())
+}
+
+#[test]
+fn says_a_name_alone(rt: HostRuntime) -> Result<(), Fail> {
+    let alloc = rt.alloc();
+    let fault = Fault::Infer(InferFault::NoGoal);
+    assert!(rt; is_said(alloc, fault, "NoGoal (44): there is no goal; write a rule")?);
+    Ok(())
+}
