@@ -23,14 +23,14 @@ pub trait Opener {
             (λ held. IsOpening Self.File.remaining held result) };
 }
 
-/// Opens files on the disk. It doesn't tell what they hold. A pipe can be opened once: its bytes are
-/// gone then, so a second read would give another text.
+/// Opens files on the disk. It doesn't tell what they hold. A pipe or a terminal is opened once: its
+/// bytes are gone then, so a second read would give another text.
 #[derive(Drop)]
 pub struct HostFiles<'a, R> {
     rt: &'a R,
     alloc: Global,
-    /// The names that were opened and aren't those of regular files.
-    pipes: Vec<String>,
+    /// The names that were opened and whose bytes are gone.
+    streams: Vec<String>,
 }
 
 impl<'a, R> HostFiles<'a, R> {
@@ -39,14 +39,14 @@ impl<'a, R> HostFiles<'a, R> {
         HostFiles {
             rt,
             alloc,
-            pipes: Vec::new(alloc),
+            streams: Vec::new(alloc),
         }
     }
 
-    /// Whether a pipe with this name was opened.
+    /// Whether a stream with this name was opened.
     fn has_opened(&self, name: &str) -> bool {
-        for pipe in &self.pipes {
-            if pipe.as_str() == name {
+        for stream in &self.streams {
+            if stream.as_str() == name {
                 return true;
             }
         }
@@ -55,10 +55,11 @@ impl<'a, R> HostFiles<'a, R> {
 }
 
 impl<'a, R: rt::Files> HostFiles<'a, R> {
-    /// Whether the name is of something else than a regular file.
-    fn is_pipe(&self, name: &str) -> bool {
+    /// Whether the name is of something that can be read once: no regular file, and not
+    /// `/dev/null`, which is always empty.
+    fn is_stream(&self, name: &str) -> bool {
         match fs::metadata(self.rt, name) {
-            Ok(found) => !found.is_file(),
+            Ok(found) => !found.is_file() && name != "/dev/null",
             Err(_) => false,
         }
     }
@@ -73,8 +74,8 @@ impl<'a, R: rt::Files> Opener for HostFiles<'a, R> {
         if self.has_opened(name) {
             return Err(io::Error::from(ErrorKind::NotSeekable));
         }
-        if self.is_pipe(name) {
-            self.pipes.push(String::from_str(self.alloc, name)?)?;
+        if self.is_stream(name) {
+            self.streams.push(String::from_str(self.alloc, name)?)?;
         }
         fs::open(self.rt, name)
     }
