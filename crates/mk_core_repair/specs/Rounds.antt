@@ -76,8 +76,8 @@ IsRound names files request text survey =
 -- The rounds that begin with these words, where this many are left. A round judges the makefile
 -- with the lines of the words appended. Where no round is left, or the makefile would be too long,
 -- the first findings are the outcome, with what was tried before.
-unfoldable pub Rounds : ℕ → List (List ℕ) → Told → Request → List Finding → List Word → Reason → Outcome →
-    Type 0
+unfoldable pub Rounds : ℕ → List (List ℕ) → Told → Request → List Finding → List Word → Reason →
+    Outcome → Type 0
 Rounds zero names files request first words before outcome = outcome ≡ unmended first before
 Rounds (suc left) names files request first words before outcome =
     ((is_too_long files request (added_text words) ≡ true) × (outcome ≡ unmended first before)) ⊎

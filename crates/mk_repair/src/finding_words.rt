@@ -77,9 +77,9 @@ fn can_be_written(word: Word<'_>) -> bool
     }
 }
 
-/// The word that a finding gives, if it gives one, with the set as for `word_for`. Allocates
-/// nothing.
-fn word_of<'a>(
+/// The word that a finding gives, if it gives one. The set has the names that recipes need which
+/// aren't phony, as `needed_names` gives them. Allocates nothing.
+pub fn word_of<'a>(
     subject: &'a Subject<'_>,
     names: &BorrowedNames<'_>,
     finding: &'a Finding,
@@ -99,9 +99,9 @@ fn word_of<'a>(
 /// word. Takes time linear in the graph and the findings. The only error is out of memory.
 ///
 /// A stale read or a race says that its recipe needs the file, or the recipe that writes it where
-/// the file is neither a source nor a node. A loose name needs its writer. A target with commands of
-/// its own whose recipe doesn't write it is phony, unless a recipe that isn't phony needs it. Other
-/// findings give no word, and neither does a name that a makefile can't hold.
+/// the file is neither a source nor a node. A loose name needs its writer. A target with commands
+/// of its own whose recipe doesn't write it is phony, unless a recipe that isn't phony needs it.
+/// Other findings give no word, and neither does a name that a makefile can't hold.
 pub fn words_of<'a>(
     alloc: Global,
     subject: &'a Subject<'_>,

@@ -16,7 +16,10 @@ mod rows;
 mod word;
 mod words;
 
-pub use finding_words::words_of;
+pub use finding_words::{word_of, words_of};
+pub use gathering::add_value;
 pub use lines::lines_text;
+pub use needed::needed_names;
+pub use pieces::pieces_of;
 pub use word::Word;
 pub use words::Words;

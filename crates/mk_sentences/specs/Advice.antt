@@ -1,0 +1,70 @@
+-- What to do about a group that no line of the makefile mends.
+use Rattle.std.specs.Prelude.{ℕ, List, ◌++◌, codes}
+use Rattle.mk_sentences.specs.Topics.{Topic}
+use Rattle.mk_sentences.specs.Phrases.{by}
+use Rattle.mk_sentences.specs.declared.topic.Kind.{Kind}
+use Rattle.mk_sentences.specs.declared.topic.Kind.TheVariants.{NoRecord, OtherCommands, VaryingCommands, NoTarget, TwoWriters, GivenWritten, OwnRead, UnknownRead, Loose, Race, OutputRace, Stale, OutputStale, Selection}
+
+-- Files whose names a makefile can't hold.
+abbrev pub rename : List (List ℕ) → List ℕ
+rename what =
+    by what (codes "rename the file: a makefile can't hold its name")
+    (codes "rename the files: a makefile can't hold their names")
+
+-- Two recipes that write the same files.
+abbrev pub keep_one : (first second : List ℕ) → List ℕ
+keep_one first second =
+    codes "let each recipe write files of its own, and check a target such as clean by itself; " ++
+    (codes "if the recipe of " ++ (first ++ (codes " makes what that of " ++ (second ++
+    (codes " does, keep it alone, with the line `" ++ (second ++ (codes ": " ++ (first ++
+    codes "` without commands"))))))))
+
+-- A file from which each make starts.
+abbrev pub write_another : List (List ℕ) → List ℕ
+write_another what =
+    by what
+    (codes "let the recipe write another file, or take this one out of the sources, " ++
+    codes "-include and .PHONY")
+    (codes "let the recipe write other files, or take these out of the sources, " ++
+    codes "-include and .PHONY")
+
+-- A file of unknown origin.
+abbrev pub take_in : List (List ℕ) → List ℕ
+take_in what =
+    by what
+    (codes "take it into the project and record again, or record with --fixed if it never changes")
+    (codes "take them into the project and record again, " ++
+    codes "or record with --fixed if they never change")
+
+-- A name that an inference rule makes from another file.
+abbrev pub write_rule : (name chosen : List ℕ) → List ℕ
+write_rule name chosen =
+    codes "write a rule with commands for " ++ (name ++ (codes ", or make " ++ (chosen ++
+    codes " a target of the recipe that writes it")))
+
+-- What to do about a group of this kind with these names of its topic.
+abbrev pub advice_of : Kind → (first second : List ℕ) → (who what : List (List ℕ)) → List ℕ
+advice_of NoRecord first second who what =
+    codes "record again, with the goals and macros that are checked"
+advice_of OtherCommands first second who what =
+    codes "record again, with the goals and macros that are checked"
+advice_of VaryingCommands first second who what =
+    codes "write $^ in place of $?, and make the whole file anew in each run"
+advice_of NoTarget first second who what =
+    by who (codes "let the recipe write its target, and record again")
+    (codes "let the recipes write their targets, and record again")
+advice_of TwoWriters first second who what = keep_one first second
+advice_of GivenWritten first second who what = write_another what
+advice_of OwnRead first second who what =
+    codes "split the recipe in two, or make each file anew from other files alone"
+advice_of UnknownRead first second who what = take_in what
+advice_of Loose first second who what = rename what
+advice_of Race first second who what = rename what
+advice_of OutputRace first second who what = rename what
+advice_of Stale first second who what = rename what
+advice_of OutputStale first second who what = rename what
+advice_of Selection first second who what = write_rule first second
+
+-- What to do about a group.
+abbrev pub advice : Topic → (who what : List (List ℕ)) → List ℕ
+advice topic who what = advice_of topic.kind topic.first topic.second who what

@@ -1,0 +1,11 @@
+pub mod Topics
+pub mod Phrases
+pub mod Claims
+pub mod Grouping
+pub mod Tables
+pub mod Places
+pub mod Sentences
+pub mod Advice
+pub mod Adding
+pub mod Text
+pub mod Laws

@@ -1,0 +1,111 @@
+//! What to do about a group that no line of the makefile mends.
+
+ghost use Rattle.std.specs.Prelude.{◌≡◌, ◌++◌, OnOk};
+ghost use Rattle.std.specs.String.{string_bytes};
+ghost use Rattle.mk_repair.specs.Rows.{names_view};
+ghost use Rattle.mk_sentences.specs.Topics.{topic_view};
+ghost use Rattle.mk_sentences.specs.Advice.{advice, keep_one, rename, take_in, write_another, write_rule};
+
+use crate::phrases::by;
+use crate::topic::{Kind, Topic};
+use std::alloc::AllocError;
+
+/// Appends what to do about files whose names a makefile can't hold.
+fn push_rename(out: &mut String, what: &[&str]) -> Result<(), AllocError>
+    ensures { OnOk result (string_bytes out.new ≡
+        string_bytes out.old ++ rename (names_view what.now)) }
+{
+    out.push_str(by(
+        what,
+        "rename the file: a makefile can't hold its name",
+        "rename the files: a makefile can't hold their names",
+    ))
+}
+
+/// Appends what to do about two recipes that write the same files.
+fn push_keep_one(out: &mut String, first: &str, second: &str) -> Result<(), AllocError>
+    ensures { OnOk result (string_bytes out.new ≡
+        string_bytes out.old ++ keep_one first.now second.now) }
+{
+    write!(
+        out,
+        "let each recipe write files of its own, and check a target such as clean by itself; \
+         if the recipe of {first} makes what that of {second} does, keep it alone, \
+         with the line `{second}: {first}` without commands"
+    )
+}
+
+/// Appends what to do about a file from which each make starts.
+fn push_write_another(out: &mut String, what: &[&str]) -> Result<(), AllocError>
+    ensures { OnOk result (string_bytes out.new ≡
+        string_bytes out.old ++ write_another (names_view what.now)) }
+{
+    out.push_str(by(
+        what,
+        "let the recipe write another file, or take this one out of the sources, -include and \
+         .PHONY",
+        "let the recipe write other files, or take these out of the sources, -include and .PHONY",
+    ))
+}
+
+/// Appends what to do about a file of unknown origin.
+fn push_take_in(out: &mut String, what: &[&str]) -> Result<(), AllocError>
+    ensures { OnOk result (string_bytes out.new ≡
+        string_bytes out.old ++ take_in (names_view what.now)) }
+{
+    out.push_str(by(
+        what,
+        "take it into the project and record again, or record with --fixed if it never changes",
+        "take them into the project and record again, or record with --fixed if they never change",
+    ))
+}
+
+/// Appends what to do about a name that an inference rule makes from another file.
+fn push_write_rule(out: &mut String, name: &str, chosen: &str) -> Result<(), AllocError>
+    ensures { OnOk result (string_bytes out.new ≡
+        string_bytes out.old ++ write_rule name.now chosen.now) }
+{
+    write!(
+        out,
+        "write a rule with commands for {name}, \
+         or make {chosen} a target of the recipe that writes it"
+    )
+}
+
+/// Appends what to do about a group that no line of the makefile mends, without a newline. The only
+/// error is out of memory.
+pub fn push_advice(
+    out: &mut String,
+    topic: &Topic<'_>,
+    who: &[&str],
+    what: &[&str],
+) -> Result<(), AllocError>
+    ensures { OnOk result (string_bytes out.new ≡ string_bytes out.old ++
+        advice (topic_view topic.now) (names_view who.now) (names_view what.now)) }
+{
+    match topic.kind {
+        Kind::NoRecord | Kind::OtherCommands => {
+            out.push_str("record again, with the goals and macros that are checked")
+        }
+        Kind::VaryingCommands => {
+            out.push_str("write $^ in place of $?, and make the whole file anew in each run")
+        }
+        Kind::NoTarget => out.push_str(by(
+            who,
+            "let the recipe write its target, and record again",
+            "let the recipes write their targets, and record again",
+        )),
+        Kind::TwoWriters => push_keep_one(out, topic.first, topic.second),
+        Kind::GivenWritten => push_write_another(out, what),
+        Kind::OwnRead => out.push_str(
+            "split the recipe in two, or make each file anew from other files alone",
+        ),
+        Kind::UnknownRead => push_take_in(out, what),
+        Kind::Loose => push_rename(out, what),
+        Kind::Race => push_rename(out, what),
+        Kind::OutputRace => push_rename(out, what),
+        Kind::Stale => push_rename(out, what),
+        Kind::OutputStale => push_rename(out, what),
+        Kind::Selection => push_write_rule(out, topic.first, topic.second),
+    }
+}

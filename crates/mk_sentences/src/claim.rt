@@ -1,0 +1,192 @@
+//! What each finding says, as groups gather it.
+
+ghost use Rattle.std.specs.Prelude.{◌≡◌, is_some, map, option_map, IfOk};
+ghost use Rattle.mk_lines.specs.Names.{HoldsNames};
+ghost use Rattle.mk_repair.specs.FindingWords.{needed, word_of};
+ghost use Rattle.mk_repair.specs.Words.{word_view};
+ghost use Rattle.mk_sentences.specs.Claims.{about, between, claim_of, claim_view, is_repaired, read_claim};
+
+use crate::topic::{Kind, Topic};
+use mk_cert::{Finding, Subject};
+use mk_lines::BorrowedNames;
+use mk_repair::{Word, needed_names, word_of};
+use std::alloc::{AllocError, Global};
+
+/// What a finding says.
+#[derive(Clone, Copy)]
+pub struct Claim<'a> {
+    /// What it has in common with the findings of its group.
+    pub topic: Topic<'a>,
+    /// The name that it is about.
+    pub who: &'a str,
+    /// The file that it is about; empty where the kind has none.
+    pub what: &'a str,
+}
+
+/// A claim whose topic has no names.
+fn about<'a>(kind: Kind, has_line: bool, who: &'a str, what: &'a str) -> Claim<'a>
+    ensures { claim_view result ≡ about kind has_line who.entry.now what.entry.now }
+{
+    let topic = Topic {
+        kind,
+        has_line,
+        first: "",
+        second: "",
+    };
+    Claim { topic, who, what }
+}
+
+/// Whether a line of the makefile mends a finding. The set is as for `word_of`.
+fn is_repaired(subject: &Subject<'_>, names: &BorrowedNames<'_>, finding: &Finding) -> bool
+    requires { HoldsNames names.now (needed subject.now) }
+    ensures { result ≡ is_repaired subject.now finding.now }
+{
+    match word_of(subject, names, finding) {
+        Some(_) => true,
+        None => false,
+    }
+}
+
+/// The claim of a race or a stale read, by the word that the finding gives.
+fn read_claim<'a>(
+    direct: Kind,
+    indirect: Kind,
+    recipe: &'a str,
+    file: &'a str,
+    word: Option<Word<'a>>,
+) -> Claim<'a>
+    ensures { claim_view result ≡ read_claim direct indirect recipe.entry.now file.entry.now
+        (option_map word_view word.entry) }
+{
+    match word {
+        Some(Word::Needs { prerequisite, .. }) => {
+            if prerequisite == file {
+                return about(direct, true, recipe, file);
+            }
+            let topic = Topic {
+                kind: indirect,
+                has_line: true,
+                first: prerequisite,
+                second: "",
+            };
+            Claim {
+                topic,
+                who: recipe,
+                what: file,
+            }
+        }
+        Some(Word::Phony { .. }) | None => about(direct, false, recipe, file),
+    }
+}
+
+/// A claim whose topic has two names.
+fn between<'a>(
+    kind: Kind,
+    first: &'a str,
+    second: &'a str,
+    who: &'a str,
+    what: &'a str,
+) -> Claim<'a>
+    ensures { claim_view result ≡
+        between kind first.entry.now second.entry.now who.entry.now what.entry.now }
+{
+    let topic = Topic {
+        kind,
+        has_line: false,
+        first,
+        second,
+    };
+    Claim { topic, who, what }
+}
+
+/// The claim of a finding. The set has the names that recipes need which aren't phony. Allocates
+/// nothing.
+fn claim_of<'a>(
+    subject: &'a Subject<'_>,
+    names: &BorrowedNames<'_>,
+    finding: &'a Finding,
+) -> Claim<'a>
+    requires { HoldsNames names.now (needed subject.now) }
+    ensures { claim_view result ≡ claim_of subject.entry.now finding.entry.now }
+{
+    match finding {
+        Finding::NoRecord { recipe } => about(Kind::NoRecord, false, recipe.as_str(), ""),
+        Finding::OtherCommands { recipe } => about(Kind::OtherCommands, false, recipe.as_str(), ""),
+        Finding::VaryingCommands { recipe } => {
+            about(Kind::VaryingCommands, false, recipe.as_str(), "")
+        }
+        Finding::NoTarget { recipe } => {
+            let has_line = is_repaired(subject, names, finding);
+            about(Kind::NoTarget, has_line, recipe.as_str(), "")
+        }
+        Finding::TwoWriters {
+            first,
+            second,
+            file,
+        } => between(
+            Kind::TwoWriters,
+            first.as_str(),
+            second.as_str(),
+            file.as_str(),
+            "",
+        ),
+        Finding::GivenWritten { recipe, file } => {
+            about(Kind::GivenWritten, false, recipe.as_str(), file.as_str())
+        }
+        Finding::OwnRead { recipe, file } => {
+            about(Kind::OwnRead, false, recipe.as_str(), file.as_str())
+        }
+        Finding::UnknownRead { recipe, file } => {
+            about(Kind::UnknownRead, false, recipe.as_str(), file.as_str())
+        }
+        Finding::Loose { name, writer } => {
+            let has_line = is_repaired(subject, names, finding);
+            about(Kind::Loose, has_line, name.as_str(), writer.as_str())
+        }
+        Finding::Race { recipe, file, .. } => {
+            let word = word_of(subject, names, finding);
+            read_claim(
+                Kind::Race,
+                Kind::OutputRace,
+                recipe.as_str(),
+                file.as_str(),
+                word,
+            )
+        }
+        Finding::Stale { recipe, file } => {
+            let word = word_of(subject, names, finding);
+            read_claim(
+                Kind::Stale,
+                Kind::OutputStale,
+                recipe.as_str(),
+                file.as_str(),
+                word,
+            )
+        }
+        Finding::Selection { name, chosen } => between(
+            Kind::Selection,
+            name.as_str(),
+            chosen.as_str(),
+            name.as_str(),
+            chosen.as_str(),
+        ),
+    }
+}
+
+/// The claims of the findings, in the same order. Takes time linear in the graph and the findings.
+/// The only error is out of memory.
+pub fn claims_of<'a>(
+    alloc: Global,
+    subject: &'a Subject<'_>,
+    findings: &'a [Finding],
+) -> Result<Vec<Claim<'a>>, AllocError>
+    ensures { IfOk result (λ claims. map claim_view claims.items ≡
+        map (claim_of subject.entry.now) findings.entry.now) }
+{
+    let names = needed_names(alloc, subject)?;
+    let mut claims = Vec::with_capacity(alloc, findings.len())?;
+    for finding in findings {
+        claims.push(claim_of(subject, &names, finding))?;
+    }
+    Ok(claims)
+}

@@ -1,0 +1,15 @@
+//! Findings in sentences: grouped, each group at a line of the makefile, with what mends it.
+#![tactic(auto)]
+
+mod adding;
+mod advice;
+mod claim;
+mod grouping;
+pub mod laws;
+mod phrases;
+mod places;
+mod rendering;
+mod sentence;
+mod topic;
+
+pub use rendering::sentences;

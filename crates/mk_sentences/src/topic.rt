@@ -1,0 +1,73 @@
+//! What groups of findings are about.
+
+ghost use Rattle.std.specs.Prelude.{◌≡◌};
+ghost use Rattle.mk_sentences.specs.Topics.{kind_word};
+
+/// The kinds of groups: those of findings. Races and stale reads have two kinds each, since the
+/// prerequisite that is missing may be the file or the recipe that writes it.
+#[derive(Clone, Copy, PartialEq, Eq, Hash)]
+pub enum Kind {
+    /// Recipes without a record.
+    NoRecord,
+    /// Recipes that were recorded with other commands.
+    OtherCommands,
+    /// Recipes whose commands use `$?`.
+    VaryingCommands,
+    /// Recipes that don't write their targets.
+    NoTarget,
+    /// Files that the same two recipes write.
+    TwoWriters,
+    /// Recipes that write files from which a make starts.
+    GivenWritten,
+    /// Recipes that read files which they write themselves.
+    OwnRead,
+    /// Recipes that read files of unknown origin.
+    UnknownRead,
+    /// Names without a recipe that don't wait for the recipe that writes their file.
+    Loose,
+    /// Recipes that may begin before a file is written that they read.
+    Race,
+    /// The same; what is missing is the recipe that writes the file.
+    OutputRace,
+    /// Recipes that don't run again when a file changes that they read.
+    Stale,
+    /// The same; what is missing is the recipe that writes the file.
+    OutputStale,
+    /// A name that an inference rule makes from another file once recipes have run.
+    Selection,
+}
+
+/// What the findings of a group have in common.
+#[derive(Clone, Copy, PartialEq, Eq, Hash)]
+pub struct Topic<'a> {
+    pub kind: Kind,
+    /// Whether a line of the makefile mends them.
+    pub has_line: bool,
+    /// The recipe that writes the files, the first of two writers, or the name that is made from
+    /// another file; else empty.
+    pub first: &'a str,
+    /// The second of two writers, or the other file; else empty.
+    pub second: &'a str,
+}
+
+/// The word that is printed for findings of a kind.
+pub fn kind_word(kind: Kind) -> &'static str
+    ensures { result.now ≡ kind_word kind }
+{
+    match kind {
+        Kind::NoRecord => "record",
+        Kind::OtherCommands => "commands",
+        Kind::VaryingCommands => "varying",
+        Kind::NoTarget => "target",
+        Kind::TwoWriters => "writers",
+        Kind::GivenWritten => "given",
+        Kind::OwnRead => "own",
+        Kind::UnknownRead => "unknown",
+        Kind::Loose => "loose",
+        Kind::Race => "race",
+        Kind::OutputRace => "race",
+        Kind::Stale => "stale",
+        Kind::OutputStale => "stale",
+        Kind::Selection => "selection",
+    }
+}
