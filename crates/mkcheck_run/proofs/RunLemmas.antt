@@ -23,7 +23,7 @@ use Rattle.mk_core.specs.declared.request.Request.{Request}
 use Rattle.mk_core_evidence.specs.declared.showing.Evidence.{Evidence}
 use Rattle.mk_core_evidence.specs.declared.showing.Evidence.TheVariants.{Plan, NoPlan}
 use Rattle.mkcheck_run.specs.declared.invocation.Invocation.{Invocation}
-use Rattle.mkcheck_run.specs.declared.invocation.Invocation.TheVariants.{Check, Repair}
+use Rattle.mkcheck_run.specs.declared.invocation.Invocation.TheVariants.{Check, CheckInWords, Repair}
 use Rattle.mkcheck_run.specs.CommandLine.{command_line}
 use Rattle.mkcheck_run.specs.Invocation.{AreRefusedUnread, faults_of, invocation_of, request_in}
 use Rattle.mkcheck_host.specs.Outcome.{Written}
@@ -68,6 +68,10 @@ module _ (told : Told) (request : Request) (only_certificate : Bool) (number : �
   evidence_answers evidence shown a v e =
       subst (λ (s : Response). AnswersInvocation told (Check request only_certificate (Some number)) (Ok s)) (sym e) (evidence_shows evidence a v)
 
+-- and to one for a verdict in words
+pub no_memory_in_words : (told : Told) (request : Request) (only_certificate : Bool) → AnswersInvocation told (CheckInWords request only_certificate) (Err Memory)
+no_memory_in_words told request only_certificate = (Err Memory, tt, refl)
+
 -- and to one to mend a makefile
 pub no_memory_mends : (told : Told) (request : Request) → AnswersInvocation told (Repair request) (Err Memory)
 no_memory_mends told request = (Err Memory, tt, refl)
@@ -99,7 +103,7 @@ unread_by words same none h (inr is) = at (macros_for (request_in (invocation_of
 
 -- what status 0 of an answer promises, it promises where it is written
 pub promised : (told : Told) (asked : Invocation) (answer : Result Response Fault) (w : Written)
-    → IfOk answer (λ shown. shown.status ≡ 0 → Promises told asked shown.text) → Shows answer w → w.status ≡ 0 → Promises told asked w.out
+    → IfOk answer (λ shown. shown.status ≡ 0 → Promises told asked shown.text) → Shows asked answer w → w.status ≡ 0 → Promises told asked w.out
 promised told asked (Ok shown) w h shows e =
     subst (λ (x : Written). Promises told asked x.out) (sym shows) (h (sym (ap (λ (x : Written). x.status) shows) ∙ e))
 promised told asked (Err fault) w h shows e =

@@ -32,6 +32,11 @@ abbrev pub only_certificate_option : Rule
 only_certificate_option =
     record (new_rule (codes "only-certificate")) { short = Some 99; action = Some Count }
 
+-- `-w` of `check`, any number of times.
+abbrev pub in_words_option : Rule
+in_words_option =
+    record (new_rule (codes "in-words")) { short = Some 119; action = Some Count }
+
 -- `-e N`, at most once, with a whole number from 1 on, below 2 to the 64th.
 abbrev pub evidence_option : Rule
 evidence_option =
@@ -93,11 +98,16 @@ graph_command =
     with_rule (with_rule (with_rule (with_reading named_graph) book_option) commands_option)
     words_argument
 
--- `check [-f F] [-r] -b BOOK [-c] [-e N] [WORD..]`
+-- A subcommand with `[-c] [-w] [-e N]`.
+abbrev pub with_showing : App → App
+with_showing app =
+    with_rule (with_rule (with_rule app only_certificate_option) in_words_option) evidence_option
+
+-- `check [-f F] [-r] -b BOOK [-c] [-w] [-e N] [WORD..]`
 abbrev pub check_command : App
 check_command =
-    with_rule (with_rule (with_rule (with_rule (with_reading named_check) needed_book_option)
-    only_certificate_option) evidence_option) words_argument
+    with_rule (with_showing (with_rule (with_reading named_check) needed_book_option))
+    words_argument
 
 -- `verify [-f F] [-r] -b BOOK -k CERT [WORD..]`
 abbrev pub verify_command : App

@@ -9,7 +9,7 @@ use Rattle.mk_core.specs.declared.request.Request.{Request}
 use Rattle.mk_core.specs.Ready.{macros_for}
 use Rattle.mk_core.specs.Words.{goals_of, operands_of}
 use Rattle.mkcheck_run.specs.declared.invocation.Invocation.{Invocation}
-use Rattle.mkcheck_run.specs.declared.invocation.Invocation.TheVariants.{Graph, Check, Repair, Explain, Verify, Simulate}
+use Rattle.mkcheck_run.specs.declared.invocation.Invocation.TheVariants.{Graph, Check, CheckInWords, Repair, Explain, Verify, Simulate}
 use Rattle.mkcheck_run.specs.CommandLine.{command_line}
 
 -- The kinds of fault that the command line finds in the words; none where it accepts them.
@@ -64,12 +64,17 @@ number_in text =
 abbrev pub number_at : Text → List Row → Option ℕ
 number_at id rows = option_and_then number_in (first_of id rows)
 
+-- The command `check` with these options. With a number only the plan is printed, never in words.
+abbrev pub checking : Request → (in_words only_certificate : Bool) → Option ℕ → Invocation
+checking request true only_certificate None = CheckInWords request only_certificate
+checking request in_words only_certificate evidence = Check request only_certificate evidence
+
 -- The command for the subcommand with this name and these values.
 abbrev pub invocation_by : Text → List Row → Invocation
 invocation_by name rows =
     if bytes_eq name (codes "check")
-    then Check (requested rows) (is_set (codes "only-certificate") rows)
-    (number_at (codes "evidence") rows) else
+    then checking (requested rows) (is_set (codes "in-words") rows)
+    (is_set (codes "only-certificate") rows) (number_at (codes "evidence") rows) else
     (if bytes_eq name (codes "repair") then Repair (requested rows) else
     (if bytes_eq name (codes "explain") then Explain (first_of (codes "what") rows) else
     (if bytes_eq name (codes "verify")
@@ -92,6 +97,7 @@ invocation_of words = asked_with (subcommand_of command_line words)
 abbrev pub request_in : Invocation → Request
 request_in (Graph request) = request
 request_in (Check request only_certificate evidence) = request
+request_in (CheckInWords request only_certificate) = request
 request_in (Repair request) = request
 request_in (Explain what) = requested []
 request_in (Verify request certificate) = request

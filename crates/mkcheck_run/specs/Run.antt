@@ -12,12 +12,15 @@ use Rattle.mk_core_evidence.specs.EvidenceAnswer.{AnswersEvidence}
 use Rattle.mk_core.specs.GraphAnswer.{AnswersGraph}
 use Rattle.mk_core.specs.SimulationAnswer.{AnswersSimulation}
 use Rattle.mk_core.specs.Simulation.{Simulation}
-use Rattle.mk_core_text.specs.FaultText.{fault_text}
+use Rattle.mk_core_text.specs.FaultText.{fault_text, fault_words}
 use Rattle.mk_core.specs.Right.{IsRightFor}
 use Rattle.mk_core.specs.Steps.{is_out_of_memory, seen}
 use Rattle.mk_core_text.specs.VerdictText.{verdict_text}
 use Rattle.mk_core.specs.VerifyAnswer.{AnswersVerify}
 use Rattle.mk_explain.specs.Explain.{explained, overview_text}
+use Rattle.mk_core_sentences.specs.declared.checking.InWords.{InWords}
+use Rattle.mk_core_sentences.specs.declared.checking.InWords.TheVariants as words
+use Rattle.mk_core_sentences.specs.InWordsAnswer.{AnswersInWords}
 use Rattle.mk_core_repair.specs.declared.outcome.Repair.{Repair as Repaired}
 use Rattle.mk_core_repair.specs.Outcome.{Outcome, right, mended, unmended, outcome_of}
 use Rattle.mk_core_repair.specs.RepairAnswer.{AnswersRepair, Mends}
@@ -30,7 +33,7 @@ use Rattle.mk_core.specs.Files.{IfFits, Told}
 use Rattle.mk_cert_text.specs.Writing.{value_of}
 use Rattle.serde_json.specs.Written.{compact_text}
 use Rattle.mkcheck_run.specs.declared.invocation.Invocation.{Invocation}
-use Rattle.mkcheck_run.specs.declared.invocation.Invocation.TheVariants.{Graph, Check, Repair, Explain, Verify, Simulate}
+use Rattle.mkcheck_run.specs.declared.invocation.Invocation.TheVariants.{Graph, Check, CheckInWords, Repair, Explain, Verify, Simulate}
 use Rattle.mkcheck_host.specs.Outcome.{Written}
 
 -- The response to a command: a text for standard output, and the exit status.
@@ -65,6 +68,11 @@ response_without_plan only_certificate (No found) = plan_response (codes "no pla
 abbrev pub evidence_response : Bool → Evidence → Response
 evidence_response only_certificate (Plan plan) = plan_response plan.items
 evidence_response only_certificate (NoPlan verdict) = response_without_plan only_certificate verdict
+
+-- The response with a verdict in words: a yes as without words; a no has status 1.
+abbrev pub words_response : Bool → InWords → Response
+words_response only_certificate (words.Yes verdict) = verdict_response only_certificate verdict
+words_response only_certificate (words.No text) = record { text = text.items; status = 1 }
 
 -- The status of what comes of mending: 1 where nothing known mends the makefile, else 0.
 abbrev pub repair_status : Outcome → ℕ
@@ -126,6 +134,10 @@ AnswersInvocation files (Check request only_certificate (Some number)) answer =
     (plan : Result (Option (List ℕ)) Fault) ×
     Answers files request (AnswersEvidence number) plan ×
     ShowsPlan files request only_certificate plan answer
+AnswersInvocation files (CheckInWords request only_certificate) answer =
+    (found : Result InWords Fault) ×
+    Answers files request AnswersInWords found ×
+    (answer ≡ seen (words_response only_certificate) found)
 AnswersInvocation files (Repair request) answer =
     (found : Result Repaired Fault) ×
     AnswersRepair files request found × (answer ≡ seen repair_response found)
@@ -143,17 +155,23 @@ AnswersInvocation files (Simulate request plan) answer =
 -- build that `check` or `verify` judges is right, and the text that `repair` prints mends it.
 abbrev pub Promises : Told → Invocation → List ℕ → Type 0
 Promises files (Check request only_certificate evidence) text = IsRightFor files request
+Promises files (CheckInWords request only_certificate) text = IsRightFor files request
 Promises files (Repair request) text = Mends files request text
 Promises files (Verify request certificate) text = IsRightFor files request
 Promises files asked text = Unit {0}
 
--- The response is written to standard output, with its status; a fault as a refusal on a line, with
--- status 2. Out of memory isn't written here.
-abbrev pub Shows : Result Response Fault → Written → Type 0
-Shows (Ok shown) w = w ≡ record { out = shown.text; err = []; status = shown.status }
-Shows (Err fault) w =
+-- The text of a fault, as this command prints it: with `-w` in words.
+abbrev pub refusal_text : Invocation → Fault → List ℕ
+refusal_text (CheckInWords request only_certificate) fault = fault_words fault
+refusal_text asked fault = fault_text fault
+
+-- The response to the command is written to standard output, with its status; a fault as a refusal
+-- on a line, with status 2. Out of memory isn't written here.
+abbrev pub Shows : Invocation → Result Response Fault → Written → Type 0
+Shows asked (Ok shown) w = w ≡ record { out = shown.text; err = []; status = shown.status }
+Shows asked (Err fault) w =
     (is_out_of_memory fault ≡ false) ×
-    (w ≡ record { out = fault_text fault ++ 10 ∷ []; err = []; status = 2 })
+    (w ≡ record { out = refusal_text asked fault ++ 10 ∷ []; err = []; status = 2 })
 
 -- The outcome is that of some response or fault. It is the defined one over each map that fits what
 -- the reader has answered. The names whose reads failed grew by the name that the fault says, if it
@@ -164,7 +182,7 @@ pub record IsAnswered (fits : Told → Type 0) (old new : List (List ℕ)) (aske
     pub answer : Result Response Fault
     pub answers : IfFits fits (λ files. AnswersInvocation files asked answer)
     pub noted : NotesFailure old new answer
-    pub shows : Shows answer w
+    pub shows : Shows asked answer w
 
 -- Help and the version go to standard output only, with status 0; a fault of the words goes to
 -- standard error only, with status 2.

@@ -10,8 +10,8 @@ ghost use Rattle.mk_core.specs.Right.{IsRightFor};
 ghost use Rattle.mk_cert_text.specs.Writing.{value_of};
 ghost use Rattle.serde_json.specs.Written.{compact_text};
 ghost use Rattle.mkcheck_run.specs.Invocation.{request_in};
-ghost use Rattle.mkcheck_run.specs.Run.{AnswersInvocation, Promises, evidence_response, plan_response, repair_response, explain_response, explained_response, run_response, text_response, verdict_response, response_without_plan};
-ghost use Rattle.mkcheck_run.specs.declared.invocation.Invocation.TheVariants.{Check, Explain, Repair as Mend};
+ghost use Rattle.mkcheck_run.specs.Run.{AnswersInvocation, Promises, evidence_response, plan_response, repair_response, explain_response, explained_response, run_response, text_response, verdict_response, words_response, response_without_plan};
+ghost use Rattle.mkcheck_run.specs.declared.invocation.Invocation.TheVariants.{Check, CheckInWords, Explain, Repair as Mend};
 
 use crate::invocation::Invocation;
 use crate::running::{DONE, NO, REFUSED};
@@ -22,6 +22,7 @@ use mk_core::{
 };
 use mk_core_evidence::{Evidence, evidence_or_verdict};
 use mk_core_repair::{Repair, repair, repair_text};
+use mk_core_sentences::{InWords, check_in_words};
 use mk_explain::{explain, overview};
 use std::alloc::{AllocError, Global};
 use std::marker::Model;
@@ -173,6 +174,40 @@ fn answer_plan<F: Files>(
     Ok(shown)
 }
 
+// The response with a verdict in words, a yes as without words.
+fn words_response(
+    alloc: Global,
+    found: InWords,
+    only_certificate: bool,
+) -> Result<Response, AllocError>
+    ensures { IfOk result (λ shown. shown ≡ words_response only_certificate found) }
+{
+    match found {
+        InWords::Yes(verdict) => verdict_response(alloc, &verdict, only_certificate),
+        InWords::No(text) => Ok(Response { text, status: NO }),
+    }
+}
+
+// Carries out `check -w`.
+fn answer_in_words<F: Files>(
+    alloc: Global,
+    files: &mut F,
+    request: &Request,
+    only_certificate: bool,
+) -> Result<Response, Fault>
+    ensures keeps { Keeps (F.fits files.old) (F.fits files.new) }
+    ensures answer { IfFits (F.fits files.new)
+        (λ told. AnswersInvocation told (CheckInWords request.now only_certificate) result) }
+    ensures right { IfFits (F.fits files.new)
+        (λ told. IfOk result (λ shown. shown.status ≡ 0 → IsRightFor told request.now)) }
+    ensures noted { NotesFailure (F.failed files.old) (F.failed files.new) result }
+    ensures untouched { OnErr (macros_for request.now) (files.new ≡ files.old) }
+{
+    let found = check_in_words(alloc, files, request)?;
+    let shown = words_response(alloc, found, only_certificate)?;
+    Ok(shown)
+}
+
 // The response with the explanation of what is called so, or with status 2 where nothing is.
 fn explained_response(alloc: Global, what: &str) -> Result<Response, AllocError>
     ensures { IfOk result (λ shown. shown ≡ explained_response what.now (explained what.now)) }
@@ -270,6 +305,10 @@ pub fn answer<F: Files>(alloc: Global, files: &mut F, asked: &Invocation) -> Res
             only_certificate,
             evidence: Some(number),
         } => answer_plan(alloc, files, request, *only_certificate, *number),
+        Invocation::CheckInWords {
+            request,
+            only_certificate,
+        } => answer_in_words(alloc, files, request, *only_certificate),
         Invocation::Repair(request) => answer_repair(alloc, files, request),
         Invocation::Explain(what) => answer_explain(alloc, what),
         Invocation::Verify {

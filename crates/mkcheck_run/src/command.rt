@@ -3,7 +3,7 @@
 ghost use Rattle.std.specs.Prelude.{◌≡◌, IfOk, codes, false};
 ghost use Rattle.clap.specs.Words.{app_of, new_app, rule_of, with_rule};
 ghost use Rattle.clap.specs.declared.builder.command.Command.TheViews.{out-Command as fields_of};
-ghost use Rattle.mkcheck_run.specs.CommandLine.{book_option, certificate_option, check_command, command_line, commands_option, evidence_option, explain_command, graph_command, makefile_option, named_check, named_graph, named_program, named_repair, named_simulate, named_verify, needed_book_option, no_defaults_option, only_certificate_option, plan_option, program, repair_command, simulate_command, verify_command, what_argument, with_judging, with_reading, with_telling, words_argument};
+ghost use Rattle.mkcheck_run.specs.CommandLine.{book_option, certificate_option, check_command, command_line, commands_option, evidence_option, explain_command, graph_command, in_words_option, makefile_option, named_check, named_graph, named_program, named_repair, named_simulate, named_verify, needed_book_option, no_defaults_option, only_certificate_option, plan_option, program, repair_command, simulate_command, verify_command, what_argument, with_judging, with_reading, with_showing, with_telling, words_argument};
 
 use clap::{Arg, ArgAction, Command, value_parser};
 use std::alloc::{AllocError, Global};
@@ -13,7 +13,7 @@ macro_rules! with_statuses {
         concat!(
             $lead,
             "Status: 0 yes or done, 1 no, 2 refused or a fault of the command line, ",
-            "3 want of memory"
+            "3 out of memory"
         )
     };
 }
@@ -27,7 +27,7 @@ const BEHIND_ALL: &str = with_statuses!("Example: mkcheck check -b footprints.js
 const BEHIND_GRAPH: &str = with_statuses!("Example: mkcheck graph -c -f Makefile CC=cc prog\n\n");
 
 const BEHIND_CHECK: &str = with_statuses!(
-    "Example: mkcheck check -b footprints.json prog\n\
+    "Example: mkcheck check -b footprints.json -w prog\n\
     Example: mkcheck check -b footprints.json -e 1 prog > plan.txt\n\n"
 );
 
@@ -93,6 +93,16 @@ fn only_certificate_option<'a>(alloc: Global) -> Arg<'a>
         .short('c')
         .action(ArgAction::Count)
         .help("Prints of a yes the certificate alone, on one line")
+}
+
+fn in_words_option<'a>(alloc: Global) -> Arg<'a>
+    ensures rule { rule_of result ≡ in_words_option }
+    ensures local { result.global ≡ false }
+{
+    Arg::new(alloc, "in-words")
+        .short('w')
+        .action(ArgAction::Count)
+        .help("Prints findings and faults in words, each at its line, with what to do")
 }
 
 fn evidence_option<'a>(alloc: Global) -> Arg<'a>
@@ -179,7 +189,7 @@ fn named_check<'a>(alloc: Global) -> Command<'a>
 {
     Command::new(alloc, "check")
         .about("Says yes where parallel and incremental makes build right, else no and why")
-        .override_usage("mkcheck check [-f F] [-r] -b BOOK [-c] [-e N] [WORD]...")
+        .override_usage("mkcheck check [-f F] [-r] -b BOOK [-c] [-w] [-e N] [WORD]...")
         .after_help(BEHIND_CHECK)
 }
 
@@ -247,15 +257,15 @@ fn graph_command<'a>(alloc: Global) -> Result<Command<'a>, AllocError>
         .arg(words_argument(alloc))
 }
 
-// Adds the options that select what of a verdict is printed, `-c` and `-e`.
+// Adds the options that say how a verdict is printed, `-c`, `-w` and `-e`.
 fn with_showing<'a>(alloc: Global, command: Command<'a>) -> Result<Command<'a>, AllocError>
     requires { (fields_of command).has_globals ≡ false }
-    ensures app { IfOk result (λ c. app_of c ≡
-        with_rule (with_rule (app_of command.entry) only_certificate_option) evidence_option) }
+    ensures app { IfOk result (λ c. app_of c ≡ with_showing (app_of command.entry)) }
     ensures local { IfOk result (λ c. (fields_of c).has_globals ≡ false) }
 {
     command
         .arg(only_certificate_option(alloc))?
+        .arg(in_words_option(alloc))?
         .arg(evidence_option(alloc))
 }
 
@@ -347,10 +357,10 @@ fn with_telling<'a>(alloc: Global, command: Command<'a>) -> Result<Command<'a>, 
 }
 
 /// The command line of the program, which reads the words after the program's name: `graph [-f F]
-/// [-r] [-b BOOK] [-c] [WORD..]`, `check [-f F] [-r] -b BOOK [-c] [-e N] [WORD..]`, `repair [-f F]
-/// [-r] -b BOOK [WORD..]`, `verify [-f F] [-r] -b BOOK -k CERT [WORD..]`, `simulate [-f F] [-r] -b
-/// BOOK -p PLAN [WORD..]`, `explain [WHAT]`, `--help` and `--version`. The only error is out of
-/// memory.
+/// [-r] [-b BOOK] [-c] [WORD..]`, `check [-f F] [-r] -b BOOK [-c] [-w] [-e N] [WORD..]`, `repair
+/// [-f F] [-r] -b BOOK [WORD..]`, `verify [-f F] [-r] -b BOOK -k CERT [WORD..]`, `simulate [-f F]
+/// [-r] -b BOOK -p PLAN [WORD..]`, `explain [WHAT]`, `--help` and `--version`. The only error is
+/// out of memory.
 pub fn command_line<'a>(alloc: Global) -> Result<Command<'a>, AllocError>
     ensures app { IfOk result (λ c. app_of c ≡ command_line) }
     ensures local { IfOk result (λ c. (fields_of c).has_globals ≡ false) }

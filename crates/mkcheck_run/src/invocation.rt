@@ -3,7 +3,7 @@
 ghost use Rattle.std.specs.Prelude.{◌≡◌, [], codes, unwrap_or, IfOk};
 ghost use Rattle.clap.specs.Words.{all_of, first_of, found_of, rows_of};
 ghost use Rattle.mk_core.specs.Words.{goals_of, operands_of};
-ghost use Rattle.mkcheck_run.specs.Invocation.{invocation_by, needed, number_at, requested};
+ghost use Rattle.mkcheck_run.specs.Invocation.{checking, invocation_by, needed, number_at, requested};
 
 use clap::ArgMatches;
 use mk_core::{Name, Names, Operands, Request, split_words};
@@ -22,6 +22,13 @@ pub enum Invocation {
         only_certificate: bool,
         /// For a no, the number of the finding whose plan alone is printed.
         evidence: Option<u64>,
+    },
+    /// `check -w`: prints the verdict on the build of the goals, with findings and faults in words.
+    CheckInWords {
+        /// The makefile, the goals and the footprints.
+        request: Request,
+        /// Whether a yes prints only the certificate.
+        only_certificate: bool,
     },
     /// `repair`: prints the lines that mend the makefile, or why nothing does.
     Repair(Request),
@@ -103,6 +110,28 @@ fn needed(alloc: Global, matches: &ArgMatches<'_>, id: &str) -> Result<Name, All
     }
 }
 
+// The command `check` with these options. With a number only the plan is printed, never in words.
+fn checking(
+    request: Request,
+    in_words: bool,
+    only_certificate: bool,
+    evidence: Option<u64>,
+) -> Invocation
+    ensures { result ≡ checking request in_words only_certificate evidence }
+{
+    match evidence {
+        None if in_words => Invocation::CheckInWords {
+            request,
+            only_certificate,
+        },
+        evidence => Invocation::Check {
+            request,
+            only_certificate,
+            evidence,
+        },
+    }
+}
+
 /// The command for the subcommand with this name and these matches. The only error is out of
 /// memory.
 pub fn invocation_by(
@@ -115,11 +144,12 @@ pub fn invocation_by(
 {
     let request = requested(alloc, matches)?;
     match name {
-        "check" => Ok(Invocation::Check {
+        "check" => Ok(checking(
             request,
-            only_certificate: matches.get_count("only-certificate") > 0,
-            evidence: number_at(matches, "evidence"),
-        }),
+            matches.get_count("in-words") > 0,
+            matches.get_count("only-certificate") > 0,
+            number_at(matches, "evidence"),
+        )),
         "repair" => Ok(Invocation::Repair(request)),
         "explain" => Ok(Invocation::Explain(named(alloc, matches, "what")?)),
         "verify" => Ok(Invocation::Verify {

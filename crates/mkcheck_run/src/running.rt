@@ -7,15 +7,16 @@ ghost use Rattle.mk_core.specs.Ready.{macros_for};
 ghost use Rattle.mkcheck_run.specs.Invocation.{AreRefusedUnread, invocation_of, asked_with, asking, faults_of, request_in};
 ghost use Rattle.mkcheck_run.specs.CommandLine.{HasNoOption, graph_words};
 ghost use Rattle.mkcheck_host.specs.Outcome.{written};
-ghost use Rattle.mkcheck_run.specs.Run.{Explains, IsAnswered, IsRefused, Promises, Shows};
+ghost use Rattle.mkcheck_run.specs.Run.{Explains, IsAnswered, IsRefused, Promises, Shows, refusal_text};
 ghost use Rattle.mkcheck_run.specs.declared.invocation.Invocation.TheVariants.{Graph};
 
 use crate::answering::{Response, answer};
 use crate::command::command_line;
-use crate::invocation::invocation_by;
+use crate::invocation::{Invocation, invocation_by};
 use clap::error::ErrorKind;
 use clap::{ArgMatches, Error};
 use mk_core::{Fault, Files, fault_text};
+use mk_core_text::fault_words;
 use mkcheck_host::{FAULT, Outcome};
 use std::alloc::{AllocError, Global};
 use std::convert::AsStr;
@@ -29,14 +30,24 @@ pub const NO: u8 = 1;
 /// The exit status of a refusal.
 pub const REFUSED: u8 = 2;
 
+// The text of a fault, as this command prints it, without a newline.
+fn refusal_text(alloc: Global, asked: &Invocation, fault: &Fault) -> Result<Vec<u8>, AllocError>
+    ensures { IfOk result (λ text. text.items ≡ refusal_text asked.now fault.now) }
+{
+    match asked {
+        Invocation::CheckInWords { .. } => fault_words(alloc, fault),
+        _ => fault_text(alloc, fault),
+    }
+}
+
 // The outcome of a refusal. Out of memory is an error.
-fn refused(alloc: Global, fault: &Fault) -> Result<Outcome, AllocError>
-    ensures { IfOk result (λ outcome. Shows (Err fault.now) (written outcome)) }
+fn refused(alloc: Global, asked: &Invocation, fault: &Fault) -> Result<Outcome, AllocError>
+    ensures { IfOk result (λ outcome. Shows asked.now (Err fault.now) (written outcome)) }
 {
     if fault.is_out_of_memory() {
         return Err(AllocError);
     }
-    let mut out = fault_text(alloc, fault)?;
+    let mut out = refusal_text(alloc, asked, fault)?;
     out.push(b'\n')?;
     Ok(Outcome {
         out,
@@ -46,8 +57,12 @@ fn refused(alloc: Global, fault: &Fault) -> Result<Outcome, AllocError>
 }
 
 // The outcome of a response, or of the fault in its place.
-fn shown(alloc: Global, answer: Result<Response, Fault>) -> Result<Outcome, AllocError>
-    ensures { IfOk result (λ outcome. Shows answer (written outcome)) }
+fn shown(
+    alloc: Global,
+    asked: &Invocation,
+    answer: Result<Response, Fault>,
+) -> Result<Outcome, AllocError>
+    ensures { IfOk result (λ outcome. Shows asked.now answer (written outcome)) }
 {
     match answer {
         Ok(shown) => Ok(Outcome {
@@ -55,7 +70,7 @@ fn shown(alloc: Global, answer: Result<Response, Fault>) -> Result<Outcome, Allo
             err: String::new(alloc),
             status: shown.status,
         }),
-        Err(fault) => refused(alloc, &fault),
+        Err(fault) => refused(alloc, asked, &fault),
     }
 }
 
@@ -97,7 +112,7 @@ fn answered<F: Files>(
     let (name, met) = matches.subcommand().unwrap();
     let asked = invocation_by(alloc, name, met)?;
     let found = answer(alloc, files, &asked);
-    shown(alloc, found)
+    shown(alloc, &asked, found)
 }
 
 /// Parses the words after the program's name, and carries out the command that they give (the

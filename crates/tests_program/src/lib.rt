@@ -14,4 +14,6 @@ mod openings;
 #[cfg(test)]
 mod repairs;
 #[cfg(test)]
+mod sentences;
+#[cfg(test)]
 mod verdicts;

@@ -5,7 +5,8 @@ use Rattle.clap.specs.Words.{found_of, rows_of}
 use Rattle.mk_core.specs.Ready.{macros_for}
 use Rattle.mkcheck_run.specs.declared.invocation.Invocation.{Invocation}
 use Rattle.mkcheck_run.specs.Invocation.{asked_with, request_in}
-use Rattle.mkcheck_run.specs.Run.{AnswersInvocation, Promises}
+use Rattle.mkcheck_host.specs.Outcome.{written}
+use Rattle.mkcheck_run.specs.Run.{AnswersInvocation, Promises, Shows}
 use Rattle.mkcheck_run.proofs.RunLemmas.{met_found, promised}
 use Rattle.mkcheck_run.proofs.running.answered.Goals as goal
 
@@ -20,7 +21,7 @@ returns-clause-answered g c =
           subst (λ (a : Invocation). AnswersInvocation told a found) asks
           (c.answer-found.ensures.answer told fits);
       noted = c.answer-found.ensures.noted;
-      shows = h;
+      shows = subst (λ (a : Invocation). Shows a found (written outcome)) asks h;
     }) c.shown.ensures
 
 pub returns-clause-right : goal.returns-clause-right
@@ -30,7 +31,8 @@ returns-clause-right g c =
     let asks = c.in_ok-asked.ensures ∙ sym (ap asked_with met) in
     IfOk-weaker c.shown.result _ _ (λ outcome shows done told fits. promised told _ found _
     (subst (λ (a : Invocation). IfOk found (λ shown. shown.status ≡ 0 → Promises told a shown.text)) asks
-    (c.answer-found.ensures.right told fits)) shows done) c.shown.ensures
+    (c.answer-found.ensures.right told fits))
+    (subst (λ (a : Invocation). Shows a found (written outcome)) asks shows) done) c.shown.ensures
 
 pub returns-clause-untouched : goal.returns-clause-untouched
 returns-clause-untouched g c =

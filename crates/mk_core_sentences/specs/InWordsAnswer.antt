@@ -1,0 +1,35 @@
+-- The answer of the command `check -w`.
+use Rattle.std.specs.Prelude.{◌≡◌, [], List, Result, Ok}
+use Rattle.mk_cert.specs.Subject.{Subject}
+use Rattle.mk_cert.specs.declared.finding.Finding.{Finding}
+use Rattle.mk_find.specs.Findings.{AreFindings}
+use Rattle.mk_sentences.specs.Text.{sentences_text}
+use Rattle.mk_core_text.specs.declared.fault.Fault.{Fault}
+use Rattle.mk_core_text.specs.declared.verdict.Verdict.TheVariants as verdict
+use Rattle.mk_core.specs.CheckAnswer.{IsVerdict}
+use Rattle.mk_core.specs.Judging.{AnswersJudged}
+use Rattle.mk_core.specs.Ready.{Ready}
+use Rattle.mk_core_sentences.specs.declared.checking.InWords.{InWords}
+use Rattle.mk_core_sentences.specs.declared.checking.InWords.TheVariants.{Yes, No}
+
+-- It is the verdict, if that is yes; else the sentences of the findings.
+abbrev pub IsInWords : Subject → InWords → Type 0
+IsInWords x (Yes (verdict.Yes certificate recipes reads)) =
+    IsVerdict x (verdict.Yes certificate recipes reads)
+IsInWords x (Yes (verdict.No found)) = ⊥
+IsInWords x (No text) =
+    (found : List Finding) × (¬ (found ≡ [])) × AreFindings x found ×
+    (text.items ≡ sentences_text x found)
+
+-- The answer is such a verdict in words, without a fault.
+abbrev pub GivesInWords : Subject → Result InWords Fault → Type 0
+GivesInWords x answer = (found : InWords) × IsInWords x found × (answer ≡ Ok found)
+
+-- The answer of `check -w` to a prepared request: the verdict in words on the build of its goals.
+abbrev pub AnswersInWords : Ready → Result InWords Fault → Type 0
+AnswersInWords ready answer = AnswersJudged GivesInWords ready answer
+
+-- The answer is a verdict of yes.
+abbrev pub HasYes : Result InWords Fault → Type 0
+HasYes (Ok (Yes (verdict.Yes certificate recipes reads))) = Unit {0}
+HasYes answer = ⊥

@@ -1,0 +1,2 @@
+pub mod InWordsAnswer
+pub mod NotRead

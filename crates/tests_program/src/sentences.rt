@@ -1,0 +1,43 @@
+//! Worked rows of `run` for `check -w`.
+
+use crate::expecting::{expect_faults, expect_rows};
+use std::test::Fail;
+
+/// Builds: a yes, also as a certificate alone; a no in two groups; a no with what else to do; a
+/// plan, which `-w` doesn't change; and refusals, with a place and a word, with a place alone, and
+/// without a place.
+const SENTENCES: &str = r"p: a.c¶→cc -o p a.c¶‖check -w -b B‖a.c‖p: a.c > p = cc -o p a.c‖0
+    ‖yes 1 recipes 1 reads¶way p a.c source p¶
+p: a.o b.o¶→cc -o p a.o b.o¶a.o: a.c¶→cc -c a.c¶b.o: b.c¶→cc -c b.c¶‖check -w -b B p
+    ‖a.c b.c h.h k.h
+    ‖p: a.o b.o > p = cc -o p a.o b.o; a.o: a.c h.h > a.o = cc -c a.c;
+     b.o: b.c k.h > b.o = cc -c b.c‖1
+    ‖makefile:3: a.o reads h.h, but doesn't depend on it: when it changes, a.o stays old [stale]¶
+      add: a.o: h.h¶
+    makefile:5: b.o reads k.h, but doesn't depend on it: when it changes, b.o stays old [stale]¶
+      add: b.o: k.h¶
+lib.a: a.o¶→ar rv $@ $?¶‖check -w -b B‖a.o‖lib.a: a.o > lib.a = ar rv lib.a a.o‖1
+    ‖makefile:1: the commands of lib.a use $?, so what it holds may depend on what was out of date
+     [varying]¶  do: write $^ in place of $?, and make the whole file anew in each run¶
+    more findings may follow: these hide races and stale reads¶
+p: a.c¶→cc -o p a.c¶p:¶→cc -o p¶‖check -w -b B‖a.c‖p: a.c > p = cc -o p a.c‖2
+    ‖makefile:3: TwoRecipes (31): p: a target has commands on two lines; keep those of one¶
+p: a.c¶→cc -o p a.c¶x¶‖check -w -b B‖a.c‖p: a.c > p = cc -o p a.c‖2
+    ‖makefile:3: NotALine (25): the line is no rule, macro or include; rewrite it¶
+p: a.c¶→cc -o p a.c¶‖check -w -b B q‖a.c‖p: a.c > p = cc -o p a.c‖2
+    ‖NoRule (41): q: nothing makes a name; write a rule for it, or record again¶";
+
+#[test]
+fn tells_findings_and_faults(rt: HostRuntime) -> Result<(), Fail> {
+    expect_rows(&rt, rt.alloc(), SENTENCES)
+}
+
+/// Words with `-w` that the command line rejects.
+const OTHER_WORDS: &str = r"check -w
+repair -w -b B
+graph -w";
+
+#[test]
+fn refuses_other_words(rt: HostRuntime) -> Result<(), Fail> {
+    expect_faults(&rt, rt.alloc(), OTHER_WORDS)
+}
