@@ -1,10 +1,8 @@
 //! Rows on certificates: those of builds, and which ones are accepted.
 
-use crate::builds::{expect_answer, expect_answers};
-use crate::calls::Call;
 use std::alloc::Global;
-use std::process::Abort;
 use std::test::Fail;
+use tests_builds::{Call, expect_answer, expect_answers};
 use tests_tables::{certificate, rows};
 
 /// Builds without findings, and the certificate of each.
@@ -31,7 +29,7 @@ m.o: m.c y.tab.h¶→cc -c m.c¶y.tab.h: y.tab.c¶y.tab.c: gram.y¶→yacc -d gr
 
 #[test]
 fn certifies_builds(rt: HostRuntime) -> Result<(), Fail> {
-    expect_answers(&rt, rt.alloc(), &Call::Certify, CERTIFICATES)
+    expect_answers(rt.alloc(), &Call::Certify, CERTIFICATES)
 }
 
 /// Builds with findings, and the findings.
@@ -44,16 +42,16 @@ b: a¶→do b¶a:¶→do a¶‖‖‖a: > a log = do a; b: a > b log = do b‖wr
 
 #[test]
 fn judges_builds(rt: HostRuntime) -> Result<(), Fail> {
-    expect_answers(&rt, rt.alloc(), &Call::Judge, CERTIFICATES)?;
-    expect_answers(&rt, rt.alloc(), &Call::Judge, FOUND)
+    expect_answers(rt.alloc(), &Call::Judge, CERTIFICATES)?;
+    expect_answers(rt.alloc(), &Call::Judge, FOUND)
 }
 
 /// Expects the result of `verify` for a build, for each row: a certificate, ` => `, and the result.
-fn expect_verified(rt: &impl Abort, alloc: Global, build: &str, table: &str) -> Result<(), Fail> {
+fn expect_verified(alloc: Global, build: &str, table: &str) -> Result<(), Fail> {
     for row in &rows(alloc, table)? {
         let (told, want) = row.split_once(" => ").unwrap_or((row, ""));
         let text = certificate(alloc, told)?;
-        expect_answer(rt, alloc, build, &Call::Verify(text.as_str()), want)?;
+        expect_answer(alloc, build, &Call::Verify(text.as_str()), want)?;
     }
     Ok(())
 }
@@ -73,7 +71,7 @@ x | b a always b => 73";
 
 #[test]
 fn refuses_races_and_other_goals(rt: HostRuntime) -> Result<(), Fail> {
-    expect_verified(&rt, rt.alloc(), RACE, RACE_ROWS)
+    expect_verified(rt.alloc(), RACE, RACE_ROWS)
 }
 
 /// A build with a recipe that is made in each make.
@@ -88,7 +86,7 @@ all | b a always b; b a always b => 75 b a";
 
 #[test]
 fn asks_for_each_entry_once(rt: HostRuntime) -> Result<(), Fail> {
-    expect_verified(&rt, rt.alloc(), ALWAYS, ALWAYS_ROWS)
+    expect_verified(rt.alloc(), ALWAYS, ALWAYS_ROWS)
 }
 
 /// A build with a source that two recipes read, one of which needs what the other writes.
@@ -103,7 +101,7 @@ p | a.o a.c source a.o; p a.o written p a.o; p a.c source p => 75 p a.c";
 
 #[test]
 fn refuses_a_path_that_is_cut(rt: HostRuntime) -> Result<(), Fail> {
-    expect_verified(&rt, rt.alloc(), OBJECT, OBJECT_ROWS)
+    expect_verified(rt.alloc(), OBJECT, OBJECT_ROWS)
 }
 
 /// A build in which a recipe reads a source that it needs only through a name without a recipe.
@@ -115,5 +113,5 @@ p | => 74 p a";
 
 #[test]
 fn refuses_paths_over_names_without_recipes(rt: HostRuntime) -> Result<(), Fail> {
-    expect_verified(&rt, rt.alloc(), BEHIND, BEHIND_ROWS)
+    expect_verified(rt.alloc(), BEHIND, BEHIND_ROWS)
 }

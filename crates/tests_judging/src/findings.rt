@@ -1,9 +1,7 @@
 //! Rows on findings, and on the counts of recipes and reads.
 
-use crate::builds::expect_answers;
-use crate::calls::Call;
-use std::process::Abort;
 use std::test::Fail;
+use tests_builds::{Call, expect_answers};
 
 /// Builds and their findings that need neither a way nor the order.
 const ALONE: &str = r".PHONY: b¶all: x y¶x: a .WAIT b¶y: b¶a:¶→touch a¶b:¶→cat a¶‖‖
@@ -29,7 +27,7 @@ p: a.o¶→cc -o p a.o¶a.o: a.c¶→cc -c a.c¶‖‖a.c h.h
 
 #[test]
 fn finds_what_needs_no_order(rt: HostRuntime) -> Result<(), Fail> {
-    expect_answers(&rt, rt.alloc(), &Call::Static, ALONE)
+    expect_answers(rt.alloc(), &Call::Static, ALONE)
 }
 
 /// Builds in which recipes read what others write, under different orders, and their races.
@@ -46,7 +44,7 @@ m.o: m.c y.tab.h¶→cc -c m.c¶y.tab.h: y.tab.c¶y.tab.c: gram.y¶→yacc -d gr
 
 #[test]
 fn finds_races(rt: HostRuntime) -> Result<(), Fail> {
-    expect_answers(&rt, rt.alloc(), &Call::Races, RACES)
+    expect_answers(rt.alloc(), &Call::Races, RACES)
 }
 
 /// Builds and all their findings.
@@ -82,7 +80,7 @@ all: a b¶a:¶→mk a¶b:¶→mk b¶‖‖h‖a: > a = mk a; b: a h > b = mk b�
 
 #[test]
 fn finds_all(rt: HostRuntime) -> Result<(), Fail> {
-    expect_answers(&rt, rt.alloc(), &Call::Findings, FOUND)
+    expect_answers(rt.alloc(), &Call::Findings, FOUND)
 }
 
 /// Builds and their counts of recipes and reads.
@@ -101,5 +99,5 @@ m.o: m.c y.tab.h¶→cc -c m.c¶y.tab.h: y.tab.c¶y.tab.c: gram.y¶→yacc -d gr
 
 #[test]
 fn counts_recipes_and_reads(rt: HostRuntime) -> Result<(), Fail> {
-    expect_answers(&rt, rt.alloc(), &Call::Counts, COUNTS)
+    expect_answers(rt.alloc(), &Call::Counts, COUNTS)
 }

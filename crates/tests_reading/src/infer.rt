@@ -1,6 +1,6 @@
 //! Rows on inference rules, selection, goals and commands, over makefiles in memory.
 
-use crate::fixtures::{file_of, names, same_bytes};
+use crate::files::file_of;
 use mk_graph::Graph;
 use mk_infer::{
     ChoiceAndCommands, Choices, Commands, Exists, InferFault, RuleTable, choice,
@@ -13,6 +13,7 @@ use mk_read_parse::read_makefile;
 use std::alloc::{AllocError, Global};
 use std::process::Abort;
 use std::test::Fail;
+use tests_fixtures::names;
 use tests_tables::{field, fields_of, unfolded};
 
 /// Reads a makefile after the default text, with a macro operand.
@@ -307,7 +308,7 @@ fn see_answer(
     row: &str,
 ) -> Result<(), AllocError> {
     let wanted = field(alloc, fields, 1)?;
-    same_bytes(rt, answer, wanted.as_bytes(), row);
+    assert_eq!(rt; answer, wanted.as_bytes(), "at {row}");
     Ok(())
 }
 

@@ -1,6 +1,5 @@
 //! Rows on the kinds of lines, on words as names, and on special targets.
 
-use crate::fixtures::{same, see_that};
 use mk_lines::{Name, uncomment};
 use mk_macros::Op;
 use mk_read::{KindFault, Place, ReadFault, Special};
@@ -134,7 +133,7 @@ const FAULTS: &[(&str, &str)] = &[
 fn are(rt: &impl Abort, alloc: Global, rows: &[(&str, &str)]) -> Result<(), Fail> {
     for &(line, wanted) in rows {
         let found = shown(alloc, line.as_bytes())?;
-        same(rt, str::from_utf8(&found).unwrap_or("?"), wanted, line);
+        assert_eq!(rt; str::from_utf8(&found).unwrap_or("?"), wanted, "at {line}");
     }
     Ok(())
 }
@@ -212,7 +211,7 @@ fn knows_names(rt: HostRuntime) -> Result<(), Fail> {
     let file = Name::new(rt.alloc(), "makefile")?;
     for &(text, wanted) in NAMES {
         let found = shown_names(rt.alloc(), &file, text.as_bytes())?;
-        same(&rt, str::from_utf8(&found).unwrap_or("?"), wanted, text);
+        assert_eq!(rt; str::from_utf8(&found).unwrap_or("?"), wanted, "at {text}");
     }
     Ok(())
 }
@@ -238,8 +237,8 @@ fn told_of_word(alloc: Global, file: &Name, word: &[u8]) -> Result<String, Alloc
 fn knows_places(rt: HostRuntime) -> Result<(), Fail> {
     let file = Name::new(rt.alloc(), "f1")?;
     let told = told_of_word(rt.alloc(), &file, b"a*")?;
-    see_that(&rt, told.as_str().contains("f1"), "the file");
-    see_that(&rt, told.as_str().contains("line: 7"), "the line");
+    assert!(rt; told.as_str().contains("f1"), "the file");
+    assert!(rt; told.as_str().contains("line: 7"), "the line");
     Ok(())
 }
 
@@ -247,7 +246,7 @@ fn knows_places(rt: HostRuntime) -> Result<(), Fail> {
 fn see_memory(rt: &impl Abort, fault: ReadFault, want: bool, row: &str) {
     let is_memory = fault.is_out_of_memory();
     drop(fault);
-    see_that(rt, is_memory == want, row);
+    assert!(rt; is_memory == want, "at {row}");
 }
 
 #[test]
@@ -278,7 +277,7 @@ const SPECIAL: &[(&str, bool)] = &[
 #[test]
 fn knows_special_names(rt: HostRuntime) {
     for &(name, want) in SPECIAL {
-        see_that(&rt, is_special(name) == want, name);
+        assert!(rt; is_special(name) == want, "at {name}");
     }
 }
 
@@ -299,7 +298,7 @@ const TARGETS: &[(&str, Option<Special>)] = &[
 #[test]
 fn knows_special_targets(rt: HostRuntime) {
     for (name, want) in TARGETS {
-        see_that(&rt, special_of(name) == *want, name);
+        assert!(rt; special_of(name) == *want, "at {name}");
     }
 }
 
@@ -320,6 +319,6 @@ const SUFFIXES: &[(&str, bool)] = &[
 #[test]
 fn knows_suffixes(rt: HostRuntime) {
     for &(word, want) in SUFFIXES {
-        see_that(&rt, is_suffix(word) == want, word);
+        assert!(rt; is_suffix(word) == want, "at {word}");
     }
 }

@@ -1,6 +1,6 @@
 //! Tests of makefiles that are read from memory.
 
-use crate::fixtures::{add_names, file_of, same, see_that};
+use crate::files::file_of;
 use mk_lines::Name;
 use mk_read::{Command, Makefile, ReadFault};
 use mk_read_parse::{MemFiles, read_makefile};
@@ -8,6 +8,7 @@ use std::alloc::{AllocError, Global};
 use std::process::Abort;
 use std::str;
 use std::test::Fail;
+use tests_fixtures::add_names;
 use tests_tables::unfolded;
 
 /// Appends commands, each after a semicolon.
@@ -76,10 +77,10 @@ type Seen<'a> = (&'a str, &'a str, bool);
 /// Checks a makefile.
 fn see(rt: &impl Abort, alloc: Global, makefile: &Makefile, want: Seen<'_>) -> Result<(), Fail> {
     let rules = rules_text(alloc, makefile)?;
-    same(rt, rules.as_str(), want.0, "rule lines");
+    assert_eq!(rt; rules.as_str(), want.0, "rule lines");
     let lists = lists_text(alloc, makefile)?;
-    same(rt, lists.as_str(), want.1, "lists");
-    see_that(rt, makefile.not_parallel() == want.2, "not parallel");
+    assert_eq!(rt; lists.as_str(), want.1, "lists");
+    assert!(rt; makefile.not_parallel() == want.2, "not parallel");
     Ok(())
 }
 
@@ -182,7 +183,7 @@ fn names_the_file_of_a_failed_read(rt: HostRuntime) -> Result<(), Fail> {
         files.fail_at(number);
         let read = read_makefile(alloc, &mut files, None, true, &[]);
         let got = failure_text(alloc, &read)?;
-        same(&rt, got.as_str(), want, "a failed read");
+        assert_eq!(rt; got.as_str(), want, "a failed read");
     }
     Ok(())
 }
@@ -194,17 +195,15 @@ fn refuses_requests_before_reading(rt: HostRuntime) -> Result<(), Fail> {
     files.fail_at(1);
     let dash = Name::new(alloc, "-")?;
     let read = read_makefile(alloc, &mut files, Some(&dash), true, &[]);
-    see_that(
-        &rt,
+    assert!(rt;
         matches!(&read, Err(ReadFault::BadMakefileName(_))),
-        "a bad name",
+        "a bad name"
     );
     let operand = b"A B=".to_vec(alloc)?;
     let read = read_makefile(alloc, &mut files, None, true, &[operand]);
-    see_that(
-        &rt,
+    assert!(rt;
         matches!(&read, Err(ReadFault::Macro(_, _))),
-        "a bad operand",
+        "a bad operand"
     );
     Ok(())
 }

@@ -1,6 +1,6 @@
 //! Tests of mk_cert_text: lists of names that share one text.
 
-use crate::fixtures::{same, same_number};
+use crate::expecting::{same, same_number};
 use mk_cert_text::PackedNames;
 use std::alloc::{AllocError, Global};
 use std::process::Abort;

@@ -1,7 +1,7 @@
 use Rattle.std.proofs.Common.{ℕ, List, Ok, sym, subst}
 use Rattle.mk_infer.specs.Choosing.{Looked}
 use Rattle.mk_infer.specs.Selection.{Selects}
-use Rattle.tests_judging.proofs.builds.graph_of.Goals as goal
+use Rattle.tests_builds.proofs.builds.graph_of.Goals as goal
 
 -- the goals of the graph are those that were asked for
 pub returns : goal.returns

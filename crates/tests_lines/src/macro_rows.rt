@@ -1,6 +1,6 @@
 //! Rows over a table of macros: definitions, operands, and texts that are expanded.
 
-use crate::fixtures::same;
+use crate::expecting::same;
 use mk_macros::{Locals, MacroFault, MacroTable, Op};
 use std::alloc::Global;
 use std::process::Abort;

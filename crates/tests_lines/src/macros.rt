@@ -1,6 +1,6 @@
 //! Rows on expansions. The expected texts were worked out by hand.
 
-use crate::fixtures::{same_bytes, same_number, see_that};
+use crate::expecting::{same_bytes, same_number, see_that};
 use crate::macro_rows::{follow, follow_anew};
 use mk_macros::{Locals, MacroTable, Op, without_blanks};
 use std::alloc::{AllocError, Global};

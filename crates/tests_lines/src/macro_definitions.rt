@@ -1,6 +1,6 @@
 //! Rows on definitions, operands and substitutions.
 
-use crate::fixtures::same_number;
+use crate::expecting::same_number;
 use crate::macro_rows::{expanded, follow_anew};
 use mk_macros::{Locals, MacroTable, Op};
 use std::alloc::Global;

@@ -1,11 +1,11 @@
 //! Tables of footprint files.
 
-use crate::fixtures::{add_names, long, names, same, see_that};
 use mk_foot::{Book, FootFault, Record, Setting, read_book};
 use mk_lines::Name;
 use std::alloc::{AllocError, Global};
 use std::process::Abort;
 use std::test::Fail;
+use tests_fixtures::{add_names, long, names};
 use tests_tables::rows;
 
 /// Appends a record: its target, its reads, its writes, and its commands in brackets.
@@ -325,7 +325,7 @@ const SECOND: &str = r#"{"format":2,"fixed":[]} => refused 52 sources
 fn see_row(rt: &impl Abort, alloc: Global, row: &str) -> Result<(), AllocError> {
     let (text, line) = row.split_once(" => ").unwrap_or((row, ""));
     let got = read(alloc, text.as_bytes(), "p")?;
-    same(rt, got.as_str(), line, row);
+    assert_eq!(rt; got.as_str(), line, "at {row}");
     Ok(())
 }
 
@@ -361,7 +361,7 @@ const EXAMPLES: &[(&str, &str, &str)] = &[
 fn reads_the_examples(rt: HostRuntime) -> Result<(), Fail> {
     for &(text, goals, line) in EXAMPLES {
         let got = read(rt.alloc(), text.as_bytes(), goals)?;
-        same(&rt, got.as_str(), line, goals);
+        assert_eq!(rt; got.as_str(), line, "at {goals}");
     }
     Ok(())
 }
@@ -369,7 +369,7 @@ fn reads_the_examples(rt: HostRuntime) -> Result<(), Fail> {
 /// Checks what bytes are read as without goals.
 fn see(rt: &impl Abort, alloc: Global, bytes: &[u8], want: &str) -> Result<(), AllocError> {
     let got = read(alloc, bytes, "")?;
-    same(rt, got.as_str(), want, want);
+    assert_eq!(rt; got.as_str(), want, "at {want}");
     Ok(())
 }
 
@@ -414,7 +414,7 @@ fn refuses_deep_arrays(rt: HostRuntime) -> Result<(), Fail> {
 fn wants_memory_or_answers(rt: HostRuntime) -> Result<(), Fail> {
     let got = read(rt.alloc(), SHARING.as_bytes(), "p")?;
     let is_known = got.as_str() == SHARING_BOOK || got.as_str() == "want of memory";
-    see_that(&rt, is_known, "a book or want of memory");
+    assert!(rt; is_known, "a book or want of memory");
     Ok(())
 }
 
@@ -490,6 +490,6 @@ fn knows_its_files(rt: HostRuntime) -> Result<(), Fail> {
     let passed_over = names(rt.alloc(), "gone.mk")?;
     let book = read_book(rt.alloc(), BUILD.as_bytes(), &[])?;
     let out = told_with(rt.alloc(), book, &texts, &passed_over)?;
-    same(&rt, out.as_str(), TOLD, "a setting");
+    assert_eq!(rt; out.as_str(), TOLD, "a setting");
     Ok(())
 }

@@ -15,7 +15,6 @@ use mk_lines::{Name, NameTable};
 use mk_read::Makefile;
 use mk_read_parse::{MemFiles, read_makefile};
 use std::alloc::{AllocError, Global};
-use std::process::Abort;
 use std::test::Fail;
 use tests_tables::{footprints, part, rows, unfolded};
 
@@ -140,35 +139,33 @@ fn over_table(
 }
 
 /// What a call returns for a build.
-pub fn answer_to(alloc: Global, build: &str, call: &Call<'_>) -> Result<String, Fail> {
+fn answer_to(alloc: Global, build: &str, call: &Call<'_>) -> Result<String, Fail> {
     let makefile = makefile_of(alloc, part(build, 0))?;
     let table = RuleTable::new(alloc, &makefile)?;
     over_table(alloc, &table, build, call)
 }
 
-/// Expects that a call returns `want` for a build.
-pub fn expect_answer(
-    rt: &impl Abort,
-    alloc: Global,
-    build: &str,
-    call: &Call<'_>,
-    want: &str,
-) -> Result<(), Fail> {
-    let got = answer_to(alloc, build, call)?;
-    let want = unfolded(alloc, want)?;
-    assert_eq!(rt; got.as_str(), want.as_str(), "of {build:?}");
-    Ok(())
+/// Checks that two texts are equal. An error shows the beginning of the build and both texts.
+fn expect_same(build: &str, got: &str, want: &str) -> Result<(), Fail> {
+    if got == want {
+        return Ok(());
+    }
+    let front = build.get(..80).unwrap_or(build);
+    Err(Fail::new(format_args!("of {front:?}: {got:?}, not {want:?}")))
 }
 
-/// Expects the result of a call for each row: a build, `‖`, and the result.
-pub fn expect_answers(
-    rt: &impl Abort,
-    alloc: Global,
-    call: &Call<'_>,
-    table: &str,
-) -> Result<(), Fail> {
+/// Checks that a call returns `want` for a build. Another result is an error.
+pub fn expect_answer(alloc: Global, build: &str, call: &Call<'_>, want: &str) -> Result<(), Fail> {
+    let got = answer_to(alloc, build, call)?;
+    let want = unfolded(alloc, want)?;
+    expect_same(build, got.as_str(), want.as_str())
+}
+
+/// Checks the result of a call for each row: a build, `‖`, and the result. Another result is an
+/// error.
+pub fn expect_answers(alloc: Global, call: &Call<'_>, table: &str) -> Result<(), Fail> {
     for row in &rows(alloc, table)? {
-        expect_answer(rt, alloc, row, call, part(row, 4))?;
+        expect_answer(alloc, row, call, part(row, 4))?;
     }
     Ok(())
 }

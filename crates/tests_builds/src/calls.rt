@@ -1,10 +1,12 @@
-//! The public calls of mk_cert, mk_find and mk_repair over a subject, with their results as texts.
+//! The public calls of mk_cert, mk_find, mk_repair and mk_sentences over a subject, with their
+//! results as texts.
 
 use mk_cert::{CertFault, Finding, Subject, counts, races, static_findings, verify};
 use mk_cert_text::{certificate_text, read_certificate};
 use mk_find::laws::no_findings;
 use mk_find::{certify, findings, judge};
 use mk_repair::{lines_text, words_of};
+use mk_sentences::sentences;
 use std::alloc::Global;
 use std::test::Fail;
 
@@ -25,6 +27,8 @@ pub enum Call<'a> {
     Judge,
     /// `words_of` for the findings of `findings`, then `lines_text`.
     Lines,
+    /// `sentences` for the findings of `findings`.
+    Sentences,
     /// `verify`, with the text of a certificate.
     Verify(&'a str),
 }
@@ -88,6 +92,12 @@ fn repaired(alloc: Global, subject: &Subject<'_>) -> Result<String, Fail> {
     }
 }
 
+/// The findings of `findings` in sentences.
+fn told(alloc: Global, subject: &Subject<'_>) -> Result<String, Fail> {
+    let found = findings(alloc, subject)?;
+    Ok(String::from_utf8(sentences(alloc, subject, &found)?)?)
+}
+
 /// A fault's number and names.
 fn fault_words(alloc: Global, fault: &CertFault) -> Result<String, Fail> {
     let text = match fault {
@@ -119,6 +129,7 @@ pub fn answer(alloc: Global, subject: &Subject<'_>, call: &Call<'_>) -> Result<S
         Call::Certify => certified(alloc, subject),
         Call::Judge => judged(alloc, subject),
         Call::Lines => repaired(alloc, subject),
+        Call::Sentences => told(alloc, subject),
         Call::Verify(text) => verified(alloc, subject, text),
     }
 }

@@ -1,11 +1,9 @@
 //! Rows on the lines that mend a makefile.
 
-use crate::builds::{answer_to, expect_answer, expect_answers};
-use crate::calls::Call;
 use mk_repair::{Word, Words, lines_text};
 use std::alloc::Global;
-use std::process::Abort;
 use std::test::Fail;
+use tests_builds::{Call, expect_answer, expect_answers};
 use tests_tables::{part, rows, unfolded};
 
 /// Builds that lines mend, and the lines.
@@ -44,20 +42,20 @@ p: a.o b.o c.o¶→cc -o p a.o b.o c.o¶a.o: a.c¶→cc -c a.c¶b.o: b.c¶→cc 
 p: a.c¶→cc -o p a.c¶‖‖a.c‖p: a.c > p = cc -o p a.c‖";
 
 /// Expects the lines of each row, and that the makefile with these lines has no findings.
-fn expect_mended(rt: &impl Abort, alloc: Global, table: &str) -> Result<(), Fail> {
+fn expect_mended(alloc: Global, table: &str) -> Result<(), Fail> {
     for row in &rows(alloc, table)? {
         let (makefile, words) = (part(row, 0), part(row, 1));
         let (sources, records, lines) = (part(row, 2), part(row, 3), part(row, 4));
-        expect_answer(rt, alloc, row, &Call::Lines, lines)?;
+        expect_answer(alloc, row, &Call::Lines, lines)?;
         let mended = format!(in alloc; "{makefile}{lines}‖{words}‖{sources}‖{records}")?;
-        expect_answer(rt, alloc, mended.as_str(), &Call::Findings, "")?;
+        expect_answer(alloc, mended.as_str(), &Call::Findings, "")?;
     }
     Ok(())
 }
 
 #[test]
 fn mends_builds(rt: HostRuntime) -> Result<(), Fail> {
-    expect_mended(&rt, rt.alloc(), MENDED)
+    expect_mended(rt.alloc(), MENDED)
 }
 
 /// Builds with a finding that gives no word.
@@ -72,7 +70,7 @@ lib.a: a.o¶→ar rv $@ $?¶‖‖a.o‖lib.a: a.o > lib.a = ar rv lib.a ‖none
 
 #[test]
 fn gives_no_lines_for_what_they_cannot_mend(rt: HostRuntime) -> Result<(), Fail> {
-    expect_answers(&rt, rt.alloc(), &Call::Lines, NOT_MENDED)
+    expect_answers(rt.alloc(), &Call::Lines, NOT_MENDED)
 }
 
 /// Adds words, each written as `target prerequisite`, or as a target alone that is phony.

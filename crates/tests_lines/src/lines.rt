@@ -1,6 +1,6 @@
 //! Tables of lines, comments, words, paths, references, and lookups of names.
 
-use crate::fixtures::{long, names, same, same_bytes, same_number, see_that};
+use crate::expecting::{same, same_bytes, same_number, see_that};
 use mk_lines::{
     Line, LineFault, Name, NamePlaces, NameTable, Prefixes, Span, first_outside, is_blank,
     is_plain_path, is_plain_text_path, is_rule_line, logical_lines, trimmed, uncomment, words,
@@ -9,6 +9,7 @@ use std::alloc::{AllocError, Global};
 use std::process::Abort;
 use std::str;
 use std::test::Fail;
+use tests_fixtures::{long, names};
 
 /// Returns a line as text: its number, `!` for a command line or else `:`, its text, and `/`.
 fn line_text(alloc: Global, line: &Line) -> Result<String, AllocError> {

@@ -1,6 +1,5 @@
 //! Tests of mk_cert_text: how certificates are written and read.
 
-use crate::fixtures::{same, see_that};
 use mk_cert_text::{
     CertTextFault, Certificate, Finish, PackedNames, Way, Ways, certificate_text, read_certificate,
 };
@@ -227,7 +226,8 @@ fn read(alloc: Global, bytes: &[u8]) -> Result<String, Fail> {
 /// Checks what bytes are read as.
 fn see(rt: &impl Abort, alloc: Global, bytes: &[u8], want: &str) -> Result<(), Fail> {
     let got = read(alloc, bytes)?;
-    same(rt, got.as_str(), want, str::from_utf8(bytes).unwrap_or("?"));
+    let row = str::from_utf8(bytes).unwrap_or("?");
+    assert_eq!(rt; got.as_str(), want, "at {row}");
     Ok(())
 }
 
@@ -274,7 +274,7 @@ fn three_written(alloc: Global) -> Result<String, AllocError> {
 #[test]
 fn writes_three_ways(rt: HostRuntime) -> Result<(), Fail> {
     let text = three_written(rt.alloc())?;
-    same(&rt, text.as_str(), THREE, "three ways");
+    assert_eq!(rt; text.as_str(), THREE, "three ways");
     Ok(())
 }
 
@@ -293,7 +293,7 @@ fn goals_written(alloc: Global, words: &str) -> Result<String, AllocError> {
 fn writes_without_ways(rt: HostRuntime) -> Result<(), Fail> {
     let text = goals_written(rt.alloc(), "a\"b c\\d é")?;
     let want = r#"{"format":1,"goals":["a\"b","c\\d","é"],"ways":[]}"#;
-    same(&rt, text.as_str(), want, "no ways");
+    assert_eq!(rt; text.as_str(), want, "no ways");
     see(&rt, rt.alloc(), text.as_bytes(), "goals a\"b c\\d é")
 }
 
@@ -427,9 +427,9 @@ fn refuses_fronts(rt: HostRuntime) -> Result<(), Fail> {
 /// Checks that a certificate is `THREE`, and that it is written as such if memory suffices.
 fn see_three(rt: &impl Abort, alloc: Global, certificate: &Certificate) -> Result<(), Fail> {
     let ways = shown(alloc, certificate)?;
-    same(rt, ways.as_str(), THREE_WAYS, "as lines");
+    assert_eq!(rt; ways.as_str(), THREE_WAYS, "as lines");
     if let Ok(text) = certificate_text(alloc, certificate) {
-        same(rt, text.as_str(), THREE, "as it is written");
+        assert_eq!(rt; text.as_str(), THREE, "as it is written");
     }
     Ok(())
 }
@@ -440,11 +440,7 @@ fn wants_memory_or_answers(rt: HostRuntime) -> Result<(), Fail> {
     match read_certificate(rt.alloc(), THREE.as_bytes()) {
         Ok(certificate) => see_three(&rt, rt.alloc(), &certificate),
         Err(fault) => {
-            see_that(
-                &rt,
-                matches!(fault, CertTextFault::Memory),
-                "want of memory",
-            );
+            assert!(rt; matches!(fault, CertTextFault::Memory), "want of memory");
             Ok(())
         }
     }
