@@ -47,9 +47,30 @@ class FaultTest(ProjectTest):
     def test_an_old_file_stays_where_a_recipe_fails(self) -> None:
         self.write({"makefile": FAILING})
         kept = self.scratch / "kept"
-        kept.write_text("old")
+        kept.write_text('{"format": 1}')
         self.assertEqual(self.record("-o", str(kept)).status, 1)
-        self.assertEqual(kept.read_text(), "old")
+        self.assertEqual(kept.read_text(), '{"format": 1}')
+
+    def test_a_file_that_is_no_footprint_file(self) -> None:
+        self.write({"makefile": "a:\n\techo > a\n"})
+        kept = self.scratch / "kept"
+        for option in ("-o", "--update"):
+            for text in ("int a;\n", "[1]", "5", '["format", "x"]', '{"a": "format"}'):
+                kept.write_text(text)
+                outcome = self.record_plainly(option, str(kept))
+                self.assertEqual(
+                    (outcome.status, outcome.errors, kept.read_text()),
+                    (
+                        2,
+                        f"mkcheck-record: {option} {kept}: this file is no footprint file, so it"
+                        " isn't overwritten: give another name, or remove it\n",
+                        text,
+                    ),
+                )
+            for text in ("", '{"format": 1}'):
+                kept.write_text(text)
+                self.assertEqual(self.record_plainly(option, str(kept)).status, 0)
+                self.assertIn('"target":"a"', kept.read_text())
 
     def test_a_command_that_is_killed(self) -> None:
         self.write({"makefile": "a:\n\tkill -9 $$$$\n"})
@@ -160,7 +181,7 @@ class OtherRunsTest(ProjectTest):
         )
 
     def test_make_runs_other_commands(self) -> None:
-        self.write({"makefile": "out:\n\techo $(MAKE_VERSION) > out\n"})
+        self.write({"makefile": "out:\n\techo $(MAKEOVERRIDES) > out\n"})
         first, second = self.recorded("--make").warnings()
         self.assertRegex(first, r"^make runs a command that no recipe has: echo .+ > out$")
         self.assertEqual(second, "make doesn't run a command of out: echo > out")

@@ -63,9 +63,9 @@ class KeepGoingTest(ProjectTest):
         self.write({"makefile": "all: a b\na:\n\tfalse\nb:\n\techo > b\n"})
         self.book.write_text("old")
         kept = self.scratch / "kept"
-        kept.write_text("old")
+        kept.write_text('{"format": 1}')
         self.assertEqual(self.record_plainly("-k", "-o", str(kept)).status, 1)
-        self.assertEqual(kept.read_text(), "old")
+        self.assertEqual(kept.read_text(), '{"format": 1}')
 
 
 @traced

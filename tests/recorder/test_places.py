@@ -7,6 +7,7 @@ import shutil
 import signal
 import subprocess
 import sys
+import tempfile
 import time
 import unittest
 from pathlib import Path
@@ -20,6 +21,8 @@ sys.path.insert(0, str(ROOT / "tools"))
 from mkcheck_record import places, stopping  # noqa: E402
 from mkcheck_record.folders import scratch_folder  # noqa: E402
 from mkcheck_record.places import Place  # noqa: E402
+from mkcheck_record.versions import Store  # noqa: E402
+from mkcheck_record.worlds import World  # noqa: E402
 
 namespaces = unittest.skipUnless(places.namespace(), "no mount namespace is allowed")
 SCRATCH = "mkcheck-record-"
@@ -251,6 +254,99 @@ def take_signals() -> None:
     """A shell starts what runs in the background with SIGINT ignored; the recorder isn't to be."""
     for number in (signal.SIGINT, signal.SIGTERM, signal.SIGHUP):
         signal.signal(number, signal.SIG_DFL)
+
+
+@traced
+@namespaces
+class OutsideTest(ProjectTest):
+    """What recipes would write outside of the project's folder."""
+
+    def setUp(self) -> None:
+        super().setUp()
+        if places.shut() is None:
+            self.skipTest("the system doesn't allow making folders read-only")
+        try:
+            self.outside = Path(tempfile.mkdtemp(prefix="outside-", dir=Path(__file__).parent))
+        except OSError:
+            self.skipTest("the folder of the tests can't be written")
+        self.addCleanup(shutil.rmtree, self.outside)
+        if str(self.outside).startswith(("/tmp/", "/var/tmp/", tempfile.gettempdir() + "/")):
+            self.skipTest("the tests lie in a folder for temporary files")
+        (self.outside / "there").write_text("1")
+
+    def test_it_is_not_written(self) -> None:
+        place = f"{self.outside}/"
+        self.write({"a": ""})
+        for command, name in (
+            (f"cp a {place}new", "new"),
+            (f"-cp a {place}new", "new"),
+            (f"cp a {place}new || :", "new"),
+            (f"rm -rf {place}there", "there"),
+            (f"echo >> {place}there", "there"),
+            (f"chmod 600 {place}there", "there"),
+            (f"mkdir -p {place}new/d", "new"),
+            (f"ln -s a {place}new", "new"),
+            (f"cd {place}; mv there new", "new"),
+        ):
+            self.write({"makefile": f"install: a\n\t{command}\n\tcp a install\n"})
+            for fixed in ((), ("--fixed", str(self.outside))):
+                outcome = self.record(*fixed)
+                self.assertEqual((outcome.status, outcome.book), (1, None), command)
+                self.assertEqual(
+                    outcome.errors,
+                    "mkcheck-record: the recipe of install writes files outside the folder, which"
+                    " no footprint can name: let it write into the folder, or leave it out\n"
+                    f"\tinstall writes {place}{name}\n",
+                    command,
+                )
+                self.assertEqual([path.name for path in self.outside.iterdir()], ["there"])
+                self.assertEqual((self.outside / "there").read_text(), "1")
+
+    def test_what_stays_open(self) -> None:
+        text = f"out: a\n\techo > {self.scratch}/t; rm {self.scratch}/t; echo > /dev/null\n"
+        text += f"\trm -f {self.outside}/none; mkdir -p {self.outside}; cp a out\n"
+        self.write({"makefile": text, "a": ""})
+        outcome = self.recorded()
+        self.assertEqual((outcome.own("out"), outcome.warnings()), (({"a"}, {"out"}), []))
+
+
+class MountsTest(unittest.TestCase):
+    """What is mounted."""
+
+    def test_lines_of_the_system(self) -> None:
+        lines = (
+            "27 1 254:0 / / rw,relatime - ext4 /dev/vda rw\n",
+            "28 27 0:1 / /a rw,nosuid shared:1 - tmpfs none rw\n",
+            "29 28 0:2 / /a/hidden rw - tmpfs none rw\n",
+            "30 28 0:3 / /a rw,relatime - tmpfs none rw\n",
+            "31 27 0:4 / /b\\040c ro,nodev - ext4 /dev/vdb rw\n",
+            "32 27 0:5 / /net rw - autofs none rw\n",
+        )
+        found = places.mounts(lines)
+        self.assertEqual([mount.path for mount in found], ["/", "/a", "/b c", "/net"])
+        self.assertEqual([mount.is_open for mount in found], [True, True, False, False])
+        self.assertEqual(found[1].flags, ("rw", "relatime"))
+        ends = ("mount -o remount,bind,ro,relatime /", "ro,nodev,strictatime '/b c'")
+        for mount, end in zip((found[0], found[2]), ends):
+            self.assertTrue(mount.shutting.endswith(end), mount.shutting)
+
+
+@traced
+class FixedTest(ProjectTest):
+    """What recipes write below a fixed prefix."""
+
+    def test_it_is_refused(self) -> None:
+        (self.scratch / "tools").mkdir()
+        self.write({"makefile": "install: a\n\tcp a ../tools/x\n", "a": ""})
+        outcome = self.record("--fixed", f"{self.scratch}/tools")
+        self.assertEqual((outcome.status, outcome.book), (1, None))
+        front = "mkcheck-record: the recipe of install writes files outside the folder, which"
+        self.assertTrue(outcome.errors.startswith(front), outcome.errors)
+
+    def test_the_folders_above_a_name(self) -> None:
+        world = World(str(self.folder), str(self.folder), Store(str(self.scratch)), 0.0)
+        world.appear("/opt/d/x")
+        self.assertEqual(world.inside, {"/opt/d": {"x"}, "/opt": {"d"}, "/": {"opt"}})
 
 
 class BeginTest(unittest.TestCase):

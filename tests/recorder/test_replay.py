@@ -341,7 +341,8 @@ class PassTest(ReplayTest):
         (self.folder / "d" / "empty").mkdir(0o750)
         for name in ("d/e/x", "d/y", "d/empty", "d/e", "d"):
             os.utime(self.folder / name, (1_000_000_000, 1_000_000_000))
-        self.passes("out: d/e/x d/y\n\ttar -cf out d\n")
+        # Each file system has an order of its own for the names in a folder.
+        self.passes("out: d/e/x d/y\n\ttar --sort=name -cf out d\n")
 
     def test_links_that_recipes_make(self) -> None:
         makefile = (

@@ -90,10 +90,11 @@ class UpdateTest(ProjectTest):
     def count(self, outcome: Outcome) -> int:
         """How many recipes were recorded."""
         self.assertEqual((outcome.status, outcome.output), (0, ""), outcome.errors)
-        (line,) = [
-            line for line in self.told(outcome) if line.endswith("the others hadn't changed")
-        ]
-        return int(line.split()[0])
+        (line,) = [line for line in self.told(outcome) if " recipes were recorded" in line]
+        recorded, _, recipes, *_ = line.split()
+        rest = ", the others hadn't changed" if recorded != recipes else ""
+        self.assertEqual(line, f"{recorded} of {recipes} recipes were recorded{rest}")
+        return int(recorded)
 
     def assert_as_full(self, *words: str) -> None:
         """The footprints and the warnings are those of a full recording."""

@@ -7,8 +7,8 @@ import re
 from collections.abc import Iterable
 from dataclasses import dataclass, field
 
-from .calls import FORKS, LOOKS, LOOKS_IN_VAIN, NOT_EMPTY, NOTHING_THERE, REMOVALS, SAME, Call
-from .calls import path_of, text_of
+from .calls import FORKS, LOOKS, LOOKS_IN_VAIN, NOT_EMPTY, NOTHING_THERE, READ_ONLY, REMOVALS
+from .calls import SAME, WRITINGS, Call, path_of, text_of
 from .programs import interpreters_of
 from .trees import Owner, Tree
 
@@ -16,10 +16,10 @@ INTERPRETERS_AT_MOST = 4
 EXCHANGE = "RENAME_EXCHANGE"
 DELETED = " (deleted)"
 SPACES = ("CLONE_NEWNS", "CLONE_NEWPID")
-# A process that takes these names for programs reads another makefile, whose recipes aren't judged
-# here.
+# The programs that count as a make: each reads a makefile or a ninja file whose recipes aren't
+# judged here.
 MAKES = re.compile(r"(?:g|b|p|f|s|re|pdp|ck)?make(?:-[0-9.]+)?|ninja(?:-build)?|samu|kati|ckati")
-# Sockets that only tell names of users and of machines, and take notes.
+# Sockets that look up users and machines, or take log messages: asking them changes no file.
 SYSTEM_SOCKETS = ("/var/run/nscd/", "/run/nscd/", "/run/systemd/", "/var/run/systemd/", "/dev/log")
 SOCKET = re.compile(r'sun_path=@?("(?:[^"\\\\]|\\\\.)*")')
 ADDRESS = re.compile(r'inet_(?:addr|pton)\((?:AF_INET6, )?"([^"]*)"')
@@ -44,51 +44,77 @@ class Alias:
 
 @dataclass
 class Accesses:
-    """The files that a recipe reads and writes, by their real paths, in the order of their first
-    use.
-
-    `touched` has all that it ever wrote or took away, `made` what of that wasn't there before, and
-    `lost` what it took away and hadn't made. `missed` has what it would have taken away, had it
-    been there, and `sought` the paths at which it looked when nothing was there. `alone` has the
-    files outside of the folder that it made as `mkstemp` does.
-    `folders` has the folders that it made, `dropped` those that it took away or renamed and hadn't
-    made, `owned` the others to which it gave a mode, an owner or an attribute, and `stamped` what
-    it gave a stamp other than the present time. `moved` has the
-    new names of what it renamed, which may be folders. `aliases` has names that lead over a
-    symbolic link. `over` has the links that no recipe made and that it went over. `makes` has the
-    makes that it started, each with the folder in which that went to work, and `strange` what it
-    did that a trace can't follow. `servers` has whom it asked over a socket that isn't one of its
-    own `sockets`. `looked` has the paths at which it looked, where that is traced, and `listed` the
-    folders whose names it read.
-    """
+    """What one recipe does to files, by their real paths, in the order of their first use."""
 
     tree: Tree
     reads: dict[str, None] = field(default_factory=dict)
     writes: dict[str, None] = field(default_factory=dict)
+    """Files that it wrote, and didn't remove or rename later."""
+
     touched: dict[str, None] = field(default_factory=dict)
+    """Files that it wrote or removed at any time."""
+
     made: dict[str, None] = field(default_factory=dict)
+    """Files that it wrote and that weren't there before."""
+
     lost: dict[str, None] = field(default_factory=dict)
+    """Files that it removed and hadn't made."""
+
     missed: dict[str, None] = field(default_factory=dict)
+    """Paths that it failed to remove: nothing was there, or a folder that isn't empty."""
+
     sought: dict[str, None] = field(default_factory=dict)
+    """Paths at which it looked when nothing was there."""
+
     alone: set[str] = field(default_factory=set)
+    """Files outside of the project that it made as `mkstemp` makes them."""
+
     folders: dict[str, None] = field(default_factory=dict)
+    """Folders that it made."""
+
     dropped: dict[str, None] = field(default_factory=dict)
+    """Folders that it removed or renamed and hadn't made."""
+
     owned: dict[str, None] = field(default_factory=dict)
+    """Folders that it hadn't made, and whose mode, owner or attributes it changed."""
+
     stamped: dict[str, None] = field(default_factory=dict)
+    """Files to which it gave a stamp other than the present time."""
+
     moved: dict[str, None] = field(default_factory=dict)
+    """New names of files and folders that it renamed."""
+
     aliases: dict[str, Alias] = field(default_factory=dict)
+    """Names by which it reached a file over a symbolic link."""
+
     over: dict[str, None] = field(default_factory=dict)
+    """Links that it followed and that no recipe made."""
+
     makes: dict[tuple[str, str], None] = field(default_factory=dict)
+    """Makes that it started, each with the folder in which that make worked."""
+
+    forbidden: dict[str, None] = field(default_factory=dict)
+    """Files outside of the project that it would have written, were they not read-only for it."""
+
     strange: dict[str, None] = field(default_factory=dict)
+    """Calls whose effects a trace doesn't show."""
+
     servers: dict[str, None] = field(default_factory=dict)
+    """Servers that it asked and that aren't its own."""
+
     sockets: set[str] = field(default_factory=set)
+    """Addresses at which its own processes serve."""
+
     looked: dict[str, None] = field(default_factory=dict)
+    """Paths at which it looked, where such calls are traced."""
+
     listed: dict[str, None] = field(default_factory=dict)
+    """Folders whose names it read."""
 
     def wrote(self, path: str) -> bool:
         """Whether the recipe wrote this file before, or moved a folder there that holds it."""
-        if path in self.writes:
-            return True
+        if path in self.writes or not self.moved:
+            return path in self.writes
         while path not in self.moved:
             shorter = os.path.dirname(path)
             if shorter == path:
@@ -99,7 +125,7 @@ class Accesses:
     def is_new(self, path: str, flags: str) -> bool:
         """Whether an open with these flags makes the file.
 
-        Outside the folder only O_EXCL says so.
+        Which files are there is known of the project alone, so elsewhere only O_EXCL tells.
         """
         if "O_CREAT" not in flags:
             return False
@@ -128,7 +154,7 @@ class Accesses:
         self.change(path)
 
     def change(self, path: str) -> None:
-        """A writing that keeps what was there: a stamp, a mode, a part."""
+        """The recipe changes a stamp, a mode or a part of a file, and keeps the rest."""
         self.read(path)
         self.write(path)
 
@@ -144,7 +170,7 @@ class Accesses:
         self.tree.remove(path)
 
     def remove_folder(self, path: str) -> None:
-        """A folder is taken away, which is empty then."""
+        """An empty folder is removed."""
         if path in self.tree.folders and path not in self.folders:
             self.dropped.setdefault(path)
         self.tree.folders.discard(path)
@@ -175,7 +201,7 @@ class Accesses:
         self.moved.setdefault(new)
 
     def lose(self, path: str) -> None:
-        """What stood at a path goes from there."""
+        """A file leaves its path: it is removed, renamed or replaced."""
         self.writes.pop(path, None)
         self.moved.pop(path, None)
         self.touched.setdefault(path)
@@ -183,7 +209,7 @@ class Accesses:
             self.lost.setdefault(path)
 
     def pass_over(self, links: Iterable[str]) -> None:
-        """The recipe goes over symbolic links: one that a recipe made is a file that it reads."""
+        """The recipe follows symbolic links; one that a recipe made is a file that it reads."""
         for link in links:
             if link in self.tree.made:
                 self.read(link)
@@ -191,15 +217,15 @@ class Accesses:
                 self.over.setdefault(link)
 
     def look(self, name: str) -> None:
-        """The recipe looks at a name: at what stands there, over links, and at the links."""
+        """The recipe looks at a name: at the file behind it, and at each link on the way."""
         real, links = self.tree.follow(name)
         for path in (real, *links, self.tree.own(name)[0]):
             self.looked.setdefault(path)
 
     def seek(self, name: str) -> None:
-        """The recipe looks for a file that isn't there and that it didn't take away itself.
+        """The recipe looks for a file that isn't there, unless it removed the file itself.
 
-        One that is there was looked for over a folder that isn't.
+        If the file is there after all, a folder on the way, as in `absent/../file`, wasn't.
         """
         path, _ = self.tree.follow(name)
         known = path in self.tree.there or path in self.tree.folders
@@ -240,8 +266,11 @@ class Follower:
                 self.fork(call)
                 continue
             if call.failed or call.name in LOOKS:
-                self.looked_at(call)
-                self.removed_in_vain(call)
+                if call.result == READ_ONLY and call.name in WRITINGS:
+                    self.forbidden(call)
+                if call.name in LOOKS or call.name in LOOKS_IN_VAIN:
+                    self.looked_at(call)
+                    self.removed_in_vain(call)
                 continue
             taken = getattr(self, f"on_{SAME.get(call.name, call.name)}", None)
             if taken is not None:
@@ -250,9 +279,9 @@ class Follower:
             self.accesses.makes.setdefault(maker)
 
     def looked_at(self, call: Call) -> None:
-        """A call that only looks at a name, or looks for one in vain.
+        """A call that only looks at a name, or fails since nothing is there.
 
-        An empty name is that of a descriptor.
+        With an empty name it looks at what a descriptor has open, which is passed over.
         """
         folder, name = LOOKS.get(call.name) or LOOKS_IN_VAIN[call.name]
         if len(call.arguments) > name and text_of(call.arguments[name]):
@@ -262,7 +291,7 @@ class Follower:
                 self.accesses.seek(path)
 
     def removed_in_vain(self, call: Call) -> None:
-        """A removal or a renaming of what isn't there now, or of a folder that isn't empty now."""
+        """A call that fails to remove or rename: nothing is there, or the folder isn't empty."""
         if call.name not in REMOVALS or call.result not in (NOTHING_THERE, *NOT_EMPTY):
             return
         folder, name = LOOKS_IN_VAIN[call.name]
@@ -274,12 +303,33 @@ class Follower:
         elif path not in self.accesses.tree.there and not is_folder:
             self.accesses.missed.setdefault(path)
 
+    def forbidden(self, call: Call) -> None:
+        """A call that would write to what is read-only here.
+
+        It counts where the user could do that outside of the recording.
+        """
+        folder, name = WRITINGS[call.name]
+        if name is None or not text_of(call.arguments[name]):
+            path = self.descriptor(call.arguments[folder or 0])
+        else:
+            path = self.accesses.tree.own(self.path(call, name, folder))[0]
+            if call.name not in REMOVALS:
+                path = self.accesses.tree.follow(path)[0]
+        if path is None or self.accesses.tree.has(path):
+            return
+        there = os.path.lexists(path)
+        if not there and call.name in ("unlink", "unlinkat", "rmdir"):
+            return
+        changed = path if there and call.name not in REMOVALS else os.path.dirname(path)
+        if os.access(changed, os.W_OK):
+            self.accesses.forbidden.setdefault(path)
+
     def standing(self, call: Call) -> Standing:
         """Where the process of a call stands."""
         return self.standings.setdefault(call.process, Standing(self.start))
 
     def fork(self, call: Call) -> None:
-        """A new process stands where its parent stood, and a thread goes with it."""
+        """A new process begins in its parent's folder; a thread shares that of its process."""
         own = self.standing(call)
         shared = any("CLONE_FS" in argument for argument in call.arguments)
         self.standings[call.number] = own if shared else Standing(own.path)

@@ -1,11 +1,12 @@
-"""Built-in rules of GNU make that mkcheck's default text lacks, where they make a file that counts
-as a source here.
+"""Built-in rules of GNU make that mkcheck's default text lacks, where they make what has no recipe
+here, or has another one.
 """
 
 from __future__ import annotations
 
 import os
 from collections.abc import Callable, Iterable
+from dataclasses import replace
 
 from .graphs import Graph
 from .macros import PROBE, Prober
@@ -32,38 +33,66 @@ RULES = {
 PLAIN = ".out"
 
 
-def origin_of(name: str, there: frozenset[str]) -> str | None:
-    """The file from which GNU make would make another one, by the first of its rules that fits."""
+# How many rules one after another are tried.
+CHAINED = 3
+
+
+def origin_of(name: str, there: frozenset[str], depth: int = CHAINED) -> str | None:
+    """The file from which GNU make would make another one, by the first of its rules that fits; if
+    none does, by several rules."""
     front, suffix = os.path.splitext(name)
     if suffix == PLAIN:
         return front if front in there else None
-    found = (front + other for other in RULES.get(suffix, ()))
-    return next((other for other in found if other in there), None)
+    found = [front + other for other in RULES.get(suffix, ())]
+    direct = next((other for other in found if other in there), None)
+    if direct is not None or depth == 1:
+        return direct
+    deeper = (origin_of(other, there, depth - 1) for other in found if other != name)
+    return next((other for other in deeper if other not in (None, name)), None)
 
 
 def warn_of_rules(
     graph: Graph, prober: Prober, files: Iterable[str], warn: Callable[[str], None]
 ) -> None:
-    """Warns of each file without a recipe that GNU make would make from another one."""
+    """Warns of each name without a recipe that GNU make would make by a rule of its own, and of
+    each that it would make from another file than the default text of mkcheck does."""
     if "-r" in prober.checker.options:
         return
-    there = frozenset(files) | graph.targets
+    there = frozenset(files) | frozenset(graph.names)
     found = {
         name: origin
         for name in graph.names
-        if name not in graph.targets
-        and name not in graph.phony
-        and name in there
+        if name not in graph.phony
         and (origin := origin_of(name, there)) is not None
+        and (name not in graph.targets or origin != next(iter(graph.prerequisites[name]), origin))
+    }
+    others = inferred(prober, graph) if not graph.targets.isdisjoint(found) else frozenset()
+    found = {
+        name: origin
+        for name, origin in found.items()
+        if name not in graph.targets or name in others
     }
     if not all(name.endswith(PLAIN) for name in found) and not has_suffixes(prober):
         found = {name: origin for name, origin in found.items() if name.endswith(PLAIN)}
+    present = frozenset(files)
     for name, origin in found.items():
+        if name in graph.targets:
+            here = f"{name} is made from {graph.prerequisites[name][0]} here"
+        else:
+            here = f"{name} {'counts as a source' if name in present else 'has no recipe'} here"
         warn(
             f"GNU make makes {name} from {origin} by a built-in rule, which mkcheck doesn't have:"
-            f" {name} counts as a source here; write that rule into the makefile, or give -r to"
-            " make, to mkcheck and to mkcheck-record"
+            f" {here}; write that rule into the makefile, or give -r to make, to mkcheck and to"
+            " mkcheck-record"
         )
+
+
+def inferred(prober: Prober, graph: Graph) -> frozenset[str]:
+    """The targets whose commands are those of the default text."""
+    options = (*prober.checker.options, "-r")
+    bare = replace(prober, checker=replace(prober.checker, options=options))
+    other = bare.ask("", "", prober.checker.words)
+    return graph.targets - other.targets if other is not None else frozenset()
 
 
 def has_suffixes(prober: Prober) -> bool:

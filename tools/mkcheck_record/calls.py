@@ -58,6 +58,23 @@ LOOKS_IN_VAIN: dict[str, tuple[int | None, int]] = {
     **dict.fromkeys(("unlink", "rmdir", "rename"), (None, 0)),
     **dict.fromkeys(("unlinkat", "renameat", "renameat2"), (0, 1)),
 }
+# Calls that write, with the arguments that have the folder, if any, and the name. A name of None
+# stands for a file that is open. Where a file system is read-only, they fail by that error, and
+# these failures are kept.
+WRITINGS: dict[str, tuple[int | None, int | None]] = {
+    **dict.fromkeys(("open", "creat", "mkdir", "mknod", "truncate", "truncate64"), (None, 0)),
+    **dict.fromkeys(("utime", "utimes", "chmod", "chown", "lchown", "chown32"), (None, 0)),
+    **dict.fromkeys(("lchown32", "setxattr", "lsetxattr", "unlink", "rmdir"), (None, 0)),
+    **dict.fromkeys(("removexattr", "lremovexattr"), (None, 0)),
+    **dict.fromkeys(("openat", "openat2", "mkdirat", "mknodat", "unlinkat"), (0, 1)),
+    **dict.fromkeys(("utimensat", "utimensat_time64", "futimesat"), (0, 1)),
+    **dict.fromkeys(("fchmodat", "fchmodat2", "fchownat"), (0, 1)),
+    **dict.fromkeys(("rename", "link", "symlink"), (None, 1)),
+    **dict.fromkeys(("renameat", "renameat2", "linkat"), (2, 3)),
+    "symlinkat": (1, 2),
+    **dict.fromkeys(("fchmod", "fchown", "fchown32", "fsetxattr", "fremovexattr"), (0, None)),
+}
+READ_ONLY = "EROFS"
 # How many arguments of a look tell the name.
 NAMES_AT_MOST = 2
 # Calls that take a name away. Where nothing stands there, or a folder that isn't empty, they fail,
@@ -149,7 +166,7 @@ class Trace:
     `alive` has each process that was seen and hasn't ended, `ended` for each that has the line that
     said so, and `programs` the program that a process started last, or its parent did before. A
     line that strace wouldn't write is a fault, since it was cut. `looking` keeps calls that look in
-    vain, too; removals in vain are always kept.
+    vain, too; removals in vain and writings to what is read-only are always kept.
     """
 
     looking: bool = False
@@ -217,13 +234,17 @@ class Trace:
             self.take_failed(process, text)
 
     def take_failed(self, process: int, text: str) -> None:
-        """A call that failed: kept where it looks at names, if these are wanted, or removes one."""
+        """A call that failed: kept where it looks at names, if these are wanted, removes one, or
+        would write to what is read-only."""
         begun, failed = BEGUN.match(text), FAILED.search(text, max(0, len(text) - 160))
         if begun is None or failed is None:
             return
         name, error = begun.group(1), failed.group(1) or ""
         removes = name in REMOVALS and error in (NOTHING_THERE, *NOT_EMPTY)
-        if removes or (self.looking and name in (*LOOKS, *LOOKS_IN_VAIN)):
+        if name in WRITINGS and error == READ_ONLY:
+            arguments, _ = split(text, begun.end())
+            self.found.append(Call(self.lines, process, name, tuple(arguments), error, True))
+        elif removes or (self.looking and name in (*LOOKS, *LOOKS_IN_VAIN)):
             arguments, _ = split(text, begun.end(), NAMES_AT_MOST)
             self.found.append(Call(self.lines, process, name, tuple(arguments), error, True))
 
@@ -282,7 +303,7 @@ def call_of(began: int, ended: int, process: int, text: str) -> Call | None:
 
 
 def split(text: str, start: int, most: int = 0) -> tuple[list[str], int]:
-    """The arguments from a place on, at most so many if that isn't 0, and where they end."""
+    """At most `most` arguments from a place on, or all if it is 0, and where they end."""
     arguments: list[str] = []
     current: list[str] = []
     depth = 0

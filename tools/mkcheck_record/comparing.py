@@ -2,7 +2,6 @@
 
 from __future__ import annotations
 
-import re
 import shlex
 import shutil
 import stat
@@ -13,7 +12,7 @@ from pathlib import Path
 from . import places, tracing
 from .accesses import Accesses, Follower
 from .faults import Fault, RecipeFault
-from .folders import Naming
+from .folders import Naming, plain_folder
 from .footprints import Footprint, Warn, footprint_of
 from .graphs import Recipe
 from .recording import Recorded, Workshop
@@ -31,8 +30,6 @@ printf '%s' "$text" > {folder}/$$.text
 echo $$ >> {folder}/order
 exec {strace} {folder}/$$.trace {shell} "$@"
 """
-# make takes the name of a shell apart at blanks and the like.
-PLAIN = re.compile(r"[A-Za-z0-9/._+-]+")
 
 
 @dataclass(frozen=True)
@@ -62,7 +59,8 @@ def compare_make(
     if shutil.which("make") is None:
         raise Fault("make isn't there, which --make lets run the recipes")
     tree = shop.set_up()
-    above = shop.scratch if PLAIN.fullmatch(shop.scratch) else "/tmp"
+    # make takes the name of a shell apart at blanks and the like.
+    above = plain_folder(shop.scratch)
     with tempfile.TemporaryDirectory(prefix="mkcheck-record-", dir=above) as traces:
         made = run_make(shop, words, traces, shell_of(recorded))
         naming = Naming(shop.place.seen, fixed)

@@ -4,7 +4,9 @@ from __future__ import annotations
 
 import contextlib
 import fcntl
+import functools
 import os
+import re
 import shutil
 import stat
 import tempfile
@@ -19,6 +21,9 @@ SYSTEM = ("/usr/", "/lib/", "/lib64/", "/bin/", "/etc/", "/opt/")
 # What lies here is no file, or none that lasts, unless it is the project's own.
 UNWRITTEN = ("/proc/", "/sys/")
 NAME_AT_MOST = 4096
+BLANK_OR_CONTROL = re.compile(rb"[\x00-\x20\x7f]")
+# A path that a makefile can hold as it is.
+PLAIN = re.compile(r"[A-Za-z0-9/._+-]+")
 # Where a copy may lie, if the folder for temporary files is the project's own.
 OTHER_PLACES = ("/tmp", "/var/tmp", "/dev/shm")
 CLONE = 0x40049409
@@ -42,24 +47,30 @@ class Naming:
         for prefix in self.fixed:
             if path.startswith(prefix):
                 return path
-        for prefix in self.fixed:
-            real = os.path.realpath(os.path.join(self.root, prefix)) + "/"
+        for prefix, real in self.real_prefixes:
             if path.startswith(real):
                 return prefix + path[len(real) :]
         return None
+
+    @functools.cached_property
+    def real_prefixes(self) -> list[tuple[str, str]]:
+        """Each fixed prefix with its real path."""
+        found = ((prefix, os.path.join(self.root, prefix)) for prefix in self.fixed)
+        return [(prefix, os.path.realpath(path) + "/") for prefix, path in found]
 
     def is_fixed(self, name: str) -> bool:
         """Whether a name is under a fixed prefix."""
         return name.startswith(self.fixed)
 
 
+@functools.lru_cache(1 << 16)
 def is_plain_path(name: str) -> bool:
     """Whether a name may stand in footprints: each file has one such spelling."""
     try:
         text = name.encode("utf-8")
     except UnicodeEncodeError:
         return False
-    if not 1 <= len(text) <= NAME_AT_MOST or any(byte <= 32 or byte == 127 for byte in text):
+    if not 1 <= len(text) <= NAME_AT_MOST or BLANK_OR_CONTROL.search(text):
         return False
     parts = name.removeprefix("/").split("/")
     if "" in parts or "." in parts:
@@ -70,6 +81,11 @@ def is_plain_path(name: str) -> bool:
         else next((at for at, part in enumerate(parts) if part != ".."), len(parts))
     )
     return ".." not in parts[ups:]
+
+
+def plain_folder(folder: str) -> str:
+    """A folder for temporary files whose path a makefile can hold as it is: this one, else /tmp."""
+    return folder if PLAIN.fullmatch(folder) else "/tmp"
 
 
 def prefix_of(asked: str) -> str:

@@ -24,39 +24,52 @@ SECOND = 1_000_000_000
 
 @dataclass(frozen=True)
 class Footprint:
-    """The names that a recipe reads, and those that it leaves written, in the order of their first
-    use.
-
-    `scratch` has the files and folders that it made or took away and that are gone when it has
-    ended, and `missed` those that it would have taken away, had they been there. These two may hold
-    names that no footprint can, and files outside of the project's folder by their paths. `lost`
-    has the files that it took away and hadn't made, and `dropped` the folders in which it found no
-    file. `links` has the symbolic links of the project that no recipe made and that it went over.
-    `owned` has the folders that it hadn't made and to which it gave a mode, an owner or an
-    attribute. `sought` has the names in the project that it looked for and that weren't there.
-    `made` has the folders that it made and left there, and `listed` those of the project that it
-    listed, `.` for the project's own. `late` tells its late files from others, if the replay has
-    run it beside these: then `met` has those that it reads, and `taken` those that it writes or
-    takes away. `seen` has files of others at which it looked, where the replay shows that it needs
-    them.
-    """
+    """What a recipe reads and what it leaves written, in the order of first use, and what else it
+    does that other recipes may notice. All are names from the project's folder."""
 
     recipe: Recipe
     reads: list[str]
     writes: list[str]
     scratch: frozenset[str] = frozenset()
+    """Files and folders that it made or removed, and that are gone when it has ended. Some have
+    names that footprints can't hold, and those outside of the project's folder are paths."""
+
     missed: frozenset[str] = frozenset()
+    """Files and folders that it failed to remove, named as those of `scratch`: nothing was there,
+    or the folder wasn't empty."""
+
     lost: frozenset[str] = frozenset()
+    """Files that it removed and hadn't made."""
+
     links: list[str] = field(default_factory=list)
+    """Symbolic links of the project that it followed and that no recipe made."""
+
     owned: frozenset[str] = frozenset()
+    """Folders that it hadn't made, and whose mode, owner or attributes it changed."""
+
     sought: frozenset[str] = frozenset()
+    """Files that it looked for and that weren't there."""
+
     dropped: frozenset[str] = frozenset()
+    """Folders without files that it removed and hadn't made."""
+
     made: frozenset[str] = frozenset()
+    """Folders that it made and left there."""
+
     listed: frozenset[str] = frozenset()
+    """Folders whose names it read; `.` is the project's own."""
+
     late: str = ""
+    """The key of its late files, if the replay ran it beside them; else empty."""
+
     met: frozenset[str] = frozenset()
+    """The late files that it then read."""
+
     taken: frozenset[str] = frozenset()
+    """The late files that it then wrote or removed."""
+
     seen: frozenset[str] = frozenset()
+    """Files of other recipes at which it looked, and without which its replay fails."""
 
     def record(self) -> dict[str, object]:
         """The record of format 1."""
@@ -196,6 +209,16 @@ def has_name(path: str, naming: Naming) -> bool:
     return name is not None and is_plain_path(name)
 
 
+def is_outside(path: str, naming: Naming) -> bool:
+    """Whether a file lies outside of the project's folder."""
+    return not path.startswith(naming.root + "/")
+
+
+def refuse_forbidden(recipe: Recipe, accesses: Accesses, naming: Naming) -> None:
+    """Refuses a recipe that would have written outside of the folder, were that not read-only."""
+    refuse_nameless(recipe, [], list(accesses.forbidden), naming)
+
+
 def is_needless(path: str, naming: Naming) -> bool:
     """Whether a read needs no name, since it never changes and can't have one."""
     name = naming.name(path)
@@ -211,7 +234,11 @@ def named(paths: Iterable[str], naming: Naming) -> list[str]:
 def refuse_nameless(recipe: Recipe, read: list[str], written: list[str], naming: Naming) -> None:
     """Refuses files that no footprint can name, and says for each what helps."""
     nameless = [("reads", path) for path in read] + [("writes", path) for path in written]
-    nameless = [(verb, path) for verb, path in nameless if not has_name(path, naming)]
+    nameless = [
+        (verb, path)
+        for verb, path in nameless
+        if not has_name(path, naming) or (verb == "writes" and is_outside(path, naming))
+    ]
     if not nameless:
         return
     told: dict[str, list[str]] = {}
@@ -229,15 +256,15 @@ def refuse_nameless(recipe: Recipe, read: list[str], written: list[str], naming:
 
 def what_helps(verb: str, path: str, naming: Naming) -> str:
     """What is said of a file that has no name."""
+    if verb == "writes" and is_outside(path, naming):
+        return (
+            "writes files outside the folder, which no footprint can name: let it write into the"
+            " folder, or leave it out"
+        )
     if naming.name(path) is not None:
         return (
             f"{verb} files whose names footprints can't hold, for a blank, a control character or a"
             " byte that isn't UTF-8: give them other names"
-        )
-    if verb == "writes":
-        return (
-            "writes files outside the folder, which no footprint can name: let it write into the"
-            " folder, or leave it out"
         )
     above = os.path.dirname(naming.root)
     if above != "/" and path.startswith(above + "/"):

@@ -6,7 +6,7 @@ import json
 import os
 import shutil
 import subprocess
-from collections.abc import Iterable
+from collections.abc import Callable, Iterable, Sequence
 from dataclasses import dataclass, field
 from pathlib import Path
 
@@ -16,6 +16,7 @@ from .meanings import meaning
 
 PREFIXES = "@-+ \t"
 NO_RULE = "refused 41 "
+VARYING = "no varying "
 
 
 class Refused(Fault):
@@ -65,6 +66,35 @@ class Recipe:
         """What is to be run: lines of prefixes alone are passed over."""
         commands = (Command.of(line, self.shell) for line in self.lines)
         return [command for command in commands if command.text.strip()]
+
+
+@dataclass(frozen=True)
+class Node:
+    """A name of the graph, with the groups of its prerequisites, which `.WAIT` parts."""
+
+    name: str
+    recipe: bool = False
+    phony: bool = False
+    groups: tuple[tuple[str, ...], ...] = ()
+
+    @classmethod
+    def of(cls, line: str) -> Node:
+        """The node of a line of `mkcheck graph`. No name holds a colon."""
+        front, _, behind = line.partition(":")
+        name, *marks = front.split(" ")
+        groups: list[list[str]] = [[]]
+        for word in filter(None, behind.split(" ")):
+            if word == ".WAIT":
+                groups.append([])
+            else:
+                groups[-1].append(word)
+        parts = tuple(tuple(group) for group in groups if group)
+        return cls(name, "recipe" in marks, "phony" in marks, parts)
+
+    @property
+    def prerequisites(self) -> list[str]:
+        """The prerequisites, each once."""
+        return list(dict.fromkeys(name for group in self.groups for name in group))
 
 
 @dataclass
@@ -133,16 +163,29 @@ class Checker:
     options: tuple[str, ...]
     words: tuple[str, ...]
 
-    def graph(self, fixed: list[str], sources: list[str], scratch: str) -> Graph:
-        """The graph, where these are the fixed prefixes and the sources."""
+    def asked(
+        self, request: Sequence[str], fixed: list[str], sources: list[str], scratch: str
+    ) -> subprocess.CompletedProcess[bytes]:
+        """What mkcheck answers, over footprints without a record."""
         book = Path(scratch, "book.json")
         book.write_text(
             json.dumps({"format": 1, "fixed": fixed, "sources": sources, "records": []})
         )
-        command = [self.program, "graph", "-c", "-b", str(book), *self.options, "--", *self.words]
-        done = subprocess.run(
+        command = [self.program, *request, "-b", str(book), *self.options, "--", *self.words]
+        return subprocess.run(
             command, cwd=self.folder, stdin=subprocess.DEVNULL, capture_output=True, check=False
         )
+
+    def varying(self, fixed: list[str], sources: list[str], scratch: str) -> list[str]:
+        """The targets whose commands use `$?`, which mkcheck names also where no recipe has a
+        record."""
+        done = self.asked(["check"], fixed, sources, scratch)
+        lines = done.stdout.decode("utf-8", "replace").splitlines()
+        return [line[len(VARYING) :] for line in lines if line.startswith(VARYING)]
+
+    def graph(self, fixed: list[str], sources: list[str], scratch: str) -> Graph:
+        """The graph, where these are the fixed prefixes and the sources."""
+        done = self.asked(["graph", "-c"], fixed, sources, scratch)
         if done.returncode != 0:
             said = (done.stdout.strip() or done.stderr).decode("utf-8", "replace").strip()
             raise Refused(said)
@@ -178,6 +221,14 @@ def asked_graph(
             files = sorted({*files, name, *filter(is_plain_path, more)})
 
 
+def warn_of_varying(
+    checker: Checker, fixed: list[str], files: list[str], scratch: str, warn: Callable[[str], None]
+) -> None:
+    """Warns of each recipe that uses `$?`, whose value no recording has."""
+    for target in checker.varying(fixed, files, scratch):
+        warn(f"the commands of {target} use $?, which is empty here: write $^")
+
+
 def why_missing(name: str, path: str) -> str:
     """What is said of a name that no rule makes and that is no source."""
     if os.path.isdir(path):
@@ -207,19 +258,22 @@ def read_graph(text: str) -> Graph:
         elif line.startswith("\t"):
             recipes[-1].lines.append(line[1:])
         else:
-            front, _, behind = line.partition(":")
-            words = front.split(" ")
-            names.append(words[0])
-            prerequisites[words[0]] = [
-                word for word in behind.split(" ") if word not in ("", ".WAIT")
-            ]
-            if "phony" in words[1:]:
-                phony.add(words[0])
-            if "recipe" in words[1:]:
-                recipes.append(Recipe(words[0]))
+            node = Node.of(line)
+            names.append(node.name)
+            prerequisites[node.name] = node.prerequisites
+            if node.phony:
+                phony.add(node.name)
+            if node.recipe:
+                recipes.append(Recipe(node.name))
             continue
-        open_ended = (len(line) - len(line.rstrip("\\"))) % 2 == 1
+        open_ended = goes_on(line)
     return Graph(names, recipes, text, head.split(" ")[1:], prerequisites, frozenset(phony))
+
+
+def goes_on(line: str) -> bool:
+    """Whether a line ends in a backslash that nothing escapes, so that the next one goes on with
+    it."""
+    return (len(line) - len(line.rstrip("\\"))) % 2 == 1
 
 
 def find_checker(beside: Path) -> str:

@@ -11,18 +11,20 @@ import os
 import re
 import shutil
 import tempfile
-from collections.abc import Callable, Mapping
+from collections.abc import Callable, Mapping, Sequence
 from dataclasses import dataclass, replace
 
 from .faults import Fault
 from .flags import check_options
+from .folders import plain_folder
 from .graphs import Checker, Graph
 
-PLAIN = re.compile(r"[A-Za-z0-9/._+-]+")
 NAME = re.compile(r"[A-Za-z_][A-Za-z0-9_]*")
 # POSIX excepts the first two from the environment; make sets the others itself, and shells the
 # last.
 NOT_TAKEN = ("SHELL", "MAKEFLAGS", "MFLAGS", "MAKELEVEL", "MAKEOVERRIDES", "MAKE", "_", "SHLVL")
+# Where the recipe begins. Shells set the first one, and a recording has its own.
+STANDING = ("PWD", "OLDPWD")
 PROBE = "mkcheck-record-probe"
 SAYS = "value="
 POSIX_SHELLS = ("", "sh", "/bin/sh", "/usr/bin/sh")
@@ -40,7 +42,7 @@ class Prober:
 
     def ask(self, front: str, behind: str, words: tuple[str, ...]) -> Graph | None:
         """The graph with text before and behind the makefile; None where mkcheck refuses that."""
-        above = self.scratch if PLAIN.fullmatch(self.scratch) else "/tmp"
+        above = plain_folder(self.scratch)
         try:
             with tempfile.NamedTemporaryFile("wb", prefix="mkcheck-record-", dir=above) as file:
                 file.write(os.fsencode(f"{front}include {escaped(self.makefile)}\n{behind}"))
@@ -71,35 +73,69 @@ class Prober:
         """One that asks as if these files were there too."""
         return replace(self, files=[*self.files, *names])
 
-    def values(self, *names: str) -> list[str]:
-        """The values of macros, each empty where the makefile sets none."""
+    def values(self, *names: str, front: Mapping[str, str] | None = None) -> list[str]:
+        """The values of macros, each empty where the makefile sets none. `front` has macros that
+        are set before it."""
+        return self.expanded(*(f"$({name})" for name in names), front=front)
+
+    def expanded(self, *texts: str, front: Mapping[str, str] | None = None) -> list[str]:
+        """What texts of a command give, or nothing for each where mkcheck refuses one."""
+        return self.tried(texts, front or {}) or ["" for _ in texts]
+
+    def tried(self, texts: Sequence[str], front: Mapping[str, str]) -> list[str] | None:
+        """The same, or None where mkcheck refuses one."""
         operands = tuple(word for word in self.checker.words if "=" in word)
-        lines = "".join(f"\t{SAYS}$({name})\n" for name in names)
-        graph = self.ask("", f"{PROBE}:\n{lines}", (*operands, PROBE))
-        if graph is None or not graph.recipes or len(graph.recipes[-1].lines) != len(names):
-            return ["" for _ in names]
+        lines = "".join(f"\t{SAYS}{text}\n" for text in texts)
+        graph = self.ask(assigned(front), f"{PROBE}:\n{lines}", (*operands, PROBE))
+        if graph is None or not graph.recipes or len(graph.recipes[-1].lines) != len(texts):
+            return None
         return [line[len(SAYS) :].strip() for line in graph.recipes[-1].lines]
+
+    def after(self, texts: Mapping[str, str]) -> dict[str, str]:
+        """The values of macros that have these texts before the makefile; without those for which
+        mkcheck refuses it."""
+        names = list(texts)
+        found = self.tried([f"$({name})" for name in names], texts) if names else []
+        if found is not None:
+            return dict(zip(names, found))
+        if len(names) == 1:
+            return {}
+        middle = len(names) // 2
+        halves = (names[:middle], names[middle:])
+        return {
+            name: value
+            for half in halves
+            for name, value in self.after({one: texts[one] for one in half}).items()
+        }
 
     def taken(self, graph: Graph, environment: Mapping[str, str]) -> list[str]:
         """The variables of the environment that would give another graph as macros."""
         names = [name for name, value in environment.items() if is_macro(name, value)]
-        return self.differing(graph, names, environment)
+        texts = {name: escaped(environment[name]) for name in names}
+        return self.differing(graph, names, texts, False)
+
+    def changing(self, graph: Graph, names: list[str], texts: Mapping[str, str]) -> list[str]:
+        """The macros that change the graph, or for which mkcheck refuses it, where they have these
+        texts before the makefile."""
+        plain = self.ask("", "", self.checker.words)
+        return self.differing(graph, names, texts, plain is not None and plain.text == graph.text)
 
     def differing(
-        self, graph: Graph, names: list[str], environment: Mapping[str, str]
+        self, graph: Graph, names: list[str], texts: Mapping[str, str], refusals: bool
     ) -> list[str]:
-        """Those of some variables that change the graph, found by halves."""
+        """Those of some macros that change the graph, found by halves; if `refusals`, also those
+        for which mkcheck refuses it."""
         if not names:
             return []
-        front = "".join(f"{name} = {escaped(environment[name])}\n" for name in names)
+        front = assigned({name: texts[name] for name in names})
         other = self.ask(front, "", self.checker.words)
         if other is not None and other.text == graph.text:
             return []
         if len(names) == 1:
-            return names if other is not None else []
+            return names if refusals or other is not None else []
         middle = len(names) // 2
         halves = (names[:middle], names[middle:])
-        return [name for half in halves for name in self.differing(graph, half, environment)]
+        return [name for half in halves for name in self.differing(graph, half, texts, refusals)]
 
 
 def is_macro(name: str, value: str) -> bool:
@@ -110,6 +146,11 @@ def is_macro(name: str, value: str) -> bool:
         and "\n" not in value
         and value[-1:] != "\\"
     )
+
+
+def assigned(texts: Mapping[str, str]) -> str:
+    """Lines of a makefile that give macros these texts."""
+    return "".join(f"{name} = {text}\n" for name, text in texts.items())
 
 
 def escaped(value: str) -> str:
@@ -149,6 +190,20 @@ def warn_of_environment(
             f' value, but mkcheck and this recording don\'t; give {name}="${name}" to both as an'
             " operand, or unset it when make is started"
         )
+
+
+def handed_down(prober: Prober, operands: Mapping[str, str]) -> dict[str, str]:
+    """The variables of the environment to which the makefile gives other values: make hands these
+    to commands."""
+    environment = {
+        name: value
+        for name, value in os.environ.items()
+        if is_macro(name, value) and name not in operands and name not in STANDING
+    }
+    values = prober.after({name: escaped(value) for name, value in environment.items()})
+    return {
+        name: value for name, value in values.items() if value != environment[name].strip()
+    }
 
 
 def refuse_absent_compiler(graph: Graph) -> None:

@@ -3,7 +3,8 @@
 A `Place` has two paths: `folder`, where its files lie for this program, and `seen`, where commands
 see them. Where the two differ, each command gets a mount namespace of its own in which `folder` is
 bound over `seen`. So other processes of the machine never see the mount, and it ends with the last
-process of the command.
+process of the command. In a place that is `shut` all else is read-only, but for folders for
+temporary files and devices.
 """
 
 from __future__ import annotations
@@ -11,28 +12,43 @@ from __future__ import annotations
 import contextlib
 import functools
 import os
+import shlex
 import shutil
 import signal
 import subprocess
 import tempfile
 import threading
-from collections.abc import Iterator, Mapping, Sequence
+from collections.abc import Iterable, Iterator, Mapping, Sequence
 from dataclasses import dataclass
 from pathlib import Path
 
 from . import stopping
+from .calls import unescaped
 from .faults import Fault
 
-# Binds a folder over another one, and goes on there, by the same name in PWD. OLDPWD is a trace of
-# `cd` that make wouldn't leave.
+# Folders for temporary files, which stay open, and what no file system of a disk holds.
+TEMPORARY = ("/tmp", "/var/tmp")
+DEVICES = "/dev"
+KERNEL = (DEVICES, "/proc", "/sys")
+# What is mounted so is no folder with files, or one that isn't there yet.
+NO_FOLDERS = ("autofs", "nsfs")
+# Flags of a mount, as /proc/self/mountinfo has them, that have to stay when it gets another one.
+KEPT_FLAGS = ("nosuid", "nodev", "noexec", "nosymfollow", "noatime", "nodiratime", "relatime")
+# Binds a folder over another one, and enters it by the name that PWD has. OLDPWD, which `cd` sets,
+# is removed, since make sets none.
 ENTER = (
-    'mount --bind "$1" "$2" && cd "$PWD" && unset OLDPWD && shift 2 && exec "$@"; echo'
+    ' --bind "$1" "$2" && cd "$PWD" && unset OLDPWD && shift 2 && exec "$@"; echo'
     " 'mkcheck-record: the folder could not be mounted at the path of the project' >&2; exit 125"
 )
 NOT_ENTERED = "mkcheck-record: the folder could not be mounted at the path of the project"
 
 _running: dict[int, None] = {}
 _lock = threading.Lock()
+
+
+def mounter() -> str:
+    """The program that mounts, for a shell whose PATH may be that of a makefile."""
+    return shlex.quote(shutil.which("mount") or "mount")
 
 
 @dataclass(frozen=True)
@@ -42,9 +58,13 @@ class Namespace:
     enter: tuple[str, ...]
     user: tuple[str, ...]
 
-    def words(self, folder: str, seen: str, command: Sequence[str]) -> list[str]:
-        """The words that run a command in `folder`, bound over `seen`."""
-        return [*self.enter, "/bin/sh", "-c", ENTER, "sh", folder, seen, *self.user, *command]
+    def words(
+        self, folder: str, seen: str, command: Sequence[str], front: str = ""
+    ) -> list[str]:
+        """The words that run a command in `folder`, bound over `seen`, after the shell's commands
+        `front`."""
+        text = front + mounter() + ENTER
+        return [*self.enter, "/bin/sh", "-c", text, "sh", folder, seen, *self.user, *command]
 
 
 @functools.cache
@@ -52,11 +72,10 @@ def namespace() -> Namespace | None:
     """The first way to a mount namespace that works here, found by trying; None where the system
     allows none.
 
-    It has its own System V shared memory and message queues too, which no trace shows: what one
-    command leaves there, no other one finds. Root needs no user namespace. Others get a user
-    namespace, in which they are root for the mount and then themselves again; where unshare is too
-    old for that, programs see the user 0. Files belong to the user who started this program in each
-    case.
+    The namespace has its own System V shared memory and message queues too: a trace doesn't show
+    what one command leaves there for another. Root needs no user namespace. Other users get one, in
+    which they are root for the mount and then themselves again; where unshare is too old for that,
+    programs see the user 0. New files always belong to the user who started this program.
     """
     unshare = shutil.which("unshare")
     if unshare is None or shutil.which("mount") is None:
@@ -68,14 +87,14 @@ def namespace() -> Namespace | None:
     return next((way for way in (own if os.getuid() == 0 else others) if works(way)), None)
 
 
-def works(way: Namespace) -> bool:
+def works(way: Namespace, front: str = "") -> bool:
     """Whether a namespace can be made so, and a file is seen over the mount."""
     with tempfile.TemporaryDirectory(prefix="mkcheck-record-") as scratch:
         folder, seen = Path(scratch, "folder"), Path(scratch, "seen")
         folder.mkdir()
         seen.mkdir()
         (folder / "file").touch()
-        words = way.words(str(folder), str(seen), ["/bin/sh", "-c", "test -f file"])
+        words = way.words(str(folder), str(seen), ["/bin/sh", "-c", "test -f file"], front)
         done = subprocess.run(
             words, cwd=seen, stdin=subprocess.DEVNULL, capture_output=True, check=False
         )
@@ -83,14 +102,108 @@ def works(way: Namespace) -> bool:
 
 
 @dataclass(frozen=True)
+class Mount:
+    """What is mounted at a path: its kind, and its flags."""
+
+    path: str
+    kind: str
+    flags: tuple[str, ...]
+
+    @property
+    def is_open(self) -> bool:
+        """Whether files on it can be written, as far as it goes."""
+        return "rw" in self.flags and self.kind not in NO_FOLDERS
+
+    @property
+    def shutting(self) -> str:
+        """The shell's command that makes it read-only."""
+        kept = [flag for flag in self.flags if flag in KEPT_FLAGS]
+        times = [] if {"noatime", "relatime"} & set(kept) else ["strictatime"]
+        options = ",".join(["remount", "bind", "ro", *kept, *times])
+        return f"{mounter()} -o {options} {shlex.quote(self.path)}"
+
+
+def mounts(lines: Iterable[str]) -> list[Mount]:
+    """The mounts that lines of /proc/self/mountinfo name, without those that another one hides."""
+    found: dict[str, Mount] = {}
+    above: dict[tuple[str, str], str] = {}
+    for line in lines:
+        front, _, behind = line.partition(" - ")
+        number, parent, _, _, path, flags = front.split(" ")[:6]
+        found[number] = Mount(unescaped(path), behind.split(" ")[0], tuple(flags.split(",")))
+        above[parent, found[number].path] = number
+    first = next((parent for parent, path in above if path == "/" and parent not in found), "")
+    return [mount for number, mount in found.items() if last_of(mount.path, above, first) == number]
+
+
+def last_of(path: str, above: Mapping[tuple[str, str], str], first: str) -> str:
+    """The number of the mount to which a path leads, where `above` has the mount that is at a path
+    of another one."""
+    parts = [part for part in path.split("/") if part]
+    current = first
+    for count in range(len(parts) + 1):
+        here = "/" + "/".join(parts[:count])
+        while (current, here) in above:
+            current = above[current, here]
+    return current
+
+
+def is_below(path: str, folders: Sequence[str]) -> bool:
+    """Whether a path is one of these, or lies in one."""
+    return any(f"{path}/".startswith(f"{folder}/") for folder in folders)
+
+
+@functools.cache
+def shut() -> str | None:
+    """The shell's commands that make all read-only in a namespace, but for folders for temporary
+    files and devices, tested once; None where the system doesn't allow that.
+
+    A folder that stays open is bound over itself, where nothing is mounted there yet.
+    """
+    way = namespace()
+    if way is None:
+        return None
+    try:
+        with open("/proc/self/mountinfo", encoding="utf-8", errors="surrogateescape") as lines:
+            there = mounts(lines)
+    except (OSError, ValueError):
+        return None
+    own = {os.path.realpath(path) for path in (*TEMPORARY, tempfile.gettempdir(), DEVICES)}
+    left = [
+        path
+        for path in sorted(own)
+        if os.path.isdir(path) and not is_below(os.path.dirname(path), tuple(own))
+    ]
+    known = {mount.path for mount in there}
+    if "/" not in known:
+        return None
+    commands = [
+        *(
+            f"{mounter()} --rbind {shlex.quote(path)} {shlex.quote(path)}"
+            for path in left
+            if path not in known
+        ),
+        *(
+            mount.shutting
+            for mount in there
+            if mount.is_open and not is_below(mount.path, (*left, *KERNEL))
+        ),
+    ]
+    front = " && ".join([*commands, ""])
+    return front if works(way, front) else None
+
+
+@dataclass(frozen=True)
 class Place:
     """A folder in which commands run: it lies at `folder`, and they see it at `seen`.
 
-    Both are real paths.
+    Both are real paths. In one that is `shut` commands can write nowhere else, where the system
+    allows that and the two paths differ; but for folders for temporary files and devices.
     """
 
     folder: str
     seen: str
+    shut: bool = False
 
     @property
     def is_bound(self) -> bool:
@@ -107,7 +220,8 @@ class Place:
                 f"the system allows no mount namespace, so {self.folder} can't appear at"
                 f" {self.seen}"
             )
-        return way.words(self.folder, self.seen, command)
+        front = shut() if self.shut else None
+        return way.words(self.folder, self.seen, command, front or "")
 
     def real(self, path: str) -> str:
         """Where this program finds what commands see at a path."""
@@ -118,8 +232,8 @@ class Place:
 
 @dataclass(frozen=True)
 class Ended:
-    """A command that was run: its status, negative for a signal, its output, and whether its time
-    was up."""
+    """A command that has ended: its status (negative for a signal), its output, and whether it was
+    killed since its time was up."""
 
     status: int
     output: str
@@ -132,11 +246,11 @@ def run(
     environment: Mapping[str, str],
     seconds: float | None = None,
 ) -> Ended:
-    """Runs a command in a place, with no input, and waits for it, at most so many seconds.
+    """Runs a command in a place, with no input, and waits until it ends; `seconds` limits its time,
+    after which it is killed.
 
-    Both of its streams are one text. When it ends, and when this function is left in any other way,
-    every process of its process group is killed: what a command leaves in the background doesn't
-    stay. Threads may call this.
+    The output has both of its streams. However this function ends, all processes of the command's
+    group are killed, so that none goes on in the background. Threads may call it.
     """
     with tempfile.TemporaryFile() as output:
         with started(place.words(command), place.seen, environment, output.fileno()) as process:
@@ -155,7 +269,8 @@ def run(
 def started(
     words: Sequence[str], folder: str, environment: Mapping[str, str], output: int
 ) -> Iterator[subprocess.Popen[bytes]]:
-    """A process in a group of its own, which is killed at the end; its streams go to `output`."""
+    """A process in a group of its own, with both streams to `output`; the group is killed at the
+    end."""
     process = None
     try:
         with stopping.held(), _lock:

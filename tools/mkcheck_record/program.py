@@ -3,27 +3,29 @@
 from __future__ import annotations
 
 import argparse
+import json
 import os
 import sys
-import traceback
 from collections.abc import Callable
 from functools import partial
 from pathlib import Path
 
-from . import places, tracing
+from . import VERSION, places, tracing
 from .books import make_book
 from .built_in import warn_of_rules
 from .comparing import compare_again, compare_make
 from .dates import dated
+from .ending import ended, write_text
 from .faults import Fault, RecipeFault
 from .folders import SYSTEM, Naming, prefix_of, scratch_folder, sources_in
-from .graphs import Checker, Graph, asked_graph, find_checker
+from .graphs import Checker, Graph, asked_graph, find_checker, warn_of_varying
 from .late import with_met
-from .macros import Prober, refuse_absent_compiler, warn_of_environment, with_shell
+from .macros import Prober, handed_down, refuse_absent_compiler, warn_of_environment, with_shell
 from .places import Place
+from .predefined import refuse_predefined
 from .recording import Recorded, Workshop, record
+from .remade import warn_of_goal, warn_of_remade
 from .replaying import Replay
-from .stopping import Stopped, catch_signals
 from .refusals import check_opaque, listed
 from .states import Unusable, path_of_state
 from .updating import Conditions, Updating, believed, hidden_names
@@ -37,7 +39,12 @@ STATUS = (
 UNBOUND = (
     "the system allows no mount namespace (unshare --mount), so recipes run in a copy at another"
     " path: files of the project that they name by absolute paths, files above its folder, and a"
-    " project below a fixed prefix aren't seen as they are there"
+    " project below a fixed prefix aren't seen as they are there; and what a recipe writes outside"
+    " of the folder is written for real"
+)
+OPEN = (
+    "the system doesn't allow making all but the project's folder read-only for recipes: what one"
+    " writes outside of it is written for real"
 )
 
 UNREPLAYED = (
@@ -53,7 +60,7 @@ UNTESTED = (
 def words_of(arguments: list[str]) -> argparse.Namespace:
     """What is asked for."""
     parser = argparse.ArgumentParser(prog="mkcheck-record", description=ABOUT, epilog=STATUS)
-    parser.add_argument("--version", action="version", version="%(prog)s 0.2.0")
+    parser.add_argument("--version", action="version", version=f"%(prog)s {VERSION}")
     parser.add_argument("-f", metavar="F", help="the makefile; else makefile or Makefile")
     parser.add_argument(
         "-r", action="store_true", help="leave out the default text, as mkcheck does"
@@ -125,6 +132,7 @@ def warner() -> Callable[[str], None]:
 
 def record_and_write(asked: argparse.Namespace, folder: str, scratch: str) -> None:
     """Records, and writes the footprints that are asked for."""
+    refuse_other_file(asked)
     prefixes = [prefix_of(prefix) for prefix in asked.fixed]
     fixed = list(dict.fromkeys([*SYSTEM, *prefixes]))
     options = (*(["-f", asked.f] if asked.f is not None else []), *(["-r"] if asked.r else []))
@@ -142,13 +150,17 @@ def record_and_write(asked: argparse.Namespace, folder: str, scratch: str) -> No
         warn("GNU make reads GNUmakefile first, which isn't judged here; -f GNUmakefile judges it")
     check_trust(asked.trust, graph.recipes)
     prober = Prober(checker, fixed, files, scratch)
+    refuse_predefined(graph, prober, warn)
     graph = with_shell(graph, prober, warn)
     refuse_absent_compiler(graph)
-    warn_of_environment(
-        graph, prober, dict(operand(word) for word in asked.words if "=" in word), warn
-    )
+    operands = dict(operand(word) for word in asked.words if "=" in word)
+    warn_of_environment(graph, prober, operands, warn)
+    warn_of_remade(prober, warn)
+    warn_of_goal(graph, prober, warn)
     warn_of_rules(graph, prober, files, warn)
+    warn_of_varying(checker, fixed, files, scratch, warn)
     shop = workshop(asked, folder, graph, hidden, scratch, warn)
+    shop.macros = handed_down(prober, operands)
     shop.updating = updating_of(asked, shop, fixed, warn)
     follows = not asked.no_replay or shop.updating is not None
     follow = shop.follow if follows else None
@@ -175,12 +187,12 @@ def record_and_write(asked: argparse.Namespace, folder: str, scratch: str) -> No
         text = book(footprints, late=recorded.late).text()
     if asked.no_replay:
         tell(UNTESTED)
-    write(text, asked.update or asked.o)
+    write_text(text, asked.update or asked.o)
     if shop.updating is not None:
-        recipes = len(graph.recipes)
+        recipes, reused = len(graph.recipes), len(shop.updating.reused)
         tell(
-            f"{recipes - len(shop.updating.reused)} of {recipes} recipes were recorded, the others"
-            " hadn't changed"
+            f"{recipes - reused} of {recipes} recipes were recorded"
+            + (", the others hadn't changed" if reused else "")
         )
         targets = [name for name in graph.names if name not in asked.trust]
         passed = {target: verdict.warnings.get(target, []) for target in targets}
@@ -235,7 +247,9 @@ def workshop(
     if asked.in_place:
         place = Place(folder, folder)
     elif places.namespace() is not None:
-        place = Place(copied, folder)
+        place = Place(copied, folder, shut=True)
+        if places.shut() is None:
+            warn(OPEN)
     else:
         place = Place(copied, copied)
         warn(UNBOUND)
@@ -294,62 +308,44 @@ def operand(word: str) -> tuple[str, str]:
     return name.rstrip(": \t"), value.lstrip(" \t")
 
 
-def write(text: str, path: str | None) -> None:
-    """Writes the footprints: a file whole or not at all.
+def refuse_other_file(asked: argparse.Namespace) -> None:
+    """Refuses to write footprints over a file that holds none.
 
-    A device or a pipe is written to and stays what it is.
+    An update finds the state beside its footprints, and may find these damaged.
     """
-    if path is None:
-        sys.stdout.buffer.write(text.encode("utf-8"))
+    path = asked.update or asked.o
+    if path is None or not os.path.isfile(path):
         return
-    goal = Path(os.path.realpath(path))
-    if goal.exists() and not goal.is_file():
-        goal.write_text(text, encoding="utf-8")
+    if asked.update and os.path.exists(path_of_state(os.path.realpath(path))):
         return
-    beside = goal.with_name(f".{goal.name}.{os.getpid()}")
     try:
-        beside.write_text(text, encoding="utf-8")
-        beside.replace(goal)
-    finally:
-        beside.unlink(missing_ok=True)
-
-
-def own_error(error: Exception) -> str:
-    """What is said of an error that nobody thought of."""
-    last = traceback.extract_tb(error.__traceback__)[-1]
-    where = f"{os.path.basename(last.filename)}, line {last.lineno}"
-    return (
-        "this is a mistake of the recorder itself, and nothing is written:"
-        f" {type(error).__name__} in {where}: {error}"
-    )
+        text = Path(path).read_text(encoding="utf-8")
+        known = not text or "format" in dict(json.loads(text))
+    except (ValueError, TypeError, RecursionError):
+        known = False
+    if not known:
+        raise Fault(
+            f"{'--update' if asked.update else '-o'} {path}: this file is no footprint file, so it"
+            " isn't overwritten: give another name, or remove it"
+        )
 
 
 def main(arguments: list[str]) -> int:
     """Records, and gives the status."""
     asked = words_of(arguments)
+    return ended("mkcheck-record", "recorder", partial(record_folder, asked))
+
+
+def record_folder(asked: argparse.Namespace) -> int:
+    """Records the folder that is asked for, and gives the status."""
+    folder = os.path.realpath(asked.C)
+    if not os.path.isdir(folder) or folder == "/":
+        raise Fault(
+            f"-C {asked.C}: no folder" if folder != "/" else "the root of all files is no project"
+        )
     try:
-        catch_signals()
-        folder = os.path.realpath(asked.C)
-        if not os.path.isdir(folder) or folder == "/":
-            raise Fault(
-                f"-C {asked.C}: no folder"
-                if folder != "/"
-                else "the root of all files is no project"
-            )
         with scratch_folder(folder) as scratch:
             record_and_write(asked, folder, scratch)
-    except Fault as fault:
-        print(f"mkcheck-record: {fault}", file=sys.stderr)
-        return fault.status
-    except OSError as error:
-        print(f"mkcheck-record: {error}", file=sys.stderr)
-        return Fault.status
-    except Exception as error:
-        print(f"mkcheck-record: {own_error(error)}", file=sys.stderr)
-        return Fault.status
-    except Stopped as stopped:
-        print(f"mkcheck-record: stopped by {stopped.name}, nothing is written", file=sys.stderr)
-        return stopped.status
     finally:
         places.stop_all()
     return 0

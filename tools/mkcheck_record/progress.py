@@ -45,7 +45,7 @@ class Progress:
         self.tell(self.number, name)
 
     def tell(self, done: int, text: str) -> None:
-        """Shows a line where it is time for one; so many recipes have ended."""
+        """Shows a line, if it is time for one. `done` is the number of recipes that have ended."""
         now = time.monotonic()
         if self.terminal:
             width = shutil.get_terminal_size().columns
@@ -56,7 +56,7 @@ class Progress:
             print(self.line(done, now, text), file=self.stream, flush=True)
 
     def line(self, done: int, now: float, text: str) -> str:
-        """A line: how many of how many, the time that is left where it can be known, and a text."""
+        """A line: the recipe's number of all, an estimate of the time that is left, and a text."""
         left = ""
         if 0 < done < self.total:
             left = f" {duration((now - self.begun) / done * (self.total - done))} left"

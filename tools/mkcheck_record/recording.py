@@ -8,14 +8,15 @@ import shlex
 import stat
 import tempfile
 import time
-from collections.abc import Callable
+from collections.abc import Callable, Mapping
 from dataclasses import dataclass, field
 
 from . import tracing
 from .accesses import Accesses, Follower
 from .faults import RecipeFault
 from .folders import UNWRITTEN, Naming, copy
-from .footprints import Footprint, Warn, footprint_of, kind_of, named, warn_of_stamps
+from .footprints import Footprint, Warn, footprint_of, kind_of, named, refuse_forbidden
+from .footprints import warn_of_stamps
 from .graphs import Ancestors, Command, Recipe
 from .late import Late, late_files
 from .places import Place
@@ -34,7 +35,8 @@ class Workshop:
     """Where recipes run: the folder itself, or a copy of it that is made afresh for each recording.
 
     `folder` is the project's. `absent` has the targets that aren't copied. `opaque` has the targets
-    whose recipes may start makes.
+    whose recipes may start makes. `macros` has variables of the environment to which the makefile
+    gives other values.
     """
 
     folder: str
@@ -47,11 +49,12 @@ class Workshop:
     keep_going: bool = False
     passed: list[str] = field(default_factory=list)
     updating: Updating | None = None
+    macros: Mapping[str, str] = field(default_factory=dict)
 
     @property
     def environment(self) -> dict[str, str]:
         """What recipes find in their environment."""
-        return tracing.environment(self.place, self.operands)
+        return tracing.environment(self.place, self.operands, self.macros)
 
     def set_up(self) -> Tree:
         """Makes the copy, where one is wanted, and tells what is there."""
@@ -145,7 +148,7 @@ def record_one(
         shop.updating.lay(tree)
         warn = shop.updating.noting(recipe, warn)
     begun, stamp = time.time(), stamp_now(shop.scratch)
-    accesses = run(recipe, shop, tree, progress)
+    accesses = run(recipe, shop, tree, naming, progress)
     progress.clear()
     refuse_unmade(recipe, shop)
     footprint = footprint_of(recipe, accesses, naming, warn)
@@ -209,7 +212,9 @@ def name_of_folder(path: str, naming: Naming) -> str:
     return "." if path == naming.root else naming.name(path) or path
 
 
-def run(recipe: Recipe, shop: Workshop, tree: Tree, progress: Progress) -> Accesses:
+def run(
+    recipe: Recipe, shop: Workshop, tree: Tree, naming: Naming, progress: Progress
+) -> Accesses:
     """Runs a recipe, command by command, as make would."""
     accesses = Accesses(tree)
     given = shop.environment
@@ -222,6 +227,7 @@ def run(recipe: Recipe, shop: Workshop, tree: Tree, progress: Progress) -> Acces
         output += done.output
         Follower(accesses, shop.place.seen).follow(done.calls)
         refuse_unseen(recipe, accesses, done.left, shop)
+        refuse_forbidden(recipe, accesses, naming)
         if done.status != 0 and not command.ignored:
             raise RecipeFault(failure(recipe, command, done.status, output))
     return accesses

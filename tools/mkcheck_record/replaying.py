@@ -44,7 +44,7 @@ OTHER_BYTES = (
     b" anew.\n"
 )
 EMPTY, OTHER = (hashlib.sha256(text).hexdigest() for text in (b"", OTHER_BYTES))
-# A replay may take so many seconds, and so many times as long as the recording of the recipe.
+# A replay is stopped after LEAST_SECONDS and TIMES_AS_LONG times the seconds of the recording.
 LEAST_SECONDS = 60.0
 TIMES_AS_LONG = 20.0
 LINES_SHOWN = 20
@@ -53,31 +53,44 @@ SHOWN_BYTES = 1 << 16
 
 @dataclass(frozen=True)
 class Difference:
-    """What a recipe did otherwise than when it was recorded: a sentence without its subject.
-    `kept` tells that the recipe passed over a file that it was recorded to write.
-    """
+    """How a replay differs from the recording at one name."""
 
     name: str
     what: str
+    """A sentence without its subject, the recipe."""
+
     details: tuple[str, ...] = ()
+    """Lines that show the difference."""
+
     kept: bool = False
+    """Whether the replay left a file as it was that the recording wrote."""
 
 
 @dataclass(frozen=True)
 class Outcome:
-    """What a replay showed: the run in which it stopped, what was wrong, what to warn of.
-    `folders` are the folders that the bare run left, and `absent` those that were there when the
-    recipe was recorded, and not in the bare run that failed. `met` tells what else it needed.
-    """
+    """What the replay of a recipe showed."""
 
     trial: Trial
     run: str = ""
+    """The run that failed or differed; empty where none did."""
+
     failed: str = ""
+    """How the recipe failed in that run."""
+
     differences: tuple[Difference, ...] = ()
+    """How that run differed from the recording."""
+
     warning: str = ""
+    """How the recipe failed over its own damaged outputs, which isn't always an error."""
+
     folders: frozenset[str] = frozenset()
+    """The folders that the bare run left."""
+
     absent: frozenset[str] = frozenset()
+    """The folders that were there in the recording, and not in the bare run that failed."""
+
     met: Met | None = None
+    """What it needed besides its reads."""
 
     @property
     def passed(self) -> bool:
@@ -89,8 +102,8 @@ class Outcome:
 class Replay:
     """Replays the recipes of a world.
 
-    `environment` is that of the recipes, and `late` are their late files. Where no folder can be
-    bound over `seen`, the recipes ran there, and are replayed there one at a time.
+    `environment` is that of the recipes, and `late` are their late files. Where the system allows
+    no mount namespace, the recipes ran at `seen` itself, and are replayed there one at a time.
     """
 
     world: World
@@ -136,9 +149,10 @@ class Replay:
         return outcome
 
     def with_folders(self, pool: ThreadPoolExecutor, outcomes: list[Outcome]) -> list[Outcome]:
-        """Tries failed recipes again, with folders that recipes before them were seen to make.
+        """Replays the recipes that failed once more, with the folders that recipes before them made
+        in their own replays.
 
-        Such folders were there when those recipes were recorded, so that their making wasn't seen.
+        Where such a folder was there already in the recording, its trace doesn't show who makes it.
         """
         left = {outcome.trial.recipe.target: outcome.folders for outcome in outcomes}
         tried: list[Future[Outcome] | Outcome] = []
@@ -162,7 +176,7 @@ class Replay:
         bound = places.namespace() is not None
         folder = os.path.join(self.scratch, str(number)) if bound else self.seen
         try:
-            place = Place(folder, self.seen)
+            place = Place(folder, self.seen, shut=True)
             late = self.late.get(trial.recipe.target, ())
             failed = None
             for seen in self.seen_by(trial):
@@ -183,8 +197,8 @@ class Replay:
             remove(folder)
 
     def seen_by(self, trial: Trial) -> Iterator[Mapping[str, Version]]:
-        """Files that recipes before had made and that a recipe may need besides its reads: first
-        none, then those at which it looked, then those in folders that it listed.
+        """The files of earlier recipes that are laid beside the reads, one set after another: none,
+        then those at which the recipe looked, then also those in folders that it listed.
         """
         yield {}
         looked = self.world.noticed(trial, False)
@@ -340,10 +354,10 @@ class Replay:
         self.liken(trial, folder)
 
     def liken(self, trial: Trial, folder: str) -> None:
-        """Gives folders the modes that they had when the recipe began, and the stamps of the
-        project's, as `tar` writes them down.
+        """Gives folders the modes that they had when the recipe began, and folders of the project
+        also their stamps, since `tar` stores these.
 
-        Where a recipe has changed what a folder holds, its stamp is none that could come again.
+        A folder in which a recipe wrote has another stamp in each build, so it gets none.
         """
         for name, mode in trial.modes.items():
             path = os.path.join(folder, name)
@@ -367,7 +381,7 @@ class Replay:
     def lay(
         self, name: str, version: Version, folder: str, twins: dict[tuple[int, int], str]
     ) -> None:
-        """Lays a file that the recipe reads. Two names of one file are that here too."""
+        """Lays a file that the recipe reads. Hard links of the project are hard links here too."""
         source, full = self.world.material(name, version)
         goal = os.path.join(folder, name)
         status = os.lstat(source) if version == GIVEN else None

@@ -8,7 +8,6 @@ from __future__ import annotations
 
 import hashlib
 import json
-import os
 import re
 from collections.abc import Iterable, Mapping
 from dataclasses import dataclass, field
@@ -92,16 +91,21 @@ def text_of(state: State) -> str:
     return packed({"format": FORMAT, "digest": digest_of(packed(body)), "state": body}) + "\n"
 
 
+def content_of(path: str, absent: str, unreadable: str) -> str:
+    """The text of a file. Raises Unusable, with one of these texts, where there is none."""
+    try:
+        return Path(path).read_text(encoding="utf-8")
+    except FileNotFoundError:
+        raise Unusable(absent) from None
+    except (OSError, UnicodeDecodeError):
+        raise Unusable(unreadable) from None
+
+
 def read(path: str, book: str) -> State:
     """The state that lies at a path, of footprints with this text. Raises Unusable."""
+    content = content_of(path, "isn't there", "can't be read")
     try:
-        text = Path(path).read_text(encoding="utf-8")
-    except FileNotFoundError:
-        raise Unusable("isn't there") from None
-    except (OSError, UnicodeDecodeError):
-        raise Unusable("can't be read") from None
-    try:
-        whole = json.loads(text)
+        whole = json.loads(content)
         body = whole["state"]
         if whole["format"] != FORMAT:
             raise Unusable("is of another version of mkcheck-record")
@@ -245,13 +249,3 @@ def texts(value: object) -> list[str]:
     if not isinstance(value, list):
         raise TypeError("no list")
     return [text(one) for one in value]
-
-
-def write_file(path: str, content: str) -> None:
-    """Writes a file whole or not at all."""
-    beside = Path(f"{path}.{os.getpid()}.new")
-    try:
-        beside.write_text(content, encoding="utf-8")
-        os.replace(beside, path)
-    finally:
-        beside.unlink(missing_ok=True)

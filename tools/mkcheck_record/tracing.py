@@ -12,6 +12,7 @@ import signal
 import subprocess
 import tempfile
 import threading
+from collections.abc import Mapping
 from dataclasses import dataclass, field
 from pathlib import Path
 
@@ -70,9 +71,12 @@ def strace(links: bool = True, looking: bool = False) -> tuple[str, ...]:
     )
 
 
-def environment(place: Place, operands: dict[str, str]) -> dict[str, str]:
+def environment(
+    place: Place, operands: dict[str, str], macros: Mapping[str, str] | None = None
+) -> dict[str, str]:
     """What recipes find in their environment: macro operands too, as make hands them down, and in
-    MAKEFLAGS, for makes that recipes start.
+    MAKEFLAGS, for makes that recipes start. `macros` are variables to which the makefile gives
+    other values.
 
     SHELL stays as it is, also where it isn't set: no macro changes it. PWD stays as it is where it
     names the folder, be it over a link, as a make started there would leave it.
@@ -85,7 +89,7 @@ def environment(place: Place, operands: dict[str, str]) -> dict[str, str]:
     except OSError:
         same = False
     flags = {"MAKEFLAGS": flags_of(operands)} if operands else {}
-    return {**kept, **handed, **flags, "PWD": named if same else place.seen}
+    return {**kept, **(macros or {}), **handed, **flags, "PWD": named if same else place.seen}
 
 
 def flags_of(operands: dict[str, str]) -> str:

@@ -33,23 +33,31 @@ class Owner:
 
 @dataclass
 class Tree:
-    """The folder as commands see it. All paths are real ones, as commands see them.
-
-    `there` has its files of each kind, and links with them; `folders` has its folders. `owners` has
-    the permissions of files and folders. `links` has the texts of symbolic links, of those
-    elsewhere too that were met. `made` has the links that recipes made. `users` has, for each file
-    of several names, the names that were used, each with the first target whose recipe did.
-    """
+    """The project's folder at one call. All paths are real ones, as commands see them."""
 
     place: Place
     there: set[str] = field(default_factory=set)
+    """Its files of each kind, and its links."""
+
     folders: set[str] = field(default_factory=set)
     links: dict[str, str] = field(default_factory=dict)
+    """The texts of its symbolic links, and of those that recipes made elsewhere."""
+
     made: set[str] = field(default_factory=set)
+    """The links that recipes made."""
+
     owners: dict[str, Owner] = field(default_factory=dict)
+    """The permissions of files and folders."""
+
     users: dict[tuple[int, int], dict[str, str]] = field(default_factory=dict)
+    """For each file of several names the names that recipes used, each with the target of the first
+    recipe that did."""
+
     elsewhere: dict[str, str | None] = field(default_factory=dict)
+    """The texts of other links elsewhere, each read once; None where a path is no link."""
+
     followed: dict[str, tuple[str, tuple[str, ...]]] = field(default_factory=dict)
+    """What `follow` gave for a path."""
 
     @classmethod
     def of(cls, place: Place) -> Tree:
@@ -92,7 +100,7 @@ class Tree:
             return None
 
     def note(self, path: str) -> None:
-        """Takes what stands at a path now: its permissions, and where it leads."""
+        """Notes the file that stands at a path now, with its permissions, or the link's text."""
         status = self.status(path)
         if status is None or stat.S_ISDIR(status.st_mode):
             return
@@ -103,7 +111,7 @@ class Tree:
             self.owners[path] = Owner.of(status)
 
     def refresh(self, path: str) -> None:
-        """Takes what stands at a path now, or that nothing does, for what the calls left there."""
+        """Notes what stands at a path now in place of what the calls told of it."""
         status = self.status(path)
         if status is None or stat.S_ISDIR(status.st_mode):
             self.remove(path)
@@ -132,7 +140,7 @@ class Tree:
         if self.links.pop(path, None) is not None:
             self.followed.clear()
         self.owners.pop(path, None)
-        if path in self.elsewhere:
+        if self.elsewhere.get(path) is not None:
             self.elsewhere[path] = None
             self.followed.clear()
 
@@ -173,9 +181,9 @@ class Tree:
         return sorted(other for other in self.there if other.startswith(path + "/"))
 
     def link_at(self, path: str) -> str | None:
-        """Where a symbolic link leads: by the calls in the folder, elsewhere as it is now."""
+        """The text of a symbolic link: in the folder as calls left it, elsewhere as it is now."""
         text = self.links.get(path)
-        # What leads somewhere below /proc does so for each process in its own way.
+        # Links below /proc lead elsewhere for each process, so they aren't followed.
         if text is not None or self.has(path) or path == self.root or path.startswith("/proc/"):
             return text
         if path not in self.elsewhere:

@@ -16,6 +16,7 @@ from dataclasses import dataclass, field, replace
 from pathlib import Path
 
 from . import states, tracing
+from .ending import write_text
 from .footprints import Footprint, Warn
 from .graphs import Recipe
 from .late import Late, key_of
@@ -190,7 +191,7 @@ class Updating:
             self.conditions.salted(secrets.token_hex(16)), states.digest_of(text), entries
         )
         self.keep(state.digests())
-        states.write_file(states.path_of_state(self.book), states.text_of(state))
+        write_text(states.text_of(state), states.path_of_state(self.book))
         self.drop(state.digests())
 
     def entry_of(self, footprint: Footprint, trial: Trial, replayed: list[str]) -> Entry:
@@ -236,12 +237,9 @@ def version_of_strace() -> str:
 
 def believed(book: str, conditions: Conditions) -> State:
     """The state of footprints, where it can be believed. Raises Unusable."""
-    try:
-        text = Path(book).read_text(encoding="utf-8")
-    except FileNotFoundError:
-        raise Unusable("has no footprints beside it") from None
-    except (OSError, UnicodeDecodeError):
-        raise Unusable("stands beside footprints that can't be read") from None
+    text = states.content_of(
+        book, "has no footprints beside it", "stands beside footprints that can't be read"
+    )
     state = states.read(states.path_of_state(book), text)
     then, now = state.conditions, conditions.salted(state.conditions.get("salt", ""))
     others = [name for name in sorted({*then, *now}) if then.get(name) != now.get(name)]

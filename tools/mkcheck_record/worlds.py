@@ -21,59 +21,80 @@ FOLDERS = Version(FOLDER, 0, "")
 
 @dataclass(frozen=True)
 class Effects:
-    """What a recipe did, by the names of files.
-
-    `gone` are files that it took away and hadn't made, `made` are folders that it made, `links` are
-    those over which it went and that no recipe made, `others` what it left that is no file, such as
-    pipes. `looked` are names at which it looked, be something there or not, `listed` are folders
-    whose names it read, `owned` are others than `made` to which it gave a mode, and `dropped` are
-    folders that it took away and hadn't made.
-    """
+    """What a recipe did, by the names of files."""
 
     reads: tuple[str, ...]
     writes: tuple[str, ...]
     gone: tuple[str, ...] = ()
+    """Files that it removed and hadn't made."""
+
     made: tuple[str, ...] = ()
+    """Folders that it made."""
+
     links: tuple[str, ...] = ()
+    """Links that it followed and that no recipe made."""
+
     others: tuple[str, ...] = ()
+    """What it left that is no file, such as pipes."""
+
     looked: tuple[str, ...] = ()
+    """Names at which it looked, whether something was there or not."""
+
     listed: tuple[str, ...] = ()
+    """Folders whose names it read."""
+
     owned: tuple[str, ...] = ()
+    """Folders that it hadn't made, and to which it gave a mode."""
+
     dropped: tuple[str, ...] = ()
+    """Folders that it removed and hadn't made."""
 
 
 @dataclass(frozen=True)
 class Trial:
-    """A recipe as it ran, for another run of it.
-
-    `before` has the files of the project that it reads, as they were when it began, and `after`
-    these and those that it wrote, as they were when it ended; None where nothing was there. `links`
-    are the links over which it went and that no recipe made. `made` are folders that it made,
-    `known` all folders that were there when it began or that it made. `begun` and `ended` are times
-    of the clock.
-    `looks` has, where the world is watching, what stood at each name that it used or looked at
-    before it began, and `lists` digests of the names in folders that it read. `modes` has those of
-    all folders as they were when it began, and `given` those that it gave to folders. `number` is
-    its place in the serial order. `looked` are names of the project at which it looked, and
-    `listed` its folders whose names it read.
-    """
+    """A recipe as it was recorded, with all that its replay needs."""
 
     recipe: Recipe
     before: Mapping[str, Version]
+    """The files of the project that it read, as they were when it began."""
+
     after: Mapping[str, Version | None]
+    """The files that it read or wrote, as they were when it ended; None where nothing was there."""
+
     writes: tuple[str, ...]
     links: Mapping[str, str]
+    """The links that it followed and that no recipe made, each with its text."""
+
     made: tuple[str, ...]
+    """The folders that it made."""
+
     known: frozenset[str]
+    """All folders that were there when it began, and those that it made."""
+
     begun: float
+    """The time of the clock when it began."""
+
     ended: float
     looks: Mapping[str, Version | None] = field(default_factory=dict)
+    """For an update: what stood at each name that it used or looked at, before it began."""
+
     lists: Mapping[str, str] = field(default_factory=dict)
+    """For an update: of each folder whose names it read a digest of these names."""
+
     modes: Mapping[str, int] = field(default_factory=dict)
+    """The modes of all folders when it began."""
+
     given: Mapping[str, int] = field(default_factory=dict)
+    """The modes that it gave to folders that it hadn't made."""
+
     number: int = 0
+    """Its place in the serial order."""
+
     looked: tuple[str, ...] = ()
+    """The names of the project at which it looked."""
+
     listed: tuple[str, ...] = ()
+    """The folders of the project whose names it read."""
 
     def with_reads(self, reads: Mapping[str, Version]) -> Trial:
         """The same recipe, recorded to read these too."""
@@ -87,34 +108,54 @@ class Trial:
 
 @dataclass
 class World:
-    """The project's folder, followed from recipe to recipe.
-
-    `folder` is the project's, `place` where the recipes run; they are one where no copy was made.
-    `begun` is the time of the clock when the copy was made. `inside` has the names in each folder
-    as they are now. `current` has the names that recipes wrote or took away, and `history`
-    what they left there, each with its place in the serial order, of which `count` have ended.
-    `makers` has the folders that they made, each with the
-    targets of these recipes, and `dropped` the folders that they took away and that aren't there
-    now. `modes` has those of folders: one mapping, until a recipe changes it.
-    """
+    """What stands in the project's folder now, kept up to date after each recipe."""
 
     folder: str
+    """The project's folder."""
+
     place: str
+    """Where the recipes run: a copy of the folder, or the folder itself."""
+
     store: Store
     begun: float
+    """The time of the clock when the copy was made."""
+
     given_folders: frozenset[str] = frozenset()
+    """The folders that were there before any recipe."""
+
     given_links: dict[str, str] = field(default_factory=dict)
+    """The links that were there before any recipe, each with its text."""
+
     inside: dict[str, set[str]] = field(default_factory=dict)
+    """The names that are in each folder now."""
+
     current: dict[str, Version | None] = field(default_factory=dict)
+    """What stands now at each name that a recipe wrote or removed."""
+
     history: dict[str, list[tuple[int, Version | None]]] = field(default_factory=dict)
+    """For each such name what recipes left there, each with its place in the serial order."""
+
     count: int = 0
+    """How many recipes have ended."""
+
     makers: dict[str, list[str]] = field(default_factory=dict)
+    """The folders that recipes made, each with the targets of these recipes."""
+
     dropped: set[str] = field(default_factory=set)
+    """The folders that recipes removed and that aren't there now."""
+
     modes: Mapping[str, int] = field(default_factory=dict)
+    """The modes of folders. Trials share this mapping, so a change replaces it."""
+
     trials: list[Trial] = field(default_factory=list)
     watching: bool = False
+    """Whether what recipes look at is noted, for an update."""
+
     seen: dict[str, Version | None] = field(default_factory=dict)
+    """What stands at files that no recipe has changed, each looked at once."""
+
     compared: dict[tuple[str, Version | None], bool] = field(default_factory=dict)
+    """The answers of `is_as_before` for such files."""
 
     @classmethod
     def of(cls, folder: str, place: str, store: Store) -> World:
@@ -258,7 +299,7 @@ class World:
 
     def appear(self, name: str) -> None:
         """A name is there now, and with it the folders above it."""
-        while name:
+        while os.path.basename(name):
             folder, base = os.path.split(name)
             self.inside.setdefault(folder, set()).add(base)
             name = folder
