@@ -20,7 +20,7 @@ from mkcheck_import.plain import names_of
 from mkcheck_import.saving import build_of_text
 from trials import STREAMS, Tally, sample
 
-# A writer waits so many seconds for a reader that may never begin.
+# How many seconds a writer waits for a reader that may never begin.
 SECONDS = 60
 SHELL = """#!{python}
 import json, os, subprocess, sys, time

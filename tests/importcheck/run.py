@@ -61,6 +61,27 @@ class Outcome:
         return {"recipes": self.recipes, "answer": self.answer, "findings": dict(self.findings)}
 
 
+@dataclass
+class Imported:
+    """A project that was imported: its folder, that of the output, what came of it, and the lines
+    of both checks."""
+
+    project: dict[str, object]
+    folder: Path
+    output: Path
+    outcome: Outcome
+    lines: list[str]
+
+    @property
+    def build(self) -> list[str]:
+        """The words that build it."""
+        return [str(word) for word in self.project["build"]]
+
+    def found(self, front: str) -> list[str]:
+        """The lines that begin so."""
+        return [line for line in self.lines if line.startswith(front)]
+
+
 def environment() -> dict[str, str]:
     """The environment of the programs: mkcheck is the one that MKCHECK names, else bin/mkcheck."""
     kept = {name: text for name, text in os.environ.items() if not name.startswith("MAKE")}
@@ -93,8 +114,8 @@ def check(output: Path, folder: Path, name: str) -> list[str]:
 
 def import_project(
     project: dict[str, object], folder: Path, output: Path, options: list[str]
-) -> tuple[Outcome, list[str]]:
-    """Runs the importer; gives what it answered, and the lines of both checks."""
+) -> Imported:
+    """Runs the importer, and reads what it left."""
     outcome = Outcome(str(project["name"]), str(project["kind"]))
     shutil.rmtree(output, ignore_errors=True)
     words = [*project.get("options", []), *options, *project.get("words", [])]
@@ -119,53 +140,37 @@ def import_project(
     outcome.findings = Counter(line.split(" ")[1] for line in [*first, *found])
     if (output / "footprint.json").exists():
         outcome.recipes = len(json.loads((output / "footprint.json").read_text())["records"])
-    return outcome, [*first, *later]
+    return Imported(project, folder, output, outcome, [*first, *later])
 
 
-def try_project(
-    project: dict[str, object],
-    folder: Path,
-    output: Path,
-    samples: int,
-    outcome: Outcome,
-    lines: list[str],
-) -> None:
+def try_project(imported: Imported, samples: int) -> None:
     """Builds the project by its own tool, and tries a sample of what was found."""
-    book = json.loads((output / "footprint.json").read_text())
+    outcome = imported.outcome
+    book = json.loads((imported.output / "footprint.json").read_text())
     writes = {record["target"]: record["writes"] for record in book["records"]}
-    trial = Trial(folder, [str(word) for word in project["build"]], writes)
+    trial = Trial(imported.folder, imported.build, writes)
     trial.begin()
-    name = outcome.name
-    stale = [line for line in lines if line.startswith("no stale ")]
-    outcome.stale = trial.try_stale(stale, samples, name)
-    ways = [line for line in lines if line.startswith("way ")]
+    stale = imported.found("no stale ")
+    outcome.stale = trial.try_stale(stale, samples, outcome.name)
+    ways = imported.found("way ")
     if not ways and set(outcome.findings) <= {"stale", "race"}:
         ways = other_reads(book, stale)
-    outcome.ways = trial.try_ways(ways, samples, name)
+    outcome.ways = trial.try_ways(ways, samples, outcome.name)
 
 
-def try_orders(
-    project: dict[str, object],
-    archive: Archive,
-    folder: Path,
-    output: Path,
-    samples: int,
-    outcome: Outcome,
-    lines: list[str],
-) -> None:
+def try_orders(imported: Imported, samples: int, archive: Archive) -> None:
     """Tries a sample of the races and of the files with two writers, where make builds."""
-    races = [line for line in lines if line.startswith("no race ")]
-    writers = [line for line in lines if line.startswith("no writers ")]
-    words = [str(word) for word in project["build"]]
-    if not (races or writers) or words[0] != "make":
+    outcome, races = imported.outcome, imported.found("no race ")
+    writers = imported.found("no writers ")
+    if not (races or writers) or imported.build[0] != "make":
         return
 
     def renew() -> None:
-        lay_configured(archive, folder)
+        lay_configured(archive, imported.folder)
 
     scratch = archive.cache / "orders"
     scratch.mkdir(exist_ok=True)
-    orders = Orders(folder, words, output, scratch)
+    orders = Orders(imported.folder, imported.build, imported.output, scratch)
     renew()
     outcome.writers = orders.try_writers(writers, samples, outcome.name)
     outcome.races = orders.try_races(races, samples, outcome.name, renew)
@@ -214,10 +219,11 @@ def do_project(
     outcome = Outcome(name, str(project["kind"]))
     try:
         prepare(project, archive, folder, asked.again)
-        outcome, lines = import_project(project, folder, output, asked.option)
+        imported = import_project(project, folder, output, asked.option)
+        outcome = imported.outcome
         if outcome.status in (0, 1) and asked.samples:
-            try_project(project, folder, output, asked.samples, outcome, lines)
-            try_orders(project, archive, folder, output, asked.samples, outcome, lines)
+            try_project(imported, asked.samples)
+            try_orders(imported, asked.samples, archive)
     except (FetchFault, RuntimeError, OSError, ValueError) as fault:
         outcome.trouble = str(fault)
     if not asked.keep:

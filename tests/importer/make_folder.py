@@ -138,6 +138,18 @@ class MakeFolderTest(unittest.TestCase):
             if text.startswith("#!"):
                 path.chmod(0o755)
 
+    def add_lines(self, lines: str) -> None:
+        """Adds lines to the makefile."""
+        with open(self.folder / "Makefile", "a", encoding="utf-8") as file:
+            file.write(lines)
+
+    def mend(self, lines: str) -> None:
+        """Adds lines that an answer advised: with them the answer is yes."""
+        self.add_lines(lines)
+        answer = self.imported()
+        self.assertEqual(answer.status, 0, answer.output + answer.errors)
+        self.try_answer(answer)
+
     def contents(self) -> dict[str, bytes | None]:
         """All that the folder holds, but for what the importer may write."""
         found: dict[str, bytes | None] = {}

@@ -95,9 +95,12 @@ class NinjaFolderTest(unittest.TestCase):
             path.write_bytes(text.encode("utf-8", "surrogateescape"))
 
     def ninja(self, *words: str, folder: Path | None = None) -> subprocess.CompletedProcess[str]:
-        """Runs ninja in the folder, or in another one."""
+        """Runs ninja in the folder, or in another one.
+
+        One job, since with several a build that has a race may fail.
+        """
         return subprocess.run(
-            ["ninja", *words],
+            ["ninja", "-j1", *words],
             cwd=folder or self.folder,
             capture_output=True,
             text=True,

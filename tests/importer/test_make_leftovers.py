@@ -76,10 +76,23 @@ class LeftoversTestCase(MakeFolderTest):
         done = self.make(self.folder)
         self.assertEqual(done.returncode, 0, done.stderr)
 
+    def track(self) -> None:
+        """Lets git track what is there."""
+        for words in (["init", "-q"], ["add", "."]):
+            subprocess.run(["git", "-C", str(self.folder), *words], check=True)
+
     def stale(self, answer: Answer) -> None:
         """The answer is that of a clean folder."""
         self.assertEqual(answer.findings, ["no stale a.o h"], answer.output + answer.errors)
         self.assertEqual(answer.status, 1)
+
+    def left_out(self) -> Answer:
+        """Builds in the folder; the answer leaves out what that made."""
+        self.build()
+        answer = self.imported()
+        self.stale(answer)
+        self.assertIn("    2 files (a.o, prog) of an earlier build are left out", answer.output)
+        return answer
 
 
 @can_judge
@@ -90,10 +103,7 @@ class CleanTest(LeftoversTestCase):
     def test_all_is_there(self) -> None:
         self.project(MAKEFILE + CLEAN)
         self.stale(self.imported())
-        self.build()
-        answer = self.imported()
-        self.stale(answer)
-        self.assertIn("    2 files (a.o, prog) of an earlier build are left out", answer.output)
+        answer = self.left_out()
         self.assertEqual(answer.rules().count("\t"), 2)
 
     def test_some_is_there(self) -> None:
@@ -186,12 +196,8 @@ class CleanTest(LeftoversTestCase):
     def test_clean_that_fails_in_git(self) -> None:
         """Then git tells."""
         self.project(MAKEFILE + "clean:\n\tfalse\n")
-        for words in (["init", "-q"], ["add", "."]):
-            subprocess.run(["git", "-C", str(self.folder), *words], check=True)
-        self.build()
-        answer = self.imported()
-        self.stale(answer)
-        self.assertIn("    2 files (a.o, prog) of an earlier build are left out", answer.output)
+        self.track()
+        self.left_out()
 
     @has_git
     def test_clean_that_is_not_needed(self) -> None:
@@ -201,8 +207,7 @@ class CleanTest(LeftoversTestCase):
         self.assertNotIn("`make clean` tells nothing", self.imported().output)
         self.write({"p.c": "p\n"})
         self.assertIn("`make clean` tells nothing", self.imported().output)
-        for words in (["init", "-q"], ["add", "."]):
-            subprocess.run(["git", "-C", str(self.folder), *words], check=True)
+        self.track()
         self.assertNotIn("`make clean` tells nothing", self.imported().output)
 
     def test_clean_that_does_not_end(self) -> None:
@@ -378,12 +383,8 @@ class WithoutCleanTest(LeftoversTestCase):
             "p.c: p.y\n\tcp p.y p.c\n",
             **{"p.y": "p\n", "p.c": "p\n"},
         )
-        for words in (["init", "-q"], ["add", "."]):
-            subprocess.run(["git", "-C", str(self.folder), *words], check=True)
-        self.build()
-        answer = self.imported()
-        self.stale(answer)
-        self.assertIn("    2 files (a.o, prog) of an earlier build are left out", answer.output)
+        self.track()
+        answer = self.left_out()
         self.assertIn("aren't judged (1 file): p.c", answer.output)
 
     def test_words(self) -> None:

@@ -81,12 +81,7 @@ class RecursiveTest(MakeFolderTest):
         lines = "    app: lib/x\n    lib/x: lib ;\n"
         self.assertIn(f"Add to Makefile:\n{lines}", answer.output)
         self.try_answer(answer)
-        # The advice is right.
-        makefile = self.folder / "Makefile"
-        makefile.write_text(makefile.read_text() + lines.replace("    ", ""))
-        answer = self.imported()
-        self.assertEqual(answer.status, 0, answer.output + answer.errors)
-        self.try_answer(answer)
+        self.mend(lines.replace("    ", ""))
 
     def test_make_that_reads_too_early(self) -> None:
         """The make below reads what the one that starts it writes."""

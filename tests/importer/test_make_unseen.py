@@ -291,8 +291,7 @@ class ReadingTest(UnseenTestCase):
         )
         self.refused(sentence)
         # It runs again when the list changes, and not when the other file does later.
-        makefile = self.folder / "Makefile"
-        makefile.write_text(makefile.read_text() + "x: list\n")
+        self.add_lines("x: list\n")
         self.refused(sentence)
 
     def test_link_to_a_folder(self) -> None:
@@ -449,8 +448,7 @@ class GoalsTest(UnseenTestCase):
         """Nothing but the environment hands the macro to the recipe."""
         self.shared("debug: export mode = g\n", "./script")
         self.write({"script": '#!/bin/sh\n{ echo "$mode"; cat a; } > prog\n'})
-        makefile = self.folder / "Makefile"
-        makefile.write_text(makefile.read_text() + "prog: script\n")
+        self.add_lines("prog: script\n")
         self.assertEqual(self.left({}, "release", "debug", "release"), ["g\na\n", "\na\n"])
         self.refused("the commands of prog depend on the target")
 

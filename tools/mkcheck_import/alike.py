@@ -1,10 +1,10 @@
-"""Recipes that may leave their outputs as they were, behind which the build tool stops.
+"""Recipes that may leave an output as it was, so that ninja doesn't build what needs it.
 
-In mkcheck's model a recipe that runs writes all its files, so what needs them runs too. By `restat`
-ninja stops at an output that was left as it was. So such a recipe is two: one that has the
-prerequisites and the reads, and writes a file that nobody else knows; and for each output one that
-waits for the first, reads nothing, and writes the output. What needs an output waits for all of
-them, and is out of date by that output alone, and not by what the recipe reads.
+In mkcheck's model a recipe that runs writes all its files, so what needs them runs too. With
+`restat`, ninja stops at an output that was left as it was. So such a recipe is split. `OUTPUT@made`
+has the prerequisites and the reads. For each output one recipe waits for `OUTPUT@made`, reads
+nothing, and writes the output. So what needs an output is out of date by that output alone, and not
+by what the command reads. It waits for all outputs, since one command makes them.
 """
 
 from __future__ import annotations

@@ -13,7 +13,8 @@ from .gnumake import Make, option_words, own_environment
 from .inherited import Inherited, inherited_in
 from .rereading import changed, difference, place_of
 
-# So many goals, and targets with macros of their own, are asked for one at a time.
+# At most this many goals, and this many targets with macros of their own, are asked for, each by
+# itself.
 ASKED_AT_MOST = 24
 
 

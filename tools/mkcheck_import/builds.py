@@ -12,8 +12,13 @@ hold, for files too.
 from __future__ import annotations
 
 import enum
+import functools
 import os
+from collections.abc import Callable, Iterable
 from dataclasses import dataclass, field
+
+# Folders of version control, and this program's own: what lies in them is no file of the project.
+FOREIGN = (".git", ".hg", ".svn", ".mkcheck")
 
 
 class Kind(enum.Enum):
@@ -239,27 +244,40 @@ class Build:
         return self.nodes.setdefault(name, Node(name, has_rule=False))
 
     def reached(self, later: bool) -> list[str]:
-        """The names that the goals reach, in serial order: each after what it needs.
+        """The names that the goals reach, in serial order.
 
-        `later` tells whether the prerequisites are those of the first build or of later ones. A
-        cycle is cut.
+        `later` tells whether the prerequisites are those of the first build or of later ones.
         """
-        seen: set[str] = set()
-        found: list[str] = []
-        stack = [(name, False) for name in reversed(self.goals)]
-        while stack:
-            name, is_done = stack.pop()
-            if is_done:
-                found.append(name)
-            elif name not in seen:
-                seen.add(name)
-                stack.append((name, True))
-                node = self.nodes.get(name)
-                if node is not None and node.has_rule:
-                    stack += [(word, False) for word in reversed(node.prerequisites(later))]
-        return found
+        return serial_order(self.goals, lambda name: self.needs(name, later))
+
+    def needs(self, name: str, later: bool) -> list[str]:
+        """The prerequisites of a name in the first build or in later ones; none without a rule."""
+        node = self.nodes.get(name)
+        return node.prerequisites(later) if node is not None and node.has_rule else []
 
 
+def serial_order(
+    goals: Iterable[str], needs: Callable[[str], list[str]], without: Iterable[str] = ()
+) -> list[str]:
+    """The names that goals reach, each after what it needs; a cycle is cut.
+
+    The names of `without` are left out, and so is what only they need.
+    """
+    seen = set(without)
+    found: list[str] = []
+    stack = [(name, False) for name in reversed(list(goals))]
+    while stack:
+        name, is_done = stack.pop()
+        if is_done:
+            found.append(name)
+        elif name not in seen:
+            seen.add(name)
+            stack.append((name, True))
+            stack += [(word, False) for word in reversed(needs(name))]
+    return found
+
+
+@functools.lru_cache(1 << 16)
 def path_name(root: str, folder: str, text: str) -> str:
     """The name of the node for the file that `text` names in a folder, given by its real path."""
     full = os.path.normpath(os.path.join(folder, text))
@@ -268,3 +286,8 @@ def path_name(root: str, folder: str, text: str) -> str:
     if full == root:
         return "."
     return full[len(root) + 1 :] if full.startswith(root + "/") else full
+
+
+def is_foreign(name: str) -> bool:
+    """Whether a file lies in a folder whose files aren't the project's."""
+    return any(part in FOREIGN for part in name.split("/")[:-1])

@@ -1,19 +1,15 @@
-"""What CMake's makefiles do beside building: they show progress, and touch the names of libraries.
-"""
+"""Commands of CMake's makefiles that make nothing which the build reads."""
 
 from __future__ import annotations
 
 import re
 
 FRONT = r"(?:cd \S+ && )?\S*cmake(?:\.exe)? -E "
-# They print a line, and count it in files that nothing else reads.
+# Print a line of progress, and count it in files that nothing else reads.
 DISPLAY = re.compile(FRONT + r"cmake_(?:echo_color|progress_start)\b[^;&|`<>]*$")
-# Further names of a library are links, which the recipe of the library makes.
+# Touch the further names of a library. They are links, and the library's recipe makes them.
 TOUCH = re.compile(FRONT + r"touch_nocreate\b[^;&|`<>]*$")
-
-
-# They write makefiles alone: whether the project has to be configured anew, and what dependency
-# files say.
+# Write makefiles alone: those of a project that is configured anew, or from dependency files.
 REMAKE = re.compile(
     r"(?:cd \S+ && )?\S*cmake(?:\.exe)? (?:[^;&|`<>]* --check-build-system [^;&|`<>]*"
     r"|-E cmake_depends [^;&|`<>]*)$"

@@ -14,6 +14,8 @@ from dataclasses import dataclass, field
 
 from mkcheck_record.faults import Fault
 
+from .builds import FOREIGN
+
 # What CMake writes beside the folders `CMakeFiles`.
 OF_CMAKE = (
     "CMakeCache.txt",
@@ -32,7 +34,6 @@ SOURCES = ("*.h", "*.hh", "*.hpp", "*.hxx", "*.inc", "*.c", "*.cc", "*.cpp", "*.
 # What config.status and Automake write beside the makefiles.
 OF_AUTOCONF = ("config.status", "config.log", "config.cache", "libtool", "stamp-h*")
 LIST_OF_FILES = re.compile(r'^config_(?:files|links)="([^"]*)"', re.MULTILINE)
-SKIPPED = (".git", ".hg", ".svn", ".mkcheck")
 
 
 @dataclass
@@ -94,7 +95,7 @@ def all_files(root: str) -> list[str]:
     """The files of a folder, as names from it, in one order on each machine."""
     found = []
     for folder, folders, names in os.walk(root):
-        folders[:] = sorted(name for name in folders if name not in SKIPPED)
+        folders[:] = sorted(name for name in folders if name not in FOREIGN)
         front = os.path.relpath(folder, root)
         found += [os.path.normpath(os.path.join(front, name)) for name in sorted(names)]
     return found

@@ -5,21 +5,27 @@ from __future__ import annotations
 import re
 from dataclasses import dataclass, field
 
+from mkcheck_record.graphs import goes_on
+
 # The front of the names of files that only this program gives to make.
 OWN = "/@mkcheck-import/"
 START = "# Make data base, printed on "
 # The first line after the properties of a file that isn't one of them.
-RECIPE = re.compile(r"#  recipe to execute \((?:from '(.*)', line (\d+)|built-in)\):")
-PLACE = re.compile(r"# .*\(from '(.*)', line (\d+)\)$")
-MACRO = re.compile(r"(?m)^([^\s#:=+?!]+) (?:=|::?:?=|\+=) ?(.*)$")
-PATTERN_MACRO = re.compile(
-    r"(?m)^(\S.*?) :\n# (.*)\(from '(.*)', line (\d+)\)\n# (?:private )?([^\s#:=+?!]+)"
-    r" (?:=|::?:?=|\+=)"
-)
+FROM = r"from '(.*)', line (\d+)"
+RECIPE = re.compile(rf"#  recipe to execute \((?:{FROM}|built-in)\):")
+PLACE = re.compile(rf"# .*\({FROM}\)$")
+# The name of a macro, and the operator that sets it.
+SET = r"([^\s#:=+?!]+) (?:=|::?:?=|\+=)"
+MACRO = re.compile(rf"(?m)^{SET} ?(.*)$")
+PATTERN_MACRO = re.compile(rf"(?m)^(\S.*?) :\n# (.*)\({FROM}\)\n# (?:private )?{SET}")
 VARYING = re.compile(r"\$(\?|[({]\?[DF]?[:)}])")
+# A word of a recipe or a makefile that may be the name of a macro.
+WORD = re.compile(r"[\w.+-]+")
+# A reference to a macro whose name is computed.
+COMPUTED_NAME = r"\$[({][^(){}\s,]*\$"
 NOTHING = re.compile(r"[\s@+-]*(?::|true)?\s*")
 DEFINED = re.compile(r"(?ms)^define (\S+)[^\n]*\n(.*?)^endef$")
-TARGET_MACRO = re.compile(r"(?:private )?([^\s#:=+?!]+) (?:=|::?:?=|\+=) ?(.*)")
+TARGET_MACRO = re.compile(rf"(?:private )?{SET} ?(.*)")
 
 
 @dataclass
@@ -180,7 +186,7 @@ def joined_lines(lines: list[str]) -> list[str]:
     """The lines of a recipe, each with those that continue it."""
     found: list[str] = []
     for line in lines:
-        if found and (len(found[-1]) - len(found[-1].rstrip("\\"))) % 2 == 1:
+        if found and goes_on(found[-1]):
             found[-1] += "\n" + line
         else:
             found.append(line)

@@ -41,19 +41,23 @@ class Footprints:
         return found
 
 
-def read_footprints(path: str) -> Footprints:
-    """The footprints in a file of format 1 or 2; of the latter its only group."""
+def read_footprints(path: str, goals: list[str] | None = None) -> Footprints:
+    """The footprints in a file of format 1 or 2; of the latter the first group, or that of these
+    goals."""
     try:
         values = json.loads(Path(path).read_text(encoding="utf-8"))
         lists = values.get("lists", {})
-        records = values["records"] if values["format"] == 1 else values["groups"][0]["records"]
+        groups = [values] if values["format"] == 1 else values["groups"]
+        if goals is not None and values["format"] != 1:
+            groups = [group for group in groups if group["goals"] == goals]
+        records = groups[0]["records"]
         found = Footprints(values["fixed"], values["sources"])
         for value in records:
             shared = [name for word in value.get("shared", []) for name in lists[word]]
             reads = list(dict.fromkeys([*value["reads"], *shared]))
             record = Record(value["target"], value["commands"], reads, value["writes"])
             found.records[record.target] = record
-    except (OSError, ValueError, KeyError, TypeError, IndexError) as error:
+    except (OSError, ValueError, LookupError, TypeError, AttributeError) as error:
         raise Fault(f"{path} can't be read as footprints: {error}") from None
     return found
 

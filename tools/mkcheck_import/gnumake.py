@@ -197,10 +197,10 @@ def run_make(
     """Runs make in a folder of the place, and gives it and all makes that it started, in the order
     of their starts.
 
-    With `is_real` the build is made, else the commands are only shown, as by `-n`. `scratch` is a
-    folder of its own. Of `watched` macros the values for each target are told with its commands.
-    `more` are further variables of the environment. `Fault` is raised where make can't be started,
-    or doesn't end in so many seconds.
+    With `is_real` make builds, else it only shows commands (`-n`). `scratch` is a folder that this
+    function empties and uses. The commands of each target come with the values that the macros
+    `watched` have for it. `more` are further variables of the environment. Raises `Fault` where
+    make can't be started, or doesn't end in `seconds`.
     """
     shutil.rmtree(scratch, ignore_errors=True)
     os.makedirs(scratch)

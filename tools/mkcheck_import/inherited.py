@@ -10,12 +10,12 @@ import re
 from collections.abc import Iterable
 from dataclasses import dataclass
 
-from .database import Database, Rule
+from .builds import serial_order
+from .database import COMPUTED_NAME, WORD, Database, Rule
 from .gnumake import Make
 
-WORD = re.compile(r"[\w.+-]+")
-# A name of a macro that is worked out: it can be that of any macro.
-COMPUTED = re.compile(r"\$[({][^(){}\s,]*\$|\$[({](?:call|value|eval)\s+\$")
+# A use of a macro whose name is computed: it may be any macro.
+COMPUTED = re.compile(rf"{COMPUTED_NAME}|\$[({{](?:call|value|eval)\s+\$")
 
 
 @dataclass
@@ -82,20 +82,9 @@ def needs_of(base: Database, name: str) -> list[str]:
 
 
 def reached(base: Database, names: Iterable[str], without: set[str] = frozenset()) -> list[str]:
-    """All that these files need, and they themselves, each after what it needs; not what only files
-    of `without` need."""
-    seen = set(without)
-    found: list[str] = []
-    stack = [(name, False) for name in reversed(list(names))]
-    while stack:
-        name, is_done = stack.pop()
-        if is_done:
-            found.append(name)
-        elif name not in seen:
-            seen.add(name)
-            stack.append((name, True))
-            stack += [(word, False) for word in reversed(needs_of(base, name))]
-    return found
+    """These files and all that they need, each after what it needs; not the files of `without` and
+    what only they need."""
+    return serial_order(names, lambda name: needs_of(base, name), without)
 
 
 def mentioned(base: Database, rules: list[Rule]) -> set[str]:

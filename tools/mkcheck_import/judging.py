@@ -20,10 +20,10 @@ from .plain import Names, goal_of, makefile, names_of
 
 FIRST = "makefile.first"
 LATER = "makefile"
-# What orders recipes in the first build and in later ones; only asked for races.
+# A makefile with the prerequisites that both the first build and later ones have. Only races count.
 BETWEEN = "makefile.between"
 NODES_AT_MOST = 4096
-# How far a recorder is.
+# The front of the recorder's lines of progress.
 PROGRESS = re.compile(r"\[(?:\w+ )?\d+/\d+(?: [\d:]+ left)?\] ")
 
 

@@ -37,8 +37,9 @@ def add_later(translation: Translation, makes: list[Make], written: set[str]) ->
                 " in the next one, so when it runs isn't judged; let the recipe start it always"
             )
     count = 0
+    views = {view.number: view for view in translation.views.values()}
     for (number, text), name in list(translation.visited.items()):
-        view = next(view for view in translation.views.values() if view.number == number)
+        view = views[number]
         rules = after.get(view.make.key, {}).get(text)
         node = translation.build.nodes.get(name)
         if rules is None or node is None or is_special(text) or name in translation.build.given:
@@ -58,7 +59,7 @@ def compare(translation: Translation, view: View, node: Node, first: Rule, later
     now = {translation.path(view, word) for word in [*later.needs, *later.order_only]}
     count = 0
     leader = translation.leader(view, first.name)
-    # A file that another target's recipe makes too has that recipe of its own after a build.
+    # Where one recipe makes several targets, make gives it to each of them after a build.
     known_recipes = [first.recipe, *(rule.recipe for rule in view.rules.get(leader or "", []))]
     is_known = first.is_done and (first.recipe is not None or not first.ran)
     if is_known and later.is_done and later.recipe not in known_recipes:

@@ -1,7 +1,7 @@
-"""Recipes that ran, and left a file as it was that was there before the build.
+"""Recipes that ran in the build and left their target as it was before it.
 
-Automake's `config.h: stamp-h1` is one: it only makes the file where it is missing. Such a file is
-taken as it is, as one for which make had nothing to do.
+Automake's `config.h: stamp-h1` is one: it makes the file only if that is missing. Such a target is
+taken as it is, as if make had nothing to do for it.
 """
 
 from __future__ import annotations
@@ -25,7 +25,7 @@ def times_in(folder: str) -> dict[str, int]:
 def leave_alone(
     root: str, makes: list[Make], before: dict[str, int], after: dict[str, int]
 ) -> None:
-    """Lets the recipes that left their file as it was count as not run.
+    """Marks recipes that left their target as it was as not run.
 
     `before` and `after` have the times of all files before and after a build of these makes.
     """

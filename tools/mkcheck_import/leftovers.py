@@ -88,14 +88,17 @@ class Leftovers:
 
     def find_dependencies(self, folder: str, makes: list[Make]) -> None:
         """Finds dependency files in a folder that name prerequisites before any recipe has run."""
+        found: dict[str, None] = {}
         for make in makes:
             for text in make.makefiles:
                 name = path_name(self.copies.seen, make.folder, text)
                 is_made = any(rule.has_recipe for rule in make.base.rules.get(text, []))
-                path = os.path.join(folder, name)
-                is_there = name in self.there and name not in self.copies.hidden
-                if is_there and not is_made and is_dependency_file(path) and has_rule(path):
-                    self.dependencies.add(name)
+                if name in self.there and name not in self.copies.hidden and not is_made:
+                    found.setdefault(name)
+        paths = {name: os.path.join(folder, name) for name in found}
+        self.dependencies |= {
+            name for name, path in paths.items() if is_dependency_file(path) and has_rule(path)
+        }
 
     def name(self, build: Build, times: dict[str, int], keep: bool) -> None:
         """Names what was hidden, and targets of which it isn't known whose they are. With `keep`

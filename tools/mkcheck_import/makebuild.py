@@ -111,12 +111,12 @@ class MakeBuild:
         more: dict[str, str] | None = None,
         seconds: float | None = None,
     ) -> list[Make]:
-        """Runs make in a copy, with its own words or with others, and perhaps in another folder of
-        it, with further variables of the environment. With a limit of seconds it can change nothing
-        but the copy."""
+        """Runs make in a copy. `words`, if given, replace its own words, and `folder` the folder in
+        which it starts; `more` are further variables of the environment. With `seconds`, a limit of
+        its time, make can change nothing but the copy."""
         place = self.copies.place(word)
         if seconds is not None:
-            place, more = Confined(place.folder, place.seen, (self.scratch,)), OWN
+            place, more = Confined(place.folder, place.seen, own=(self.scratch,)), OWN
         folder = folder or os.path.normpath(os.path.join(place.seen, self.folder))
         words = self.words if words is None else words
         how = is_real, self.watched, more, seconds
@@ -207,7 +207,7 @@ class MakeBuild:
         self.readings = Readings(self.copies, makefiles, self.read_made, self.ask_about)
         top = os.path.normpath(os.path.join(self.copies.seen, self.folder))
         if self.read_again:
-            # Of a file that is made from an output nothing is known when it comes out alike once.
+            # A file that is made from an output may be the same this time and not the next.
             place = self.copies.place("built")
             if self.readings.outputs_used(self.program, place, top, self.words, made):
                 self.read_again.clear()
@@ -236,8 +236,9 @@ class MakeBuild:
             self.asking.name_unseen(make, self.exported_by(make, place.folder))
 
     def find_read_again(self, folder: str, times: dict[str, int]) -> None:
-        """Finds the files that each reading of the makefiles makes anew, and alike. `folder` holds
-        them after a build, and `times` are those before its last make."""
+        """Finds the files that make writes anew, with the same contents, each time it reads its
+        makefiles. `folder` is the copy after the build, and `times` are those before its last make.
+        """
         kept = self.copies.kept("read")
         for name in self.read_made:
             is_new = times.get(name) != self.after_times.get(name)
@@ -245,15 +246,17 @@ class MakeBuild:
                 self.read_again.add(name)
 
     def find_makefiles(self, folder: str) -> None:
-        """Finds the makefiles that hold prerequisites alone, and those others that aren't made anew
-        by the make that reads them. `folder` holds them after a build."""
+        """Finds the makefiles with nothing but prerequisites, and of the others those that the make
+        which reads them doesn't remake. `folder` is the copy after the build."""
+        others: set[str] = set()
         for make in [*self.shown, *self.built, *self.after]:
             for text in make.makefiles:
                 name = path_name(self.copies.seen, make.folder, text)
+                if name not in others and name not in self.dependency_files:
+                    is_one = is_dependency_file(os.path.join(folder, name))
+                    (self.dependency_files if is_one else others).add(name)
                 is_remade = any(rule.has_recipe for rule in make.base.rules.get(text, []))
-                if is_dependency_file(os.path.join(folder, name)):
-                    self.dependency_files.add(name)
-                elif not is_remade:
+                if name in others and not is_remade:
                     self.makefiles.add(name)
 
     def name_changes(self, build: Build, makes: list[Make]) -> None:
@@ -381,10 +384,10 @@ def is_front(text: str, whole: str) -> bool:
 
 
 def take_unseen(built: list[Make], shown: list[Make]) -> None:
-    """Adds to a real build the recipes that only `make -n` shows, as what they make was there
-    already.
+    """Adds to a real build the recipes that only `make -n` shows, since their targets were there.
 
-    Where recipes are one command each, the text is that of `make -n` too, if it is known.
+    With `.ONESHELL` the texts of `make -n` replace those of the build, behind which output may
+    stand.
     """
     known, done = ran(shown), ran(built)
     for make in built:

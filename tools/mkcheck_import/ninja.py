@@ -13,10 +13,10 @@ from .builds import Build, Command, Kind, Node, Origin, Setting, path_name
 from .ninja_files import Edge, Manifest, canonical, read_manifest
 from .ninja_inputs import Inputs, Resolver
 from .ninja_text import NinjaFault
+from .plain import LINE_AT_MOST
 
 MANIFEST = "build.ninja"
 ALWAYS = "always@ninja"
-LONGEST_COMMAND = 60000
 
 
 class NinjaBuild:
@@ -258,9 +258,9 @@ class NinjaBuild:
         if edge.value("generator"):
             self.build.note(f"{where} has `generator`: it is taken as any other build line")
         for command in node.commands:
-            if len(command.text.encode("utf-8", "surrogateescape")) > LONGEST_COMMAND:
+            if len(command.text.encode("utf-8", "surrogateescape")) > LINE_AT_MOST:
                 self.build.problem(
-                    f"the command of {where} has over {LONGEST_COMMAND} bytes, more than mkcheck"
+                    f"the command of {where} has over {LINE_AT_MOST} bytes, more than mkcheck"
                     " takes in a line: let it read a response file"
                 )
 

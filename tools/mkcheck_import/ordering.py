@@ -15,9 +15,7 @@ class Order:
         self.below: dict[str, int] = {}
         """Each node with all that it reaches."""
         for name in names:
-            node = build.nodes.get(name)
-            needs = node.prerequisites(later=False) if node is not None and node.has_rule else []
-            self.below[name] = self.bit[name] | self.union(needs)
+            self.below[name] = self.bit[name] | self.union(build.needs(name, later=False))
         self.before: dict[str, int] = {name: 0 for name in build.goals}
         """For each node what is done when it is first wanted, whoever wants it."""
         for name in reversed(names):
@@ -51,9 +49,7 @@ class Order:
 
     def done_before(self, name: str) -> int:
         """What is done when the recipe of a node begins."""
-        node = self.build.nodes.get(name)
-        needs = node.prerequisites(later=False) if node is not None and node.has_rule else []
-        return self.before.get(name, 0) | self.union(needs)
+        return self.before.get(name, 0) | self.union(self.build.needs(name, later=False))
 
     def is_before(self, earlier: str, later: str) -> bool:
         """Whether one recipe is always done when another one begins."""

@@ -6,14 +6,17 @@ import re
 import shlex
 from dataclasses import dataclass
 
+from mkcheck_record.folders import NAME_AT_MOST
+from mkcheck_record.graphs import goes_on
+
 from .builds import Build, Command, Kind, Node, Setting
 
 # What a name of a makefile can't hold.
 UNWRITABLE = re.compile(r"[\x00-\x20\x7f%*?\[\]:;=#$\\\"'`|&<>()]")
 # A name that POSIX keeps for special targets.
 SPECIAL = re.compile(r"\.[A-Z_]{3,}")
+# mkcheck refuses lines of over 65,536 bytes. The rest is for what is put before a command.
 LINE_AT_MOST = 60000
-NAME_AT_MOST = 4096
 USUAL_SHELLS = (("/bin/sh", "-c"), ("sh", "-c"), ("/usr/bin/sh", "-c"))
 STRICT_SHELLS = tuple((words[0], flags) for words in USUAL_SHELLS for flags in ("-ec", "-ce"))
 # What may stand in a command that one simple command is, so that `-e` changes nothing.
@@ -203,11 +206,6 @@ def is_one_line(text: str) -> bool:
     go on."""
     *lines, last = text.split("\n")
     return all(map(goes_on, lines)) and not goes_on(last)
-
-
-def goes_on(line: str) -> bool:
-    """Whether a line ends in a backslash that nothing escapes."""
-    return (len(line) - len(line.rstrip("\\"))) % 2 == 1
 
 
 def quoted(text: str) -> str:

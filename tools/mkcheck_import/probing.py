@@ -1,8 +1,7 @@
-"""Recipes whose outputs depend on whether a folder is there, which another recipe makes, or on the
-names in it.
+"""Recipes that write something else if another recipe's folder is missing or has other names in it.
 
-Footprints name files and no folders. Where what makes the folder runs again, and a recipe that
-looks at it doesn't, that recipe's outputs stay old.
+Footprints name files and no folders. So `check` doesn't see it when the recipe that makes the
+folder runs again, and the one that looks at the folder doesn't and keeps its old outputs.
 """
 
 from __future__ import annotations
@@ -24,7 +23,7 @@ from .readings import followed
 
 BETWEEN_WORDS = re.compile(r"[\s;&|()<>\"'`=:{}\[\]]+")
 SCRIPT_AT_MOST = 1 << 20
-# So many recipes are tried, each by two runs.
+# How many recipes are tried at most, each by two runs.
 TRIED_AT_MOST = 40
 ASIDE = "mkcheck-aside"
 
@@ -98,8 +97,8 @@ class Probing:
             )
 
     def met(self, node: Node, record: Record) -> list[str]:
-        """The folders that a recipe names or looks at, where it uses no file in them, and doesn't
-        always run when their makers do."""
+        """The folders that may matter to a recipe: it names them or looks at them, uses no file in
+        them, and doesn't always run when the recipes do that make them."""
         used = [*record.reads, *record.writes]
         words, looked = self.words_of(node, record), self.build.looked.get(record.target, [])
         found = []
@@ -150,10 +149,11 @@ class Probing:
         )
 
     def tried(self, node: Node, record: Record, folders: list[str]) -> str:
-        """The first file that a recipe writes otherwise without folders, or with one more file in
-        each; empty where there is none, or where it fails then, which nobody overlooks.
+        """Runs a recipe without these folders, and with one more file in each. Gives the first file
+        that it then writes with other contents; empty if there is none, or if the recipe fails
+        then, since nobody overlooks that.
 
-        Where it fails over what it wrote before, as `ln -s` does, it is tried without that.
+        A recipe that can't run over its own outputs, as `ln -s`, is run without them.
         """
         assert self.built is not None
         writes = [os.path.join(self.built.folder, name) for name in record.writes]

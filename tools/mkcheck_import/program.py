@@ -6,7 +6,8 @@ import argparse
 import os
 import sys
 
-from mkcheck_record.faults import Fault
+from mkcheck_record import VERSION
+from mkcheck_record.faults import Fault, sentence_of
 from mkcheck_record.folders import scratch_folder
 from mkcheck_record.stopping import Stopped, catch_signals
 
@@ -27,7 +28,7 @@ STATUS = (
 def words_of(arguments: list[str]) -> argparse.Namespace:
     """What is asked for."""
     parser = argparse.ArgumentParser(prog="mkcheck-import", description=ABOUT, epilog=STATUS)
-    parser.add_argument("--version", action="version", version="%(prog)s 0.2.0")
+    parser.add_argument("--version", action="version", version=f"%(prog)s {VERSION}")
     add = parser.add_argument
     add("--from", dest="tool", choices=("make", "ninja"), help="the build tool; else it is guessed")
     add("-C", metavar="DIR", default=".", help="the folder of the project; without it this one")
@@ -65,10 +66,8 @@ def main(arguments: list[str]) -> int:
             return imported(asked, scratch)
     except RecordingFault as fault:
         print(f"mkcheck-import: the recording failed:\n{str(fault).rstrip()}", file=sys.stderr)
-    except Fault as fault:
-        print(f"mkcheck-import: {fault}", file=sys.stderr)
-    except OSError as error:
-        print(f"mkcheck-import: {error}", file=sys.stderr)
+    except Exception as error:
+        print(f"mkcheck-import: {sentence_of(error, 'importer')}", file=sys.stderr)
     except Stopped as stopped:
         print(f"mkcheck-import: stopped by {stopped.name}", file=sys.stderr)
         return stopped.status

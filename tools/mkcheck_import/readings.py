@@ -7,7 +7,6 @@ so a target whose commands change has to need such a file.
 from __future__ import annotations
 
 import os
-import re
 from collections.abc import Callable
 from dataclasses import dataclass, field
 
@@ -18,14 +17,13 @@ from mkcheck_record.faults import Fault
 from mkcheck_record.places import Place
 from mkcheck_record.trees import Tree
 
-from .builds import Build, Kind, path_name
+from .builds import Build, Kind, is_foreign, path_name
 from .copies import Copies
 from .database import Rule
 from .gnumake import Make, outer_environment, own_environment
 from .rereading import changed, other_needs, place_of
 from .trying import Trial
 
-SKIPPED = re.compile(r"(.*/)?\.(git|hg|svn|mkcheck)/")
 TRIED_AT_MOST = 24
 LONGEST = 1 << 20
 UNKNOWN = "whether commands depend on files that make reads beside its makefiles isn't known"
@@ -33,12 +31,16 @@ UNKNOWN = "whether commands depend on files that make reads beside its makefiles
 
 @dataclass
 class Reader(Follower):
-    """Follows what make does when it reads its makefiles. `programs` are those that it starts,
-    `links` those to folders whose text is read, and `looked` the names at which programs look."""
+    """Follows what make does when it reads its makefiles."""
 
     programs: set[str] = field(default_factory=set)
+    """The programs that it starts."""
+
     links: dict[str, None] = field(default_factory=dict)
+    """The links to folders whose texts are read."""
+
     looked: set[str] = field(default_factory=set)
+    """The names at which the programs look that it starts."""
 
     def started(self, call: Call, name: str) -> None:
         """A program is started."""
@@ -61,14 +63,18 @@ class Reader(Follower):
 
 @dataclass
 class Readings:
-    """Tries whether commands depend on such files, in a copy. `run` asks make there, and is told
-    whether that is to be confined. `makefiles` has the names of all that makes read as their
-    makefiles, and `written` the files that they write then."""
+    """Tries in a copy whether commands depend on such files."""
 
     copies: Copies
     makefiles: set[str]
+    """The names of all that makes read as their makefiles."""
+
     written: set[str]
+    """The files that makes write when they read their makefiles."""
+
     run: Callable[[bool], list[Make]]
+    """Asks make in the copy; the argument says whether make is to be confined."""
+
     found: list[tuple[Make, Rule, str, str]] = field(default_factory=list)
     """The rules whose commands are others when a file says something else: the make, the rule, what
     differs and the file."""
@@ -95,8 +101,8 @@ class Readings:
         more: dict[str, str],
         looking: bool = False,
     ) -> Reader:
-        """Lets a make read its makefiles in a place, and follows it. `more` are further variables
-        of its environment, and `looking` says whether it is followed at which names it looks."""
+        """Lets a make read its makefiles in a place, and traces it. `more` are further variables of
+        its environment; with `looking` the trace has the names at which it looks too."""
         scratch = os.path.join(self.copies.scratch, "traced")
         os.makedirs(scratch, exist_ok=True)
         enter = 'cd "$1" && shift && exec "$@"'
@@ -117,14 +123,14 @@ class Readings:
         paths = [path for path in reader.accesses.reads if path not in reader.programs]
         names = dict.fromkeys(path_name(place.seen, place.seen, path) for path in paths)
         links = [path_name(place.seen, place.seen, path) for path in reader.links]
-        links = [name for name in links if name not in names and not SKIPPED.match(name)]
+        links = [name for name in links if name not in names and not is_foreign(name)]
         return [*(name for name in names if self.is_data(place, name)), *links]
 
     def outputs_used(
         self, program: str, place: Place, folder: str, words: list[str], made: set[str]
     ) -> set[str]:
-        """The files among `made` that a make reads in a place beside its makefiles, or that
-        programs look at which it starts then."""
+        """Those of the files `made` that a make reads beside its makefiles, or at which a program
+        looks that it starts when it reads them."""
         try:
             reader = self.follow(program, place, folder, words, {}, looking=True)
         except Fault as fault:
@@ -160,8 +166,8 @@ class Readings:
                 self.try_one(trial, name)
 
     def name_unseen(self, program: str, place: Place, makes: list[Make], words: list[str]) -> None:
-        """Names what other makes read that `make -n` doesn't start, in a place where all that they
-        make is out of date. `words` are macros for them."""
+        """Names the files that makes read beside their makefiles, for makes that `make -n` doesn't
+        start. In this place all that they make is out of date; `words` are macros for them."""
         for make in makes:
             own = [*make.words, *words]
             try:
@@ -183,7 +189,7 @@ class Readings:
         """Whether a name is that of a file of the project."""
         return (
             not name.startswith("/")
-            and SKIPPED.match(name) is None
+            and not is_foreign(name)
             and os.path.isfile(os.path.join(place.folder, name))
         )
 

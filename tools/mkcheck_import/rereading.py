@@ -5,6 +5,7 @@ The commands of a recipe are to be the same each time, since one footprint stand
 
 from __future__ import annotations
 
+import functools
 import os
 import re
 import time
@@ -14,7 +15,7 @@ from .builds import path_name
 from .database import Rule
 from .gnumake import Make
 
-# So much older are files that another make of the build makes, in nanoseconds.
+# By how many nanoseconds files that the build made are older than sources.
 OLDER = 1_000_000
 # A time that is older than that of any file of a project.
 OLD = 1
@@ -25,38 +26,43 @@ def touch_sources(root: str, folder: str, makes: list[Make], made: set[str]) -> 
     """Gives a new time to all files in a folder that targets need and that no rule makes.
 
     `root` is the path at which the makes saw the folder, and `made` has the files that the build
-    made: these are older than sources, and newer than all else. What makefiles are made anew from
-    stays as it is, but for dependency files. A target that needs nothing else gets an old time.
+    made: these are older than sources, and newer than all else. What a makefile is remade from
+    keeps its time, unless that makefile is a dependency file. A target that needs nothing which was
+    touched gets an old time.
     """
     left = {name for make in makes for name in for_makefiles(root, folder, make)}
     names: dict[str, None] = {}
     for make in makes:
-        for rules in make.base.rules.values():
-            for word in (word for rule in rules for word in rule.needs):
-                if not any(is_made(rule) for rule in make.base.rules.get(word, [])):
-                    names.setdefault(path_name(root, make.folder, word))
+        rules = (rule for rules in make.base.rules.values() for rule in rules)
+        for word in dict.fromkeys(word for rule in rules for word in rule.needs):
+            if not any(is_made(rule) for rule in make.base.rules.get(word, [])):
+                names.setdefault(path_name(root, make.folder, word))
+
+    @functools.cache
+    def is_real(path: str) -> bool:
+        return os.path.realpath(path) == path
+
+    def is_inside(name: str) -> bool:
+        """Whether a name is that of a file in the folder, which no link leads to."""
+        path = os.path.join(folder, name)
+        is_own = not name.startswith("/") and is_real(os.path.dirname(path))
+        return is_own and not os.path.islink(path) and os.path.isfile(path)
+
     now = time.time_ns()
-    touched = {name for name in names if name not in left and is_inside(folder, name)}
+    touched = {name for name in names if name not in left and is_inside(name)}
     for name in touched:
         stamp = now - OLDER if name in made else now
         os.utime(os.path.join(folder, name), ns=(stamp, stamp))
     left.update(path_name(root, make.folder, text) for make in makes for text in make.makefiles)
     for make in makes:
         for name in untouched(root, make, touched):
-            if name not in left and is_inside(folder, name):
+            if name not in left and is_inside(name):
                 os.utime(os.path.join(folder, name), (OLD, OLD))
 
 
-def is_inside(folder: str, name: str) -> bool:
-    """Whether a name is that of a file in a folder, which no link leads to."""
-    path = os.path.join(folder, name)
-    inside = not name.startswith("/") and os.path.realpath(path) == path
-    return inside and os.path.isfile(path)
-
-
 def untouched(root: str, make: Make, touched: set[str]) -> list[str]:
-    """The files that a make made, that need something, and that nothing makes out of date when
-    these files are touched."""
+    """The files that a make made from prerequisites, and that stay up to date when the files
+    `touched` get new times."""
     users: dict[str, list[str]] = {}
     for name, rules in make.base.rules.items():
         for word in (word for rule in rules for word in rule.needs):
@@ -159,8 +165,8 @@ def difference(used: list[Rule], asked: list[Rule], one_shell: bool = False) -> 
 
 
 def other_needs(used: list[Make], asked: list[Make]) -> list[tuple[Make, Rule, str]]:
-    """The rules that have the same commands and other prerequisites in makes that were asked again:
-    what `changed` gives of others."""
+    """The rules with the same commands and other prerequisites in makes that were asked again: the
+    make, the rule, and the prerequisites that differ."""
     known = {make.key: make for make in reversed(used)}
     found = []
     for make in asked:

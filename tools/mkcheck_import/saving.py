@@ -24,11 +24,13 @@ SETS = (
 
 def text_of_build(build: Build) -> str:
     """The text of a build."""
-    return json.dumps({"format": FORMAT, "build": dataclasses.asdict(build)}, default=plain_value)
+    return json.dumps({"format": FORMAT, "build": build}, default=plain_value)
 
 
 def plain_value(value: object) -> object:
     """The form of what JSON lacks."""
+    if dataclasses.is_dataclass(value):
+        return {one.name: getattr(value, one.name) for one in dataclasses.fields(value)}
     return value.value if isinstance(value, Kind) else sorted(value)  # type: ignore[call-overload]
 
 

@@ -11,7 +11,7 @@ from .ordering import Order
 
 
 class Settling:
-    """Settles the nodes of a build by its footprints, which are changed too.
+    """Changes the nodes of a build, and its footprints, to what the recording shows.
 
     `before` has the files and folders that are there before the build.
     """
@@ -151,10 +151,8 @@ class Settling:
         )
 
     def settle_order(self) -> None:
-        """Targets that the tool doesn't look at again, though a recipe writes them meanwhile.
-
-        What needs them waits, and isn't out of date by them.
-        """
+        """Makes targets order-only that the tool doesn't look at again when another recipe has
+        written them: what needs them waits for that recipe, and isn't out of date by them."""
         blind = {
             name
             for name, node in self.build.nodes.items()
@@ -175,11 +173,8 @@ class Settling:
                 node.order_only += [name for name in met if name not in node.order_only]
 
     def settle_between_makes(self) -> None:
-        """Files without a rule that a recipe of another make writes, which is done before it is
-        needed.
-
-        Each make looks at files when it begins, so they are as good as targets that need that
-        recipe.
+        """Lets a file without a rule need the recipes that write it, if these are of other makes
+        and always done before the file is needed: each make looks at such a file when it begins.
         """
         needed: dict[str, list[Node]] = {}
         for node in self.build.nodes.values():

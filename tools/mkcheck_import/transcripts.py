@@ -10,13 +10,13 @@ from .plain import goes_on
 
 MARK = "@@mkcheck-import@@"
 FIELDS = ("$@", "$%", "$(SHELL)", "$(.SHELLFLAGS)", "$(origin .SHELLFLAGS)")
-# What make itself prints between a mark and a command, or in its place.
+# Lines of make itself, which may stand between a mark and its command, or in place of the command.
 TALK = re.compile(r"(?:[\w./-]*make(?:\[\d+\])?: |# GNU Make \d|# Make data base, printed on )")
 TRACE = re.compile(
     r"(?:\S+:\d+|<builtin>): (?:update target '.*' due to: |target '.*' does not exist)"
 )
 
-# How deep a make is below others, as each data base tells.
+# The macro in a data base that tells how many makes are above this one.
 LEVEL = re.compile(r"^MAKELEVEL := (\d+)$", re.MULTILINE)
 
 

@@ -69,7 +69,7 @@ class Translation(Commands):
         handed: dict[str, list[str]] = {}
         for name in self.reached_from(list(given)):
             node = self.build.nodes.get(name)
-            needs = node.prerequisites(later=False) if node is not None and node.has_rule else []
+            needs = self.build.needs(name, later=False)
             is_run = any(runs.get(word, False) for word in needs)
             runs[name] = is_run or bool(node and node.commands)
             if node is not None and name in given:

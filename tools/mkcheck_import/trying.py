@@ -11,18 +11,18 @@ from pathlib import Path
 
 from mkcheck_record.faults import Fault
 
+from .database import COMPUTED_NAME, WORD
 from .gnumake import Make, content
 
-WORD = re.compile(r"[\w.+-]+")
 # A line of a makefile that may compare the value of a macro. Functions that hand on what they don't
 # know, as `subst` does, don't hide it.
 DIRECTIVE = re.compile(r"\s*(?:else\s+)?(ifn?eq|ifn?def|[-s]?include)\b(.*)")
 FUNCTION = re.compile(
     r"\$[({](?:if|or|and|filter|findstring|word|wordlist|wildcard|call|value|eval|shell|file)\s"
-    r"|\$[({][^(){}\s,]*\$"
+    rf"|{COMPUTED_NAME}"
 )
 REFERENCE = re.compile(r"\$(?:[({]([\w.+-]+)[)}:]|(\w))")
-# A comparison with nothing.
+# The operands of a condition that compares something with an empty text.
 WITH_NOTHING = re.compile(r"\s*(?:\(,.*\)|\(.*,\s*\)|\"\"\s.*|''\s.*|.*\s(?:\"\"|''))\s*(?:#.*)?$")
 WORDS_AT_MOST = 2000
 
@@ -112,8 +112,11 @@ class Trial:
         )
 
     def conditional(self, asked: list[Said]) -> str:
-        """Where a makefile compares a macro that has other values with some contents; empty where
-        none does. That a macro may be empty was tried where it was."""
+        """The place in a makefile where a condition depends on a macro whose value varies with the
+        contents that were tried; empty if there is none.
+
+        A condition that only asks whether the macro is empty doesn't count, if it was empty once.
+        """
         values = [macros(said.makes) for said in [*self.before, *asked]]
         first = values[0]
         steady = {name for name in first if first[name] == values[1].get(name)}
@@ -177,8 +180,8 @@ def known(makes: list[Make]) -> dict[tuple[object, ...], object]:
 
 
 def others(text: bytes, words: list[str], is_confined: bool) -> Iterator[bytes]:
-    """Other contents of a file: with other digits, with one line less, with longer words, with
-    these words in a comment, and nothing, where make is confined."""
+    """Other contents of a file, one after another: other digits; without the last line; a letter
+    after each word; `words` in a comment; and none, if make is confined."""
     if re.search(rb"\d", text):
         yield re.sub(rb"\d", lambda found: b"%d" % ((int(found.group()) + 1) % 10), text)
     lines = text.splitlines(keepends=True)
