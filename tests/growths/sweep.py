@@ -208,6 +208,25 @@ EXAMPLES = {
         1,
         "no plan\n",
     ),
+    "findings in words": (
+        {"makefile": BOTH_RULES, "B": BOTH},
+        ["check", "-w", "-b", "B"],
+        1,
+        "makefile:2: a reads b, but doesn't wait for it: with several jobs it may be missing, old or"
+        " half-written then [race]\n  add: a: b\n"
+        "makefile:4: b reads a, but doesn't wait for it: with several jobs it may be missing, old or"
+        " half-written then [race]\n  add: b: a\n"
+        "makefile:2: a reads b, but doesn't depend on it: when it changes, a stays old [stale]\n"
+        "  add: a: b\n"
+        "makefile:4: b reads a, but doesn't depend on it: when it changes, b stays old [stale]\n"
+        "  add: b: a\n",
+    ),
+    "a refusal in words": (
+        {"makefile": "x\n", "B": BOTH},
+        ["check", "-w", "-b", "B"],
+        2,
+        "makefile:1: NotALine (25): the line is no rule, macro or include; rewrite it\n",
+    ),
     "a mended makefile": (
         {"makefile": TRIED_RULES, "B": TRIED},
         ["repair", "-b", "B"],
@@ -257,8 +276,8 @@ EXAMPLES = {
 
 
 # Those of the gate: a graph, includes at their limit, a plan that is refused, a yes, a certificate,
-# a race, plans that show what was found, lines that mend a makefile in two rounds, and a certificate
-# that is judged.
+# a race, plans that show what was found, findings and a refusal in words, lines that mend a makefile
+# in two rounds, and a certificate that is judged.
 GATE = [
     "plain rules",
     "includes to the last level",
@@ -270,6 +289,8 @@ GATE = [
     "a race",
     "a yes of a file that is written beside another",
     "a plan of a stale read",
+    "findings in words",
+    "a refusal in words",
     "a mended makefile",
     "a yes verified",
 ]

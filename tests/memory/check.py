@@ -1,7 +1,7 @@
 #!/usr/bin/env python3
-"""Sees where want of memory is answered.
+"""Sees where out of memory is answered.
 
-No contract can refuse a false want of memory, since each allows it in place of any answer. So the
+No contract can refuse a false out of memory, since each allows it in place of any answer. So the
 sources are read: an error of an allocator, and each `Memory` of a fault type, may be made only
 where one is handed on. That is in `from` of a fault type, or in the arm of a match whose pattern
 is such an error, or at one of the places below, each for its reason.
@@ -25,12 +25,12 @@ PLACES = {
         "Err(_) => ReadFault::Memory,",
     ): "the call has no other error",
     ("mk_read_parse/src/rules.rt", "Err(_) => ReadFault::Memory,"): "the call has no other error",
-    ("mk_infer/src/fault.rt", "InferFault::Memory"): "the pattern of the test for want of memory",
-    ("mk_read/src/fault.rt", "ReadFault::Memory"): "the pattern of the test for want of memory",
+    ("mk_infer/src/fault.rt", "InferFault::Memory"): "the pattern of the test for out of memory",
+    ("mk_read/src/fault.rt", "ReadFault::Memory"): "the pattern of the test for out of memory",
     (
         "mk_read_parse/src/reading.rt",
         "return ReadFault::Memory;",
-    ): "behind the test that the fault is want of memory",
+    ): "behind the test that the fault is out of memory",
     ("mk_foot/src/reading.rt", "return Err(FootFault::Memory);"): "the call has no other error",
     (
         "mk_cert_text/src/reading.rt",
@@ -39,20 +39,20 @@ PLACES = {
     (
         "mk_world/src/running.rt",
         "return Err(AllocError);",
-    ): "behind the test that the fault is want of memory",
+    ): "behind the test that the fault is out of memory",
     (
         "mk_world/src/world.rt",
         "return Err(AllocError);",
-    ): "behind the test that the fault is want of memory",
+    ): "behind the test that the fault is out of memory",
     (
         "mk_core_repair/src/rounds.rt",
         "return Err(Fault::Memory);",
-    ): "behind the test that the fault is want of memory",
+    ): "behind the test that the fault is out of memory",
     ("mkcheck_run/src/starting.rt", "Err(_) => Err(Stop::Memory),"): "the call has no other error",
     (
         "mkcheck_run/src/running.rt",
         "return Err(AllocError);",
-    ): "behind the test that the fault is want of memory",
+    ): "behind the test that the fault is out of memory",
 }
 
 MADE = re.compile(r"\b\w+::Memory\b|\(AllocError\)")
@@ -74,12 +74,12 @@ def inside_from(lines: list[str], at: int) -> bool:
 
 
 def is_ghost(line: str) -> bool:
-    """Whether the line speaks of want of memory in a contract, a type or a pattern alone."""
+    """Whether the line speaks of out of memory in a contract, a type or a pattern alone."""
     return "ghost" in line or "ensures" in line or "requires" in line or "≡" in line or "→" in line
 
 
 def is_handed_on(line: str) -> bool:
-    """Whether want of memory stands on both sides of an arm, or in its pattern alone."""
+    """Whether out of memory stands on both sides of an arm, or in its pattern alone."""
     if "=>" not in line:
         return line.lstrip().startswith("|") or line.rstrip().endswith("|")
     pattern, _, answer = line.partition("=>")
@@ -87,13 +87,13 @@ def is_handed_on(line: str) -> bool:
 
 
 def matched_before(lines: list[str], at: int) -> bool:
-    """Whether the arm that the line answers begins above it, with want of memory in its pattern."""
+    """Whether the arm that the line answers begins above it, with out of memory in its pattern."""
     above = [line for line in lines[max(0, at - 3) : at] if "=>" in line]
     return bool(above) and bool(PATTERN.search(above[-1]))
 
 
 def found(file: Path) -> list[tuple[int, str]]:
-    """The lines of a file at which want of memory is made for no such reason."""
+    """The lines of a file at which out of memory is made for no such reason."""
     name = str(file.relative_to(ROOT / "crates"))
     lines = code(file.read_text(encoding="utf-8"))
     wrong = []
@@ -116,7 +116,7 @@ def main() -> None:
     ]
     wrong = [(file, *place) for file in files for place in found(file)]
     for file, number, line in wrong:
-        print(f"{file.relative_to(ROOT)}:{number}: want of memory is made here: {line}")
+        print(f"{file.relative_to(ROOT)}:{number}: out of memory is made here: {line}")
     sys.exit(1 if wrong else 0)
 
 

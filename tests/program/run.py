@@ -17,6 +17,7 @@ from builds import builds
 from faults import faults
 from orders import orders
 from repairs import repairs
+from sentences import sentences
 
 HERE = Path(__file__).resolve().parent
 PROGRAM = HERE.parent.parent / "bin" / "mkcheck"
@@ -60,11 +61,15 @@ PLAN = (
 )
 HINT = "\n\nFor more information, try '--help'.\n"
 PROGRAM_USAGE = "\n\nUsage: mkcheck <COMMAND>" + HINT
-CHECK_USAGE = "\n\nUsage: mkcheck check [-f F] [-r] -b BOOK [-c] [-e N] [WORD]..." + HINT
+CHECK_USAGE = "\n\nUsage: mkcheck check [-f F] [-r] -b BOOK [-c] [-w] [-e N] [WORD]..." + HINT
+GRAPH_USAGE = "\n\nUsage: mkcheck graph [-f F] [-r] [-b BOOK] [-c] [WORD]..." + HINT
 REPAIR_USAGE = "\n\nUsage: mkcheck repair [-f F] [-r] -b BOOK [WORD]..." + HINT
 VERIFY_USAGE = "\n\nUsage: mkcheck verify [-f F] [-r] -b BOOK -k CERT [WORD]..." + HINT
 SIMULATE_USAGE = "\n\nUsage: mkcheck simulate [-f F] [-r] -b BOOK -p PLAN [WORD]..." + HINT
 NOTHING = "no finding and no fault is called {}; mkcheck explain lists all of them\n"
+AS_VALUE = (
+    "error: unexpected argument '{0}' found\n\n  tip: to pass '{0}' as a value, use '-- {0}'"
+)
 UNEXPECTED = "error: unexpected argument 'race' found\n\nUsage: mkcheck explain [WHAT]" + HINT
 MISSING = "error: the following required arguments were not provided:\n  "
 NO_TEXT = "error: a word of the command line is not UTF-8\n"
@@ -161,6 +166,9 @@ WORDS = [
     Run(["frob"], 2, err="error: unrecognized subcommand 'frob'" + PROGRAM_USAGE),
     Run(["-x"], 2, err="error: unexpected argument '-x' found" + PROGRAM_USAGE),
     Run(["check"], 2, err=MISSING + "-b <BOOK>" + CHECK_USAGE),
+    Run(["check", "-w"], 2, err=MISSING + "-b <BOOK>" + CHECK_USAGE),
+    Run(["check", "-w", "-b", "B", "-x"], 2, err=AS_VALUE.format("-x") + CHECK_USAGE),
+    Run(["graph", "-w"], 2, err=AS_VALUE.format("-w") + GRAPH_USAGE),
     Run(["repair"], 2, err=MISSING + "-b <BOOK>" + REPAIR_USAGE),
     Run(["verify", "-b", "B"], 2, err=MISSING + "-k <CERT>" + VERIFY_USAGE),
     Run(["simulate", "-b", "B"], 2, err=MISSING + "-p <PLAN>" + SIMULATE_USAGE),
@@ -189,6 +197,7 @@ PLACES = [
     Run(["graph", "-f", "/etc", "1+=2"], 2, "refused 11 operand:1\n"),
     Run(["graph", "-f", "/dev/stdin"], 0, GRAPH, stdin=RULES),
     Run(["check", "-b", "/dev/stdin"], 0, WAYS, stdin=RECORDS),
+    Run(["check", "-w", "-b", "/dev/stdin"], 0, WAYS, stdin=RECORDS),
     Run(["check", "-b", "/dev/stdin", "-e", "1"], 0, WAYS, stdin=RECORDS),
     Run(["check", "-b", "/dev/stdin", "-e", "1"], 1, PLAN, stdin=HEADER),
     Run(["check", "-b", "/dev/stdin", "-e", "1"], 1, "no plan\n", stdin=UNTOLD),
@@ -200,6 +209,8 @@ PLACES = [
     Run(["graph"], 2, err="write failed\n", sink="/dev/full"),
     Run(["check", "-b", "H"], 2, err="write failed\n", sink="/dev/full"),
     Run(["check", "-b", "N"], 2, err="write failed\n", sink="/dev/full"),
+    Run(["check", "-w", "-b", "H"], 2, err="write failed\n", sink="/dev/full"),
+    Run(["check", "-w", "-b", "N"], 2, err="write failed\n", sink="/dev/full"),
     Run(["repair", "-b", "H"], 2, err="write failed\n", sink="/dev/full"),
     Run(["repair", "-b", "U"], 2, err="write failed\n", sink="/dev/full"),
     Run(["--help"], 2, err="write failed\n", sink="/dev/full"),
@@ -328,7 +339,9 @@ def main() -> None:
     ran_of, wrong = 0, 0
     tables = (
         Run(words, status, out, files=files)
-        for words, status, out, files in chain(builds(), faults(), orders(), repairs())
+        for words, status, out, files in chain(
+            builds(), faults(), orders(), repairs(), sentences()
+        )
     )
     for run in chain(ANSWERS, WORDS, versions(program), PLACES, SIZES, tables):
         ran_of += 1

@@ -234,6 +234,8 @@ def book_for(model, names, valid):
 
 def case_of(rng, command):
     """A case of a command."""
+    if command == "words":
+        return case_in_words(rng)
     if command == "repair" and rng.random() < 0.85:
         return lacking_case(rng)
     share = {"graph": 0.0, "check": 0.75, "repair": 0.9, "verify": 0.9, "simulate": 0.9}[command]
@@ -275,6 +277,18 @@ def lacking_case(rng):
     if rng.random() < 0.01:
         broken_word(rng, project.files, words)
     return Case(project.files, mixed(rng, words, others))
+
+
+def case_in_words(rng):
+    """A case of `check -w`, over a build for `check` or one for `repair`."""
+    case = case_of(rng, rng.choice(["check", "repair"]))
+    more = ["-w"] * rng.choice([1] * 20 + [2])
+    if rng.random() < 0.05:
+        more.insert(rng.randint(0, len(more)), "-c")
+    if rng.random() < 0.03:
+        more += ["-e", rng.choice(["1", "2", "+9"])]
+    case.words[:1] = ["check", *more]
+    return case
 
 
 def broken_word(rng, files, words):

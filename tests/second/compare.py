@@ -12,6 +12,7 @@ import collections
 import multiprocessing
 import os
 import random
+import re
 import shutil
 import signal
 import subprocess
@@ -25,7 +26,7 @@ from limits import limits
 from request import Disk, Request
 from second import answered
 
-COMMANDS = ["graph", "check", "verify", "simulate", "evidence", "repair"]
+COMMANDS = ["graph", "check", "verify", "simulate", "evidence", "repair", "words"]
 GATE_CASES = {
     "graph": 300,
     "check": 300,
@@ -33,7 +34,10 @@ GATE_CASES = {
     "simulate": 250,
     "evidence": 150,
     "repair": 250,
+    "words": 300,
 }
+IN_WORDS = re.compile(rb" \[(\w+)\]\n  (\w+): ")
+FAULT = re.compile(rb"(?:\S+:\d+: )?([\w:]+ \(\d+\)): ")
 GATE_SEED = 20261124
 KEPT = 20
 SECONDS = 300
@@ -107,6 +111,11 @@ def kind_of(line):
 def sort_of(told):
     """A short name for what was told, to be counted."""
     text, status = told
+    if status == 1 and IN_WORDS.search(text):
+        found = sorted({b" ".join(kind) for kind in IN_WORDS.findall(text)})
+        return "no " + b", ".join(found).decode()
+    if status == 2 and FAULT.match(text):
+        return "refused " + FAULT.match(text)[1].decode()
     words = text.split(None, 2)[:2]
     if not words:
         return "usage" if status == 2 else "status %d" % status
@@ -151,7 +160,7 @@ class Comparer:
             if case.words[:1] == ["repair"] and first[0].startswith(b"\n"):
                 self.compare_amended(label, case, first[0])
             return
-        if command == "evidence" and shows(first, second, case.words, disk):
+        if "-e" in case.words and second[1] == 1 and shows(first, second, case.words, disk):
             return
         self.differing += 1
         self.report(label, case, first, second)

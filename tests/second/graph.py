@@ -142,11 +142,12 @@ def goal_names(rules, given):
     for rule in rules.makefile.rules:
         inference = any(rules.is_inference(target) for target in rule.targets)
         if inference and any(word != b".WAIT" for word in rule.words):
-            raise Refused(45, rule.where)
+            raise Refused(45, where=rule.where)
     for number, goal in enumerate(given, 1):
-        tested_name(goal, place(b"goal", number))
+        where = place(b"goal", number)
+        tested_name(goal, where, "GoalIsMember", "BadGoal")
         if goal in (b".WAIT", b"-"):
-            raise Refused(27, place(b"goal", number))
+            raise Refused(27, where=where, name="BadGoal")
     if given:
         return list(dict.fromkeys(given))
     for rule in rules.makefile.rules:

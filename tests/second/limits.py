@@ -37,6 +37,8 @@ def many_lines():
     for size in (65536, 65537):
         yield graph(b"a:\n" + b"#\n\n" * (size - 1))
         yield graph(b"a:\n" + b"\tx\n" * (size - 2) + b"\n \n\t\n# end")
+    files = {b"makefile": b"#\n" * 65537, b"B": BOOK}
+    yield "words", Case(files, ["check", "-w", "-b", "B"])
 
 
 def values_at_limit():
@@ -152,10 +154,44 @@ def near_misses():
         yield graph(b"z: y\n" + miss, files)
 
 
+UNREAD = [["-b", "gone"], ["-b", "folder"], ["-b", "makefile/B"]]
+UNREAD += [["-b", "B", "-f", name] for name in ("gone", "folder", "makefile/x", "./makefile")]
+REFUSING = (
+    corners,
+    near_misses,
+    lines_at_limit,
+    values_at_limit,
+    references_at_limit,
+    texts_at_limit,
+    names_at_limit,
+)
+
+
+def in_words():
+    """The builds for other commands, and what is refused, with findings and faults in words."""
+    for makes in (corners, documents, mendings):
+        for command, case in makes():
+            if command in ("check", "evidence", "repair"):
+                yield "words", Case(case.files, ["check", "-w", *case.words[1:]])
+    for makes in REFUSING:
+        for command, case in makes():
+            if command == "graph" and "-b" not in case.words:
+                files = {b"B": BOOK, **case.files}
+                yield "words", Case(files, ["check", "-w", "-b", "B", *case.words[1:]])
+    for words in UNREAD:
+        files = {b"makefile": RULE, b"B": BOOK, b"folder": FOLDER}
+        yield "words", Case(files, ["check", "-w", *words])
+    many = b" ".join(b"n%d" % number for number in range(4096))
+    yield "words", Case({b"makefile": b"a: " + many, b"B": BOOK}, ["check", "-w", "-b", "B"])
+    files = {b"makefile": b"a: " + many + b"\n" + many + b":", b"B": BOOK}
+    yield "words", Case(files, ["check", "-w", "-b", "B"])
+
+
 QUICK = (
     corners,
     documents,
     mendings,
+    in_words,
     near_misses,
     lines_at_limit,
     values_at_limit,

@@ -7,15 +7,20 @@ BAD_IN_NAMES = b"%*?[]:;=#$\\\"'`|&<>()"
 
 
 class Refused(Exception):
-    """A refusal: its number, and its words as bytes."""
+    """A refusal: its number, its place where it has one, and its other words as bytes.
 
-    def __init__(self, number, *words):
-        super().__init__(number, words)
+    A fault that isn't the first one with its number is named."""
+
+    def __init__(self, number, *words, where=None, name=None):
+        super().__init__(number, where, words, name)
         self.number = number
+        self.where = where
         self.words = list(words)
+        self.name = name
 
     def line(self):
-        return b" ".join([b"refused", str(self.number).encode()] + self.words)
+        begun = [b"refused", str(self.number).encode()]
+        return b" ".join(begun + [self.where] * (self.where is not None) + self.words)
 
 
 class Unplaced(Exception):
@@ -27,7 +32,7 @@ class Unplaced(Exception):
         self.words = words
 
     def at(self, where):
-        return Refused(self.number, where, *self.words)
+        return Refused(self.number, *self.words, where=where)
 
 
 class Line:
@@ -88,17 +93,18 @@ def logical_lines(text, file):
     lines = []
     for line in joined_lines(text):
         if b"\0" in line.text:
-            raise Refused(1, place(file, line.first))
+            raise Refused(1, where=place(file, line.first))
         if len(line.text) > LINE_LIMIT:
-            raise Refused(2, place(file, line.first))
+            raise Refused(2, where=place(file, line.first))
         if len(lines) == LINE_LIMIT:
-            raise Refused(3, place(file, line.first))
+            raise Refused(3, where=place(file, line.first))
         lines.append(line)
     return lines
 
 
-def first_outside(text, wanted, start=0):
-    """The place of the first byte among the wanted that no reference holds, or None.
+def depths(text, start):
+    """Each place but those of `$(`, `${` and `$$`, with the number of references
+    that are open before its byte and after it.
 
     `$(` lasts to its `)` and `${` to its `}`, with references inside; `$$` is
     passed over as two bytes; another `$` is one byte like any other."""
@@ -111,32 +117,26 @@ def first_outside(text, wanted, start=0):
                 closers.append(b")" if two == b"$(" else b"}")
             at += 2
             continue
-        byte = text[at : at + 1]
-        if closers:
-            if byte == closers[-1]:
-                closers.pop()
-        elif byte in wanted:
-            return at
+        before = len(closers)
+        if closers and text[at : at + 1] == closers[-1]:
+            closers.pop()
+        yield at, before, len(closers)
         at += 1
+
+
+def first_outside(text, wanted, start=0):
+    """The place of the first byte among the wanted that no reference holds, or None."""
+    for at, before, _ in depths(text, start):
+        if before == 0 and text[at : at + 1] in wanted:
+            return at
     return None
 
 
 def reference_end(text, start):
     """The place of the byte that closes the reference whose `$` is at start, or None."""
-    closers = []
-    at = start
-    while at < len(text):
-        two = text[at : at + 2]
-        if two in (b"$$", b"$(", b"${"):
-            if two != b"$$":
-                closers.append(b")" if two == b"$(" else b"}")
-            at += 2
-            continue
-        if text[at : at + 1] == closers[-1]:
-            closers.pop()
-            if not closers:
-                return at
-        at += 1
+    for at, before, after in depths(text, start):
+        if before and not after:
+            return at
     return None
 
 
@@ -199,10 +199,10 @@ def is_make_name(name):
     return is_plain_path(name) and not any(byte in BAD_IN_NAMES for byte in name)
 
 
-def tested_name(word, where):
-    """The word, or 28 or 27 at that place."""
+def tested_name(word, where, member=None, bad=None):
+    """The word, or 28 or 27 at that place, by these names."""
     if b"(" in word or b")" in word:
-        raise Refused(28, where)
+        raise Refused(28, where=where, name=member)
     if not is_make_name(word):
-        raise Refused(27, where)
+        raise Refused(27, where=where, name=bad)
     return word

@@ -137,9 +137,9 @@ class Makefile:
         text = text.lstrip(BLANKS)
         if owner is None:
             if not text.startswith(b"#"):
-                raise Refused(26, where)
+                raise Refused(26, where=where)
         elif isinstance(owner, Special):
-            raise Refused(30, where)
+            raise Refused(30, where=where)
         elif isinstance(owner, Rule):
             self.add_command(owner, text, where)
 
@@ -148,7 +148,7 @@ class Makefile:
             rule.commands = []
             for target in [] if rule.default else rule.targets:
                 if self.with_commands.setdefault(target, rule) is not rule:
-                    raise Refused(31, rule.where, target)
+                    raise Refused(31, target, where=rule.where)
         if text:
             rule.commands.append((where, text))
 
@@ -175,7 +175,7 @@ class Makefile:
         listed = words(self.macros.expand(kind[2])[0])
         listed = [tested_name(word, where) for word in listed]
         if any(SPECIAL.match(target) and target not in KNOWN for target in targets):
-            raise Refused(29, where)
+            raise Refused(29, where=where)
         if any(target in KNOWN for target in targets):
             self.special(targets, listed, kind[3], where)
             return Special()
@@ -187,13 +187,13 @@ class Makefile:
 
     def special(self, targets, listed, command, where):
         if len(targets) > 1 or command is not None or b".WAIT" in listed:
-            raise Refused(30, where)
+            raise Refused(30, where=where)
         target = targets[0]
         if target in WITHOUT_WORDS and listed:
-            raise Refused(30, where)
+            raise Refused(30, where=where)
         if target == b".SUFFIXES":
             if not all(SUFFIX.match(word) for word in listed):
-                raise Refused(30, where)
+                raise Refused(30, where=where)
             if not listed:
                 self.suffixes = []
             self.suffixes = list(dict.fromkeys(self.suffixes + listed))
@@ -206,16 +206,16 @@ class Makefile:
         names = words(self.macros.expand(text[len(word) :])[0])
         names = [tested_name(name, where) for name in names]
         if not names:
-            raise Refused(34, where)
+            raise Refused(34, where=where)
         for name in names:
             if len(self.texts) == TEXT_LIMIT:
-                raise Refused(36, where)
+                raise Refused(36, where=where)
             found = self.files.read(name)
             if found == "failed":
-                raise Refused(35, where, name)
+                raise Refused(35, name, where=where)
             if found is None:
                 if word == b"include":
-                    raise Refused(32, where, name)
+                    raise Refused(32, name, where=where)
                 self.passed_over.append(name)
                 continue
             self.texts.append(name)
@@ -225,7 +225,7 @@ class Makefile:
 def read_makefile(files, name, defaults, operands):
     """The makefile of that name, or of the usual ones, behind default text and operands."""
     if name is not None and (name == b"-" or not is_plain_path(name)):
-        raise Refused(27, name)
+        raise Refused(27, name, name="BadMakefileName")
     makefile = Makefile(files)
     if defaults:
         makefile.read_text(DEFAULT_TEXT, b"(default)", 0, default=True)

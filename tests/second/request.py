@@ -41,7 +41,7 @@ class Request:
     """The words of a command line, told apart."""
 
     VALUES = {"graph": "fb", "check": "fbe", "repair": "fb", "verify": "fbk", "simulate": "fbp"}
-    FLAGS = {"graph": "rc", "check": "rc", "repair": "r", "verify": "r", "simulate": "r"}
+    FLAGS = {"graph": "rc", "check": "rcw", "repair": "r", "verify": "r", "simulate": "r"}
     NEEDED = {"graph": "", "check": "b", "repair": "b", "verify": "bk", "simulate": "bp"}
 
     def __init__(self, arguments):
@@ -60,6 +60,7 @@ class Request:
         )
         if not self.finding:
             raise Usage
+        self.in_words = "w" in self.flags and "e" not in self.values
         self.operands = [word for word in self.words if b"=" in word]
         self.goals = [word for word in self.words if b"=" not in word]
 
@@ -94,7 +95,7 @@ def file_of(files, name):
     if found is None:
         raise Refused(38, name)
     if found == "failed":
-        raise Refused(35, name)
+        raise Refused(35, name, name="FileReadFailed")
     return found
 
 

@@ -8,6 +8,7 @@ from judge import Subject
 from lines import Refused
 from repair import printed, repaired
 from request import Disk, Request, Usage, file_of, prepared
+from sentences import in_sentences, in_words
 from world import World, read_plan, run_plan
 
 sys.setrecursionlimit(20000)
@@ -29,14 +30,14 @@ def answer(request, files):
         return subject.counts() + b"\n", 0
     if "e" in request.values and subject.findings():
         return plan_of_finding(subject, book, request.finding), 1
-    return verdict(subject, "c" in request.flags)
+    return verdict(subject, request)
 
 
-def verdict(subject, certificate):
+def verdict(subject, request):
     found = subject.findings()
     if found:
-        return printed(found), 1
-    if certificate:
+        return in_sentences(subject, found) if request.in_words else printed(found), 1
+    if "c" in request.flags:
         return subject.certificate() + b"\n", 0
     lines = [subject.counts()]
     for way in subject.ways():
@@ -47,11 +48,13 @@ def verdict(subject, certificate):
 def answered(arguments, files):
     """Standard output and status; of a fault of the command line nothing and 2."""
     try:
-        return answer(Request(list(arguments)), files)
-    except Refused as fault:
-        return fault.line() + b"\n", 2
+        request = Request(list(arguments))
     except Usage:
         return b"", 2
+    try:
+        return answer(request, files)
+    except Refused as fault:
+        return (in_words(fault) if request.in_words else fault.line()) + b"\n", 2
 
 
 if __name__ == "__main__":

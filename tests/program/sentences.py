@@ -1,0 +1,311 @@
+"""Findings and faults in sentences, as `check -w` prints them: what is printed, and the status."""
+
+from collections.abc import Iterator
+
+from repairs import HEADED, OBJECT, Row, book, told_of
+
+WAYS = ["yes 2 recipes 2 reads", "way a.o a.c source a.o", "way p a.o written p a.o"]
+CERTIFICATE = (
+    '{"format":1,"goals":["p"],"ways":['
+    '{"end":"source","file":"a.c","path":["a.o"],"recipe":"a.o"},'
+    '{"end":"written","file":"a.o","path":["p","a.o"],"recipe":"p"}]}'
+)
+RIGHT = "p: a.o > p = cc -o p a.o; a.o: a.c > a.o = cc -c a.c"
+STALE = "a.o reads h.h, but doesn't depend on it: when it changes, a.o stays old [stale]"
+ADD = "  add: a.o: h.h"
+PLAN = [
+    *("make 1", "begin a.o", "look a.o a.c", "look a.o h.h", "put a.o a.o 3", "done a.o"),
+    *("begin p", "look p a.o", "put p p 4", "done p", "end", "edit h.h 5", "make 1", "pass a.o"),
+    *("begin p", "look p a.o", "put p p 4", "done p", "end"),
+]
+MORE = "more findings may follow: these hide races and stale reads"
+INFERRED = ".c.o:\n\tcc -c a.c\n"
+# Objects that all read two headers; more of them than are named.
+FOUR = [f"{name}.o" for name in "abcd"]
+MANY = "; ".join(f"{name}: h.h k.h > {name} = cc {name}" for name in FOUR)
+MANY_RULES = "".join(f"{name}:\n\tcc {name}\n" for name in FOUR)
+# A parser that is written beside its header, which two objects read.
+PARSED = "p.c: p.y > p.c p.h = yacc; a.o: a.c p.h > a.o = cc a; b.o: b.c p.h > b.o = cc b"
+PARSER = "p.c: p.y\n\tyacc\na.o: a.c\n\tcc a\nb.o: b.c\n\tcc b\n"
+
+# Makefile, sources and records, and the lines that are printed.
+FOUND = [
+    (OBJECT, "a.c h.h", HEADED, [f"makefile:3: {STALE}", ADD]),
+    # A rule line without commands before the one that has them, and one behind it.
+    ("a.o:\n" + OBJECT + "a.o:\n", "a.c h.h", HEADED, [f"makefile:4: {STALE}", ADD]),
+    # No rule line has commands for the target: the first one that names it.
+    (
+        f"p: a.o\n\tcc -o p a.o\nx:\nb.o a.o: a.c\na.o: a.c\n{INFERRED}",
+        "a.c h.h",
+        HEADED,
+        [f"makefile:4: {STALE}", ADD],
+    ),
+    # No rule line names it.
+    (
+        f"p: a.o\n\tcc -o p a.o\n{INFERRED}",
+        "a.c h.h",
+        HEADED,
+        [f"makefile: {STALE}", ADD],
+    ),
+    # A joined line, behind other lines that are joined, dropped and comments.
+    (
+        "# one \\\n  two\n\np: \\\n  a.o\n\tcc -o p a.o\n\na.o: \\\n  a.c\n\tcc -c a.c\n",
+        "a.c h.h",
+        HEADED,
+        [f"makefile:8: {STALE}", ADD],
+    ),
+    # Two groups, of a race and of a stale read.
+    (
+        f"all: a.o p.h\np.h:\n\tmk\n{PARSER}",
+        "a.c",
+        "p.h: > p.h = mk; a.o: a.c p.h > a.o = cc a",
+        [
+            "makefile:6: a.o reads p.h, but doesn't wait for it: with several jobs it may be "
+            "missing, old or half-written then [race]",
+            "  add: a.o: p.h",
+            "makefile:6: a.o reads p.h, but doesn't depend on it: when it changes, a.o stays old "
+            "[stale]",
+            "  add: a.o: p.h",
+        ],
+    ),
+    # Four names with two files.
+    (
+        f"all: {' '.join(FOUR)}\n{MANY_RULES}",
+        "h.h k.h",
+        MANY,
+        [
+            "makefile:2: a.o, b.o and 2 more read h.h and k.h, but don't depend on them: when one "
+            "changes, they stay old [stale]",
+            "  add: a.o b.o c.o d.o: h.h k.h",
+        ],
+    ),
+    # The same files in another order are another group, and so are fewer.
+    (
+        f"all: {' '.join(FOUR)}\n{MANY_RULES}",
+        "h.h k.h",
+        MANY.replace("b.o: h.h k.h", "b.o: k.h h.h").replace("d.o: h.h k.h", "d.o: k.h"),
+        [
+            "makefile:2: a.o and c.o read h.h and k.h, but don't depend on them: when one changes, "
+            "they stay old [stale]",
+            "  add: a.o c.o: h.h k.h",
+            "makefile:4: b.o reads k.h and h.h, but doesn't depend on them: when one changes, b.o "
+            "stays old [stale]",
+            "  add: b.o: k.h h.h",
+            "makefile:8: d.o reads k.h, but doesn't depend on it: when it changes, d.o stays old "
+            "[stale]",
+            "  add: d.o: k.h",
+        ],
+    ),
+    # What lacks is the recipe that writes the file beside its target.
+    (
+        f"all: p.c a.o b.o\n{PARSER}",
+        "p.y a.c b.c",
+        PARSED,
+        [
+            "makefile:4: a.o and b.o read p.h, which the recipe of p.c writes, but don't wait for "
+            "p.c: with several jobs it may be missing, old or half-written then [race]",
+            "  add: a.o b.o: p.c",
+            "makefile:4: a.o and b.o read p.h, which the recipe of p.c writes, but don't depend on "
+            "p.c: when it changes, they stay old [stale]",
+            "  add: a.o b.o: p.c",
+        ],
+    ),
+    # Lines to add, and what to do.
+    (
+        "t: p\n\ttry\np: a\n\tcp\n",
+        "a",
+        "t: p > = try; p: a p > p = cp",
+        [
+            "makefile:1: t isn't phony, but its recipe doesn't write it: as long as there is no "
+            "such file, each make runs the recipe again [target]",
+            "  add: .PHONY: t",
+            "makefile:3: the recipe of p reads p, which it also writes: what it leaves may depend "
+            "on what was there before [own]",
+            "  do: split the recipe in two, or make each file anew from other files alone",
+            MORE,
+        ],
+    ),
+    # Two kinds of one word: a header whose name a makefile can hold, and one that it can't.
+    (
+        OBJECT,
+        "a.c h.h h:h",
+        HEADED.replace("h.h", "h.h h:h"),
+        [
+            f"makefile:3: {STALE}",
+            ADD,
+            f"makefile:3: {STALE.replace('h.h', 'h:h')}",
+            "  do: rename the file: a makefile can't hold its name",
+        ],
+    ),
+    # A group of two writers stands at the first of them, whatever they write.
+    (
+        "all: z b a\nb:\n\tb\na:\n\ta\nz:\n\tz\n",
+        "",
+        "a: > a z = a; b: > b l = b; z: > z l = z",
+        [
+            "makefile:6: the recipes of z and a both write z: what is left depends on which of "
+            "them ran last [writers]",
+            "  do: let each recipe write files of its own, and check a target such as clean by "
+            "itself; if the recipe of z makes what that of a does, keep it alone, with the line "
+            "`a: z` without commands",
+            "makefile:6: the recipes of z and b both write l: what is left depends on which of "
+            "them ran last [writers]",
+            "  do: let each recipe write files of its own, and check a target such as clean by "
+            "itself; if the recipe of z makes what that of b does, keep it alone, with the line "
+            "`b: z` without commands",
+            MORE,
+        ],
+    ),
+]
+
+# Words, the lines that are printed, and the makefile, where it is another one.
+REFUSED = [
+    # A place and a word, a place, words, a word, and neither.
+    (
+        [],
+        "makefile:2: IncludeMissing (32): gone: an included file is missing; mend its name",
+        "a:\ninclude gone\n",
+    ),
+    (
+        [],
+        "makefile:1: BadName (27): a word is no name of a file; write each name out plainly",
+        "a: ./b\n",
+    ),
+    (
+        ["./p"],
+        "goal:1: BadGoal (27): a goal is no name, or is `.WAIT` or `-`; give another one",
+        OBJECT,
+    ),
+    (
+        ["X=$(X)", "Y::=$(X)"],
+        "operand:2: Recursive (12): X: a macro occurs inside its own value; write `+=` or `::=`",
+        OBJECT,
+    ),
+    (
+        [],
+        "Cycle (42): c d c: prerequisites form a cycle; remove the one that closes it",
+        "a: c\nc: d\nd: c a\n",
+    ),
+    (["q"], "NoRule (41): q: nothing makes a name; write a rule for it, or record again", OBJECT),
+    (
+        ["-f", "gone"],
+        "NoMakefile (37): gone: there is no makefile; give its name and folder",
+        OBJECT,
+    ),
+    (
+        ["-f", "./m"],
+        "BadMakefileName (27): ./m: the name for `-f` is `-` or no plain path; mend it",
+        OBJECT,
+    ),
+    (
+        ["-f", "/etc"],
+        "ReadFailed (35): /etc: a file can't be read; give one that can be read",
+        OBJECT,
+    ),
+    ([], "NoGoal (44): there is no goal; write a rule", "X = a\n"),
+    # Of a file that is included, and in the default text.
+    (
+        ["-f", "e"],
+        "e:2: ShellAssign (21): `!=` isn't supported; let the recipe's shell compute it",
+        "",
+    ),
+    (
+        ["CC=$(CC)"],
+        "(default):12: Recursive (12): CC: a macro occurs inside its own value; write `+=` or "
+        "`::=`",
+        "p: a.o\n\tcc -o p a.o\n",
+    ),
+]
+
+# The footprints, what is printed of them.
+UNREAD = [
+    ("", "NotJson (51): the footprint file is no JSON value; record again"),
+    ("{}", "Shape (52): format: the footprint file has another shape; record again"),
+    (
+        book("./a", RIGHT),
+        "FootFault::BadName (55): sources: footprints have a name that is no path; record again",
+    ),
+]
+# The name of the footprint file, what is printed of it.
+MISSING = [
+    ("gone", "NoFile (38): gone: a file of the command line doesn't exist; mend its name"),
+    ("/etc", "FileReadFailed (35): /etc: a file of the command line can't be read; give another"),
+]
+FILES = {"makefile": OBJECT, "B": book("a.c", RIGHT)}
+
+
+def in_words(words: list[str], status: int, lines: list[str], files: dict[str, str]) -> Row:
+    return ["check", "-w", "-b", "B", *words], status, told_of(lines), files
+
+
+def answers() -> Iterator[Row]:
+    """A yes, which is as without `-w`; `-c`, `-e` and both beside it."""
+    headed = {"makefile": OBJECT, "B": book("a.c h.h", HEADED)}
+    found = [f"makefile:3: {STALE}", ADD]
+    yield in_words([], 0, WAYS, FILES)
+    yield in_words(["-c"], 0, [CERTIFICATE], FILES)
+    yield in_words(["-w"], 1, found, headed)
+    yield in_words(["-c"], 1, found, headed)
+    yield in_words(["a.o"], 1, found, headed)
+    yield in_words(["-e", "1"], 1, PLAN, headed)
+    yield in_words(["-e", "2"], 1, ["no plan"], headed)
+    yield in_words(["-c", "-e", "1"], 1, PLAN, headed)
+    yield in_words(["-e", "1"], 0, WAYS, FILES)
+    yield in_words(["-e", "1", "-c"], 0, [CERTIFICATE], FILES)
+    yield in_words(["-e", "1", "q"], 2, ["refused 41 q"], FILES)
+    yield in_words(["-e", "1"], 2, ["refused 27 makefile:1"], {**FILES, "makefile": "a: ./b\n"})
+
+
+def places() -> Iterator[Row]:
+    """Other makefiles, and files that these include."""
+    files = {"B": book("a.c h.h", HEADED)}
+    rules = OBJECT.split("a.o: a.c")
+    included = f"# one\na.o: a.c{rules[1]}"
+    yield in_words([], 1, [f"Makefile:3: {STALE}", ADD], {**files, "Makefile": OBJECT})
+    yield in_words(["-f", "m"], 1, [f"m:3: {STALE}", ADD], {**files, "m": OBJECT})
+    text = {**files, "makefile": f"include d.mk\n{rules[0]}include e.mk\n"}
+    text |= {"d.mk": "# two\n\na.o:\n", "e.mk": included}
+    yield in_words([], 1, [f"e.mk:2: {STALE}", ADD], text)
+    inferred = {**text, "e.mk": INFERRED, "makefile": f"{rules[0]}include e.mk d.mk\n"}
+    yield in_words([], 1, [f"d.mk:3: {STALE}", ADD], inferred)
+    bare = {**files, "m": "p: a.o\n\tcc -o p a.o\ninclude e.mk\n", "e.mk": INFERRED}
+    yield in_words(["-f", "m"], 1, [f"m: {STALE}", ADD], bare)
+
+
+def cut() -> Iterator[Row]:
+    """Lines to add whose targets, or prerequisites, would have over 2,000 bytes."""
+    headers = [f"h{number}".ljust(667, "h") for number in range(3)]
+    all_of = " ".join(headers)
+    files = {"makefile": "a:\n\tmk\n", "B": book(all_of, f"a: {all_of} > a = mk")}
+    reads = f"makefile:1: a reads {headers[0]}, {headers[1]} and 1 more, but doesn't depend on "
+    lines = [f"{reads}them: when one changes, a stays old [stale]"]
+    lines += [f"  add: a: {' '.join(headers[:2])}", f"  add: a: {headers[2]}"]
+    yield in_words([], 1, lines, files)
+
+
+def null() -> Iterator[Row]:
+    """`/dev/null` is an empty text, however often it is read."""
+    for line in ("include /dev/null /dev/null", "-include /dev/null\n-include /dev/null"):
+        files = {**FILES, "makefile": f"{line}\n{OBJECT}"}
+        yield ["graph"], 0, "goals p\na.c:\na.o recipe: a.c\np recipe: a.o\n", files
+        yield ["check", "-b", "B"], 0, told_of(WAYS), files
+    yield ["graph", "-f", "/dev/null"], 2, "refused 44\n", FILES
+    yield ["check", "-f", "/dev/null", "-b", "/dev/null"], 2, "refused 44\n", FILES
+    yield ["check", "-b", "/dev/null", "p"], 2, "refused 51\n", FILES
+    files = {"makefile": f"include /dev/null /dev/null\n{OBJECT}", "B": book("a.c h.h", HEADED)}
+    yield ["repair", "-b", "B"], 0, f"\n{ADD.removeprefix('  add: ')}\n", files
+
+
+def sentences() -> Iterator[Row]:
+    """The words, the status, what is printed and the files of each run."""
+    for makefile, sources, records, lines in FOUND:
+        yield in_words([], 1, lines, {"makefile": makefile, "B": book(sources, records)})
+    for words, line, makefile in REFUSED:
+        files = {**FILES, "makefile": makefile, "e": "b:\nV != date\n"}
+        yield in_words(words, 2, [line], files)
+    for footprints, line in UNREAD:
+        yield in_words([], 2, [line], {"makefile": OBJECT, "B": footprints})
+    for name, line in MISSING:
+        yield ["check", "-w", "-b", name], 2, f"{line}\n", FILES
+    for rows in (answers, places, cut, null):
+        yield from rows()

@@ -1,0 +1,293 @@
+"""`check -w`: findings in sentences, group by group, and faults in words."""
+
+import re
+from pathlib import Path
+
+from repair import lines_between, word_of
+
+PAGE = Path(__file__).resolve().parents[2] / "docs" / "REFERENCE.md"
+FAULT = re.compile(rb"^\| (\d+) \| `([\w:]+)` \| (.*) \|$", re.MULTILINE)
+
+RENAME = b"rename the file: a makefile can't hold its name"
+RENAME_ALL = b"rename the files: a makefile can't hold their names"
+MORE = b"more findings may follow: these hide races and stale reads\n"
+
+
+class Group:
+    """Findings of one kind that differ in their names alone, each of which has the same files.
+
+    The kind is the word of the findings. `beside` has two more names: those of two writers, or what
+    is made and from what, or the recipe that writes the files where that is what the names lack.
+    """
+
+    def __init__(self, kind, has_lines, beside, files, names):
+        self.kind = kind
+        self.has_lines = has_lines
+        self.first, self.second = beside
+        self.files = files
+        self.names = names
+
+    def one(self, singular, plural):
+        """The word for one name or for several."""
+        return singular if len(self.names) == 1 else plural
+
+    def each(self, singular, plural):
+        """The word for one file or for several."""
+        return singular if len(self.files) == 1 else plural
+
+
+# Findings in groups.
+
+
+def told_of(subject, finding):
+    """What a finding has in common with others, the name that it is about, and the file."""
+    kind, name = finding[:2]
+    if kind == b"writers":
+        return (kind, False, (name, finding[2])), finding[3], b""
+    if kind == b"selection":
+        return (kind, False, (name, finding[2])), name, finding[2]
+    file = finding[-1] if len(finding) > 2 else b""
+    word = word_of(subject, finding)
+    writer = b""
+    if kind in (b"race", b"stale") and word is not None and word[1] != file:
+        writer = word[1]
+    return (kind, word is not None, (writer, b"")), name, file
+
+
+def grouped(subject, findings):
+    """The groups, in the order of their first findings."""
+    files = {}
+    for finding in findings:
+        alike, name, file = told_of(subject, finding)
+        files.setdefault((alike, name), []).append(file)
+    names = {}
+    for (alike, name), own in files.items():
+        names.setdefault((alike, tuple(own)), []).append(name)
+    return [Group(*alike, list(own), own_names) for (alike, own), own_names in names.items()]
+
+
+# What is printed of a group.
+
+
+def shown(names):
+    """One name, two, or two and how many more there are."""
+    if len(names) <= 2:
+        return b" and ".join(names)
+    return b"%s, %s and %d more" % (names[0], names[1], len(names) - 2)
+
+
+def sentence(group):
+    """What is wrong, and what follows from it."""
+    return SENTENCES[group.kind](group, shown(group.names), shown(group.files))
+
+
+def of_record(group, names, _files):
+    its = group.one(b"its recipe reads and writes", b"their recipes read and write")
+    has = group.one(b"has", b"have")
+    return b"%s %s no record, so nothing is known of what %s" % (names, has, its)
+
+
+def of_commands(group, names, _files):
+    has = group.one((b"was", b"it has"), (b"were", b"they have"))
+    return (
+        b"%s %s recorded with other commands than %s with these goals and macros, which may read "
+        b"other files" % (names, *has)
+    )
+
+
+def of_varying(group, names, _files):
+    holds = group.one(b"it holds", b"they hold")
+    return (
+        b"the commands of %s use $?, so what %s may depend on what was out of date"
+        % (names, holds)
+    )
+
+
+def of_target(group, names, _files):
+    if len(group.names) == 1:
+        return (
+            b"%s isn't phony, but its recipe doesn't write it: as long as there is no such file, "
+            b"each make runs the recipe again" % names
+        )
+    return (
+        b"%s aren't phony, but their recipes don't write them: as long as there are no such files, "
+        b"each make runs the recipes again" % names
+    )
+
+
+def of_writers(group, names, _files):
+    return (
+        b"the recipes of %s and %s both write %s: what is left depends on which of them ran last"
+        % (group.first, group.second, names)
+    )
+
+
+def recipes(group, names, singular, plural):
+    """Recipes, and what they do."""
+    if len(group.names) == 1:
+        return b"the recipe of %s %s" % (names, singular)
+    return b"the recipes of %s %s" % (names, plural)
+
+
+def of_given(group, names, files):
+    return (
+        b"%s %s, which each make takes as given (a source, a makefile, or a name of -include or .PHONY): "
+        b"the next make starts from something else"
+        % (recipes(group, names, b"writes", b"write"), files)
+    )
+
+
+def of_own(group, names, files):
+    return b"%s %s, which %s may depend on what was there before" % (
+        recipes(group, names, b"reads", b"read"),
+        files,
+        group.one(b"it also writes: what it leaves", b"they also write: what they leave"),
+    )
+
+
+def of_unknown(group, names, files):
+    return b"%s %s, which %s" % (
+        recipes(group, names, b"reads", b"read"),
+        files,
+        group.each(
+            b"is neither a source nor written by a recipe: nothing says when it changes",
+            b"are neither sources nor written by recipes: nothing says when they change",
+        ),
+    )
+
+
+def of_loose(group, names, files):
+    return b"%s %s depend on %s, whose %s %s being written" % (
+        names,
+        group.one(b"has no recipe and doesn't", b"have no recipes and don't"),
+        files,
+        group.each(b"recipe writes", b"recipes write"),
+        group.one(
+            b"it: make may take it as done while it is",
+            b"them: make may take them as done while they are",
+        ),
+    )
+
+
+def reading(group, names, files, verb):
+    """Who reads what, and what it doesn't do, of the recipe that writes it or of the file."""
+    text = b"%s %s %s, " % (names, group.one(b"reads", b"read"), files)
+    if group.first:
+        text += b"which the recipe of %s writes, " % group.first
+    lacking = group.first or group.each(b"it", b"them")
+    return text + b"but %s %s %s: " % (group.one(b"doesn't", b"don't"), verb, lacking)
+
+
+def of_race(group, names, files):
+    one = group.each(b"it", b"one")
+    text = reading(group, names, files, b"wait for")
+    return text + b"with several jobs %s may be missing, old or half-written then" % one
+
+
+def of_stale(group, names, files):
+    changing = b"when %s, " % group.each(b"it changes", b"one changes")
+    stays = b"%s stays old" % names if len(group.names) == 1 else b"they stay old"
+    return reading(group, names, files, b"depend on") + changing + stays
+
+
+def of_selection(group, _names, _files):
+    return (
+        b"once recipes have run, an inference rule makes %s from %s, but not before: "
+        b"the second make differs from the first" % (group.first, group.second)
+    )
+
+
+SENTENCES = {
+    b"record": of_record,
+    b"commands": of_commands,
+    b"varying": of_varying,
+    b"target": of_target,
+    b"writers": of_writers,
+    b"given": of_given,
+    b"own": of_own,
+    b"unknown": of_unknown,
+    b"loose": of_loose,
+    b"race": of_race,
+    b"stale": of_stale,
+    b"selection": of_selection,
+}
+
+
+def advice(group):
+    """What to do where no lines mend it."""
+    told = {
+        b"record": b"record again, with the goals and macros that are checked",
+        b"commands": b"record again, with the goals and macros that are checked",
+        b"varying": b"write $^ in place of $?, and make the whole file anew in each run",
+        b"target": group.one(
+            b"let the recipe write its target, and record again",
+            b"let the recipes write their targets, and record again",
+        ),
+        b"writers": b"let each recipe write files of its own, and check a target such as clean by "
+        b"itself; if the recipe of %s makes what that of %s does, keep it alone, with the line "
+        b"`%s: %s` without commands" % (group.first, group.second, group.second, group.first),
+        b"given": b"let the recipe write %s out of the sources, -include and .PHONY"
+        % group.each(b"another file, or take this one", b"other files, or take these"),
+        b"own": b"split the recipe in two, or make each file anew from other files alone",
+        b"unknown": b"take %s into the project and record again, or record with --fixed if %s"
+        % group.each((b"it", b"it never changes"), (b"them", b"they never change")),
+        b"selection": b"write a rule with commands for %s, or make %s a target of the recipe that "
+        b"writes it" % (group.first, group.second),
+    }
+    return told.get(group.kind, group.each(RENAME, RENAME_ALL))
+
+
+def lines(group):
+    """The lines that mend it."""
+    if group.kind == b"target":
+        return lines_between([b".PHONY"], group.names)
+    return lines_between(group.names, [group.first] if group.first else group.files)
+
+
+def place_of(makefile, name):
+    """Where a name is shown: at its first rule line of the makefile that has commands, else at its
+    first rule line, else at the makefile without a line."""
+    rules = [rule for rule in makefile.rules if not rule.default and name in rule.targets]
+    rules = [rule for rule in rules if rule.commands is not None] + rules
+    return rules[0].where if rules else makefile.texts[0]
+
+
+def group_text(makefile, group):
+    shown_at = group.first if group.kind == b"writers" else group.names[0]
+    text = b"%s: %s [%s]\n" % (place_of(makefile, shown_at), sentence(group), group.kind)
+    if group.has_lines:
+        return text + b"".join(b"  add: " + line for line in lines(group))
+    return text + b"  do: %s\n" % advice(group)
+
+
+def in_sentences(subject, findings):
+    """The text of the findings."""
+    groups = grouped(subject, findings)
+    text = b"".join(group_text(subject.rules.makefile, group) for group in groups)
+    hides = any(finding[0] not in (b"race", b"stale") for finding in findings)
+    return text + MORE * hides
+
+
+# Faults.
+
+
+def faults():
+    """The names with the sentences of each number, as the page's tables have them."""
+    told = {}
+    for number, name, said in FAULT.findall(PAGE.read_bytes()):
+        told.setdefault(int(number), {})[name] = said
+    return told
+
+
+FAULTS = faults()
+
+
+def in_words(fault):
+    """The text of a fault: its place, its name and number, its other words, its sentence."""
+    named = FAULTS[fault.number]
+    name = next(iter(named)) if fault.name is None else fault.name.encode()
+    head = b"" if fault.where is None else fault.where + b": "
+    head += b"%s (%d): " % (name, fault.number)
+    if fault.words:
+        head += b" ".join(fault.words) + b": "
+    return head + named[name]
