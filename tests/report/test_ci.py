@@ -1,0 +1,87 @@
+"""The script of docs/CI.md, run on a small project."""
+
+from __future__ import annotations
+
+import os
+import re
+import shutil
+import subprocess
+import unittest
+
+from project import MKCHECK, ROOT, ReportTest
+
+PAGE = ROOT / "docs" / "CI.md"
+SCRIPT = re.compile(r"^```sh\n(.*?)^```$", re.MULTILINE | re.DOTALL)
+MAKEFILE = "all.txt: a.txt\n\tcat a.txt b.txt > all.txt\na.txt: a.in\n\tcp a.in a.txt\n"
+
+
+def traces() -> bool:
+    """Whether strace is there, and may trace."""
+    strace = shutil.which("strace")
+    if strace is None:
+        return False
+    done = subprocess.run([strace, "-o", os.devnull, "true"], capture_output=True, check=False)
+    return done.returncode == 0
+
+
+@unittest.skipUnless(traces(), "no strace that may trace")
+@unittest.skipUnless(shutil.which("git"), "no git")
+class ScriptTest(ReportTest):
+    """A project whose makefile forgets b.txt."""
+
+    def setUp(self) -> None:
+        super().setUp()
+        tools = self.folder / "tools"
+        tools.mkdir()
+        (tools / "mkcheck").symlink_to(MKCHECK)
+        for name in ("mkcheck-record", "mkcheck-report"):
+            (tools / name).symlink_to(ROOT / "tools" / name)
+        self.tools, self.folder = tools, self.folder / "project"
+        self.folder.mkdir()
+        (script,) = SCRIPT.findall(PAGE.read_text(encoding="utf-8"))
+        self.write("mkcheck-ci.sh", script)
+        self.write("makefile", MAKEFILE)
+        self.write("a.in", "a\n")
+        self.write("b.txt", "b\n")
+        self.write(".gitignore", ".mkcheck-ci/\nreport.html\nmkcheck.sarif\n")
+        self.command("git", "init", "-q")
+        self.command("git", "add", ".")
+
+    def command(self, *words: str) -> subprocess.CompletedProcess[str]:
+        """Runs a command in the project, with the tools on the PATH."""
+        environment = {
+            **os.environ,
+            "MKCHECK": MKCHECK,
+            "PATH": os.pathsep.join([str(self.tools), os.environ["PATH"]]),
+        }
+        return subprocess.run(
+            words, cwd=self.folder, env=environment, capture_output=True, text=True, check=False
+        )
+
+    def run_script(self, status: int) -> str:
+        """What the script prints; it has to end with this status and leave both reports."""
+        for name in ("report.html", "mkcheck.sarif"):
+            (self.folder / name).unlink(missing_ok=True)
+        done = self.command("sh", "mkcheck-ci.sh")
+        self.assertEqual(done.returncode, status, done.stdout + done.stderr)
+        self.assertTrue((self.folder / "report.html").is_file(), done.stderr)
+        self.assertTrue((self.folder / "mkcheck.sarif").is_file(), done.stderr)
+        return done.stdout
+
+    def test_no_yes_verified(self) -> None:
+        """A no at its line; after the repair a yes; then the certificate, without a recording."""
+        self.assertRegex(self.run_script(1), r"^makefile:1: .*b\.txt")
+        self.assertFalse((self.folder / ".mkcheck-ci" / "certificate.json").exists())
+        self.write("makefile", MAKEFILE.replace("all.txt: a.txt", "all.txt: a.txt b.txt"))
+        self.assertRegex(self.run_script(0), r"^yes 2 recipes \d+ reads\n$")
+        self.assertTrue((self.folder / ".mkcheck-ci" / "certificate.json").is_file())
+        (self.tools / "mkcheck-record").unlink()
+        (self.tools / "mkcheck-record").symlink_to("/bin/false")
+        self.assertRegex(self.run_script(0), r"^yes 2 recipes \d+ reads\n$")
+
+    def test_failed_recording(self) -> None:
+        """A recipe that fails ends the job with status 2 and its output."""
+        self.write("makefile", "a.txt: a.in\n\techo broken; false\n")
+        done = self.command("sh", "mkcheck-ci.sh")
+        self.assertEqual(done.returncode, 2, done.stdout)
+        self.assertIn("broken", done.stderr)

@@ -1,0 +1,263 @@
+"""The page of a yes, a no and a refusal."""
+
+from __future__ import annotations
+
+import re
+import shutil
+import unittest
+
+from project import ROOT, ReportTest
+
+drawn = unittest.skipUnless(shutil.which("dot"), "no Graphviz (dot)")
+
+
+class RaceTest(ReportTest):
+    """The build of the README: a race and a stale read, by its rules."""
+
+    def setUp(self) -> None:
+        super().setUp()
+        self.race()
+
+    def test_says_no_and_where(self) -> None:
+        """Both findings stand at line 5, whose rule gets the missing word."""
+        page = self.page(1)
+        self.assertIn("2 findings in 2 groups", page.text)
+        self.assertEqual(page.text.count("makefile:5"), 2)
+        self.assertEqual([word.strip() for word in page.inserted], ["version.h", "version.h"])
+        self.assertIn("main.o: version.h", page.text)
+        self.assertLess(self.raw.index('<h2 id="race">'), self.raw.index('<h2 id="stale">'))
+
+    def test_shows_bare_findings(self) -> None:
+        """The lines of `check`, with their numbers."""
+        text = self.page(1).text
+        self.assertIn("1: no race main.o version.h version.h", text)
+        self.assertIn("2: no stale main.o version.h", text)
+
+    def test_timelines(self) -> None:
+        """In the race version.h isn't done; in the second build main.o is passed."""
+        page = self.page(1)
+        self.assertIn("A schedule that shows finding 1", page.text)
+        self.assertIn("A schedule that shows finding 2", page.text)
+        self.assertIn("reads version.h\n", page.text)
+        self.assertIn("not done", page.text)
+        self.assertIn("passed: make sees no reason to run it", page.text)
+        self.assertIn("main.o is still of the old version.h", page.text)
+        self.assertEqual(self.raw.count('class="time" role="img"'), 2)
+
+    def test_repair(self) -> None:
+        """One line mends both."""
+        text = self.page(1).text
+        self.assertIn("All lines at once", text)
+        self.assertIn("main.o: version.h", text[text.index("All lines at once") :])
+
+    def test_list_in_place_of_graph(self) -> None:
+        """Without Graphviz there is a list."""
+        page = self.page(1, PATH=str(self.folder))
+        self.assertNotIn('class="graph"', self.raw)
+        self.assertIn('class="around plain"', self.raw)
+        self.assertIn("version.h\n (not listed)", page.text)
+        self.assertIn("The whole graph", page.text)
+
+    @drawn
+    def test_graph(self) -> None:
+        """With Graphviz there are three: around each finding, and the whole."""
+        page = self.page(1)
+        self.assertEqual(self.raw.count('class="graph" '), 3, "graphs")
+        self.assertIn("The whole graph", page.text)
+        self.assertIn("5 names", page.text)
+        self.assertEqual(self.raw.count('class="edge missing"'), 3)
+
+    def test_explains(self) -> None:
+        """What `explain` prints stands folded in the page."""
+        page = self.page(1)
+        self.assertIn("details", page.tags)
+        self.assertRegex(page.text, r"What \nrace\n means")
+        self.assertRegex(page.text, r"What \nstale\n means")
+
+    def test_goal_and_macro(self) -> None:
+        """Goals and macros are those of the command line; main.o alone has no race: version.h is
+        then a file that nothing reached writes."""
+        page = self.page(1, "main.o", "CC=gcc")
+        self.assertIn("CC=gcc", page.text)
+        self.assertIn("no unknown main.o version.h", page.text)
+
+
+class YesTest(ReportTest):
+    """A build that is right."""
+
+    def setUp(self) -> None:
+        super().setUp()
+        self.race()
+        makefile = self.folder / "makefile"
+        text = makefile.read_text(encoding="utf-8")
+        makefile.write_text(text.replace("main.o: main.c", "main.o: main.c version.h"))
+
+    def test_promises(self) -> None:
+        """The promise has the words of the README, and each way has a row."""
+        page = self.page(0)
+        readme = re.sub(r"\s+", " ", (ROOT / "README.md").read_text(encoding="utf-8"))
+        readme = readme.replace("**", "").replace("`", "")
+        promise = re.search(r"(For|then for) every number of jobs.*?sources gives\.", readme)
+        assert promise is not None
+        said = "For" + promise[0].partition("or")[2]
+        if promise[0].startswith("then"):
+            said = "F" + promise[0][len("then f") :]
+        self.assertIn(said, page.text)
+        # Of 4 reads that can change each has a way: version.txt, main.c, version.h, main.o.
+        self.assertIn("4 ways", page.text)
+        self.assertEqual(self.raw.count("<tr><td"), 4)
+        self.assertIn("yes 3 recipes 7 reads", page.text)
+
+    def test_readable_without_script(self) -> None:
+        """The field of the filter is made by the script alone."""
+        self.assertNotIn("input", self.page(0).tags)
+
+    @drawn
+    def test_graph(self) -> None:
+        """The whole graph, without missing edges."""
+        self.page(0)
+        self.assertEqual(self.raw.count('class="graph" '), 1)
+        self.assertNotIn('class="edge missing"', self.raw)
+
+
+class RefusalTest(ReportTest):
+    """What is refused has a page too."""
+
+    def test_line(self) -> None:
+        """A pattern rule in line 3."""
+        self.race()
+        self.write("makefile", "all: a.o\n\n%.o: %.c\n\tcc -c $<\n")
+        page = self.page(2)
+        self.assertIn("refused 27 makefile:3", page.text)
+        self.assertIn("makefile:3:\n BadName (27)\n", page.text)
+        self.assertIn("A word is no name of a file; write each name out plainly.", page.text)
+        self.assertIn("What BadName means", page.text)
+        self.assertIn("Pattern rules, wildcards", page.text)
+        self.assertIn("%.o: %.c", page.text)
+
+    def test_no_line(self) -> None:
+        """A cycle has names and no line."""
+        self.race()
+        self.write("makefile", "a: b\nb: a\n")
+        text = self.page(2).text
+        self.assertIn("refused 42 a b a", text)
+        self.assertIn("Cycle (42): a b a", text)
+
+    def test_operand(self) -> None:
+        """A word of the command line."""
+        self.race()
+        page = self.page(2, "prog", "A:=<b>")
+        self.assertIn("refused 11 operand:1", page.text)
+        self.assertIn("operand:1:\n BadMacroName (11)\n", page.text)
+        self.assertIn("A:=<b>", page.text)
+
+    def test_shared_number(self) -> None:
+        """Of the faults with a number that several have, the page tells of the one that it is."""
+        self.race()
+        text = self.page(2, "50%").text
+        self.assertIn("goal:1:\n BadGoal (27)\n", text)
+        self.assertIn("A goal is no name, or is", text)
+
+    def test_words_like_a_place(self) -> None:
+        """A file whose name ends as a line's number would has no place."""
+        self.race()
+        text = self.page(2, book="d:5").text
+        self.assertIn("NoFile (38): d:5", text)
+        self.assertNotIn("d:5:\n", text)
+
+    def test_name_with_a_newline(self) -> None:
+        """Words may hold a newline."""
+        self.race()
+        self.assertIn("BadMakefileName (27): a\nb", self.page(2, "-f", "a\nb").text)
+
+    def test_no_makefile(self) -> None:
+        """Nothing is there to be shown."""
+        self.write("B", '{"format":1,"fixed":[],"sources":[],"records":[]}')
+        self.assertIn("refused 37", self.page(2).text)
+
+
+class KindsTest(ReportTest):
+    """Findings of other kinds."""
+
+    def test_static(self) -> None:
+        """Two recipes that write one file come before one without record."""
+        makefile = "all: p.c p.h q\n.PHONY: all\np.c p.h: p.y\n\tbison -d p.y\nq: p.y\n\tcp p.y q\n"
+        record = (["bison -d p.y"], ["p.y"], ["p.c", "p.h"])
+        self.build(makefile, [("p.c", *record), ("p.h", *record)], ["p.y"])
+        text = self.page(1).text
+        self.assertLess(self.raw.index('<h2 id="writers">'), self.raw.index('<h2 id="record">'))
+        self.assertIn("no writers p.c p.h p.h", text)
+        self.assertIn("What to do", text)
+        self.assertIn("<code>p.h: p.c</code>", self.raw)
+        self.assertIn("More findings may follow: these hide races and stale reads.", text)
+        self.assertIn("no record q", text)
+        self.assertNotIn("A schedule that shows", text)
+
+    def test_continued_rule(self) -> None:
+        """The missing word goes to the last of the lines that are joined, before the comment."""
+        makefile = "a.o: a.c \\\n  b.h # all\n\tcc -c a.c\n"
+        self.build(makefile, [("a.o", ["cc -c a.c"], ["a.c", "b.h", "c.h"], ["a.o"])],
+                   ["a.c", "b.h", "c.h"])
+        self.page(1)
+        self.assertIn("  b.h<ins> c.h</ins> # all", self.raw)
+
+    def test_edit(self) -> None:
+        """A source that isn't listed: a build, an edit, and a build that passes the reader."""
+        self.build("b: a\n\tcat a c > b\n", [("b", ["cat a c > b"], ["a", "c"], ["b"])], ["a", "c"])
+        text = self.page(1).text
+        places = [text.index(said) for said in ("reads c\n", "edit\n", "c changes\n", "passed: ")]
+        self.assertEqual(places, sorted(places))
+        self.assertIn("b is still of the old c", text)
+
+    def test_two_races(self) -> None:
+        """Each race has a schedule."""
+        makefile = "all: g h a b\n.PHONY: all\ng: ; mk g\nh: ; mk h\na: ; mk a\nb: ; mk b\n"
+        records = [(name, [f"mk {name}"], reads, [name])
+                   for name, reads in (("g", []), ("h", []), ("a", ["g"]), ("b", ["h"]))]
+        self.build(makefile, records, [])
+        page = self.page(1)
+        self.assertIn("no race a g g", page.text)
+        self.assertIn("no race b h h", page.text)
+        self.assertIn("A schedule that shows finding 1", page.text)
+        self.assertIn("A schedule that shows finding 2", page.text)
+
+    def test_file_that_is_no_target(self) -> None:
+        """Both files come of the recipe of p.c, and p.h is no target: the line to add names p.c.
+        The reads of p.c and of p.h are groups of their own, each as a race and as a stale read."""
+        makefile = "all: p.c m.o\n.PHONY: all\np.c: p.y\n\tbison p.y\nm.o: m.c\n\tcc -c m.c\n"
+        records = [("p.c", ["bison p.y"], ["p.y"], ["p.c", "p.h"]),
+                   ("m.o", ["cc -c m.c"], ["m.c", "p.c", "p.h"], ["m.o"])]
+        self.build(makefile, records, ["p.y", "m.c"])
+        text = self.page(1).text
+        self.assertIn("4 findings in 4 groups", text)
+        for number, line in enumerate(
+            ("race m.o p.c p.c", "race m.o p.c p.h", "stale m.o p.c", "stale m.o p.h"), 1
+        ):
+            self.assertIn(f"1 finding, as mkcheck check prints it\n{number}: no {line}\n", text)
+        self.assertNotIn("m.o: p.h", text)
+
+
+class LargeTest(ReportTest):
+    """A no with many findings."""
+
+    def test_is_small(self) -> None:
+        """120 objects that read 120 headers, and a program that reads 96: 14,496 findings."""
+        self.large()
+        page = self.page(1)
+        self.assertIn("14,496 findings in 2 groups", page.text)
+        self.assertIn("⋮ 120 other recipes", page.text)
+        self.assertIn("Left out: 14,496 reads of files that aren't listed.", page.text)
+        self.assertLess(len(self.raw.encode()), 5_000_000)
+
+    def test_many_groups_are_small(self) -> None:
+        """2,000 recipes, each of which misses a file of its own with a name of 500 bytes."""
+        number = range(2000)
+        files = [f"{one}{'x' * 500}.h" for one in number]
+        rules = [f"o{one}: c\n\tmk {one}\n" for one in number]
+        makefile = f"all: {' '.join(f'o{one}' for one in number)}\n.PHONY: all\n{''.join(rules)}"
+        records = [(f"o{one}", [f"mk {one}"], ["c", files[one]], [f"o{one}"]) for one in number]
+        self.build(makefile, records, ["c", *files])
+        page = self.page(1)
+        self.assertIn("2,000 findings in 2,000 groups", page.text)
+        self.assertIn("mkcheck check -w", page.text)
+        self.assertLess(len(self.raw.encode()), 5_000_000)

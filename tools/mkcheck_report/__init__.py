@@ -1,0 +1,1 @@
+"""Shows what mkcheck answers: a page, SARIF, and the graph for Graphviz."""
