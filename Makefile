@@ -9,7 +9,7 @@ FUZZ =
 CHECKED =
 
 .PHONY: all build demo proved check program edits growths recorder importer
-.PHONY: importcheck realcheck manuals pages fuzz bench install clean
+.PHONY: report importcheck realcheck manuals pages fuzz bench install clean
 
 all: build
 
@@ -77,6 +77,10 @@ recorder: build
 importer: build
 	@python3 tests/importer/run.py bin/mkcheck
 
+# Tests the report, by Graphviz, Chromium, strace and git where these are there.
+report: build
+	@python3 tests/report/run.py bin/mkcheck
+
 # Records the examples anew, where strace and their compilers are there.
 realcheck: build
 	@MKCHECK=bin/mkcheck python3 tests/recorder/real.py
@@ -113,6 +117,7 @@ bench: proved
 	@python3 bench/judging.py
 	@python3 bench/evidence.py
 	@python3 bench/repairs.py
+	@python3 bench/sentences.py
 	@python3 bench/plans.py
 	@python3 bench/hostile.py
 
@@ -120,10 +125,13 @@ bench: proved
 install: build
 	mkdir -p $(DESTDIR)$(PREFIX)/bin
 	cp -f bin/mkcheck tools/mkcheck-record tools/mkcheck-import $(DESTDIR)$(PREFIX)/bin
+	cp -f tools/mkcheck-report $(DESTDIR)$(PREFIX)/bin
 	mkdir -p $(DESTDIR)$(PREFIX)/lib/mkcheck/mkcheck_record
 	mkdir -p $(DESTDIR)$(PREFIX)/lib/mkcheck/mkcheck_import
+	mkdir -p $(DESTDIR)$(PREFIX)/lib/mkcheck/mkcheck_report
 	cp -f tools/mkcheck_record/*.py $(DESTDIR)$(PREFIX)/lib/mkcheck/mkcheck_record
 	cp -f tools/mkcheck_import/*.py $(DESTDIR)$(PREFIX)/lib/mkcheck/mkcheck_import
+	cp -f tools/mkcheck_report/*.py $(DESTDIR)$(PREFIX)/lib/mkcheck/mkcheck_report
 	mkdir -p $(DESTDIR)$(PREFIX)/share/man/man1
 	cp -f man/*.1 $(DESTDIR)$(PREFIX)/share/man/man1
 	mkdir -p $(DESTDIR)$(PREFIX)/share/doc/mkcheck

@@ -27,7 +27,7 @@ LENGTH = re.compile(r"\d+ lines")
 
 @dataclass(frozen=True)
 class Claim:
-    """What is said to have so many lines, or files, and how many it has."""
+    """A number of lines or files that a document states, and the number that is true."""
 
     what: str
     said: int

@@ -1,7 +1,7 @@
 """Tries the makefiles that docs/FROM_GNU_MAKE.md shows, each of which is refused by its number or
 read, and our own; and the sessions that README.md, examples/ and docs/ show; follows the links from
-page to page; holds the lengths that docs/WHY.md says to the files, and what `mkcheck explain`
-prints to docs/REFERENCE.md; and reads the manual pages.
+page to page; holds the lengths that docs/WHY.md says to the files, and what `mkcheck explain` and
+`mkcheck check -w` print to docs/REFERENCE.md; and reads the manual pages.
 
 The word is the path of mkcheck; without it MKCHECK names it, else it is bin/mkcheck.
 """
@@ -19,6 +19,7 @@ from pathlib import Path
 from explained import wrong_explanations
 from lengths import wrong_lengths
 from links import broken_links
+from sentences import wrong_sentences
 from sessions import try_page
 
 ROOT = Path(__file__).resolve().parents[2]
@@ -103,7 +104,7 @@ def main() -> int:
             wrong += 1
             print(f"pages: {said or 'read'} and not {number or 'read'}:\n{makefile}")
     print(f"pages: {len(blocks) + 1 - wrong} makefiles as they are said to be, {wrong} not")
-    wrong += try_sessions(mkcheck) + wrong_explanations(mkcheck)
+    wrong += try_sessions(mkcheck) + wrong_explanations(mkcheck) + wrong_sentences(mkcheck)
     wrong += broken_links() + wrong_lengths() + read_manuals()
     return 1 if wrong else 0
 

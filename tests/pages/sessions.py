@@ -23,6 +23,8 @@ BLOCK = re.compile(r"^```console(?: (more)| in (\S+))?\n(.*?)^```$", re.MULTILIN
 COMMENT = re.compile(r"<!--.*?-->", re.DOTALL)
 READS = re.compile(r"^(yes \d+ recipes) \d+ reads$", re.MULTILINE)
 SECONDS = 120
+REFUSED = re.compile(r"^(refused \d|error: |(\S+:\d+: )?[\w:]+ \(\d+\): )", re.MULTILINE)
+FOUND = re.compile(r"^no |^\S+: .* \[\w+\]$", re.MULTILINE)
 
 
 @dataclass(frozen=True)
@@ -42,9 +44,9 @@ class Step:
         """The status that goes with what is shown; none where a shell's line has one of its own."""
         if not self.command.startswith("mkcheck") or any(byte in self.command for byte in "|;&"):
             return None
-        if re.search(r"^(refused \d|error: )", self.shown, re.MULTILINE):
+        if REFUSED.search(self.shown):
             return 2
-        return 1 if self.shown.startswith("no ") else 0
+        return 1 if FOUND.match(self.shown) else 0
 
 
 def steps_of(block: str) -> list[Step]:
@@ -97,11 +99,12 @@ def lacks(block: str) -> bool:
 
 
 def environment_of(program: str, tools: Path) -> dict[str, str]:
-    """The environment of sessions, in which mkcheck is the program and mkcheck-record the
+    """The environment of sessions, in which mkcheck is the program, and the other tools are the
     repository's."""
     tools.mkdir()
     (tools / "mkcheck").symlink_to(program)
-    (tools / "mkcheck-record").symlink_to(ROOT / "tools" / "mkcheck-record")
+    for name in ("mkcheck-record", "mkcheck-report"):
+        (tools / name).symlink_to(ROOT / "tools" / name)
     path = os.pathsep.join([str(tools), os.environ.get("PATH", os.defpath)])
     kept = {name: os.environ[name] for name in ("HOME", "TMPDIR") if name in os.environ}
     return {**kept, "PATH": path, "LC_ALL": "C", "MKCHECK": program}

@@ -1,0 +1,303 @@
+"""Holds the table of sentences in docs/REFERENCE.md to what `mkcheck check -w` prints.
+
+For each row there are small builds with one to three names and files. What the row says, filled in,
+has to be printed, with the lines to add or the advice below it. A row that no build makes is wrong,
+and so is a build that no row tells of.
+"""
+
+from __future__ import annotations
+
+import json
+import re
+import subprocess
+import tempfile
+from collections.abc import Callable, Iterator
+from dataclasses import dataclass
+from pathlib import Path
+
+ROOT = Path(__file__).resolve().parents[2]
+PAGE = ROOT / "docs" / "REFERENCE.md"
+HEAD = "| word | sentence | `add:` | `do:` |\n|---|---|---|---|\n"
+MORE = "more findings may follow: these hide races and stale reads"
+UNKNOWN = "unexpected argument '-w'"
+COUNTS = (1, 2, 3)
+Record = tuple[str, list[str], list[str]]
+
+
+@dataclass(frozen=True)
+class Row:
+    """A row of the table."""
+
+    word: str
+    sentence: str
+    add: str
+    do: str
+
+    @property
+    def has_writer(self) -> bool:
+        """Whether the sentence names a recipe S that the lines name too."""
+        return self.add == "R: S"
+
+
+@dataclass(frozen=True)
+class Build:
+    """A makefile, sources, and for each record target, reads and writes; and what the group says:
+    its names, its files, and the recipe S."""
+
+    makefile: str
+    sources: list[str]
+    records: list[Record]
+    names: list[str]
+    files: list[str]
+    writer: str = ""
+
+    def book(self, command: str) -> str:
+        """The footprints; each recipe has this command."""
+        records = [
+            {"target": target, "commands": [command], "reads": reads, "writes": writes}
+            for target, reads, writes in self.records
+        ]
+        value = {"format": 1, "fixed": [], "sources": self.sources, "records": records}
+        return json.dumps(value)
+
+
+def rows_of(page: str) -> list[Row]:
+    """The rows of the table."""
+    at = page.find(HEAD)
+    if at < 0:
+        return []
+    table = page[at + len(HEAD) :].split("\n\n")[0]
+    found = [
+        [cell.strip().strip("`") for cell in line.strip("|").split("|")]
+        for line in table.splitlines()
+    ]
+    return [Row(*cells) for cells in found if len(cells) == 4]
+
+
+def numbered(front: str, count: int) -> list[str]:
+    """So many names."""
+    return [f"{front}{number}" for number in range(count)]
+
+
+def rules(names: list[str], words: str = "") -> str:
+    """Rules with a command each."""
+    return "".join(f"{name}: {words}\n\tmk\n" for name in names)
+
+
+def gathered(*names: str) -> str:
+    """The first rule, which gathers others."""
+    return f"all: {' '.join(names)}\n"
+
+
+def alone(
+    records: Callable[[list[str]], list[Record]],
+) -> Callable[[list[str], list[str]], Build]:
+    """Recipes with these records, which nothing else needs."""
+
+    def build(names: list[str], files: list[str]) -> Build:
+        return Build(gathered(*names) + rules(names), [], records(names), names, files)
+
+    return build
+
+
+def varying(names: list[str], files: list[str]) -> Build:
+    """Recipes that use `$?`."""
+    makefile = gathered(*names) + "".join(f"{name}:\n\tmk $?\n" for name in names)
+    return Build(makefile, [], [(name, [], [name]) for name in names], names, files)
+
+
+def needed(names: list[str], files: list[str]) -> Build:
+    """Recipes that don't write their targets, which another recipe needs."""
+    makefile = rules(["p"], " ".join(names)) + rules(names)
+    records = [("p", [], ["p"]), *((name, [], []) for name in names)]
+    return Build(makefile, [], records, names, files)
+
+
+def writers(names: list[str], files: list[str]) -> Build:
+    """Two recipes that write the same files."""
+    records = [(one, [], [one, *files]) for one in ("a", "b")]
+    return Build(gathered("a", "b") + rules(["a", "b"]), [], records, ["a"], files, "b")
+
+
+def given(names: list[str], files: list[str]) -> Build:
+    """Recipes that write sources."""
+    records = [(name, [], [name, *files]) for name in names]
+    return Build(gathered(*names) + rules(names), files, records, names, files)
+
+
+def own(names: list[str], files: list[str]) -> Build:
+    """Recipes that read what they write."""
+    records = [(name, files, [name, *files]) for name in names]
+    return Build(gathered(*names) + rules(names), [], records, names, files)
+
+
+def reading(names: list[str], files: list[str], sources: list[str]) -> Build:
+    """Recipes that read files of which the makefile says nothing."""
+    records = [(name, files, [name]) for name in names]
+    return Build(gathered(*names) + rules(names), sources, records, names, files)
+
+
+def unknown(names: list[str], files: list[str]) -> Build:
+    """Recipes that read files of unknown origin."""
+    return reading(names, files, [])
+
+
+def stale(names: list[str], files: list[str]) -> Build:
+    """Recipes that read sources."""
+    return reading(names, files, files)
+
+
+def unwritable(names: list[str], files: list[str]) -> Build:
+    """Recipes that read sources with names that a makefile can't hold."""
+    return stale(names, [f"{file}:{file}" for file in files])
+
+
+def loose(names: list[str], files: list[str]) -> Build:
+    """Names without recipes, which recipes write; here the files are recipes."""
+    bare = "".join(f"{name}:\n" for name in names)
+    records = [(file, [], [file, *names]) for file in files]
+    return Build(gathered(*files, *names) + bare + rules(files), [], records, names, files)
+
+
+def race(names: list[str], files: list[str]) -> Build:
+    """Recipes that read what other recipes write."""
+    records = [(name, files, [name]) for name in names]
+    records += [(file, [], [file]) for file in files]
+    return Build(gathered(*names, *files) + rules(names + files), [], records, names, files)
+
+
+def beside(names: list[str], files: list[str], wait: str) -> Build:
+    """Recipes that read files which another recipe writes beside its target."""
+    records = [("s", [], ["s", *files]), *((name, files, [name]) for name in names)]
+    makefile = gathered("s", wait, *names) + rules(["s", *names])
+    return Build(makefile, [], records, names, files, "s")
+
+
+def side_race(names: list[str], files: list[str]) -> Build:
+    """Such recipes, in any order."""
+    return beside(names, files, "")
+
+
+def side_stale(names: list[str], files: list[str]) -> Build:
+    """Such recipes, behind `.WAIT`."""
+    return beside(names, files, ".WAIT")
+
+
+def selection(names: list[str], files: list[str]) -> Build:
+    """A name that an inference rule makes of a file once a recipe has written that."""
+    makefile = (
+        ".SUFFIXES: .o .c .s\n.c.o:\n\tmk\n.s.o:\n\tmk\nall: gen .WAIT x.o\n" + rules(["gen"])
+    )
+    records = [("gen", [], ["gen", "x.c"]), ("x.o", ["x.s"], ["x.o"])]
+    return Build(makefile, ["x.s"], records, ["x.o"], ["x.c"])
+
+
+# For each word, whether there is a recipe S, and whether lines mend it, a build of names and files.
+BUILDS: list[tuple[str, bool, bool, Callable[[list[str], list[str]], Build]]] = [
+    ("record", False, False, alone(lambda names: [])),
+    ("commands", False, False, alone(lambda names: [(name, [], [name]) for name in names])),
+    ("varying", False, False, varying),
+    ("target", False, True, alone(lambda names: [(name, [], []) for name in names])),
+    ("target", False, False, needed),
+    ("writers", False, False, writers),
+    ("given", False, False, given),
+    ("own", False, False, own),
+    ("unknown", False, False, unknown),
+    ("loose", False, True, loose),
+    ("race", False, True, race),
+    ("race", True, True, side_race),
+    ("stale", False, True, stale),
+    ("stale", False, False, unwritable),
+    ("stale", True, True, side_stale),
+    ("selection", False, False, selection),
+]
+
+
+def shown(names: list[str]) -> str:
+    """Names as a sentence has them."""
+    if len(names) < 3:
+        return " and ".join(names)
+    return f"{names[0]}, {names[1]} and {len(names) - 2} more"
+
+
+def filled(template: str, build: Build, join: Callable[[list[str]], str]) -> str:
+    """What a cell of the table says of a build."""
+
+    def chosen(found: re.Match[str], count: int) -> str:
+        return found[1] if count == 1 else found[2]
+
+    text = re.sub("<([^/<>]*)/([^<>]*)>", lambda found: chosen(found, len(build.names)), template)
+    text = re.sub(
+        r"\[([^/\[\]]*)/([^\[\]]*)\]", lambda found: chosen(found, len(build.files)), text
+    )
+    words = {"R": join(build.names), "F": join(build.files), "S": build.writer}
+    return re.sub(r"\b[RFS]\b", lambda found: words[found[0]], text)
+
+
+def expected(row: Row, build: Build, has_lines: bool) -> str:
+    """The text of the group behind its place."""
+    told = f"{filled(row.sentence, build, shown)} [{row.word}]\n"
+    if has_lines:
+        return f"{told}  add: {filled(row.add, build, ' '.join)}\n"
+    return f"{told}  do: {filled(row.do, build, shown)}\n"
+
+
+def checked(mkcheck: str, build: Build, command: str) -> str:
+    """What `check -w` prints of a build."""
+    with tempfile.TemporaryDirectory() as folder:
+        Path(folder, "makefile").write_text(build.makefile, encoding="utf-8")
+        Path(folder, "B").write_text(build.book(command), encoding="utf-8")
+        done = subprocess.run(
+            [mkcheck, "check", "-w", "-b", "B"],
+            cwd=folder,
+            capture_output=True,
+            text=True,
+            check=False,
+        )
+    return done.stdout or done.stderr
+
+
+def tried(mkcheck: str, rows: list[Row]) -> Iterator[tuple[str, str]]:
+    """For each build what is expected and what is printed."""
+    for word, has_writer, has_lines, make in BUILDS:
+        command = "other" if word == "commands" else "mk"
+        row = next((row for row in rows if (row.word, row.has_writer) == (word, has_writer)), None)
+        if row is None or not (row.add if has_lines else row.do):
+            yield f"a row of `{word}` {'with lines' if has_lines else 'with advice'}", "nothing"
+            continue
+        for names in COUNTS:
+            for files in COUNTS:
+                build = make(numbered("t", names), numbered("f", files))
+                yield expected(row, build, has_lines), checked(mkcheck, build, command)
+
+
+def unmade(rows: list[Row]) -> Iterator[str]:
+    """What the table says and no build makes."""
+    made = {(word, has_writer, has_lines) for word, has_writer, has_lines, _ in BUILDS}
+    for row in rows:
+        for has_lines, cell in ((True, row.add), (False, row.do)):
+            if cell and (row.word, row.has_writer, has_lines) not in made:
+                yield f"no build tries `{cell}` of `{row.word}`"
+
+
+def wrong_sentences(mkcheck: str) -> int:
+    """Prints where `mkcheck check -w` and docs/REFERENCE.md differ, and tells how many times."""
+    page = PAGE.read_text(encoding="utf-8")
+    rows = rows_of(page)
+    if not rows:
+        print("docs/REFERENCE.md: no table of sentences")
+        return 1
+    wrong, count = list(unmade(rows)), 0
+    for text, printed in tried(mkcheck, rows):
+        if UNKNOWN in printed:
+            print("pages: this mkcheck has no `check -w`: its sentences weren't compared")
+            return 0
+        count += 1
+        if not re.search(rf"^makefile(:\d+)?: {re.escape(text)}", printed, re.MULTILINE):
+            wrong.append(f"`mkcheck check -w` prints\n{printed}and not\n{text}")
+        elif MORE in printed and f"`{MORE}`" not in page:
+            wrong.append(f"nothing says when `mkcheck check -w` prints `{MORE}`")
+    for said in wrong:
+        print(f"docs/REFERENCE.md: {said}")
+    print(f"pages: {count} groups in sentences as in docs/REFERENCE.md, but for {len(wrong)}")
+    return len(wrong)
