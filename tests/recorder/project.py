@@ -4,6 +4,7 @@ from __future__ import annotations
 
 import json
 import os
+import re
 import shutil
 import subprocess
 import sys
@@ -23,6 +24,8 @@ UNTESTED = (
 )
 SYSTEM = ("/usr/", "/lib/", "/lib64/", "/bin/", "/etc/", "/opt/")
 Environment = Mapping[str, Optional[str]]
+# Lines of progress, which only a recording of over ten seconds has.
+PROGRESS = re.compile(r"(?m)^\[(?:\w+ )?\d+/\d+(?: [\d:]+ left)?\] .*\n")
 # What a make that runs the tests sets for them.
 OF_MAKE: Environment = {"MAKEFLAGS": None, "MAKELEVEL": None, "MFLAGS": None}
 
@@ -118,7 +121,8 @@ class ProjectTest(unittest.TestCase):
             text=True,
             check=False,
         )
-        errors = done.stderr if not unplayed else done.stderr.replace(UNTESTED, "")
+        errors = PROGRESS.sub("", done.stderr)
+        errors = errors if not unplayed else errors.replace(UNTESTED, "")
         return Outcome(done.returncode, done.stdout, errors, None)
 
     def recorded(self, *words: str, environment: Environment | None = None) -> Outcome:
