@@ -28,7 +28,7 @@ def read_name(record: int, read: int) -> str:
 
 
 def footprints(size: int, records: int) -> str:
-    """A file of format 1 of just so many bytes, with blanks at its end."""
+    """A file of format 1 with exactly `size` bytes, by blanks at its end."""
     entries = (
         {
             "target": f"o/{n:04d}.o",

@@ -75,7 +75,7 @@ def rows_of(page: str) -> list[Row]:
 
 
 def numbered(front: str, count: int) -> list[str]:
-    """So many names."""
+    """The text `front` with each number from 0 on, as many as `count` says."""
     return [f"{front}{number}" for number in range(count)]
 
 

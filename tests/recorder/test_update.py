@@ -123,9 +123,7 @@ class CountTest(UpdateTest):
         self.start()
         first = self.update()
         self.assertEqual(self.count(first), 7)
-        self.assertEqual(
-            self.told(first)[0], f"{self.updated}.state has no footprints beside it: {ALL}"
-        )
+        self.assertEqual(self.told(first)[0], f"{self.updated} isn't there yet: {ALL}")
         return lambda name, text: (self.folder / name).write_text(text)
 
     def test_sources(self) -> None:

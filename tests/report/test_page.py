@@ -23,7 +23,7 @@ class RaceTest(ReportTest):
         page = self.page(1)
         self.assertIn("2 findings in 2 groups", page.text)
         self.assertEqual(page.text.count("makefile:5"), 2)
-        self.assertEqual([word.strip() for word in page.inserted], ["version.h", "version.h"])
+        self.assertEqual(page.inserted, ["version.h", "version.h"])
         self.assertIn("main.o: version.h", page.text)
         self.assertLess(self.raw.index('<h2 id="race">'), self.raw.index('<h2 id="stale">'))
 
@@ -199,7 +199,7 @@ class KindsTest(ReportTest):
         self.build(makefile, [("a.o", ["cc -c a.c"], ["a.c", "b.h", "c.h"], ["a.o"])],
                    ["a.c", "b.h", "c.h"])
         self.page(1)
-        self.assertIn("  b.h<ins> c.h</ins> # all", self.raw)
+        self.assertIn("  b.h <ins>c.h</ins> # all", self.raw)
 
     def test_edit(self) -> None:
         """A source that isn't listed: a build, an edit, and a build that passes the reader."""

@@ -156,8 +156,7 @@ def near_misses():
 
 UNREAD = [["-b", "gone"], ["-b", "folder"], ["-b", "makefile/B"]]
 UNREAD += [["-b", "B", "-f", name] for name in ("gone", "folder", "makefile/x", "./makefile")]
-REFUSING = (
-    corners,
+LIMITS = (
     near_misses,
     lines_at_limit,
     values_at_limit,
@@ -165,6 +164,7 @@ REFUSING = (
     texts_at_limit,
     names_at_limit,
 )
+REFUSING = (corners, *LIMITS)
 
 
 def in_words():
@@ -187,19 +187,7 @@ def in_words():
     yield "words", Case(files, ["check", "-w", "-b", "B"])
 
 
-QUICK = (
-    corners,
-    documents,
-    mendings,
-    in_words,
-    near_misses,
-    lines_at_limit,
-    values_at_limit,
-    references_at_limit,
-    texts_at_limit,
-    names_at_limit,
-    plans_at_limit,
-)
+QUICK = (corners, documents, mendings, in_words, *LIMITS, plans_at_limit)
 
 
 def limits(quick):

@@ -12,6 +12,7 @@ from mkcheck_record.faults import Fault
 from mkcheck_record.places import Place
 from mkcheck_record.states import Unusable, path_of_state
 from mkcheck_record.states import read as read_state
+from mkcheck_record.updating import FIRST_TIME
 
 from .builds import Build
 from .copies import run_here
@@ -188,7 +189,8 @@ class Judge:
         if status != 0:
             lines = (said + errors).splitlines(keepends=True)
             raise RecordingFault("".join(line for line in lines if not PROGRESS.match(line)))
-        return errors
+        lines = errors.splitlines(keepends=True)
+        return "".join(line for line in lines if not line.rstrip().endswith(FIRST_TIME))
 
     def looks(self, names: set[str]) -> dict[str, list[str]]:
         """At which of these names each recipe looked, where that was recorded."""

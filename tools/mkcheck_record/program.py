@@ -28,7 +28,7 @@ from .remade import warn_of_goal, warn_of_remade
 from .replaying import Replay
 from .refusals import check_opaque, listed
 from .states import Unusable, path_of_state
-from .updating import Conditions, Updating, believed, hidden_names
+from .updating import FIRST_TIME, Conditions, Updating, believed, hidden_names
 from .verdicts import Verdict, check_trust, judge
 
 ABOUT = "Builds goals once under strace, and writes down which files each recipe reads and writes."
@@ -225,7 +225,10 @@ def updating_of(
     try:
         updating.state = believed(book, conditions)
     except Unusable as reason:
-        tell(f"{path_of_state(asked.update)} {reason}: all recipes are recorded")
+        if not os.path.exists(book) and not os.path.exists(path_of_state(book)):
+            tell(f"{asked.update} {FIRST_TIME}")
+        else:
+            tell(f"{path_of_state(asked.update)} {reason}: all recipes are recorded")
     return updating
 
 

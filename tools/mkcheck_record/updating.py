@@ -35,6 +35,8 @@ OF_SESSION = frozenset(
     " TERM_PROGRAM_VERSION TERM_SESSION_ID MKCHECK".split()
 )
 SHOWN_AT_MOST = 3
+# Said of a footprint file that an update makes.
+FIRST_TIME = "isn't there yet: all recipes are recorded"
 
 
 @dataclass(frozen=True)

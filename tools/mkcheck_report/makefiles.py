@@ -115,7 +115,7 @@ def with_insertion(text: str, column: int, missing: list[str]) -> str:
         end = front[-BYTES_AT_MOST:]
         front = f"… {end.partition(' ')[2] or end}"
     inserted = " ".join(word if len(word) <= 80 else f"{word[:79]}…" for word in words)
-    return f"{markup(front)}<ins> {markup(inserted + more)}</ins>{shown_line(text[column:])}"
+    return f"{markup(front)} <ins>{markup(inserted + more)}</ins>{shown_line(text[column:])}"
 
 
 def shown_line(text: str) -> str:

@@ -105,7 +105,7 @@ def columns(character: str) -> int:
 
 
 def fitted(text: str, room: int) -> str:
-    """A text that is shortened in its middle to so many columns."""
+    """The text, shortened in its middle to at most `room` columns."""
     if sum(map(columns, text)) <= room:
         return text
     front, back, used = "", "", 1
