@@ -225,7 +225,7 @@ EXAMPLES = {
         {"makefile": "x\n", "B": BOTH},
         ["check", "-w", "-b", "B"],
         2,
-        "makefile:1: NotALine (25): the line is no rule, macro or include; rewrite it\n",
+        "makefile:1: NotALine (25): no rule, macro or include line; commands begin with a tab\n",
     ),
     "a mended makefile": (
         {"makefile": TRIED_RULES, "B": TRIED},

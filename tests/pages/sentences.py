@@ -18,7 +18,7 @@ from pathlib import Path
 ROOT = Path(__file__).resolve().parents[2]
 PAGE = ROOT / "docs" / "REFERENCE.md"
 HEAD = "| word | sentence | `add:` | `do:` |\n|---|---|---|---|\n"
-MORE = "more findings may follow: these hide races and stale reads"
+MORE = "mend these first: races and stale reads are looked for only then"
 UNKNOWN = "unexpected argument '-w'"
 COUNTS = (1, 2, 3)
 Record = tuple[str, list[str], list[str]]
@@ -239,7 +239,13 @@ def expected(row: Row, build: Build, has_lines: bool) -> str:
     told = f"{filled(row.sentence, build, shown)} [{row.word}]\n"
     if has_lines:
         return f"{told}  add: {filled(row.add, build, ' '.join)}\n"
-    return f"{told}  do: {filled(row.do, build, shown)}\n"
+    files = build.files if re.search(r"\bF\b", row.sentence) else []
+    lists = "".join(
+        f"  {told}: {' '.join(names)}\n"
+        for told, names in (("targets", build.names), ("files", files))
+        if len(names) > 2
+    )
+    return f"{told}  do: {filled(row.do, build, shown)}\n{lists}"
 
 
 def checked(mkcheck: str, build: Build, command: str) -> str:

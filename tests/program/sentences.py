@@ -18,7 +18,7 @@ PLAN = [
     *("begin p", "look p a.o", "put p p 4", "done p", "end", "edit h.h 5", "make 1", "pass a.o"),
     *("begin p", "look p a.o", "put p p 4", "done p", "end"),
 ]
-MORE = "more findings may follow: these hide races and stale reads"
+MORE = "mend these first: races and stale reads are looked for only then"
 INFERRED = ".c.o:\n\tcc -c a.c\n"
 # Objects that all read two headers; more of them than are named.
 FOUR = [f"{name}.o" for name in "abcd"]
@@ -27,6 +27,15 @@ MANY_RULES = "".join(f"{name}:\n\tcc {name}\n" for name in FOUR)
 # A parser that is written beside its header, which two objects read.
 PARSED = "p.c: p.y > p.c p.h = yacc; a.o: a.c p.h > a.o = cc a; b.o: b.c p.h > b.o = cc b"
 PARSER = "p.c: p.y\n\tyacc\na.o: a.c\n\tcc a\nb.o: b.c\n\tcc b\n"
+
+# How two and three headers of unknown origin are told, and what to do about them.
+UNKNOWN = {
+    2: "x.h and y.h, which are neither sources nor written by recipes",
+    3: "x.h, y.h and 1 more, which are neither sources nor written by recipes",
+}
+TAKEN_IN = (
+    "take them into the project and record again, or record with --fixed if they never change"
+)
 
 # Makefile, sources and records, and the lines that are printed.
 FOUND = [
@@ -146,13 +155,13 @@ FOUND = [
             "makefile:6: the recipes of z and a both write z: what is left depends on which of "
             "them ran last [writers]",
             "  do: let each recipe write files of its own, and check a target such as clean by "
-            "itself; if the recipe of z makes what that of a does, keep it alone, with the line "
-            "`a: z` without commands",
+            "itself; if the recipe of z makes what that of a does, the line `a: z ;` is enough "
+            "for a",
             "makefile:6: the recipes of z and b both write l: what is left depends on which of "
             "them ran last [writers]",
             "  do: let each recipe write files of its own, and check a target such as clean by "
-            "itself; if the recipe of z makes what that of b does, keep it alone, with the line "
-            "`b: z` without commands",
+            "itself; if the recipe of z makes what that of b does, the line `b: z ;` is enough "
+            "for b",
             MORE,
         ],
     ),
@@ -168,7 +177,7 @@ REFUSED = [
     ),
     (
         [],
-        "makefile:1: BadName (27): a word is no name of a file; write each name out plainly",
+        "makefile:1: BadName (27): a word is no plain file name; look for %, *, quotes or CR LF",
         "a: ./b\n",
     ),
     (
@@ -186,7 +195,11 @@ REFUSED = [
         "Cycle (42): c d c: prerequisites form a cycle; remove the one that closes it",
         "a: c\nc: d\nd: c a\n",
     ),
-    (["q"], "NoRule (41): q: nothing makes a name; write a rule for it, or record again", OBJECT),
+    (
+        ["q"],
+        "NoRule (41): q: no rule makes it and it is no source; mend it, or record again",
+        OBJECT,
+    ),
     (
         ["-f", "gone"],
         "NoMakefile (37): gone: there is no makefile; give its name and folder",
@@ -283,6 +296,20 @@ def cut() -> Iterator[Row]:
     yield in_words([], 1, lines, files)
 
 
+def left_out() -> Iterator[Row]:
+    """All names of a group without lines to add, where its sentence leaves some out."""
+    names, files = ["a", "b", "c"], ["x.h", "y.h", "z.h"]
+    rules = f"all: {' '.join(names)}\n" + "".join(f"{name}:\n\tmk\n" for name in names)
+    for count in (2, 3):
+        read = " ".join(files[:count])
+        records = "; ".join(f"{name}: {read} > {name} = mk" for name in names)
+        told = f"makefile:2: the recipes of a, b and 1 more read {UNKNOWN[count]}"
+        lines = [f"{told}: nothing says when they change [unknown]", f"  do: {TAKEN_IN}"]
+        lines.append("  targets: a b c")
+        lines += [f"  files: {read}"] * (count > 2)
+        yield in_words([], 1, [*lines, MORE], {"makefile": rules, "B": book("", records)})
+
+
 def null() -> Iterator[Row]:
     """`/dev/null` is an empty text, however often it is read."""
     for line in ("include /dev/null /dev/null", "-include /dev/null\n-include /dev/null"):
@@ -307,5 +334,5 @@ def sentences() -> Iterator[Row]:
         yield in_words([], 2, [line], {"makefile": OBJECT, "B": footprints})
     for name, line in MISSING:
         yield ["check", "-w", "-b", name], 2, f"{line}\n", FILES
-    for rows in (answers, places, cut, null):
+    for rows in (answers, places, cut, left_out, null):
         yield from rows()

@@ -130,7 +130,7 @@ class RefusalTest(ReportTest):
         page = self.page(2)
         self.assertIn("refused 27 makefile:3", page.text)
         self.assertIn("makefile:3:\n BadName (27)\n", page.text)
-        self.assertIn("A word is no name of a file; write each name out plainly.", page.text)
+        self.assertIn("A word is no plain file name; look for %, *, quotes or CR LF.", page.text)
         self.assertIn("What BadName means", page.text)
         self.assertIn("Pattern rules, wildcards", page.text)
         self.assertIn("%.o: %.c", page.text)
@@ -188,10 +188,16 @@ class KindsTest(ReportTest):
         self.assertLess(self.raw.index('<h2 id="writers">'), self.raw.index('<h2 id="record">'))
         self.assertIn("no writers p.c p.h p.h", text)
         self.assertIn("What to do", text)
-        self.assertIn("<code>p.h: p.c</code>", self.raw)
-        self.assertIn("More findings may follow: these hide races and stale reads.", text)
+        self.assertIn("<code>p.h: p.c ;</code>", self.raw)
+        self.assertIn("Mend these first: races and stale reads are looked for only then.", text)
         self.assertIn("no record q", text)
         self.assertNotIn("A schedule that shows", text)
+
+    def test_left_out(self) -> None:
+        """All files of which the sentence leaves one out."""
+        reads = ["x.h", "y.h", "z.h"]
+        self.build("a.o:\n\tcc -c a.c\n", [("a.o", ["cc -c a.c"], reads, ["a.o"])], [])
+        self.assertIn("files: x.h y.h z.h", self.page(1).text)
 
     def test_continued_rule(self) -> None:
         """The missing word goes to the last of the lines that are joined, before the comment."""

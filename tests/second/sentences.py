@@ -3,14 +3,14 @@
 import re
 from pathlib import Path
 
-from repair import lines_between, word_of
+from repair import cut, lines_between, word_of
 
 PAGE = Path(__file__).resolve().parents[2] / "docs" / "REFERENCE.md"
 FAULT = re.compile(rb"^\| (\d+) \| `([\w:]+)` \| (.*) \|$", re.MULTILINE)
 
 RENAME = b"rename the file: a makefile can't hold its name"
 RENAME_ALL = b"rename the files: a makefile can't hold their names"
-MORE = b"more findings may follow: these hide races and stale reads\n"
+MORE = b"mend these first: races and stale reads are looked for only then\n"
 
 
 class Group:
@@ -220,12 +220,14 @@ def advice(group):
         b"commands": b"record again, with the goals and macros that are checked",
         b"varying": b"write $^ in place of $?, and make the whole file anew in each run",
         b"target": group.one(
-            b"let the recipe write its target, and record again",
-            b"let the recipes write their targets, and record again",
+            b"let the recipe write its target, and record again; if it is a folder, take it out of "
+            b"the prerequisites, and write mkdir -p in the recipes that need it",
+            b"let the recipes write their targets, and record again; if they are folders, take "
+            b"them out of the prerequisites, and write mkdir -p in the recipes that need them",
         ),
         b"writers": b"let each recipe write files of its own, and check a target such as clean by "
-        b"itself; if the recipe of %s makes what that of %s does, keep it alone, with the line "
-        b"`%s: %s` without commands" % (group.first, group.second, group.second, group.first),
+        b"itself; if the recipe of %s makes what that of %s does, the line `%s: %s ;` is enough "
+        b"for %s" % (group.first, group.second, group.second, group.first, group.second),
         b"given": b"let the recipe write %s out of the sources, -include and .PHONY"
         % group.each(b"another file, or take this one", b"other files, or take these"),
         b"own": b"split the recipe in two, or make each file anew from other files alone",
@@ -257,7 +259,14 @@ def group_text(makefile, group):
     text = b"%s: %s [%s]\n" % (place_of(makefile, shown_at), sentence(group), group.kind)
     if group.has_lines:
         return text + b"".join(b"  add: " + line for line in lines(group))
-    return text + b"  do: %s\n" % advice(group)
+    lists = [(b"files" if group.kind == b"writers" else b"targets", group.names)]
+    left_out = b"".join(
+        b"  %s: %s\n" % (told, b" ".join(piece))
+        for told, names in [*lists, (b"files", group.files)]
+        if len(names) > 2
+        for piece in cut(names)
+    )
+    return text + b"  do: %s\n" % advice(group) + left_out
 
 
 def in_sentences(subject, findings):

@@ -27,7 +27,7 @@ KINDS = (
 NAMES = {"race": 3, "writers": 3, "record": 1, "commands": 1, "varying": 1, "target": 1}
 # A group in words: its place with a line or without one, its sentence, and its kind.
 HEAD = re.compile(r"(([^ ]+?)(?::([0-9]+))?): (.*) \[([a-z]+)\]", re.DOTALL)
-ADD, DO = "  add: ", "  do: "
+ADD, DO, LISTS = "  add: ", "  do: ", ("  targets: ", "  files: ")
 # A refusal: with its number, then its words, of which the first may be a place; in words, after the
 # place, with its name.
 REFUSED = re.compile(r"refused ([0-9]+)(?: (.*))?", re.DOTALL)
@@ -93,6 +93,7 @@ class Group:
     text: str
     adds: list[str] = field(default_factory=list)
     advice: str = ""
+    lists: list[str] = field(default_factory=list)
     findings: list[Finding] = field(default_factory=list)
 
     def pairs(self) -> list[tuple[frozenset[str], frozenset[str]]]:
@@ -137,6 +138,8 @@ def groups_of(lines: list[str], makefile: str) -> tuple[list[Group], list[str]]:
             groups[-1].adds.append(line[len(ADD) :])
         elif groups and line.startswith(DO):
             groups[-1].advice = line[len(DO) :]
+        elif groups and line.startswith(LISTS):
+            groups[-1].lists.append(line.strip())
         else:
             head = HEAD.fullmatch(line)
             if head is None:

@@ -164,8 +164,11 @@ def remedy(group: Group, makefile: str) -> str:
 
 
 def advice(group: Group) -> str:
-    """What is to be done where no line mends a group."""
-    return f'<p class="do">{prose(as_sentence(clipped(group.advice)))}</p>' if group.advice else ""
+    """What is to be done where no line mends a group, and the names that its sentence leaves out."""
+    if not group.advice:
+        return ""
+    lists = f"<pre>{clipped_lines(group.lists)}</pre>" if group.lists else ""
+    return f'<p class="do">{prose(as_sentence(clipped(group.advice)))}</p>{lists}'
 
 
 def clipped_lines(lines: list[str]) -> str:

@@ -34,7 +34,7 @@ pub const FAULTS: [(u32, &str, &str); 65] = [
     (
         11,
         "BadMacroName",
-        "a macro's name is bad; use letters, digits, `.`, `_`, `-`",
+        "no macro is called so; GNU's functions need mkcheck-import",
     ),
     (
         12,
@@ -77,7 +77,7 @@ pub const FAULTS: [(u32, &str, &str); 65] = [
     (
         25,
         "NotALine",
-        "the line is no rule, macro or include; rewrite it",
+        "no rule, macro or include line; commands begin with a tab",
     ),
     (
         26,
@@ -87,7 +87,7 @@ pub const FAULTS: [(u32, &str, &str); 65] = [
     (
         27,
         "BadName",
-        "a word is no name of a file; write each name out plainly",
+        "a word is no plain file name; look for %, *, quotes or CR LF",
     ),
     (
         27,
@@ -102,22 +102,22 @@ pub const FAULTS: [(u32, &str, &str); 65] = [
     (
         28,
         "ArchiveMember",
-        "a word has brackets, as a member of an archive; drop them",
+        "members of archives aren't supported; name the archive",
     ),
     (
         28,
         "GoalIsMember",
-        "a goal has brackets, as a member of an archive; drop them",
+        "a goal is a member of an archive; give the archive",
     ),
     (
         29,
         "UnknownSpecial",
-        "this special target isn't known; remove its line",
+        "POSIX has no such special target; remove its line",
     ),
     (
         30,
         "SpecialShape",
-        "a special target isn't alone; give it a line of its own",
+        "a special target has too much on its line; move the rest",
     ),
     (
         31,
@@ -167,7 +167,7 @@ pub const FAULTS: [(u32, &str, &str); 65] = [
     (
         41,
         "NoRule",
-        "nothing makes a name; write a rule for it, or record again",
+        "no rule makes it and it is no source; mend it, or record again",
     ),
     (
         42,

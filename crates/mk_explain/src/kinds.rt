@@ -51,12 +51,13 @@ Use a macro of its own for the target, in the commands of that target.
 pub const NOT_A_LINE: &str = "\
 `refused 25 FILE:LINE`: a line is no rule, no assignment and no include line,
 or is a rule line without targets. Conditionals, `define`, `export` and the
-like are such lines.
+like are such lines, and so are commands that begin with spaces.
 
     ifdef DEBUG
 
 Write `?=` if that is meant, or write files of which one is included:
-`include config-$(SYSTEM).mk`, with `SYSTEM` as an operand.
+`include config-$(SYSTEM).mk`, with `SYSTEM` as an operand. Or let
+`mkcheck-import` read the build as GNU make does.
 ";
 
 /// `StrayCommand` (26).

@@ -13,8 +13,9 @@ operator than `=`, `::=` and `:::=`. Functions of GNU make are such names.
     all: $(wildcard *.c)
 
 Write the list out, and use names of letters, digits, `.`, `_` and `-`. What a
-shell can compute, the recipe's shell can (docs/FROM_GNU_MAKE.md). For an
-operand such as `CFLAGS+=-g` give the whole value: `CFLAGS=\"-O1 -g\"`.
+shell can compute, the recipe's shell can (docs/FROM_GNU_MAKE.md). Or let
+`mkcheck-import` read the build as GNU make does. For an operand such as
+`CFLAGS+=-g` give the whole value: `CFLAGS=\"-O1 -g\"`.
 ";
 
 /// `Recursive` (12).

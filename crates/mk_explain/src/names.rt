@@ -7,17 +7,17 @@ ghost use Rattle.mk_explain.specs.Texts.{names_text};
 /// `BadName` (27).
 pub const BAD_NAME: &str = "\
 `refused 27 FILE:LINE`: a word is no name. Pattern rules, wildcards,
-order-only prerequisites, and second spellings of a file, as `./a.o`, have
-such words. A goal may be no name either, or be `.WAIT` or `-` (`BadGoal`). If
-the name for `-f` is `-` or no plain path, that name is printed in place of
-FILE:LINE (`BadMakefileName`).
+order-only prerequisites, quotes, lines that end in CR LF, and second
+spellings of a file, as `./a.o`, have such words. A goal may be no name
+either, or be `.WAIT` or `-` (`BadGoal`). If the name for `-f` is `-` or no
+plain path, that name is printed in place of FILE:LINE (`BadMakefileName`).
 
     %.o: %.c
     \tcc -c $<
 
 Write `a.o` for `./a.o`; an inference rule, `.c.o:`, for a pattern rule; the
-list itself for a wildcard. For a makefile on standard input write
-`-f /dev/stdin`.
+list itself for a wildcard; or let `mkcheck-import` read the build as GNU make
+does. For a makefile on standard input write `-f /dev/stdin`.
 ";
 
 /// `ArchiveMember` (28).

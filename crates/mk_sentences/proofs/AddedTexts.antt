@@ -18,7 +18,7 @@ lines_of_parts parts (piece ∷ targets) =
     ∙ (ap (λ rest. flat_map added_line (lines_with piece parts) ++ rest) (lines_of_parts parts targets) ∙ ap (λ here. here ++ flat_map (λ piece. flat_map (λ part. added_with piece part) (map spaced parts)) (map spaced targets)) (lines_of_part piece parts))
 
 -- a function of what a view shows
-flat_map_seen : {A : Type 0} (f : List ℕ → List ℕ) (see : A → List ℕ) (xs : List A) → flat_map (λ x. f (see x)) xs ≡ flat_map f (map see xs)
+pub flat_map_seen : {A : Type 0} (f : List ℕ → List ℕ) (see : A → List ℕ) (xs : List A) → flat_map (λ x. f (see x)) xs ≡ flat_map f (map see xs)
 flat_map_seen f see [] = refl
 flat_map_seen f see (x ∷ xs) = ap (λ rest. f (see x) ++ rest) (flat_map_seen f see xs)
 

@@ -16,8 +16,8 @@ abbrev pub keep_one : (first second : List ℕ) → List ℕ
 keep_one first second =
     codes "let each recipe write files of its own, and check a target such as clean by itself; " ++
     (codes "if the recipe of " ++ (first ++ (codes " makes what that of " ++ (second ++
-    (codes " does, keep it alone, with the line `" ++ (second ++ (codes ": " ++ (first ++
-    codes "` without commands"))))))))
+    (codes " does, the line `" ++ (second ++ (codes ": " ++ (first ++
+    (codes " ;` is enough for " ++ second)))))))))
 
 -- A file from which each make starts.
 abbrev pub write_another : List (List ℕ) → List ℕ
@@ -51,8 +51,11 @@ advice_of OtherCommands first second who what =
 advice_of VaryingCommands first second who what =
     codes "write $^ in place of $?, and make the whole file anew in each run"
 advice_of NoTarget first second who what =
-    by who (codes "let the recipe write its target, and record again")
-    (codes "let the recipes write their targets, and record again")
+    by who
+    (codes "let the recipe write its target, and record again; if it is a folder, " ++
+    codes "take it out of the prerequisites, and write mkdir -p in the recipes that need it")
+    (codes "let the recipes write their targets, and record again; if they are folders, " ++
+    codes "take them out of the prerequisites, and write mkdir -p in the recipes that need them")
 advice_of TwoWriters first second who what = keep_one first second
 advice_of GivenWritten first second who what = write_another what
 advice_of OwnRead first second who what =

@@ -7,5 +7,6 @@ pub mod Places
 pub mod Sentences
 pub mod Advice
 pub mod Adding
+pub mod Listing
 pub mod Text
 pub mod Laws

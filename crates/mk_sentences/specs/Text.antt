@@ -12,6 +12,7 @@ use Rattle.mk_sentences.specs.Places.{first_name, head}
 use Rattle.mk_sentences.specs.Sentences.{sentence}
 use Rattle.mk_sentences.specs.Advice.{advice}
 use Rattle.mk_sentences.specs.Adding.{added_lines, lines_of}
+use Rattle.mk_sentences.specs.Listing.{left_out, who_are}
 use Rattle.mk_sentences.specs.declared.topic.Kind.{Kind}
 use Rattle.mk_sentences.specs.declared.topic.Kind.TheVariants.{TwoWriters}
 
@@ -25,9 +26,11 @@ shown_name_of kind first who = first_name who
 abbrev pub shown_name : Topic → (who : List (List ℕ)) → List ℕ
 shown_name topic who = shown_name_of topic.kind topic.first who
 
--- What to do about a group that no line mends.
+-- What to do about a group that no line mends, and the names that its sentence leaves out.
 abbrev pub to_do : Topic → (who what : List (List ℕ)) → List ℕ
-to_do topic who what = codes "  do: " ++ (advice topic who what ++ codes "\n")
+to_do topic who what =
+    codes "  do: " ++ (advice topic who what ++ (codes "\n" ++
+    (left_out (who_are topic.kind) who ++ left_out (codes "files") what)))
 
 -- The lines to add where they mend the group, else what to do.
 abbrev pub repair_text : Topic → (who what : List (List ℕ)) → List ℕ
@@ -51,13 +54,14 @@ is_static (finding.Race recipe writer file) = false
 is_static (finding.Stale recipe file) = false
 is_static found = true
 
--- The line that says that more findings may follow, where there are findings that hide others.
+-- The line that says that others are looked for only later, where there are findings that hide
+-- others.
 abbrev pub more_text : List Finding → List ℕ
 more_text findings =
     if list_any is_static findings
-    then codes "more findings may follow: these hide races and stale reads\n" else []
+    then codes "mend these first: races and stale reads are looked for only then\n" else []
 
--- The text of findings: that of each group, and whether more may follow.
+-- The text of findings: that of each group, and whether they hide others.
 abbrev pub sentences_text : Subject → List Finding → List ℕ
 sentences_text x findings =
     flat_map (group_text x.makefile) (groups (map (claim_of x) findings)) ++ more_text findings

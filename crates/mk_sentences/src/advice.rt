@@ -30,8 +30,8 @@ fn push_keep_one(out: &mut String, first: &str, second: &str) -> Result<(), Allo
     write!(
         out,
         "let each recipe write files of its own, and check a target such as clean by itself; \
-         if the recipe of {first} makes what that of {second} does, keep it alone, \
-         with the line `{second}: {first}` without commands"
+         if the recipe of {first} makes what that of {second} does, \
+         the line `{second}: {first} ;` is enough for {second}"
     )
 }
 
@@ -92,8 +92,10 @@ pub fn push_advice(
         }
         Kind::NoTarget => out.push_str(by(
             who,
-            "let the recipe write its target, and record again",
-            "let the recipes write their targets, and record again",
+            "let the recipe write its target, and record again; if it is a folder, \
+             take it out of the prerequisites, and write mkdir -p in the recipes that need it",
+            "let the recipes write their targets, and record again; if they are folders, \
+             take them out of the prerequisites, and write mkdir -p in the recipes that need them",
         )),
         Kind::TwoWriters => push_keep_one(out, topic.first, topic.second),
         Kind::GivenWritten => push_write_another(out, what),

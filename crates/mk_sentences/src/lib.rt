@@ -6,6 +6,7 @@ mod advice;
 mod claim;
 mod grouping;
 pub mod laws;
+mod listing;
 mod phrases;
 mod places;
 mod rendering;

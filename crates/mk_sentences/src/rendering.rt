@@ -16,6 +16,7 @@ use crate::adding::push_added_lines;
 use crate::advice::push_advice;
 use crate::claim::{Claim, claims_of};
 use crate::grouping::{Groups, Rows, groups_of, rows_of};
+use crate::listing::{push_left_out, who_are};
 use crate::places::{Places, push_head};
 use crate::sentence::push_sentence;
 use crate::topic::{Kind, Topic, kind_word};
@@ -44,8 +45,9 @@ fn shown_name<'a>(topic: &Topic<'a>, who: &[&'a str]) -> &'a str
     }
 }
 
-/// Appends what to do about a group that no line mends.
+/// Appends what to do about a group that no line mends, and the names that its sentence leaves out.
 fn push_to_do(
+    alloc: Global,
     out: &mut String,
     topic: &Topic<'_>,
     who: &[&str],
@@ -56,7 +58,9 @@ fn push_to_do(
 {
     out.push_str("  do: ")?;
     push_advice(out, topic, who, what)?;
-    out.push_str("\n")
+    out.push_str("\n")?;
+    push_left_out(alloc, out, who_are(topic.kind), who)?;
+    push_left_out(alloc, out, "files", what)
 }
 
 /// Appends the lines to add where they mend the group, else what to do.
@@ -73,7 +77,7 @@ fn push_repair(
     if topic.has_line {
         push_added_lines(alloc, out, topic, who, what)
     } else {
-        push_to_do(out, topic, who, what)
+        push_to_do(alloc, out, topic, who, what)
     }
 }
 
@@ -170,25 +174,26 @@ fn has_static(findings: &[Finding]) -> bool
     findings.iter().any(|finding| is_static(finding))
 }
 
-/// Appends the line that says that more findings may follow, where there are findings that hide
-/// others.
+/// Appends the line that says that others are looked for only later, where there are findings that
+/// hide others.
 fn push_more(out: &mut String, findings: &[Finding]) -> Result<(), AllocError>
     ensures { OnOk result (string_bytes out.new ≡
         string_bytes out.old ++ more_text findings.now) }
 {
     if has_static(findings) {
-        out.push_str("more findings may follow: these hide races and stale reads\n")?;
+        out.push_str("mend these first: races and stale reads are looked for only then\n")?;
     }
     Ok(())
 }
 
 /// The findings of a no in sentences. Findings that say the same of several names or files are a
 /// group: a line `FILE:LINE: SENTENCE [WORD]`, and below it the lines to add to the makefile, each
-/// after `  add: `, or what else to do, after `  do: `. The groups come in the order of their first
-/// findings. A group stands at the rule line that gives commands to its first target, else at the
-/// first one that has it as a target. The last line says that more findings may follow, where these
-/// hide others. Takes time linear in the makefile, the graph and the findings. The only error is
-/// out of memory.
+/// after `  add: `, or what else to do, after `  do: `, and then all targets or files of which the
+/// sentence leaves some out, after `  targets: ` or `  files: `. The groups come in the order of
+/// their first findings. A group stands at the rule line that gives commands to its first target,
+/// else at the first one that has it as a target. The last line says that these hide others, where
+/// they do. Takes time linear in the makefile, the graph and the findings. The only error is out of
+/// memory.
 pub fn sentences(
     alloc: Global,
     subject: &Subject<'_>,

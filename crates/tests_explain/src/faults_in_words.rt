@@ -38,7 +38,7 @@ fn says_a_place(rt: HostRuntime) -> Result<(), Fail> {
     let alloc = rt.alloc();
     let fault = Fault::Read(ReadFault::BadName(place(alloc, 3747)?));
     let wanted = "makefile:3747: BadName (27): \
-                  a word is no name of a file; write each name out plainly";
+                  a word is no plain file name; look for %, *, quotes or CR LF";
     assert!(rt; is_said(alloc, fault, wanted)?);
     Ok(())
 }
@@ -58,7 +58,7 @@ fn says_a_place_and_a_word(rt: HostRuntime) -> Result<(), Fail> {
 fn says_a_word(rt: HostRuntime) -> Result<(), Fail> {
     let alloc = rt.alloc();
     let fault = Fault::Infer(InferFault::NoRule(Name::new(alloc, "x.c")?));
-    let wanted = "NoRule (41): x.c: nothing makes a name; write a rule for it, or record again";
+    let wanted = "NoRule (41): x.c: no rule makes it and it is no source; mend it, or record again";
     assert!(rt; is_said(alloc, fault, wanted)?);
     Ok(())
 }

@@ -19,13 +19,13 @@ p: a.o b.o¶→cc -o p a.o b.o¶a.o: a.c¶→cc -c a.c¶b.o: b.c¶→cc -c b.c¶
 lib.a: a.o¶→ar rv $@ $?¶‖check -w -b B‖a.o‖lib.a: a.o > lib.a = ar rv lib.a a.o‖1
     ‖makefile:1: the commands of lib.a use $?, so what it holds may depend on what was out of date
      [varying]¶  do: write $^ in place of $?, and make the whole file anew in each run¶
-    more findings may follow: these hide races and stale reads¶
+    mend these first: races and stale reads are looked for only then¶
 p: a.c¶→cc -o p a.c¶p:¶→cc -o p¶‖check -w -b B‖a.c‖p: a.c > p = cc -o p a.c‖2
     ‖makefile:3: TwoRecipes (31): p: a target has commands on two lines; keep those of one¶
 p: a.c¶→cc -o p a.c¶x¶‖check -w -b B‖a.c‖p: a.c > p = cc -o p a.c‖2
-    ‖makefile:3: NotALine (25): the line is no rule, macro or include; rewrite it¶
+    ‖makefile:3: NotALine (25): no rule, macro or include line; commands begin with a tab¶
 p: a.c¶→cc -o p a.c¶‖check -w -b B q‖a.c‖p: a.c > p = cc -o p a.c‖2
-    ‖NoRule (41): q: nothing makes a name; write a rule for it, or record again¶";
+    ‖NoRule (41): q: no rule makes it and it is no source; mend it, or record again¶";
 
 #[test]
 fn tells_findings_and_faults(rt: HostRuntime) -> Result<(), Fail> {
