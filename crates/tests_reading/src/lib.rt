@@ -1,11 +1,8 @@
-//! Tests of reading makefiles and of inference rules by public calls: what no contract says, and
-//! worked examples.
+//! Tests of reading makefiles by public calls: what no contract says, and worked examples.
 #![tactic(auto)]
 
 #[cfg(test)]
 mod files;
-#[cfg(test)]
-mod infer;
 #[cfg(test)]
 mod read_lines;
 #[cfg(test)]

@@ -1,6 +1,5 @@
 //! Rows on inference rules, selection, goals and commands, over makefiles in memory.
 
-use crate::files::file_of;
 use mk_graph::Graph;
 use mk_infer::{
     ChoiceAndCommands, Choices, Commands, Exists, InferFault, RuleTable, choice,
@@ -9,7 +8,7 @@ use mk_infer::{
 use mk_infer_select::{Goals, goal_names, select};
 use mk_lines::{NameTable, Prefixes};
 use mk_read::Makefile;
-use mk_read_parse::read_makefile;
+use mk_read_parse::{MemFiles, read_makefile};
 use std::alloc::{AllocError, Global};
 use std::process::Abort;
 use std::test::Fail;
@@ -18,7 +17,8 @@ use tests_tables::{field, fields_of, unfolded};
 
 /// Reads a makefile after the default text, with a macro operand.
 fn makefile(alloc: Global, text: &[u8]) -> Result<Makefile, Fail> {
-    let mut files = file_of(alloc, "makefile", text)?;
+    let mut files = MemFiles::new(alloc);
+    files.add("makefile", text)?;
     let operand = b"CC=cc".to_vec(alloc)?;
     Ok(read_makefile(alloc, &mut files, None, true, &[operand])?)
 }
