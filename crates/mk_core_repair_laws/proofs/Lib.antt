@@ -1,0 +1,3 @@
+mod SameFiles
+mod OneSurvey
+mod OneRepair
