@@ -11,6 +11,7 @@ import argparse
 import json
 import os
 import re
+import resource
 import shutil
 import subprocess
 import sys
@@ -44,6 +45,15 @@ class Outcome:
     status: int = 2
     findings: Counter[str] = field(default_factory=Counter)
     seconds: dict[str, float] = field(default_factory=dict)
+    processor: float = 0.0
+    """The processor time of the import."""
+
+    built: float = 0.0
+    """The processor time of a build from nothing by the tool itself."""
+
+    load: float = 0.0
+    """The load of the machine when the import ended."""
+
     stale: Tally = field(default_factory=Tally)
     ways: Tally = field(default_factory=Tally)
     races: Tally = field(default_factory=Tally)
@@ -89,6 +99,12 @@ def environment() -> dict[str, str]:
     return {**kept, "MKCHECK": checker, "LC_ALL": "C"}
 
 
+def processor_time() -> float:
+    """The processor time of all programs that have ended."""
+    used = resource.getrusage(resource.RUSAGE_CHILDREN)
+    return used.ru_utime + used.ru_stime
+
+
 def configure(project: dict[str, object], folder: Path) -> None:
     """Runs the commands that configure a project."""
     for command in project.get("configure", []):
@@ -120,6 +136,7 @@ def import_project(
     shutil.rmtree(output, ignore_errors=True)
     words = [*project.get("options", []), *options, *project.get("words", [])]
     program = [sys.executable, str(ROOT / "tools" / "mkcheck-import")]
+    begun = processor_time()
     done = subprocess.run(
         [*program, "-C", str(folder), "-o", str(output), *words],
         env=environment(),
@@ -127,6 +144,7 @@ def import_project(
         text=True,
         check=False,
     )
+    outcome.processor, outcome.load = processor_time() - begun, os.getloadavg()[0]
     outcome.status = done.returncode
     outcome.seconds = {step: float(seconds) for step, seconds in STEP.findall(done.stderr)}
     (output.parent / f"{output.name}.txt").write_text(done.stderr + done.stdout)
@@ -149,6 +167,9 @@ def try_project(imported: Imported, samples: int) -> None:
     book = json.loads((imported.output / "footprint.json").read_text())
     writes = {record["target"]: record["writes"] for record in book["records"]}
     trial = Trial(imported.folder, imported.build, writes)
+    begun = processor_time()
+    trial.run()
+    outcome.built = processor_time() - begun
     trial.begin()
     stale = imported.found("no stale ")
     outcome.stale = trial.try_stale(stale, samples, outcome.name)
@@ -239,13 +260,15 @@ def row(outcome: Outcome) -> list[str]:
     seconds = [f"{outcome.seconds[step]:.1f}" if step in outcome.seconds else "-" for step in STEPS]
     tried = [str(one) for one in (outcome.stale, outcome.ways, outcome.races, outcome.writers)]
     cells = [outcome.name, outcome.kind, str(outcome.recipes), outcome.answer, found]
-    return [*cells, *tried, *seconds]
+    costs = [f"{cost:.1f}" for cost in (outcome.processor, outcome.built, outcome.load)]
+    return [*cells, *tried, *seconds, *costs]
 
 
 def print_table(outcomes: list[Outcome]) -> None:
     """Prints a line for each project."""
     trues = [f"{kind} true" for kind in ("stale", "ways", "races", "writers")]
-    heads = ["project", "kind", "recipes", "answer", "findings", *trues, *STEPS]
+    costs = ["processor", "of a build", "load"]
+    heads = ["project", "kind", "recipes", "answer", "findings", *trues, *STEPS, *costs]
     rows = [heads, *map(row, outcomes)]
     widths = [max(len(cells[at]) for cells in rows) for at in range(len(heads))]
     for cells in rows:
