@@ -9,7 +9,7 @@ import subprocess
 import sys
 import time
 
-from make_folder import ENVIRONMENT, IMPORTER, MakeFolderTest, can_judge, has_make
+from make_folder import ENVIRONMENT, IMPORTER, MKCHECK, MakeFolderTest, can_judge, has_make
 
 
 @has_make
@@ -166,6 +166,29 @@ class StepsTest(MakeFolderTest):
         for _ in range(2):
             answer = self.imported("--only", "check", keep=True)
             self.assertEqual((answer.status, answer.findings), (1, ["no stale x b"]))
+
+    def test_other_commands(self) -> None:
+        """What is left serves the other commands of mkcheck, and the report."""
+        self.write({"Makefile": "x: a\n\tcat a b > x\n", "a": "a\n", "b": "b\n"})
+        self.imported()
+        output, report = self.folder / ".mkcheck", str(self.scratch / "report.html")
+        files = ["-f", str(output / "makefile"), "-b", str(output / "footprint.json")]
+        reporter = [sys.executable, str(IMPORTER.with_name("mkcheck-report"))]
+        for words, status, said in (
+            ([MKCHECK, "repair", *files], 0, "\nx: b\n"),
+            ([MKCHECK, "check", "-w", *files], 1, "makefile:3: x reads b, but doesn't depend on"),
+            ([*reporter, *files, "-o", report], 1, "no, 1 finding in 1 group"),
+        ):
+            done = subprocess.run(
+                words,
+                cwd=self.folder,
+                env=ENVIRONMENT,
+                capture_output=True,
+                text=True,
+                check=False,
+            )
+            self.assertEqual(done.returncode, status, done.stderr)
+            self.assertIn(said, done.stdout + done.stderr)
 
     def test_without_strace(self) -> None:
         """The translation is there, and says what isn't known."""

@@ -30,3 +30,29 @@ class LeavingTest(MakeFolderTest):
         self.assertIn("the build has for them aren't judged (2 files): config.h", answer.output)
         self.assertEqual(list(answer.records), ["p"])
         self.try_answer(answer)
+
+    def test_configured_stamp(self) -> None:
+        """A recipe that runs config.status only where its target is there: it isn't replayed."""
+        self.write(
+            {
+                "Makefile": "p: config.h main\n\tcat config.h main > p\nconfig.h: stamp-h\n"
+                "stamp-h: config.in config.status\n"
+                "\ttest ! -f stamp-h || FILES=config.h ./config.status\n\ttouch stamp-h\n",
+                "config.in": "in\n",
+                "main": "main\n",
+                "config.h": "in\n",
+                "config.status": "#!/bin/sh\ncp config.in config.h\n",
+            }
+        )
+        answer = self.imported(replay=True)
+        self.assertEqual(answer.status, 0, answer.output + answer.errors)
+        self.assertIn(
+            "    stamp-h: its recipe runs config.status, so it is of the configure step, and is"
+            " recorded as it is, and not replayed\n",
+            answer.output,
+        )
+        (self.folder / "config.status").rename(self.folder / "configure.sh")
+        makefile = self.folder / "Makefile"
+        makefile.write_text(makefile.read_text().replace("config.status", "configure.sh"))
+        answer = self.imported(replay=True)
+        self.assertEqual(answer.status, 2, answer.output + answer.errors)

@@ -21,7 +21,7 @@ from mkcheck_import.builds import (  # noqa: E402
 )
 from mkcheck_import.database import Database, read_database  # noqa: E402
 from mkcheck_import.gnumake import Make, is_harmless, options_of  # noqa: E402
-from mkcheck_import.judging import PROGRESS  # noqa: E402
+from mkcheck_import.judging import OWN_ADVICE, PROGRESS, advice  # noqa: E402
 from mkcheck_import.ordering import Order  # noqa: E402
 from mkcheck_import.plain import makefile, quoted, shell_text  # noqa: E402
 from mkcheck_import.recursion import is_only_makes, without_makes  # noqa: E402
@@ -29,6 +29,8 @@ from mkcheck_import.saving import build_of_text, text_of_build  # noqa: E402
 from mkcheck_import.transcripts import MARK, prefix_of, read_transcript  # noqa: E402
 from mkcheck_import.translating import Translation  # noqa: E402
 from mkcheck_import.trying import Said, Trial  # noqa: E402
+from mkcheck_record.places import Place  # noqa: E402
+from mkcheck_record.refusals import started_make  # noqa: E402
 
 # As GNU make 4.3 prints it, shortened.
 BASE = """
@@ -187,6 +189,22 @@ class ProgressTest(unittest.TestCase):
             self.assertFalse(PROGRESS.match(line), line)
 
 
+class AdviceTest(unittest.TestCase):
+    """What the recorder advises by options of its own."""
+
+    def test_make_in_a_recipe(self) -> None:
+        for folder, said in (
+            ("/p/lib", "import that folder by itself (mkcheck-import -C lib), and here goals that"),
+            ("/p", "its build isn't judged here; import its goals by themselves, and here goals"),
+        ):
+            text = started_make("x", "make", folder, Place("/p", "/p"))
+            self.assertIn("--opaque", text)
+            text = OWN_ADVICE.sub(advice, text)
+            self.assertIn(said, text)
+            self.assertNotIn("--opaque", text)
+            self.assertNotIn("mkcheck-record", text)
+
+
 class ConditionTest(unittest.TestCase):
     """Lines of makefiles that compare a macro whose value comes from a file."""
 
@@ -200,7 +218,8 @@ class ConditionTest(unittest.TestCase):
 
         with tempfile.TemporaryDirectory() as folder:
             Path(folder, "Makefile").write_text(text)
-            trial = Trial(folder, {"Makefile"}, set(), lambda is_confined: [])
+            runs = (lambda is_confined: [], lambda command, is_confined: "")
+            trial = Trial(folder, {"Makefile"}, set(), *runs)
             trial.__dict__["before"] = [said(value), said(value)]
             return trial.conditional([said(one) for one in others or ("V = 2\nW = x$(V)",)])
 
@@ -210,6 +229,8 @@ class ConditionTest(unittest.TestCase):
             "else ifneq (${V}, 2)",
             "F = $(if $V,a)",
             "F = $(filter 1,$(W))",
+            "F = $(words $(V)) $(G)",
+            "F = $(suffix $(V))",
             "F = $(F_$(V))",
             "include $(V).mk",
             "-include a \\\n $(W).mk",

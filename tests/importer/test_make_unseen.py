@@ -88,6 +88,64 @@ class WrittenMakefileTest(UnseenTestCase):
 
 
 @can_judge
+class RemadeMakefileTest(UnseenTestCase):
+    """A makefile with macros that make makes anew when it reads its makefiles."""
+
+    SENTENCE = (
+        "    config.mk: make makes this makefile anew when config.in changes, commands may be"
+        " others then, and make doesn't run those again; let all that is made need config.mk\n"
+    )
+
+    def macros(self, needs: str, rule: str = "config.mk: config.in\n\tcp config.in $@") -> None:
+        """It is there already, as an earlier build or the project has left it."""
+        self.write(
+            {
+                "Makefile": f"include config.mk\nx: a {needs}\n\t{{ echo $(v); cat a; }} > x\n"
+                f"{rule}\nclean:\n\trm -f x\n",
+                "a": "a\n",
+                "config.in": "v = 1\n",
+                "config.mk": "v = 1\n",
+            }
+        )
+
+    def test_nothing_needs_it(self) -> None:
+        self.macros("")
+        self.assertEqual(self.left({"config.in": "v = 2\n"}, "x"), ["1\na\n", "2\na\n"])
+        self.refused(self.SENTENCE)
+
+    def test_all_need_it(self) -> None:
+        for needs in ("config.mk", "config.in"):
+            self.macros(needs)
+            self.assertEqual(self.left({"config.in": "v = 2\n"}, "x"), ["2\na\n", "2\na\n"])
+            self.accepted()
+
+    def test_one_recipe_does_not(self) -> None:
+        self.macros("config.mk")
+        self.add_lines("x: y\ny: a\n\techo $(v) > y\n")
+        self.refused(self.SENTENCE)
+
+    def test_recipes_that_always_run(self) -> None:
+        self.macros("force")
+        self.add_lines("force:\n.PHONY: force\n")
+        self.accepted()
+
+    def test_it_is_made_once(self) -> None:
+        """A makefile that needs nothing is made if it is missing, and never again."""
+        self.macros("", "config.mk:\n\tcp config.in config.mk")
+        self.accepted()
+
+    def test_configure_step(self) -> None:
+        """What config.status makes stays as it is until somebody configures again."""
+        self.macros("", "config.mk: config.in\n\t./config.status")
+        makefile = self.folder / "Makefile"
+        makefile.write_text(makefile.read_text().replace("config.mk", "Makefile.inc"))
+        (self.folder / "config.mk").rename(self.folder / "Makefile.inc")
+        status = "#!/bin/sh\nconfig_files=\"Makefile.inc\"\ncp config.in Makefile.inc\n"
+        self.write({"config.status": status})
+        self.assertIn("1 makefile that make makes anew", self.accepted().log)
+
+
+@can_judge
 class WhileReadingTest(UnseenTestCase):
     """Files that make makes when it reads its makefiles."""
 
@@ -263,6 +321,48 @@ class ReadingTest(UnseenTestCase):
         sentence = "make reads mode beside its makefiles, and whether commands depend on it isn't"
         self.refused(sentence)
 
+    def several(self, needs: str) -> None:
+        """Two commands read one file, of which one prints something else with any contents."""
+        self.write(
+            {
+                "Makefile": "v := $(shell sed -n 's/^version=//p' conf)\n"
+                "f := $(shell grep -c '^special=yes' conf)\nall: x y\n.PHONY: all\n"
+                f"x: a conf\n\techo $v > x\ny: a {needs}\n\techo $f > y\n",
+                "conf": "version=1\nname=one\n",
+                "a": "a\n",
+            }
+        )
+
+    def test_several_commands(self) -> None:
+        self.several("")
+        edited = {"conf": "version=1\nspecial=yes\n"}
+        self.assertEqual(self.left(edited, "y"), ["0\n", "1\n"])
+        self.refused(
+            "    make reads conf beside its makefiles by several commands, and whether what `grep"
+            " -c ^special=yes conf` prints depends on it isn't known, since that is the same with"
+            " all other contents that were tried; let all that is made need conf\n"
+        )
+        self.several("conf")
+        self.assertEqual(self.left(edited, "y"), ["1\n", "1\n"])
+        self.accepted()
+
+    def test_several_commands_that_all_print_something_else(self) -> None:
+        self.several("conf")
+        self.add_lines("n := $(shell sed -n 's/^name=//p' conf)\nall: z\nz: a\n\tcp a z\n")
+        self.add_lines("x: a conf\n\techo $v $n > x\n")
+        makefile = self.folder / "Makefile"
+        makefile.write_text(makefile.read_text().replace("^special=yes", "name"))
+        answer = self.imported()
+        self.assertNotIn("several commands", answer.output)
+        makefile.write_text(makefile.read_text().replace("grep -c 'name'", "cat"))
+        self.accepted()
+
+    def test_several_commands_of_a_make_below(self) -> None:
+        self.several("")
+        (self.folder / "Makefile").rename(self.folder / "sub.mk")
+        self.write({"Makefile": "all:\n\t$(MAKE) -f sub.mk all\n.PHONY: all\n"})
+        self.refused("make reads conf beside its makefiles by several commands")
+
     def test_condition_that_asks_for_nothing(self) -> None:
         """An empty file is tried."""
         self.version("ifeq ($(v),)\n$(warning no version)\nendif\nx: version\n")
@@ -380,6 +480,91 @@ class ReadingTest(UnseenTestCase):
             "make reads version beside its makefiles, and whether commands depend on it couldn't be"
             " tried, since make refuses other contents"
         )
+
+
+@can_judge
+class ReadOutputTest(UnseenTestCase):
+    """Files that a recipe makes, and that make reads for the commands of another one."""
+
+    SENTENCE = (
+        "    make reads gen beside its makefiles (by $(shell ..) or $(file ..)), which a recipe"
+        " makes, so commands may depend on what an earlier build left, and make doesn't run them"
+        " again when it changes; let a recipe read it, as by $$(cat gen)\n"
+    )
+
+    def reads(self, text: str, needs: str = "| gen") -> None:
+        self.write(
+            {
+                "Makefile": f"x: a {needs}\n\techo {text} > x\ngen: b\n\tcp b gen\n",
+                "a": "a\n",
+                "b": "1\n",
+            }
+        )
+
+    def test_shell(self) -> None:
+        self.reads("$(shell cat gen)")
+        self.assertEqual(self.left({"b": "2\n"}, "x"), ["1\n", "2\n"])
+        self.refused(self.SENTENCE)
+
+    def test_text_of_a_file(self) -> None:
+        self.reads("$(file < gen)")
+        self.assertEqual(self.left({"b": "2\n"}, "x"), ["1\n", "2\n"])
+        self.refused(self.SENTENCE)
+
+    def test_before_recipes_run(self) -> None:
+        """What stands in it when make begins may be the same in one build and not in the next."""
+        self.reads("$(v)", "gen")
+        self.add_lines("v := $(shell grep -c 2 gen 2> /dev/null || :)\nv += $(if $v,,0)\n")
+        built = self.built()
+        for edits, text in (({"b": "2\n"}, "0\n"), ({"a": "b\n"}, "1\n")):
+            time.sleep(0.02)  # The clock of the file system is that coarse.
+            self.edit(built, edits)
+            self.run_make(built, "")
+            self.assertEqual((built / "x").read_text(), text)
+        self.refused(self.SENTENCE)
+
+    def test_make_below(self) -> None:
+        self.reads("$(shell cat gen)")
+        (self.folder / "Makefile").rename(self.folder / "sub.mk")
+        self.write({"Makefile": "all:\n\t$(MAKE) -f sub.mk x\n.PHONY: all\n"})
+        self.refused(self.SENTENCE)
+
+    def test_recipe_reads_it(self) -> None:
+        self.reads("$$(cat gen)", "gen")
+        self.assertEqual(self.left({"b": "2\n"}, "x"), ["2\n", "2\n"])
+        self.accepted()
+
+
+@can_judge
+class OptionsTest(UnseenTestCase):
+    """Options of makes that recipes start."""
+
+    def started_with(self, options: str) -> None:
+        self.write(
+            {
+                "Makefile": f"all:\n\t$(MAKE) {options} -f sub.mk x\n.PHONY: all\n",
+                "sub.mk": "x: c\n\tcp c x\nc: a\n\tcp a c\n",
+                "a": "1\n",
+            }
+        )
+
+    def test_files_that_count_as_old(self) -> None:
+        self.started_with("-o c")
+        self.write({"c": "1\n"})
+        self.assertEqual(self.left({"a": "2\n"}, "x"), ["1\n", "1\n"])
+        self.refused(
+            "    a recipe starts make in . with -o c, by which it runs nothing or passes over"
+            " files: what it does then isn't judged; leave that option out\n",
+            "--keep",
+        )
+
+    def test_stamps_alone(self) -> None:
+        self.started_with("-st")
+        self.assertEqual(self.imported().status, 2)
+
+    def test_other_options(self) -> None:
+        self.started_with("-I other -j 2 -k --no-print-directory -s")
+        self.accepted()
 
 
 @can_judge
@@ -584,10 +769,64 @@ class RemovedFileTest(UnseenTestCase):
         self.assertEqual(self.left({"b": "c\n"}, "y"), ["c\nx\n", "c\nx\n"])
         self.accepted()
 
+    def test_taken_away_by_a_recipe(self) -> None:
+        self.write({"Makefile": "x: c\n\tcp c x && rm c\nc: a\n\tcp a c\n", "a": "a\n"})
+        self.assertIn(
+            "Makefile:2: the recipe of x reads c, which another recipe makes, and takes it away, so"
+            " the next run doesn't find it; let it leave that file there\n",
+            self.imported().output,
+        )
+
     def test_kept(self) -> None:
         self.chain("", ".SECONDARY: x.c\n")
         self.assertEqual(self.left({"b": "c\n"}, "y"), ["c\nx\n", "c\nx\n"])
         self.accepted()
+
+
+@can_judge
+class WithoutRuleTest(UnseenTestCase):
+    """Files that a recipe writes and that no rule names as a target."""
+
+    def header(self, target: str, more: str = "") -> None:
+        self.write(
+            {
+                "Makefile": f"x: a | {target}\n\tcat a gen.h > x; echo 'x: gen.h' > x.d\n"
+                f"{target}: {more}\n\tsleep 0.3; cp gen.in gen.h\n-include x.d\n",
+                "a": "a\n",
+                "gen.in": "1\n",
+            }
+        )
+
+    def after_edit(self) -> str:
+        """What stands in the output after an edit and a build with jobs."""
+        folder = self.copied("jobs")
+        for text in ("1\n", "2\n"):
+            self.edit(folder, {"gen.in": text})
+            self.assertEqual(self.make(folder, "-j4").returncode, 0)
+        return (folder / "x").read_text()
+
+    def test_phony_recipe(self) -> None:
+        self.header("gen", "\n.PHONY: gen\ngen:")
+        self.assertEqual(self.after_edit(), "a\n1\n")
+        answer = self.imported()
+        self.assertEqual((answer.status, answer.findings), (1, ["no stale x gen.h"]))
+        self.assertIn(
+            "Makefile:2: x isn't made again when gen.h changes: no rule has gen.h as its target,"
+            " and the recipe of gen (Makefile:6) writes it, so make looks at it too early with"
+            " several jobs; write 'gen.h: gen ;', a rule with an empty recipe\n",
+            answer.output,
+        )
+        self.add_lines("gen.h: gen ;\n")
+        self.assertEqual(self.after_edit(), "a\n2\n")
+        self.accepted()
+
+    def test_recipe_of_a_file(self) -> None:
+        self.header("stamp", "gen.in\n\ttouch stamp")
+        self.assertEqual(self.after_edit(), "a\n1\n")
+        answer = self.imported()
+        self.assertEqual((answer.status, answer.findings), (1, ["no stale x gen.h"]))
+        self.assertIn("Add to Makefile:\n    x: stamp\n", answer.output)
+        self.mend("x: stamp\n")
 
 
 @can_judge
@@ -666,7 +905,41 @@ class FolderTest(UnseenTestCase):
 
     def test_same_without_it(self) -> None:
         self.looks("| a", "ls d; cp b.in b")
+        self.assertIn(
+            "    Makefile:6: the recipe of b reads the names in the folder d, which another recipe"
+            " makes, and isn't run again when they change: it wrote the same with all other names"
+            " that were tried\n",
+            self.accepted().output,
+        )
+        self.looks("| a", "test -d d; cp b.in b")
         self.assertNotIn("folder", self.accepted().output)
+
+    def one_name(self, recipe: str) -> None:
+        """A recipe to which one certain name in a folder matters, that another recipe may make."""
+        self.write(
+            {
+                "Makefile": "all: a b\n.PHONY: all\n"
+                "a: a.in\n\trm -rf d; mkdir d; cd d; touch `cat ../a.in`; cp ../a.in ../a\n"
+                f"b: b.in look | a\n\t{recipe}\n",
+                "a.in": "one\n",
+                "b.in": "b\n",
+                "look": "#!/bin/sh\nfor one in d/*; do case $one in d/special) echo yes;; esac;"
+                " done > b\n",
+            }
+        )
+        (self.folder / "look").chmod(0o644)
+        edited = self.left({"a.in": "special\n"}, "b")
+        self.assertNotEqual(*edited)
+        self.refused(self.SENTENCE)
+
+    def test_one_name(self) -> None:
+        self.one_name("ls d | sed -n '/^special$$/p' > b")
+
+    def test_one_name_of_a_pattern(self) -> None:
+        self.one_name("echo d/sp*al > b")
+
+    def test_one_name_in_a_script(self) -> None:
+        self.one_name("sh look")
 
     def test_steps(self) -> None:
         """Without a build there is nothing in which it could be tried."""

@@ -336,6 +336,34 @@ class DepfileTest(NinjaFolderTest):
         self.assertIn(["a.o", "g.h", "written", "a.o", "g.h"], answer.ways)
         self.try_answer(answer)
 
+    def test_header_that_no_line_has_as_an_output(self) -> None:
+        """Ninja looks at it before the command that writes it runs."""
+        lines = (
+            "rule copy\n  command = cp g.txt g.h\nbuild gen: copy\n"
+            "rule cat\n  command = cat a g.h > $out; echo $out: a g.h > d\n  depfile = d\n"
+            "  deps = gcc\nbuild x: cat a || gen\n"
+        )
+        self.write({"build.ninja": lines, "a": "a\n", "g.txt": "1\n"})
+        answer = self.answer()
+        self.assertEqual(answer.findings, ["no stale x g.h"])
+        self.assertIn(
+            "build.ninja:8: x isn't made again when g.h changes: no build line has g.h as an"
+            " output, and the command of gen (build.ninja:3) writes it, so ninja looks at it too"
+            " early; let that line have it as an output (CMake: BYPRODUCTS)\n",
+            answer.text,
+        )
+        self.assertEqual(self.ninja().returncode, 0)
+        time.sleep(0.02)  # The clock of the file system is that coarse.
+        self.write({"g.txt": "2\n"})
+        for text in ("a\n1\n", "a\n2\n"):
+            time.sleep(0.02)
+            self.assertEqual(self.ninja().returncode, 0)
+            self.assertEqual((self.folder / "x").read_text(), text)
+        for name in ("x", "g.h", ".ninja_log", ".ninja_deps"):
+            (self.folder / name).unlink()
+        self.write({"build.ninja": lines.replace("build gen:", "build gen | g.h:")})
+        self.assertEqual(self.answer().findings, [])
+
     def test_depfile_that_is_not_written(self) -> None:
         """Ninja runs such a line in each build; with `deps` it doesn't."""
         rule = "rule r\n  command = cat a b > $out\n  depfile = d\n"

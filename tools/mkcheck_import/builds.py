@@ -188,6 +188,9 @@ class Build:
     """Makefiles with commands or macros that no rule of their make makes: where a recipe writes
     one, the build isn't the same after it."""
 
+    remade: dict[str, list[str]] = field(default_factory=dict)
+    """Makefiles with commands or macros that make makes anew, each with what it is made from."""
+
     starters: dict[int, str] = field(default_factory=dict)
     """For each make that another one starts, the node whose recipe does so."""
 
@@ -205,7 +208,8 @@ class Build:
     """Recipes and folders, as `RECIPE FOLDER`: the recipe does the same without the folder."""
 
     looked: dict[str, list[str]] = field(default_factory=dict)
-    """For each recipe the folders at which it looked, of those that the build makes."""
+    """For each recipe the folders at which it looked, of those that the build makes; with a `/`
+    behind it one whose names it read."""
 
     blind: set[str] = field(default_factory=set)
     """Targets without a recipe that another recipe writes, and that the tool doesn't look at again

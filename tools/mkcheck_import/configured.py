@@ -14,7 +14,7 @@ from dataclasses import dataclass, field
 
 from mkcheck_record.faults import Fault
 
-from .builds import FOREIGN
+from .builds import FOREIGN, Build
 
 # What CMake writes beside the folders `CMakeFiles`.
 OF_CMAKE = (
@@ -33,6 +33,7 @@ CMAKE_HEADING = b"# CMAKE generated file: DO NOT EDIT!"
 SOURCES = ("*.h", "*.hh", "*.hpp", "*.hxx", "*.inc", "*.c", "*.cc", "*.cpp", "*.cxx", "*.m", "*.s")
 # What config.status and Automake write beside the makefiles.
 OF_AUTOCONF = ("config.status", "config.log", "config.cache", "libtool", "stamp-h*")
+RUNS_CONFIG_STATUS = re.compile(r"(?:^|[\s/;&|])config\.status(?:\s|$)")
 LIST_OF_FILES = re.compile(r'^config_(?:files|links)="([^"]*)"', re.MULTILINE)
 
 
@@ -89,6 +90,17 @@ def configured_files(root: str, asked: Iterable[str] = ()) -> Configured:
             below = [one for one in files if is_below(one, folder)]
             found.add(of_config_status(root, folder, below), "config.status", folder or ".")
     return found
+
+
+def configuring(build: Build) -> list[str]:
+    """The targets whose recipes run `config.status` again."""
+    if not any(os.path.basename(name) == "config.status" for name in build.configured):
+        return []
+    return [
+        name
+        for name, node in build.nodes.items()
+        if any(RUNS_CONFIG_STATUS.search(command.text) for command in node.commands)
+    ]
 
 
 def all_files(root: str) -> list[str]:

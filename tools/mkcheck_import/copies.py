@@ -3,11 +3,12 @@
 from __future__ import annotations
 
 import contextlib
+import errno
 import os
 import re
 import subprocess
 import tempfile
-from dataclasses import dataclass, field
+from dataclasses import dataclass, field, replace
 
 from mkcheck_record.faults import Fault
 from mkcheck_record.folders import Copier
@@ -81,6 +82,11 @@ class Copies:
             self.used = word
         return Place(self.seen, self.seen)
 
+    def shut(self, word: str) -> Place:
+        """The same for commands of the build: they can write nowhere else, where the system allows
+        that, but in folders for temporary files."""
+        return replace(self.place(word), shut=True)
+
     def hide(self, names: set[str]) -> None:
         """Lets copies be without these files and folders, those too that are there already."""
         self.hidden |= names
@@ -130,6 +136,20 @@ class Copies:
                         " mount namespace: run mkcheck-import as root, or where `unshare --user"
                         " --map-root-user --mount` works"
                     )
+
+
+def failure(said: str, text: str, command: str) -> str:
+    """The sentence on a build that failed: `said` are the last words of the text that it printed.
+    """
+    if os.strerror(errno.EROFS) in text:
+        return (
+            f"the build writes outside of the project, which an import doesn't allow: {said}; let"
+            " it write in the project, or in the folders for temporary files"
+        )
+    return (
+        f"the build failed, so it can't be recorded: {said}; mend it until {command} succeeds, and"
+        " import again"
+    )
 
 
 def listing(folder: str) -> set[str]:

@@ -44,6 +44,12 @@ HARMLESS = re.compile(
     r"|--keep-going|--(jobs|output-sync|trace|debug)\S*|-[jlO]\S*|MAKE=.*|IFS=.*",
     re.DOTALL,
 )
+# Options by which a make runs nothing, or takes files for up to date or for new.
+PASSING = re.compile(
+    r"-[BbdeikmprRsSvw]*[tqnoW].*|--(touch|question|just-print|dry-run|recon|old-file|assume-old"
+    r"|what-if|new-file|assume-new)\b.*",
+    re.DOTALL,
+)
 # The name of a makefile that is never there. Make tries to make it before the goals, and so writes
 # down the environment of recipes.
 ENVIRONMENT = f"{OWN}environment"
@@ -150,6 +156,11 @@ def option_words(words: list[str]) -> list[list[str]]:
 def is_harmless(option: str) -> bool:
     """Whether an option changes neither which rules a make knows nor what they do."""
     return HARMLESS.fullmatch(option) is not None
+
+
+def passing(make: Make) -> str:
+    """The option by which a make doesn't do what its makefile says; empty if there is none."""
+    return next((word for word in options_of(make.words) if PASSING.fullmatch(word)), "")
 
 
 def find_make() -> str:

@@ -19,7 +19,7 @@ from mkcheck_record.tracing import strace
 
 from .answers import answer_of, counted
 from .builds import Build
-from .configured import configured_files
+from .configured import configured_files, configuring
 from .copies import Copies, listing
 from .gnumake import outer_environment
 from .judging import FIRST, Judge, write
@@ -214,6 +214,11 @@ class Import:
         self.build.generators = {name: found.tools[name] for name in origins & found.files}
         for text in found.notes:
             self.build.note(text)
+        for name in configuring(self.build):
+            self.build.note(
+                f"{name}: its recipe runs config.status, so it is of the configure step, and is"
+                " recorded as it is, and not replayed"
+            )
 
     def environment(self) -> dict[str, str]:
         """The environment of the recorder and of mkcheck."""
@@ -242,10 +247,12 @@ class Import:
         return ""
 
     def trusted(self) -> list[str]:
-        """The targets whose recipes aren't replayed: those asked for, and those of `restat`."""
+        """The targets whose recipes aren't replayed: those asked for, those of `restat`, and those
+        that configure again."""
         names = self.judge.names().written
         alike = [name for name, node in self.build.nodes.items() if node.left_alike]
-        return [*self.asked.trust, *(names[name] for name in alike if name in names)]
+        own = [*alike, *configuring(self.build)]
+        return [*self.asked.trust, *(names[name] for name in own if name in names)]
 
     def is_known(self, warning: str) -> bool:
         """Whether the recorder warns of what the translation says already.
@@ -271,7 +278,7 @@ class Import:
         footprints = self.judge.read_book()
         before = listing(self.judge.place.folder)
         Settling(self.build, footprints, before).settle()
-        built = self.copies.place("built") if "built" in self.copies.made else None
+        built = self.copies.shut("built") if "built" in self.copies.made else None
         Probing(self.build, footprints, self.copies.seen, built, self.environment()).probe()
         if built is not None:
             self.copies.place("read")

@@ -24,6 +24,11 @@ LATER = "makefile"
 # A makefile with the prerequisites that both the first build and later ones have. Only races count.
 BETWEEN = "makefile.between"
 NODES_AT_MOST = 4096
+# What the recorder advises where a recipe starts a make, by options that the importer lacks.
+OWN_ADVICE = re.compile(
+    r"(?:name its goals on the command line of mkcheck-record|record that folder by itself"
+    r" \(mkcheck-record -C (.*)\)), or give --opaque \S+ to take it as one recipe"
+)
 # The front of the recorder's lines of progress.
 PROGRESS = re.compile(r"\[(?:\w+ )?\d+/\d+(?: [\d:]+ left)?\] ")
 
@@ -188,23 +193,27 @@ class Judge:
         status, said, errors = run_here(self.place, words, self.environment)
         if status != 0:
             lines = (said + errors).splitlines(keepends=True)
-            raise RecordingFault("".join(line for line in lines if not PROGRESS.match(line)))
+            text = "".join(line for line in lines if not PROGRESS.match(line))
+            raise RecordingFault(OWN_ADVICE.sub(advice, text))
         lines = errors.splitlines(keepends=True)
         return "".join(line for line in lines if not line.rstrip().endswith(FIRST_TIME))
 
-    def looks(self, names: set[str]) -> dict[str, list[str]]:
-        """At which of these names each recipe looked, where that was recorded."""
+    def looks(self, folders: set[str]) -> dict[str, list[str]]:
+        """At which of these folders each recipe looked, where that was recorded; with a `/` behind
+        it one whose names it read."""
         book = self.path("footprint.json")
         try:
             state = read_state(path_of_state(book), Path(book).read_text(encoding="utf-8"))
         except Unusable as why:
             raise Fault(f"what recipes looked at {why}: import again") from None
         back = {word: name for name, word in self.names().written.items() if "\0" not in name}
-        found = {
-            back.get(target, target): sorted(names & {*entry.looks, *entry.lists})
-            for target, entry in state.entries.items()
-        }
-        return {target: looked for target, looked in found.items() if looked}
+        found = {}
+        for target, entry in state.entries.items():
+            looked = folders & {*entry.looks, *entry.lists}
+            listed = {f"{name}/" for name in folders & {*entry.lists}}
+            if looked:
+                found[back.get(target, target)] = sorted(looked | listed)
+        return found
 
     def read_book(self) -> Footprints:
         """The footprints, their targets and files named as nodes are."""
@@ -308,6 +317,16 @@ def without_first_only(build: Build) -> Build:
         groups = [[one for one in group if one not in node.first_only] for group in node.groups]
         nodes[name] = replace(node, groups=groups, first_only=[])
     return replace(build, nodes=nodes)
+
+
+def advice(found: re.Match[str]) -> str:
+    """What is advised instead."""
+    if found.group(1) is None:
+        return "import its goals by themselves, and here goals that don't need that recipe"
+    return (
+        f"import that folder by itself (mkcheck-import -C {found.group(1)}), and here goals that"
+        " don't need that recipe"
+    )
 
 
 class RecordingFault(Fault):

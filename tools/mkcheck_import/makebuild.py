@@ -7,13 +7,14 @@ import os
 from dataclasses import dataclass, field
 
 from mkcheck_record.faults import Fault
+from mkcheck_record.places import run
 
 from .answers import counted
 from .asking import Asking
 from .builds import Build, path_name
 from .commands import is_export
 from .confining import OWN, Confined
-from .copies import Copies, links_in, listing
+from .copies import Copies, failure, links_in, listing
 from .database import Rule
 from .gnumake import (
     Make,
@@ -21,6 +22,7 @@ from .gnumake import (
     find_make,
     last_words,
     outer_environment,
+    passing,
     run_make,
     version_of,
     wrapper_in,
@@ -30,6 +32,7 @@ from .later import add_later
 from .leaving import leave_alone, times_in
 from .leftovers import Leftovers
 from .overlaps import name_overlaps
+from .readers import Started
 from .readings import Readings
 from .rereading import changed, is_dependency_file, place_of, touch_sources
 from .translating import Translation
@@ -114,7 +117,7 @@ class MakeBuild:
         """Runs make in a copy. `words`, if given, replace its own words, and `folder` the folder in
         which it starts; `more` are further variables of the environment. With `seconds`, a limit of
         its time, make can change nothing but the copy."""
-        place = self.copies.place(word)
+        place = self.copies.shut(word)
         if seconds is not None:
             place, more = Confined(place.folder, place.seen, own=(self.scratch,)), OWN
         folder = folder or os.path.normpath(os.path.join(place.seen, self.folder))
@@ -176,11 +179,9 @@ class MakeBuild:
         self.built = self.run("built", is_real=True)
         failed = [make for make in self.built if make.status != 0]
         if self.built[0].status != 0:
-            raise Fault(
-                f"the build failed, so it can't be recorded: {last_words(failed[-1].errors)}; mend"
-                f" it until `make` in {self.folder} succeeds, and import again"
-                f"{self.leftovers.sentence()}"
-            )
+            said = failed[-1].errors
+            text = failure(last_words(said), said, f"`make` in {self.folder}")
+            raise Fault(text + self.leftovers.sentence())
         times = times_in(self.copies.place("built").folder)
         self.after = self.run("built", is_real=True)
         again = [rule.name for rule in all_rules(self.after) if rule.ran and not rule.is_phony]
@@ -204,14 +205,17 @@ class MakeBuild:
             for make in [*self.shown, *self.built, *self.after]
             for text in make.makefiles
         }
-        self.readings = Readings(self.copies, makefiles, self.read_made, self.ask_about)
+        asking = self.ask_about, self.printed
+        self.readings = Readings(self.copies, makefiles, self.read_made, *asking)
         top = os.path.normpath(os.path.join(self.copies.seen, self.folder))
         if self.read_again:
             # A file that is made from an output may be the same this time and not the next.
-            place = self.copies.place("built")
+            place = self.copies.shut("built")
             if self.readings.outputs_used(self.program, place, top, self.words, made):
                 self.read_again.clear()
-        place = self.copies.place("asked")
+        place = self.copies.shut("built")
+        self.readings.find_outputs(self.program, place, top, self.words, made)
+        place = self.copies.shut("asked")
         self.readings.try_all(self.program, place, top, self.words)
         self.ask_unseen(made)
         return counted(sum(rule.ran for rule in all_rules(self.built)), "recipe")
@@ -220,6 +224,16 @@ class MakeBuild:
         """Asks make what it would do in the copy in which files are changed for that."""
         return self.run("asked", False, seconds=SECONDS_TO_ASK if is_confined else None)
 
+    def printed(self, command: Started, is_confined: bool) -> str:
+        """What a command prints that make starts when it reads its makefiles, in the same copy."""
+        place, more = self.copies.shut("asked"), {}
+        if is_confined:
+            place, more = Confined(place.folder, place.seen, own=(self.scratch,)), OWN
+        enter = 'cd "$1" && shift && exec "$@" 2> /dev/null'
+        words = ["/bin/sh", "-c", enter, "sh", command.folder, *command.words]
+        ended = run(words, place, {**outer_environment(), **more}, SECONDS_TO_ASK)
+        return f"{ended.status} {ended.output}"
+
     def ask_unseen(self, made: set[str]) -> None:
         """Names what can't be asked of makes that `make -n` doesn't start. `made` has the files
         that the build made."""
@@ -227,7 +241,7 @@ class MakeBuild:
         unseen = {make.key: make for make in self.built if make.key not in known}
         if not unseen or self.asking is None or self.readings is None:
             return
-        place = self.copies.place("built")
+        place = self.copies.shut("built")
         touch_sources(self.copies.seen, place.folder, [*self.built, *self.after], made)
         macros = [word for word in self.words if "=" in word and word[0] != "-"]
         makes = list(unseen.values())
@@ -276,6 +290,13 @@ class MakeBuild:
                 "make fails after a build when all sources have new times, so it isn't known"
                 f" whether it has the same commands then ({last_words(failed[0].errors)})"
             )
+        for make, option in ((make, passing(make)) for make in makes):
+            if option:
+                folder = path_name(self.copies.seen, self.copies.seen, make.folder)
+                build.problem(
+                    f"a recipe starts make in {folder} with {option}, by which it runs nothing or"
+                    " passes over files: what it does then isn't judged; leave that option out"
+                )
         for text in self.asking.sentences if self.asking is not None else []:
             build.problem(text)
         if self.readings is not None:
@@ -326,8 +347,14 @@ class MakeBuild:
         for make in makes:
             view = translation.views.get(make.key)
             for name in make.makefiles if view is not None else []:
-                if any(rule.has_recipe for rule in make.base.rules.get(name, [])):
-                    found[translation.path(view, name)] = None
+                rules = make.base.rules.get(name, [])
+                if any(rule.has_recipe for rule in rules):
+                    path = translation.path(view, name)
+                    found[path] = None
+                    needs = [word for rule in rules for word in rule.needs]
+                    if needs and path not in self.dependency_files:
+                        needed = [translation.path(view, word) for word in needs]
+                        translation.build.remade.setdefault(path, needed)
         if found:
             some = ", ".join(list(found)[:5]) + (" .." if len(found) > 5 else "")
             translation.build.note(

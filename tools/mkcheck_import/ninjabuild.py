@@ -7,7 +7,7 @@ from dataclasses import dataclass, field
 from mkcheck_record.faults import Fault
 
 from .builds import Build
-from .copies import Copies, listing, run_here
+from .copies import Copies, failure, listing, run_here
 from .gnumake import outer_environment
 from .ninja import NinjaBuild, read_ninja
 from .ninja_dyndeps import add_dyndeps
@@ -39,7 +39,7 @@ class NinjaFolder:
 
     def build(self) -> str:
         """Lets ninja build in a copy."""
-        place = self.copies.place("built")
+        place = self.copies.shut("built")
         # What an earlier build left must not help this one.
         run_here(place, ["ninja", "-C", self.folder, "-t", "clean"], outer_environment())
         command = ["ninja", "-j1", "-k0", "-C", self.folder, *self.words]
@@ -50,10 +50,7 @@ class NinjaFolder:
             self.is_late = status == 0
         if status != 0:
             lines = [line for line in (said + errors).splitlines() if line.strip()]
-            raise Fault(
-                f"the build failed, so it can't be recorded: {'; '.join(lines[-3:])[-400:]}; mend"
-                " it until ninja succeeds, and import again"
-            )
+            raise Fault(failure("; ".join(lines[-3:])[-400:], said + errors, "ninja"))
         self.is_built = True
         return ""
 
@@ -63,7 +60,7 @@ class NinjaFolder:
         place = self.copies.place("read")
         before = listing(place.folder)
         translation = NinjaBuild(place, self.folder, self.manifest, self.version)
-        built = self.copies.place("built") if self.is_built else None
+        built = self.copies.shut("built") if self.is_built else None
         try:
             if built is not None:
                 add_dyndeps(self.manifest, lambda path: translation.real(path, built))

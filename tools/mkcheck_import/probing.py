@@ -10,7 +10,7 @@ import contextlib
 import os
 import re
 import shutil
-from collections.abc import Iterator
+from collections.abc import Iterable, Iterator
 
 from mkcheck_record.places import Place
 
@@ -26,6 +26,9 @@ SCRIPT_AT_MOST = 1 << 20
 # How many recipes are tried at most, each by two runs.
 TRIED_AT_MOST = 40
 ASIDE = "mkcheck-aside"
+# A word that may be the name of a file, or a pattern of the shell.
+NAME = re.compile(r"(?<![-\w])[\w.+*?][\w.+*?-]*")
+WORDS_AT_MOST = 2000
 
 
 class Probing:
@@ -83,6 +86,13 @@ class Probing:
         what = self.tried(node, record, folders)
         if what == "":
             self.build.tried.update(f"{record.target} {name}" for name in folders)
+            looked = self.build.looked.get(record.target, [])
+            for name in (name for name in folders if f"{name}/" in looked):
+                self.build.note(
+                    f"{self.where(node)}: the recipe of {node.name} reads the names in the folder"
+                    f" {name}, which another recipe makes, and isn't run again when they change: it"
+                    " wrote the same with all other names that were tried"
+                )
         elif what == "fails":
             self.build.problem(
                 f"{text} couldn't be tried, since that recipe fails when it runs again; let it"
@@ -149,9 +159,9 @@ class Probing:
         )
 
     def tried(self, node: Node, record: Record, folders: list[str]) -> str:
-        """Runs a recipe without these folders, and with one more file in each. Gives the first file
-        that it then writes with other contents; empty if there is none, or if the recipe fails
-        then, since nobody overlooks that.
+        """Runs a recipe without these folders, and with more files in each: one for each ending,
+        and those that the recipe spells. Gives the first file that it then writes with other
+        contents; empty if there is none, or if the recipe fails then, since nobody overlooks that.
 
         A recipe that can't run over its own outputs, as `ln -s`, is run without them.
         """
@@ -171,11 +181,35 @@ class Probing:
                 for path in paths:
                     stack.enter_context(change(path))
                 if self.run_without(node, gone) == 0:
-                    after = [content(path) for path in writes]
-                    pairs = zip(record.writes, before, after)
-                    found += [name for name, old, new in pairs if old != new]
+                    found += self.changed(record, before)
+        words = self.spelled(node, record)
+        for path in paths:
+            with with_empty([os.path.join(path, word) for word in words]):
+                if self.run_without(node, gone) == 0:
+                    found += self.changed(record, before)
         self.run_without(node, gone)
         return found[0] if found else ""
+
+    def changed(self, record: Record, before: list[bytes]) -> list[str]:
+        """The files that a recipe writes and that hold something else than before."""
+        assert self.built is not None
+        pairs = zip(record.writes, before)
+        folder = self.built.folder
+        return [name for name, old in pairs if content(os.path.join(folder, name)) != old]
+
+    def spelled(self, node: Node, record: Record) -> list[str]:
+        """The words of a recipe, and of the scripts of the project that it reads, as names of
+        files. A pattern of the shell becomes a name that it matches."""
+        assert self.built is not None
+        texts = [command.text for command in node.commands]
+        for name in record.reads:
+            path = os.path.join(self.built.folder, name)
+            if not name.startswith("/") and is_short(path):
+                text = content(path).decode("utf-8", "replace")
+                texts += [text] if text.startswith("#!") else []
+        words = dict.fromkeys(word for text in texts for word in NAME.findall(text))
+        names = [word.replace("*", ASIDE).replace("?", "m") for word in words]
+        return [name for name in names if name.strip(".") and len(name) < 256][:WORDS_AT_MOST]
 
     def run_without(self, node: Node, paths: list[str]) -> int:
         """Runs a recipe when these files are gone."""
@@ -199,6 +233,9 @@ class Probing:
 def without_folder(path: str) -> Iterator[None]:
     """Takes a folder away for a while. One that stands there then is taken away for good."""
     aside = f"{path}.{ASIDE}"
+    if not os.path.isdir(path):  # The recipe itself takes it away.
+        yield
+        return
     os.rename(path, aside)
     yield
     shutil.rmtree(path, ignore_errors=True)
@@ -208,15 +245,23 @@ def without_folder(path: str) -> Iterator[None]:
 @contextlib.contextmanager
 def with_file(path: str) -> Iterator[None]:
     """Puts files into a folder for a while, one for each ending of the names in it."""
-    endings = {"", *(os.path.splitext(name)[1] for name in os.listdir(path))}
-    added = [os.path.join(path, ASIDE + ending) for ending in endings]
-    for name in added:
-        with open(name, "xb"):
+    names = os.listdir(path) if os.path.isdir(path) else []
+    endings = {"", *(os.path.splitext(name)[1] for name in names)}
+    with with_empty([os.path.join(path, ASIDE + ending) for ending in endings]):
+        yield
+
+
+@contextlib.contextmanager
+def with_empty(paths: Iterable[str]) -> Iterator[None]:
+    """Makes empty files for a while, where nothing stands yet."""
+    added = [path for path in paths if not os.path.lexists(path)]
+    for path in added:
+        with contextlib.suppress(OSError), open(path, "xb"):
             pass
     yield
-    for name in added:
+    for path in added:
         with contextlib.suppress(OSError):
-            os.unlink(name)
+            os.unlink(path)
 
 
 def is_named(folder: str, words: set[str]) -> bool:

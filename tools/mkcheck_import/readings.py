@@ -11,8 +11,6 @@ from collections.abc import Callable
 from dataclasses import dataclass, field
 
 from mkcheck_record import tracing
-from mkcheck_record.accesses import Accesses, Follower
-from mkcheck_record.calls import Call
 from mkcheck_record.faults import Fault
 from mkcheck_record.places import Place
 from mkcheck_record.trees import Tree
@@ -21,44 +19,13 @@ from .builds import Build, Kind, is_foreign, path_name
 from .copies import Copies
 from .database import Rule
 from .gnumake import Make, outer_environment, own_environment
-from .rereading import changed, other_needs, place_of
+from .readers import ByCommand, Reader, Started
+from .rereading import changed, other_needs, place_of, short
 from .trying import Trial
 
 TRIED_AT_MOST = 24
 LONGEST = 1 << 20
 UNKNOWN = "whether commands depend on files that make reads beside its makefiles isn't known"
-
-
-@dataclass
-class Reader(Follower):
-    """Follows what make does when it reads its makefiles."""
-
-    programs: set[str] = field(default_factory=set)
-    """The programs that it starts."""
-
-    links: dict[str, None] = field(default_factory=dict)
-    """The links to folders whose texts are read."""
-
-    looked: set[str] = field(default_factory=set)
-    """The names at which the programs look that it starts."""
-
-    def started(self, call: Call, name: str) -> None:
-        """A program is started."""
-        self.programs.add(self.accesses.reach(name))
-        super().started(call, name)
-
-    def looked_into(self, link: str) -> None:
-        """The text of a link is read."""
-        super().looked_into(link)
-        if link in self.accesses.over:
-            self.links.setdefault(link)
-
-    def looked_at(self, call: Call) -> None:
-        """A name is looked at. A make itself looks at all that it may have to make."""
-        self.accesses.looked = {}
-        super().looked_at(call)
-        if call.process not in self.makers:
-            self.looked.update(self.accesses.looked)
 
 
 @dataclass
@@ -75,6 +42,12 @@ class Readings:
     run: Callable[[bool], list[Make]]
     """Asks make in the copy; the argument says whether make is to be confined."""
 
+    printed: Callable[[Started, bool], str]
+    """What a command prints in the copy that make starts when it reads its makefiles."""
+
+    readers: dict[str, list[Started | None]] = field(default_factory=dict)
+    """The commands that read each file; none stands for a make itself."""
+
     found: list[tuple[Make, Rule, str, str]] = field(default_factory=list)
     """The rules whose commands are others when a file says something else: the make, the rule, what
     differs and the file."""
@@ -88,6 +61,15 @@ class Readings:
 
     programs: set[str] = field(default_factory=set)
     """The programs of the project that make starts."""
+
+    looked: set[str] = field(default_factory=set)
+    """The files of the project at which commands look that makes start, and that no make reads."""
+
+    outputs: dict[str, None] = field(default_factory=dict)
+    """The files that recipes make, and that makes read to have their commands."""
+
+    outside: dict[str, None] = field(default_factory=dict)
+    """The files outside of the project that makes would write when they read their makefiles."""
 
     sentences: list[str] = field(default_factory=list)
     """What couldn't be tried."""
@@ -107,9 +89,11 @@ class Readings:
         os.makedirs(scratch, exist_ok=True)
         enter = 'cd "$1" && shift && exec "$@"'
         command = ["/bin/sh", "-c", enter, "sh", folder, program, "-n", "-k", "-j1", *words]
-        reader = Reader(Accesses(Tree.of(place)), place.seen)
+        reader = Reader(ByCommand(Tree.of(place)), place.seen)
         environment = {**outer_environment(), **more}
-        reader.follow(tracing.run(command, place, environment, scratch, looking=looking).calls)
+        done = tracing.run(command, place, environment, scratch, looking=looking, texts=True)
+        reader.follow(done.calls)
+        self.outside.update(reader.accesses.forbidden)
         return reader
 
     def read_in(
@@ -117,10 +101,16 @@ class Readings:
     ) -> list[str]:
         """The files and links of the project that a make reads in a place and that are no
         makefiles."""
-        reader = self.follow(program, place, folder, words, more)
+        reader = self.follow(program, place, folder, words, more, looking=True)
         programs = {path_name(place.seen, place.seen, path) for path in reader.programs}
         self.programs |= {name for name in programs if self.is_own(place, name)}
         paths = [path for path in reader.accesses.reads if path not in reader.programs]
+        looked = reader.looked - set(reader.accesses.reads)
+        names = {path_name(place.seen, place.seen, path) for path in looked} - self.makefiles
+        self.looked |= {name for name in names if self.is_own(place, name)}
+        for path in paths:
+            name = path_name(place.seen, place.seen, path)
+            self.readers[name] = list(reader.accesses.readers[path])
         names = dict.fromkeys(path_name(place.seen, place.seen, path) for path in paths)
         links = [path_name(place.seen, place.seen, path) for path in reader.links]
         links = [name for name in links if name not in names and not is_foreign(name)]
@@ -139,6 +129,20 @@ class Readings:
         paths = [*reader.accesses.reads, *reader.looked]
         names = {path_name(place.seen, place.seen, path) for path in paths}
         return {name for name in (names & made) - self.makefiles if self.is_own(place, name)}
+
+    def find_outputs(
+        self, program: str, place: Place, folder: str, words: list[str], made: set[str]
+    ) -> None:
+        """Finds those of the files `made` that a make reads beside its makefiles, in a place in
+        which all that it makes is there, and out of date."""
+        try:
+            reader = self.follow(program, place, folder, words, {})
+        except Fault:
+            return
+        for path, commands in reader.accesses.readers.items():
+            name = path_name(place.seen, place.seen, path)
+            if name in made - self.makefiles and not reader.starting.issuperset(commands):
+                self.outputs.setdefault(name)
 
     def try_all(self, program: str, place: Place, folder: str, words: list[str]) -> None:
         """Finds the files that make reads in a place, and tries each."""
@@ -161,7 +165,7 @@ class Readings:
                 " read"
             )
         if names:
-            trial = Trial(place.folder, self.makefiles, self.written, self.run)
+            trial = Trial(place.folder, self.makefiles, self.written, self.run, self.printed)
             for name in names[:TRIED_AT_MOST]:
                 self.try_one(trial, name)
 
@@ -224,6 +228,18 @@ class Readings:
                 " and whether it has a part in commands was tried for a few contents alone; let"
                 f" all that is made need {name}"
             )
+        elif command := self.unmoved(trial, name):
+            self.hidden[name] = (
+                f"make reads {name} beside its makefiles by several commands, and whether what"
+                f" `{short(command.text)}` prints depends on it isn't known, since that is the same"
+                f" with all other contents that were tried; let all that is made need {name}"
+            )
+
+    def unmoved(self, trial: Trial, name: str) -> Started | None:
+        """One of several commands that read a file and print the same whatever it says."""
+        readers = self.readers.get(name, [])
+        commands = [command for command in readers if command is not None]
+        return trial.unmoved(name, commands) if len(readers) > 1 else None
 
     def name(self, build: Build, varying: set[tuple[str, str]]) -> None:
         """Names the targets that don't need a file on which their commands depend. `varying` has
@@ -254,21 +270,46 @@ class Readings:
         for file, text in self.hidden.items():
             if file not in met and not all_need(build, file):
                 build.problem(text)
+        for name in self.outputs:
+            build.problem(
+                f"make reads {name} beside its makefiles (by $(shell ..) or $(file ..)), which a"
+                " recipe makes, so commands may depend on what an earlier build left, and make"
+                " doesn't run them again when it changes; let a recipe read it, as by"
+                f" $$(cat {name})"
+            )
+        if self.outside:
+            build.problem(
+                f"make writes {next(iter(self.outside))} when it reads its makefiles, which is"
+                " outside of the project and was refused here, so the build may do something else"
+                " without an import; let it write in the project alone"
+            )
         for text in self.sentences:
             build.problem(text)
-        if self.programs:
-            names = sorted(self.programs)
-            some = ", ".join(names[:5]) + (" .." if len(names) > 5 else "")
+        if self.looked:
             build.note(
-                f"make starts {some} when it reads its makefiles: what make starts so counts as a"
-                " makefile, so import again when it changes"
+                f"commands that make starts when it reads its makefiles look at"
+                f" {first(self.looked)} and don't read what they hold, as `test -f` does: import"
+                " again when these files come or go, or get another size or mode"
+            )
+        if self.programs:
+            build.note(
+                f"make starts {first(self.programs)} when it reads its makefiles: what make starts"
+                " so counts as a makefile, so import again when it changes"
             )
 
 
+def first(names: set[str]) -> str:
+    """The first of some names, in a sentence."""
+    found = sorted(names)
+    return ", ".join(found[:5]) + (" .." if len(found) > 5 else "")
+
+
 def all_need(build: Build, file: str) -> bool:
-    """Whether all recipes of a build run again when a file changes."""
-    names = [name for name, node in build.nodes.items() if node.commands]
-    return all(file in followed(build, name) for name in names)
+    """Whether all recipes of a build run again when a file changes, or always run."""
+    phony = {name for name, node in build.nodes.items() if node.kind is Kind.PHONY}
+    names = [name for name, node in build.nodes.items() if node.commands and name not in phony]
+    needed = (followed(build, name) for name in names)
+    return all(file in found or not phony.isdisjoint(found) for found in needed)
 
 
 def is_plain(path: str) -> bool:

@@ -24,7 +24,10 @@ OTHERS = {
     " makes; take it into the project, or give --fixed for its folder if it never changes",
     "selection": "{r} would be made from {f} once that is there; write the rule out",
 }
-
+TAKEN_AWAY = (
+    "the recipe of {r} reads {f}, which another recipe makes, and takes it away, so the next run"
+    " doesn't find it; let it leave that file there"
+)
 
 # What is said of a makefile that a tool wrote, to which lines are to be added.
 GENERATED = {
@@ -172,11 +175,24 @@ class Sentences:
 
     def unseen(self, recipe: str, file: str) -> str:
         """A stale read of a target without a recipe, which make doesn't look at again."""
-        spelled = self.spelled(self.node(recipe), file)
+        spelled, writer = self.spelled(self.node(recipe), file), self.writers[file][0]
+        front = f"{self.place(recipe)}: {self.called(recipe)} isn't made again when {file} changes"
+        if self.node(file).has_rule:
+            return (
+                f"{front}: a rule for {spelled} has no recipe, so make doesn't look at it again"
+                " after another recipe wrote it; give that rule an empty recipe, as in"
+                f" '{spelled}: PREREQUISITES ;'"
+            )
+        does = f"of {self.called(writer)} ({self.place(writer)}) writes it"
+        if self.tool == "ninja":
+            return (
+                f"{front}: no build line has {file} as an output, and the command {does}, so ninja"
+                " looks at it too early; let that line have it as an output (CMake: BYPRODUCTS)"
+            )
         return (
-            f"{self.place(recipe)}: {self.called(recipe)} isn't made again when {file} changes:"
-            f" a rule for {spelled} has no recipe, so make doesn't look at it again after another"
-            f" recipe wrote it; give that rule an empty recipe, as in '{spelled}: PREREQUISITES ;'"
+            f"{front}: no rule has {spelled} as its target, and the recipe {does}, so make looks at"
+            f" it too early with several jobs; write '{spelled}: {self.node(writer).known_as} ;',"
+            " a rule with an empty recipe"
         )
 
     def sentence(self, finding: Finding) -> str:
@@ -242,11 +258,17 @@ class Sentences:
             make = self.node(name).make
         return None
 
+    def is_taken_away(self, file: str) -> bool:
+        """Whether a file that several recipes change isn't there after a build."""
+        return len(self.writers.get(file, [])) > 1 and file not in self.build.made
+
     def other(self, finding: Finding) -> str:
         """A finding of another kind."""
         words = list(finding.words)
         values = {"r": self.called(words[0]), "f": words[-1]}
         text = OTHERS.get(finding.kind, finding.kind + " {r} {f}").format(**values)
+        if finding.kind == "own" and self.is_taken_away(words[-1]):
+            text = TAKEN_AWAY.format(**values)
         return f"{self.place(words[0])}: {text}"
 
 

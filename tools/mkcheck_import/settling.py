@@ -8,6 +8,7 @@ from .alike import split_alike
 from .builds import Build, Kind, Node
 from .footprints import Footprints, Record
 from .ordering import Order
+from .readings import all_need
 
 
 class Settling:
@@ -40,8 +41,10 @@ class Settling:
                 self.drop_own(node, record)
                 self.test_limits(node, record)
         self.name_unseen()
+        self.name_remade()
         self.settle_order()
         self.settle_between_makes()
+        self.settle_without_rule()
         split_alike(self.build, self.footprints)
         self.rename_phony()
         self.drop_configured()
@@ -87,6 +90,19 @@ class Settling:
                         f" later run doesn't find it; let it need {name}, or list {name} in"
                         " .SECONDARY"
                     )
+
+    def name_remade(self) -> None:
+        """Names makefiles that make makes anew, but those of a configure step, where recipes don't
+        run again then: their commands may be others."""
+        for name, needs in self.build.remade.items():
+            if name in self.build.configured or all_need(self.build, name):
+                continue
+            if not all(all_need(self.build, one) for one in needs):
+                self.build.problem(
+                    f"{name}: make makes this makefile anew when {needs[0]} changes, commands may"
+                    " be others then, and make doesn't run those again; let all that is made need"
+                    f" {name}"
+                )
 
     def is_gone(self, name: str) -> bool:
         """Whether a recipe makes a file that isn't there after a build by the tool itself."""
@@ -193,6 +209,24 @@ class Settling:
                 node = self.build.node(name)
                 node.has_rule, node.rereads = True, True
                 node.groups = [[writer.name for writer in writers]]
+
+    def settle_without_rule(self) -> None:
+        """Takes away prerequisites that recipes write and for which the tool has no rule, as those
+        of dependency files: it looks at such a file when it comes to it, perhaps too early."""
+        for node in list(self.build.nodes.values()):
+            found = {name for name in node.prerequisites(later=True) if self.is_without_rule(name)}
+            if found and node.has_rule:
+                groups = node.groups
+                node.groups = [[name for name in group if name not in found] for group in groups]
+                node.order_only = [name for name in node.order_only if name not in found]
+                node.late = [name for name in node.late if name not in found]
+                self.build.blind |= found
+
+    def is_without_rule(self, name: str) -> bool:
+        """Whether recipes write a file for which there is no rule."""
+        node = self.build.nodes.get(name)
+        has_rule = node is not None and node.has_rule
+        return name in self.writers and not has_rule and not self.exists(name)
 
     def drop_own(self, node: Node, record: Record) -> None:
         """Takes away prerequisites that the recipe itself writes, such as its dependency file."""

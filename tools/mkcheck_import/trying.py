@@ -13,13 +13,14 @@ from mkcheck_record.faults import Fault
 
 from .database import COMPUTED_NAME, WORD
 from .gnumake import Make, content
+from .readers import Started
 
 # A line of a makefile that may compare the value of a macro. Functions that hand on what they don't
 # know, as `subst` does, don't hide it.
 DIRECTIVE = re.compile(r"\s*(?:else\s+)?(ifn?eq|ifn?def|[-s]?include)\b(.*)")
 FUNCTION = re.compile(
-    r"\$[({](?:if|or|and|filter|findstring|word|wordlist|wildcard|call|value|eval|shell|file)\s"
-    rf"|{COMPUTED_NAME}"
+    r"\$[({](?:if|or|and|filter|findstring|word|wordlist|words|suffix|realpath|wildcard|call|value"
+    rf"|eval|shell|file)\s|{COMPUTED_NAME}"
 )
 REFERENCE = re.compile(r"\$(?:[({]([\w.+-]+)[)}:]|(\w))")
 # The operands of a condition that compares something with an empty text.
@@ -40,37 +41,64 @@ class Trial:
     """Asks make with other contents of files, by `run`, in a folder that holds its makefiles.
 
     Nobody knows what it does then, so it is confined where the system allows that: `run` is told
-    so. `written` are the files that make writes when it reads its makefiles.
+    so, and `printed`, which gives what a command prints. `written` are the files that make writes
+    when it reads its makefiles.
     """
 
     folder: str
     makefiles: set[str]
     written: set[str]
     run: Callable[[bool], list[Make]]
+    printed: Callable[[Started, bool], str]
     is_confined: bool = True
 
     def ask(self, name: str) -> list[Said]:
         """What make says for each of the other contents of a file with which it can be asked."""
-        path = Path(self.folder, name)
         self.before  # It is asked before anything is changed.
-        before, stamp = path.read_bytes(), os.stat(path).st_mtime_ns
         found = []
-        for text in others(before, self.words, self.is_confined):
-            path.write_bytes(text)
-            os.utime(path, ns=(stamp, stamp))
+        for _ in self.changes(name):
             try:
                 found.append(self.said())
             except Fault:
                 continue
+        return found
+
+    def changes(self, name: str) -> Iterator[None]:
+        """Gives a file each of the other contents, one after another, and then its own again."""
+        path = Path(self.folder, name)
+        before, stamp = path.read_bytes(), os.stat(path).st_mtime_ns
+        for text in others(before, self.words, self.is_confined):
+            path.write_bytes(text)
+            os.utime(path, ns=(stamp, stamp))
+            yield
         path.write_bytes(before)
         os.utime(path, ns=(stamp, stamp))
-        return found
+
+    def unmoved(self, name: str, commands: list[Started]) -> Started | None:
+        """The first of these commands that does the same with all other contents of a file."""
+        before = {command: self.done(command) for command in commands}
+        left = dict.fromkeys(commands)
+        for _ in self.changes(name):
+            for command in [one for one in left if self.done(one) != before[one]]:
+                del left[command]
+        return next(iter(left), None)
+
+    def done(self, command: Started) -> tuple[str, list[bytes]] | None:
+        """What a command prints, and what then stands in the files that makes write; None where it
+        can't be run."""
+        try:
+            said = self.printed(command, self.is_confined)
+        except Fault:
+            return None
+        return said, self.texts()
 
     def said(self) -> Said:
         """What make says now."""
-        makes = self.run(self.is_confined)
-        names = sorted(self.written)
-        return Said(makes, [content(os.path.join(self.folder, name)) for name in names])
+        return Said(self.run(self.is_confined), self.texts())
+
+    def texts(self) -> list[bytes]:
+        """What stands in the files that makes write when they read their makefiles."""
+        return [content(os.path.join(self.folder, name)) for name in sorted(self.written)]
 
     @functools.cached_property
     def before(self) -> list[Said]:

@@ -330,6 +330,13 @@ def text_of(argument: str) -> str | None:
     return unescaped(argument[1 : argument.rindex('"')])
 
 
+def texts_of(argument: str) -> list[str] | None:
+    """The texts of an array; None where one isn't whole."""
+    texts, _ = split(argument[1:-1] + ")", 0)
+    is_whole = all(text.startswith('"') and text.endswith('"') for text in texts)
+    return [text_of(text) or "" for text in texts] if is_whole else None
+
+
 def path_of(argument: str) -> str | None:
     """The path that stands behind a descriptor, where it is that of a file."""
     found = DESCRIPTOR.match(argument)

@@ -36,6 +36,8 @@ SET_PIPE_SIZE = 1031
 # How long a process that is left may go on before it is killed, in seconds.
 MOMENT = 0.2
 PIPE_SIZE = 1 << 20
+# How long the words of commands may be that are written out.
+TEXT_AT_MOST = str(1 << 20)
 
 
 @dataclass(frozen=True)
@@ -49,11 +51,12 @@ class Done:
 
 
 @functools.cache
-def strace(links: bool = True, looking: bool = False) -> tuple[str, ...]:
+def strace(links: bool = True, looking: bool = False, texts: bool = False) -> tuple[str, ...]:
     """The words by which strace is started, before the file of its output.
 
     Without `links`, calls that read symbolic links aren't traced: compilers make hundreds of them.
-    With `looking`, calls that only look at names are.
+    With `looking`, calls that only look at names are. With `texts`, the words of commands are
+    written out.
     """
     program = shutil.which("strace")
     if program is None:
@@ -66,7 +69,8 @@ def strace(links: bool = True, looking: bool = False) -> tuple[str, ...]:
     calls = ",".join(f"?{name}" for name in names if links or name not in OF_LINKS)
     refused = ",".join(f"?{name}" for name in REFUSED)
     return (
-        *(program, "-f", *quick, "-y", "-q", "-s", "0", "-e", f"trace={calls}"),
+        *(program, "-f", *quick, "-y", "-q", "-s", TEXT_AT_MOST if texts else "0"),
+        *("-e", f"trace={calls}"),
         *("-e", f"inject={refused}:error=ENOSYS", "-o"),
     )
 
@@ -154,12 +158,13 @@ def run(
     scratch: str,
     links: bool = True,
     looking: bool = False,
+    texts: bool = False,
 ) -> Done:
     """Runs a command in a place, with this environment, and traces it. No process of it is left
     then.
 
     `links` says whether the texts of symbolic links that it reads are traced, `looking` whether the
-    names are at which it only looks.
+    names are at which it only looks, `texts` whether the words of the commands that it starts are.
     """
     pipe = os.path.join(scratch, "trace.pipe")
     with contextlib.suppress(FileNotFoundError):
@@ -174,7 +179,7 @@ def run(
     reading.start()
     try:
         with tempfile.TemporaryFile(dir=scratch) as output:
-            traced = place.words([*strace(links, looking), pipe, *words])
+            traced = place.words([*strace(links, looking, texts), pipe, *words])
             with places.started(traced, place.seen, given, output.fileno()) as process:
                 status = process.wait()
             output.seek(0)
