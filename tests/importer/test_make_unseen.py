@@ -161,6 +161,18 @@ class WhileReadingTest(UnseenTestCase):
         self.assertEqual(self.left({"version.in": "2\n"}, "x"), ["a\n1\n", "a\n2\n"])
         self.refused("    version: it is made when make reads its makefiles (by $(shell ..)")
 
+    def test_recipe_that_make_expands(self) -> None:
+        """`make -n` expands it, and so writes the file: that is no file of an earlier build."""
+        self.write(
+            {
+                "Makefile": "x: a list\n\tcat a list > x\nlist: b\n\t$(file > $@,one two)\n",
+                "a": "a\n",
+                "b": "b\n",
+            }
+        )
+        answer = self.refused("    list: it is made when make reads its makefiles (by $(shell ..)")
+        self.assertNotIn("nothing tells whether", answer.output)
+
     def test_from_an_output(self) -> None:
         """It is made anew each time, but from what the build before left."""
         self.write(

@@ -117,7 +117,8 @@ class Leftovers:
                 "`make clean` tells nothing, since it fails in a copy, where it can change nothing"
                 f" else and has no network ({self.not_cleaned})"
             )
-        old = {name for name in build.given if not self.came_with_it(build, name, times)}
+        given = self.there.intersection(build.given)
+        old = {name for name in given if not self.came_with_it(build, name, times)}
         if old:
             build.problem(
                 f"{self.some(old)} with rules are there already, and nothing tells whether they"

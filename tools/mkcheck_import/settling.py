@@ -65,8 +65,8 @@ class Settling:
             if name not in self.build.configured:
                 self.build.problem(
                     f"{name}: it is made when make reads its makefiles (by $(shell ..), $(file ..)"
-                    " or a rule for a makefile), and when it is made anew isn't judged; let a"
-                    " recipe make it"
+                    " or a rule for a makefile), and when it is made anew isn't judged; let the"
+                    " commands of a recipe make it"
                 )
         for name in sorted((self.build.read_again & used) - set(self.writers)):
             self.build.note(
