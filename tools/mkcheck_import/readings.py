@@ -110,7 +110,8 @@ class Readings:
         self.looked |= {name for name in names if self.is_own(place, name)}
         for path in paths:
             name = path_name(place.seen, place.seen, path)
-            self.readers[name] = list(reader.accesses.readers[path])
+            readers = reader.accesses.readers[path]
+            self.readers[name] = [one for one in readers if one not in reader.starting]
         names = dict.fromkeys(path_name(place.seen, place.seen, path) for path in paths)
         links = [path_name(place.seen, place.seen, path) for path in reader.links]
         links = [name for name in links if name not in names and not is_foreign(name)]

@@ -189,6 +189,8 @@ class Sentences:
                 f"{front}: no build line has {file} as an output, and the command {does}, so ninja"
                 " looks at it too early; let that line have it as an output (CMake: BYPRODUCTS)"
             )
+        if self.node(writer).make != self.node(recipe).make:
+            return f"{front}: the recipe {does} in another make; {self.apart(recipe, writer)}"
         return (
             f"{front}: no rule has {spelled} as its target, and the recipe {does}, so make looks at"
             f" it too early with several jobs; write '{spelled}: {self.node(writer).known_as} ;',"
