@@ -44,6 +44,32 @@ class FaultTest(ProjectTest):
             ),
         )
 
+    def test_a_command_that_ends_in_a_backslash_with_the_file(self) -> None:
+        """`graph -c` prints the next name as if the command went on; a command isn't run with it."""
+        front = "mkcheck-record: the last command of b ends in a backslash, and no line comes"
+        behind = " behind it: end that file with a newline, without the backslash\n"
+        for makefile, files in (
+            ("all: b c\nc:\n\techo > c\nb:\n\techo > b; : \\", {}),
+            ("all: b\na:\n\techo > a\ninclude m\n", {"m": "b: a\n\techo \\\n1 > b; : \\"}),
+        ):
+            self.write({"makefile": makefile, **files})
+            outcome = self.record()
+            self.assertEqual((outcome.status, outcome.book, outcome.errors), (2, None, front + behind))
+        for makefile in ("b:\n\techo > b; : \\", "all: b\nb:\n\techo > b; : \\\n\nall:\n"):
+            self.write({"makefile": makefile})
+            self.assertEqual(self.recorded().own("b"), (set(), {"b"}))
+
+    def test_a_command_that_is_not_utf8(self) -> None:
+        (self.folder / "makefile").write_bytes(b"b: a\n\techo \xff > b\na:\n\techo > a\n")
+        outcome = self.record()
+        self.assertEqual((outcome.status, outcome.book), (2, None))
+        self.assertEqual(
+            outcome.errors,
+            "mkcheck-record: a command of b holds bytes that aren't UTF-8, and footprints, which are"
+            " JSON, can't hold these: write it in UTF-8, or put these bytes into a file that it"
+            " reads\n",
+        )
+
     def test_an_old_file_stays_where_a_recipe_fails(self) -> None:
         self.write({"makefile": FAILING})
         kept = self.scratch / "kept"

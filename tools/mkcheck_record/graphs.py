@@ -185,14 +185,43 @@ class Checker:
 
     def graph(self, fixed: list[str], sources: list[str], scratch: str) -> Graph:
         """The graph, where these are the fixed prefixes and the sources."""
-        done = self.asked(["graph", "-c"], fixed, sources, scratch)
+        said = self.said(["graph", "-c"], fixed, sources, scratch)
+        try:
+            return read_graph(said.decode("utf-8"))
+        except UnicodeDecodeError:
+            target = target_that_is_not_utf8(said)
+            raise Fault(
+                f"a command of {target} holds bytes that aren't UTF-8, and footprints, which are"
+                " JSON, can't hold these: write it in UTF-8, or put these bytes into a file that it"
+                " reads"
+            ) from None
+
+    def said(
+        self, request: Sequence[str], fixed: list[str], sources: list[str], scratch: str
+    ) -> bytes:
+        """What mkcheck prints, unless it refuses."""
+        done = self.asked(request, fixed, sources, scratch)
         if done.returncode != 0:
             said = (done.stdout.strip() or done.stderr).decode("utf-8", "replace").strip()
             raise Refused(said)
-        try:
-            return read_graph(done.stdout.decode("utf-8"))
-        except UnicodeDecodeError:
-            raise Fault("a command holds bytes that aren't UTF-8: footprints can't") from None
+        return done.stdout
+
+    def refuse_open_end(
+        self, graph: Graph, fixed: list[str], sources: list[str], scratch: str
+    ) -> None:
+        """Refuses a command that ends in a backslash behind which no line comes: `graph -c` prints
+        the next name there, as if it went on.
+        """
+        said = self.said(["graph"], fixed, sources, scratch)
+        names = [Node.of(line).name for line in said.decode("utf-8").split("\n")[1:-1]]
+        for name, found in zip(names, [*graph.names, None]):
+            if name != found:
+                before = graph.names[: graph.names.index(found)] if found else graph.names
+                target = next(one for one in reversed(before) if one in graph.targets)
+                raise Fault(
+                    f"the last command of {target} ends in a backslash, and no line comes behind"
+                    " it: end that file with a newline, without the backslash"
+                )
 
 
 def asked_graph(
@@ -205,7 +234,9 @@ def asked_graph(
     """
     while True:
         try:
-            return files, checker.graph(fixed, files, scratch)
+            graph = checker.graph(fixed, files, scratch)
+            checker.refuse_open_end(graph, fixed, files, scratch)
+            return files, graph
         except Refused as refused:
             name = refused.missing
             path = os.path.join(checker.folder, name or "")
@@ -268,6 +299,19 @@ def read_graph(text: str) -> Graph:
             continue
         open_ended = goes_on(line)
     return Graph(names, recipes, text, head.split(" ")[1:], prerequisites, frozenset(phony))
+
+
+def target_that_is_not_utf8(text: bytes) -> str:
+    """The target whose commands in what `mkcheck graph -c` printed aren't UTF-8."""
+    target = b""
+    for line in text.split(b"\n"):
+        try:
+            line.decode("utf-8")
+        except UnicodeDecodeError:
+            break
+        if not line.startswith(b"\t"):
+            target = line.split(b" ")[0].split(b":")[0]
+    return target.decode("utf-8", "replace")
 
 
 def goes_on(line: str) -> bool:
