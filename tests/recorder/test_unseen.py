@@ -1037,6 +1037,46 @@ class LateTest(Refusals):
             )
             self.assertIn("no writers b d/b.txt d/b.txt", self.check())
 
+    def test_files_in_a_folder_that_it_makes(self) -> None:
+        """A recipe asks whether a folder is there, and makes it."""
+        other = "d/b.txt: y\n\tmkdir -p d\n\tcp y d/b.txt\n"
+        for way in (
+            "if test -d d; then rm -r d; fi; mkdir -p d",
+            "[ ! -d d ] || mv d d.old; rm -rf d.old; mkdir -p d",
+            "[ -d d ] && rm -r d || true; mkdir d",
+            "if cd d 2>&-; then rm -f *; cd ..; fi; mkdir -p d",
+            "mkdir d 2>&- || rm -f d/*",
+            "mkdir d.new; test ! -d d || rm -r d; mv d.new d",
+        ):
+            files = {"x": "1\n", "y": "2\n"}
+            outcome = self.of(f"all: d/a d/b.txt\nd/a: x\n\t{way}\n\tcp x d/a\n{other}", files)
+            self.assertEqual(outcome.own("d/a"), ({"x"}, {"d/a", "d/b.txt"}), way)
+            self.assertIn("no writers d/a d/b.txt d/b.txt", self.check(), way)
+        listing = "if test -d d; then cat d/*.txt > e || : > e; else : > e; fi; mkdir -p d; mv e d/a"
+        for rule in (f"d/a: x\n\t{listing}\n", "d/a:\n\tmkdir d; echo > d/a\n"):
+            outcome = self.of(f"all: d/a d/b.txt\n{rule}{other}", files)
+            self.assertIn("d/b.txt", outcome.own("d/a")[0], rule)
+            self.assertIn("no race d/a d/b.txt d/b.txt", self.check(), rule)
+
+    def test_a_folder_that_it_makes_and_whose_files_it_leaves(self) -> None:
+        other = "d/b.txt: y\n\ttest -d d || mkdir -p d\n\tcp y d/b.txt\n"
+        for way in ("mkdir -p d", "test -d d || mkdir d", "mkdir d 2>&- || :", "install -d d"):
+            outcome = self.of(
+                f"all: d/a d/b.txt\nd/a: x\n\t{way}\n\tcp x d/a\n{other}", {"x": "", "y": ""}
+            )
+            self.assertEqual(outcome.own("d/a"), ({"x"}, {"d/a"}), way)
+            self.assertEqual((outcome.warnings(), self.check()[0][:3]), ([], "yes"), way)
+
+    def test_a_folder_that_is_made_before_its_files(self) -> None:
+        """Where no make makes it again, those that wait for it are never there."""
+        outcome = self.of(
+            "all: d/b.txt\nmade:\n\tmkdir d\n\ttouch made\nd/b.txt: y made\n\tcp y d/b.txt\n",
+            {"y": ""},
+        )
+        self.assertEqual(outcome.own("made"), (set(), {"made"}))
+        self.assertNotIn("counts as", outcome.errors)
+        self.assertEqual(self.check()[0][:3], "yes")
+
     def test_files_of_recipes_before(self) -> None:
         """A recipe that looks at what it needs is recorded to read it, if the replay needs it."""
         flag = "flag: x\n\tcp x flag\n"

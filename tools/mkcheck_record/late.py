@@ -1,8 +1,8 @@
 """Late files of a recipe: those that other recipes make later, where it looked for names.
 
 A recipe that lists a folder sees no name that isn't there yet, and one that looks for a folder in
-vain doesn't look into it. With several jobs, or another time, the files are there. So the replay
-runs such a recipe once more beside its late files, and tells which of them it uses.
+vain, or makes it, doesn't look into it. With several jobs, or another time, the files are there. So
+the replay runs such a recipe once more beside its late files, and tells which of them it uses.
 """
 
 from __future__ import annotations
@@ -39,10 +39,14 @@ def folders_of(name: str) -> Iterator[str]:
             yield name
 
 
-def late_files(footprints: Sequence[Footprint], given: frozenset[str]) -> Late:
+def late_files(
+    footprints: Sequence[Footprint], given: frozenset[str], with_made: bool = True
+) -> Late:
     """The late files of each recipe that has some, by its target.
 
     The footprints are in serial order. `given` has the files and folders that were there at first.
+    A recipe that makes a folder asks by that whether it is there: `mkdir d || rm d/*`. Without
+    `with_made` this doesn't count.
     """
     since = {ROOT: -1, **dict.fromkeys(given, -1)}
     written: dict[str, None] = {}
@@ -52,7 +56,7 @@ def late_files(footprints: Sequence[Footprint], given: frozenset[str]) -> Late:
         written.update(dict.fromkeys(footprint.writes))
     found: dict[str, tuple[str, ...]] = {}
     for number, footprint in enumerate(footprints):
-        sought = footprint.sought - footprint.made
+        sought = footprint.sought | footprint.made if with_made else footprint.sought
         if footprint.listed or sought:
             names = sorted(
                 name
@@ -71,9 +75,7 @@ def is_met(
     listed: frozenset[str],
     sought: frozenset[str],
 ) -> bool:
-    """Whether a recipe looked for a folder of this file in vain, or listed the innermost one that
-    was there.
-    """
+    """Whether a recipe sought a folder of this file, or listed the innermost one that was there."""
     inner = ROOT
     for folder in folders_of(name):
         if folder in sought:

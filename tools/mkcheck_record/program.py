@@ -184,7 +184,7 @@ def record_and_write(asked: argparse.Namespace, folder: str, scratch: str) -> No
     if recorded.failures or verdict.errors:
         raise RecipeFault("\nmkcheck-record: ".join([*recorded.failures, *verdict.errors]))
     if recorded.late or footprints != recorded.footprints:
-        text = book(footprints, late=recorded.late).text()
+        text = book(footprints, late=recorded.looked_late).text()
     if asked.no_replay:
         tell(UNTESTED)
     write_text(text, asked.update or asked.o)
@@ -273,7 +273,14 @@ def replayed(shop: Workshop, graph: Graph, recorded: Recorded, trusted: frozense
         return Verdict()
     scratch = os.path.join(shop.scratch, "replays")
     replay = Replay(
-        world, shop.place.seen, scratch, shop.environment, shop.ancestors, recorded.late
+        world,
+        shop.place.seen,
+        scratch,
+        shop.environment,
+        shop.ancestors,
+        recorded.late,
+        recorded.writers,
+        graph.once,
     )
     outcomes = replay.run(world.trials)
     verdict = judge(outcomes, trusted, graph.once, world.makers)

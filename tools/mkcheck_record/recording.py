@@ -88,6 +88,20 @@ class Recorded:
         """The late files of recipes."""
         return late_files(self.footprints, self.given)
 
+    @functools.cached_property
+    def looked_late(self) -> Late:
+        """The late files of recipes that listed their folders or looked for them."""
+        return late_files(self.footprints, self.given, with_made=False)
+
+    @functools.cached_property
+    def writers(self) -> dict[str, list[str]]:
+        """The targets whose recipes write a file, by its name."""
+        found: dict[str, list[str]] = {}
+        for footprint in self.footprints:
+            for name in footprint.writes:
+                found.setdefault(name, []).append(footprint.recipe.target)
+        return found
+
 
 def record(
     shop: Workshop,

@@ -102,8 +102,9 @@ class Outcome:
 class Replay:
     """Replays the recipes of a world.
 
-    `environment` is that of the recipes, and `late` are their late files. Where the system allows
-    no mount namespace, the recipes ran at `seen` itself, and are replayed there one at a time.
+    `environment` is that of the recipes, and `late` are their late files. `writers` has the targets
+    whose recipes write a file, and `once` those that no make makes again. Where the system allows no
+    mount namespace, the recipes ran at `seen` itself, and are replayed there one at a time.
     """
 
     world: World
@@ -112,6 +113,8 @@ class Replay:
     environment: Mapping[str, str]
     ancestors: Ancestors
     late: Late = field(default_factory=dict)
+    writers: Mapping[str, list[str]] = field(default_factory=dict)
+    once: frozenset[str] = frozenset()
     _stopped: threading.Event = field(default_factory=threading.Event)
 
     def run(self, trials: list[Trial]) -> list[Outcome]:
@@ -292,9 +295,25 @@ class Replay:
         read = frozenset(name for name, path in paths.items() if path in opened)
         if taken or read:
             return Met(read - taken, taken)
+        if failed:
+            return Met(self.met_by(trial.recipe.target, late))
         changed = (one.name for one in self.compared(trial, place.folder, laid))
-        other = failed or any(name not in paths and name not in folders for name in changed)
+        other = any(name not in paths and name not in folders for name in changed)
         return Met(frozenset(late) if other else frozenset())
+
+    def met_by(self, target: str, late: tuple[str, ...]) -> frozenset[str]:
+        """The late files that may be there when a recipe runs: not those that are always made after
+        it, where no make makes it again.
+        """
+        if target not in self.once:
+            return frozenset(late)
+        return frozenset(
+            name
+            for name in late
+            if not all(
+                self.ancestors.any_before((target,), writer) for writer in self.writers[name]
+            )
+        )
 
     def stand_in(self, name: str, path: str) -> None:
         """Puts something at the path of a late file: of its kind and mode, and empty if it is."""

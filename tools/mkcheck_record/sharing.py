@@ -26,7 +26,7 @@ from .faults import RecipeFault
 from .folders import is_plain_path
 from .footprints import Footprint, Warn, shown
 from .graphs import Graph
-from .late import Late, folders_of, key_of
+from .late import Late, folders_of
 from .refusals import listed
 
 PATTERN = re.compile(r"[*?\[]")
@@ -110,7 +110,8 @@ def with_shared(
     """The footprints, with shared names in the writes of each recipe that made or removed them, and
     in the reads of each that looked for them.
 
-    `late` has the late files of recipes, where a warning is to tell which the replay didn't test.
+    `late` has late files of recipes, where a warning is to tell which recipes weren't run beside
+    theirs.
     """
     footprints = with_matches(footprints)
     uses, makers = Uses(), Makers(graph)
@@ -159,8 +160,8 @@ def warn_of_late(
 
 def warn_of_untested(footprints: list[Footprint], late: Late, warn: Warn) -> None:
     """Tells which recipes weren't run beside their late files."""
-    tested = {footprint.recipe.target: footprint.late for footprint in footprints}
-    found = {target: names for target, names in late.items() if tested[target] != key_of(names)}
+    tested = {footprint.recipe.target for footprint in footprints if footprint.late}
+    found = {target: names for target, names in late.items() if target not in tested}
     if found:
         one = len(found) == 1
         example = next(iter(found.values()))[0]
