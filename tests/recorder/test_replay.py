@@ -144,6 +144,21 @@ class BareTest(ReplayTest):
         what = "it takes away x, which it neither made nor read: let it do without (rm -f x)"
         self.assertIn(f"\t{what}\n", said)
 
+    @unittest.skipUnless(shutil.which("gzip") and shutil.which("tar"), "no gzip or no tar")
+    def test_stamps_of_made_files(self) -> None:
+        """They are others in each build, and so is what holds them."""
+        for way in ("gzip -c a > out", "tar cf out s a", "stat -c %Y a > out"):
+            self.write({"makefile": f"out: s a\n\t{way}\na: s\n\tcat s > a\n", "s": "1\n"})
+            outcome = self.record()
+            self.assertEqual((outcome.status, outcome.book), (1, None), way)
+            self.assertIn(
+                f"the recipe of out, run {FRONTS[BARE]}, writes out with other contents: it uses"
+                " the time stamp of a file that a recipe makes, which is another one in each build,"
+                " and here too. Let it leave stamps out (gzip -n, tar --mtime=@0, ar D), or give"
+                " --trust out",
+                outcome.errors,
+            )
+
     def test_an_ignored_failure_is_none(self) -> None:
         self.passes("out: a\n\t-cat a b > out\n\t-@false\n", {"a": ""})
 
@@ -277,6 +292,25 @@ class PassTest(ReplayTest):
 
     def test_a_source_that_is_written_later(self) -> None:
         self.passes("all: a b\na:\n\tcp s a\nb: a\n\techo 2 >> s; cp s b\n", {"s": "1\n"})
+
+    @unittest.skipUnless(shutil.which("gzip") and shutil.which("tar"), "no gzip or no tar")
+    def test_stamps(self) -> None:
+        """What compares contents, and what asks which file is newer, of sources and made files."""
+        older = "test s -ot a && test a -ot b && test b -nt s && test a -ot c && test a -nt old"
+        ways = {
+            "o1": f"cat s a b c old > o1 && {older} && test c -ot o1",
+            "o2": "cp -p a o2; touch -r a o2",
+            "o3": "gzip -nc a > o3; tar --mtime=@0 -cf - a >> o3; install -m 644 a o4; rm o4",
+            "o5": "gzip -c s > o5; tar cf - s old >> o5; test ! -f a || find . -newer s -name b",
+            "o6": "gzip -c old > o6; ar rcD o6.a b; cat o6.a >> o6; rm o6.a",
+        }
+        rules = "".join(f"{name}: s a b c old\n\t{way}\n" for name, way in ways.items())
+        self.write({"s": "1\n"})
+        os.utime(self.folder / "s", (1_000_000_000, 1_000_000_000))
+        self.passes(
+            f"all: {' '.join(ways)}\n{rules}old: s\n\tcp -p s old\na: s\n\tcat s > a\n"
+            "b: a\n\tcp a b\nc: b\n\tsleep 0.1; cp b c; touch c\n"
+        )
 
     def test_the_path_of_the_project(self) -> None:
         self.passes(

@@ -2,7 +2,8 @@
 Three runs, and for a recipe with late files a fourth, each in a folder that appears at the
 project's own path:
 
-- *bare*: the folder holds the recorded reads, as they were when the recipe ran.
+- *bare*: the folder holds the recorded reads, as they were when the recipe ran. Those that recipes
+  make have later stamps, as in another build.
 - *again*: the same, and the recipe's own outputs.
 - *damaged*: the same, but its outputs hold other bytes and have the newest stamps.
 - *late*: the folder of the bare run, with a short file for each late one. Traced, since it tells
@@ -33,6 +34,7 @@ from .graphs import Ancestors
 from .late import Late, Met, folders_of
 from .places import Place
 from .progress import Progress, first_line
+from .stamps import with_later_stamps
 from .tracing import read_trace, strace
 from .trees import Tree
 from .versions import FILE, FOLDER, LINK, Version, lay, version_of
@@ -89,6 +91,9 @@ class Outcome:
     absent: frozenset[str] = frozenset()
     """The folders that were there in the recording, and not in the bare run that failed."""
 
+    stamps: bool = False
+    """Whether the bare run fails for the stamps alone of files that recipes make."""
+
     met: Met | None = None
     """What it needed besides its reads."""
 
@@ -103,8 +108,8 @@ class Replay:
     """Replays the recipes of a world.
 
     `environment` is that of the recipes, and `late` are their late files. `writers` has the targets
-    whose recipes write a file, and `once` those that no make makes again. Where the system allows no
-    mount namespace, the recipes ran at `seen` itself, and are replayed there one at a time.
+    whose recipes write a file, and `once` those that no make makes again. Where the system allows
+    no mount namespace, the recipes ran at `seen` itself, and are replayed there one at a time.
     """
 
     world: World
@@ -181,23 +186,39 @@ class Replay:
         try:
             place = Place(folder, self.seen, shut=True)
             late = self.late.get(trial.recipe.target, ())
-            failed = None
+            failed: list[Outcome] = []
             for seen in self.seen_by(trial):
-                tried = trial.with_reads(seen)
-                self.furnish(tried, folder, folders)
-                outcome = self.runs(tried, place)
-                remove(folder)
+                tried = with_later_stamps(self.world, trial.with_reads(seen))
+                outcome = self.tried(tried, place, folders)
                 if outcome.run != BARE:
                     met = Met(seen=frozenset(seen))
                     if late:
                         self.furnish(tried, folder, folders)
                         met = replace(self.beside(tried, place, late), seen=met.seen)
                     return replace(outcome, met=met)
-                failed = failed or outcome
-            assert failed is not None
-            return replace(failed, absent=trial.known - {*self.folders_of(trial), *folders})
+                failed.append(outcome)
+            absent = trial.known - {*self.folders_of(trial), *folders}
+            for outcome, seen in zip(failed, self.seen_by(trial)):
+                if self.needs_stamps(trial.with_reads(seen), place, folders):
+                    return replace(outcome, absent=absent, stamps=True)
+            return replace(failed[0], absent=absent)
         finally:
             remove(folder)
+
+    def tried(self, trial: Trial, place: Place, folders: frozenset[str]) -> Outcome:
+        """The runs of a recipe in a folder that is made for them."""
+        self.furnish(trial, place.folder, folders)
+        outcome = self.runs(trial, place)
+        remove(place.folder)
+        return outcome
+
+    def needs_stamps(self, trial: Trial, place: Place, folders: frozenset[str]) -> bool:
+        """Whether a recipe that fails or differs passes the bare run where the files that recipes
+        make have the stamps of the recording.
+        """
+        if with_later_stamps(self.world, trial) is trial:
+            return False
+        return self.tried(trial, place, folders).run != BARE
 
     def seen_by(self, trial: Trial) -> Iterator[Mapping[str, Version]]:
         """The files of earlier recipes that are laid beside the reads, one set after another: none,

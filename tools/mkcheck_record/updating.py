@@ -160,6 +160,7 @@ class Updating:
             return
         lay(self.world.store.path(version), path, version)
         os.utime(path, follow_symlinks=False)
+        self.world.current[name] = replace(version, stamp=os.lstat(path).st_mtime_ns)
 
     def noting(self, recipe: Recipe, warn: Warn) -> Warn:
         """A way to warn that notes of which recipe."""

@@ -43,6 +43,11 @@ KEPT = (
     " so what depends on the file may stay old"
 )
 KEPT_CURE = "Let the recipe write all its outputs in each run"
+STAMPS = (
+    "it uses the time stamp of a file that a recipe makes, which is another one in each build, and"
+    " here too"
+)
+STAMPS_CURE = "Let it leave stamps out (gzip -n, tar --mtime=@0, ar D)"
 FAILURES = {
     BARE: (
         "it needs a file, a link or a folder that isn't recorded, or something else that wasn't"
@@ -117,7 +122,9 @@ def complaint(outcome: Outcome, makers: Mapping[str, list[str]]) -> str:
     """The error of a replay that failed, or left other files than the recording."""
     target = outcome.trial.recipe.target
     meaning, cure = MEANINGS[outcome.run], CURES[outcome.run]
-    if outcome.failed:
+    if outcome.stamps:
+        meaning, cure = STAMPS, STAMPS_CURE
+    elif outcome.failed:
         meaning, cure = FAILURES[outcome.run], FAILURE_CURES[outcome.run]
     elif outcome.differences[0].kept:
         meaning, cure = KEPT, KEPT_CURE

@@ -350,6 +350,11 @@ class World:
             self.seen[name] = FOLDERS if version is not None and version.kind == FOLDER else version
         return self.seen[name]
 
+    def stamp(self, name: str) -> int:
+        """The stamp of a file that was there before any recipe."""
+        folder = self.folder if name in self.current else self.place
+        return os.lstat(os.path.join(folder, name)).st_mtime_ns
+
     def material(self, name: str, version: Version, changed: bool = False) -> tuple[str, Version]:
         """Where the bytes of a version lie, and the version in full.
 
