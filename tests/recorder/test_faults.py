@@ -25,6 +25,26 @@ class FaultTest(ProjectTest):
             ),
         )
 
+    def test_a_recipe_that_fails_for_what_another_makes_later(self) -> None:
+        self.write({"makefile": "all: b d/c\nb: x\n\tcat x d/c\nd/c: x\n\tcp x d/c\n", "x": ""})
+        outcome = self.record()
+        self.assertEqual((outcome.status, outcome.book), (1, None))
+        self.assertIn(
+            "\n\tb looks for d/c, which the recipe of d/c makes later: add b: d/c\n",
+            outcome.errors,
+        )
+        self.write({"makefile": "b:\n\tcat c none\nc: b\n\tcp b c\n"})
+        self.assertIn(
+            "\n\tb looks for c, which the recipe of c makes later, and needs b\n",
+            self.record("c").errors,
+        )
+
+    def test_goals_that_reach_no_recipe(self) -> None:
+        self.write({"makefile": "OBJS = a\nall: $(OBJ)\na:\n\techo > a\n"})
+        said = ["the goals reach no recipe: is a macro misspelt?"]
+        self.assertEqual(self.recorded().warnings(), said)
+        self.assertEqual(self.recorded("a").warnings(), [])
+
     def test_all_that_a_failing_recipe_puts_out(self) -> None:
         self.write(
             {
@@ -45,7 +65,7 @@ class FaultTest(ProjectTest):
         )
 
     def test_a_command_that_ends_in_a_backslash_with_the_file(self) -> None:
-        """`graph -c` prints the next name as if the command went on; a command isn't run with it."""
+        """`graph -c` prints the next name as if the command went on."""
         front = "mkcheck-record: the last command of b ends in a backslash, and no line comes"
         behind = " behind it: end that file with a newline, without the backslash\n"
         for makefile, files in (
@@ -54,7 +74,8 @@ class FaultTest(ProjectTest):
         ):
             self.write({"makefile": makefile, **files})
             outcome = self.record()
-            self.assertEqual((outcome.status, outcome.book, outcome.errors), (2, None, front + behind))
+            self.assertEqual((outcome.status, outcome.book), (2, None))
+            self.assertEqual(outcome.errors, front + behind)
         for makefile in ("b:\n\techo > b; : \\", "all: b\nb:\n\techo > b; : \\\n\nall:\n"):
             self.write({"makefile": makefile})
             self.assertEqual(self.recorded().own("b"), (set(), {"b"}))
@@ -65,8 +86,8 @@ class FaultTest(ProjectTest):
         self.assertEqual((outcome.status, outcome.book), (2, None))
         self.assertEqual(
             outcome.errors,
-            "mkcheck-record: a command of b holds bytes that aren't UTF-8, and footprints, which are"
-            " JSON, can't hold these: write it in UTF-8, or put these bytes into a file that it"
+            "mkcheck-record: a command of b holds bytes that aren't UTF-8, and footprints, which"
+            " are JSON, can't hold these: write it in UTF-8, or put these bytes into a file that it"
             " reads\n",
         )
 

@@ -383,6 +383,18 @@ class FolderTest(ProjectTest):
             outcome.warnings(), ["log was there before, and a recipe writes it: it is no source"]
         )
 
+    def test_files_beside_a_target_that_were_there(self) -> None:
+        names = "1 2 3 4"
+        self.write({"makefile": f"b: a\n\tcp a b; touch {names}\n", "a": ""})
+        self.write(dict.fromkeys(names.split(), ""))
+        self.assertEqual(
+            self.recorded().warnings(),
+            [
+                "4 files were there before, and recipes write them, so they are no sources: 1, 2, 3"
+                " and 1 more"
+            ],
+        )
+
     def test_a_copy_inside_the_folder(self) -> None:
         self.write({"makefile": COPY, "a": "", "tmp/kept": ""})
         outcome = self.record(environment={"TMPDIR": str(self.folder / "tmp")})

@@ -129,12 +129,24 @@ class ScratchTest(Refusals):
             )
             self.assertEqual(
                 outcome.warnings(),
-                [
-                    "the recipe of clean would take away a, which that of a uses too: with several"
-                    " jobs they destroy each other's, so it counts as written by each"
-                ],
+                ["clean removes files of other recipes: record and check it by itself"],
             )
             self.assertIn("no writers clean a a", self.check())
+
+    def test_a_clean_beside_what_it_removes(self) -> None:
+        """One warning, and one for each file that no recipe makes."""
+        outcome = self.of(
+            "all: a b clean\na: x\n\tcp x a\nb: x\n\tcp x b; cp x c\nclean:\n\trm -f a b c y\n",
+            {"x": "", "y": ""},
+        )
+        self.assertEqual(
+            outcome.warnings(),
+            [
+                "clean removes files of other recipes: record and check it by itself",
+                "the recipe of clean takes away y, which it didn't make: let it leave that there",
+            ],
+        )
+        self.assertIn("no writers a clean a", self.check())
 
     def test_a_look_in_vain(self) -> None:
         for way, read in (
@@ -1052,7 +1064,7 @@ class LateTest(Refusals):
             outcome = self.of(f"all: d/a d/b.txt\nd/a: x\n\t{way}\n\tcp x d/a\n{other}", files)
             self.assertEqual(outcome.own("d/a"), ({"x"}, {"d/a", "d/b.txt"}), way)
             self.assertIn("no writers d/a d/b.txt d/b.txt", self.check(), way)
-        listing = "if test -d d; then cat d/*.txt > e || : > e; else : > e; fi; mkdir -p d; mv e d/a"
+        listing = "if test -d d; then cat d/*.txt; fi > e || :; mkdir -p d; mv e d/a"
         for rule in (f"d/a: x\n\t{listing}\n", "d/a:\n\tmkdir d; echo > d/a\n"):
             outcome = self.of(f"all: d/a d/b.txt\n{rule}{other}", files)
             self.assertIn("d/b.txt", outcome.own("d/a")[0], rule)

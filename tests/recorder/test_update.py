@@ -455,7 +455,14 @@ class StateTest(UpdateTest):
     def test_a_failure_leaves_all_as_it_was(self) -> None:
         before = (self.updated.read_text(), self.state.read_text())
         self.write({"makefile": "b: a\n\tcp a b; false\na: s\n\tcp s a\n"})
-        self.assertEqual(self.update().status, 1)
+        failed = self.update()
+        self.assertEqual(failed.status, 1)
+        self.assertTrue(
+            failed.errors.endswith(
+                f"\nmkcheck-record: {self.updated} is still that of the old sources\n"
+            ),
+            failed.errors,
+        )
         self.assertEqual((self.updated.read_text(), self.state.read_text()), before)
         self.write({"makefile": "b: a\n\tcp a b\na: s\n\tcp s a\n"})
         self.assertEqual(self.count(self.update()), 0)

@@ -120,11 +120,8 @@ def footprint_of(recipe: Recipe, accesses: Accesses, naming: Naming, warn: Warn)
     read = [path for path in accesses.reads if path in there and not is_needless(path, naming)]
     written = list(dict.fromkeys(left(tree, [*accesses.writes, *within(tree, accesses.moved)])))
     refuse_nameless(recipe, read, written, naming)
-    for path in lost:
-        warn(
-            f"the recipe of {recipe.target} takes away {naming.name(path) or path}, which it didn't"
-            " make: let it leave that there"
-        )
+    for path in lost if written else ():
+        warn_of_lost(recipe, naming.name(path) or path, warn)
     here = set(written)
     dropped = [path for path in accesses.dropped if is_gone(path, accesses)]
     dropped = [path for path in dropped if not any(one.startswith(path + "/") for one in lost)]
@@ -164,6 +161,14 @@ def footprint_of(recipe: Recipe, accesses: Accesses, naming: Naming, warn: Warn)
         frozenset(naming.name(path) or path for path in dropped),
         frozenset(named(folders_made(accesses), naming)),
         frozenset(listed_in(accesses, naming)),
+    )
+
+
+def warn_of_lost(recipe: Recipe, name: str, warn: Warn) -> None:
+    """Warns of a file that a recipe takes away and hadn't made."""
+    warn(
+        f"the recipe of {recipe.target} takes away {name}, which it didn't make: let it leave that"
+        " there"
     )
 
 

@@ -22,9 +22,12 @@ MEANINGS = {
     22: "mkcheck doesn't judge :=, which makes read differently; write ::=",
     23: "mkcheck doesn't judge rules with two colons; write one rule for the target",
     24: "mkcheck doesn't judge macros of some targets alone; write the value into their recipes",
-    25: "the line is no rule, macro or include of POSIX; ifeq, define and so on are GNU make's",
+    25: (
+        "the line is no rule, macro or include of POSIX; commands begin with a tab, not with"
+        " spaces; ifeq, define and so on are GNU make's"
+    ),
     26: "the command stands below no rule",
-    27: "a word of the line is no name: a pattern with %, a * or the like",
+    27: "a word of the line is no name: a pattern with %, a * or the like, or a line end CR LF",
     28: "mkcheck doesn't judge members of archives; make the archive anew from its objects",
     29: "mkcheck doesn't judge this special target",
     30: "the special target stands in a form that POSIX doesn't give it",

@@ -18,7 +18,7 @@ from .dates import dated
 from .ending import ended, write_text
 from .faults import Fault, RecipeFault
 from .folders import SYSTEM, Naming, prefix_of, scratch_folder, sources_in
-from .graphs import Checker, Graph, asked_graph, find_checker, warn_of_varying
+from .graphs import Checker, Graph, Refused, asked_graph, find_checker, warn_of_varying
 from .late import with_met
 from .macros import Prober, handed_down, refuse_absent_compiler, warn_of_environment, with_shell
 from .places import Place
@@ -148,6 +148,8 @@ def record_and_write(asked: argparse.Namespace, folder: str, scratch: str) -> No
     warn = warner()
     if asked.f is None and os.path.exists(os.path.join(folder, "GNUmakefile")):
         warn("GNU make reads GNUmakefile first, which isn't judged here; -f GNUmakefile judges it")
+    if not graph.recipes:
+        warn("the goals reach no recipe: is a macro misspelt?")
     check_trust(asked.trust, graph.recipes)
     prober = Prober(checker, fixed, files, scratch)
     refuse_predefined(graph, prober, warn)
@@ -356,6 +358,11 @@ def record_folder(asked: argparse.Namespace) -> int:
     try:
         with scratch_folder(folder) as scratch:
             record_and_write(asked, folder, scratch)
+    except (RecipeFault, Refused) as fault:
+        if asked.update and os.path.exists(asked.update):
+            print(f"mkcheck-record: {fault}", file=sys.stderr)
+            fault.args = (f"{asked.update} is still that of the old sources",)
+        raise
     finally:
         places.stop_all()
     return 0

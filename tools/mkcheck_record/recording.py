@@ -8,7 +8,7 @@ import shlex
 import stat
 import tempfile
 import time
-from collections.abc import Callable, Mapping
+from collections.abc import Callable, Iterator, Mapping
 from dataclasses import dataclass, field
 
 from . import tracing
@@ -243,8 +243,21 @@ def run(
         refuse_unseen(recipe, accesses, done.left, shop)
         refuse_forbidden(recipe, accesses, naming)
         if done.status != 0 and not command.ignored:
-            raise RecipeFault(failure(recipe, command, done.status, output))
+            said = failure(recipe, command, done.status, output)
+            raise RecipeFault("\n".join([said, *missed_targets(recipe, accesses, naming, shop)]))
     return accesses
+
+
+def missed_targets(
+    recipe: Recipe, accesses: Accesses, naming: Naming, shop: Workshop
+) -> Iterator[str]:
+    """What is said of targets for which a recipe that failed looked in vain."""
+    target = recipe.target
+    for name in named(accesses.sought, naming):
+        if name in shop.ancestors.bits and name in shop.absent and name != target:
+            front = f"\t{target} looks for {name}, which the recipe of {name} makes later"
+            needed = shop.ancestors.any_before((target,), name)
+            yield f"{front}, and needs {target}" if needed else f"{front}: add {target}: {name}"
 
 
 def failure(recipe: Recipe, failed: Command, status: int, output: str) -> str:

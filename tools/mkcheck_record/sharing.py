@@ -24,7 +24,7 @@ from dataclasses import dataclass, field, replace
 
 from .faults import RecipeFault
 from .folders import is_plain_path
-from .footprints import Footprint, Warn, shown
+from .footprints import Footprint, Warn, shown, warn_of_lost
 from .graphs import Graph
 from .late import Late, folders_of
 from .refusals import listed
@@ -195,14 +195,23 @@ def matches(pattern: str, name: str) -> bool:
 
 
 def with_own(footprint: Footprint, uses: Uses, warn: Warn) -> Footprint:
-    """A footprint with its scratch names that others use, and those of others that it uses."""
+    """A footprint with its scratch names that others use, and those of others that it uses.
+
+    One that writes nothing and takes away files of others, such as `clean`, has one warning.
+    """
     target = footprint.recipe.target
-    shared: list[str] = []
-    for name in sorted({*footprint.scratch, *footprint.missed}):
-        others = uses.others(footprint, name)
-        if others:
-            shared.append(name)
-            tell(footprint, name, told(sorted(others)), warn)
+    names = sorted({*footprint.scratch, *footprint.missed})
+    used = {name: others for name in names if (others := uses.others(footprint, name))}
+    removed: set[str] = set()
+    if not footprint.writes:
+        removed = used.keys() & (footprint.lost | footprint.missed - footprint.scratch)
+    if removed:
+        warn(f"{target} removes files of other recipes: record and check it by itself")
+    for name in sorted(footprint.lost - used.keys()) if not footprint.writes else ():
+        warn_of_lost(footprint.recipe, name, warn)
+    shared = list(used)
+    for name, others in used.items():
+        tell(footprint, name, told(sorted(others)), quiet if name in removed else warn)
     own = {*footprint.scratch, *footprint.writes, *footprint.made}
     around = {*own, *(place for name in own for place in folders_of(name))}
     shared += sorted(name for name in around if uses.takers.get(name, set()) - {target})
@@ -247,6 +256,10 @@ def tell(footprint: Footprint, name: str, others: str, warn: Warn) -> None:
     warn(
         f"{front}: with several jobs they destroy each other's, so it counts as written by each"
     )
+
+
+def quiet(_: str) -> None:
+    """Warns of nothing."""
 
 
 def told(targets: list[str]) -> str:
