@@ -139,6 +139,7 @@ def footprint_of(recipe: Recipe, accesses: Accesses, naming: Naming, warn: Warn)
         tree.refresh(path)
     for path in filter(tree.has, accesses.folders):
         tree.refresh(path)
+    warn_of_git(recipe, named(read, naming), naming, warn)
     warn_of_folders(recipe, accesses, naming, warn)
     warn_of_links(recipe, accesses, naming, warn)
     for path in dict.fromkeys(path for path in [*read, *written] if tree.has(path)):
@@ -170,6 +171,19 @@ def warn_of_lost(recipe: Recipe, name: str, warn: Warn) -> None:
         f"the recipe of {recipe.target} takes away {name}, which it didn't make: let it leave that"
         " there"
     )
+
+
+def warn_of_git(recipe: Recipe, read: list[str], naming: Naming, warn: Warn) -> None:
+    """Warns of a recipe that reads the state of git, which no prerequisite can stand for."""
+    found = [name for name in read if ".git" in name.split("/") and not naming.is_fixed(name)]
+    if found:
+        more = f" and {len(found) - 1} more" if len(found) > 1 else ""
+        warn(
+            f"the recipe of {recipe.target} reads git's state ({found[0]}{more}), which each commit"
+            " changes, and for which no line of a makefile can stand: write the version to a file"
+            " outside of make, and let the recipe read that; --fixed .git takes the state for one"
+            " that never changes"
+        )
 
 
 def folders_made(accesses: Accesses) -> Iterator[str]:

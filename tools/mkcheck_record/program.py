@@ -20,6 +20,7 @@ from .faults import Fault, RecipeFault
 from .folders import SYSTEM, Naming, prefix_of, scratch_folder, sources_in
 from .graphs import Checker, Graph, Refused, asked_graph, find_checker, warn_of_varying
 from .late import with_met
+from .leftovers import warn_of_left_over
 from .macros import Prober, handed_down, refuse_absent_compiler, warn_of_environment, with_shell
 from .places import Place
 from .predefined import refuse_predefined
@@ -171,6 +172,7 @@ def record_and_write(asked: argparse.Namespace, folder: str, scratch: str) -> No
         recorded = record(shop, graph.recipes, tuple(fixed), warn, follow)
     if shop.passed:
         warn(f"not copied, since they can't be read or are no files: {listed(shop.passed)}")
+    warn_of_left_over(folder, makefile_of(asked, folder), graph, recorded.footprints, warn)
     book = partial(make_book, checker, graph, files, prefixes, scratch=scratch, warn=warn)
     if not recorded.failures:
         compare(asked, shop, recorded, tuple(fixed), warn)
@@ -199,6 +201,13 @@ def record_and_write(asked: argparse.Namespace, folder: str, scratch: str) -> No
         targets = [name for name in graph.names if name not in asked.trust]
         passed = {target: verdict.warnings.get(target, []) for target in targets}
         shop.updating.save(text, footprints, passed)
+
+
+def makefile_of(asked: argparse.Namespace, folder: str) -> str:
+    """The name of the makefile."""
+    if asked.f is not None:
+        return str(asked.f)
+    return "makefile" if os.path.exists(os.path.join(folder, "makefile")) else "Makefile"
 
 
 def must_repeat(asked: argparse.Namespace, updating: Updating, recorded: Recorded) -> bool:

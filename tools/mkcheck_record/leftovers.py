@@ -1,0 +1,86 @@
+"""Files that an earlier build may have left: recorded in a built folder, they become sources."""
+
+from __future__ import annotations
+
+import os
+import subprocess
+from collections.abc import Sequence
+
+from .footprints import Footprint, Warn
+from .graphs import Graph
+from .refusals import listed
+from .worlds import is_own
+
+
+def warn_of_left_over(
+    folder: str, makefile: str, graph: Graph, footprints: Sequence[Footprint], warn: Warn
+) -> None:
+    """Warns of files that recipes read, that the graph doesn't name and no recipe writes, and that
+    lie in a folder in which recipes write.
+
+    Those that git tracks don't count. Where there is no git, only those do that lie below the
+    project's own folder, end like what recipes write beside them, and are later than the makefile.
+    """
+    written = {name for footprint in footprints for name in footprint.writes}
+    places = {os.path.dirname(name) for name in written}
+    read = dict.fromkeys(name for footprint in footprints for name in footprint.reads)
+    found = [
+        name
+        for name in read
+        if os.path.dirname(name) in places
+        and is_own(name)
+        and name not in written
+        and name not in graph.names
+        and os.path.isfile(os.path.join(folder, name))
+    ]
+    if not found:
+        return
+    tracked = tracked_in(folder)
+    if tracked is not None:
+        found = [name for name in found if name not in tracked]
+    else:
+        endings = {(os.path.dirname(name), os.path.splitext(name)[1]) for name in written}
+        since = stamp_of(folder, makefile)
+        found = [
+            name
+            for name in found
+            if os.path.dirname(name)
+            and (os.path.dirname(name), os.path.splitext(name)[1]) in endings
+            and stamp_of(folder, name) > since
+        ]
+    if found:
+        one = len(found) == 1
+        readers = [footprint for footprint in footprints if found[0] in footprint.reads]
+        what = "is no target" if one else "are no targets"
+        git = "" if tracked is None else " that git doesn't track"
+        warn(
+            f"{listed(found)} {what}, but {'a file' if one else 'files'}{git} where recipes write,"
+            f" and the recipe of {readers[0].recipe.target} reads {'it' if one else found[0]}:"
+            f" perhaps left from an earlier build: remove {'it' if one else 'them'} and record"
+            " again"
+        )
+
+
+def tracked_in(folder: str) -> set[str] | None:
+    """The names that git tracks in a folder; None without git, or where it tracks none there."""
+    try:
+        said = subprocess.run(
+            ["git", "ls-files", "-z"],
+            cwd=folder,
+            stdin=subprocess.DEVNULL,
+            capture_output=True,
+            check=False,
+        )
+    except OSError:
+        return None
+    if said.returncode != 0 or not said.stdout:
+        return None
+    return set(said.stdout.decode("utf-8", "surrogateescape").split("\0"))
+
+
+def stamp_of(folder: str, name: str) -> int:
+    """The stamp of a file, 0 where there is none."""
+    try:
+        return os.stat(os.path.join(folder, name)).st_mtime_ns
+    except OSError:
+        return 0
