@@ -379,21 +379,7 @@ class FolderTest(ProjectTest):
         self.write({"makefile": "b: a\n\tcp a b; cp a log\n", "a": "", "log": ""})
         outcome = self.recorded()
         self.assertEqual(outcome.book["sources"], ["a"])
-        self.assertEqual(
-            outcome.warnings(), ["log was there before, and a recipe writes it: it is no source"]
-        )
-
-    def test_files_beside_a_target_that_were_there(self) -> None:
-        names = "1 2 3 4"
-        self.write({"makefile": f"b: a\n\tcp a b; touch {names}\n", "a": ""})
-        self.write(dict.fromkeys(names.split(), ""))
-        self.assertEqual(
-            self.recorded().warnings(),
-            [
-                "4 files were there before, and recipes write them, so they are no sources: 1, 2, 3"
-                " and 1 more"
-            ],
-        )
+        self.assertEqual(outcome.warnings(), [])
 
     def test_a_copy_inside_the_folder(self) -> None:
         self.write({"makefile": COPY, "a": "", "tmp/kept": ""})

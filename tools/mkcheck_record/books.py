@@ -10,7 +10,6 @@ from .folders import SYSTEM
 from .footprints import Footprint, Warn
 from .graphs import Checker, Graph
 from .late import Late
-from .refusals import listed
 from .sharing import with_shared
 
 
@@ -65,14 +64,6 @@ def make_book(
         *(name for footprint in footprints for name in footprint.reads),
     }
     made = {*graph.targets, *graph.phony}
-    before = [name for name in files if name in written and name not in made]
-    if len(before) == 1:
-        warn(f"{before[0]} was there before, and a recipe writes it: it is no source")
-    elif before:
-        warn(
-            f"{len(before)} files were there before, and recipes write them, so they are no"
-            f" sources: {listed(before)}"
-        )
     fixed = used(asked, names)
     sources = [name for name in files if name in names and name not in written and name not in made]
     if not is_same(checker, graph, fixed, sources, scratch):
