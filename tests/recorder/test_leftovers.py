@@ -10,11 +10,11 @@ import unittest
 from project import ProjectTest, traced
 
 MAKEFILE = (
-    "list: stamp\n\tcat data/*.txt data/h > list\n"
+    "list: stamp\n\tcat data/*.txt data/h x.h > list\n"
     "stamp: names\n\tmkdir -p data; while read n; do echo $$n > data/$$n.txt; done < names;"
     " touch stamp\n"
 )
-FILES = {"makefile": MAKEFILE, "names": "one\n", "data/two.txt": "", "data/h": ""}
+FILES = {"makefile": MAKEFILE, "names": "one\n", "data/two.txt": "", "data/h": "", "x.h": ""}
 END = "and the recipe of list reads it: perhaps left from an earlier build: remove it and record"
 with_git = unittest.skipUnless(shutil.which("git"), "no git")
 

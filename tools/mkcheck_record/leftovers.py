@@ -18,8 +18,9 @@ def warn_of_left_over(
     """Warns of files that recipes read, that the graph doesn't name and no recipe writes, and that
     lie in a folder in which recipes write.
 
-    Those that git tracks don't count. Where there is no git, only those do that lie below the
-    project's own folder, end like what recipes write beside them, and are later than the makefile.
+    Those that git tracks don't count, and in the project's own folder, which may hold configured
+    files, only those do that end like what recipes write there. Where there is no git, only those
+    do that lie below it, end so, and are later than the makefile.
     """
     written = {name for footprint in footprints for name in footprint.writes}
     places = {os.path.dirname(name) for name in written}
@@ -35,17 +36,20 @@ def warn_of_left_over(
     ]
     if not found:
         return
-    tracked = tracked_in(folder)
+    tracked, since = tracked_in(folder), stamp_of(folder, makefile)
+    endings = {kind_of(name) for name in written}
     if tracked is not None:
-        found = [name for name in found if name not in tracked]
+        found = [
+            name
+            for name in found
+            if name not in tracked and (os.path.dirname(name) or kind_of(name) in endings)
+        ]
     else:
-        endings = {(os.path.dirname(name), os.path.splitext(name)[1]) for name in written}
-        since = stamp_of(folder, makefile)
         found = [
             name
             for name in found
             if os.path.dirname(name)
-            and (os.path.dirname(name), os.path.splitext(name)[1]) in endings
+            and kind_of(name) in endings
             and stamp_of(folder, name) > since
         ]
     if found:
@@ -59,6 +63,11 @@ def warn_of_left_over(
             f" perhaps left from an earlier build: remove {'it' if one else 'them'} and record"
             " again"
         )
+
+
+def kind_of(name: str) -> tuple[str, str]:
+    """The folder in which a file lies, and how its name ends."""
+    return os.path.dirname(name), os.path.splitext(name)[1]
 
 
 def tracked_in(folder: str) -> set[str] | None:
