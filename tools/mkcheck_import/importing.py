@@ -257,13 +257,9 @@ class Import:
     def is_known(self, warning: str) -> bool:
         """Whether the recorder warns of what the translation says already.
 
-        Dependency files that a configure step left empty are there before, and recipes write them.
         Built-in rules of GNU make stand in the translation where make uses them.
         """
-        if OF_RECORDER.match(warning):
-            return True
-        found = re.match(r"warning: (\S+) was there before, and a recipe writes it", warning)
-        return found is not None and found.group(1) in self.build.configured
+        return OF_RECORDER.match(warning) is not None
 
     def recorder(self) -> Path:
         """The recorder, which lies beside this program."""
