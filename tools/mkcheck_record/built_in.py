@@ -53,11 +53,12 @@ def origin_of(name: str, there: frozenset[str], depth: int = CHAINED) -> str | N
 
 def warn_of_rules(
     graph: Graph, prober: Prober, files: Iterable[str], warn: Callable[[str], None]
-) -> None:
+) -> bool:
     """Warns of each name without a recipe that GNU make would make by a rule of its own, and of
-    each that it would make from another file than the default text of mkcheck does."""
+    each that it would make from another file than the default text of mkcheck does. Returns whether
+    there was one."""
     if "-r" in prober.checker.options:
-        return
+        return False
     there = frozenset(files) | frozenset(graph.names)
     found = {
         name: origin
@@ -85,6 +86,7 @@ def warn_of_rules(
             f" {here}; write that rule into the makefile, or give -r to make, to mkcheck and to"
             " mkcheck-record"
         )
+    return bool(found)
 
 
 def inferred(prober: Prober, graph: Graph) -> frozenset[str]:

@@ -149,8 +149,6 @@ def record_and_write(asked: argparse.Namespace, folder: str, scratch: str) -> No
     warn = warner()
     if asked.f is None and os.path.exists(os.path.join(folder, "GNUmakefile")):
         warn("GNU make reads GNUmakefile first, which isn't judged here; -f GNUmakefile judges it")
-    if not graph.recipes:
-        warn("the goals reach no recipe: is a macro misspelt?")
     check_trust(asked.trust, graph.recipes)
     prober = Prober(checker, fixed, files, scratch)
     refuse_predefined(graph, prober, warn)
@@ -160,7 +158,8 @@ def record_and_write(asked: argparse.Namespace, folder: str, scratch: str) -> No
     warn_of_environment(graph, prober, operands, warn)
     warn_of_remade(prober, warn)
     warn_of_goal(graph, prober, warn)
-    warn_of_rules(graph, prober, files, warn)
+    if not warn_of_rules(graph, prober, files, warn) and not graph.recipes:
+        warn("the goals reach no recipe: is a macro misspelt?")
     warn_of_varying(checker, fixed, files, scratch, warn)
     shop = workshop(asked, folder, graph, hidden, scratch, warn)
     shop.macros = handed_down(prober, operands)
