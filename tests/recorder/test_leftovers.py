@@ -15,7 +15,7 @@ MAKEFILE = (
     " touch stamp\n"
 )
 FILES = {"makefile": MAKEFILE, "names": "one\n", "data/two.txt": "", "data/h": "", "x.h": ""}
-END = "and the recipe of list reads it: perhaps left from an earlier build: remove it and record"
+END = "and the recipe of list reads it: if an earlier build left it, remove it and record"
 with_git = unittest.skipUnless(shutil.which("git"), "no git")
 
 

@@ -60,8 +60,8 @@ def warn_of_left_over(
         warn(
             f"{listed(found)} {what}, but {'a file' if one else 'files'}{git} where recipes write,"
             f" and the recipe of {readers[0].recipe.target} reads {'it' if one else found[0]}:"
-            f" perhaps left from an earlier build: remove {'it' if one else 'them'} and record"
-            " again"
+            f" if an earlier build left {'it' if one else 'them'}, remove"
+            f" {'it' if one else 'them'} and record again"
         )
 
 
