@@ -21,8 +21,9 @@ class RefusedTest(MakeFolderTest):
         answer = self.imported(*words, environment=environment)
         self.assertEqual((answer.status, answer.output), (2, ""))
         said = [line for line in answer.errors.splitlines() if " s  " not in line]
-        self.assertEqual(len(said), 1, answer.errors)
-        self.assertIn(sentence, said[0])
+        lines = [line for line in said if line.startswith("mkcheck-import: ")]
+        self.assertEqual(lines, said[:1], answer.errors)
+        self.assertIn(sentence, "\n".join(said))
 
     def test_no_build(self) -> None:
         self.refused("has no makefile and no build.ninja: give the folder of a build with -C")
@@ -38,20 +39,28 @@ class RefusedTest(MakeFolderTest):
 
     def test_makefile_that_cannot_be_read(self) -> None:
         self.write({"Makefile": "all: x\nx a\n"})
-        self.refused("the build failed, so it can't be recorded: Makefile:2: *** missing separator")
+        self.refused(
+            "the build failed, so it can't be recorded:\nMakefile:2: *** missing separator"
+        )
 
     def test_no_rule(self) -> None:
         self.write({"Makefile": "x: missing\n\tcp missing x\n"})
-        self.refused("the build failed, so it can't be recorded: make: *** No rule to make target")
+        self.refused("the build failed, so it can't be recorded:\nmake: *** No rule to make target")
 
     def test_build_that_fails(self) -> None:
         self.write({"Makefile": "x: a\n\tcp a x; echo no such luck >&2; false\n", "a": "a\n"})
-        self.refused("the build failed, so it can't be recorded: no such luck; make: ***")
+        self.refused(
+            "the build failed at the recipe of x (Makefile:2), so it can't be recorded:\n"
+            "\tcp a x; echo no such luck >&2; false\n"
+            "no such luck\n"
+            "make: *** [Makefile:2: x] Error 1\n"
+            "mend it until `make` in . succeeds, and import again"
+        )
 
     def test_build_that_asks(self) -> None:
         """A build that asks a question gets no answer, and doesn't hang."""
         self.write({"Makefile": "x: a\n\tread answer && cp a x\n", "a": "a\n"})
-        self.refused("the build failed, so it can't be recorded")
+        self.refused("the build failed at the recipe of x (Makefile:2), so it can't be recorded")
 
     def test_unknown_goal(self) -> None:
         self.write({"Makefile": "x: a\n\tcp a x\n", "a": "a\n"})

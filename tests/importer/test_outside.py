@@ -14,6 +14,8 @@ sys.path.insert(0, str(ROOT / "tools"))
 
 from mkcheck_record import places  # noqa: E402
 
+WRITES = ", since it writes outside of the project, which an import doesn't allow:\n"
+
 
 class OutsideTestCase(MakeFolderTest):
     """A folder beside the tests, which stays as it is."""
@@ -47,7 +49,7 @@ class MakeOutsideTest(OutsideTestCase):
     def test_recipe(self) -> None:
         for command in (f"cp a {self.outside}/new", f"echo > {self.outside}/there"):
             self.write({"Makefile": f"x: a\n\t{command}\n\tcp a x\n", "a": "a\n"})
-            self.refused("the build writes outside of the project, which an import doesn't allow: ")
+            self.refused(WRITES)
 
     def test_recipe_that_goes_on(self) -> None:
         self.write({"Makefile": f"x: a\n\t-rm {self.outside}/there\n\tcp a x\n", "a": "a\n"})
@@ -83,4 +85,4 @@ class NinjaOutsideTest(OutsideTestCase):
     def test_command(self) -> None:
         text = f"rule copy\n  command = cp $in {self.outside}/new && cp $in $out\n"
         self.write({"build.ninja": f"{text}build x: copy a\n", "a": "a\n"})
-        self.refused("the build writes outside of the project, which an import doesn't allow: ")
+        self.refused(WRITES)

@@ -3,7 +3,6 @@
 from __future__ import annotations
 
 import contextlib
-import errno
 import os
 import re
 import subprocess
@@ -136,20 +135,6 @@ class Copies:
                         " mount namespace: run mkcheck-import as root, or where `unshare --user"
                         " --map-root-user --mount` works"
                     )
-
-
-def failure(said: str, text: str, command: str) -> str:
-    """The sentence on a build that failed: `said` are the last words of the text that it printed.
-    """
-    if os.strerror(errno.EROFS) in text:
-        return (
-            f"the build writes outside of the project, which an import doesn't allow: {said}; let"
-            " it write in the project, or in the folders for temporary files"
-        )
-    return (
-        f"the build failed, so it can't be recorded: {said}; mend it until {command} succeeds, and"
-        " import again"
-    )
 
 
 def listing(folder: str) -> set[str]:

@@ -25,7 +25,7 @@ from mkcheck_record.faults import Fault
 from mkcheck_record.places import Place, run
 
 from .database import OWN, Database, Shown, joined
-from .transcripts import Transcript, marking, read_transcript
+from .transcripts import MARK, Transcript, marking, read_transcript
 
 # Variables that make and the shell set for each process, and those of this program.
 OF_THE_TOOL = re.compile(
@@ -68,13 +68,13 @@ n=$(cat "$D/count"); n=$((n + 1)); echo $n > "$D/count"
 rmdir "$D/lock"
 at=$(stat -c %s "$MKIMPORT_OUT" 2>/dev/null || stat -f %z "$MKIMPORT_OUT")
 up=$MKIMPORT_OUT
-MKIMPORT_OUT=$D/$n.out MKIMPORT_ENV=$D/$n.env
-export MKIMPORT_OUT MKIMPORT_ENV
+MKIMPORT_OUT=$D/$n.out MKIMPORT_ERR=$D/$n.err MKIMPORT_ENV=$D/$n.env
+export MKIMPORT_OUT MKIMPORT_ERR MKIMPORT_ENV
 printf '%s\0' "$PWD" "$up" "$at" "$@" > "$D/$n.args"
-@MAKE@ --no-print-directory "$@" > "$D/$n.out" 2> "$D/$n.err"
+@MAKE@ --no-print-directory "$@" > "$D/$n.out" 2>> "$MKIMPORT_ERR"
 s=$?
 echo $s > "$D/$n.status"
-cat "$D/$n.err" >&2
+sed -z 's/@MARK@//g' "$D/$n.err" >&2
 exit $s
 """
 
@@ -93,6 +93,9 @@ class Make:
     parent: "Make | None" = None
     started_by: Shown | None = None
     """The command of the parent that started it."""
+
+    last_errors: str = ""
+    """What stands in `errors` behind the output of all but the last command."""
 
     @property
     def base(self) -> Database:
@@ -217,7 +220,7 @@ def run_make(
     os.makedirs(scratch)
     wrapper = wrapper_in(scratch)
     os.makedirs(os.path.dirname(wrapper))
-    text = WRAPPER.replace("@SCRATCH@", shlex.quote(scratch))
+    text = WRAPPER.replace("@SCRATCH@", shlex.quote(scratch)).replace("@MARK@", f"\\n{MARK}\\n")
     Path(wrapper).write_text(text.replace("@MAKE@", shlex.quote(program)))
     os.chmod(wrapper, 0o755)
     os.symlink(wrapper, os.path.join(os.path.dirname(wrapper), "gmake"))
@@ -227,7 +230,7 @@ def run_make(
     search = f"{os.path.dirname(wrapper)}:{outer.get('PATH', os.defpath)}"
     environment = {**outer, "PATH": search, "MKIMPORT_OUT": os.path.join(scratch, "top.out")}
     how = ["--trace"] if is_real else ["-n", "-k"]
-    own = [*how, "-p", "-j1", f"MAKE={wrapper}", marking(watched), f"--eval={EVAL}"]
+    own = [*how, "-p", "-j1", f"MAKE={wrapper}", marking(watched, is_real), f"--eval={EVAL}"]
     enter = 'cd "$1" && shift && exec "$@"'
     command = ["/bin/sh", "-c", enter, "sh", folder, wrapper, *own, *words]
     ended = run(command, place, environment, seconds)
@@ -270,6 +273,7 @@ def read_make(scratch: str, number: int, own: set[str], watched: list[str]) -> M
         environment["PATH"] = environment["PATH"].replace(own_place, "")
     transcript = read_transcript(content(front + ".out"), watched)
     status = content(front + ".status").decode().strip()
+    errors = content(front + ".err").decode("utf-8", "replace").split(f"\n{MARK}\n")
     return Make(
         number,
         [word for word in words if word not in own],
@@ -277,7 +281,8 @@ def read_make(scratch: str, number: int, own: set[str], watched: list[str]) -> M
         environment,
         transcript,
         int(status) if status else 2,
-        content(front + ".err").decode("utf-8", "replace"),
+        "".join(errors),
+        last_errors=errors[-1],
     )
 
 

@@ -66,7 +66,8 @@ class Import:
         self.folder = os.path.normpath(asked.S)
         if not os.path.isdir(os.path.join(self.root, self.folder)):
             raise Fault(f"-S {asked.S}: there is no such folder in {self.root}")
-        self.output = os.path.realpath(asked.o or os.path.join(self.root, ".mkcheck"))
+        output = asked.o or os.path.normpath(os.path.join(asked.C, ".mkcheck"))
+        self.output, self.log_path = os.path.realpath(output), os.path.join(output, "import.log")
         self.drafts = os.path.join(scratch, "output")
         os.makedirs(self.drafts)
         self.log: list[str] = []

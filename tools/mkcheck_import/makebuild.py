@@ -14,8 +14,9 @@ from .asking import Asking
 from .builds import Build, path_name
 from .commands import is_export
 from .confining import OWN, Confined
-from .copies import Copies, failure, links_in, listing
+from .copies import Copies, links_in, listing
 from .database import Rule
+from .failing import build_fault, failure_of_make
 from .gnumake import (
     Make,
     content,
@@ -177,11 +178,9 @@ class MakeBuild:
         The second make has to be a real one: only that lets CMake join its dependency files.
         """
         self.built = self.run("built", is_real=True)
-        failed = [make for make in self.built if make.status != 0]
         if self.built[0].status != 0:
-            said = failed[-1].errors
-            text = failure(last_words(said), said, f"`make` in {self.folder}")
-            raise Fault(text + self.leftovers.sentence())
+            found = failure_of_make(self.copies.seen, self.built[0], self.built)
+            raise build_fault(found, f"`make` in {self.folder}", self.leftovers.sentence())
         times = times_in(self.copies.place("built").folder)
         self.after = self.run("built", is_real=True)
         again = [rule.name for rule in all_rules(self.after) if rule.ran and not rule.is_phony]

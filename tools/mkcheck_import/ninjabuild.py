@@ -7,7 +7,8 @@ from dataclasses import dataclass, field
 from mkcheck_record.faults import Fault
 
 from .builds import Build
-from .copies import Copies, failure, listing, run_here
+from .copies import Copies, listing, run_here
+from .failing import NINJA_STATUS, build_fault, failure_of_ninja
 from .gnumake import outer_environment
 from .ninja import NinjaBuild, read_ninja
 from .ninja_dyndeps import add_dyndeps
@@ -43,14 +44,15 @@ class NinjaFolder:
         # What an earlier build left must not help this one.
         run_here(place, ["ninja", "-C", self.folder, "-t", "clean"], outer_environment())
         command = ["ninja", "-j1", "-k0", "-C", self.folder, *self.words]
-        status, said, errors = run_here(place, command, outer_environment())
+        environment = {**outer_environment(), "NINJA_STATUS": NINJA_STATUS}
+        status, said, errors = run_here(place, command, environment)
         if status != 0:
             # Where a header comes too late the second build finds it; the race is found by mkcheck.
-            status, said, errors = run_here(place, command, outer_environment())
+            status, said, errors = run_here(place, command, environment)
             self.is_late = status == 0
         if status != 0:
-            lines = [line for line in (said + errors).splitlines() if line.strip()]
-            raise Fault(failure("; ".join(lines[-3:])[-400:], said + errors, "ninja"))
+            words = f"`ninja` in {self.folder}"
+            raise build_fault(failure_of_ninja(said, errors), words)
         self.is_built = True
         return ""
 

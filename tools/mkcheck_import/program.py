@@ -11,6 +11,7 @@ from mkcheck_record.faults import Fault, sentence_of
 from mkcheck_record.folders import scratch_folder
 from mkcheck_record.stopping import Stopped, catch_signals
 
+from .failing import BuildFault
 from .importing import STEPS, Import
 from .judging import RecordingFault
 
@@ -79,6 +80,9 @@ def imported(asked: argparse.Namespace, scratch: str) -> int:
     work = Import(asked, scratch)
     try:
         return work.run()
+    except BuildFault as fault:
+        work.log.append(fault.whole)
+        raise Fault(fault.short(work.log_path)) from None
     except Fault:
         work.tell_problems()
         raise

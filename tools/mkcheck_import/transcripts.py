@@ -20,13 +20,15 @@ TRACE = re.compile(
 LEVEL = re.compile(r"^MAKELEVEL := (\d+)$", re.MULTILINE)
 
 
-def marking(watched: list[str]) -> str:
+def marking(watched: list[str], is_real: bool) -> str:
     """The macro that prints a mark before each command, with the values that some macros have for
-    the target.
+    the target; in a real build also one, on a line of its own, among the errors.
 
     GNU make expands `IFS` where it splits a command into words, and no makefile sets it.
     """
-    return "IFS=$(info " + "\t".join([MARK, *FIELDS, *map(value_of, watched)]) + ")"
+    mark = "$(info " + "\t".join([MARK, *FIELDS, *map(value_of, watched)]) + ")"
+    errors = f"$(file >>$(MKIMPORT_ERR),)$(file >>$(MKIMPORT_ERR),{MARK})" if is_real else ""
+    return f"IFS={mark}{errors}"
 
 
 def value_of(name: str) -> str:
@@ -54,6 +56,9 @@ class Transcript:
 
     is_mixed: bool = False
     """Whether it holds what another make printed too, which a recipe started by its path."""
+
+    last_output: str = ""
+    """What the last command printed."""
 
     is_whole: bool = True
     """Whether a data base was found, without which nothing is known of the rules."""
@@ -91,6 +96,7 @@ def read_commands(
     posix = ".POSIX" in transcript.base.rules
     bytes_before = Counter(text)
     last: Rule | None = None
+    last_end = begin, begin
     place = text.find(MARK + "\t", begin, end)
     while place >= 0:
         stop = text.index("\n", place)
@@ -111,8 +117,16 @@ def read_commands(
             rule.ran = True
             rule.commands.append(command)
             transcript.spots.append(Spot(command.offset, rule, command))
+            last_end = stop, limit
             last = rule
         place = following
+    transcript.last_output = printed(text[slice(*last_end)])
+
+
+def printed(text: str) -> str:
+    """What a command printed, of a text in which make's own lines stand behind it."""
+    front = re.split(r"^# GNU Make \d", text, maxsplit=1, flags=re.MULTILINE)[0]
+    return "\n".join(line for line in front.splitlines() if not TRACE.match(line))
 
 
 def defined(names: list[str], values: list[str]) -> tuple[tuple[str, str], ...]:

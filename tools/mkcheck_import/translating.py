@@ -8,7 +8,8 @@ from .builds import Build, Kind, Node
 from .cmake import is_beside
 from .commands import Commands
 from .database import Rule, Shown
-from .gnumake import Make, last_words
+from .failing import failure_of_make
+from .gnumake import Make
 from .recursion import is_only_makes, runs_at_once, without_makes
 from .views import Edge, View
 
@@ -45,7 +46,7 @@ class Translation(Commands):
             if make.status != 0:
                 self.build.problem(
                     f"make failed in {self.short(make.folder)} with status {make.status}:"
-                    f" {last_words(make.errors)}"
+                    f" {failure_of_make(self.root, make, makes).brief}"
                 )
                 self.build.failed = (
                     "a make that a recipe starts fails, and the build goes on (by a `-` before the"
