@@ -2,17 +2,14 @@
 
 from __future__ import annotations
 
-import shutil
 import sys
-import tempfile
-from pathlib import Path
 
 from make_folder import ROOT, MakeFolderTest, can_judge
 from ninja_folder import has_ninja
 
-sys.path.insert(0, str(ROOT / "tools"))
+sys.path.insert(0, str(ROOT / "tests"))
 
-from mkcheck_record import places  # noqa: E402
+from outside import assert_untouched, folder_outside  # noqa: E402
 
 WRITES = ", since it writes outside of the project, which an import doesn't allow:\n"
 
@@ -22,24 +19,14 @@ class OutsideTestCase(MakeFolderTest):
 
     def setUp(self) -> None:
         super().setUp()
-        if places.shut() is None:
-            self.skipTest("the system doesn't allow making folders read-only")
-        try:
-            self.outside = Path(tempfile.mkdtemp(prefix="outside-", dir=Path(__file__).parent))
-        except OSError:
-            self.skipTest("the folder of the tests can't be written")
-        self.addCleanup(shutil.rmtree, self.outside)
-        if str(self.outside).startswith(("/tmp/", "/var/tmp/", tempfile.gettempdir() + "/")):
-            self.skipTest("the tests lie in a folder for temporary files")
-        (self.outside / "there").write_text("1")
+        self.outside = folder_outside(self)
 
     def refused(self, sentence: str, *words: str) -> None:
         """An import that isn't judged, and says why."""
         answer = self.imported(*words)
         self.assertEqual(answer.status, 2, answer.output + answer.errors)
         self.assertIn(sentence, answer.output + answer.errors)
-        self.assertEqual([path.name for path in self.outside.iterdir()], ["there"])
-        self.assertEqual((self.outside / "there").read_text(), "1")
+        assert_untouched(self, self.outside)
 
 
 @can_judge

@@ -7,7 +7,6 @@ import shutil
 import signal
 import subprocess
 import sys
-import tempfile
 import time
 import unittest
 from pathlib import Path
@@ -16,13 +15,14 @@ from unittest import mock
 from project import MKCHECK, RECORDER, ROOT, ProjectTest, traced
 from test_unseen import left_with, processes_with
 
-sys.path.insert(0, str(ROOT / "tools"))
+sys.path[:0] = [str(ROOT / "tools"), str(ROOT / "tests")]
 
 from mkcheck_record import places, stopping  # noqa: E402
 from mkcheck_record.folders import scratch_folder  # noqa: E402
 from mkcheck_record.places import Place  # noqa: E402
 from mkcheck_record.versions import Store  # noqa: E402
 from mkcheck_record.worlds import World  # noqa: E402
+from outside import assert_untouched, folder_outside  # noqa: E402
 
 namespaces = unittest.skipUnless(places.namespace(), "no mount namespace is allowed")
 SCRATCH = "mkcheck-record-"
@@ -263,16 +263,7 @@ class OutsideTest(ProjectTest):
 
     def setUp(self) -> None:
         super().setUp()
-        if places.shut() is None:
-            self.skipTest("the system doesn't allow making folders read-only")
-        try:
-            self.outside = Path(tempfile.mkdtemp(prefix="outside-", dir=Path(__file__).parent))
-        except OSError:
-            self.skipTest("the folder of the tests can't be written")
-        self.addCleanup(shutil.rmtree, self.outside)
-        if str(self.outside).startswith(("/tmp/", "/var/tmp/", tempfile.gettempdir() + "/")):
-            self.skipTest("the tests lie in a folder for temporary files")
-        (self.outside / "there").write_text("1")
+        self.outside = folder_outside(self)
 
     def test_it_is_not_written(self) -> None:
         place = f"{self.outside}/"
@@ -299,8 +290,7 @@ class OutsideTest(ProjectTest):
                     f"\tinstall writes {place}{name}\n",
                     command,
                 )
-                self.assertEqual([path.name for path in self.outside.iterdir()], ["there"])
-                self.assertEqual((self.outside / "there").read_text(), "1")
+                assert_untouched(self, self.outside)
 
     def test_what_stays_open(self) -> None:
         text = f"out: a\n\techo > {self.scratch}/t; rm {self.scratch}/t; echo > /dev/null\n"
