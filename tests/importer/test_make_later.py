@@ -54,6 +54,23 @@ class DependencyFilesTest(MakeFolderTest):
         self.assertEqual([line for line in answer.lines if line.startswith("no ")], [])
         self.try_answer(answer)
 
+    def test_generated_header_that_is_order_only(self) -> None:
+        """It comes before the first build, and when it changes the dependency file tells."""
+        for rule in ("%.o: %.in cc | h\n", "a.o: a.in cc | h\n"):
+            self.write(
+                {
+                    "Makefile": "all: h a.o\n.PHONY: all\nh: h.in\n\tcp h.in h\n"
+                    f"{rule}\t./cc $< $@\n-include a.d\n",
+                    "a.in": "include h\n",
+                    "h.in": "h\n",
+                    "cc": CC,
+                }
+            )
+            answer = self.imported()
+            self.assertEqual(answer.status, 0, answer.output + answer.errors)
+            self.assertIn(["a.o", "h", "written", "a.o", "h"], answer.ways)
+            self.try_answer(answer)
+
     def test_empty_dependency_file(self) -> None:
         """As Automake's, it is there before the first build, and says nothing."""
         self.write(

@@ -55,7 +55,8 @@ def add_later(translation: Translation, makes: list[Make], written: set[str]) ->
 
 def compare(translation: Translation, view: View, node: Node, first: Rule, later: Rule) -> int:
     """Compares what one rule needs before and after a build."""
-    known = {translation.path(view, word) for word in [*first.needs, *first.order_only]}
+    # Of a file that is both order-only and named by a dependency file make compares the time.
+    known = {translation.path(view, word) for word in first.needs}
     now = {translation.path(view, word) for word in [*later.needs, *later.order_only]}
     count = 0
     leader = translation.leader(view, first.name)
