@@ -115,15 +115,38 @@ class Orders:
         return [Entry(*json.loads(line)) for line in lines]
 
     def try_writers(self, lines: list[str], count: int, seed: str) -> Tally:
-        """Tries some `no writers RECIPE OTHER FILE` by one build: both recipes change the file."""
+        """Tries some `no writers RECIPE OTHER FILE`: make lets each of the two change the file.
+
+        A serial build from nothing may do that. But where make comes to the second recipe, it often
+        finds the file up to date, since the first one has just written it. Then what the second one
+        leaves is what it writes in a further build, in which it is the only one to run.
+        """
         tally = Tally()
         chosen = [line.split(" ")[2:5] for line in sample(lines, count, seed)]
         recipes = [name for words in chosen for name in words[:2]]
         noted = self.run(recipes, [words[2] for words in chosen], 1, {}) if chosen else []
         for recipe, other, file in chosen:
-            is_true = changes(noted, recipe, file) and changes(noted, other, file)
+            first = self.content(file)
+            unseen = [name for name in (recipe, other) if not changes(noted, name, file)]
+            is_true = all(self.writes_alone(name, (recipe, other), file) for name in unseen)
             tally.count(is_true, f"no writers {recipe} {other} {file}")
+            tally.differing += is_true and self.content(file) != first
         return tally
+
+    def writes_alone(self, name: str, writers: tuple[str, str], file: str) -> bool:
+        """Whether in a build that is done but for a file and the target of one of its two writers
+        make runs that one alone, and it changes the file."""
+        for path in {self.root / file, self.root / self.node(name).name}:
+            if path.is_file():
+                path.unlink()
+        noted = self.run(writers, [file], 1, {})
+        ran = {entry.role for entry in noted}
+        return ran == {name} and changes(noted, name, file)
+
+    def content(self, file: str) -> bytes | None:
+        """What a file holds; None where it isn't there."""
+        path = self.root / file
+        return path.read_bytes() if path.is_file() else None
 
     def try_races(
         self, lines: list[str], count: int, seed: str, renew: Callable[[], None]

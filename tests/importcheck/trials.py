@@ -19,6 +19,8 @@ class Tally:
 
     tried: int = 0
     false: list[str] = field(default_factory=list)
+    differing: int = 0
+    """With how many of the files with two writers the contents depend on which one ran last."""
 
     def count(self, is_true: bool, text: str) -> None:
         """Counts one more."""
@@ -27,7 +29,8 @@ class Tally:
             self.false.append(text)
 
     def __str__(self) -> str:
-        return f"{self.tried - len(self.false)}/{self.tried}"
+        differing = f" ({self.differing} differ)" if self.differing else ""
+        return f"{self.tried - len(self.false)}/{self.tried}{differing}"
 
 
 @dataclass
