@@ -119,6 +119,36 @@ class RemadeMakefileTest(UnseenTestCase):
             self.assertEqual(self.left({"config.in": "v = 2\n"}, "x"), ["2\na\n", "2\na\n"])
             self.accepted()
 
+    def test_all_need_what_a_script_writes(self) -> None:
+        """Most other contents of the script aren't one, so what it decides can't be tried."""
+        self.macros("config.mk", "config.mk: configure.sh\n\tsh configure.sh > config.mk")
+        self.write({"configure.sh": "echo 'v = 1'\n"})
+        edits = {"configure.sh": "echo 'v = 2'\n"}
+        self.assertEqual(self.left(edits, "x"), ["2\na\n", "2\na\n"])
+        self.accepted()
+        (self.folder / "config.mk").unlink()
+        self.assertEqual(self.left(edits, "x"), ["2\na\n", "2\na\n"])
+        self.accepted()
+
+    def test_make_below_that_needs_it(self) -> None:
+        """The make below has no rule for it."""
+        self.write(
+            {
+                "Makefile": "include config.mk\nall:\n\t$(MAKE) -C sub\n.PHONY: all\n"
+                "config.mk: configure.sh\n\tsh configure.sh > config.mk\n",
+                "configure.sh": "echo 'v = 1'\n",
+                "sub/Makefile": "include ../config.mk\nx: a\n\t{ echo $(v); cat a; } > x\n",
+                "sub/a": "a\n",
+            }
+        )
+        edits = {"configure.sh": "echo 'v = 2'\n"}
+        self.assertEqual(self.left(edits, "sub/x"), ["1\na\n", "2\na\n"])
+        self.refused(self.SENTENCE.replace("config.in", "configure.sh"))
+        with open(self.folder / "sub/Makefile", "a", encoding="utf-8") as file:
+            file.write("x: ../config.mk\n")
+        self.assertEqual(self.left(edits, "sub/x"), ["2\na\n", "2\na\n"])
+        self.accepted()
+
     def test_one_recipe_does_not(self) -> None:
         self.macros("config.mk")
         self.add_lines("x: y\ny: a\n\techo $(v) > y\n")

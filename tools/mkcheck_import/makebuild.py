@@ -335,9 +335,9 @@ class MakeBuild:
             written = {name for name in files if before.get(name) != after.get(name)}
             add_later(translation, self.after, written)
         name_overlaps(translation)
+        self.name_makefiles(translation, makes)
         self.name_changes(build, makes)
         self.leftovers.name(build, self.before_times, self.keep)
-        self.name_makefiles(translation, makes)
         return build
 
     def name_makefiles(self, translation: Translation, makes: list[Make]) -> None:
@@ -351,7 +351,7 @@ class MakeBuild:
                     path = translation.path(view, name)
                     found[path] = None
                     needs = [word for rule in rules for word in rule.needs]
-                    if needs and path not in self.dependency_files:
+                    if path not in self.dependency_files:
                         needed = [translation.path(view, word) for word in needs]
                         translation.build.remade.setdefault(path, needed)
         if found:

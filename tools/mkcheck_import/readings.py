@@ -306,11 +306,13 @@ def first(names: set[str]) -> str:
 
 
 def all_need(build: Build, file: str) -> bool:
-    """Whether all recipes of a build run again when a file changes, or always run."""
+    """Whether all recipes of a build run again when a file changes, or always run: they need it, or
+    a makefile that make makes anew from it."""
+    reasons = {file, *(name for name, needs in build.remade.items() if file in needs)}
     phony = {name for name, node in build.nodes.items() if node.kind is Kind.PHONY}
     names = [name for name, node in build.nodes.items() if node.commands and name not in phony]
     needed = (followed(build, name) for name in names)
-    return all(file in found or not phony.isdisjoint(found) for found in needed)
+    return all(not (reasons | phony).isdisjoint(found) for found in needed)
 
 
 def is_plain(path: str) -> bool:

@@ -61,13 +61,14 @@ class Settling:
             )
         used = {name for record in self.footprints.records.values() for name in record.reads}
         used.update(self.build.reached(later=True))
-        for name in sorted((self.build.read_made & used) - set(self.writers)):
-            if name not in self.build.configured:
-                self.build.problem(
-                    f"{name}: it is made when make reads its makefiles (by $(shell ..), $(file ..)"
-                    " or a rule for a makefile), and when it is made anew isn't judged; let the"
-                    " commands of a recipe make it"
-                )
+        # A makefile that is made anew is new before any recipe runs, so it is as a source.
+        known = {*self.writers, *self.build.configured, *self.build.remade}
+        for name in sorted((self.build.read_made & used) - known):
+            self.build.problem(
+                f"{name}: it is made when make reads its makefiles (by $(shell ..), $(file ..)"
+                " or a rule for a makefile), and when it is made anew isn't judged; let the"
+                " commands of a recipe make it"
+            )
         for name in sorted((self.build.read_again & used) - set(self.writers)):
             self.build.note(
                 f"{name} is made anew each time make reads its makefiles (by $(shell ..) or"
