@@ -76,6 +76,32 @@ class PlainTest(MakeFolderTest):
         self.try_answer(answer)
         self.mend("a.out: head\n")
 
+    def test_recipes_that_take_all_prerequisites(self) -> None:
+        """With the lines that are to be added they would take more."""
+        for macro in ("$^", "$(+)"):
+            self.write(
+                {
+                    "Makefile": f"all: x y z\n.PHONY: all\nx y: a\n\tcat {macro} b > $@\n"
+                    "z: a\n\tcat $< b > z\n",
+                    "a": "a\n",
+                    "b": "b\n",
+                }
+            )
+            answer = self.imported()
+            self.assertEqual(answer.findings, [f"no stale {name} b" for name in "xyz"])
+            self.assertIn(
+                "\nAdd to Makefile:\n    x y z: b\n"
+                f"The recipe of x, y takes all prerequisites by {macro}: write"
+                f" $(filter-out b,{macro}) there, if it isn't to take b too\n",
+                answer.output,
+            )
+        makefile = self.folder / "Makefile"
+        mended = makefile.read_text().replace("$(+)", "$(filter-out b,$(+))")
+        makefile.write_text(f"{mended}x y z: b\n")
+        answer = self.imported()
+        self.assertEqual(answer.status, 0, answer.output + answer.errors)
+        self.try_answer(answer)
+
     def test_makefile_that_a_tool_wrote(self) -> None:
         """A line that is added to it is lost when somebody configures again."""
         self.write(
@@ -447,6 +473,13 @@ class VaryingTest(MakeFolderTest):
         answer = self.imported()
         self.assertEqual(answer.findings, ["no varying x"])
         self.assertEqual(answer.status, 1)
+        self.assertTrue(
+            answer.output.split("\n\nWhat the recorder says:")[0].endswith(
+                "and make the target anew\n\n"
+                "Races and stale reads are looked for when all of these are mended."
+            ),
+            answer.output,
+        )
 
     def test_one_shell(self) -> None:
         self.write(

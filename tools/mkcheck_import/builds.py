@@ -111,6 +111,9 @@ class Node:
     varies: bool = False
     """Whether the commands depend on which prerequisites are newer, as by `$?`."""
 
+    takes_all: str = ""
+    """The macro by which its commands take all prerequisites, such as `$^`; empty without one."""
+
     origin: Origin | None = None
     """Where its recipe stands, else one of its rules."""
 

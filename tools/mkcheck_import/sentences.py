@@ -43,6 +43,8 @@ class Advice:
     """Lines to add to one makefile, each once."""
 
     lines: dict[str, list[str]] = field(default_factory=dict)
+    macros: dict[str, str] = field(default_factory=dict)
+    """Of targets whose recipes take all prerequisites the macro by which they do."""
 
     def add(self, target: str, word: str) -> None:
         """A prerequisite that a target needs."""
@@ -60,6 +62,17 @@ class Advice:
     def text(self, targets: str, words: str) -> str:
         """One line."""
         return f"{targets}: {words}"
+
+    def notes(self) -> list[str]:
+        """What has to change in recipes that would take the new prerequisites too."""
+        groups: dict[tuple[str, str], list[str]] = {}
+        for target, macro in self.macros.items():
+            groups.setdefault((macro, " ".join(self.lines[target])), []).append(target)
+        return [
+            f"The recipe of {', '.join(targets)} takes all prerequisites by {macro}: write"
+            f" $(filter-out {words},{macro}) there, if it isn't to take {words} too"
+            for (macro, words), targets in groups.items()
+        ]
 
 
 class NinjaAdvice(Advice):
@@ -117,6 +130,8 @@ class Sentences:
         advice = NinjaAdvice() if self.tool == "ninja" else Advice()
         advice = self.advice.setdefault(makefile, advice)
         advice.add(target, self.spelled(node, word))
+        if node.takes_all:
+            advice.macros[target] = node.takes_all
         above = self.started_for(node, file)
         if above is not None:
             # Without a rule make may look for the file before it is there.
@@ -162,7 +177,9 @@ class Sentences:
         for makefile, advice in self.advice.items():
             how = GENERATED.get(self.build.generators.get(makefile, ""))
             heading = f"Add to {makefile} ({how}):" if how else f"Add to {makefile}:"
-            found += ["", heading, *(f"    {line}" for line in advice.texts())]
+            found += ["", heading, *(f"    {line}" for line in advice.texts()), *advice.notes()]
+        if findings and not {finding.kind for finding in findings} & {"race", "stale"}:
+            found += ["", "Races and stale reads are looked for when all of these are mended."]
         return found
 
     def is_unseen(self, recipe: str, file: str) -> bool:

@@ -13,6 +13,8 @@ from .database import Rule, Shown
 from .gnumake import Make, last_words, own_environment
 
 SPECIAL = re.compile(r"\.[A-Z][A-Z_]{2,}")
+# The macros that hold all prerequisites.
+ALL = re.compile(r"\$(?:[+^]|\([+^]\)|\{[+^]\})")
 
 
 @dataclass
@@ -269,6 +271,8 @@ class Knowledge:
     def place(self, node: Node, view: View, rule: Rule) -> None:
         """Notes where a node comes from."""
         node.known_as, node.folder, node.make = rule.name, self.short(view.folder), view.number
+        found = ALL.search("\n".join(rule.recipe or []))
+        node.takes_all = found.group() if found else ""
         if rule.makefile:
             node.origin = Origin(path_name(self.root, view.folder, rule.makefile), rule.line)
         elif node.origin is None and view.make.makefiles:
