@@ -190,6 +190,14 @@ def waiting(count: int, style: Style = TOUCH) -> Build:
     return Build(text, files, [style.record(*read) for read in reads])
 
 
+def linked(count: int, style: Style = TOUCH) -> Build:
+    """Objects with a source each, and a program that reads all of them."""
+    names = [f"verdicts/z{number}.o" for number in range(count)]
+    sources = [f"verdicts/z{number}.c" for number in range(count)]
+    made = {name: [source] for name, source in zip(names, sources)}
+    return ruled(["program"], {"program": names, **made}, sources, style)
+
+
 def large(count: int) -> Build:
     """Targets with commands of 8 KB, and a source each."""
     names, files = [f"verdicts/y{n}" for n in range(count)], [
@@ -227,6 +235,7 @@ STYLED: list[tuple[Callable[[int, Style], Build], int, int, int]] = [
     (inferred, 1000, 2000, 0),
     (waiting, 950, 1900, 1),
     (forgotten, 1000, 2000, 1),
+    (linked, 1000, 2000, 0),
 ]
 OTHERS: list[tuple[Callable[[int], Build], int, int, int]] = [
     (large, 940, 1880, 0),

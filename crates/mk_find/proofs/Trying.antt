@@ -1,24 +1,29 @@
 -- Trying the ends of ways, place by place, for one at which a path to a file may end.
 use Rattle.std.specs.declared.alloc.Global.{Global}
-use Rattle.std.proofs.Common.{◌≡◌, ℕ, ◌+◌, ◌<◌, ◌≤◌, Option, Some, None, MatchOption, Vec, Bool, true, false, ◌||◌, ◌&&◌, List, [], ◌∷◌, length, ◌⊎◌, inl, inr, refl, sym, ◌∙◌, ap, subst, arith}
+use Rattle.std.proofs.Common.{◌≡◌, ℕ, ◌+◌, ◌<◌, ◌≤◌, Option, Some, None, MatchOption, Vec, Bool, true, false, ◌||◌, ◌&&◌, List, [], ◌∷◌, ◌++◌, length, ◌⊎◌, inl, inr, refl, sym, ◌∙◌, ap, subst, min, max, arith}
 use Rattle.std.specs.List.{list_any}
 use Rattle.std.specs.Str.{bytes_eq}
-use Rattle.std.proofs.Math.Nat.{eq-or-lt_of_le}
-use Rattle.std.proofs.lemmas.Bool.{false≢true, or_cases, or_left, or_right, false_from_ne_true}
+use Rattle.std.proofs.Math.Nat.{eq-or-lt_of_le, min-le_left, min-le_right}
+use Rattle.std.proofs.lemmas.Bool.{false≢true, cases_lt, or_cases, or_left, or_right, false_from_ne_true}
 use Rattle.std.proofs.lemmas.Slice.Eq.{bytes_eq-Decides}
 use Rattle.mk_lines.specs.Names.{has_name}
 use Rattle.mk_graph.specs.Graph.{IsGraph, node, prerequisites}
+use Rattle.mk_graph.specs.Laws.{SerialReachesEachOnce}
+use Rattle.mk_graph.specs.Lists.{has_cases}
 use Rattle.mk_graph.specs.Membership.{Has}
+use Rattle.mk_graph.specs.Serial.{serial_order}
 use Rattle.mk_graph.specs.Setting.{is_editable}
 use Rattle.mk_graph_search.specs.Ways.{successors, end}
-use Rattle.mk_graph_search.specs.Places.{SearchInput, StandsAt, EndsAt, GoesAt, HasAtMost}
+use Rattle.mk_graph_search.specs.Places.{SearchInput, EndsAt, GoesAt, HasAtMost, IsOutBefore}
 use Rattle.mk_graph_search.specs.Laws.{FirstByPlaces, NoneByPlaces, OneWayAtAPlace, PlacesAreBelow, SaysNoBefore}
 use Rattle.mk_cert_text.specs.declared.certificate.Finish.{Finish}
 use Rattle.mk_cert_text.specs.declared.certificate.Finish.TheVariants.{Written, Source, Always}
 use Rattle.mk_cert.specs.Carried.{carried, CarriedExactly}
+use Rattle.mk_cert.specs.NodeRow.{writers_of}
 use Rattle.mk_cert.specs.Subject.{Subject, footprints, name_of, writes_of}
-use Rattle.mk_find.specs.FirstPaths.{MayEnd, IsFirstFinish, IsAlongFirstPath, HasNoPath}
+use Rattle.mk_find.specs.FirstPaths.{AlwaysNoneBefore, EndsNoneBefore, MayEnd, IsFirstFinish, IsAlongFirstPath, HasNoPath}
 use Rattle.mk_find.proofs.FirstPaths.{HasFinish, found_first, none_found}
+use Rattle.mk_find.proofs.Members.{kept_to}
 use Rattle.mk_find.proofs.ReadsOnce.{has_recipe, recipe_is_node}
 
 -- a name that stands in a list is found
@@ -104,29 +109,52 @@ finish_from x f n e =
       ]
     ]
 
--- at the ends of the ways at all places before this one no path to the file may end
-pub record EndsNoneBefore (x : Subject) (f : List ℕ) (t place : ℕ) : Type 0 where
-  pub none : (j : ℕ) → j < place → (way : List ℕ) → StandsAt (carried x) t j way → (finish : Finish) → ¬ (MayEnd x f finish (end t way))
-
 -- before the first place
 pub none_before_first : (x : Subject) (f : List ℕ) (t : ℕ) → EndsNoneBefore x f t 0
-none_before_first x f t = record { none = λ j low. absurd (omega arith) }
+none_before_first x f t = record { none = λ k n low. absurd (omega arith) }
+
+pub always_none_before_first : (x : Subject) (t : ℕ) → AlwaysNoneBefore x t 0
+always_none_before_first x t = record { none = λ k n low. absurd (omega arith) }
+
+-- at a place one recipe ends
+one_end : OneWayAtAPlace → (x : Subject) (t place n m : ℕ) → EndsAt (carried x) t place n → EndsAt (carried x) t place m → n ≡ m
+one_end one x t place n m a b = sym a.ends ∙ (ap (end t) (one (carried x) t place a.way b.way a.stands b.stands) ∙ b.ends)
 
 -- nor at this one
 pub none_here : OneWayAtAPlace → (x : Subject) (f : List ℕ) (t place number : ℕ) → EndsNoneBefore x f t place → EndsAt (carried x) t place number → ((finish : Finish) → ¬ (MayEnd x f finish number)) → EndsNoneBefore x f t (place + 1)
-none_here one x f t place number before at out = record { none = λ j low way stands. by j way stands (eq-or-lt_of_le (le_of j low)) }
+none_here one x f t place number before at out = record { none = λ k n low there. by k n there (eq-or-lt_of_le (le_of k low)) }
   where
-    le_of : (j : ℕ) → j < place + 1 → j ≤ place
-    le_of j low = omega arith
+    le_of : (k : ℕ) → k < place + 1 → k ≤ place
+    le_of k low = omega arith
 
-    by : (j : ℕ) (way : List ℕ) → StandsAt (carried x) t j way → (j ≡ place) ⊎ (j < place) → (finish : Finish) → ¬ (MayEnd x f finish (end t way))
-    by j way stands (inr low) = before.none j low way stands
-    by j way stands (inl e) = λ finish ends. out finish (subst (λ (n : ℕ). MayEnd x f finish n) (ap (end t) (one (carried x) t place way at.way (subst (λ (k : ℕ). StandsAt (carried x) t k way) e stands) at.stands) ∙ at.ends) ends)
+    by : (k n : ℕ) → EndsAt (carried x) t k n → (k ≡ place) ⊎ (k < place) → (finish : Finish) → ¬ (MayEnd x f finish n)
+    by k n there (inr low) = before.none k n low there
+    by k n there (inl e) = λ finish ends. out finish (subst (λ (m : ℕ). MayEnd x f finish m) (one_end one x t place n number (subst (λ (j : ℕ). EndsAt (carried x) t j n) e there) at) ends)
 
 -- so the test says no there
 says_no : (x : Subject) (f : List ℕ) (t place : ℕ) → EndsNoneBefore x f t place → SaysNoBefore (carried x) t (may_end x f) place
 says_no x f t place before j low way stands =
-    false_from_ne_true (may_end x f (end t way)) (λ e. let at = finish_from x f (end t way) e in before.none j low way stands at.0 at.1)
+    false_from_ne_true (may_end x f (end t way)) (λ e. let at = finish_from x f (end t way) e in before.none j (end t way) low (record { way = way; stands = stands; ends = refl }) at.0 at.1)
+
+-- who writes a file is among its writers
+writer_there : SerialReachesEachOnce → (x : Subject) → IsGraph x.graph → (f : List ℕ) (n : ℕ) → Has (writes_of x n) f → Has (writers_of x f) n
+writer_there serial x is f n wrote =
+    let low = recipe_is_node x.graph n (has_recipe (node x.graph n).recipe _ f wrote) in
+    let in_order : Has (serial_order x.graph) n = ((serial x.graph is.no_cycle).1 n).1 (is.sound.reached n low) in
+    kept_to (λ o. has_name (writes_of x o) f) (serial_order x.graph) n in_order (found (writes_of x n) f wrote)
+
+-- where the file isn't editable, no path to it may end before its writers and what is always made
+pub none_before_writers : SerialReachesEachOnce → (x : Subject) → IsGraph x.graph → (f : List ℕ) (t place passed : ℕ) → is_editable (footprints x.setting) f ≡ false → AlwaysNoneBefore x t passed → place ≤ passed → ((n : ℕ) → Has (writers_of x f) n → IsOutBefore (carried x) t place n) → EndsNoneBefore x f t place
+none_before_writers serial x is f t place passed fixed always few out = record { none = λ k n low there finish ends. by k n low there finish ends }
+  where
+    by : (k n : ℕ) → k < place → EndsAt (carried x) t k n → (finish : Finish) → ¬ (MayEnd x f finish n)
+    by k n low there Written wrote = out n (writer_there serial x is f n wrote) k low there
+    by k n low there Source ends = false≢true (sym fixed ∙ ends.0)
+    by k n low there Always made = always.none k n (omega arith) there made
+
+-- what is passed over for one file isn't always made
+pub passed_over : (x : Subject) (f : List ℕ) (t place passed : ℕ) → EndsNoneBefore x f t place → AlwaysNoneBefore x t passed → AlwaysNoneBefore x t (max place passed)
+passed_over x f t place passed before always = record { none = λ k n low there made. elim (cases_lt k place) [ inl less ↦ before.none k n less there Always made | inr past ↦ always.none k n (omega arith) there made ] }
 
 -- at this place the first path ends
 pub path_found : CarriedExactly → FirstByPlaces → OneWayAtAPlace → (x : Subject) → IsGraph x.graph
@@ -182,3 +210,18 @@ module _ (x : Subject) (task first : SearchInput) (e : task ≡ first) (rows : (
   pub gone_out : (o : Option (Vec ℕ Global)) → o ≡ None → MatchOption o (HasAtMost (successors task.rows) task.start place) (λ found. GoesAt (successors task.rows) task.start place found.items) → HasAtMost (carried x) first.start place
   gone_out o is found =
       moved (λ succ t. HasAtMost succ t place) x task first e rows (subst (λ (p : Option (Vec ℕ Global)). MatchOption p (HasAtMost (successors task.rows) task.start place) (λ one. GoesAt (successors task.rows) task.start place one.items)) is found)
+
+-- what is out before a place is out before a sooner one
+pub out_sooner : (succ : ℕ → List ℕ) (t place sooner n : ℕ) → sooner ≤ place → IsOutBefore succ t place n → IsOutBefore succ t sooner n
+out_sooner succ t place sooner n few out k low = out k (omega arith)
+
+-- of one more recipe
+pub all_out : (succ : ℕ → List ℕ) (t place other : ℕ) (front : List ℕ) (m : ℕ) → ((n : ℕ) → Has front n → IsOutBefore succ t place n) → IsOutBefore succ t other m → (n : ℕ) → Has (front ++ m ∷ []) n → IsOutBefore succ t (min place other) n
+all_out succ t place other front m before here n h =
+    elim (has_cases front (m ∷ []) n h) [
+      | inl there ↦ out_sooner succ t place (min place other) n (min-le_left place other) (before n there)
+      | inr last ↦ elim last [
+        | inl is ↦ subst (λ (o : ℕ). IsOutBefore succ t (min place other) o) is (out_sooner succ t other (min place other) m (min-le_right place other) here)
+        | inr none ↦ absurd none
+      ]
+    ]

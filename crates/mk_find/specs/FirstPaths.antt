@@ -1,6 +1,8 @@
 -- The first of all paths from a recipe to a file: the shortest; among these the one over the
 -- earliest recipes; with the first finish possible.
-use Rattle.std.specs.Prelude.{◌≡◌, ℕ, ◌≤◌, List, reverse, ◌⊎◌}
+use Rattle.std.specs.Prelude.{◌≡◌, ℕ, ◌<◌, ◌≤◌, List, reverse, ◌⊎◌}
+use Rattle.mk_graph.specs.Setting.{IsAlwaysMade}
+use Rattle.mk_graph_search.specs.Places as search
 use Rattle.mk_graph_search.specs.Ways.{along, Precedes}
 use Rattle.mk_cert_text.specs.declared.certificate.Finish.{Finish}
 use Rattle.mk_cert_text.specs.declared.certificate.Finish.TheVariants.{Written, Source, Always}
@@ -46,3 +48,19 @@ pub record IsAlongFirstPath (x : Subject) (f : List ℕ) (t : ℕ) (nodes : List
 -- No path leads from t to the file.
 abbrev pub HasNoPath : Subject → List ℕ → ℕ → Type 0
 HasNoPath x f t = (finish : Finish) (others : List ℕ) → ¬ (IsPathOver x f finish t others)
+
+-- No path from t to the file may end at a place of the search from t before this one.
+pub record EndsNoneBefore (x : Subject) (f : List ℕ) (t place : ℕ) : Type 0 where
+  pub none : (k n : ℕ) → k < place → search.EndsAt (carried x) t k n → (finish : Finish) →
+      ¬ (MayEnd x f finish n)
+
+-- The recipes at places of the search from t before this one aren't always made.
+pub record AlwaysNoneBefore (x : Subject) (t place : ℕ) : Type 0 where
+  pub none : (k n : ℕ) → k < place → search.EndsAt (carried x) t k n →
+      ¬ (IsAlwaysMade x.graph n)
+
+-- A path to the file may end at this place of the search from t, at the earliest with this finish.
+pub record IsEndAt (x : Subject) (f : List ℕ) (t place : ℕ) (finish : Finish) : Type 0 where
+  pub number : ℕ
+  pub there : search.EndsAt (carried x) t place number
+  pub first : IsFirstFinish x f finish number

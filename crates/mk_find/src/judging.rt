@@ -12,7 +12,7 @@ ghost use Rattle.mk_cert.specs.Listed.{Adds};
 ghost use Rattle.mk_cert.specs.Listing.{Lists};
 ghost use Rattle.mk_cert.specs.Subject.{reads_of};
 ghost use Rattle.mk_find.specs.Certifying.{AddsEntries, AddsOnce, AreEntriesFor, ReadNeedsWay, reads_by, reads_once};
-ghost use Rattle.mk_find.specs.FirstPaths.{IsAlongFirstPath};
+ghost use Rattle.mk_find.specs.FirstPaths.{AlwaysNoneBefore, IsAlongFirstPath};
 ghost use Rattle.mk_cert.specs.Target.{target_of};
 
 use crate::certifying::CertificateBuilder;
@@ -32,11 +32,13 @@ use mk_lines::BorrowedNames;
 use std::alloc::{AllocError, Global};
 
 /// Adds the finding `Stale`, if the read is stale. Returns the first path for its certificate
-/// entry, if the read needs a way and there is no finding, or `None`.
+/// entry, if the read needs a way and there is no finding, or `None`. `passed` is as for
+/// `first_path`.
 fn judge_read(
     subject: &Subject<'_>,
     ends: &EndTables<'_>,
     search: &mut Search<'_>,
+    passed: &mut usize,
     entry: &NodeRow<'_>,
     file: &Target<'_>,
     names: &mut FileNames,
@@ -47,10 +49,12 @@ fn judge_read(
         ends.now.always.items }
     requires rows { (t : ℕ) → successors search.old.rows t ≡ carried subject.now t }
     requires start { search.old.start ≡ entry.now.number }
+    requires passed { AlwaysNoneBefore subject.now search.old.start passed.old }
     requires nothing { Lists subject.now (static_candidates subject.now) [] }
     requires file { file.now ≡ target_of subject.now file.now.file }
     requires read { Has (reads_of subject.now entry.now.number) file.now.file }
     ensures same { search.new ≡ search.old }
+    ensures passed { AlwaysNoneBefore subject.now search.old.start passed.new }
     ensures found { OnOk result (Adds subject.now (stale entry.now.number file.now.file ∷ [])
         found.old.items found.new.items) }
     ensures path { IfOk result (λ path. MatchOption path
@@ -63,7 +67,7 @@ fn judge_read(
     listed_exactly();
     paths_are_ways();
     let alloc = *found.allocator();
-    match read_status_of(alloc, subject, ends, search, file)? {
+    match read_status_of(alloc, subject, ends, search, passed, file)? {
         ReadStatus::Fixed => Ok(None),
         ReadStatus::HasWay(path) if found.is_empty() => Ok(Some(path)),
         ReadStatus::HasWay(_) => Ok(None),
@@ -136,9 +140,19 @@ fn judge_reads(
 {
     once_keeps_first();
     let mut seen = BorrowedNames::new(*found.allocator());
+    let mut passed = 0;
     for place in 0..subject.count_of_reads(entry.number) {
         let file = subject.read(entry, place);
-        let path = judge_read(subject, ends, search, entry, &file, names, found)?;
+        let path = judge_read(
+            subject,
+            ends,
+            search,
+            &mut passed,
+            entry,
+            &file,
+            names,
+            found,
+        )?;
         if let Some(path) = path {
             push_once(subject, entry, place, &path, &mut seen, ways)?;
         }

@@ -8,6 +8,7 @@ ghost use Rattle.mk_cert.specs.Carried.{carried};
 ghost use Rattle.mk_cert.specs.WayTables.{AreEnds};
 ghost use Rattle.mk_cert.specs.Listing.{Lists};
 ghost use Rattle.mk_cert.specs.Subject.{reads_of};
+ghost use Rattle.mk_find.specs.FirstPaths.{AlwaysNoneBefore};
 ghost use Rattle.mk_find.specs.ReadStatus.{IsReadStatus};
 ghost use Rattle.mk_cert.specs.Target.{target_of};
 
@@ -28,22 +29,25 @@ pub(crate) enum ReadStatus {
     Stale,
 }
 
-/// Judges the read of `file` by the recipe at the start of `search`. The only error is out of
-/// memory.
+/// Judges the read of `file` by the recipe at the start of `search`; `passed` is as for
+/// `first_path`. The only error is out of memory.
 pub(crate) fn read_status_of(
     alloc: Global,
     subject: &Subject<'_>,
     ends: &EndTables<'_>,
     search: &mut Search<'_>,
+    passed: &mut usize,
     file: &Target<'_>,
 ) -> Result<ReadStatus, AllocError>
     requires ends { AreEnds subject.now ends.now.needed.items
         ends.now.always.items }
     requires rows { (t : ℕ) → successors search.old.rows t ≡ carried subject.now t }
+    requires passed { AlwaysNoneBefore subject.now search.old.start passed.old }
     requires nothing { Lists subject.now (static_candidates subject.now) [] }
     requires file { file.now ≡ target_of subject.now file.now.file }
     requires read { Has (reads_of subject.now search.old.start) file.now.file }
     ensures same { search.new ≡ search.old }
+    ensures passed { AlwaysNoneBefore subject.now search.old.start passed.new }
     ensures standing { IfOk result (λ standing.
         IsReadStatus subject.now search.old.start file.now.file standing) }
 {
@@ -53,7 +57,7 @@ pub(crate) fn read_status_of(
     if !file.can_change(subject) {
         return Ok(ReadStatus::Fixed);
     }
-    match first_path(alloc, subject, ends, search, file)? {
+    match first_path(alloc, subject, ends, search, passed, file)? {
         Some(path) => Ok(ReadStatus::HasWay(path)),
         None => Ok(ReadStatus::Stale),
     }

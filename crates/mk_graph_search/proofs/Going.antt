@@ -5,11 +5,13 @@ use Rattle.std.proofs.lemmas.List.{length-append, reverse-append}
 use Rattle.mk_graph.specs.Membership.{Has, IsDistinct}
 use Rattle.mk_graph_search.specs.declared.visits.Visit.{Visit}
 use Rattle.mk_graph_search.specs.Ways.{successors, end, IsWay}
-use Rattle.mk_graph_search.specs.Places.{EndsAt, GoesAt, HasAtMost, IsOut}
+use Rattle.mk_graph_search.specs.Places.{EndsAt, GoesAt, HasAtMost, IsOut, IsOutBefore}
 use Rattle.mk_graph_search.specs.Progress.{IsUnderWay, nodes_of, visit_at, IsVisited, AreWaysOf, Stands}
 use Rattle.mk_graph.specs.Lists.{mapped_from}
-use Rattle.mk_graph_search.proofs.Lists.{has_at, at_place, at_front, at_mapped, length_mapped, map_joined, join_none, join_assoc}
+use Rattle.mk_graph_search.proofs.Lists.{apart_at, has_at, at_place, at_front, at_mapped, length_mapped, map_joined, join_none, join_assoc}
 use Rattle.mk_graph_search.proofs.Few.{few_below}
+use Rattle.mk_graph_search.proofs.Firsts.{one_at_a_place}
+use Rattle.mk_graph_search.proofs.Tables.{among}
 use Rattle.mk_graph_search.proofs.Steps.{begins, passes, finds, goes_on, has_at_most, is_out, stands_at}
 
 -- a visit that stands for nothing
@@ -219,6 +221,25 @@ module _ (succ : ℕ → List ℕ) (t : ℕ) where
   pub node_out : (visits : List Visit) (at looked node : ℕ) → Stands succ t visits at looked → length visits ≤ at → ¬ (Has (nodes_of visits) node) → IsOut succ t node
   node_out visits at looked node s past out =
       is_out succ t s.ways s.done s.seen node (subst (λ (l : List (List ℕ)). IsUnderWay succ t s.ways s.done l s.seen) (all_done visits at looked s past) s.under_way) (λ h. out (subst (λ (l : List ℕ). Has l node) s.follow.ends h))
+
+  -- a node that isn't among the first visits is out before their end
+  out_before : (visits : List Visit) (at looked node place : ℕ) → Stands succ t visits at looked → place ≤ length visits → ((k : ℕ) → k < place → ¬ ((visit_at visits k).node ≡ node)) → IsOutBefore succ t place node
+  out_before visits at looked node place s few other k low there =
+      let here = ends_at visits at looked k s (omega arith) in
+      other k low (sym here.ends ∙ (ap (end t) (one_at_a_place succ t k here.way there.way here.stands there.stands) ∙ there.ends))
+
+  -- before its visit
+  pub out_before_visit : (visits : List Visit) (at looked node place : ℕ) → Stands succ t visits at looked → (place < length visits) × ((visit_at visits place).node ≡ node) → IsOutBefore succ t place node
+  out_before_visit visits at looked node place s is =
+      let less = is.0 in
+      let long = length_mapped (λ (visit : Visit). visit.node) visits in
+      let named = λ (k : ℕ) (low : k < length visits). at_mapped (λ (visit : Visit). visit.node) visits k no_visit 0 low in
+      let d : IsDistinct (nodes_of visits) = subst (λ (l : List ℕ). IsDistinct l) s.follow.ends s.under_way.apart in
+      out_before visits at looked node place s (omega arith) (λ k low e. apart_at (nodes_of visits) k place d low (omega arith) (named k (omega arith) ∙ (e ∙ (sym is.1 ∙ sym (named place less)))))
+
+  -- before all that are left, where it has none
+  pub out_before_rest : (visits : List Visit) (at looked node : ℕ) → Stands succ t visits at looked → ¬ (Has (nodes_of visits) node) → IsOutBefore succ t (length visits) node
+  out_before_rest visits at looked node s out = out_before visits at looked node (length visits) s (omega arith) (λ k low e. out (among visits node k low e))
 
   -- at the start
   pub back_at_start : (visits : List Visit) (nodes : List ℕ) (at looked at_place place : ℕ) → Stands succ t visits at looked → place < length visits → LeadsBack t visits nodes at_place place → at_place ≡ 0 → GoesAt succ t place (reverse (nodes ++ t ∷ []))

@@ -85,6 +85,13 @@ pub apart_pushed : (xs : List ℕ) (n : ℕ) → ¬ (Has xs n) → IsDistinct xs
 apart_pushed [] n out d = (λ h. h, tt)
 apart_pushed (x ∷ xs) n out d = (λ h. elim (has_cases xs (n ∷ []) x h) [ inl before ↦ d.0 before | inr (inl last) ↦ out (inl (sym last)) | inr (inr none) ↦ none ], apart_pushed xs n (λ h. out (inr h)) d.1)
 
+-- where no element stands twice, an earlier place has another one
+pub apart_at : (ns : List ℕ) (k j : ℕ) → IsDistinct ns → k < j → j < length ns → ¬ (get_or ns k 0 ≡ get_or ns j 0)
+apart_at [] k j d less low e = absurd (omega arith)
+apart_at (n ∷ ns) k zero d less low e = absurd (omega arith)
+apart_at (n ∷ ns) zero (suc j) d less low e = d.0 (subst (λ (m : ℕ). Has ns m) (sym e) (has_at ns j 0 (omega arith)))
+apart_at (n ∷ ns) (suc k) (suc j) d less low e = apart_at ns k j d.1 (omega arith) (omega arith) e
+
 -- a number stands in a list or doesn't
 pub has_or_not : (ns : List ℕ) (n : ℕ) → Has ns n ⊎ (¬ (Has ns n))
 has_or_not [] n = inr (λ h. h)

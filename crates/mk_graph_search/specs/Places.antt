@@ -1,6 +1,6 @@
 -- The places of ways. Each node that can be reached has a first way, and these ways are listed in
 -- the order of ways; a place is a position in this list.
-use Rattle.std.specs.Prelude.{◌≡◌, ℕ, ◌≤◌, List, [], ◌∷◌, ◌++◌, ◌⊎◌, length, map}
+use Rattle.std.specs.Prelude.{◌≡◌, ℕ, ◌<◌, ◌≤◌, List, [], ◌∷◌, ◌++◌, ◌⊎◌, length, map}
 use Rattle.mk_graph.specs.Membership.{Has}
 use Rattle.mk_graph_search.specs.Ways.{end, along, IsWay, Precedes, IsFirstThere}
 
@@ -53,3 +53,7 @@ pub record HasAtMost (succ : ℕ → List ℕ) (t count : ℕ) : Type 0 where
 -- No way leads to the node.
 abbrev pub IsOut : (ℕ → List ℕ) → ℕ → ℕ → Type 0
 IsOut succ t node = (way : List ℕ) → IsWay succ t way → ¬ (end t way ≡ node)
+
+-- No way at a place before this one ends at the node.
+abbrev pub IsOutBefore : (ℕ → List ℕ) → (t place node : ℕ) → Type 0
+IsOutBefore succ t place node = (k : ℕ) → k < place → ¬ (EndsAt succ t k node)

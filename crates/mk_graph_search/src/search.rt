@@ -2,7 +2,7 @@
 
 ghost use Rattle.std.specs.Prelude.{◌≡◌, IfOk, MatchOption};
 ghost use Rattle.mk_graph_search.specs.Ways.{successors};
-ghost use Rattle.mk_graph_search.specs.Places.{EndsAt, GoesAt, HasAtMost, IsOut};
+ghost use Rattle.mk_graph_search.specs.Places.{EndsAt, GoesAt, HasAtMost, IsOut, IsOutBefore};
 
 use crate::progress::Progress;
 use mk_graph::Groups;
@@ -77,6 +77,18 @@ impl<'a> Search<'a> {
     {
         self.progress.go_on_until(self.rows, node)?;
         Ok(self.progress.visits.place_of(node))
+    }
+
+    /// A place before which no way ends at this node: the node's place if the search has found it,
+    /// else how far the search has come. The search doesn't go on.
+    pub fn least_place_of(&self, node: usize) -> usize
+        ensures { IsOutBefore (successors self.now.rows) self.now.start result node }
+    {
+        let visits = &self.progress.visits;
+        match visits.place_of(node) {
+            Some(place) => place,
+            None => visits.len(),
+        }
     }
 
     /// The nodes along the way at this place, from the start to its end, or `None` if there are no

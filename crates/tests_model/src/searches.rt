@@ -119,3 +119,25 @@ fn places_by_end(rt: HostRuntime) -> Result<(), Fail> {
     drop(search);
     Ok(seen?)
 }
+
+/// Nodes, and the least places of the ways there, once a search has come to place 3.
+const LEAST_PLACES: &[(usize, usize)] = &[(0, 0), (1, 2), (3, 3), (5, 5)];
+
+/// Asserts the least places that a search tells.
+fn see_least_places(rt: &impl Abort, search: &Search<'_>) {
+    for &(node, want) in LEAST_PLACES {
+        see_that(rt, search.least_place_of(node) == want, "a least place");
+    }
+}
+
+#[test]
+fn least_places(rt: HostRuntime) -> Result<(), Fail> {
+    let rows = rows_of(rt.alloc(), "21|3|34||0|0")?;
+    let mut search = Search::new(rt.alloc(), &rows, 0)?;
+    see_that(&rt, search.least_place_of(3) == 1, "a least place");
+    let came = search.visit(3);
+    see_least_places(&rt, &search);
+    drop(search);
+    came?;
+    Ok(())
+}

@@ -1,59 +1,62 @@
--- No path ends at an earlier place, so the first finish that is met ends the first path.
-use Rattle.std.proofs.Common.{◌∙◌, arith}
-use Rattle.mk_find.proofs.Trying.{none_here, path_found, path_missing, place_low, ended, ran_out, gone, gone_out}
+-- The first place at which a path may end ends the first path, and what is passed over isn't always
+-- made.
+use Rattle.std.proofs.Common.{ℕ, Option, MatchOption, sym, subst}
+use Rattle.mk_graph_search.specs.Places.{HasAtMost}
+use Rattle.mk_cert_text.specs.declared.certificate.Finish.{Finish}
+use Rattle.mk_cert.specs.Carried.{carried}
+use Rattle.mk_find.specs.FirstPaths.{AlwaysNoneBefore, IsEndAt}
+use Rattle.mk_find.proofs.Trying.{path_found, path_missing, passed_over, gone, gone_out}
 use Rattle.mk_find.proofs.first_path.first_path.Goals as goal
+
+pub returns-in_default-clause-passed : goal.returns-in_default-clause-passed
+returns-in_default-clause-passed c =
+    let x = c.args.subject.now in
+    let start = c.args.search.now.start in
+    subst (λ (k : ℕ). AlwaysNoneBefore x start k) (sym c.max.ensures) (passed_over x c.args.file.now.file start c.go_on_to_end.new.place c.args.passed.now c.in_ok-finish.ensures.before c.requires.passed)
+
+pub returns-in_err-nodes-clause-passed : goal.returns-in_err-nodes-clause-passed
+returns-in_err-nodes-clause-passed c =
+    let x = c.args.subject.now in
+    let start = c.args.search.now.start in
+    subst (λ (k : ℕ). AlwaysNoneBefore x start k) (sym c.max.ensures) (passed_over x c.args.file.now.file start c.go_on_to_end.new.place c.args.passed.now c.in_ok-finish.ensures.before c.requires.passed)
+
+pub returns-in_default-2-clause-passed : goal.returns-in_default-2-clause-passed
+returns-in_default-2-clause-passed c =
+    let x = c.args.subject.now in
+    let start = c.args.search.now.start in
+    subst (λ (k : ℕ). AlwaysNoneBefore x start k) (sym c.max.ensures) (passed_over x c.args.file.now.file start c.go_on_to_end.new.place c.args.passed.now c.in_ok-finish.ensures.before c.requires.passed)
+
+pub returns-clause-passed : goal.returns-clause-passed
+returns-clause-passed c =
+    let x = c.args.subject.now in
+    let start = c.args.search.now.start in
+    subst (λ (k : ℕ). AlwaysNoneBefore x start k) (sym c.max.ensures) (passed_over x c.args.file.now.file start c.go_on_to_end.new.place c.args.passed.now c.in_ok-finish.ensures.before c.requires.passed)
+
+pub returns-in_default-clause-found : goal.returns-in_default-clause-found
+returns-in_default-clause-found c =
+    let x = c.args.subject.now in
+    let f = c.args.file.now.file in
+    let start = c.args.search.now.start in
+    let place = c.go_on_to_end.new.place in
+    let few = subst (λ (o : Option Finish). MatchOption o (HasAtMost (carried x) start place) (λ finish. IsEndAt x f start place finish)) c.in_default.is c.in_ok-finish.ensures.found in
+    path_missing c.carried_exactly.ensures c.none_by_places.ensures x c.graph-graph.ensures.graph f start place c.in_ok-finish.ensures.before few
 
 pub returns-in_default-2-clause-found : goal.returns-in_default-2-clause-found
 returns-in_default-2-clause-found c =
     let x = c.args.subject.now in
     let first = c.args.search.now in
-    let place = c.loop-number.place in
-    let few = gone_out x c.visit.new.self first (c.in_ok-number.ensures.same ∙ c.loop-number.invariant.0) c.requires.rows place c.in_ok-nodes.field-0 c.in_default-2.is c.in_ok-nodes.ensures.found in
-    path_missing c.carried_exactly.ensures c.none_by_places.ensures x c.graph-graph.ensures.graph c.args.file.now.file first.start place c.loop-number.invariant.1 few
-
-pub returns-in-Some-finish_at-clause-found : goal.returns-in-Some-finish_at-clause-found
-returns-in-Some-finish_at-clause-found c =
-    let x = c.args.subject.now in
-    let first = c.args.search.now in
-    let place = c.loop-number.place in
-    let at = ended x c.loop-number.search first c.loop-number.invariant.0 c.requires.rows place c.in_ok-number.field-0 c.in-Some.number c.in-Some.is c.in_ok-number.ensures.found in
-    let goes = gone x c.visit.new.self first (c.in_ok-number.ensures.same ∙ c.loop-number.invariant.0) c.requires.rows place c.in_ok-nodes.field-0 c.in-Some-2.nodes c.in-Some-2.is c.in_ok-nodes.ensures.found in
-    path_found c.carried_exactly.ensures c.first_by_places.ensures c.one_way_at_a_place.ensures x
-    c.graph-graph.ensures.graph c.args.file.now.file first.start place c.in-Some.number
-    c.in-Some-finish_at.finish c.in-Some-2.nodes.items c.requires.out c.loop-number.invariant.1 at
-    c.in-Some-finish_at.ensures goes
-
-pub overflow_add-place : goal.overflow_add-place
-overflow_add-place c =
-    let x = c.args.subject.now in
-    let first = c.args.search.now in
-    let place = c.loop-number.place in
-    let at = ended x c.loop-number.search first c.loop-number.invariant.0 c.requires.rows place c.in_ok-number.field-0 c.in-Some.number c.in-Some.is c.in_ok-number.ensures.found in
-    let low = place_low c.carried_exactly.ensures c.places_are_below.ensures x c.graph-graph.ensures.graph first.start place c.in-Some.number c.requires.start at in
-    let few = c.graph-graph.ensures.graph.few in
-    omega (arith, low, few)
-
-pub loop-number-smaller : goal.loop-number-smaller
-loop-number-smaller c =
-    let x = c.args.subject.now in
-    let first = c.args.search.now in
-    let place = c.loop-number.place in
-    let at = ended x c.loop-number.search first c.loop-number.invariant.0 c.requires.rows place c.in_ok-number.field-0 c.in-Some.number c.in-Some.is c.in_ok-number.ensures.found in
-    let low = place_low c.carried_exactly.ensures c.places_are_below.ensures x c.graph-graph.ensures.graph first.start place c.in-Some.number c.requires.start at in
-    omega (arith, low)
-
-pub loop-number-preserved : goal.loop-number-preserved
-loop-number-preserved c =
-    let x = c.args.subject.now in
-    let first = c.args.search.now in
-    let place = c.loop-number.place in
-    let at = ended x c.loop-number.search first c.loop-number.invariant.0 c.requires.rows place c.in_ok-number.field-0 c.in-Some.number c.in-Some.is c.in_ok-number.ensures.found in
-    (c.in_ok-number.ensures.same ∙ c.loop-number.invariant.0, none_here c.one_way_at_a_place.ensures x c.args.file.now.file first.start place c.in-Some.number c.loop-number.invariant.1 at c.in_default-finish_at.ensures)
+    let place = c.go_on_to_end.new.place in
+    let few = gone_out x c.go_on_to_end.new.search first c.in_ok-finish.ensures.same c.requires.rows place c.in_ok-nodes.field-0 c.in_default-2.is c.in_ok-nodes.ensures.found in
+    path_missing c.carried_exactly.ensures c.none_by_places.ensures x c.graph-graph.ensures.graph c.args.file.now.file first.start place c.in_ok-finish.ensures.before few
 
 pub returns-clause-found : goal.returns-clause-found
 returns-clause-found c =
     let x = c.args.subject.now in
+    let f = c.args.file.now.file in
     let first = c.args.search.now in
-    let place = c.loop-number.place in
-    let few = ran_out x c.loop-number.search first c.loop-number.invariant.0 c.requires.rows place c.in_ok-number.field-0 c.in_default.is c.in_ok-number.ensures.found in
-    path_missing c.carried_exactly.ensures c.none_by_places.ensures x c.graph-graph.ensures.graph c.args.file.now.file first.start place c.loop-number.invariant.1 few
+    let place = c.go_on_to_end.new.place in
+    let end = subst (λ (o : Option Finish). MatchOption o (HasAtMost (carried x) first.start place) (λ finish. IsEndAt x f first.start place finish)) c.in-Some.is c.in_ok-finish.ensures.found in
+    let goes = gone x c.go_on_to_end.new.search first c.in_ok-finish.ensures.same c.requires.rows place c.in_ok-nodes.field-0 c.in-Some-2.nodes c.in-Some-2.is c.in_ok-nodes.ensures.found in
+    path_found c.carried_exactly.ensures c.first_by_places.ensures c.one_way_at_a_place.ensures x
+    c.graph-graph.ensures.graph f first.start place end.number c.in-Some.finish c.in-Some-2.nodes.items
+    c.requires.out c.in_ok-finish.ensures.before end.there end.first goes

@@ -1,10 +1,8 @@
 -- A read to whose file a path leads isn't stale, and where one is found to be stale something is
 -- found.
-use Rattle.std.proofs.Common.{◌≡◌, ◌∷◌, [], ℕ, List, ap, inl, refl, sym, subst}
+use Rattle.std.proofs.Common.{◌∷◌, [], ℕ, inl, refl, subst}
 use Rattle.mk_cert.specs.Candidates.{stale}
 use Rattle.mk_cert.specs.Conditions.{IsStale}
-use Rattle.mk_cert.specs.Listed.{Adds}
-use Rattle.mk_cert.specs.Target.{Target}
 use Rattle.mk_find.specs.declared.read_status.ReadStatus.{ReadStatus}
 use Rattle.mk_find.specs.declared.read_status.ReadStatus.TheVariants.{Fixed, HasWay}
 use Rattle.mk_find.specs.ReadStatus.{IsReadStatus}

@@ -6,7 +6,7 @@ use Rattle.mk_graph.specs.Membership.{Has}
 use Rattle.mk_graph_search.specs.Places.{SearchInput}
 use Rattle.mk_graph_search.specs.Ways.{successors}
 use Rattle.mk_find.specs.declared.first_path.FirstPath.{FirstPath}
-use Rattle.mk_find.specs.FirstPaths.{IsAlongFirstPath}
+use Rattle.mk_find.specs.FirstPaths.{AlwaysNoneBefore, IsAlongFirstPath}
 use Rattle.mk_cert.specs.Candidates.{stale}
 use Rattle.mk_cert.specs.Carried.{carried}
 use Rattle.mk_cert.specs.NodeRow.{NodeRow}
@@ -18,11 +18,12 @@ use Rattle.mk_find.proofs.Adding.{drop_past, leads_map, leads_done}
 use Rattle.mk_find.proofs.AddingEntries.{reads_of_files, adds_no_entries, nothing_before}
 use Rattle.mk_find.proofs.Noting.{at_place, same_reads}
 use Rattle.mk_find.proofs.ReadBefore.{Knows, adds_past, adds_read, knows_more, knows_past}
+use Rattle.mk_find.proofs.Trying.{always_none_before_first}
 use Rattle.mk_find.proofs.judging.judge_reads.Goals as goal
 use Rattle.mk_find.proofs.judging.judge_reads.Goals.{in-Some+in_ok-push_once, in_default}
 
 pub loop-place-init : goal.loop-place-init
-loop-place-init c = (refl, λ last h. h, (λ none many g needs. ap (λ (names : List (List ℕ)). has_name names g) c.new-seen.ensures), λ none. adds_no_entries c.args.subject.now c.args.ways.now)
+loop-place-init c = (refl, λ last h. h, (λ none many g needs. ap (λ (names : List (List ℕ)). has_name names g) c.new-seen.ensures), λ none. adds_no_entries c.args.subject.now c.args.ways.now, always_none_before_first c.args.subject.now c.args.search.now.start)
 
 pub read-file-requires-clause-place : goal.read-file-requires-clause-place
 read-file-requires-clause-place c =
@@ -106,6 +107,7 @@ loop-place-preserved c =
       leads_map x (λ k. stale t k) files i [] _ c.loop-place.found.items found c.args.found.now.items low inv.1 (subst (λ (k : List ℕ). Adds x (stale t k ∷ []) c.loop-place.found.items found) is added),
       knows,
       ways,
+      subst (λ (task : SearchInput). AlwaysNoneBefore x task.start c.judge_read.new.passed) (sym c.in_ok-path.ensures.same) c.in_ok-path.ensures.passed,
     )
 
 pub returns-clause-found : goal.returns-clause-found

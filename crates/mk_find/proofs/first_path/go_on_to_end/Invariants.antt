@@ -1,6 +1,6 @@
 use Rattle.std.proofs.Common.{◌≡◌, ◌-◌, length}
-use Rattle.mk_find.proofs.Trying.{EndsNoneBefore}
-use Rattle.mk_find.proofs.first_path.first_path.Given as goal
+use Rattle.mk_find.specs.FirstPaths.{EndsNoneBefore}
+use Rattle.mk_find.proofs.first_path.go_on_to_end.Given as goal
 
 abbrev pub invariant-loop-number : goal.invariant-loop-number
 invariant-loop-number l =
