@@ -177,7 +177,8 @@ REFUSED = [
     ),
     (
         [],
-        "makefile:1: BadName (27): a word is no plain file name; look for %, *, quotes or CR LF",
+        "makefile:1: BadName (27): ./b: a word is no plain file name; look for %, *, quotes or "
+        "CR LF",
         "a: ./b\n",
     ),
     (

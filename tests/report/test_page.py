@@ -129,7 +129,7 @@ class RefusalTest(ReportTest):
         self.write("makefile", "all: a.o\n\n%.o: %.c\n\tcc -c $<\n")
         page = self.page(2)
         self.assertIn("refused 27 makefile:3", page.text)
-        self.assertIn("makefile:3:\n BadName (27)\n", page.text)
+        self.assertIn("makefile:3:\n BadName (27): %.o\n", page.text)
         self.assertIn("A word is no plain file name; look for %, *, quotes or CR LF.", page.text)
         self.assertIn("What BadName means", page.text)
         self.assertIn("Pattern rules, wildcards", page.text)

@@ -9,14 +9,16 @@ BAD_IN_NAMES = b"%*?[]:;=#$\\\"'`|&<>()"
 class Refused(Exception):
     """A refusal: its number, its place where it has one, and its other words as bytes.
 
-    A fault that isn't the first one with its number is named."""
+    A fault that isn't the first one with its number is named. The word `about` is told in sentences
+    alone."""
 
-    def __init__(self, number, *words, where=None, name=None):
+    def __init__(self, number, *words, where=None, name=None, about=None):
         super().__init__(number, where, words, name)
         self.number = number
         self.where = where
         self.words = list(words)
         self.name = name
+        self.about = about
 
     def line(self):
         begun = [b"refused", str(self.number).encode()]
@@ -200,9 +202,9 @@ def is_make_name(name):
 
 
 def tested_name(word, where, member=None, bad=None):
-    """The word, or 28 or 27 at that place, by these names."""
+    """The word, or 28 or 27 at that place, by these names; of a makefile's word without a name."""
     if b"(" in word or b")" in word:
-        raise Refused(28, where=where, name=member)
+        raise Refused(28, where=where, name=member, about=None if member else word)
     if not is_make_name(word):
-        raise Refused(27, where=where, name=bad)
+        raise Refused(27, where=where, name=bad, about=None if bad else word)
     return word

@@ -297,6 +297,7 @@ def in_words(fault):
     name = next(iter(named)) if fault.name is None else fault.name.encode()
     head = b"" if fault.where is None else fault.where + b": "
     head += b"%s (%d): " % (name, fault.number)
-    if fault.words:
-        head += b" ".join(fault.words) + b": "
+    words = fault.words + [fault.about] * (fault.about is not None)
+    if words:
+        head += b" ".join(words) + b": "
     return head + named[name]

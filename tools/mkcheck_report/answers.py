@@ -32,6 +32,8 @@ ADD, DO, LISTS = "  add: ", "  do: ", ("  targets: ", "  files: ")
 # place, with its name.
 REFUSED = re.compile(r"refused ([0-9]+)(?: (.*))?", re.DOTALL)
 NAMED = re.compile(r"([A-Za-z:]+) \(([0-9]+)\)")
+# The faults of a makefile whose word is told in sentences alone. It has no blanks.
+TOLD_IN_WORDS = ("BadName", "ArchiveMember")
 PLACED = re.compile(r"([^ ]+):([0-9]+)(?: (.*))?", re.DOTALL)
 
 
@@ -163,6 +165,8 @@ def refusal_of(numbered: str, worded: str) -> Refusal:
     if named is None or named[2] != found[1] or not worded.startswith(behind, named.end()):
         raise Fault(CHANGED)
     sentence = worded[named.end() + len(behind) :]
+    if named[1] in TOLD_IN_WORDS and not words:
+        words, _, sentence = sentence.partition(": ")
     refusal = Refusal(int(found[1]), named[1], words, sentence, numbered)
     if front and place is not None:
         return replace(refusal, file=place[1], line=int(place[2]))

@@ -37,9 +37,9 @@ module _ (files : Told) (reads_as : Reader → Result Makefile ReadFault) where
   settled_read A (read.Macro place fault) s w h = settled made (read.Macro place fault) w h
   settled_read A (read.Kind place fault) s w h = settled made (read.Kind place fault) w h
   settled_read A (read.StrayCommand place) s w h = settled made (read.StrayCommand place) w h
-  settled_read A (read.BadName place) s w h = settled made (read.BadName place) w h
+  settled_read A (read.BadName place word) s w h = settled made (read.BadName place word) w h
   settled_read A (read.BadMakefileName name) s w h = settled made (read.BadMakefileName name) w h
-  settled_read A (read.ArchiveMember place) s w h = settled made (read.ArchiveMember place) w h
+  settled_read A (read.ArchiveMember place word) s w h = settled made (read.ArchiveMember place word) w h
   settled_read A (read.UnknownSpecial place) s w h = settled made (read.UnknownSpecial place) w h
   settled_read A (read.SpecialShape place) s w h = settled made (read.SpecialShape place) w h
   settled_read A (read.TwoRecipes place name) s w h = settled made (read.TwoRecipes place name) w h

@@ -86,6 +86,11 @@ abbrev pub refusal_of : Form → ℕ → List ℕ → Place → List ℕ → Lis
 refusal_of form number name place word =
     refusal form number name (Some (place_text place)) (word ∷ [])
 
+-- A refusal with a place and a word that is printed only in words.
+abbrev pub refusal_about : Form → ℕ → List ℕ → Place → List ℕ → List ℕ
+refusal_about Numbered number name place word = refusal_at Numbered number name place
+refusal_about InWords number name place word = refusal_of InWords number name place word
+
 -- A refusal with a line of this file and no words.
 abbrev pub refusal_in : Form → ℕ → List ℕ → List ℕ → ℕ → List ℕ
 refusal_in form number name file first =
@@ -132,10 +137,11 @@ read_fault_text form (read.Line file fault) = line_fault_text form file fault
 read_fault_text form (read.Macro place fault) = macro_fault_text form place fault
 read_fault_text form (read.Kind place fault) = kind_fault_text form place fault
 read_fault_text form (read.StrayCommand place) = refusal_at form 26 (codes "StrayCommand") place
-read_fault_text form (read.BadName place) = refusal_at form 27 (codes "BadName") place
+read_fault_text form (read.BadName place word) = refusal_about form 27 (codes "BadName") place word
 read_fault_text form (read.BadMakefileName name) =
     refusal_with form 27 (codes "BadMakefileName") (name ∷ [])
-read_fault_text form (read.ArchiveMember place) = refusal_at form 28 (codes "ArchiveMember") place
+read_fault_text form (read.ArchiveMember place word) =
+    refusal_about form 28 (codes "ArchiveMember") place word
 read_fault_text form (read.UnknownSpecial place) = refusal_at form 29 (codes "UnknownSpecial") place
 read_fault_text form (read.SpecialShape place) = refusal_at form 30 (codes "SpecialShape") place
 read_fault_text form (read.TwoRecipes place target) =

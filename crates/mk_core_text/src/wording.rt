@@ -6,7 +6,8 @@ ghost use Rattle.mk_core_text.specs.FaultText.{certificate_fault_text, fault_tex
 
 use crate::fault::Fault;
 use crate::refusal::{
-    Form, no_memory, refusal_at, refusal_in, refusal_of, refusal_of_line, refusal_with,
+    Form, no_memory, refusal_about, refusal_at, refusal_in, refusal_of, refusal_of_line,
+    refusal_with,
 };
 use mk_cert::CertFault;
 use mk_cert_text::CertTextFault;
@@ -127,12 +128,16 @@ fn read_fault_text(alloc: Global, form: Form, fault: &ReadFault) -> Result<Vec<u
         ReadFault::Macro(place, fault) => macro_fault_text(alloc, form, place, fault),
         ReadFault::Kind(place, fault) => kind_fault_text(alloc, form, place, fault),
         ReadFault::StrayCommand(place) => refusal_at(alloc, form, 26, "StrayCommand", place),
-        ReadFault::BadName(place) => refusal_at(alloc, form, 27, "BadName", place),
+        ReadFault::BadName(place, word) => {
+            refusal_about(alloc, form, 27, "BadName", place, word.as_bytes())
+        }
         ReadFault::BadMakefileName(name) => {
             let word = name.as_str().as_bytes();
             refusal_with(alloc, form, 27, "BadMakefileName", &[word])
         }
-        ReadFault::ArchiveMember(place) => refusal_at(alloc, form, 28, "ArchiveMember", place),
+        ReadFault::ArchiveMember(place, word) => {
+            refusal_about(alloc, form, 28, "ArchiveMember", place, word.as_bytes())
+        }
         ReadFault::UnknownSpecial(place) => refusal_at(alloc, form, 29, "UnknownSpecial", place),
         ReadFault::SpecialShape(place) => refusal_at(alloc, form, 30, "SpecialShape", place),
         ReadFault::TwoRecipes(place, target) => {

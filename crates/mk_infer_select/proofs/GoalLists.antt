@@ -49,7 +49,7 @@ goals_end front goals i whole so_far le =
 
 module _ (number : ℕ) (word : List ℕ) (file : List ℕ) (same : file ≡ codes "goal") (is_name : is_no_goal word ≡ false) where
   abbrev named : Bool → Bool → Result (List ℕ) ReadFault
-  named a b = cond a (Err (ArchiveMember (record { file = file; line = number }))) (cond b (Ok word) (Err (BadName (record { file = file; line = number }))))
+  named a b = cond a (Err (ArchiveMember (record { file = file; line = number }) word)) (cond b (Ok word) (Err (BadName (record { file = file; line = number }) word)))
 
   abbrev goal : Bool → Bool → Result (List ℕ) InferFault
   goal a b = cond a (Err (GoalIsMember (goal_place number))) (cond b (Ok word) (Err (BadGoal (goal_place number))))
@@ -70,22 +70,22 @@ module _ (number : ℕ) (word : List ℕ) (file : List ℕ) (same : file ≡ cod
       by false true h = let is : word ≡ name = cc in ap (λ (n : List ℕ). Ok n) is
       by false false h = absurd cc
 
-  pub goal_member : (place : Place) → reading.Fails (ArchiveMember place) (name_of (record { file = file; line = number }) word) → Fails (GoalIsMember place) (goal_of number word)
+  pub goal_member : (place : Place) (bad : List ℕ) → reading.Fails (ArchiveMember place bad) (name_of (record { file = file; line = number }) word) → Fails (GoalIsMember place) (goal_of number word)
   unfolding name_of
-  goal_member place (inl memory) = absurd cc
-  goal_member place (inr e) = inr (goal_is ∙ by (list_any is_bracket word) (is_make_name word) e)
+  goal_member place bad (inl memory) = absurd cc
+  goal_member place bad (inr e) = inr (goal_is ∙ by (list_any is_bracket word) (is_make_name word) e)
     where
-      by : (a b : Bool) → named a b ≡ Err (ArchiveMember place) → goal a b ≡ Err (GoalIsMember place)
+      by : (a b : Bool) → named a b ≡ Err (ArchiveMember place bad) → goal a b ≡ Err (GoalIsMember place)
       by true b h = let is : ◌≡◌ {A = Place} (record { file = file; line = number }) place = cc in ap (λ p. Err (GoalIsMember p)) (place_is place is)
       by false true h = absurd cc
       by false false h = absurd cc
 
-  pub goal_bad : (place : Place) → reading.Fails (BadName place) (name_of (record { file = file; line = number }) word) → Fails (BadGoal place) (goal_of number word)
+  pub goal_bad : (place : Place) (bad : List ℕ) → reading.Fails (BadName place bad) (name_of (record { file = file; line = number }) word) → Fails (BadGoal place) (goal_of number word)
   unfolding name_of
-  goal_bad place (inl memory) = absurd cc
-  goal_bad place (inr e) = inr (goal_is ∙ by (list_any is_bracket word) (is_make_name word) e)
+  goal_bad place bad (inl memory) = absurd cc
+  goal_bad place bad (inr e) = inr (goal_is ∙ by (list_any is_bracket word) (is_make_name word) e)
     where
-      by : (a b : Bool) → named a b ≡ Err (BadName place) → goal a b ≡ Err (BadGoal place)
+      by : (a b : Bool) → named a b ≡ Err (BadName place bad) → goal a b ≡ Err (BadGoal place)
       by true b h = absurd cc
       by false true h = absurd cc
       by false false h = let is : ◌≡◌ {A = Place} (record { file = file; line = number }) place = cc in ap (λ p. Err (BadGoal p)) (place_is place is)

@@ -76,8 +76,8 @@ fn goal_of<'a>(alloc: Global, number: usize, word: &'a str) -> Result<&'a str, I
     }
     match name_of(alloc, &file, number, word.as_bytes()) {
         Ok(name) => Ok(name),
-        Err(ReadFault::ArchiveMember(place)) => Err(InferFault::GoalIsMember(place)),
-        Err(ReadFault::BadName(place)) => Err(InferFault::BadGoal(place)),
+        Err(ReadFault::ArchiveMember(place, _)) => Err(InferFault::GoalIsMember(place)),
+        Err(ReadFault::BadName(place, _)) => Err(InferFault::BadGoal(place)),
         Err(_) => Err(InferFault::Memory),
     }
 }

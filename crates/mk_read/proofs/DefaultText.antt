@@ -48,8 +48,8 @@ name_stays place name plain =
     let two = and_parts (has_path_shape name) (not (list_any is_reserved name) && not (list_any is_bracket name)) one.1 in
     let three = and_parts (not (list_any is_reserved name)) (not (list_any is_bracket name)) two.1 in
     let utf8 : is_utf8 name ≡ true = is_utf8-from_IsUtf8 name (IsUtf8-from_ascii name (ascii name one.0)) in
-    cond-false (list_any is_bracket name) (Err (ArchiveMember place)) (cond (is_make_name name) (Ok name) (Err (BadName place))) (not-true (list_any is_bracket name) three.1)
-    ∙ cond-true (is_make_name name) (Ok name) (Err (BadName place)) (and_from (has_path_shape name && is_utf8 name) (not (list_any is_reserved name)) (and_from (has_path_shape name) (is_utf8 name) two.0 utf8) three.0)
+    cond-false (list_any is_bracket name) (Err (ArchiveMember place name)) (cond (is_make_name name) (Ok name) (Err (BadName place name))) (not-true (list_any is_bracket name) three.1)
+    ∙ cond-true (is_make_name name) (Ok name) (Err (BadName place name)) (and_from (has_path_shape name && is_utf8 name) (not (list_any is_reserved name)) (and_from (has_path_shape name) (is_utf8 name) two.0 utf8) three.0)
 
 names_stay : (place : Place) (names : List (List ℕ)) → list_all is_plain_name names ≡ true → names_of place names ≡ Ok names
 unfolding names_of

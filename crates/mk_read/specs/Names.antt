@@ -32,8 +32,8 @@ is_bracket b = b == 40 || b == 41
 -- no name.
 unfoldable pub name_of : Place → List ℕ → Result (List ℕ) ReadFault
 name_of place word =
-    if list_any is_bracket word then Err (ArchiveMember place)
-    else (if is_make_name word then Ok word else Err (BadName place))
+    if list_any is_bracket word then Err (ArchiveMember place word)
+    else (if is_make_name word then Ok word else Err (BadName place word))
 
 -- The words as names, or the first fault.
 unfoldable pub names_of : Place → List (List ℕ) → Result (List (List ℕ)) ReadFault

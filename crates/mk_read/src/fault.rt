@@ -5,6 +5,7 @@ ghost use Rattle.mk_read.specs.Steps.{is_out_of_memory};
 ghost use Rattle.mk_read.specs.declared.fault.KindFault.TheVariants.{Memory};
 ghost use Rattle.mk_read.specs.declared.fault.ReadFault.TheVariants.{Memory as NoMemory};
 
+use crate::word::Word;
 use mk_lines::{LineFault, Name};
 use mk_macros::MacroFault;
 use std::alloc::{AllocError, AllocFailed};
@@ -75,15 +76,15 @@ pub enum ReadFault {
     /// `StrayCommand` (26): a command line belongs to no rule line, and is no comment.
     #[error("command line without a rule")]
     StrayCommand(Place),
-    /// `BadName` (27): a word is no name of a target or a file.
+    /// `BadName` (27): this word is no name of a target or a file.
     #[error("bad name")]
-    BadName(Place),
+    BadName(Place, Word),
     /// `BadMakefileName` (27): the name of the makefile is no plain path, or is `-`.
     #[error("bad makefile name")]
     BadMakefileName(Name),
-    /// `ArchiveMember` (28): a word contains `(` or `)`.
+    /// `ArchiveMember` (28): this word contains `(` or `)`.
     #[error("archive member")]
-    ArchiveMember(Place),
+    ArchiveMember(Place, Word),
     /// `UnknownSpecial` (29): a target is a dot and three or more of `A-Z` and `_`, and is no known
     /// special target.
     #[error("unknown special target")]

@@ -8,9 +8,11 @@ mod makefile;
 mod name_set;
 mod special;
 mod suffix_list;
+mod word;
 
 pub use fault::{KindFault, Place, ReadFault};
 pub use makefile::{Command, Makefile, Rule};
 pub use name_set::NameSet;
 pub use special::Special;
 pub use suffix_list::SuffixList;
+pub use word::Word;

@@ -87,7 +87,7 @@ names_are stay place table name good is =
     let stays : expansion table None name ≡ Ok (record { text = name; references = 0; varying = false }) = stay 256 _ [] 0 name no_dollar (omega (arith, good.short)) in
     let parts : words name ≡ name ∷ [] = ap (filter is_word) (one_part name good.seen) ∙ cond-true (is_word name) (name ∷ []) [] (ap not (not_nothing name good.some)) in
     let no_bracket : list_any is_bracket name ≡ false = lacks is_bracket bracket name good.clean in
-    let one : name_of place name ≡ Ok name = cond-false (list_any is_bracket name) (Err (ArchiveMember place)) (cond (is_make_name name) (Ok name) (Err (BadName place))) no_bracket ∙ cond-true (is_make_name name) (Ok name) (Err (BadName place)) is in
+    let one : name_of place name ≡ Ok name = cond-false (list_any is_bracket name) (Err (ArchiveMember place name)) (cond (is_make_name name) (Ok name) (Err (BadName place name))) no_bracket ∙ cond-true (is_make_name name) (Ok name) (Err (BadName place name)) is in
     ap (λ (r : Result Expanded MacroFault). at_place place r >>= λ (found : Expanded). names_of place (words found.text)) stays
     ∙ (ap (names_of place) parts ∙ ap (λ (r : Result (List ℕ) ReadFault). r >>= λ first. Ok (first ∷ [])) one)
 

@@ -32,7 +32,7 @@ name_good : (place : Place) (word name : List ℕ) → name_of place word ≡ Ok
 unfolding name_of
 name_good place word name e = at (list_any is_bracket word) (is_make_name word) refl e
   where
-    at : (b c : Bool) → is_make_name word ≡ c → cond b (Err (ArchiveMember place)) (cond c (Ok word) (Err (BadName place))) ≡ Ok name → is_make_name name ≡ true
+    at : (b c : Bool) → is_make_name word ≡ c → cond b (Err (ArchiveMember place word)) (cond c (Ok word) (Err (BadName place word))) ≡ Ok name → is_make_name name ≡ true
     at true c is e = absurd cc
     at false true is e = let one : word ≡ name = cc in subst (λ n. is_make_name n ≡ true) one is
     at false false is e = absurd cc

@@ -13,7 +13,7 @@ ghost use Rattle.mk_read.specs.Steps.{Gives};
 
 use mk_lines::laws::{words_are_longest_parts, words_come_in_order};
 use mk_lines::{Name, is_plain_path, words};
-use mk_read::{Place, ReadFault};
+use mk_read::{Place, ReadFault, Word};
 use std::alloc::{AllocError, Global};
 use std::str;
 
@@ -114,10 +114,11 @@ pub fn name_of<'a>(
         file: Name::new(alloc, file.as_str())?,
         line,
     };
+    let word = Word::new(alloc, word)?;
     Err(if is_member {
-        ReadFault::ArchiveMember(place)
+        ReadFault::ArchiveMember(place, word)
     } else {
-        ReadFault::BadName(place)
+        ReadFault::BadName(place, word)
     })
 }
 

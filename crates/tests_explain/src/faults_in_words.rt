@@ -4,7 +4,7 @@ use mk_core_text::{Fault, fault_words};
 use mk_graph::GraphFault;
 use mk_infer::InferFault;
 use mk_lines::{Name, Names};
-use mk_read::{Place, ReadFault};
+use mk_read::{Place, ReadFault, Word};
 use std::alloc::{AllocError, Global};
 use std::process::Abort;
 use std::test::Fail;
@@ -36,8 +36,9 @@ fn is_said(alloc: Global, fault: Fault, wanted: &str) -> Result<bool, AllocError
 #[test]
 fn says_a_place(rt: HostRuntime) -> Result<(), Fail> {
     let alloc = rt.alloc();
-    let fault = Fault::Read(ReadFault::BadName(place(alloc, 3747)?));
-    let wanted = "makefile:3747: BadName (27): \
+    let word = Word::new(alloc, b"xdiff/../vim.h")?;
+    let fault = Fault::Read(ReadFault::BadName(place(alloc, 3747)?, word));
+    let wanted = "makefile:3747: BadName (27): xdiff/../vim.h: \
                   a word is no plain file name; look for %, *, quotes or CR LF";
     assert!(rt; is_said(alloc, fault, wanted)?);
     Ok(())

@@ -15,13 +15,13 @@ returns-in-Ok c =
 pub returns-in-Err-ArchiveMember : goal.returns-in-Err-ArchiveMember
 returns-in-Err-ArchiveMember c =
     let place : Place = record { file = c.in_ok-file.file; line = c.args.number } in
-    goal_member c.args.number c.args.word.now c.in_ok-file.file c.in_ok-file.ensures (sym c.is_no_goal.ensures ∙ c.if-is_no_goal.false) c.in-Err-ArchiveMember.place
+    goal_member c.args.number c.args.word.now c.in_ok-file.file c.in_ok-file.ensures (sym c.is_no_goal.ensures ∙ c.if-is_no_goal.false) c.in-Err-ArchiveMember.place c.in-Err-ArchiveMember.field-0-1
     (subst (λ (fault : ReadFault). reading.Fails fault (name_of place c.args.word.now)) c.in-Err-ArchiveMember.field-0-is
     (subst (λ (w : List ℕ). reading.Fails c.in-Err-ArchiveMember.field-0 (name_of place w)) c.as_bytes.ensures.value c.in-Err-ArchiveMember.ensures.exact))
 
 pub returns-in-Err-BadName : goal.returns-in-Err-BadName
 returns-in-Err-BadName c =
     let place : Place = record { file = c.in_ok-file.file; line = c.args.number } in
-    goal_bad c.args.number c.args.word.now c.in_ok-file.file c.in_ok-file.ensures (sym c.is_no_goal.ensures ∙ c.if-is_no_goal.false) c.in-Err-BadName.place
+    goal_bad c.args.number c.args.word.now c.in_ok-file.file c.in_ok-file.ensures (sym c.is_no_goal.ensures ∙ c.if-is_no_goal.false) c.in-Err-BadName.place c.in-Err-BadName.field-0-1
     (subst (λ (fault : ReadFault). reading.Fails fault (name_of place c.args.word.now)) c.in-Err-BadName.field-0-is
     (subst (λ (w : List ℕ). reading.Fails c.in-Err-BadName.field-0 (name_of place w)) c.as_bytes.ensures.value c.in-Err-BadName.ensures.exact))
