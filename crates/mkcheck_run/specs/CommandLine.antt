@@ -1,5 +1,5 @@
 -- The command line as data.
-use Rattle.std.specs.Prelude.{◌≡◌, ℕ, ◌==◌, Bool, true, false, List, [], ◌∷◌, Option, None, Some, codes}
+use Rattle.std.specs.Prelude.{◌≡◌, ℕ, ◌==◌, Bool, true, false, List, [], ◌∷◌, Option, None, Some, codes, fold}
 use Rattle.std.specs.List.{list_any}
 use Rattle.std.specs.Option.{option_map_or}
 use Rattle.clap.specs.declared.builder.action.ArgAction.TheVariants.{Count}
@@ -68,66 +68,45 @@ words_argument =
 abbrev pub what_argument : Rule
 what_argument = record (new_rule (codes "what")) { value_names = 1 }
 
--- The subcommand `graph`, without its options.
-abbrev pub named_graph : App
-named_graph = new_app (codes "graph")
-
--- The subcommand `check`, without its options.
-abbrev pub named_check : App
-named_check = new_app (codes "check")
-
--- The subcommand `verify`, without its options.
-abbrev pub named_verify : App
-named_verify = new_app (codes "verify")
-
--- The subcommand `repair`, without its options.
-abbrev pub named_repair : App
-named_repair = new_app (codes "repair")
-
--- The subcommand `simulate`, without its options.
-abbrev pub named_simulate : App
-named_simulate = new_app (codes "simulate")
-
--- A subcommand with `[-f F] [-r]`.
-abbrev pub with_reading : App → App
-with_reading app = with_rule (with_rule app makefile_option) no_defaults_option
+-- The subcommand with this name and these options and arguments.
+abbrev pub subcommand : List ℕ → List Rule → App
+subcommand name rules = fold with_rule (new_app name) rules
 
 -- `graph [-f F] [-r] [-b BOOK] [-c] [WORD..]`
 abbrev pub graph_command : App
 graph_command =
-    with_rule (with_rule (with_rule (with_reading named_graph) book_option) commands_option)
-    words_argument
-
--- A subcommand with `[-c] [-w] [-e N]`.
-abbrev pub with_showing : App → App
-with_showing app =
-    with_rule (with_rule (with_rule app only_certificate_option) in_words_option) evidence_option
+    subcommand (codes "graph")
+    (makefile_option ∷ no_defaults_option ∷ book_option ∷ commands_option ∷ words_argument ∷ [])
 
 -- `check [-f F] [-r] -b BOOK [-c] [-w] [-e N] [WORD..]`
 abbrev pub check_command : App
 check_command =
-    with_rule (with_showing (with_rule (with_reading named_check) needed_book_option))
-    words_argument
+    subcommand (codes "check")
+    (makefile_option ∷ no_defaults_option ∷ needed_book_option ∷ only_certificate_option ∷
+    in_words_option ∷ evidence_option ∷ words_argument ∷ [])
 
 -- `verify [-f F] [-r] -b BOOK -k CERT [WORD..]`
 abbrev pub verify_command : App
 verify_command =
-    with_rule (with_rule (with_rule (with_reading named_verify) needed_book_option)
-    certificate_option) words_argument
+    subcommand (codes "verify")
+    (makefile_option ∷ no_defaults_option ∷ needed_book_option ∷ certificate_option ∷
+    words_argument ∷ [])
 
 -- `repair [-f F] [-r] -b BOOK [WORD..]`
 abbrev pub repair_command : App
-repair_command = with_rule (with_rule (with_reading named_repair) needed_book_option) words_argument
+repair_command =
+    subcommand (codes "repair")
+    (makefile_option ∷ no_defaults_option ∷ needed_book_option ∷ words_argument ∷ [])
 
 -- `simulate [-f F] [-r] -b BOOK -p PLAN [WORD..]`
 abbrev pub simulate_command : App
 simulate_command =
-    with_rule (with_rule (with_rule (with_reading named_simulate) needed_book_option) plan_option)
-    words_argument
+    subcommand (codes "simulate")
+    (makefile_option ∷ no_defaults_option ∷ needed_book_option ∷ plan_option ∷ words_argument ∷ [])
 
 -- `explain [WHAT]`
 abbrev pub explain_command : App
-explain_command = with_rule (new_app (codes "explain")) what_argument
+explain_command = subcommand (codes "explain") (what_argument ∷ [])
 
 -- The program `mkcheck`, which has a version.
 abbrev pub named_program : App
@@ -146,19 +125,16 @@ program =
           { no_binary_name = true; subcommand_required = true; disable_help_subcommand = true };
     }
 
--- A program with `check`, `repair` and `verify`.
-abbrev pub with_judging : App → App
-with_judging app =
-    with_subcommand (with_subcommand (with_subcommand app check_command.top) repair_command.top)
-    verify_command.top
-
--- A program with `simulate` and `explain`.
-abbrev pub with_telling : App → App
-with_telling app = with_subcommand (with_subcommand app simulate_command.top) explain_command.top
+-- A program with these subcommands.
+abbrev pub with_subcommands : App → List App → App
+with_subcommands app commands = fold (λ app command. with_subcommand app command.top) app commands
 
 -- `mkcheck` with its six subcommands.
 abbrev pub command_line : App
-command_line = with_telling (with_judging (with_subcommand program graph_command.top))
+command_line =
+    with_subcommands program
+    (graph_command ∷ check_command ∷ repair_command ∷ verify_command ∷ simulate_command ∷
+    explain_command ∷ [])
 
 -- The word is read as an option or as `--`: it is a `-` and at least one more byte.
 abbrev pub is_option : List ℕ → Bool

@@ -1,9 +1,9 @@
 //! Declares the command line.
 
-ghost use Rattle.std.specs.Prelude.{◌≡◌, IfOk, codes, false};
+ghost use Rattle.std.specs.Prelude.{◌≡◌, ◌∷◌, [], IfOk, codes, false, fold};
 ghost use Rattle.clap.specs.Words.{app_of, new_app, rule_of, with_rule};
 ghost use Rattle.clap.specs.declared.builder.command.Command.TheViews.{out-Command as fields_of};
-ghost use Rattle.mkcheck_run.specs.CommandLine.{book_option, certificate_option, check_command, command_line, commands_option, evidence_option, explain_command, graph_command, in_words_option, makefile_option, named_check, named_graph, named_program, named_repair, named_simulate, named_verify, needed_book_option, no_defaults_option, only_certificate_option, plan_option, program, repair_command, simulate_command, verify_command, what_argument, with_judging, with_reading, with_showing, with_telling, words_argument};
+ghost use Rattle.mkcheck_run.specs.CommandLine.{book_option, certificate_option, check_command, command_line, commands_option, evidence_option, explain_command, graph_command, in_words_option, makefile_option, named_program, needed_book_option, no_defaults_option, only_certificate_option, plan_option, program, repair_command, simulate_command, verify_command, what_argument, with_subcommands, words_argument};
 
 use clap::{Arg, ArgAction, Command, value_parser};
 use std::alloc::{AllocError, Global};
@@ -174,7 +174,7 @@ fn words_argument<'a>(alloc: Global) -> Arg<'a>
 }
 
 fn named_graph<'a>(alloc: Global) -> Command<'a>
-    ensures app { app_of result ≡ named_graph }
+    ensures app { app_of result ≡ new_app (codes "graph") }
     ensures local { (fields_of result).has_globals ≡ false }
 {
     Command::new(alloc, "graph")
@@ -184,7 +184,7 @@ fn named_graph<'a>(alloc: Global) -> Command<'a>
 }
 
 fn named_check<'a>(alloc: Global) -> Command<'a>
-    ensures app { app_of result ≡ named_check }
+    ensures app { app_of result ≡ new_app (codes "check") }
     ensures local { (fields_of result).has_globals ≡ false }
 {
     Command::new(alloc, "check")
@@ -194,7 +194,7 @@ fn named_check<'a>(alloc: Global) -> Command<'a>
 }
 
 fn named_repair<'a>(alloc: Global) -> Command<'a>
-    ensures app { app_of result ≡ named_repair }
+    ensures app { app_of result ≡ new_app (codes "repair") }
     ensures local { (fields_of result).has_globals ≡ false }
 {
     Command::new(alloc, "repair")
@@ -206,7 +206,7 @@ fn named_repair<'a>(alloc: Global) -> Command<'a>
 }
 
 fn named_verify<'a>(alloc: Global) -> Command<'a>
-    ensures app { app_of result ≡ named_verify }
+    ensures app { app_of result ≡ new_app (codes "verify") }
     ensures local { (fields_of result).has_globals ≡ false }
 {
     Command::new(alloc, "verify")
@@ -216,7 +216,7 @@ fn named_verify<'a>(alloc: Global) -> Command<'a>
 }
 
 fn named_simulate<'a>(alloc: Global) -> Command<'a>
-    ensures app { app_of result ≡ named_simulate }
+    ensures app { app_of result ≡ new_app (codes "simulate") }
     ensures local { (fields_of result).has_globals ≡ false }
 {
     Command::new(alloc, "simulate")
@@ -239,7 +239,8 @@ fn named_explain<'a>(alloc: Global) -> Command<'a>
 // Adds the options that every subcommand that reads a makefile has, `-f` and `-r`.
 fn with_reading<'a>(alloc: Global, command: Command<'a>) -> Result<Command<'a>, AllocError>
     requires { (fields_of command).has_globals ≡ false }
-    ensures app { IfOk result (λ c. app_of c ≡ with_reading (app_of command.entry)) }
+    ensures app { IfOk result (λ c. app_of c ≡ fold with_rule (app_of command.entry)
+        (makefile_option ∷ no_defaults_option ∷ [])) }
     ensures local { IfOk result (λ c. (fields_of c).has_globals ≡ false) }
 {
     command
@@ -260,7 +261,8 @@ fn graph_command<'a>(alloc: Global) -> Result<Command<'a>, AllocError>
 // Adds the options that say how a verdict is printed, `-c`, `-w` and `-e`.
 fn with_showing<'a>(alloc: Global, command: Command<'a>) -> Result<Command<'a>, AllocError>
     requires { (fields_of command).has_globals ≡ false }
-    ensures app { IfOk result (λ c. app_of c ≡ with_showing (app_of command.entry)) }
+    ensures app { IfOk result (λ c. app_of c ≡ fold with_rule (app_of command.entry)
+        (only_certificate_option ∷ in_words_option ∷ evidence_option ∷ [])) }
     ensures local { IfOk result (λ c. (fields_of c).has_globals ≡ false) }
 {
     command
@@ -336,7 +338,8 @@ fn program<'a>(alloc: Global) -> Command<'a>
 // Adds the subcommands that judge a build, `check`, `repair` and `verify`.
 fn with_judging<'a>(alloc: Global, command: Command<'a>) -> Result<Command<'a>, AllocError>
     requires { (fields_of command).has_globals ≡ false }
-    ensures app { IfOk result (λ c. app_of c ≡ with_judging (app_of command.entry)) }
+    ensures app { IfOk result (λ c. app_of c ≡ with_subcommands (app_of command.entry)
+        (check_command ∷ repair_command ∷ verify_command ∷ [])) }
     ensures local { IfOk result (λ c. (fields_of c).has_globals ≡ false) }
 {
     command
@@ -348,7 +351,8 @@ fn with_judging<'a>(alloc: Global, command: Command<'a>) -> Result<Command<'a>, 
 // Adds the subcommands `simulate` and `explain`.
 fn with_telling<'a>(alloc: Global, command: Command<'a>) -> Result<Command<'a>, AllocError>
     requires { (fields_of command).has_globals ≡ false }
-    ensures app { IfOk result (λ c. app_of c ≡ with_telling (app_of command.entry)) }
+    ensures app { IfOk result (λ c. app_of c ≡ with_subcommands (app_of command.entry)
+        (simulate_command ∷ explain_command ∷ [])) }
     ensures local { IfOk result (λ c. (fields_of c).has_globals ≡ false) }
 {
     command
