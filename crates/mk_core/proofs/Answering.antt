@@ -26,7 +26,7 @@ use Rattle.mk_core_text.specs.GraphText.{graph_text, shown_lines}
 use Rattle.mk_core.specs.Ready.{Ready, book_for, exists, macros_for, makefile_for, ready_for, setting_of}
 use Rattle.mk_core.specs.Steps.{◌>>=◌, as_fault, of_infer, of_read, seen}
 use Rattle.mk_core.specs.Views.{AnswersOver, DrawsOver, Finds, PrintsOver, ready_over, ready_with}
-use Rattle.mk_core.specs.Seen.{fault_same}
+use Rattle.mk_core.proofs.Seen.{fault_same}
 use Rattle.mk_core.proofs.Faults.{by_infer, by_read}
 
 -- ---- the graph, and what is printed of it

@@ -21,7 +21,7 @@ use Rattle.mk_core.specs.Ready.{Ready}
 use Rattle.mk_core.specs.Steps.{of_infer, seen}
 use Rattle.mk_core.specs.VerifyAnswer.{AnswersVerify, VerifiesText}
 use Rattle.mk_core.specs.Views.{Selected}
-use Rattle.mk_core.specs.Seen.{fault_same}
+use Rattle.mk_core.proofs.Seen.{fault_same}
 use Rattle.mk_core.proofs.Faults.{by_infer}
 
 -- ---- the build of a graph

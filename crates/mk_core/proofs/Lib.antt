@@ -1,3 +1,4 @@
+pub mod Seen
 pub mod NameLists
 pub mod Faults
 pub mod Answering

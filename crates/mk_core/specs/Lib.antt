@@ -17,6 +17,5 @@ pub mod CheckAnswer
 pub mod VerifyAnswer
 pub mod Right
 pub mod NotRead
-pub mod Seen
 pub mod Views
 pub mod Laws

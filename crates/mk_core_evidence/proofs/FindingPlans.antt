@@ -24,7 +24,7 @@ use Rattle.mk_core.specs.Ready.{Ready, ready_for}
 use Rattle.mk_core.specs.Right.{IsRightFor}
 use Rattle.mk_core.specs.Steps.{seen}
 use Rattle.mk_core_text.specs.declared.fault.Fault.{Fault}
-use Rattle.mk_core.specs.Seen.{judged_along, seen_answers}
+use Rattle.mk_core.proofs.Seen.{judged_along, seen_answers}
 
 -- what has a number stands there
 pub numbered_stands : (found : List Finding) (number : ℕ) (finding : Finding) → IsNumbered found number finding → Has found finding

@@ -1,5 +1,5 @@
 -- A plan that shows what is found runs to its end.
-use Rattle.std.proofs.Common.{◌≡◌, ◌≤◌, ℕ, Bool, true, false, not, cond, List, [], ◌∷◌, ◌++◌, length, map, Option, None, Some, Result, Ok, Err, inl, inr, refl, sym, ap, subst, ◌∙◌, arith}
+use Rattle.std.proofs.Common.{◌≡◌, ◌≤◌, ℕ, Bool, true, false, not, cond, List, [], ◌∷◌, ◌++◌, length, map, Option, None, Some, Result, Ok, Err, inl, inr, refl, sym, ap, subst, ◌∙◌}
 use Rattle.std.specs.Prelude.{◌||◌, find, is_some, take}
 use Rattle.mk_graph.specs.Graph.{Graph, IsGraph, max_nodes}
 use Rattle.mk_graph.specs.Steps as model
@@ -10,24 +10,23 @@ use Rattle.mk_infer.specs.Laws as inferring
 use Rattle.mk_infer.specs.Selection.{BuiltUnless, Selects, graph_of, is_lacking, lacking}
 use Rattle.mk_infer.specs.There.{Exists}
 use Rattle.mk_infer.specs.declared.fault.InferFault.{InferFault}
-use Rattle.mk_cert.specs.Subject.{Subject, footprints}
 use Rattle.mk_cert.specs.declared.finding.Finding.{Finding}
-use Rattle.mk_cert.specs.declared.finding.Finding.TheVariants.{Race, Stale}
 use Rattle.mk_find.specs.Findings.{AreFindings}
 use Rattle.mk_lines.specs.Names.{has_name}
 use Rattle.mk_lines.specs.Paths.{is_plain_path}
-use Rattle.mk_world_plan.specs.PlanLaws.{CanBeWritten, EachRunIsAsWritten, HasARun, HasReadableNumbers, LegalStepsAreReadable, WrittenHistoryRuns, WrittenTextIsRead, plan_of_steps}
+use Rattle.mk_world_plan.specs.PlanLaws.{CanBeWritten, EachRunIsAsWritten, HasARun, LegalStepsAreReadable, WrittenHistoryRuns, WrittenTextIsRead, plan_of_steps}
 use Rattle.mk_world_plan.specs.PlanText.{plan_text}
 use Rattle.mk_world_plan.specs.Spelling.{PlainPathsAreWellSpelled}
 use Rattle.mk_read.specs.Files.{Told}
 use Rattle.mk_read.specs.Reading.{Makefile}
-use Rattle.mk_find_evidence.specs.Numbers.{HasSmallNumbers, HaveSmallNumbers}
-use Rattle.mk_find_evidence.specs.Shown.{Shows, ShowsFrom}
+use Rattle.mk_find_evidence.specs.Numbers.{HaveSmallNumbers}
+use Rattle.mk_find_evidence.proofs.RunsAsPlan.{legal_of, readable}
+use Rattle.mk_find_evidence.specs.Shown.{Shows}
 use Rattle.mk_world.specs.declared.plan.PlanFault.{PlanFault}
 use Rattle.mk_world.specs.declared.plan.PlanLine.{PlanLine}
 use Rattle.mk_world.specs.declared.fault.StepFault.{StepFault}
-use Rattle.mk_world.specs.NamedStep.{Step, Edit, Make, Begin, Look, Put, End, Pass, Stop, EndMake}
-use Rattle.mk_world_plan.specs.PlanReading.{lines_of, max_jobs, max_lines, plan_of}
+use Rattle.mk_world.specs.NamedStep.{Step}
+use Rattle.mk_world_plan.specs.PlanReading.{lines_of, max_lines, plan_of}
 use Rattle.mk_world.specs.RunLaws.{AreLegal}
 use Rattle.mk_world.specs.Running.{RunsTo, stage_of}
 use Rattle.mk_world.specs.State.{Scene, State, disk_of, setting, setting_of, world_in, world_of}
@@ -46,26 +45,6 @@ use Rattle.mk_core.specs.SimulationAnswer.{AnswersSimulation, RunsLines, RunsTex
 use Rattle.mk_core_laws.proofs.FirstDisk.{first_disk, is_first}
 use Rattle.mk_core_laws.proofs.OneAnswer.{drawn}
 use Rattle.mk_core_laws.proofs.OneVerdict.{is_settled, not_failing}
-
--- ---- numbers
-
-readable : (step : Step) → HasSmallNumbers step → HasReadableNumbers step
-readable (Edit f c) h = h
-readable (Make jobs goals) h = let small : jobs ≤ max_jobs = omega (arith, h) in small
-readable (Begin t) h = tt
-readable (Look t f) h = tt
-readable (Put t f c) h = h
-readable (End t) h = tt
-readable (Pass t) h = tt
-readable Stop h = tt
-readable EndMake h = tt
-
--- ---- steps that show a finding are legal
-
-legal_of : (x : Subject) (d : Disk) (finding : Finding) (steps : List model.Step) → ShowsFrom x d finding steps → model.IsLegal x.graph (footprints x.setting) (Idle d) steps
-legal_of x d (Race recipe writer f) steps (o, t, is, also, ends) = ends.legal
-legal_of x d (Stale recipe f) steps (t, is, ends) = ends.legal
-legal_of x d other steps h = absurd h
 
 -- ---- what is selected where no name without a rule is given is selected where each is
 

@@ -9,7 +9,7 @@ use Rattle.mk_core_text.specs.declared.fault.Fault.TheVariants as fault
 use Rattle.mk_core.specs.CheckAnswer.{AnswersCheck, GivesVerdict}
 use Rattle.mk_core.specs.Judging.{AnswersJudged}
 use Rattle.mk_core.specs.Ready.{Ready, ready_for}
-use Rattle.mk_core.specs.Seen.{judged_along, seen_answers}
+use Rattle.mk_core.proofs.Seen.{judged_along, seen_answers}
 use Rattle.mk_core_evidence.specs.EvidenceAnswer.{AnswersEvidence, GivesEvidence}
 use Rattle.mk_core_laws.specs.AnswerLaws.{EvidenceRefusesAsCheck, IsSettled, refusal_of}
 use Rattle.mk_core_laws.proofs.OneAnswer.{drawn}

@@ -10,7 +10,7 @@ use Rattle.mk_core.specs.Answer.{Answers}
 use Rattle.mk_core.specs.CheckAnswer.{AnswersCheck, GivesVerdict}
 use Rattle.mk_core.specs.Judging.{AnswersJudged}
 use Rattle.mk_core.specs.Laws.{YesIsRight}
-use Rattle.mk_core.specs.Seen.{judged_along, seen_answers}
+use Rattle.mk_core.proofs.Seen.{judged_along, seen_answers}
 use Rattle.mk_core.specs.Steps.{seen}
 use Rattle.mk_core_repair.specs.declared.surveying.First.{First}
 use Rattle.mk_core_repair.specs.declared.surveying.Survey.{Survey}

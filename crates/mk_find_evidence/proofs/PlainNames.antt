@@ -19,7 +19,7 @@ use Rattle.mk_read.specs.RuleLaws.{RuleLinesAreWellNamed, TextsArePlain}
 use Rattle.mk_cert.specs.Subject.{Subject, footprints}
 use Rattle.mk_find_evidence.specs.PlanLaws.{IsBookFor, WasRead, NamesOfSubjectArePlain}
 
-abbrev ArePlain : List (List ℕ) → Type 0
+abbrev pub ArePlain : List (List ℕ) → Type 0
 ArePlain names = list_all is_plain_path names ≡ true
 
 -- ---- lists
@@ -29,7 +29,7 @@ told p [] x all h = absurd h
 told p (y ∷ xs) x all (inl e) = subst (λ z. p z ≡ true) e (and_parts (p y) (list_all p xs) all).0
 told p (y ∷ xs) x all (inr h) = told p xs x (and_parts (p y) (list_all p xs) all).1 h
 
-two_parts : (names others : List (List ℕ)) → ArePlain (names ++ others) → ArePlain names × ArePlain others
+pub two_parts : (names others : List (List ℕ)) → ArePlain (names ++ others) → ArePlain names × ArePlain others
 two_parts names others all = and_parts (list_all is_plain_path names) (list_all is_plain_path others) (sym (list_all-append is_plain_path names others) ∙ all)
 
 one_part : (records : List Record) (r : Record) → ArePlain (flat_map foot.names_of_record records) → Has records r → ArePlain (foot.names_of_record r)
@@ -92,7 +92,7 @@ module _ (s : recorded.Setting) (all : ArePlain (flat_map foot.names_of_record s
       at false k = absurd k
 
   -- all names
-  of_world : (g : Graph) → ArePlain s.sources → list_all (λ (n : Node). is_plain_path n.name) g.nodes ≡ true → (f : FileName) → IsOfWorld g (footprints s) f → is_plain_path f ≡ true
+  pub of_world : (g : Graph) → ArePlain s.sources → list_all (λ (n : Node). is_plain_path n.name) g.nodes ≡ true → (f : FileName) → IsOfWorld g (footprints s) f → is_plain_path f ≡ true
   of_world g sources nodes f (inl (n, (low, same))) = subst (λ k. is_plain_path k ≡ true) same (told (λ (k : Node). is_plain_path k.name) g.nodes (get_or g.nodes n no_node) nodes (has_at g.nodes n no_node low))
   of_world g sources nodes f (inr (inl h)) = told is_plain_path s.sources f sources h
   of_world g sources nodes f (inr (inr (t, inl h))) = of_recipe g t f h

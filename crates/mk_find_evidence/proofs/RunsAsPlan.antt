@@ -20,7 +20,7 @@ use Rattle.mk_find_evidence.specs.Numbers.{HasSmallNumbers, HaveSmallNumbers}
 use Rattle.mk_find_evidence.specs.Shown.{Shows, ShowsFrom}
 use Rattle.mk_find_evidence.specs.PlanLaws.{WasRead, NamesOfSubjectArePlain, RunsAsPlan, ShownStepsRun}
 
-readable : (step : Step) → HasSmallNumbers step → HasReadableNumbers step
+pub readable : (step : Step) → HasSmallNumbers step → HasReadableNumbers step
 readable (Edit f c) h = h
 readable (Make jobs goals) h = let small : jobs ≤ max_jobs = omega (arith, h) in small
 readable (Begin t) h = tt
@@ -32,7 +32,7 @@ readable Stop h = tt
 readable EndMake h = tt
 
 -- steps that show a finding are legal
-legal_of : (x : Subject) (d : Disk) (finding : Finding) (steps : List model.Step) → ShowsFrom x d finding steps → model.IsLegal x.graph (footprints x.setting) (Idle d) steps
+pub legal_of : (x : Subject) (d : Disk) (finding : Finding) (steps : List model.Step) → ShowsFrom x d finding steps → model.IsLegal x.graph (footprints x.setting) (Idle d) steps
 legal_of x d (Race recipe writer f) steps (o, t, is, also, ends) = ends.legal
 legal_of x d (Stale recipe f) steps (t, is, ends) = ends.legal
 legal_of x d other steps h = absurd h

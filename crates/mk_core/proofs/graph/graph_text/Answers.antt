@@ -1,6 +1,6 @@
 use Rattle.mk_core.specs.GraphAnswer.{AnswersGraph}
 use Rattle.mk_core.specs.Steps.{seen}
-use Rattle.mk_core.specs.Seen.{seen_answers}
+use Rattle.mk_core.proofs.Seen.{seen_answers}
 use Rattle.mk_core.proofs.graph.graph_text.Goals as goal
 
 pub returns-clause-answer : goal.returns-clause-answer

@@ -11,7 +11,7 @@ use Rattle.mk_core.specs.Right.{IsRightFor}
 use Rattle.mk_core.specs.Steps.{seen}
 use Rattle.mk_core.specs.VerifyAnswer.{AnswersVerify, VerifiesText}
 use Rattle.mk_core.specs.declared.request.Request.{Request}
-use Rattle.mk_core.specs.Seen.{seen_answers}
+use Rattle.mk_core.proofs.Seen.{seen_answers}
 use Rattle.mk_core.proofs.Builds.{seen_verify}
 use Rattle.mk_core.proofs.verifying.verify_text.Goals as goal
 
