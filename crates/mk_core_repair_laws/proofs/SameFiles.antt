@@ -58,9 +58,9 @@ module _ (one other : Told) (same : (name : List ℕ) → text_at one name ≡ t
     read_same (read.Macro place fault) s a = fails_same (read.Macro place fault) a
     read_same (read.Kind place fault) s a = fails_same (read.Kind place fault) a
     read_same (read.StrayCommand place) s a = fails_same (read.StrayCommand place) a
-    read_same (read.BadName place) s a = fails_same (read.BadName place) a
+    read_same (read.BadName place word) s a = fails_same (read.BadName place word) a
     read_same (read.BadMakefileName name) s a = fails_same (read.BadMakefileName name) a
-    read_same (read.ArchiveMember place) s a = fails_same (read.ArchiveMember place) a
+    read_same (read.ArchiveMember place word) s a = fails_same (read.ArchiveMember place word) a
     read_same (read.UnknownSpecial place) s a = fails_same (read.UnknownSpecial place) a
     read_same (read.SpecialShape place) s a = fails_same (read.SpecialShape place) a
     read_same (read.TwoRecipes place name) s a = fails_same (read.TwoRecipes place name) a

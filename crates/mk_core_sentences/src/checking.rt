@@ -7,14 +7,15 @@ ghost use Rattle.mk_core.specs.Ready.{macros_for};
 ghost use Rattle.mk_core.specs.Right.{IsRightFor};
 ghost use Rattle.mk_core.specs.Steps.{is_out_of_memory};
 ghost use Rattle.mk_core_text.specs.declared.fault.Fault.TheVariants.{Memory};
-ghost use Rattle.mk_core_sentences.specs.InWordsAnswer.{AnswersInWords, GivesInWords, HasYes, IsInWords};
+ghost use Rattle.mk_core_sentences.specs.InWordsAnswer.{AnswersInWords, GivesInWords, HasYes, IsInWords, Tells};
 ghost use Rattle.mk_core_sentences.specs.NotRead.{in_words_not_read};
 
-use mk_cert::Subject;
+use mk_cert::{Finding, Subject};
 use mk_core::laws::yes_is_right;
 use mk_core::{Fault, Judge, Request, Verdict, answer_judged, drop_or_leak, verdict_of};
+use mk_find::hidden_findings;
 use mk_read_files::Files;
-use mk_sentences::sentences;
+use mk_sentences::{has_static, sentences};
 use std::alloc::{AllocError, Global};
 
 /// The verdict on a build, with its findings in sentences.
@@ -22,8 +23,19 @@ use std::alloc::{AllocError, Global};
 pub enum InWords {
     /// The verdict yes.
     Yes(Verdict),
-    /// The findings of a no, as `sentences` tells them.
+    /// The findings of a no and those that they hide, as `sentences` tells them.
     No(Vec<u8>),
+}
+
+/// The findings of a no in sentences, with the races and stale reads that they hide.
+fn told(alloc: Global, subject: &Subject<'_>, found: &[Finding]) -> Result<Vec<u8>, AllocError>
+    ensures { IfOk result (λ text. Tells subject.now found.now text.items) }
+{
+    if !has_static(found) {
+        return sentences(alloc, subject, found, &[]);
+    }
+    let hidden = hidden_findings(alloc, subject)?;
+    sentences(alloc, subject, found, hidden.as_slice())
 }
 
 /// The verdict on a build, with its findings in sentences.
@@ -38,7 +50,7 @@ fn in_words(
     match &verdict {
         Verdict::Yes { .. } => Ok(InWords::Yes(verdict)),
         Verdict::No(found) => {
-            let text = sentences(alloc, subject, found.as_slice())?;
+            let text = told(alloc, subject, found.as_slice())?;
             drop_or_leak(verdict, leaves_memory);
             Ok(InWords::No(text))
         }
@@ -74,7 +86,7 @@ impl Judge for CheckInWords {
 }
 
 /// The verdict on the build of the goals, for `mkcheck check -w`: the yes that `check` returns, or
-/// its findings in sentences, each group at a line of the makefile.
+/// its findings in sentences, each group at a line of the makefile, and those that they hide.
 ///
 /// The errors are those of `check`, in their order.
 pub fn check_in_words<F: Files>(

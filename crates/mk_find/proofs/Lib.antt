@@ -1,7 +1,6 @@
 pub mod Members
 pub mod Turned
 pub mod FirstPaths
-pub mod Adding
 pub mod FindingLists
 pub mod EntryLaws
 pub mod ReadsOnce
@@ -10,3 +9,4 @@ pub mod Trying
 pub mod Noting
 pub mod AddingEntries
 pub mod ReadBefore
+pub mod OwnReads

@@ -27,24 +27,24 @@ use Rattle.mk_find.proofs.Members.{kept_to}
 use Rattle.mk_find.proofs.ReadsOnce.{has_recipe, recipe_is_node}
 
 -- a name that stands in a list is found
-found : (files : List (List ℕ)) (f : List ℕ) → Has files f → has_name files f ≡ true
+pub found : (files : List (List ℕ)) (f : List ℕ) → Has files f → has_name files f ≡ true
 found [] f h = absurd h
 found (k ∷ files) f (inl here) = or_left (bytes_eq f k) (has_name files f) ((bytes_eq-Decides f k).1 (sym here))
 found (k ∷ files) f (inr there) = or_right (bytes_eq f k) (has_name files f) (found files f there)
 
 -- and what is found stands there
-stands : (files : List (List ℕ)) (f : List ℕ) → has_name files f ≡ true → Has files f
+pub stands : (files : List (List ℕ)) (f : List ℕ) → has_name files f ≡ true → Has files f
 stands [] f e = absurd (false≢true e)
 stands (k ∷ files) f e = elim (or_cases (bytes_eq f k) (has_name files f) e) [ inl here ↦ inl (sym ((bytes_eq-Decides f k).0 here)) | inr there ↦ inr (stands files f there) ]
 
 -- some number of a list passes
-some_passes : (test : ℕ → Bool) (ns : List ℕ) (n : ℕ) → Has ns n → test n ≡ true → list_any test ns ≡ true
+pub some_passes : (test : ℕ → Bool) (ns : List ℕ) (n : ℕ) → Has ns n → test n ≡ true → list_any test ns ≡ true
 some_passes test [] n h e = absurd h
 some_passes test (m ∷ ns) n (inl here) e = or_left (test m) (list_any test ns) (ap test here ∙ e)
 some_passes test (m ∷ ns) n (inr there) e = or_right (test m) (list_any test ns) (some_passes test ns n there e)
 
 -- which one
-which_passes : (test : ℕ → Bool) (ns : List ℕ) → list_any test ns ≡ true → (n : ℕ) × Has ns n × (test n ≡ true)
+pub which_passes : (test : ℕ → Bool) (ns : List ℕ) → list_any test ns ≡ true → (n : ℕ) × Has ns n × (test n ≡ true)
 which_passes test [] e = absurd (false≢true e)
 which_passes test (m ∷ ns) e = elim (or_cases (test m) (list_any test ns) e) [ inl here ↦ (m, inl refl, here) | inr there ↦ (let at = which_passes test ns there in (at.0, inr at.1, at.2)) ]
 
@@ -137,7 +137,7 @@ says_no x f t place before j low way stands =
     false_from_ne_true (may_end x f (end t way)) (λ e. let at = finish_from x f (end t way) e in before.none j (end t way) low (record { way = way; stands = stands; ends = refl }) at.0 at.1)
 
 -- who writes a file is among its writers
-writer_there : SerialReachesEachOnce → (x : Subject) → IsGraph x.graph → (f : List ℕ) (n : ℕ) → Has (writes_of x n) f → Has (writers_of x f) n
+pub writer_there : SerialReachesEachOnce → (x : Subject) → IsGraph x.graph → (f : List ℕ) (n : ℕ) → Has (writes_of x n) f → Has (writers_of x f) n
 writer_there serial x is f n wrote =
     let low = recipe_is_node x.graph n (has_recipe (node x.graph n).recipe _ f wrote) in
     let in_order : Has (serial_order x.graph) n = ((serial x.graph is.no_cycle).1 n).1 (is.sound.reached n low) in

@@ -10,7 +10,7 @@ ghost use Rattle.mk_cert.specs.NodeRow.{IsEntry, entry_reads};
 ghost use Rattle.mk_cert.specs.WayTables.{AreEnds};
 ghost use Rattle.mk_cert.specs.Listed.{Adds};
 ghost use Rattle.mk_cert.specs.Listing.{Lists};
-ghost use Rattle.mk_cert.specs.Subject.{reads_of};
+ghost use Rattle.mk_cert.specs.Subject.{reads_of, writes_of};
 ghost use Rattle.mk_find.specs.Certifying.{AddsEntries, AddsOnce, AreEntriesFor, ReadNeedsWay, reads_by, reads_once};
 ghost use Rattle.mk_find.specs.FirstPaths.{AlwaysNoneBefore, IsAlongFirstPath};
 ghost use Rattle.mk_cert.specs.Target.{target_of};
@@ -20,7 +20,7 @@ use crate::first_path::FirstPath;
 use crate::read_status::{ReadStatus, read_status_of};
 use crate::repeats::is_repeated_read;
 use crate::stale::note_stale;
-use mk_cert::laws::{listed_exactly, paths_are_ways};
+use mk_cert::laws::{listed_exactly, nothing_found_is_sound, paths_are_ways};
 use mk_cert::{
     EndTables, FileNames, Finding, NodeRow, Subject, Target, carried_lists, end_tables_of,
 };
@@ -32,9 +32,9 @@ use mk_lines::BorrowedNames;
 use std::alloc::{AllocError, Global};
 
 /// Adds the finding `Stale`, if the read is stale. Returns the first path for its certificate
-/// entry, if the read needs a way and there is no finding, or `None`. `passed` is as for
-/// `first_path`.
-fn judge_read(
+/// entry, if the read needs a way and there is no finding, or `None`. The recipe must not write the
+/// file. `passed` is as for `first_path`.
+pub(crate) fn judge_read(
     subject: &Subject<'_>,
     ends: &EndTables<'_>,
     search: &mut Search<'_>,
@@ -50,9 +50,9 @@ fn judge_read(
     requires rows { (t : ℕ) → successors search.old.rows t ≡ carried subject.now t }
     requires start { search.old.start ≡ entry.now.number }
     requires passed { AlwaysNoneBefore subject.now search.old.start passed.old }
-    requires nothing { Lists subject.now (static_candidates subject.now) [] }
     requires file { file.now ≡ target_of subject.now file.now.file }
     requires read { Has (reads_of subject.now entry.now.number) file.now.file }
+    requires out { ¬ (Has (writes_of subject.now entry.now.number) file.now.file) }
     ensures same { search.new ≡ search.old }
     ensures passed { AlwaysNoneBefore subject.now search.old.start passed.new }
     ensures found { OnOk result (Adds subject.now (stale entry.now.number file.now.file ∷ [])
@@ -138,7 +138,9 @@ fn judge_reads(
     ensures ways { OnOk result (found.new.items ≡ [] → AddsEntries subject.now
         (reads_by subject.now entry.now.number) ways.old ways.new) }
 {
+    nothing_found_is_sound();
     once_keeps_first();
+    let _graph = subject.graph();
     let mut seen = BorrowedNames::new(*found.allocator());
     let mut passed = 0;
     for place in 0..subject.count_of_reads(entry.number) {

@@ -4,6 +4,7 @@
 mod certifying;
 mod first_path;
 mod found;
+mod hidden;
 mod judging;
 pub mod laws;
 mod read_status;
@@ -12,3 +13,4 @@ mod stale;
 
 pub use certifying::certify;
 pub use found::{findings, judge};
+pub use hidden::hidden_findings;

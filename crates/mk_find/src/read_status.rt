@@ -1,19 +1,17 @@
 //! Whether a read needs a way and has one.
 
-ghost use Rattle.std.specs.Prelude.{◌≡◌, [], ℕ, IfOk};
+ghost use Rattle.std.specs.Prelude.{◌≡◌, ℕ, IfOk};
 ghost use Rattle.mk_graph.specs.Membership.{Has};
 ghost use Rattle.mk_graph_search.specs.Ways.{successors};
-ghost use Rattle.mk_cert.specs.Candidates.{static_candidates};
 ghost use Rattle.mk_cert.specs.Carried.{carried};
 ghost use Rattle.mk_cert.specs.WayTables.{AreEnds};
-ghost use Rattle.mk_cert.specs.Listing.{Lists};
-ghost use Rattle.mk_cert.specs.Subject.{reads_of};
+ghost use Rattle.mk_cert.specs.Subject.{reads_of, writes_of};
 ghost use Rattle.mk_find.specs.FirstPaths.{AlwaysNoneBefore};
 ghost use Rattle.mk_find.specs.ReadStatus.{IsReadStatus};
 ghost use Rattle.mk_cert.specs.Target.{target_of};
 
 use crate::first_path::{FirstPath, first_path};
-use mk_cert::laws::{nothing_found_is_sound, paths_are_ways};
+use mk_cert::laws::paths_are_ways;
 use mk_cert::{EndTables, Subject, Target};
 use mk_graph_search::Search;
 use std::alloc::{AllocError, Global};
@@ -29,8 +27,8 @@ pub(crate) enum ReadStatus {
     Stale,
 }
 
-/// Judges the read of `file` by the recipe at the start of `search`; `passed` is as for
-/// `first_path`. The only error is out of memory.
+/// Judges the read of `file` by the recipe at the start of `search`, which must not write it;
+/// `passed` is as for `first_path`. The only error is out of memory.
 pub(crate) fn read_status_of(
     alloc: Global,
     subject: &Subject<'_>,
@@ -43,15 +41,14 @@ pub(crate) fn read_status_of(
         ends.now.always.items }
     requires rows { (t : ℕ) → successors search.old.rows t ≡ carried subject.now t }
     requires passed { AlwaysNoneBefore subject.now search.old.start passed.old }
-    requires nothing { Lists subject.now (static_candidates subject.now) [] }
     requires file { file.now ≡ target_of subject.now file.now.file }
     requires read { Has (reads_of subject.now search.old.start) file.now.file }
+    requires out { ¬ (Has (writes_of subject.now search.old.start) file.now.file) }
     ensures same { search.new ≡ search.old }
     ensures passed { AlwaysNoneBefore subject.now search.old.start passed.new }
     ensures standing { IfOk result (λ standing.
         IsReadStatus subject.now search.old.start file.now.file standing) }
 {
-    nothing_found_is_sound();
     paths_are_ways();
     let _graph = subject.graph();
     if !file.can_change(subject) {

@@ -1,6 +1,7 @@
 pub mod Topics
 pub mod Phrases
 pub mod Claims
+pub mod Untouched
 pub mod Grouping
 pub mod Tables
 pub mod Places

@@ -1,18 +1,19 @@
 -- The text of findings in sentences.
-use Rattle.std.specs.Prelude.{ℕ, Bool, true, false, List, [], ◌++◌, codes, map, if◌then◌else◌}
+use Rattle.std.specs.Prelude.{ℕ, Bool, true, false, List, [], ◌∷◌, ◌++◌, codes, map, if◌then◌else◌}
 use Rattle.std.specs.List.{flat_map, list_any}
 use Rattle.mk_read.specs.Reading.{Makefile}
 use Rattle.mk_cert.specs.Subject.{Subject}
 use Rattle.mk_cert.specs.declared.finding.Finding.{Finding}
 use Rattle.mk_cert.specs.declared.finding.Finding.TheVariants as finding
 use Rattle.mk_sentences.specs.Topics.{Topic, kind_word}
-use Rattle.mk_sentences.specs.Claims.{claim_of}
+use Rattle.mk_sentences.specs.Claims.{Claim, claim_of}
 use Rattle.mk_sentences.specs.Grouping.{Group, groups}
 use Rattle.mk_sentences.specs.Places.{first_name, head}
 use Rattle.mk_sentences.specs.Sentences.{sentence}
 use Rattle.mk_sentences.specs.Advice.{advice}
 use Rattle.mk_sentences.specs.Adding.{added_lines, lines_of}
 use Rattle.mk_sentences.specs.Listing.{left_out, who_are}
+use Rattle.mk_sentences.specs.Untouched.{untouched}
 use Rattle.mk_sentences.specs.declared.topic.Kind.{Kind}
 use Rattle.mk_sentences.specs.declared.topic.Kind.TheVariants.{TwoWriters}
 
@@ -54,14 +55,23 @@ is_static (finding.Race recipe writer file) = false
 is_static (finding.Stale recipe file) = false
 is_static found = true
 
--- The line that says that others are looked for only later, where there are findings that hide
--- others.
-abbrev pub more_text : List Finding → List ℕ
-more_text findings =
-    if list_any is_static findings
-    then codes "mend these first: races and stale reads are looked for only then\n" else []
+-- The findings that others hide, in groups after a line that says so, or that there is none to see.
+abbrev pub hidden_text : Makefile → List Claim → List ℕ
+hidden_text m [] = codes "then check again: races and stale reads may show\n"
+hidden_text m (c ∷ claims) =
+    codes "then, as far as can be seen now:\n" ++ flat_map (group_text m) (groups (c ∷ claims))
 
--- The text of findings: that of each group, and whether they hide others.
-abbrev pub sentences_text : Subject → List Finding → List ℕ
-sentences_text x findings =
-    flat_map (group_text x.makefile) (groups (map (claim_of x) findings)) ++ more_text findings
+-- What follows the findings: where one of them hides others, the hidden ones about files that
+-- mending these doesn't change.
+abbrev pub then_text : Subject → (findings hidden : List Finding) → List ℕ
+then_text x findings hidden =
+    if list_any is_static findings
+    then hidden_text x.makefile
+    (untouched (map (claim_of x) findings) (map (claim_of x) hidden))
+    else []
+
+-- The text of findings: that of each group, and then of those that they hide.
+abbrev pub sentences_text : Subject → (findings hidden : List Finding) → List ℕ
+sentences_text x findings hidden =
+    flat_map (group_text x.makefile) (groups (map (claim_of x) findings)) ++
+    then_text x findings hidden

@@ -12,5 +12,6 @@ mod places;
 mod rendering;
 mod sentence;
 mod topic;
+mod untouched;
 
-pub use rendering::sentences;
+pub use rendering::{has_static, sentences};

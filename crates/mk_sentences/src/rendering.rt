@@ -6,11 +6,12 @@ ghost use Rattle.std.specs.String.{string_bytes};
 ghost use Rattle.mk_repair.specs.Gathering.{gathered};
 ghost use Rattle.mk_repair.specs.Rows.{names_view};
 ghost use Rattle.mk_sentences.specs.Topics.{topic_view};
-ghost use Rattle.mk_sentences.specs.Claims.{claim_view};
+ghost use Rattle.mk_sentences.specs.Claims.{claim_of, claim_view};
 ghost use Rattle.mk_sentences.specs.Grouping.{group_key_eq, group_of, group_pair, groups};
 ghost use Rattle.mk_sentences.specs.Tables.{groups_view, rows_view};
 ghost use Rattle.mk_sentences.specs.Places.{first_name};
-ghost use Rattle.mk_sentences.specs.Text.{group_text, is_static, more_text, repair_text, sentences_text, shown_name, to_do, word_text};
+ghost use Rattle.mk_sentences.specs.Untouched.{untouched};
+ghost use Rattle.mk_sentences.specs.Text.{group_text, hidden_text, is_static, repair_text, sentences_text, shown_name, then_text, to_do, word_text};
 
 use crate::adding::push_added_lines;
 use crate::advice::push_advice;
@@ -20,6 +21,7 @@ use crate::listing::{push_left_out, who_are};
 use crate::places::{Places, push_head};
 use crate::sentence::push_sentence;
 use crate::topic::{Kind, Topic, kind_word};
+use crate::untouched::untouched;
 use mk_cert::{Finding, Subject};
 use mk_read::Makefile;
 use std::alloc::{AllocError, Global};
@@ -168,22 +170,51 @@ fn is_static(finding: &Finding) -> bool
 }
 
 /// Whether one of the findings hides races and stale reads.
-fn has_static(findings: &[Finding]) -> bool
+pub fn has_static(findings: &[Finding]) -> bool
     ensures { result ≡ list_any is_static findings.now }
 {
     findings.iter().any(|finding| is_static(finding))
 }
 
-/// Appends the line that says that others are looked for only later, where there are findings that
-/// hide others.
-fn push_more(out: &mut String, findings: &[Finding]) -> Result<(), AllocError>
-    ensures { OnOk result (string_bytes out.new ≡
-        string_bytes out.old ++ more_text findings.now) }
+/// Appends the hidden findings, given what the others and they claim.
+fn push_hidden(
+    alloc: Global,
+    out: &mut String,
+    makefile: &Makefile,
+    claims: &[Claim<'_>],
+    hidden: &[Claim<'_>],
+) -> Result<(), AllocError>
+    ensures { OnOk result (string_bytes out.new ≡ string_bytes out.old ++ hidden_text makefile.now
+        (untouched (map claim_view claims.now) (map claim_view hidden.now))) }
 {
-    if has_static(findings) {
-        out.push_str("mend these first: races and stale reads are looked for only then\n")?;
+    let left = untouched(alloc, claims, hidden)?;
+    if left.is_empty() {
+        out.push_str("then check again: races and stale reads may show\n")?;
+        return Ok(());
     }
-    Ok(())
+    out.push_str("then, as far as can be seen now:\n")?;
+    push_claims(alloc, out, makefile, left.as_slice())
+}
+
+/// Appends what follows the findings, given what they claim: where one of them hides others, these
+/// others.
+fn push_then(
+    alloc: Global,
+    out: &mut String,
+    subject: &Subject<'_>,
+    findings: &[Finding],
+    claims: &[Claim<'_>],
+    hidden: &[Finding],
+) -> Result<(), AllocError>
+    requires { map claim_view claims.now ≡ map (claim_of subject.now) findings.now }
+    ensures { OnOk result (string_bytes out.new ≡
+        string_bytes out.old ++ then_text subject.now findings.now hidden.now) }
+{
+    if !has_static(findings) {
+        return Ok(());
+    }
+    let hidden = claims_of(alloc, subject, hidden)?;
+    push_hidden(alloc, out, subject.makefile(), claims, &hidden)
 }
 
 /// The findings of a no in sentences. Findings that say the same of several names or files are a
@@ -191,19 +222,24 @@ fn push_more(out: &mut String, findings: &[Finding]) -> Result<(), AllocError>
 /// after `  add: `, or what else to do, after `  do: `, and then all targets or files of which the
 /// sentence leaves some out, after `  targets: ` or `  files: `. The groups come in the order of
 /// their first findings. A group stands at the rule line that gives commands to its first target,
-/// else at the first one that has it as a target. The last line says that these hide others, where
-/// they do. Takes time linear in the makefile, the graph and the findings. The only error is out of
-/// memory.
+/// else at the first one that has it as a target.
+///
+/// Where findings hide races and stale reads, a line says so, and the groups of `hidden` follow,
+/// without those that mending the others touches: about files that it may change, and stale reads
+/// of targets that it makes phony. Takes time linear in the makefile, the graph and the findings.
+/// The only error is out of memory.
 pub fn sentences(
     alloc: Global,
     subject: &Subject<'_>,
     findings: &[Finding],
+    hidden: &[Finding],
 ) -> Result<Vec<u8>, AllocError>
-    ensures { IfOk result (λ text. text.items ≡ sentences_text subject.now findings.now) }
+    ensures { IfOk result (λ text. text.items ≡
+        sentences_text subject.now findings.now hidden.now) }
 {
     let claims = claims_of(alloc, subject, findings)?;
     let mut out = String::new(alloc);
     push_claims(alloc, &mut out, subject.makefile(), &claims)?;
-    push_more(&mut out, findings)?;
+    push_then(alloc, &mut out, subject, findings, &claims, hidden)?;
     Ok(out.into_bytes())
 }

@@ -117,8 +117,8 @@ fn push_given_written(
     let files = shown(alloc, what)?;
     write!(
         out,
-        "{recipes}{write}{files}, which each make takes as given \
-         (a source, a makefile, or a name of -include or .PHONY): the next make starts from something else"
+        "{recipes}{write}{files}, which each make takes as given (a source, a makefile, or a name \
+         of -include or .PHONY): the next make starts from something else"
     )
 }
 

@@ -4,7 +4,7 @@
 use mk_cert::{CertFault, Finding, Subject, counts, races, static_findings, verify};
 use mk_cert_text::{certificate_text, read_certificate};
 use mk_find::laws::no_findings;
-use mk_find::{certify, findings, judge};
+use mk_find::{certify, findings, hidden_findings, judge};
 use mk_repair::{lines_text, words_of};
 use mk_sentences::sentences;
 use std::alloc::Global;
@@ -92,10 +92,11 @@ fn repaired(alloc: Global, subject: &Subject<'_>) -> Result<String, Fail> {
     }
 }
 
-/// The findings of `findings` in sentences.
+/// The findings of `findings`, and those of `hidden_findings`, in sentences.
 fn told(alloc: Global, subject: &Subject<'_>) -> Result<String, Fail> {
     let found = findings(alloc, subject)?;
-    Ok(String::from_utf8(sentences(alloc, subject, &found)?)?)
+    let hidden = hidden_findings(alloc, subject)?;
+    Ok(String::from_utf8(sentences(alloc, subject, &found, &hidden)?)?)
 }
 
 /// A fault's number and names.

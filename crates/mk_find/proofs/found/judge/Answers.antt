@@ -7,7 +7,7 @@ use Rattle.mk_cert.specs.declared.finding.Finding.{Finding}
 use Rattle.mk_cert.specs.Candidates.{static_candidates, race_candidates, stale_candidates}
 use Rattle.mk_cert.specs.Subject.{name_of}
 use Rattle.mk_find.specs.Findings.{AreFindings}
-use Rattle.mk_find.proofs.Adding.{adds_append}
+use Rattle.mk_cert.proofs.Adding.{adds_append}
 use Rattle.mk_find.proofs.FindingLists.{nothing_added}
 use Rattle.mk_find.proofs.found.judge.Goals as goal
 

@@ -12,7 +12,7 @@ use Rattle.mk_cert.specs.Candidates.{stale}
 use Rattle.mk_cert.specs.Subject.{reads_of}
 use Rattle.mk_cert.specs.Verdict.{Read}
 use Rattle.mk_find.specs.Certifying.{AddsEntries, AreEntriesFor, reads_by}
-use Rattle.mk_find.proofs.Adding.{drop_past, leads_each, leads_done}
+use Rattle.mk_cert.proofs.Adding.{drop_past, leads_each, leads_done}
 use Rattle.mk_find.proofs.AddingEntries.{adds_no_entries, adds_more_entries, nothing_before}
 use Rattle.mk_find.proofs.judging.judge_all.Goals as goal
 

@@ -4,7 +4,7 @@ use Rattle.mk_cert.specs.Candidates.{stale, stale_candidates}
 use Rattle.mk_cert.specs.NodeRow.{NodeRow}
 use Rattle.mk_cert.specs.Subject.{reads_of}
 use Rattle.mk_find.specs.Certifying.{AddsEntries, reads_by}
-use Rattle.mk_find.proofs.Adding.{Leads}
+use Rattle.mk_cert.proofs.Adding.{Leads}
 use Rattle.mk_find.proofs.judging.judge_all.Given as goal
 
 -- the nodes that are left; and where nothing is found, the entries for the reads of those so far

@@ -6,7 +6,7 @@ use Rattle.mk_cert.specs.Conditions.{IsStale}
 use Rattle.mk_find.specs.declared.read_status.ReadStatus.{ReadStatus}
 use Rattle.mk_find.specs.declared.read_status.ReadStatus.TheVariants.{Fixed, HasWay}
 use Rattle.mk_find.specs.ReadStatus.{IsReadStatus}
-use Rattle.mk_find.proofs.Adding.{adds_none}
+use Rattle.mk_cert.proofs.Adding.{adds_none}
 use Rattle.mk_find.proofs.AddingEntries.{nothing_kept}
 use Rattle.mk_find.proofs.Noting.{path_not_stale}
 use Rattle.mk_find.proofs.judging.judge_read.Goals as goal

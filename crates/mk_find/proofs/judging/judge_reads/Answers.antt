@@ -14,9 +14,9 @@ use Rattle.mk_cert.specs.Listed.{Adds}
 use Rattle.mk_cert.specs.Subject.{reads_of}
 use Rattle.mk_cert.specs.Target.{Target, target_of}
 use Rattle.mk_find.specs.Certifying.{ReadNeedsWay, AddsEntries}
-use Rattle.mk_find.proofs.Adding.{drop_past, leads_map, leads_done}
+use Rattle.mk_cert.proofs.Adding.{drop_past, leads_map, leads_done}
 use Rattle.mk_find.proofs.AddingEntries.{reads_of_files, adds_no_entries, nothing_before}
-use Rattle.mk_find.proofs.Noting.{at_place, same_reads}
+use Rattle.mk_find.proofs.Noting.{at_place, reader_writes_not, same_reads}
 use Rattle.mk_find.proofs.ReadBefore.{Knows, adds_past, adds_read, knows_more, knows_past}
 use Rattle.mk_find.proofs.Trying.{always_none_before_first}
 use Rattle.mk_find.proofs.judging.judge_reads.Goals as goal
@@ -51,6 +51,16 @@ judge_read-requires-clause-read c =
     let count = c.count_of_reads-place-end.ensures ∙ ap (λ (k : NodeRow). length (reads_of x k.number)) c.entry.view_is in
     let low : i < length (reads_of x e.number) = omega (arith, c.loop-place-test.true, count) in
     subst (λ (v : Target). Has (reads_of x e.number) v.file) (sym c.read-file.ensures) (at_place (reads_of x e.number) i [] low)
+
+pub judge_read-requires-clause-out : goal.judge_read-requires-clause-out
+judge_read-requires-clause-out c =
+    let x = c.args.subject.now in
+    let e = c.args.entry.now in
+    let i = c.loop-place.place in
+    let count = c.count_of_reads-place-end.ensures ∙ ap (λ (k : NodeRow). length (reads_of x k.number)) c.entry.view_is in
+    let low : i < length (reads_of x e.number) = omega (arith, c.loop-place-test.true, count) in
+    let reads : Has (reads_of x e.number) c.read-file.result.file = subst (λ (v : Target). Has (reads_of x e.number) v.file) (sym c.read-file.ensures) (at_place (reads_of x e.number) i [] low) in
+    reader_writes_not c.nothing_found_is_sound.ensures x c.graph-graph.ensures.graph c.graph-graph.ensures.subject c.requires.nothing e.number c.read-file.result.file reads
 
 pub push_once-requires : goal.push_once-requires
 push_once-requires c =

@@ -4,7 +4,7 @@ use Rattle.mk_cert.specs.Subject.{reads_of}
 use Rattle.mk_cert.specs.Candidates.{stale}
 use Rattle.mk_find.specs.Certifying.{AddsEntries}
 use Rattle.mk_find.specs.FirstPaths.{AlwaysNoneBefore}
-use Rattle.mk_find.proofs.Adding.{Leads}
+use Rattle.mk_cert.proofs.Adding.{Leads}
 use Rattle.mk_find.proofs.AddingEntries.{reads_of_files}
 use Rattle.mk_find.proofs.ReadBefore.{Knows}
 use Rattle.mk_find.proofs.judging.judge_reads.Given as goal

@@ -10,7 +10,7 @@ use Rattle.mk_cert.specs.Candidates.{stale}
 use Rattle.mk_cert.specs.Listed.{Adds}
 use Rattle.mk_cert.specs.Subject.{reads_of}
 use Rattle.mk_find.specs.Certifying.{AddsEntries}
-use Rattle.mk_find.proofs.Adding.{adds_nothing}
+use Rattle.mk_cert.proofs.Adding.{adds_nothing}
 use Rattle.mk_find.proofs.AddingEntries.{adds_no_entries, reads_of_files}
 use Rattle.mk_find.proofs.judging.judge_recipe.Goals as goal
 

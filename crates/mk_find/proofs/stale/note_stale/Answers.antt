@@ -4,7 +4,7 @@ use Rattle.mk_graph.specs.declared.node.Node.{Node}
 use Rattle.mk_cert.specs.declared.finding.Finding.TheVariants.{Stale}
 use Rattle.mk_cert.specs.Candidates.{stale}
 use Rattle.mk_cert.specs.Subject.{name_of}
-use Rattle.mk_find.proofs.Adding.{adds_one}
+use Rattle.mk_cert.proofs.Adding.{adds_one}
 use Rattle.mk_find.proofs.stale.note_stale.Goals as goal
 
 pub returns : goal.returns
