@@ -615,6 +615,7 @@ class VaryingTest(MakeFolderTest):
         )
         answer = self.imported()
         self.assertIn("all: head .WAIT x\n", answer.rules())
+        self.assertNotIn("takes .WAIT", answer.output)
         self.assertEqual(answer.findings, ["no stale x head"])
         self.try_answer(answer)
 

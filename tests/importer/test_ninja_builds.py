@@ -101,6 +101,7 @@ class InputsTest(NinjaFolderTest):
         )
         self.assertEqual(answer.findings, [])
         self.assertEqual(len(answer.ways), 3)
+        self.assertNotIn("GNU make looks", answer.text)
         self.try_answer(answer)
 
     def test_dyndep(self) -> None:

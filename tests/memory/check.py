@@ -50,6 +50,10 @@ PLACES = {
     ): "behind the test that the fault is out of memory",
     ("mkcheck_run/src/starting.rt", "Err(_) => Err(Stop::Memory),"): "the call has no other error",
     (
+        "mk_core_sentences/src/refused_line.rt",
+        "return Err(AllocError);",
+    ): "behind the test that the fault is out of memory",
+    (
         "mkcheck_run/src/running.rt",
         "return Err(AllocError);",
     ): "behind the test that the fault is out of memory",

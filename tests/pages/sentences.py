@@ -2,7 +2,8 @@
 
 For each row there are small builds with one to three names and files. What the row says, filled in,
 has to be printed, with the lines to add or the advice below it. A row that no build makes is wrong,
-and so is a build that no row tells of.
+and so is a build that no row tells of. Where findings hide races and stale reads, the line that the
+page has for that comes last, or, with one more recipe, the stale read of that one.
 """
 
 from __future__ import annotations
@@ -18,8 +19,11 @@ from pathlib import Path
 ROOT = Path(__file__).resolve().parents[2]
 PAGE = ROOT / "docs" / "REFERENCE.md"
 HEAD = "| word | sentence | `add:` | `do:` |\n|---|---|---|---|\n"
-MORE = "mend these first: races and stale reads are looked for only then"
+THEN = "then, as far as can be seen now:"
+MORE = "then check again: races and stale reads may show"
 UNKNOWN = "unexpected argument '-w'"
+# What stands before a sentence, and how it is written below.
+PLACE, PLACED = re.compile(r"^makefile(:\d+)?: ", re.MULTILINE), "FILE:LINE: "
 COUNTS = (1, 2, 3)
 Record = tuple[str, list[str], list[str]]
 
@@ -235,8 +239,8 @@ def filled(template: str, build: Build, join: Callable[[list[str]], str]) -> str
 
 
 def expected(row: Row, build: Build, has_lines: bool) -> str:
-    """The text of the group behind its place."""
-    told = f"{filled(row.sentence, build, shown)} [{row.word}]\n"
+    """The text of the group."""
+    told = f"{PLACED}{filled(row.sentence, build, shown)} [{row.word}]\n"
     if has_lines:
         return f"{told}  add: {filled(row.add, build, ' '.join)}\n"
     files = build.files if re.search(r"\bF\b", row.sentence) else []
@@ -248,13 +252,21 @@ def expected(row: Row, build: Build, has_lines: bool) -> str:
     return f"{told}  do: {filled(row.do, build, shown)}\n{lists}"
 
 
-def checked(mkcheck: str, build: Build, command: str) -> str:
+def with_stale(build: Build, command: str) -> Build:
+    """The build, and a recipe beside it that reads a source of which the makefile says nothing."""
+    goal = "all" if "all:" in build.makefile else "p"
+    makefile = f"{build.makefile}both: {goal} z\nz:\n\t{command}\n"
+    records: list[Record] = [*build.records, ("z", ["z.h"], ["z"])]
+    return Build(makefile, [*build.sources, "z.h"], records, ["z"], ["z.h"])
+
+
+def checked(mkcheck: str, build: Build, command: str, *goals: str) -> str:
     """What `check -w` prints of a build."""
     with tempfile.TemporaryDirectory() as folder:
         Path(folder, "makefile").write_text(build.makefile, encoding="utf-8")
         Path(folder, "B").write_text(build.book(command), encoding="utf-8")
         done = subprocess.run(
-            [mkcheck, "check", "-w", "-b", "B"],
+            [mkcheck, "check", "-w", "-b", "B", *goals],
             cwd=folder,
             capture_output=True,
             text=True,
@@ -263,18 +275,27 @@ def checked(mkcheck: str, build: Build, command: str) -> str:
     return done.stdout or done.stderr
 
 
-def tried(mkcheck: str, rows: list[Row]) -> Iterator[tuple[str, str]]:
-    """For each build what is expected and what is printed."""
+def tried(mkcheck: str, rows: list[Row]) -> Iterator[tuple[str, str, str]]:
+    """For each build a text that is expected, the text that comes last, and what is printed."""
+    of_stale = (row for row in rows if (row.word, row.has_writer) == ("stale", False))
+    row_of_stale = next(of_stale, Row("stale", "", "", ""))
     for word, has_writer, has_lines, make in BUILDS:
         command = "other" if word == "commands" else "mk"
         row = next((row for row in rows if (row.word, row.has_writer) == (word, has_writer)), None)
         if row is None or not (row.add if has_lines else row.do):
-            yield f"a row of `{word}` {'with lines' if has_lines else 'with advice'}", "nothing"
+            lacking = f"a row of `{word}` {'with lines' if has_lines else 'with advice'}"
+            yield lacking, "", "nothing\n"
             continue
+        is_hiding = word not in ("race", "stale")
         for names in COUNTS:
             for files in COUNTS:
                 build = make(numbered("t", names), numbered("f", files))
-                yield expected(row, build, has_lines), checked(mkcheck, build, command)
+                text = expected(row, build, has_lines)
+                yield text, f"{MORE}\n" if is_hiding else "", checked(mkcheck, build, command)
+                if is_hiding:
+                    more = with_stale(build, command)
+                    last = f"{THEN}\n{expected(row_of_stale, more, True)}"
+                    yield text, last, checked(mkcheck, more, command, "both")
 
 
 def unmade(rows: list[Row]) -> Iterator[str]:
@@ -294,15 +315,16 @@ def wrong_sentences(mkcheck: str) -> int:
         print("docs/REFERENCE.md: no table of sentences")
         return 1
     wrong, count = list(unmade(rows)), 0
-    for text, printed in tried(mkcheck, rows):
+    unsaid = [line for line in (THEN, MORE) if f"`{line}`" not in page.replace("\n", " ")]
+    wrong += [f"nothing says when `{line}` comes" for line in unsaid]
+    for text, last, printed in tried(mkcheck, rows):
         if UNKNOWN in printed:
             print("pages: this mkcheck has no `check -w`: its sentences weren't compared")
             return 0
         count += 1
-        if not re.search(rf"^makefile(:\d+)?: {re.escape(text)}", printed, re.MULTILINE):
-            wrong.append(f"`mkcheck check -w` prints\n{printed}and not\n{text}")
-        elif MORE in printed and f"`{MORE}`" not in page:
-            wrong.append(f"nothing says when `mkcheck check -w` prints `{MORE}`")
+        placed = PLACE.sub(PLACED, printed)
+        if f"\n{text}" not in f"\n{placed}" or not placed.endswith(last):
+            wrong.append(f"`mkcheck check -w` prints\n{printed}and not\n{text}..\n{last}")
     for said in wrong:
         print(f"docs/REFERENCE.md: {said}")
     print(f"pages: {count} groups in sentences as in docs/REFERENCE.md, but for {len(wrong)}")

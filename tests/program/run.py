@@ -183,6 +183,10 @@ WORDS = [
     Run(["check", "-b", "B", "-f", b"\xc3("], 2, err=NO_TEXT),
 ]
 
+UNPIPED = (
+    "/dev/stdin:1: BadName (27): ./b: a word is no plain file name; "
+    "look for %, *, quotes or CR LF\n"
+)
 # Files that can't be read, or not as usual, and a stream that takes nothing.
 PLACES = [
     Run(["graph"], 2, "refused 37\n", files={}),
@@ -206,6 +210,7 @@ PLACES = [
     Run(["repair", "-b", "/dev/stdin"], 1, "no record a.o\nno record p\n", stdin=UNTOLD),
     Run(["repair", "-b", "/dev/stdin"], 2, "refused 35 /dev/stdin\n", stdin=HEADER),
     Run(["repair", "-f", "/dev/stdin", "-b", "H"], 2, "refused 35 /dev/stdin\n", stdin=RULES),
+    Run(["check", "-w", "-f", "/dev/stdin", "-b", "B"], 2, UNPIPED, stdin="a: ./b\n"),
     Run(["graph"], 2, err="write failed\n", sink="/dev/full"),
     Run(["check", "-b", "H"], 2, err="write failed\n", sink="/dev/full"),
     Run(["check", "-b", "N"], 2, err="write failed\n", sink="/dev/full"),

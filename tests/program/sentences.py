@@ -18,7 +18,8 @@ PLAN = [
     *("begin p", "look p a.o", "put p p 4", "done p", "end", "edit h.h 5", "make 1", "pass a.o"),
     *("begin p", "look p a.o", "put p p 4", "done p", "end"),
 ]
-MORE = "mend these first: races and stale reads are looked for only then"
+THEN = "then, as far as can be seen now:"
+MORE = "then check again: races and stale reads may show"
 INFERRED = ".c.o:\n\tcc -c a.c\n"
 # Objects that all read two headers; more of them than are named.
 FOUR = [f"{name}.o" for name in "abcd"]
@@ -167,68 +168,352 @@ FOUND = [
     ),
 ]
 
+BAD_NAME = "BadName (27): {}: a word is no plain file name; look for %, *, quotes or CR LF"
+NOT_A_LINE = "NotALine (25): no rule, macro or include line; commands begin with a tab"
+NO_RECORD = "has no record, so nothing is known of what its recipe reads and writes [record]"
+RECORD = "  do: record again, with the goals and macros that are checked"
+OWN = "which it also writes: what it leaves may depend on what was there before [own]"
+GIVEN = "takes as given (a source, a makefile, or a name of -include or .PHONY)"
+RENAME = "  do: rename the file: a makefile can't hold its name"
+# A name without recipe, whose file is written beside p.c; who reads it and who reads p.c.
+LOOSE = "all: p.c p.h m.o\np.h:\np.c: p.y\n\tyacc\nm.o: m.c\n\tcc m\n"
+LOOSELY = "p.c: p.y > p.c p.h = yacc; m.o: m.c p.h > m.o = cc m"
+LOOSE_LINES = [
+    "makefile:2: p.h has no recipe and doesn't depend on p.c, whose recipe writes it: make may "
+    "take it as done while it is being written [loose]",
+    "  add: p.h: p.c",
+]
+# Two recipes, and the last one of a makefile.
+TWO = "all: a b\na:\n\tmk a\nb:\n\tmk b\n"
+LAST = "q:\n\tmk\n"
+# How a stale read of the second one is told.
+STALE_OF_B = [
+    "makefile:4: b reads s, but doesn't depend on it: when it changes, b stays old [stale]",
+    "  add: b: s",
+]
+
+# Other findings, and the races and stale reads that can be seen beside them: as in FOUND.
+HIDDEN = [
+    # A recipe without record, and a stale read of another.
+    (
+        f"all: a.o q\na.o: a.c\n\tcc a\n{LAST}",
+        "a.c h.h",
+        "a.o: a.c h.h > a.o = cc a",
+        [f"makefile:4: q {NO_RECORD}", RECORD, THEN, f"makefile:2: {STALE}", ADD],
+    ),
+    # The file that such a recipe makes is unknown then, so its stale read is left out.
+    (
+        "p: a.o q\n\tld\na.o: a.c\n\tcc a\nq:\n\tmk\n",
+        "a.c h.h",
+        "p: a.o q > p = ld; a.o: a.c h.h > a.o = cc a",
+        [
+            f"makefile:5: q {NO_RECORD}",
+            RECORD,
+            "makefile:1: the recipe of p reads q, which is neither a source nor written by a "
+            "recipe: nothing says when it changes [unknown]",
+            "  do: take it into the project and record again, or record with --fixed if it never "
+            "changes",
+            THEN,
+            f"makefile:3: {STALE}",
+            ADD,
+        ],
+    ),
+    # Races and stale reads in groups, of a recipe that writes the file beside its target.
+    (
+        f"all: p.c a.o b.o q\n{PARSER}{LAST}",
+        "p.y a.c b.c",
+        PARSED,
+        [
+            f"makefile:8: q {NO_RECORD}",
+            RECORD,
+            THEN,
+            "makefile:4: a.o and b.o read p.h, which the recipe of p.c writes, but don't wait for "
+            "p.c: with several jobs it may be missing, old or half-written then [race]",
+            "  add: a.o b.o: p.c",
+            "makefile:4: a.o and b.o read p.h, which the recipe of p.c writes, but don't depend on "
+            "p.c: when it changes, they stay old [stale]",
+            "  add: a.o b.o: p.c",
+        ],
+    ),
+    # What the makefile says of the race is enough for it, and for no change.
+    (
+        f"all: p.c .WAIT a.o b.o q\n{PARSER}{LAST}",
+        "p.y a.c b.c",
+        PARSED,
+        [
+            f"makefile:8: q {NO_RECORD}",
+            RECORD,
+            THEN,
+            "makefile:4: a.o and b.o read p.h, which the recipe of p.c writes, but don't depend on "
+            "p.c: when it changes, they stay old [stale]",
+            "  add: a.o b.o: p.c",
+        ],
+    ),
+    # A name that no makefile holds, and more names than the sentence has.
+    (
+        f"all: {' '.join(FOUR)} q\n{MANY_RULES}{LAST}",
+        "h:h",
+        MANY.replace("h.h k.h", "h:h"),
+        [
+            f"makefile:10: q {NO_RECORD}",
+            RECORD,
+            THEN,
+            "makefile:2: a.o, b.o and 2 more read h:h, but don't depend on it: when it changes, "
+            "they stay old [stale]",
+            RENAME,
+            f"  targets: {' '.join(FOUR)}",
+        ],
+    ),
+    # Two writers: who reads what they write is left out, who reads another file isn't.
+    (
+        f"{TWO.replace('a b', 'a b c')}c:\n\tmk c\n",
+        "s",
+        "a: > a log = mk a; b: > b log = mk b; c: log s > c = mk c",
+        [
+            "makefile:2: the recipes of a and b both write log: what is left depends on which of "
+            "them ran last [writers]",
+            "  do: let each recipe write files of its own, and check a target such as clean by "
+            "itself; if the recipe of a makes what that of b does, the line `b: a ;` is enough "
+            "for b",
+            THEN,
+            "makefile:6: c reads s, but doesn't depend on it: when it changes, c stays old [stale]",
+            "  add: c: s",
+        ],
+    ),
+    # A recipe that reads what it writes: all reads of that file are left out.
+    (
+        TWO,
+        "s",
+        "a: log > a log = mk a; b: log s > b = mk b",
+        [
+            f"makefile:2: the recipe of a reads log, {OWN}",
+            "  do: split the recipe in two, or make each file anew from other files alone",
+            THEN,
+            *STALE_OF_B,
+        ],
+    ),
+    # A recipe that writes a source: the reads of that one are left out.
+    (
+        TWO,
+        "s t",
+        "a: > a t = mk a; b: s t > b = mk b",
+        [
+            f"makefile:2: the recipe of a writes t, which each make {GIVEN}: the next make starts "
+            "from something else [given]",
+            "  do: let the recipe write another file, or take this one out of the sources, "
+            "-include and .PHONY",
+            THEN,
+            *STALE_OF_B,
+        ],
+    ),
+    # Who reads a loose name is left out, and nothing else is there; who reads p.c isn't.
+    (LOOSE, "p.y m.c", LOOSELY, [*LOOSE_LINES, MORE]),
+    (
+        LOOSE,
+        "p.y m.c",
+        LOOSELY.replace("m.c p.h", "m.c p.h p.c"),
+        [
+            *LOOSE_LINES,
+            THEN,
+            "makefile:5: m.o reads p.c, but doesn't wait for it: with several jobs it may be "
+            "missing, old or half-written then [race]",
+            "  add: m.o: p.c",
+            "makefile:5: m.o reads p.c, but doesn't depend on it: when it changes, m.o stays old "
+            "[stale]",
+            "  add: m.o: p.c",
+        ],
+    ),
+    # The recipe of a finding that isn't about a file: what it reads by its record counts.
+    (
+        OBJECT,
+        "a.c h.h",
+        HEADED.replace("cc -c a.c", "cc -O -c a.c"),
+        [
+            "makefile:3: a.o was recorded with other commands than it has with these goals and "
+            "macros, which may read other files [commands]",
+            RECORD,
+            THEN,
+            f"makefile:3: {STALE}",
+            ADD,
+        ],
+    ),
+    (
+        OBJECT.replace("cc -c a.c", "cc -c $?"),
+        "a.c h.h",
+        HEADED,
+        [
+            "makefile:3: the commands of a.o use $?, so what it holds may depend on what was out "
+            "of date [varying]",
+            "  do: write $^ in place of $?, and make the whole file anew in each run",
+            THEN,
+            f"makefile:3: {STALE}",
+            ADD,
+        ],
+    ),
+    # A test that isn't phony: its race can be seen, and its stale read goes once it is phony.
+    (
+        "all: p t\nt:\n\ttry\np: a\n\tcp\n",
+        "a",
+        "t: p > = try; p: a > p = cp",
+        [
+            "makefile:2: t isn't phony, but its recipe doesn't write it: as long as there is no "
+            "such file, each make runs the recipe again [target]",
+            "  add: .PHONY: t",
+            THEN,
+            "makefile:2: t reads p, but doesn't wait for it: with several jobs it may be missing, "
+            "old or half-written then [race]",
+            "  add: t: p",
+        ],
+    ),
+    # A folder that others need isn't phony, and stays no phony one: its stale read can be seen.
+    (
+        "p: d a\n\tcp\nd:\n\tmkdir d\n",
+        "a s",
+        "p: a > p = cp; d: s > = mkdir d",
+        [
+            "makefile:3: d isn't phony, but its recipe doesn't write it: as long as there is no "
+            "such file, each make runs the recipe again [target]",
+            "  do: let the recipe write its target, and record again; if it is a folder, take it "
+            "out of the prerequisites, and write mkdir -p in the recipes that need it",
+            THEN,
+            "makefile:3: d reads s, but doesn't depend on it: when it changes, d stays old [stale]",
+            "  add: d: s",
+        ],
+    ),
+    # Another graph once files are made.
+    (
+        ".SUFFIXES: .o .c .s\n.c.o:\n\tmk\n.s.o:\n\tmk\nall: gen .WAIT x.o\ngen:\n\tmk\n",
+        "x.s h.h",
+        "gen: > gen x.c = mk; x.o: x.s h.h > x.o = mk",
+        [
+            "makefile: once recipes have run, an inference rule makes x.o from x.c, but not "
+            "before: the second make differs from the first [selection]",
+            "  do: write a rule with commands for x.o, or make x.c a target of the recipe that "
+            "writes it",
+            THEN,
+            f"makefile: {STALE.replace('a.o', 'x.o')}",
+            "  add: x.o: h.h",
+        ],
+    ),
+]
+
 # Words, the lines that are printed, and the makefile, where it is another one.
 REFUSED = [
     # A place and a word, a place, words, a word, and neither.
     (
         [],
-        "makefile:2: IncludeMissing (32): gone: an included file is missing; mend its name",
+        [
+            "makefile:2: IncludeMissing (32): gone: an included file is missing; mend its name",
+            "  include gone",
+        ],
         "a:\ninclude gone\n",
     ),
-    (
-        [],
-        "makefile:1: BadName (27): ./b: a word is no plain file name; look for %, *, quotes or "
-        "CR LF",
-        "a: ./b\n",
-    ),
+    ([], [f"makefile:1: {BAD_NAME.format('./b')}", "  a: ./b"], "a: ./b\n"),
     (
         ["./p"],
-        "goal:1: BadGoal (27): a goal is no name, or is `.WAIT` or `-`; give another one",
+        ["goal:1: BadGoal (27): a goal is no name, or is `.WAIT` or `-`; give another one"],
         OBJECT,
     ),
     (
         ["X=$(X)", "Y::=$(X)"],
-        "operand:2: Recursive (12): X: a macro occurs inside its own value; write `+=` or `::=`",
+        [
+            "operand:2: Recursive (12): X: a macro occurs inside its own value; write `+=` or "
+            "`::=`"
+        ],
         OBJECT,
     ),
     (
         [],
-        "Cycle (42): c d c: prerequisites form a cycle; remove the one that closes it",
+        ["Cycle (42): c d c: prerequisites form a cycle; remove the one that closes it"],
         "a: c\nc: d\nd: c a\n",
     ),
     (
         ["q"],
-        "NoRule (41): q: no rule makes it and it is no source; mend it, or record again",
+        ["NoRule (41): q: no rule makes it and it is no source; mend it, or record again"],
         OBJECT,
     ),
     (
         ["-f", "gone"],
-        "NoMakefile (37): gone: there is no makefile; give its name and folder",
+        ["NoMakefile (37): gone: there is no makefile; give its name and folder"],
         OBJECT,
     ),
     (
         ["-f", "./m"],
-        "BadMakefileName (27): ./m: the name for `-f` is `-` or no plain path; mend it",
+        ["BadMakefileName (27): ./m: the name for `-f` is `-` or no plain path; mend it"],
         OBJECT,
     ),
     (
         ["-f", "/etc"],
-        "ReadFailed (35): /etc: a file can't be read; give one that can be read",
+        ["ReadFailed (35): /etc: a file can't be read; give one that can be read"],
         OBJECT,
     ),
-    ([], "NoGoal (44): there is no goal; write a rule", "X = a\n"),
+    ([], ["NoGoal (44): there is no goal; write a rule"], "X = a\n"),
     # Of a file that is included, and in the default text.
     (
         ["-f", "e"],
-        "e:2: ShellAssign (21): `!=` isn't supported; let the recipe's shell compute it",
+        [
+            "e:2: ShellAssign (21): `!=` isn't supported; let the recipe's shell compute it",
+            "  V != date",
+        ],
         "",
     ),
     (
+        [],
+        [
+            "e:2: ShellAssign (21): `!=` isn't supported; let the recipe's shell compute it",
+            "  V != date",
+        ],
+        "a:\n\ninclude e\n",
+    ),
+    (
         ["CC=$(CC)"],
-        "(default):12: Recursive (12): CC: a macro occurs inside its own value; write `+=` or "
-        "`::=`",
+        [
+            "(default):12: Recursive (12): CC: a macro occurs inside its own value; write `+=` or "
+            "`::=`"
+        ],
         "p: a.o\n\tcc -o p a.o\n",
     ),
+    # A file that can't be read: the line of the include line.
+    (
+        [],
+        [
+            "makefile:2: ReadFailed (35): /etc: a file can't be read; give one that can be read",
+            "  -include /etc",
+        ],
+        "a:\n-include /etc\n",
+    ),
+    # A command, with its tab, and a rule line with prerequisites of an inference rule.
+    (
+        [],
+        [
+            "makefile:2: LoneDollar (16): a `$` begins no reference; write `$$` for the shell",
+            "  \tcc $ x",
+        ],
+        "a.c:\n\tcc $ x\n",
+    ),
+    # The first of the lines that are joined, and a last line without a newline.
+    ([], [f"makefile:2: {BAD_NAME.format('./b')}", "  a: \\"], "\na: \\\n  ./b\nc: d\n"),
+    ([], [f"makefile:2: {NOT_A_LINE}", "  x  y "], "a:\nx  y "),
+    # Control bytes but for tabs; CR LF.
+    ([], [f"makefile:1: {NOT_A_LINE}", "  a\t?[31m??b~\u00e9"], "a\t\x1b[31m\x01\x7fb~\u00e9\n"),
+    (
+        [],
+        [
+            "makefile:1: NulByte (1): a line holds a zero byte; save the file as UTF-8 text",
+            "  a?b: c",
+        ],
+        "a\0b: c\n",
+    ),
+    ([], [f"makefile:2: {NOT_A_LINE}", "  b?"], "a:\nb\r\n"),
+    # 200 bytes, and one more.
+    ([], [f"makefile:1: {NOT_A_LINE}", "  " + "x" * 200], "x" * 200 + "\n"),
+    ([], [f"makefile:1: {NOT_A_LINE}", "  " + "x" * 200 + " .."], "x" * 201 + "\n"),
+    # Files with the names that stand in places of other kinds.
+    *(
+        (["-f", name], [f"{name}:1: {NOT_A_LINE}"], "x\n")
+        for name in ("operand", "goal")
+    ),
+    (["-f", "goals"], [f"goals:1: {NOT_A_LINE}", "  x"], "x\n"),
 ]
 
 # The footprints, what is printed of them.
@@ -268,6 +553,21 @@ def answers() -> Iterator[Row]:
     yield in_words(["-e", "1", "-c"], 0, [CERTIFICATE], FILES)
     yield in_words(["-e", "1", "q"], 2, ["refused 41 q"], FILES)
     yield in_words(["-e", "1"], 2, ["refused 27 makefile:1"], {**FILES, "makefile": "a: ./b\n"})
+
+
+def hidden() -> Iterator[Row]:
+    """What other findings hide is printed with `-w` alone, of the goals that are given."""
+    makefile, sources, records, lines = HIDDEN[0]
+    files = {"makefile": makefile, "B": book(sources, records)}
+    yield in_words(["-c"], 1, lines, files)
+    yield in_words(["q"], 1, [*lines[:2], MORE], files)
+    yield in_words(["a.o"], 1, lines[3:], files)
+    for number in ("1", "2"):
+        yield in_words(["-e", number], 1, ["no plan"], files)
+    for command in ("check", "repair"):
+        yield [command, "-b", "B"], 1, "no record q\n", files
+    files |= {"K": '{"format":1,"goals":["all"],"ways":[]}'}
+    yield ["verify", "-b", "B", "-k", "K"], 2, "refused 76 record q\n", files
 
 
 def places() -> Iterator[Row]:
@@ -326,14 +626,15 @@ def null() -> Iterator[Row]:
 
 def sentences() -> Iterator[Row]:
     """The words, the status, what is printed and the files of each run."""
-    for makefile, sources, records, lines in FOUND:
+    for makefile, sources, records, lines in FOUND + HIDDEN:
         yield in_words([], 1, lines, {"makefile": makefile, "B": book(sources, records)})
-    for words, line, makefile in REFUSED:
+    for words, lines, makefile in REFUSED:
         files = {**FILES, "makefile": makefile, "e": "b:\nV != date\n"}
-        yield in_words(words, 2, [line], files)
+        files |= {name: makefile for name in ("operand", "goal", "goals")}
+        yield in_words(words, 2, lines, files)
     for footprints, line in UNREAD:
         yield in_words([], 2, [line], {"makefile": OBJECT, "B": footprints})
     for name, line in MISSING:
         yield ["check", "-w", "-b", name], 2, f"{line}\n", FILES
-    for rows in (answers, places, cut, left_out, null):
+    for rows in (answers, hidden, places, cut, left_out, null):
         yield from rows()

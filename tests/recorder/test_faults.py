@@ -39,6 +39,41 @@ class FaultTest(ProjectTest):
             self.record("c").errors,
         )
 
+    def test_a_recipe_that_fails_for_a_folder_that_another_makes_later(self) -> None:
+        """A compiler looks for no header in a folder that isn't there."""
+        late = "makes later: add o/b: g/d/c\n"
+        for look in ("cd g", "test -d g/d && exit 0; false"):
+            self.write(
+                {
+                    "makefile": (
+                        f"all: o/b g/d/c\no/b: x\n\tmkdir -p o; {look}\n"
+                        "g/d/c: x\n\tmkdir -p g/d; cp x g/d/c\n"
+                    ),
+                    "x": "",
+                }
+            )
+            outcome = self.record()
+            self.assertEqual((outcome.status, outcome.book), (1, None))
+            said = f"\n\to/b looks for the folder of g/d/c, which the recipe of g/d/c {late}"
+            self.assertIn(said, outcome.errors)
+        self.write(
+            {"makefile": "all: g/b g/c\ng/b: x\n\tmkdir -p g; false\ng/c: x\n\tcp x g/c\n"}
+        )
+        self.assertNotIn("looks for", self.record().errors)
+
+    def test_a_recipe_that_fails_for_names_that_another_lacks(self) -> None:
+        """`$?` is empty, so the list of the recipe before has no lines."""
+        makefile = "p: m list\n\ttest -s list\nm: x\n\tcp x m\nlist: x\n\tprintf '%s' $? > list\n"
+        said = "\n\tthe commands of list use $?, which is empty here: write $^\n"
+        self.write({"makefile": makefile, "x": ""})
+        outcome = self.record()
+        self.assertEqual((outcome.status, outcome.book), (1, None))
+        self.assertIn(said, outcome.errors)
+        self.write({"makefile": makefile.replace("> list", "> list; false")})
+        self.assertIn(said, self.record().errors)
+        self.write({"makefile": makefile.replace("cp x m", "false")})
+        self.assertNotIn(said, self.record().errors)
+
     def test_goals_that_reach_no_recipe(self) -> None:
         self.write({"makefile": "OBJS = a\nall: $(OBJ)\na:\n\techo > a\n"})
         said = ["the goals reach no recipe: is a macro misspelt?"]
@@ -138,11 +173,21 @@ class FaultTest(ProjectTest):
 
     def test_what_a_refusal_means(self) -> None:
         front, by = "mkcheck-record: mkcheck graph: refused", "mkcheck-import judges a makefile"
+        no_name = "is no name of a file"
         for text, number, sentence in (
             ("a: $(wildcard *.c)\n", "11 makefile:1", "the line has no macro name of POSIX: "),
             ("\nX := a\n", "22 makefile:2", "mkcheck doesn't judge :=, "),
             ("ifdef X\nendif\n", "25 makefile:1", "the line is no rule, macro or include"),
-            ("%.o: %.c\n\tcc\n", "27 makefile:1", "a word of the line is no name: "),
+            ("%.o: %.c\n\tcc\n", "27 makefile:1", f"%.o {no_name}: pattern rules are GNU make's;"),
+            ("a: b | c\n", "27 makefile:1", f"| {no_name}: order-only prerequisites are GNU"),
+            ("a: x\na b &: c\n", "27 makefile:2", f"& {no_name}: &: is GNU make's; "),
+            ("a: b\r\n", "27 makefile:1", f"b\\r {no_name}: the line ends in CR LF; "),
+            ("a: *.c\n", "27 makefile:1", f"*.c {no_name}: names in a makefile are no patterns; "),
+            ('a: "b c"\n', "27 makefile:1", f'"b {no_name}: a makefile has no quotes, '),
+            ("X = ./d\na: $(X)/../b\n", "27 makefile:2", f"./d/../b {no_name}: a file has one sp"),
+            ("a: d/\n", "27 makefile:1", f"d/ {no_name}: a file has one spelling; write d; "),
+            ("a: ./\n", "27 makefile:1", f"./ {no_name}; "),
+            ("a: b:c\n", "27 makefile:1", f"b:c {no_name}; "),
         ):
             self.write({"makefile": text})
             said = self.record().errors

@@ -3,9 +3,11 @@
 from __future__ import annotations
 
 import os
+import shutil
+import subprocess
 import unittest
 
-from project import ProjectTest, traced
+from project import OF_MAKE, ProjectTest, traced
 
 
 def refusal(name: str, value: str, word: str) -> str:
@@ -110,19 +112,106 @@ class DifferenceTest(ProjectTest):
             "include config.mk plain.mk # and no more\n-include $(NAME).mk\nall:\n\techo > all\n"
             "config.mk: config.in\n\tcp config.in config.mk\nother.mk:\n\techo > other.mk\n"
         )
-        end = "before it reads the makefile: what depends on its macros isn't made again"
+        again = "targets that use its macros aren't made again when it changes"
+        end = f"before it reads the makefile: {again}"
         self.assertEqual(
-            self.warnings(text),
+            self.warnings(text, "all"),
             [f"GNU make makes {name} {end}" for name in ("config.mk", "other.mk")],
         )
         self.assertEqual(
             self.warnings("all:\n\techo > all\nmakefile: config.in\n\ttouch makefile\n"),
-            [
-                "GNU make makes makefile first and reads it anew: what depends on its macros isn't"
-                " made again"
-            ],
+            [f"GNU make makes makefile first and reads it anew: {again}"],
         )
         self.assertEqual(self.warnings("include plain.mk\nall:\n\techo > all\n"), [])
+
+    @unittest.skipUnless(shutil.which("make"), "no make")
+    def test_a_file_at_which_make_looks_too_early(self) -> None:
+        """Make is asked: after an edit of the source, what it leaves is old or not."""
+        front = "GNU make looks at p.h only before the recipe of p.c makes it, so"
+        end = (
+            "may stay old in that make: write `p.h: p.c ;`, whose empty recipe makes it look again"
+        )
+        recipes = "m: n p.h\n\tcat n p.h > m\np.c: p.y\n\tcp p.y p.c; cp p.y p.h\n"
+        for rules, told in (
+            (f"{recipes}p.h: p.c\n", [f"{front} m {end}"]),
+            (f"{recipes}p.h: p.c ;\n", []),
+            (f"{recipes}p.h: p.c\nm: p.c\n", []),
+        ):
+            self.write({"makefile": rules, "p.y": "1\n", "n": ""})
+            self.assertEqual(self.warnings(rules), told)
+            self.assertEqual(self.made_after_an_edit(), "1\n" if told else "2\n", rules)
+        users = "m o: p.h\n\tcat p.h > $@\np.h: p.c\np.c: p.y\n\tcp p.y p.c; cp p.y p.h\n"
+        self.assertEqual(self.warnings(users, "m", "o"), [f"{front} m, o {end}"])
+        alone = "all: p.h\np.h: p.c\np.c: p.y\n\tcp p.y p.h; cp p.y $@\n"
+        self.assertEqual(self.warnings(alone), [])
+
+    def made_after_an_edit(self) -> str:
+        """What m holds when make made all, p.y got another number, and make made all again."""
+        folder = self.scratch / "made"
+        shutil.copytree(self.folder, folder)
+        environment = {name: value for name, value in os.environ.items() if name not in OF_MAKE}
+        for number in (1, 2):
+            for path in folder.iterdir():
+                os.utime(path, (0, 0))
+            (folder / "p.y").write_text(f"{number}\n")
+            subprocess.run(
+                ["make", "-s"], cwd=folder, env=environment, check=True, capture_output=True
+            )
+        text = (folder / "m").read_text()
+        shutil.rmtree(folder)
+        return text
+
+    def test_a_goal_of_a_text_that_is_made_first(self) -> None:
+        rules = "all: a\na:\n\techo > a\ndeps.mk: list\n\tcp list deps.mk\n"
+        again = (
+            "GNU make makes deps.mk before it reads the makefile: targets that use its macros"
+            " aren't made again when it changes"
+        )
+        goal = (
+            "GNU make makes deps.mk, which isn't there yet, before it reads the makefile: if it has"
+            " a target, the first one is the goal, and not all; make deps.mk first, and give all as"
+            " a word, to make too"
+        )
+        self.write({"list": "a: list\n", "rules.mk": rules})
+        name = "NAME = deps\n.PHONY: clean\n.SUFFIXES: .x\n.x.o:\n\tcp $< $@\n"
+        for makefile, words, told in (
+            (f"-include deps.mk\n{rules}", (), [again, goal]),
+            (f"{name}-include other.mk \\\n $(NAME).mk\n{rules}", (), [again, goal]),
+            (f"-include deps.mk\n{rules}", ("all",), [again]),
+            (f"{rules}-include deps.mk\n", (), [again]),
+            (f"include rules.mk\n-include deps.mk\n", (), [again]),
+            (f".DEFAULT_GOAL = all\n-include deps.mk\n{rules}", (), [again]),
+            (f"-include none.mk\n{rules}", (), []),
+        ):
+            self.assertEqual(self.warnings(makefile, *words), told, makefile)
+        self.write({"deps.mk": "", "list": ""})
+        self.assertEqual(self.warnings(f"-include deps.mk\n{rules}"), [again])
+
+    def test_prerequisites_that_an_old_make_does_not_order(self) -> None:
+        """`.WAIT` is a file for GNU make before 4.4."""
+        end = (
+            "takes .WAIT for a file and orders nothing by it: answers are for a make that knows"
+            " it, as GNU make does from 4.4 on; let one target need the other in its place"
+        )
+        text = "all: a .WAIT b\n.WAIT:\n.PHONY: b\na:\n\techo > a\nb:\n\tcat a\n"
+        alone = "all: a b\n.NOTPARALLEL:\n.PHONY: b\na:\n\techo > a\nb:\n\tcat a\n"
+        included = "order = .WAIT\n"
+        through = "include order.mk\n" + text.replace("a .WAIT b", "a $(order) b")
+        unused = text.replace("a .WAIT b", "a b")
+        for says, makefile, told in (
+            ("GNU Make 4.3", text, ["make is GNU make 4.3 here, which " + end]),
+            ("GNU Make 3.81", through, ["make is GNU make 3.81 here, which " + end]),
+            ("GNU Make 4.4", text, []),
+            ("GNU Make 10.0", text, []),
+            ("usage: make", text, []),
+            ("GNU Make 4.3", alone, []),
+            ("GNU Make 4.3", unused, []),
+        ):
+            self.write({"bin/make": f"#!/bin/sh\necho '{says}'\n", "order.mk": included})
+            self.write({"makefile": makefile})
+            path = f"{self.folder}/bin:{os.environ['PATH']}"
+            outcome = self.record("all", environment={"PATH": path})
+            self.assertEqual((outcome.status, outcome.warnings()), (0, told), (says, makefile))
 
     def test_variables_to_which_the_makefile_gives_a_value(self) -> None:
         text = (

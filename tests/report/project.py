@@ -32,6 +32,8 @@ RACE_BOOK = [
     ("prog", ["cc -o prog main.o"], ["/usr/bin/cc", "main.o"], ["prog"]),
 ]
 RACE_SOURCES = ["main.c", "version.txt"]
+# The same build, with a recipe that has no record.
+HIDING = (RACE.replace("main.o\n", "main.o q\n", 1) + "q:\n\tmk\n", RACE_BOOK, RACE_SOURCES)
 
 
 @dataclass(frozen=True)

@@ -6,7 +6,7 @@ import re
 import shutil
 import unittest
 
-from project import ROOT, ReportTest
+from project import HIDING, ROOT, ReportTest
 
 drawn = unittest.skipUnless(shutil.which("dot"), "no Graphviz (dot)")
 
@@ -189,9 +189,40 @@ class KindsTest(ReportTest):
         self.assertIn("no writers p.c p.h p.h", text)
         self.assertIn("What to do", text)
         self.assertIn("<code>p.h: p.c ;</code>", self.raw)
-        self.assertIn("Mend these first: races and stale reads are looked for only then.", text)
+        self.assertIn("Then check again: races and stale reads may show.", text)
+        self.assertNotIn("can be seen", text)
         self.assertIn("no record q", text)
         self.assertNotIn("A schedule that shows", text)
+
+    def test_hidden(self) -> None:
+        """Behind a recipe without record stand the race and the stale read that can be seen: at
+        their line, with the missing word, and without schedule."""
+        self.build(*HIDING)
+        page = self.page(1)
+        self.assertIn("1 finding in 1 group", page.text)
+        self.assertIn("Behind these, \n2 groups\n of races and stale reads can be seen", page.text)
+        first, behind = page.text.split("Then, as far as can be seen now")
+        self.assertIn("q has no record", first)
+        self.assertNotIn("version.h", first)
+        for said in ("What \nrace\n means", "What \nstale\n means", "but doesn't wait for it"):
+            self.assertIn(said, behind)
+        self.assertEqual(behind.count("makefile:5:\n main.o reads version.h"), 2)
+        self.assertEqual(behind.count("main.o: version.h"), 2)
+        self.assertEqual(page.inserted, ["version.h", "version.h"])
+        self.assertNotIn("A schedule that shows", page.text)
+        self.assertNotIn("Then check again", page.text)
+
+    def test_many_hidden(self) -> None:
+        """Of 100 stale reads behind a finding those are in brief that are behind 60 groups."""
+        number = range(100)
+        makefile = "all: q" + "".join(f" o{one}" for one in number) + "\nq:\n\tmk\n"
+        makefile += "".join(f"o{one}:\n\tmk\n" for one in number)
+        records = [(f"o{one}", ["mk"], [f"h{one}"], [f"o{one}"]) for one in number]
+        self.build(makefile, records, [f"h{one}" for one in number])
+        text = self.page(1).text
+        self.assertIn("100 groups", text)
+        self.assertEqual(self.raw.count('class="panel"'), 60)
+        self.assertEqual(self.raw.count('class="panel brief"'), 41)
 
     def test_left_out(self) -> None:
         """All files of which the sentence leaves one out."""

@@ -5,7 +5,7 @@ from __future__ import annotations
 import json
 import subprocess
 
-from project import MKCHECK, RACE, ReportTest
+from project import HIDING, MKCHECK, RACE, ReportTest
 from schema import wrong_parts
 
 
@@ -60,6 +60,20 @@ class SarifTest(ReportTest):
             )
             self.assertEqual(done.stdout[:4], b"yes ", (end, done.stdout))
 
+    def test_hidden(self) -> None:
+        """A race and a stale read that another finding hides are notes at line 5, with fixes."""
+        self.build(*HIDING)
+        results = self.sarif(1)["results"]
+        levels = [(one["ruleId"], one["level"]) for one in results]
+        self.assertEqual(levels, [("record", "warning"), ("race", "note"), ("stale", "note")])
+        for result in results[1:]:
+            self.assertEqual(list(map(self.line_of, result["locations"])), [("makefile", 5)])
+            change = result["fixes"][0]["artifactChanges"][0]
+            inserted = change["replacements"][0]["insertedContent"]["text"]
+            self.assertEqual(inserted, "\nmain.o: version.h")
+        prints = [one["partialFingerprints"]["mkcheckGroup/v1"] for one in results]
+        self.assertEqual(len(set(prints)), 3)
+
     def test_yes(self) -> None:
         """A yes has no results."""
         self.race()
@@ -72,7 +86,8 @@ class SarifTest(ReportTest):
         self.write("makefile", "all: a.o\n%.o: %.c\n")
         run = self.sarif(2)
         self.assertEqual(run["results"][0]["ruleId"], "BadName")
-        self.assertIn("(refused 27 makefile:2)", run["results"][0]["message"]["text"])
+        said = run["results"][0]["message"]["text"]
+        self.assertTrue(said.endswith(" (refused 27 makefile:2)\n%.o: %.c"), said)
         self.assertEqual(list(map(self.line_of, run["results"][0]["locations"])), [("makefile", 2)])
         self.assertFalse(run["invocations"][0]["executionSuccessful"])
 

@@ -266,9 +266,9 @@ def case_of(rng, command):
     return Case(files, mixed(rng, words, others))
 
 
-def lacking_case(rng):
+def lacking_case(rng, wrong=0.2):
     """A case of `repair`, over a build whose makefile says too little of it."""
-    truth, project = lacking(rng)
+    truth, project = lacking(rng, wrong)
     named(rng, "repair", project)
     words = words_of(rng, "repair", True)
     others = other_words(rng, project, True)
@@ -280,8 +280,10 @@ def lacking_case(rng):
 
 
 def case_in_words(rng):
-    """A case of `check -w`, over a build for `check` or one for `repair`."""
-    case = case_of(rng, rng.choice(["check", "repair"]))
+    """A case of `check -w`, over a build for `check` or one for `repair`, of which half have more
+    that no line mends."""
+    kind = rng.choice(["check", "repair", "repair wrong"])
+    case = lacking_case(rng, 0.6) if kind == "repair wrong" else case_of(rng, kind)
     more = ["-w"] * rng.choice([1] * 20 + [2])
     if rng.random() < 0.05:
         more.insert(rng.randint(0, len(more)), "-c")

@@ -25,6 +25,7 @@ from evidence import shows
 from limits import limits
 from request import Disk, Request
 from second import answered
+from sentences import THEN
 
 COMMANDS = ["graph", "check", "verify", "simulate", "evidence", "repair", "words"]
 GATE_CASES = {
@@ -112,8 +113,9 @@ def sort_of(told):
     """A short name for what was told, to be counted."""
     text, status = told
     if status == 1 and IN_WORDS.search(text):
-        found = sorted({b" ".join(kind) for kind in IN_WORDS.findall(text)})
-        return "no " + b", ".join(found).decode()
+        found = [sorted({b" ".join(kind) for kind in IN_WORDS.findall(part)})
+                 for part in text.split(THEN)]
+        return "no " + b"; then ".join(b", ".join(kinds) for kinds in found).decode()
     if status == 2 and FAULT.match(text):
         return "refused " + FAULT.match(text)[1].decode()
     words = text.split(None, 2)[:2]

@@ -151,6 +151,22 @@ class Subject:
         found = self.static_findings()
         return found if found else self.races() + self.stale()
 
+    def hidden(self, found, phony):
+        """The races, and the stale reads of files that the recipe doesn't write, that can be seen
+        beside these other findings, but for those that mending these may settle. The lines that
+        mend these make some targets phony."""
+        unsettled = {
+            finding[1] if finding[0] == b"loose" else finding[-1]
+            for finding in found
+            if finding[0] in (b"given", b"own", b"unknown", b"writers", b"loose")
+        }
+        stale = [
+            finding
+            for finding in self.stale()
+            if finding[2] not in self.writes(finding[1]) and finding[1] not in phony
+        ]
+        return [finding for finding in self.races() + stale if finding[-1] not in unsettled]
+
     # Ways.
 
     def needs_way(self, file):

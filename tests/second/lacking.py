@@ -26,10 +26,14 @@ class Recipe:
 
 
 class Truth:
-    """A build in the making: its sources and its recipes, each behind those that it needs."""
+    """A build in the making: its sources and its recipes, each behind those that it needs.
 
-    def __init__(self, rng):
+    `wrong` is how often it has one thing more that no line mends.
+    """
+
+    def __init__(self, rng, wrong):
         self.rng = rng
+        self.wrong = wrong
         self.sources = []
         self.recipes = []
         self.loose = []
@@ -180,7 +184,7 @@ COMMANDS = ["do $@", "do $(@F) $*", "cc -c $<", "ld -o $@ $^", "ld $+", "x $(X)"
 
 def command(truth):
     """A command; one that has `$^` is another one where a prerequisite is added."""
-    if truth.chance(0.01):
+    if truth.chance(truth.wrong / 20):
         return "ar r $@ $?"
     return truth.rng.choice(COMMANDS) if truth.chance(truth.share) else "do"
 
@@ -249,8 +253,8 @@ def ended(truth, project):
     return project
 
 
-def truth_of(rng):
-    truth = Truth(rng)
+def truth_of(rng, wrong):
+    truth = Truth(rng, wrong)
     shared = headers(truth)
     for makes in (generators, lambda one: compilations(one, shared), programs, trials):
         if rng.random() < 0.9 or makes is trials and not truth.recipes:
@@ -260,7 +264,7 @@ def truth_of(rng):
     named(truth)
     if truth.chance(0.15):
         uncovered(truth)
-    while truth.chance(0.2):
+    while truth.chance(wrong):
         wronged(truth)
     return truth
 
@@ -300,21 +304,22 @@ def book_of(truth, project, words):
             "target": recipe.target,
             "commands": [
                 text.decode("utf-8", "replace") for text in commands.get(recipe.target, [])
-            ],
+            ]
+            + ["old"] * truth.chance(truth.wrong / 20),
             "reads": list(dict.fromkeys(recipe.reads)),
             "writes": list(dict.fromkeys(recipe.writes)),
         }
         for recipe in truth.recipes
-        if not truth.chance(0.01)
+        if not truth.chance(truth.wrong / 20)
     ]
     truth.rng.shuffle(records)
     make = format_two if truth.chance(0.3) else format_one
     return json.dumps(make(truth, records), ensure_ascii=False).encode("utf-8")
 
 
-def lacking(rng):
+def lacking(rng, wrong=0.2):
     """A build, and its makefile as a project."""
-    truth = truth_of(rng)
+    truth = truth_of(rng, wrong)
     project = Project(rng)
     text_of(truth, project)
     project.names = [name.encode() for name in truth.sources]

@@ -8,7 +8,7 @@ from judge import Subject
 from lines import Refused
 from repair import printed, repaired
 from request import Disk, Request, Usage, file_of, prepared
-from sentences import in_sentences, in_words
+from sentences import in_sentences, in_words, line_of
 from world import World, read_plan, run_plan
 
 sys.setrecursionlimit(20000)
@@ -54,7 +54,9 @@ def answered(arguments, files):
     try:
         return answer(request, files)
     except Refused as fault:
-        return (in_words(fault) if request.in_words else fault.line()) + b"\n", 2
+        if request.in_words:
+            return in_words(fault) + b"\n" + line_of(fault, files), 2
+        return fault.line() + b"\n", 2
 
 
 if __name__ == "__main__":

@@ -10,7 +10,11 @@ FAULT = re.compile(rb"^\| (\d+) \| `([\w:]+)` \| (.*) \|$", re.MULTILINE)
 
 RENAME = b"rename the file: a makefile can't hold its name"
 RENAME_ALL = b"rename the files: a makefile can't hold their names"
-MORE = b"mend these first: races and stale reads are looked for only then\n"
+PSEUDO = (b"operand", b"goal", b"(default)")
+SHOWN = 200
+CONTROLS = bytes.maketrans(bytes([*range(9), *range(10, 32), 127]), b"?" * 32)
+THEN = b"then, as far as can be seen now:\n"
+MORE = b"then check again: races and stale reads may show\n"
 
 
 class Group:
@@ -269,12 +273,24 @@ def group_text(makefile, group):
     return text + b"  do: %s\n" % advice(group) + left_out
 
 
-def in_sentences(subject, findings):
-    """The text of the findings."""
+def groups_text(subject, findings):
+    """The groups of the findings."""
     groups = grouped(subject, findings)
-    text = b"".join(group_text(subject.rules.makefile, group) for group in groups)
-    hides = any(finding[0] not in (b"race", b"stale") for finding in findings)
-    return text + MORE * hides
+    return b"".join(group_text(subject.rules.makefile, group) for group in groups)
+
+
+def in_sentences(subject, findings):
+    """The text of the findings, and behind others than races and stale reads that of these."""
+    text = groups_text(subject, findings)
+    if all(finding[0] in (b"race", b"stale") for finding in findings):
+        return text
+    phony = [
+        finding[1]
+        for finding in findings
+        if finding[0] == b"target" and word_of(subject, finding) is not None
+    ]
+    hidden = subject.hidden(findings, phony)
+    return text + (THEN + groups_text(subject, hidden) if hidden else MORE)
 
 
 # Faults.
@@ -301,3 +317,18 @@ def in_words(fault):
     if words:
         head += b" ".join(words) + b": "
     return head + named[name]
+
+
+def line_of(fault, files):
+    """The line of the file that has the fault, as it is printed; nothing where there is none."""
+    if fault.where is None:
+        return b""
+    name, _, number = fault.where.rpartition(b":")
+    found = None if name in PSEUDO else files.read(name)
+    if found in (None, "failed"):
+        return b""
+    lines = found.split(b"\n")
+    if int(number) > len(lines):
+        return b""
+    line = lines[int(number) - 1]
+    return b"  " + line[:SHOWN].translate(CONTROLS) + b" .." * (len(line) > SHOWN) + b"\n"

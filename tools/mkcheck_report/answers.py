@@ -28,8 +28,10 @@ NAMES = {"race": 3, "writers": 3, "record": 1, "commands": 1, "varying": 1, "tar
 # A group in words: its place with a line or without one, its sentence, and its kind.
 HEAD = re.compile(r"(([^ ]+?)(?::([0-9]+))?): (.*) \[([a-z]+)\]", re.DOTALL)
 ADD, DO, LISTS = "  add: ", "  do: ", ("  targets: ", "  files: ")
+# The line before the groups of races and stale reads that other findings hide.
+THEN = "then, as far as can be seen now:"
 # A refusal: with its number, then its words, of which the first may be a place; in words, after the
-# place, with its name.
+# place, with its name, and after its sentence a line of the file.
 REFUSED = re.compile(r"refused ([0-9]+)(?: (.*))?", re.DOTALL)
 NAMED = re.compile(r"([A-Za-z:]+) \(([0-9]+)\)")
 # The faults of a makefile whose word is told in sentences alone. It has no blanks.
@@ -74,13 +76,14 @@ class Way:
 @dataclass(frozen=True)
 class Refusal:
     """A refusal: its number, its name, its words, its sentence, how `check` prints it without
-    words, and its place if it has one."""
+    words, the line of the file that it prints, and its place if it has one."""
 
     number: int
     name: str
     words: str
     sentence: str
     text: str
+    shown: str = ""
     file: str | None = None
     line: int | None = None
 
@@ -131,6 +134,12 @@ def ways_of(lines: list[str]) -> list[Way]:
     return [Way(one[1], one[2], one[3], tuple(one[4:])) for one in words if len(one) > 4]
 
 
+def hidden_from(lines: list[str]) -> tuple[list[str], list[str]]:
+    """The lines of the findings, and those of the races and stale reads that they hide."""
+    end = lines.index(THEN) if THEN in lines else len(lines)
+    return lines[:end], lines[end + 1 :]
+
+
 def groups_of(lines: list[str], makefile: str) -> tuple[list[Group], list[str]]:
     """The groups that `check -w` printed, and lines that are about all of them."""
     groups: list[Group] = []
@@ -167,7 +176,8 @@ def refusal_of(numbered: str, worded: str) -> Refusal:
     sentence = worded[named.end() + len(behind) :]
     if named[1] in TOLD_IN_WORDS and not words:
         words, _, sentence = sentence.partition(": ")
-    refusal = Refusal(int(found[1]), named[1], words, sentence, numbered)
+    sentence, _, shown = sentence.partition("\n")
+    refusal = Refusal(int(found[1]), named[1], words, sentence, numbered, shown[2:])
     if front and place is not None:
         return replace(refusal, file=place[1], line=int(place[2]))
     return refusal

@@ -16,6 +16,7 @@ from .answers import (
     Way,
     findings_of,
     groups_of,
+    hidden_from,
     refusal_of,
     ways_of,
 )
@@ -41,6 +42,7 @@ class Judged:
     ways: list[Way] = field(default_factory=list)
     findings: list[Finding] = field(default_factory=list)
     groups: list[Group] = field(default_factory=list)
+    hidden: list[Group] = field(default_factory=list)
     notes: list[str] = field(default_factory=list)
     left_over: list[Finding] = field(default_factory=list)
     repair: str = ""
@@ -97,7 +99,9 @@ def judge(checker: Checker) -> Judged:
         return judged
     judged.graph, judged.book = graph_and_book(checker)
     judged.findings = findings_of(reply.lines)
-    judged.groups, judged.notes = groups_of(in_words.lines, judged.makefile)
+    lines, hidden = hidden_from(in_words.lines)
+    judged.groups, judged.notes = groups_of(lines, judged.makefile)
+    judged.hidden = groups_of(hidden, judged.makefile)[0]
     grouping = Grouping(judged.groups, judged.book, judged.graph)
     judged.left_over = grouping.assign(judged.findings)
     judged.repair = repair_of(checker)

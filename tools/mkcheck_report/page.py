@@ -113,7 +113,8 @@ def line_of(refused: Refusal, words: tuple[str, ...]) -> str:
     if refused.file is None or refused.line is None:
         return ""
     if refused.file not in ("operand", "goal"):
-        return Makefiles({}).excerpt(refused.file, refused.line, [])
+        alone = f"<pre>{markup(refused.shown)}</pre>" if refused.shown else ""
+        return Makefiles({}).excerpt(refused.file, refused.line, []) or alone
     alike = [word for word in words if ("=" in word) == (refused.file == "operand")]
     return "".join(f"<pre>{markup(clipped(word))}</pre>" for word in alike[refused.line - 1 :][:1])
 

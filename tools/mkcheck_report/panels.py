@@ -35,49 +35,77 @@ KEY = (
     ' wrong</span><span><svg class="time" width="24" height="12"><rect class="bar open" x="1"'
     ' y="1" width="22" height="10"/></svg>not done, or not run</span></p>\n'
 )
+HIDDEN = (
+    '<h2 id="then">Then, as far as can be seen now</h2>\n<p>mkcheck looks for races and stale reads'
+    " once the findings above are mended. These can be seen already. They are advice: mending the"
+    " findings may change them.</p>\n"
+)
 
 
 @dataclass
 class Shown:
-    """The kinds of findings, explained, and what is drawn for the groups that are shown in full:
-    schedules by the numbers of findings, graphs by the groups."""
+    """The kinds of findings, explained; the groups that are shown in full, by their identities, and
+    what is drawn for them: schedules by the numbers of findings, graphs by the groups; and how much
+    the page may still take."""
 
     explained: dict[str, tuple[str, str]]
     timelines: dict[int, str]
+    full: frozenset[int]
     pictures: dict[int, str] = field(default_factory=dict)
     drawings: dict[int, Drawing] = field(default_factory=dict)
+    makefiles: Makefiles = field(default_factory=lambda: Makefiles({}))
+    bare: Budget = field(default_factory=lambda: Budget(BARE_BYTES))
+    detailed: Budget = field(default_factory=lambda: Budget(DETAILED_BYTES))
+    brief: Budget = field(default_factory=lambda: Budget(BRIEF_BYTES))
 
 
 def findings(judged: Judged) -> str:
-    """All findings, by kind, worst first."""
+    """All findings, by kind, worst first, and the races and stale reads that they hide."""
     order = [group for kind in judged.kinds for group in judged.of_kind(kind)]
-    shown = prepare(judged, order[:DETAILED_AT_MOST])
+    shown = prepare(judged, [*order, *judged.hidden][:DETAILED_AT_MOST])
     parts = [overview(judged, shown)] if len(judged.kinds) > 1 else []
-    parts += [f'<p class="note">{prose(as_sentence(note))}</p>\n' for note in judged.notes]
-    makefiles, bare = Makefiles({}), Budget(BARE_BYTES)
-    detailed, brief = Budget(DETAILED_BYTES), Budget(BRIEF_BYTES)
-    full = {id(group) for group in order[:DETAILED_AT_MOST]}
+    if judged.hidden:
+        number = counted(len(judged.hidden), "group")
+        parts.append(
+            f'<p class="note">Behind these, <a href="#then">{number}</a> of races and stale reads'
+            " can be seen already.</p>\n"
+        )
     for kind in judged.kinds:
         parts.append(kind_head(kind, *shown.explained[kind]))
-        left = 0
-        for group in judged.of_kind(kind):
-            text = panel(judged, group, shown, makefiles, bare) if id(group) in full else ""
-            if not text or not detailed.takes(text):
-                text = short_panel(group)
-                if not brief.takes(text):
-                    left += 1
-                    continue
-            parts.append(text)
-        if left:
-            parts.append(
-                f"<p>{counted(left, 'more group')}: <code>mkcheck check -w</code> prints all.</p>\n"
-            )
+        parts += panels(judged, judged.of_kind(kind), shown)
     if judged.left_over:
-        parts.append(
-            "<h2>Findings in no group</h2>\n" + bare_lines(judged.left_over, bare, is_open=True)
-        )
-    parts.append(repairs(judged))
+        lines = bare_lines(judged.left_over, shown.bare, is_open=True)
+        parts.append(f"<h2>Findings in no group</h2>\n{lines}")
+    parts += [f'<p class="note">{prose(as_sentence(note))}</p>\n' for note in judged.notes]
+    parts += [hidden(judged, shown), repairs(judged)]
     return "".join(parts)
+
+
+def hidden(judged: Judged, shown: Shown) -> str:
+    """The races and stale reads that the findings hide, as advice."""
+    if not judged.hidden:
+        return ""
+    kinds = dict.fromkeys(group.kind for group in judged.hidden)
+    meanings = [meaning(kind, shown.explained[kind][1]) for kind in kinds]
+    return "".join([HIDDEN, *meanings, *panels(judged, judged.hidden, shown)])
+
+
+def panels(judged: Judged, groups: list[Group], shown: Shown) -> list[str]:
+    """Groups in full or in brief, as far as there is room for them, and how many are left out."""
+    parts, left = [], 0
+    for group in groups:
+        text = panel(judged, group, shown) if id(group) in shown.full else ""
+        if not text or not shown.detailed.takes(text):
+            text = short_panel(group)
+            if not shown.brief.takes(text):
+                left += 1
+                continue
+        parts.append(text)
+    if left:
+        parts.append(
+            f"<p>{counted(left, 'more group')}: <code>mkcheck check -w</code> prints all.</p>\n"
+        )
+    return parts
 
 
 def overview(judged: Judged, shown: Shown) -> str:
@@ -100,11 +128,15 @@ def overview(judged: Judged, shown: Shown) -> str:
 
 def kind_head(kind: str, sentence: str, explanation: str) -> str:
     """The heading of a kind of findings, with its explanation."""
-    name = markup(kind)
+    name, key = markup(kind), KEY if kind in PICTURED else ""
+    return f'<h2 id="{name}">{name}: {prose(sentence)}</h2>\n{meaning(kind, explanation)}{key}'
+
+
+def meaning(kind: str, explanation: str) -> str:
+    """The explanation of a kind of findings, folded."""
     return (
-        f'<h2 id="{name}">{name}: {prose(sentence)}</h2>\n'
-        f"<details><summary>What <code>{name}</code> means</summary>"
-        f"<pre>{markup(explanation)}</pre></details>\n{KEY if kind in PICTURED else ''}"
+        f"<details><summary>What <code>{markup(kind)}</code> means</summary>"
+        f"<pre>{markup(explanation)}</pre></details>\n"
     )
 
 
@@ -116,8 +148,9 @@ def prepare(judged: Judged, groups: list[Group]) -> Shown:
     with ThreadPoolExecutor(min(4, os.cpu_count() or 1)) as pool:
         figures = pool.map(partial(timeline, judged.checker), asked)
         drawn_plans = {one.number: figure for one, figure in zip(asked, figures)}
-    explained = {kind: judged.checker.explained(kind) for kind in judged.kinds}
-    shown = Shown(explained, drawn_plans)
+    kinds = dict.fromkeys([*judged.kinds, *(group.kind for group in judged.hidden)])
+    explained = {kind: judged.checker.explained(kind) for kind in kinds}
+    shown = Shown(explained, drawn_plans, frozenset(map(id, groups)))
     for group in groups:
         if group.kind in LACKING and group.findings:
             first = group.findings[0]
@@ -130,12 +163,12 @@ def prepare(judged: Judged, groups: list[Group]) -> Shown:
     return shown
 
 
-def panel(judged: Judged, group: Group, shown: Shown, makefiles: Makefiles, bare: Budget) -> str:
+def panel(judged: Judged, group: Group, shown: Shown) -> str:
     """A group in full."""
     parts = [sentence(group)]
     if group.line is not None:
         missing = group.missing() if group.kind in LACKING else []
-        parts.append(makefiles.excerpt(group.file, group.line, missing))
+        parts.append(shown.makefiles.excerpt(group.file, group.line, missing))
     parts.append(remedy(group, judged.makefile))
     figures = [shown.timelines.get(one.number, "") for one in group.findings]
     figures.append(graph_around(group, shown))
@@ -146,7 +179,7 @@ def panel(judged: Judged, group: Group, shown: Shown, makefiles: Makefiles, bare
             f'<p class="soft">No timeline for {counted(left, "further race")}:'
             " <code>mkcheck check -e N</code> prints its schedule.</p>"
         )
-    parts.append(bare_lines(group.findings, bare))
+    parts.append(bare_lines(group.findings, shown.bare))
     return f'<section class="panel">{"".join(parts)}</section>\n'
 
 
@@ -164,7 +197,7 @@ def remedy(group: Group, makefile: str) -> str:
 
 
 def advice(group: Group) -> str:
-    """What is to be done where no line mends a group, and the names that its sentence leaves out."""
+    """What to do where no line mends a group, and the names that its sentence leaves out."""
     if not group.advice:
         return ""
     lists = f"<pre>{clipped_lines(group.lists)}</pre>" if group.lists else ""

@@ -1,4 +1,7 @@
-"""SARIF 2.1.0: a rule for each kind of finding, and a result for each group."""
+"""SARIF 2.1.0: a rule for each kind of finding, and a result for each group.
+
+Races and stale reads that other findings hide are notes.
+"""
 
 from __future__ import annotations
 
@@ -65,11 +68,13 @@ def sarif(judged: Judged) -> str:
     """The log of an answer."""
     kinds = [*KINDS, *(kind for kind in judged.kinds if kind not in KINDS)]
     rules = [rule(kind, *judged.checker.explained(kind), level_of(kind)) for kind in kinds]
-    ordered = [group for kind in kinds for group in judged.of_kind(kind)]
+    ordered = [
+        (group, level_of(kind)) for kind in kinds for group in judged.of_kind(kind)
+    ] + [(group, "note") for group in judged.hidden]
     makefiles = Makefiles({})
     results = [
-        result(judged, group, kinds.index(group.kind), makefiles)
-        for group in ordered[:RESULTS_AT_MOST]
+        result(judged, group, level, kinds.index(group.kind), makefiles)
+        for group, level in ordered[:RESULTS_AT_MOST]
     ]
     if judged.refusal is not None:
         name, sentence = judged.refusal.name, judged.refusal.sentence
@@ -104,13 +109,15 @@ def level_of(kind: str) -> str:
     return "warning" if kind in WARNINGS else "error"
 
 
-def result(judged: Judged, group: Group, index: int, makefiles: Makefiles) -> dict:
+def result(
+    judged: Judged, group: Group, level: str, index: int, makefiles: Makefiles
+) -> dict:
     """A group as a result, with the lines that mend it."""
     said = f"{group.text}\n{as_sentence(group.advice)}" if group.advice else group.text
     found = {
         "ruleId": group.kind,
         "ruleIndex": index,
-        "level": level_of(group.kind),
+        "level": level,
         "message": text(said),
         "locations": [location(group.file, group.line)],
         "partialFingerprints": {"mkcheckGroup/v1": fingerprint(group)},
@@ -183,10 +190,11 @@ def result_of_refusal(refusal: Refusal, index: int, makefile: str) -> dict:
     is_file = refusal.file is not None and refusal.file not in ("operand", "goal")
     file = refusal.file if is_file and os.path.isfile(refusal.file or "") else None
     words = f"{refusal.words}: " if refusal.words else ""
+    shown = f"\n{refusal.shown}" if refusal.shown else ""
     return {
         "ruleId": refusal.name,
         "ruleIndex": index,
         "level": "error",
-        "message": text(f"{words}{refusal.sentence} ({refusal.text})"),
+        "message": text(f"{words}{refusal.sentence} ({refusal.text}){shown}"),
         "locations": [location(file or makefile, refusal.line if file else None)],
     }

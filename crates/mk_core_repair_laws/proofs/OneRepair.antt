@@ -19,7 +19,7 @@ use Rattle.mk_core.specs.Answer.{Answers}
 use Rattle.mk_core.specs.CheckAnswer.{AnswersCheck}
 use Rattle.mk_core.specs.Judging.{AnswersJudged}
 use Rattle.mk_core.specs.Ready.{ready_for}
-use Rattle.mk_core.specs.Seen.{fault_same}
+use Rattle.mk_core.proofs.Seen.{fault_same}
 use Rattle.mk_core_laws.specs.AnswerLaws.{IsSettled, VerdictIsOne}
 use Rattle.mk_repair.specs.Lines.{lines_text}
 use Rattle.mk_repair.specs.Word.{Word}

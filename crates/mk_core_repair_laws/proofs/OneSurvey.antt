@@ -15,7 +15,7 @@ use Rattle.mk_core.specs.declared.request.Request.{Request}
 use Rattle.mk_core.specs.Answer.{Answers, Draws}
 use Rattle.mk_core.specs.Judging.{AnswersJudged, recorded, subject_over}
 use Rattle.mk_core.specs.Ready.{Ready, ready_for}
-use Rattle.mk_core.specs.Seen.{fault_same}
+use Rattle.mk_core.proofs.Seen.{fault_same}
 use Rattle.mk_core_laws.specs.AnswerLaws.{IsSettled, VerdictIsOne}
 use Rattle.mk_repair.specs.Word.{Word}
 use Rattle.mk_core_repair.specs.declared.surveying.Survey.{Survey}

@@ -1,1 +1,2 @@
+mod EmptyMakefile
 mod YesInWords

@@ -1,2 +1,3 @@
 pub mod InWordsAnswer
 pub mod NotRead
+pub mod RefusedLine

@@ -2,5 +2,7 @@
 #![tactic(auto)]
 
 mod checking;
+mod refused_line;
 
 pub use checking::{InWords, check_in_words};
+pub use refused_line::line_of_fault;

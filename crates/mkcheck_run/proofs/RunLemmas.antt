@@ -102,12 +102,17 @@ unread_by words same none h (inr is) = at (macros_for (request_in (invocation_of
     at (Err fault) k is = k
 
 -- what status 0 of an answer promises, it promises where it is written
-pub promised : (told : Told) (asked : Invocation) (answer : Result Response Fault) (w : Written)
-    → IfOk answer (λ shown. shown.status ≡ 0 → Promises told asked shown.text) → Shows asked answer w → w.status ≡ 0 → Promises told asked w.out
-promised told asked (Ok shown) w h shows e =
+pub promised : (told : Told) (asked : Invocation) (fits : Told → Type 0) (old new : List (List ℕ)) (answer : Result Response Fault) (w : Written)
+    → IfOk answer (λ shown. shown.status ≡ 0 → Promises told asked shown.text) → Shows fits old new asked answer w → w.status ≡ 0 → Promises told asked w.out
+promised told asked fits old new (Ok shown) w h (same, shows) e =
     subst (λ (x : Written). Promises told asked x.out) (sym shows) (h (sym (ap (λ (x : Written). x.status) shows) ∙ e))
-promised told asked (Err fault) w h shows e =
-    let bad : 2 ≡ 0 = sym (ap (λ (x : Written). x.status) shows.1) ∙ e in absurd (true≢false (ap (λ (n : ℕ). nat_eq n 2) bad))
+promised told asked fits old new (Err fault) w h (known, line, finds, shows) e =
+    let bad : 2 ≡ 0 = sym (ap (λ (x : Written). x.status) shows) ∙ e in absurd (true≢false (ap (λ (n : ℕ). nat_eq n 2) bad))
+
+-- what two steps leave as it was stays
+pub unread_twice : {A E X : Type 0} (r : Result A E) (x y z : X) → OnErr r (y ≡ x) → OnErr r (z ≡ y) → OnErr r (z ≡ x)
+unread_twice (Ok a) x y z one two = tt
+unread_twice (Err fault) x y z one two = two ∙ one
 
 -- the subcommand that was found is the one whose name and values are given
 module _ {P B : Type 0} (n : P → Text) (r : P → List Row) (name : B → Text) (rows : B → List Row) where

@@ -21,6 +21,8 @@ use Rattle.mk_explain.specs.Explain.{explained, overview_text}
 use Rattle.mk_core_sentences.specs.declared.checking.InWords.{InWords}
 use Rattle.mk_core_sentences.specs.declared.checking.InWords.TheVariants as words
 use Rattle.mk_core_sentences.specs.InWordsAnswer.{AnswersInWords}
+use Rattle.mk_core_sentences.specs.RefusedLine.{FindsLine, line_place}
+use Rattle.mk_read.specs.declared.fault.Place.{Place}
 use Rattle.mk_core_repair.specs.declared.outcome.Repair.{Repair as Repaired}
 use Rattle.mk_core_repair.specs.Outcome.{Outcome, right, mended, unmended, outcome_of}
 use Rattle.mk_core_repair.specs.RepairAnswer.{AnswersRepair, Mends}
@@ -165,24 +167,35 @@ abbrev pub refusal_text : Invocation → Fault → List ℕ
 refusal_text (CheckInWords request only_certificate) fault = fault_words fault
 refusal_text asked fault = fault_text fault
 
+-- The line of a file that is printed after the refusal by this fault: with `-w` alone.
+abbrev pub line_shown : Invocation → Fault → Option Place
+line_shown (CheckInWords request only_certificate) fault = line_place request fault
+line_shown asked fault = None
+
 -- The response to the command is written to standard output, with its status; a fault as a refusal
--- on a line, with status 2. Out of memory isn't written here.
-abbrev pub Shows : Invocation → Result Response Fault → Written → Type 0
-Shows asked (Ok shown) w = w ≡ record { out = shown.text; err = []; status = shown.status }
-Shows asked (Err fault) w =
+-- on a line, with status 2, and with `-w` its line of a file, which is read for that, after it. Out
+-- of memory isn't written here. The names whose reads failed grew by at most that file, where it
+-- can't be read again.
+abbrev pub Shows : (Told → Type 0) → (old new : List (List ℕ)) → Invocation →
+    Result Response Fault → Written → Type 0
+Shows fits old new asked (Ok shown) w =
+    (new ≡ old) × (w ≡ record { out = shown.text; err = []; status = shown.status })
+Shows fits old new asked (Err fault) w =
     (is_out_of_memory fault ≡ false) ×
-    (w ≡ record { out = refusal_text asked fault ++ 10 ∷ []; err = []; status = 2 })
+    (line : List ℕ) × FindsLine fits old new (line_shown asked fault) line ×
+    (w ≡ record { out = refusal_text asked fault ++ 10 ∷ line; err = []; status = 2 })
 
 -- The outcome is that of some response or fault. It is the defined one over each map that fits what
 -- the reader has answered. The names whose reads failed grew by the name that the fault says, if it
--- is a failed read, and else they stayed.
+-- is a failed read, and else they stayed; and then as the printed line says.
 pub record IsAnswered (fits : Told → Type 0) (old new : List (List ℕ)) (asked : Invocation)
     (w : Written) : Type 0
   where
     pub answer : Result Response Fault
     pub answers : IfFits fits (λ files. AnswersInvocation files asked answer)
-    pub noted : NotesFailure old new answer
-    pub shows : Shows asked answer w
+    pub between : List (List ℕ)
+    pub noted : NotesFailure old between answer
+    pub shows : Shows fits between new asked answer w
 
 -- Help and the version go to standard output only, with status 0; a fault of the words goes to
 -- standard error only, with status 2.

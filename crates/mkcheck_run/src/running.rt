@@ -4,10 +4,11 @@ ghost use Rattle.std.specs.Prelude.{ℕ, List, Option, length, ◌≡◌, ◌≢
 ghost use Rattle.clap.specs.Words.{has_subcommand, kind_of, subcommand_rows_of};
 ghost use Rattle.mk_core.specs.Files.{IfFits, Keeps};
 ghost use Rattle.mk_core.specs.Ready.{macros_for};
+ghost use Rattle.mk_core_sentences.specs.RefusedLine.{FindsLine};
 ghost use Rattle.mkcheck_run.specs.Invocation.{AreRefusedUnread, invocation_of, asked_with, asking, faults_of, request_in};
 ghost use Rattle.mkcheck_run.specs.CommandLine.{HasNoOption, graph_words};
 ghost use Rattle.mkcheck_host.specs.Outcome.{written};
-ghost use Rattle.mkcheck_run.specs.Run.{Explains, IsAnswered, IsRefused, Promises, Shows, refusal_text};
+ghost use Rattle.mkcheck_run.specs.Run.{Explains, IsAnswered, IsRefused, Promises, Shows, line_shown, refusal_text};
 ghost use Rattle.mkcheck_run.specs.declared.invocation.Invocation.TheVariants.{Graph};
 
 use crate::answering::{Response, answer};
@@ -16,6 +17,7 @@ use crate::invocation::{Invocation, invocation_by};
 use clap::error::ErrorKind;
 use clap::{ArgMatches, Error};
 use mk_core::{Fault, Files, fault_text};
+use mk_core_sentences::line_of_fault;
 use mk_core_text::fault_words;
 use mkcheck_host::{FAULT, Outcome};
 use std::alloc::{AllocError, Global};
@@ -40,15 +42,44 @@ fn refusal_text(alloc: Global, asked: &Invocation, fault: &Fault) -> Result<Vec<
     }
 }
 
+// The line of a file that is printed after the refusal, with its newline; nothing where there is
+// none.
+fn line_after<F: Files>(
+    alloc: Global,
+    files: &mut F,
+    asked: &Invocation,
+    fault: &Fault,
+) -> Result<Vec<u8>, AllocError>
+    ensures keeps { Keeps (F.fits files.old) (F.fits files.new) }
+    ensures line { IfOk result (λ line. FindsLine (F.fits files.new) (F.failed files.old)
+        (F.failed files.new) (line_shown asked.now fault.now) line.items) }
+    ensures untouched { OnErr (macros_for (request_in asked.now)) (files.new ≡ files.old) }
+{
+    match asked {
+        Invocation::CheckInWords { request, .. } => line_of_fault(alloc, files, request, fault),
+        _ => Ok(Vec::new(alloc)),
+    }
+}
+
 // The outcome of a refusal. Out of memory is an error.
-fn refused(alloc: Global, asked: &Invocation, fault: &Fault) -> Result<Outcome, AllocError>
-    ensures { IfOk result (λ outcome. Shows asked.now (Err fault.now) (written outcome)) }
+fn refused<F: Files>(
+    alloc: Global,
+    files: &mut F,
+    asked: &Invocation,
+    fault: &Fault,
+) -> Result<Outcome, AllocError>
+    ensures keeps { Keeps (F.fits files.old) (F.fits files.new) }
+    ensures shows { IfOk result (λ outcome. Shows (F.fits files.new) (F.failed files.old)
+        (F.failed files.new) asked.now (Err fault.now) (written outcome)) }
+    ensures untouched { OnErr (macros_for (request_in asked.now)) (files.new ≡ files.old) }
 {
     if fault.is_out_of_memory() {
         return Err(AllocError);
     }
     let mut out = refusal_text(alloc, asked, fault)?;
     out.push(b'\n')?;
+    let line = line_after(alloc, files, asked, fault)?;
+    out.extend_from_slice(&line)?;
     Ok(Outcome {
         out,
         err: String::new(alloc),
@@ -57,12 +88,16 @@ fn refused(alloc: Global, asked: &Invocation, fault: &Fault) -> Result<Outcome, 
 }
 
 // The outcome of a response, or of the fault in its place.
-fn shown(
+fn shown<F: Files>(
     alloc: Global,
+    files: &mut F,
     asked: &Invocation,
     answer: Result<Response, Fault>,
 ) -> Result<Outcome, AllocError>
-    ensures { IfOk result (λ outcome. Shows asked.now answer (written outcome)) }
+    ensures keeps { Keeps (F.fits files.old) (F.fits files.new) }
+    ensures shows { IfOk result (λ outcome. Shows (F.fits files.new) (F.failed files.old)
+        (F.failed files.new) asked.now answer (written outcome)) }
+    ensures untouched { OnErr (macros_for (request_in asked.now)) (files.new ≡ files.old) }
 {
     match answer {
         Ok(shown) => Ok(Outcome {
@@ -70,7 +105,7 @@ fn shown(
             err: String::new(alloc),
             status: shown.status,
         }),
-        Err(fault) => refused(alloc, asked, &fault),
+        Err(fault) => refused(alloc, files, asked, &fault),
     }
 }
 
@@ -112,7 +147,7 @@ fn answered<F: Files>(
     let (name, met) = matches.subcommand().unwrap();
     let asked = invocation_by(alloc, name, met)?;
     let found = answer(alloc, files, &asked);
-    shown(alloc, &asked, found)
+    shown(alloc, files, &asked, found)
 }
 
 /// Parses the words after the program's name, and carries out the command that they give (the
