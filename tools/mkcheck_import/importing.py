@@ -37,6 +37,8 @@ OUTPUT = ("makefile", FIRST, "footprint.json", "map.json", "import.log", SAVED)
 # What the recorder says of what the translation knows already, and of its own state.
 OF_RECORDER = re.compile(
     r"warning: GNU make makes \S+ from \S+ by a built-in rule|.*\.state isn't there:"
+    r"|warning: make is GNU make \S+ here, which takes \.WAIT"
+    r"|warning: GNU make looks at \S+ only before"
     r"|\d+ of \d+ recipes were recorded"
 )
 MAKEFILES = ("GNUmakefile", "makefile", "Makefile")
@@ -258,7 +260,8 @@ class Import:
     def is_known(self, warning: str) -> bool:
         """Whether the recorder warns of what the translation says already.
 
-        Built-in rules of GNU make stand in the translation where make uses them.
+        Built-in rules of GNU make stand in the translation where make uses them, and so does the
+        order of files that it looks at too early. No make reads the `.WAIT` of a translation.
         """
         return OF_RECORDER.match(warning) is not None
 

@@ -4,6 +4,7 @@ from __future__ import annotations
 
 import json
 import os
+import re
 import shutil
 import subprocess
 from collections.abc import Callable, Iterable, Sequence
@@ -16,14 +17,17 @@ from .meanings import meaning
 
 PREFIXES = "@-+ \t"
 NO_RULE = "refused 41 "
+BAD_NAME = "refused 27 "
+BAD_WORD = re.compile(r"(?:.*: )?BadName \(27\): ([^ \t\n]+): ")
 VARYING = "no varying "
+VARYING_HELP = "use $?, which is empty here: write $^"
 
 
 class Refused(Fault):
-    """mkcheck refused the makefile, by these words."""
+    """mkcheck refused the makefile, by these words; `word` is the one that is no name, if known."""
 
-    def __init__(self, said: str) -> None:
-        sentence = meaning(said)
+    def __init__(self, said: str, word: str = "") -> None:
+        sentence = meaning(said, word)
         super().__init__(f"mkcheck graph: {said}{': ' if sentence else ''}{sentence}")
         self.said = said
 
@@ -123,7 +127,7 @@ class Ancestors:
 @dataclass(frozen=True)
 class Graph:
     """The names of a graph in serial order, its recipes, the whole text, its goals, each name's
-    prerequisites, and the phony names."""
+    prerequisites, the phony names, and whether `.WAIT` parts prerequisites of one."""
 
     names: list[str]
     recipes: list[Recipe]
@@ -131,6 +135,7 @@ class Graph:
     goals: list[str] = field(default_factory=list)
     prerequisites: dict[str, list[str]] = field(default_factory=dict)
     phony: frozenset[str] = frozenset()
+    waits: bool = False
 
     @property
     def targets(self) -> frozenset[str]:
@@ -203,8 +208,17 @@ class Checker:
         done = self.asked(request, fixed, sources, scratch)
         if done.returncode != 0:
             said = (done.stdout.strip() or done.stderr).decode("utf-8", "replace").strip()
-            raise Refused(said)
+            raise Refused(said, self.bad_word(said, fixed, sources, scratch))
         return done.stdout
+
+    def bad_word(self, said: str, fixed: list[str], sources: list[str], scratch: str) -> str:
+        """The word of the makefile that is no name, if that is why mkcheck refused it: `check -w`
+        tells it."""
+        if not said.startswith(BAD_NAME):
+            return ""
+        done = self.asked(["check", "-w"], fixed, sources, scratch)
+        found = BAD_WORD.match(done.stdout.decode("utf-8", "replace"))
+        return found[1] if found else ""
 
     def refuse_open_end(
         self, graph: Graph, fixed: list[str], sources: list[str], scratch: str
@@ -254,10 +268,13 @@ def asked_graph(
 
 def warn_of_varying(
     checker: Checker, fixed: list[str], files: list[str], scratch: str, warn: Callable[[str], None]
-) -> None:
-    """Warns of each recipe that uses `$?`, whose value no recording has."""
-    for target in checker.varying(fixed, files, scratch):
-        warn(f"the commands of {target} use $?, which is empty here: write $^")
+) -> list[str]:
+    """Warns of each recipe that uses `$?`, whose value no recording has, and returns the targets of
+    these."""
+    found = checker.varying(fixed, files, scratch)
+    for target in found:
+        warn(f"the commands of {target} {VARYING_HELP}")
+    return found
 
 
 def why_missing(name: str, path: str) -> str:
@@ -281,7 +298,7 @@ def read_graph(text: str) -> Graph:
     recipes: list[Recipe] = []
     prerequisites: dict[str, list[str]] = {}
     phony: set[str] = set()
-    open_ended = False
+    waits = open_ended = False
     head, *lines = text.split("\n")[:-1]
     for line in lines:
         if open_ended:
@@ -292,13 +309,15 @@ def read_graph(text: str) -> Graph:
             node = Node.of(line)
             names.append(node.name)
             prerequisites[node.name] = node.prerequisites
+            waits |= len(node.groups) > 1
             if node.phony:
                 phony.add(node.name)
             if node.recipe:
                 recipes.append(Recipe(node.name))
             continue
         open_ended = goes_on(line)
-    return Graph(names, recipes, text, head.split(" ")[1:], prerequisites, frozenset(phony))
+    goals = head.split(" ")[1:]
+    return Graph(names, recipes, text, goals, prerequisites, frozenset(phony), waits)
 
 
 def target_that_is_not_utf8(text: bytes) -> str:

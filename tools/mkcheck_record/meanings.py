@@ -5,6 +5,10 @@ docs/REFERENCE.md has more of each.
 
 from __future__ import annotations
 
+import os
+
+from .folders import is_plain_path
+
 IMPORT = "mkcheck-import judges a makefile as GNU make reads it"
 # By the number of the refusal. No sentence stands for 41, which has one by what the folder holds.
 MEANINGS = {
@@ -43,6 +47,8 @@ MEANINGS = {
     44: "the makefile has no target that could be the goal; name one",
     45: "a rule such as .c.o: has prerequisites; give them to the objects by name (a.o b.o: all.h)",
 }
+# Bytes that names in makefiles can't have, but for those of patterns and quotes.
+UNNAMED = ":;=#$\\`|&<>()"
 # Language of other makes than POSIX's.
 LANGUAGE = (11, *range(21, 32))
 WORDS = {
@@ -51,8 +57,9 @@ WORDS = {
 }
 
 
-def meaning(said: str) -> str:
-    """The sentence for a refusal `refused NUMBER WORDS`, or nothing."""
+def meaning(said: str, word: str = "") -> str:
+    """The sentence for a refusal `refused NUMBER WORDS`, or nothing. `word` is the one that is no
+    name, where it is known."""
     first, _, rest = said.partition(" ")
     number, _, words = rest.partition(" ")
     if first != "refused" or not number.isdigit():
@@ -60,5 +67,28 @@ def meaning(said: str) -> str:
     where = words.partition(":")[0]
     if where in WORDS and words[len(where) :][:1] == ":":
         return WORDS[where]
-    sentence = MEANINGS.get(int(number), "")
+    sentence = why_no_name(word) if word else MEANINGS.get(int(number), "")
     return f"{sentence}; {IMPORT}" if int(number) in LANGUAGE else sentence
+
+
+def why_no_name(word: str) -> str:
+    """What is said of a word that is no name of a file."""
+    shown = word if word.isprintable() else ascii(word)[1:-1]
+    plain = os.path.normpath(word)
+    if "\r" in word:
+        cause = "the line ends in CR LF; let it end in LF"
+    elif word == "|":
+        cause = "order-only prerequisites are GNU make's; let recipes make their folders (mkdir -p)"
+    elif word == "&":
+        cause = "&: is GNU make's; give one target the recipe, and let the others need it"
+    elif "%" in word:
+        cause = "pattern rules are GNU make's; write a rule such as .c.o:, or one for each target"
+    elif any(byte in word for byte in "*?[]"):
+        cause = "names in a makefile are no patterns; write the names of the files"
+    elif any(byte in word for byte in "\"'"):
+        cause = "a makefile has no quotes, and names have no blanks"
+    elif plain != word and is_plain_path(plain) and not any(byte in word for byte in UNNAMED):
+        cause = f"a file has one spelling; write {plain}"
+    else:
+        return f"{shown} is no name of a file"
+    return f"{shown} is no name of a file: {cause}"

@@ -29,8 +29,10 @@ from .remade import warn_of_goal, warn_of_remade
 from .replaying import Replay
 from .refusals import check_opaque, listed
 from .states import Unusable, path_of_state
+from .unlooked import warn_of_unlooked
 from .updating import FIRST_TIME, Conditions, Updating, believed, hidden_names
 from .verdicts import Verdict, check_trust, judge
+from .waits import warn_of_wait
 
 ABOUT = "Builds goals once under strace, and writes down which files each recipe reads and writes."
 STATUS = (
@@ -158,10 +160,12 @@ def record_and_write(asked: argparse.Namespace, folder: str, scratch: str) -> No
     warn_of_environment(graph, prober, operands, warn)
     warn_of_remade(prober, warn)
     warn_of_goal(graph, prober, warn)
+    warn_of_wait(graph, prober, warn)
     if not warn_of_rules(graph, prober, files, warn) and not graph.recipes:
         warn("the goals reach no recipe: is a macro misspelt?")
-    warn_of_varying(checker, fixed, files, scratch, warn)
+    varying = warn_of_varying(checker, fixed, files, scratch, warn)
     shop = workshop(asked, folder, graph, hidden, scratch, warn)
+    shop.varying = frozenset(varying)
     shop.macros = handed_down(prober, operands)
     shop.updating = updating_of(asked, shop, fixed, warn)
     follows = not asked.no_replay or shop.updating is not None
@@ -171,6 +175,7 @@ def record_and_write(asked: argparse.Namespace, folder: str, scratch: str) -> No
         recorded = record(shop, graph.recipes, tuple(fixed), warn, follow)
     if shop.passed:
         warn(f"not copied, since they can't be read or are no files: {listed(shop.passed)}")
+    warn_of_unlooked(graph, prober, recorded.writers, warn)
     warn_of_left_over(folder, makefile_of(asked, folder), graph, recorded.footprints, warn)
     book = partial(make_book, checker, graph, files, prefixes, scratch=scratch, warn=warn)
     if not recorded.failures:

@@ -17,8 +17,8 @@ from .faults import RecipeFault
 from .folders import UNWRITTEN, Naming, copy
 from .footprints import Footprint, Warn, footprint_of, kind_of, named, refuse_forbidden
 from .footprints import warn_of_stamps
-from .graphs import Ancestors, Command, Recipe
-from .late import Late, late_files
+from .graphs import VARYING_HELP, Ancestors, Command, Recipe
+from .late import Late, folders_of, late_files
 from .places import Place
 from .progress import Progress
 from .refusals import refuse_unmade, refuse_unseen
@@ -36,7 +36,7 @@ class Workshop:
 
     `folder` is the project's. `absent` has the targets that aren't copied. `opaque` has the targets
     whose recipes may start makes. `macros` has variables of the environment to which the makefile
-    gives other values.
+    gives other values. `varying` has the targets whose commands use `$?`.
     """
 
     folder: str
@@ -50,6 +50,7 @@ class Workshop:
     passed: list[str] = field(default_factory=list)
     updating: Updating | None = None
     macros: Mapping[str, str] = field(default_factory=dict)
+    varying: frozenset[str] = frozenset()
 
     @property
     def environment(self) -> dict[str, str]:
@@ -244,20 +245,34 @@ def run(
         refuse_forbidden(recipe, accesses, naming)
         if done.status != 0 and not command.ignored:
             said = failure(recipe, command, done.status, output)
-            raise RecipeFault("\n".join([said, *missed_targets(recipe, accesses, naming, shop)]))
+            missed = missed_targets(recipe, accesses, naming, shop)
+            raise RecipeFault("\n".join([said, *missed, *varying_before(recipe, shop)]))
     return accesses
 
 
 def missed_targets(
     recipe: Recipe, accesses: Accesses, naming: Naming, shop: Workshop
 ) -> Iterator[str]:
-    """What is said of targets for which a recipe that failed looked in vain."""
+    """What is said of targets for which a recipe that failed looked in vain, or in whose folders it
+    would have looked, had these been there."""
     target = recipe.target
-    for name in named(accesses.sought, naming):
+    missing = [path for path in accesses.sought if accesses.tree.status(path) is None]
+    sought, absent = named(accesses.sought, naming), set(named(missing, naming))
+    inside = [name for name in shop.ancestors.bits if absent.intersection(folders_of(name))]
+    for name in dict.fromkeys([*sought, *inside]):
         if name in shop.ancestors.bits and name in shop.absent and name != target:
-            front = f"\t{target} looks for {name}, which the recipe of {name} makes later"
+            folder = "" if name in sought else "the folder of "
+            front = f"\t{target} looks for {folder}{name}, which the recipe of {name} makes later"
             needed = shop.ancestors.any_before((target,), name)
             yield f"{front}, and needs {target}" if needed else f"{front}: add {target}: {name}"
+
+
+def varying_before(recipe: Recipe, shop: Workshop) -> Iterator[str]:
+    """What is said of recipes that a recipe which failed needs, or of itself, for their `$?`."""
+    target = recipe.target
+    for name in sorted(shop.varying):
+        if name == target or shop.ancestors.any_before((name,), target):
+            yield f"\tthe commands of {name} {VARYING_HELP}"
 
 
 def failure(recipe: Recipe, failed: Command, status: int, output: str) -> str:

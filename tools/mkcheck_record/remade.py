@@ -9,7 +9,7 @@ from collections.abc import Callable
 
 from .folders import is_plain_path
 from .graphs import Graph
-from .macros import Prober
+from .macros import PROBE, Prober
 
 JOINED = re.compile(r"\\\n[ \t]*")
 COMMENT = re.compile(r"(?<!\\)#.*")
@@ -38,23 +38,62 @@ def included(prober: Prober) -> list[str]:
     return list(found)
 
 
-def warn_of_remade(prober: Prober, warn: Callable[[str], None]) -> None:
-    """Warns of each text of the makefile that has a recipe: GNU make makes it and reads it anew."""
+def made_first(prober: Prober) -> list[str]:
+    """The texts of the makefile that have recipes, itself among them."""
     names = [prober.makefile, *included(prober)]
     names = [name for name in dict.fromkeys(names) if is_plain_path(name)]
     operands = tuple(word for word in prober.checker.words if "=" in word)
     graph = prober.with_files(*names).ask("", "", (*operands, *names))
     targets = graph.targets if graph is not None else frozenset()
-    for name in names:
-        if name in targets:
-            own = name == prober.makefile
-            when = "first and reads it anew" if own else "before it reads the makefile"
-            warn(f"GNU make makes {name} {when}: what depends on its macros isn't made again")
+    return [name for name in names if name in targets]
+
+
+def warn_of_remade(prober: Prober, warn: Callable[[str], None]) -> None:
+    """Warns of each text of the makefile that has a recipe: GNU make makes it and reads it anew."""
+    for name in made_first(prober):
+        own = name == prober.makefile
+        when = "first and reads it anew" if own else "before it reads the makefile"
+        warn(
+            f"GNU make makes {name} {when}: targets that use its macros aren't made again when it"
+            " changes"
+        )
 
 
 def warn_of_goal(graph: Graph, prober: Prober, warn: Callable[[str], None]) -> None:
-    """Warns where the makefile names another goal by a macro than the one that is recorded."""
-    if all("=" in word for word in prober.checker.words):
-        (goal,) = prober.values(".DEFAULT_GOAL")
-        if goal and [goal] != graph.goals:
+    """Warns where GNU make may take another goal than the one that is recorded: one that the
+    makefile names by a macro, or one of an included text that it makes first."""
+    if any("=" not in word for word in prober.checker.words):
+        return
+    (goal,) = prober.values(".DEFAULT_GOAL")
+    if goal:
+        if [goal] != graph.goals:
             warn(f"GNU make takes {goal} as the goal: give it as a word")
+        return
+    goal = graph.goals[0]
+    for name in made_first(prober):
+        there = os.path.exists(os.path.join(prober.checker.folder, name))
+        if not there and gives_goal(prober, name):
+            warn(
+                f"GNU make makes {name}, which isn't there yet, before it reads the makefile: if it"
+                f" has a target, the first one is the goal, and not {goal}; make {name} first, and"
+                f" give {goal} as a word, to make too"
+            )
+
+
+def gives_goal(prober: Prober, name: str) -> bool:
+    """Whether the first target of a text would be the goal: no other stands before the line that
+    includes it."""
+    with open(
+        os.path.join(prober.checker.folder, prober.makefile), encoding="utf-8", errors="replace"
+    ) as file:
+        lines = JOINED.sub(" ", file.read()).split("\n")
+    matches = [INCLUDE.fullmatch(COMMENT.sub("", line)) for line in lines]
+    texts = [match.group(1) if match else "" for match in matches]
+    for number, text in enumerate(prober.expanded(*texts)):
+        if name in text.split():
+            # Commands that stand twice would be refused.
+            front = "".join(f"{line}\n" for line in lines[:number] if line[:1] != "\t")
+            operands = tuple(word for word in prober.checker.words if "=" in word)
+            graph = prober.ask(f"{front}{PROBE}:\n", "", operands)
+            return graph is not None and graph.goals == [PROBE]
+    return False
