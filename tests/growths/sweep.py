@@ -225,7 +225,8 @@ EXAMPLES = {
         {"makefile": "x\n", "B": BOTH},
         ["check", "-w", "-b", "B"],
         2,
-        "makefile:1: NotALine (25): no rule, macro or include line; commands begin with a tab\n",
+        "makefile:1: NotALine (25): no rule, macro or include line; commands begin with a tab\n"
+        "  x\n",
     ),
     "a mended makefile": (
         {"makefile": TRIED_RULES, "B": TRIED},
