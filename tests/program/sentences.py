@@ -29,6 +29,18 @@ MANY_RULES = "".join(f"{name}:\n\tcc {name}\n" for name in FOUR)
 PARSED = "p.c: p.y > p.c p.h = yacc; a.o: a.c p.h > a.o = cc a; b.o: b.c p.h > b.o = cc b"
 PARSER = "p.c: p.y\n\tyacc\na.o: a.c\n\tcc a\nb.o: b.c\n\tcc b\n"
 
+# How the races and the stale reads of what that writes beside p.c are told.
+RACES = [
+    "makefile:4: a.o and b.o read p.h, which the recipe of p.c writes, but don't wait for p.c: with "
+    "several jobs it may be missing, old or half-written then [race]",
+    "  add: a.o b.o: p.c",
+]
+STALE_READS = [
+    "makefile:4: a.o and b.o read p.h, which the recipe of p.c writes, but don't depend on p.c: "
+    "when it changes, they stay old [stale]",
+    "  add: a.o b.o: p.c",
+]
+
 # How two and three headers of unknown origin are told, and what to do about them.
 UNKNOWN = {
     2: "x.h and y.h, which are neither sources nor written by recipes",
@@ -112,12 +124,8 @@ FOUND = [
         "p.y a.c b.c",
         PARSED,
         [
-            "makefile:4: a.o and b.o read p.h, which the recipe of p.c writes, but don't wait for "
-            "p.c: with several jobs it may be missing, old or half-written then [race]",
-            "  add: a.o b.o: p.c",
-            "makefile:4: a.o and b.o read p.h, which the recipe of p.c writes, but don't depend on "
-            "p.c: when it changes, they stay old [stale]",
-            "  add: a.o b.o: p.c",
+            *RACES,
+            *STALE_READS,
         ],
     ),
     # Lines to add, and what to do.
@@ -227,12 +235,8 @@ HIDDEN = [
             f"makefile:8: q {NO_RECORD}",
             RECORD,
             THEN,
-            "makefile:4: a.o and b.o read p.h, which the recipe of p.c writes, but don't wait for "
-            "p.c: with several jobs it may be missing, old or half-written then [race]",
-            "  add: a.o b.o: p.c",
-            "makefile:4: a.o and b.o read p.h, which the recipe of p.c writes, but don't depend on "
-            "p.c: when it changes, they stay old [stale]",
-            "  add: a.o b.o: p.c",
+            *RACES,
+            *STALE_READS,
         ],
     ),
     # What the makefile says of the race is enough for it, and for no change.
@@ -244,9 +248,7 @@ HIDDEN = [
             f"makefile:8: q {NO_RECORD}",
             RECORD,
             THEN,
-            "makefile:4: a.o and b.o read p.h, which the recipe of p.c writes, but don't depend on "
-            "p.c: when it changes, they stay old [stale]",
-            "  add: a.o b.o: p.c",
+            *STALE_READS,
         ],
     ),
     # A name that no makefile holds, and more names than the sentence has.

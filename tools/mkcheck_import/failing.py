@@ -13,13 +13,15 @@ from .builds import path_name
 from .gnumake import Make
 from .transcripts import printed
 
-# So many lines of the output are shown, the last of them from its end.
+# How many lines of the output are shown, and how many of these come from its end.
 SHOWN, OF_END = 20, 5
-# So many lines before the first error, as "In file included from ..", and of a command.
+# How many lines are shown before the first error (such as "In file included from .."), and of a
+# command.
 IN_FRONT, OF_COMMAND = 3, 5
 WIDTH = 400
 OUTSIDE = re.escape(os.strerror(errno.EROFS))
-# What the first line of an error looks like; a line that fits the first of them is preferred.
+# What an error looks like. The first line that matches the first pattern is taken; without one, the
+# first that matches the second.
 ERRORS = (
     re.compile(r"error( [A-Z]*\d+)?:|^Traceback \(|undefined reference|multiple definition", re.I),
     re.compile(

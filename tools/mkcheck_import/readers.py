@@ -21,7 +21,7 @@ class Started:
 
     @property
     def text(self) -> str:
-        """The command as it stands in a makefile."""
+        """The command as a makefile has it."""
         is_shell = self.words and SHELL.search(self.words[0]) is not None
         return self.words[-1] if is_shell else " ".join(self.words)
 

@@ -91,7 +91,7 @@ def gives_goal(prober: Prober, name: str) -> bool:
     texts = [match.group(1) if match else "" for match in matches]
     for number, text in enumerate(prober.expanded(*texts)):
         if name in text.split():
-            # Commands that stand twice would be refused.
+            # These rules come again with the makefile, and two rules with commands are refused.
             front = "".join(f"{line}\n" for line in lines[:number] if line[:1] != "\t")
             operands = tuple(word for word in prober.checker.words if "=" in word)
             graph = prober.ask(f"{front}{PROBE}:\n", "", operands)
