@@ -16,7 +16,7 @@ use Rattle.mk_graph_ready.specs.Rest.{Rest}
 use Rattle.mk_graph_ready.specs.RemainingGroups.{IsLeft, IsStopped}
 use Rattle.mk_graph_ready.specs.Progress.{Progress, IsIdle, IsFirstIdle, AreNotIdle}
 use Rattle.mk_graph_ready.specs.Stages.{Wants, WantsOpened, Wakes, IsOpened, to_come, work}
-use Rattle.mk_graph_ready.specs.State.{no_rest, fresh, rest_at, stage, node_at, progress, Stands, IsAtRest}
+use Rattle.mk_graph_ready.specs.State.{no_rest, fresh, rest_at, node_at, progress, Stands, IsAtRest}
 use Rattle.mk_graph_ready.specs.declared.state.State.{State}
 use Rattle.mk_graph_ready.proofs.Stepping.{left_grows, open_wanted, over_done, done_over, left_member, behind_member, work_set, still_stopped}
 
@@ -31,7 +31,7 @@ at_one xs n e = at_nonzero xs n (λ z. let a : get_or xs n 0 ≡ 0 = z in omega 
 
 -- At rest all that is wanted was looked at.
 module _ (g : Graph) (s : State) (stands : Stands g s) (rest : IsAtRest s) where
-  pub wanted_is : (n : ℕ) → Wanted g s.goals s.done n → ¬ (stage s n ≡ 0)
+  pub wanted_is : (n : ℕ) → Wanted g s.goals s.done n → ¬ (get_or s.stages n 0 ≡ 0)
   wanted_is n (goal h) = stands.goals n h
   wanted_is n (onward {p = p} w there) =
       let wants = wanted_is p w in
@@ -70,7 +70,7 @@ zeros_many zero = refl
 zeros_many (suc many) = ap suc (zeros_many many)
 
 -- where nothing is wanted
-pub blank : (g : Graph) (s : State) → length s.stages ≡ length g.nodes → ((n : ℕ) → stage s n ≡ 0) → s.left.items ≡ map fresh g.nodes
+pub blank : (g : Graph) (s : State) → length s.stages ≡ length g.nodes → ((n : ℕ) → get_or s.stages n 0 ≡ 0) → s.left.items ≡ map fresh g.nodes
     → length s.marks ≡ length (serial_order g) → ((i : ℕ) → ¬ (get_or s.marks i 0 ≡ 1)) → ((n : ℕ) → ¬ (Has s.goals n)) → Stands g s
 blank g s stages zeros lefts marks none goals = record {
   stages = stages;
@@ -89,7 +89,7 @@ blank g s stages zeros lefts marks none goals = record {
     length_map f (n ∷ ns) = ap suc (length_map f ns)
 
 -- goals are wanted, where nothing was
-pub wants_goals : (g : Graph) (s : State) (numbers goals : List ℕ) (stages : List ℕ) → Stands g s → ((n : ℕ) → stage s n ≡ 0) → ((n : ℕ) → ¬ (Has s.goals n))
+pub wants_goals : (g : Graph) (s : State) (numbers goals : List ℕ) (stages : List ℕ) → Stands g s → ((n : ℕ) → get_or s.stages n 0 ≡ 0) → ((n : ℕ) → ¬ (Has s.goals n))
     → ((n : ℕ) → Has goals n ↔ (Has numbers n ⊎ Has s.goals n)) → Wants s.stages stages numbers
     → Stands g (record { goals = goals; done = s.done; stages = stages; left = s.left; marks = s.marks })
 wants_goals g s numbers goals stages stands zeros none are w = record {
@@ -106,11 +106,11 @@ wants_goals g s numbers goals stages stands zeros none are w = record {
     named : (n : ℕ) → Has goals n → Has numbers n
     named n h = elim ((are n).0 h) [ inl there ↦ there | inr was ↦ absurd (none n was) ]
 
-    wants : (n : ℕ) → ¬ (get_or stages n 0 ≡ 0) → (get_or stages n 0 ≡ stage s n) ⊎ ((stage s n ≡ 0) × (get_or stages n 0 ≡ 1) × Has numbers n) → Has numbers n
+    wants : (n : ℕ) → ¬ (get_or stages n 0 ≡ 0) → (get_or stages n 0 ≡ get_or s.stages n 0) ⊎ ((get_or s.stages n 0 ≡ 0) × (get_or stages n 0 ≡ 1) × Has numbers n) → Has numbers n
     wants n h (inl is) = absurd (h (is ∙ zeros n))
     wants n h (inr newly) = newly.2
 
-    one : (n : ℕ) → ¬ (get_or stages n 0 ≡ 0) → (get_or stages n 0 ≡ stage s n) ⊎ ((stage s n ≡ 0) × (get_or stages n 0 ≡ 1) × Has numbers n) → get_or stages n 0 ≡ 1
+    one : (n : ℕ) → ¬ (get_or stages n 0 ≡ 0) → (get_or stages n 0 ≡ get_or s.stages n 0) ⊎ ((get_or s.stages n 0 ≡ 0) × (get_or stages n 0 ≡ 1) × Has numbers n) → get_or stages n 0 ≡ 1
     one n h (inl is) = absurd (h (is ∙ zeros n))
     one n h (inr newly) = newly.1
 
@@ -162,7 +162,7 @@ behind_low g s t n rest is stands low at h =
     omega (arith, length-set s.stages t 2)
 
 -- less is to come
-pub looked_less : (s : State) (t : ℕ) (new : List ℕ) (rest : Rest) → t < length s.stages → WantsOpened (set s.stages t 2) new s.done rest → stage s t ≡ 1 → work new < work s.stages
+pub looked_less : (s : State) (t : ℕ) (new : List ℕ) (rest : Rest) → t < length s.stages → WantsOpened (set s.stages t 2) new s.done rest → get_or s.stages t 0 ≡ 1 → work new < work s.stages
 looked_less s t new rest low w one =
     let h = work_set s.stages t 2 low in
     let e : to_come (get_or s.stages t 0) ≡ 1 = ap to_come one in
@@ -170,7 +170,7 @@ looked_less s t new rest low w one =
     omega arith
 
 -- a node was looked at
-pub looked : (g : Graph) (s : State) (t : ℕ) (stages : List ℕ) (left : Rest) (marks : List ℕ) → Stands g s → t < length g.nodes → ¬ (stage s t ≡ 0)
+pub looked : (g : Graph) (s : State) (t : ℕ) (stages : List ℕ) (left : Rest) (marks : List ℕ) → Stands g s → t < length g.nodes → ¬ (get_or s.stages t 0 ≡ 0)
     → WantsOpened (set s.stages t 2) stages s.done (rest_at s t)
     → ((groups : List (List ℕ)) → IsLeft (set s.stages t 2) s.done groups (rest_at s t) → IsLeft stages s.done groups left)
     → IsStopped s.done left → MarksOne g s t left marks
@@ -213,22 +213,22 @@ looked g s t stages left marks stands low wants w lefts stopped m = record {
     two : get_or (set s.stages t 2) t 0 ≡ 2
     two = get_or-set_same s.stages t 2 0 (rw stands.stages low)
 
-    first : (n : ℕ) → ¬ (stage s n ≡ 0) → ¬ (get_or (set s.stages t 2) n 0 ≡ 0)
+    first : (n : ℕ) → ¬ (get_or s.stages n 0 ≡ 0) → ¬ (get_or (set s.stages t 2) n 0 ≡ 0)
     first n h e = elim (cases_eq n t) [
       | inl is ↦ let z : get_or (set s.stages t 2) t 0 ≡ 0 = subst (λ k. get_or (set s.stages t 2) k 0 ≡ 0) is e in let y = two in absurd (omega arith)
       | inr apart ↦ h (sym (get_or-set_other s.stages t n 2 0 apart) ∙ e)
     ]
 
-    back : (n : ℕ) → ¬ (get_or (set s.stages t 2) n 0 ≡ 0) → ¬ (stage s n ≡ 0)
+    back : (n : ℕ) → ¬ (get_or (set s.stages t 2) n 0 ≡ 0) → ¬ (get_or s.stages n 0 ≡ 0)
     back n h e = elim (cases_eq n t) [
-      | inl is ↦ wants (subst (λ k. stage s k ≡ 0) is e)
+      | inl is ↦ wants (subst (λ k. get_or s.stages k 0 ≡ 0) is e)
       | inr apart ↦ h (get_or-set_other s.stages t n 2 0 apart ∙ e)
     ]
 
     before : IsLeft (set s.stages t 2) s.done (node g t).groups (rest_at s t)
     before = left_grows s.stages (set s.stages t 2) s.done s.done (node g t).groups (rest_at s t) first (λ k h. h) (stands.left t low)
 
-    grows : (n : ℕ) → ¬ (stage s n ≡ 0) → ¬ (get_or stages n 0 ≡ 0)
+    grows : (n : ℕ) → ¬ (get_or s.stages n 0 ≡ 0) → ¬ (get_or stages n 0 ≡ 0)
     grows n h e = elim (w.each n) [
       | inl is ↦ first n h (sym is ∙ e)
       | inr newly ↦ first n h newly.0
@@ -242,7 +242,7 @@ looked g s t stages left marks stands low wants w lefts stopped m = record {
 
     was : (n : ℕ) → ¬ (get_or stages n 0 ≡ 0) → ¬ (get_or stages n 0 ≡ 1)
         → (get_or stages n 0 ≡ get_or (set s.stages t 2) n 0) ⊎ ((get_or (set s.stages t 2) n 0 ≡ 0) × (get_or stages n 0 ≡ 1) × IsOpened (set s.stages t 2) s.done (rest_at s t) n)
-        → n ≢ t → (¬ (stage s n ≡ 0)) × (¬ (stage s n ≡ 1))
+        → n ≢ t → (¬ (get_or s.stages n 0 ≡ 0)) × (¬ (get_or s.stages n 0 ≡ 1))
     was n h k (inl is) apart =
         let same = is ∙ get_or-set_other s.stages t n 2 0 apart in
         ((λ e. h (same ∙ e)), λ e. k (same ∙ e))
@@ -264,7 +264,7 @@ done_too g s t place done users stages wants turns stands low are within is only
   settled = λ n h k.
       let same = (w.others n h k).0 in
       let out = (w.others n h k).1 in
-      let had : ¬ (stage s n ≡ 0) = λ e. h (same ∙ e) in
+      let had : ¬ (get_or s.stages n 0 ≡ 0) = λ e. h (same ∙ e) in
       let old = stands.settled n had (λ e. k (same ∙ e)) in
       let node_low : n < length g.nodes = rw (← stands.stages) (at_nonzero s.stages n had) in
       record {

@@ -1,4 +1,5 @@
 pub mod Rest
+pub mod Stage
 pub mod RemainingGroups
 pub mod Blocks
 pub mod Layout

@@ -1,9 +1,10 @@
 -- How the remaining part of a node's groups shrinks.
-use Rattle.std.specs.Prelude.{◌≡◌, ℕ, List, [], ◌∷◌, ◌++◌, slice_index}
+use Rattle.std.specs.Prelude.{◌≡◌, ℕ, List, [], ◌∷◌, ◌++◌}
 use Rattle.mk_graph.specs.Membership.{Has}
 use Rattle.mk_graph.specs.Schedules.{HasAll}
 use Rattle.mk_graph.specs.Without.{joined}
 use Rattle.mk_graph_ready.specs.Rest.{Rest}
+use Rattle.mk_graph_ready.specs.Stage.{IsUnwanted}
 
 -- The second list is the first one without some done members at its front.
 pub record Skips (done all left : List ℕ) : Type 0 where
@@ -40,4 +41,4 @@ pub record IsLeft (stages done : List ℕ) (groups : List (List ℕ)) (rest : Re
   pub groups_are : groups ≡ before ++ rest.behind
   pub members_are : joined before ≡ past ++ rest.group
   pub past_done : HasAll done past
-  pub wanted : (n : ℕ) → Has (joined before) n → ¬ (slice_index stages n ≡ 0)
+  pub wanted : (n : ℕ) → Has (joined before) n → ¬ (IsUnwanted stages n)

@@ -8,6 +8,7 @@ use Rattle.mk_graph.specs.Serial.{serial_order}
 use Rattle.mk_graph.specs.Schedules.{Wanted}
 use Rattle.mk_graph_ready.specs.Rest.{Rest}
 use Rattle.mk_graph_ready.specs.RemainingGroups.{IsLeft, IsStopped}
+use Rattle.mk_graph_ready.specs.Stage.{IsToCheck, IsUnwanted}
 use Rattle.mk_graph_ready.specs.Progress.{Progress, IsIdle}
 use Rattle.mk_graph_ready.specs.declared.state.State.{State}
 
@@ -23,10 +24,6 @@ fresh n = record { group = []; behind = n.groups }
 abbrev pub rest_at : State → ℕ → Rest
 rest_at s n = slice_index_or s.left.items n no_rest
 
--- The stage of a node.
-abbrev pub stage : State → ℕ → ℕ
-stage s n = slice_index s.stages n
-
 -- The node at a place of the serial order.
 abbrev pub node_at : Graph → ℕ → ℕ
 node_at g i = slice_index (serial_order g) i
@@ -41,20 +38,20 @@ pub record IsSettled (g : Graph) (s : State) (n : ℕ) : Type 0 where
   pub marked : (rest_at s n).group ≡ [] → ¬ (Has s.done n) → (node g n).recipe ≡ false →
       (i : ℕ) → i < length (serial_order g) → node_at g i ≡ n → slice_index s.marks i ≡ 1
 
--- The state represents a make of this graph: goals are wanted, only wanted nodes have a stage other
--- than 0, what remains of groups is right, checked nodes are settled, and only idle nodes are
--- marked.
+-- The state represents a make of this graph: the goals have the stage of a wanted node, only wanted
+-- nodes have one, what remains of groups is right, checked nodes are settled, and only idle nodes
+-- are marked.
 pub record Stands (g : Graph) (s : State) : Type 0 where
   pub stages : length s.stages ≡ length g.nodes
   pub lefts : length s.left.items ≡ length g.nodes
   pub marks : length s.marks ≡ length (serial_order g)
-  pub goals : (n : ℕ) → Has s.goals n → ¬ (stage s n ≡ 0)
-  pub wanted : (n : ℕ) → ¬ (stage s n ≡ 0) → Wanted g s.goals s.done n
+  pub goals : (n : ℕ) → Has s.goals n → ¬ (IsUnwanted s.stages n)
+  pub wanted : (n : ℕ) → ¬ (IsUnwanted s.stages n) → Wanted g s.goals s.done n
   pub left : (n : ℕ) → n < length g.nodes →
       IsLeft s.stages s.done (node g n).groups (rest_at s n)
-  pub settled : (n : ℕ) → ¬ (stage s n ≡ 0) → ¬ (stage s n ≡ 1) → IsSettled g s n
+  pub settled : (n : ℕ) → ¬ (IsUnwanted s.stages n) → ¬ (IsToCheck s.stages n) → IsSettled g s n
   pub marked : (i : ℕ) → slice_index s.marks i ≡ 1 → IsIdle (progress g s) (node_at g i)
 
 -- No node must be checked.
 abbrev pub IsAtRest : State → Type 0
-IsAtRest s = (n : ℕ) → ¬ (stage s n ≡ 1)
+IsAtRest s = (n : ℕ) → ¬ (IsToCheck s.stages n)

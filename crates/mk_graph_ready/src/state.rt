@@ -6,7 +6,8 @@ ghost use Rattle.mk_graph.specs.Graph.{node};
 ghost use Rattle.mk_graph.specs.Without.{joined};
 ghost use Rattle.mk_graph_ready.specs.RemainingGroups.{IsLeft, IsStopped};
 ghost use Rattle.mk_graph_ready.specs.Stages.{Wakes, Wants, WantsOpened, work};
-ghost use Rattle.mk_graph_ready.specs.State.{IsAtRest, Stands, fresh, stage};
+ghost use Rattle.mk_graph_ready.specs.Stage.{IsToCheck, IsUnwanted};
+ghost use Rattle.mk_graph_ready.specs.State.{IsAtRest, Stands, fresh};
 
 use crate::bytes::Bytes;
 use crate::layout::Layout;
@@ -100,7 +101,7 @@ impl<'a> State<'a> {
     /// The state in which nothing is wanted. The only error is out of memory.
     pub fn new(alloc: Global, layout: &Layout<'a>) -> Result<State<'a>, AllocError>
         ensures stands { IfOk result (λ state. Stands layout.now state) }
-        ensures rest { IfOk result (λ state. (n : ℕ) → stage state n ≡ 0) }
+        ensures rest { IfOk result (λ state. (n : ℕ) → IsUnwanted state.stages n) }
         ensures goals { IfOk result (λ state. (n : ℕ) → ¬ (Has state.goals n)) }
         ensures done { IfOk result (λ state. (n : ℕ) → ¬ (Has state.done n)) }
     {
@@ -135,7 +136,7 @@ impl<'a> State<'a> {
     /// Makes the goals wanted, in a state in which nothing is.
     fn want_goals(&mut self, layout: &Layout, goals: &[usize])
         requires stands { Stands layout.now self.old }
-        requires rest { (n : ℕ) → stage self.old n ≡ 0 }
+        requires rest { (n : ℕ) → IsUnwanted self.old.stages n }
         requires none { (n : ℕ) → ¬ (Has self.old.goals n) }
         requires nodes { (n : ℕ) → Has goals.now n → n < length layout.now.nodes }
         ensures stands { Stands layout.now self.new }
@@ -154,7 +155,7 @@ impl<'a> State<'a> {
         ensures stands { Stands layout.now self.new }
         ensures goals { self.new.goals ≡ self.old.goals }
         ensures done { self.new.done ≡ self.old.done }
-        ensures less { stage self.old number ≡ 1 →
+        ensures less { IsToCheck self.old.stages number →
             work self.new.stages < work self.old.stages }
     {
         if self.stages.at(number) != WANTED {

@@ -1,4 +1,4 @@
-use Rattle.std.proofs.Common.{◌≡◌, ℕ, ◌<◌, List, [], false, length, set, ap, sym, subst, ◌∙◌, arith}
+use Rattle.std.proofs.Common.{◌≡◌, ℕ, ◌<◌, List, [], false, length, get_or, set, ap, sym, subst, ◌∙◌, arith}
 use Rattle.std.proofs.lemmas.Bool.{true≢false}
 use Rattle.std.specs.Vec.{with_item}
 use Rattle.mk_graph.specs.Membership.{Has}
@@ -6,7 +6,7 @@ use Rattle.mk_graph.specs.Graph.{Graph, node}
 use Rattle.mk_graph_ready.specs.Rest.{Rest}
 use Rattle.mk_graph_ready.specs.RemainingGroups.{IsLeft}
 use Rattle.mk_graph_ready.specs.Stages.{WantsOpened}
-use Rattle.mk_graph_ready.specs.State.{Stands, no_rest, stage}
+use Rattle.mk_graph_ready.specs.State.{Stands, no_rest}
 use Rattle.mk_graph_ready.proofs.Lists.{at_any}
 use Rattle.mk_graph_ready.proofs.Standing.{MarksOne, looked, looked_less, behind_low, written_left, marks_none, marks_one}
 use Rattle.mk_graph_ready.proofs.state.State.look.Goals as goal
@@ -25,7 +25,7 @@ returns-then-not-has-clause-stands c =
     let t = c.args.number in
     let low : t < length s.left.items = rw c.requires.stands.lefts c.requires.node in
     let at = c.index_mut.ensures.value ∙ at_any s.left.items t c.index_mut.result.now no_rest low in
-    let wants : ¬ (stage s t ≡ 0) = λ e. let a = c.if-at-ne-WANTED.false in let b : c.at.result ≡ 0 = c.at.ensures ∙ e in omega arith in
+    let wants : ¬ (get_or s.stages t 0 ≡ 0) = λ e. let a = c.if-at-ne-WANTED.false in let b : c.at.result ≡ 0 = c.at.ensures ∙ e in omega arith in
     let opened = subst (λ (r : Rest). WantsOpened (set s.stages t 2) c.advance.new.stages s.done r) at (subst (λ (l : List ℕ). WantsOpened l c.advance.new.stages s.done c.index_mut.result.now) c.write.ensures c.advance.ensures.wants) in
     let lefts = subst (λ (r : Rest). (groups : List (List ℕ)) → IsLeft (set s.stages t 2) s.done groups r
     → IsLeft c.advance.new.stages s.done groups c.advance.new.left) at
@@ -52,7 +52,7 @@ returns-else-is_over-clause-stands c =
     let t = c.args.number in
     let low : t < length s.left.items = rw c.requires.stands.lefts c.requires.node in
     let at = c.index_mut.ensures.value ∙ at_any s.left.items t c.index_mut.result.now no_rest low in
-    let wants : ¬ (stage s t ≡ 0) = λ e. let a = c.if-at-ne-WANTED.false in let b : c.at.result ≡ 0 = c.at.ensures ∙ e in omega arith in
+    let wants : ¬ (get_or s.stages t 0 ≡ 0) = λ e. let a = c.if-at-ne-WANTED.false in let b : c.at.result ≡ 0 = c.at.ensures ∙ e in omega arith in
     let opened = subst (λ (r : Rest). WantsOpened (set s.stages t 2) c.advance.new.stages s.done r) at (subst (λ (l : List ℕ). WantsOpened l c.advance.new.stages s.done c.index_mut.result.now) c.write.ensures c.advance.ensures.wants) in
     let lefts = subst (λ (r : Rest). (groups : List (List ℕ)) → IsLeft (set s.stages t 2) s.done groups r
     → IsLeft c.advance.new.stages s.done groups c.advance.new.left) at
