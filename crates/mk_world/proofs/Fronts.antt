@@ -1,5 +1,5 @@
 -- Histories of steps that are asked for, and the fronts of plans.
-use Rattle.std.proofs.Common.{◌≡◌, ℕ, List, [], ◌∷◌, ◌++◌, map, Some, None, Result, Ok, Err, refl, sym, ap, ◌∙◌, subst, inl, inr, append_assoc}
+use Rattle.std.proofs.Common.{◌≡◌, ℕ, List, [], ◌∷◌, ◌++◌, map, Option, Result, Ok, Err, refl, sym, ap, ◌∙◌, subst, inl, inr, append_assoc}
 use Rattle.std.proofs.lemmas.Bool.{false≢true}
 use Rattle.mk_graph.specs.Membership.{Has}
 use Rattle.mk_graph.specs.Graph.{Graph}
@@ -12,11 +12,12 @@ use Rattle.mk_world.specs.NamedStep as code
 use Rattle.mk_world.specs.declared.fault.StepFault.{StepFault}
 use Rattle.mk_world.specs.declared.fault.StepFault.TheVariants as faults
 use Rattle.mk_world.specs.declared.plan.PlanCommand.{PlanCommand}
+use Rattle.mk_world.specs.declared.plan.PlanLine.{PlanLine}
 use Rattle.mk_world.specs.declared.plan.PlanCommand.TheVariants.{Make, Stop, Begin, Look, Put, Done, Finish, Run, Pass, End, Edit}
 use Rattle.mk_world.specs.State.{State, Scene, setting, world_of}
 use Rattle.mk_world.specs.Steps.{step_of}
 use Rattle.mk_world.specs.Faults.{Check, checks, AllHold, FirstFails}
-use Rattle.mk_world.specs.Running.{Stage, IsFirstIdle, AreNotIdle, Passes, PassesAll, PassesAllIn, PassesBefore, TakesInTurn, Follows, IsRefusal, RunsTo, own_steps, printed}
+use Rattle.mk_world.specs.Running.{Stage, IsFirstIdle, AreNotIdle, Passes, PassesAll, PassesAllIn, PassesBefore, TakesInTurn, Follows, IsRefusal, RunsTo, ends, follows, refused, own_steps, printed}
 use Rattle.mk_world.specs.RunLaws.{AreLegal, TakenStepsAreLegal, LegalStepsAreTaken, FrontsRunFirst}
 use Rattle.mk_world.proofs.Idle.{first_is_idle}
 use Rattle.mk_world.proofs.StepTests.{allowed_as}
@@ -41,11 +42,11 @@ taken_legal old new (x ∷ steps) h = elim h [
       let scene = t.1.scene in
       let leaves = t.1.judged.leaves in
       let legal = legal_in t.0 old steps scene rest.0 in
-      let ends = subst (λ (k : Scene). world_of new ≡ after_all k.graph (setting k) (world_of t.0) (map (step_of k.graph) steps)) scene rest.1 in (
+      let leads = subst (λ (k : Scene). world_of new ≡ after_all k.graph (setting k) (world_of t.0) (map (step_of k.graph) steps)) scene rest.1 in (
         (t.1.judged.allowed, subst (λ (w : World). IsLegal old.scene.graph (setting old.scene) w (map (step_of old.scene.graph) steps)) leaves legal),
-        subst (λ (w : World). world_of new ≡ after_all old.scene.graph (setting old.scene) w (map (step_of old.scene.graph) steps)) leaves ends,
+        subst (λ (w : World). world_of new ≡ after_all old.scene.graph (setting old.scene) w (map (step_of old.scene.graph) steps)) leaves leads,
       )
-  | inr refused ↦ absurd (no_error refused.0 refused.2)
+  | inr stopped ↦ absurd (no_error stopped.0 stopped.2)
 ]
   where
     no_error : (fault : StepFault) → let ok : Result (Unit {0}) StepFault = Ok tt in ok ≡ Err fault → ⊥
@@ -58,9 +59,9 @@ legal_taken old new (x ∷ steps) result h legal = elim h [
       let here = subst (λ (w : World). IsLegal old.scene.graph (setting old.scene) w (map (step_of old.scene.graph) steps)) (sym t.1.judged.leaves) legal.1 in
       let rest : AreLegal t.0 steps = subst (λ (k : Scene). IsLegal k.graph (setting k) (world_of t.0) (map (step_of k.graph) steps)) (sym t.1.scene) here in
       legal_taken t.0 new steps result t.2 rest
-  | inr refused ↦ elim refused.1.judged [
-    | inl memory ↦ inr (refused.2 ∙ ap (λ f. Err f) memory)
-    | inr fails ↦ absurd (not_refused old.scene.graph (setting old.scene) (world_of old) (step_of old.scene.graph x) refused.0 legal.0 fails)
+  | inr stopped ↦ elim stopped.1.judged [
+    | inl memory ↦ inr (stopped.2 ∙ ap (λ f. Err f) memory)
+    | inr fails ↦ absurd (not_refused old.scene.graph (setting old.scene) (world_of old) (step_of old.scene.graph x) stopped.0 legal.0 fails)
   ]
 ]
 
@@ -114,7 +115,7 @@ takes_legal : (g : Graph) (s : Setting) (old new : World) (steps : List model.St
 takes_legal g s old new [] h = (tt, h.0)
 takes_legal g s old new (x ∷ steps) h = elim h [
   | inl t ↦ let rest = takes_legal g s (after g s old x) new steps t.1 in ((t.0, rest.0), rest.1)
-  | inr refused ↦ absurd (no_error refused.fault refused.is)
+  | inr stopped ↦ absurd (no_error stopped.fault stopped.is)
 ]
   where
     no_error : (fault : StepFault) → let ok : Result (Unit {0}) StepFault = Ok tt in ok ≡ Err fault → ⊥
@@ -128,9 +129,9 @@ legal_or g s old new [] fault h not legal = no_value h.1
     no_value e = cc
 legal_or g s old new (x ∷ steps) fault h not legal = elim h [
   | inl t ↦ legal_or g s (after g s old x) new steps fault t.1 not legal.1
-  | inr refused ↦ elim refused.first [
-    | inl memory ↦ not (same fault refused.fault refused.is ∙ memory)
-    | inr fails ↦ not_refused g s old x refused.fault legal.0 fails
+  | inr stopped ↦ elim stopped.first [
+    | inl memory ↦ not (same fault stopped.fault stopped.is ∙ memory)
+    | inr fails ↦ not_refused g s old x stopped.fault legal.0 fails
   ]
 ]
   where
@@ -153,30 +154,28 @@ follows_or stage old a b order fault h refusal = elim refusal [
       legal_or stage.graph stage.setting h.behind b _ fault takes fails.0 (takes_legal stage.graph stage.setting h.behind a _ h.takes).0
 ]
 
+-- a run of a line and of those behind it begins with the line
+behind_first : (stage : Stage) (old mid behind : World) (x : PlanLine) (lines rest : List PlanLine) (text : List ℕ) → Follows stage old behind x.order (Ok tt)
+    → (whole : List ℕ) (refusal : Option (ℕ × StepFault)) (new : World)
+    → ((all : List ℕ) → RunsTo stage behind (lines ++ rest) all refusal new → (later : List ℕ) × RunsTo stage mid rest later refusal new × (all ≡ text ++ later))
+    → RunsTo stage old (x ∷ (lines ++ rest)) whole refusal new
+    → (later : List ℕ) × RunsTo stage mid rest later refusal new × (whole ≡ (printed stage.names x.order behind ++ text) ++ later)
+behind_first stage old mid behind x lines rest text f whole refusal new front (follows {behind = there} {later = more} k run) =
+    let same = follows_one stage old there behind x.order k f in
+    let deep = front more (subst (λ (w : World). RunsTo stage w (lines ++ rest) more refusal new) same run) in
+    let piece = printed stage.names x.order behind in
+    let joined = ap (λ (w : World). printed stage.names x.order w ++ more) same ∙ (ap (λ (t : List ℕ). piece ++ t) deep.2 ∙ sym (append_assoc piece text deep.0)) in
+    (deep.0, deep.1, joined)
+behind_first stage old mid behind x lines rest text f whole refusal new front (refused {fault = fault} r) = absurd (follows_or stage old behind new x.order fault f r)
+
 pub fronts_first : FrontsRunFirst
-fronts_first stage old mid [] rest text front whole refused new = (
-  λ h. (whole, subst (λ (w : World). RunsTo stage w rest whole refused new) (sym front.2) h, ap (λ (t : List ℕ). t ++ whole) (sym front.0)),
-  λ h. subst (λ (t : List ℕ). RunsTo stage old rest t refused new) (sym (h.2 ∙ ap (λ (t : List ℕ). t ++ h.0) front.0)) (subst (λ (w : World). RunsTo stage w rest h.0 refused new) front.2 h.1),
+fronts_first stage old mid front rest text ends whole refusal new = (
+  λ h. (whole, h, refl),
+  λ h. subst (λ (t : List ℕ). RunsTo stage old rest t refusal new) (sym h.2) h.1,
 )
-fronts_first stage old mid (x ∷ lines) rest text front whole refused new = elim front [
-  | inl f ↦
-      let ih = λ (later : List ℕ). fronts_first stage f.0 mid lines rest f.1 f.3 later refused new in
-      let more = printed stage.names x.order f.0 in (
-        λ h. elim h [
-          | inl w ↦
-              let same = follows_one stage old w.0 f.0 x.order w.2 f.2 in
-              let run = subst (λ (k : World). RunsTo stage k (lines ++ rest) w.1 refused new) same w.3 in
-              let deep = (ih w.1).0 run in
-              let joined = w.4 ∙ (ap (λ (k : World). printed stage.names x.order k ++ w.1) same ∙ (ap (λ (t : List ℕ). more ++ t) deep.2 ∙ (sym (append_assoc more f.1 deep.0) ∙ ap (λ (t : List ℕ). t ++ deep.0) (sym f.4)))) in
-              (deep.0, deep.1, joined)
-          | inr r ↦ absurd (follows_or stage old f.0 new x.order r.0 f.2 r.1)
-        ],
-        λ h.
-            let joined = h.2 ∙ (ap (λ (t : List ℕ). t ++ h.0) f.4 ∙ append_assoc more f.1 h.0) in
-            inl (f.0, f.1 ++ h.0, f.2, (ih (f.1 ++ h.0)).1 (h.0, h.1, refl), joined),
-      )
-  | inr r ↦ absurd (no_refusal r.3)
-]
-  where
-    no_refusal : {A : Type 0} {y : A} → None ≡ Some y → ⊥
-    no_refusal e = cc
+fronts_first stage old mid front rest text (follows {behind = behind} {next = x} {lines = lines} {later = more} f run) whole refusal new = (
+  behind_first stage old mid behind x lines rest more f whole refusal new (λ later. (fronts_first stage behind mid lines rest more run later refusal new).0),
+  λ h.
+      let joined = h.2 ∙ append_assoc (printed stage.names x.order behind) more h.0 in
+      subst (λ (t : List ℕ). RunsTo stage old (x ∷ (lines ++ rest)) t refusal new) (sym joined) (follows f ((fronts_first stage behind mid lines rest more run (more ++ h.0) refusal new).1 (h.0, h.1, refl))),
+)

@@ -23,7 +23,7 @@ use Rattle.mk_world.specs.declared.file.Listed.{Listed}
 use Rattle.mk_world.specs.State.{State, DiskState, MakeState, Scene, setting, disk_of, world_of, world_in, number_of, file_of}
 use Rattle.mk_world.specs.Tables.{look}
 use Rattle.mk_world.specs.Listing.{there_among, entry, listing, listed_as}
-use Rattle.mk_world.specs.Running.{TakesInTurn, is_node, listed_at, files_text, file_text, steps_of, own_steps, Follows, Stage, stage_of, is_known, Prepares, AnswersInTurn, AnswersLine, IsRefusal, RunsTo, printed, LeadsTo, PassesSomeIn, PassesSomeBefore, FollowsPartly, StopsIn, RunsPartly}
+use Rattle.mk_world.specs.Running.{TakesInTurn, is_node, listed_at, files_text, file_text, steps_of, own_steps, Follows, Stage, stage_of, is_known, Prepares, AnswersInTurn, AnswersLine, IsRefusal, RunsTo, ends, follows, refused, printed, LeadsTo, PassesSomeIn, PassesSomeBefore, FollowsPartly, StopsIn, RunsPartly}
 use Rattle.mk_world.specs.declared.plan.PlanCommand.{PlanCommand}
 use Rattle.mk_world.specs.declared.plan.PlanCommand.TheVariants as command
 use Rattle.mk_world.specs.declared.plan.PlanLine as planned
@@ -113,8 +113,8 @@ memory_or PlanLine = inr (λ e. cc)
 memory_or NotEditable = inr (λ e. cc)
 memory_or NotAGoal = inr (λ e. cc)
 
-follows : (old mid new : State) (order : PlanCommand) (r : Result (Unit {0}) StepFault) → is_known old.scene.graph old.disk.names order ≡ true → Prepares old mid order (Ok tt) → AnswersInTurn mid new (steps_of mid order) r → Follows (stage_of old) (world_of old) (world_of new) order r
-follows old mid new order r known before own =
+line_follows : (old mid new : State) (order : PlanCommand) (r : Result (Unit {0}) StepFault) → is_known old.scene.graph old.disk.names order ≡ true → Prepares old mid order (Ok tt) → AnswersInTurn mid new (steps_of mid order) r → Follows (stage_of old) (world_of old) (world_of new) order r
+line_follows old mid new order r known before own =
     let takes = subst (λ (d : Disk). TakesInTurn mid.scene.graph (setting mid.scene) (world_of mid) (world_of new) (own_steps mid.scene.graph (setting mid.scene) d order) r) (sym (same_disk mid)) own.takes in
     record {
       known = known;
@@ -143,9 +143,9 @@ before_lead g s (command.Edit f c) old new h = record { steps = []; legal = tt; 
 
 -- a line that is followed
 pub line_followed : (old mid new : State) (order : PlanCommand) (r : Result (Unit {0}) StepFault) → is_known old.scene.graph old.disk.names order ≡ true → Prepares old mid order (Ok tt) → AnswersInTurn mid new (steps_of mid order) r → AnswersLine old new order r
-unfolding follows
+unfolding line_follows
 line_followed old mid new order r known before own =
-    let all = follows old mid new order r known before own in
+    let all = line_follows old mid new order r known before own in
     record {
       scene = own.scene ∙ before.scene;
       names = own.names ∙ before.names;
@@ -193,7 +193,7 @@ pub record LinesRun (first now : State) (front : List planned.PlanLine) (text : 
   pub run : RunsTo (stage_of first) (world_of first) front text None (world_of now)
 
 pub nothing_run : (first : State) (text : List ℕ) → text ≡ [] → LinesRun first first [] text
-nothing_run first text none = record { scene = refl; names = refl; run = (none, refl, refl) }
+nothing_run first text none = record { scene = refl; names = refl; run = subst (λ (t : List ℕ). RunsTo (stage_of first) (world_of first) [] t None (world_of first)) (sym none) ends }
 
 -- a line is followed
 pub one_run : (first now new : State) (front : List planned.PlanLine) (line : planned.PlanLine) (text more : List ℕ)
@@ -209,7 +209,7 @@ one_run first now new front line text more so_far scene names follow prints =
     record {
       scene = scene ∙ so_far.scene;
       names = names ∙ so_far.names;
-      run = (fronts_first stage (world_of first) (world_of now) front (line ∷ []) text so_far.run more None (world_of new)).1 (piece ++ [], inl (world_of new, [], follows_there, (refl, refl, refl), refl), joined);
+      run = (fronts_first stage (world_of first) (world_of now) front (line ∷ []) text so_far.run more None (world_of new)).1 (piece ++ [], follows follows_there ends, joined);
     }
 
 -- a line is refused
@@ -220,7 +220,7 @@ pub one_refused : (first now new : State) (front rest : List planned.PlanLine) (
 one_refused first now new front rest line text fault so_far refusal =
     let stage = stage_of first in
     let refused_there = subst (λ (k : Stage). IsRefusal k (world_of now) (world_of new) line.order fault) (same_stage first now so_far.scene so_far.names) refusal in
-    (fronts_first stage (world_of first) (world_of now) front (line ∷ rest) text so_far.run text (Some (line.number, fault)) (world_of new)).1 ([], inr (fault, refused_there, refl, refl), sym (append-nil text))
+    (fronts_first stage (world_of first) (world_of now) front (line ∷ rest) text so_far.run text (Some (line.number, fault)) (world_of new)).1 ([], refused refused_there, sym (append-nil text))
 
 -- memory runs out after a line
 pub cut_after : (first now : State) (front rest : List planned.PlanLine) (text : List ℕ) → LinesRun first now front text

@@ -1,5 +1,5 @@
 -- There is one run of a plan.
-use Rattle.std.proofs.Common.{◌≡◌, ℕ, List, [], ◌∷◌, ◌++◌, Some, Result, Ok, Err, sym, ap, ◌∙◌, subst, inl, inr}
+use Rattle.std.proofs.Common.{◌≡◌, ℕ, List, [], ◌∷◌, ◌++◌, Some, Result, Ok, Err, refl, sym, ap, ◌∙◌, subst, inl, inr}
 use Rattle.std.proofs.lemmas.Bool.{false≢true}
 use Rattle.mk_graph.specs.Graph.{Graph}
 use Rattle.mk_graph.specs.Setting.{Setting}
@@ -10,7 +10,7 @@ use Rattle.mk_world.specs.declared.fault.StepFault.TheVariants as faults
 use Rattle.mk_world.specs.declared.plan.PlanCommand.{PlanCommand}
 use Rattle.mk_world.specs.Faults.{Check, checks, FirstFails}
 use Rattle.mk_world.specs.Steps.{IsFaultOf}
-use Rattle.mk_world.specs.Running.{Stage, Refuses, TakesInTurn, IsRefusal, RunsTo, own_steps, printed}
+use Rattle.mk_world.specs.Running.{Stage, Refuses, TakesInTurn, IsRefusal, RunsTo, ends, follows, refused, own_steps, printed}
 use Rattle.mk_world.specs.OneRun.{RunIsOne}
 use Rattle.mk_world.proofs.Fronts.{before_one, follows_one, follows_or, not_refused}
 
@@ -73,21 +73,14 @@ refusal_one stage old new other order a b h j = elim h [
 ]
 
 pub run_one : RunIsOne
-run_one stage old [] text also refused again new other h j = (h.0 ∙ sym j.0, h.1 ∙ sym j.1, h.2 ∙ sym j.2)
-run_one stage old (x ∷ lines) text also refused again new other h j = elim h [
-  | inl f ↦ elim j [
-    | inl k ↦
-        let same = follows_one stage old k.0 f.0 x.order k.2 f.2 in
-        let run = subst (λ (w : World). RunsTo stage w lines k.1 again other) same k.3 in
-        let rest = run_one stage f.0 lines f.1 k.1 refused again new other f.3 run in
-        let texts = f.4 ∙ (ap (λ (t : List ℕ). printed stage.names x.order f.0 ++ t) rest.0 ∙ (ap (λ (w : World). printed stage.names x.order w ++ k.1) (sym same) ∙ sym k.4)) in
-        (texts, rest.1, rest.2)
-    | inr r ↦ absurd (follows_or stage old f.0 other x.order r.0 f.2 r.1)
-  ]
-  | inr r ↦ elim j [
-    | inl k ↦ absurd (follows_or stage old k.0 new x.order r.0 k.2 r.1)
-    | inr q ↦
-        let same = refusal_one stage old new other x.order r.0 q.0 r.1 q.1 in
-        (r.2 ∙ sym q.2, r.3 ∙ (ap (λ (e : StepFault). Some (x.number, e)) same.0 ∙ sym q.3), same.1)
-  ]
-]
+run_one stage old lines text also refusal again new other ends ends = (refl, refl, refl)
+run_one stage old lines text also refusal again new other (follows {behind = behind} {next = x} {lines = rest} {later = later} f run) (follows {behind = there} {later = more} k other_run) =
+    let same = follows_one stage old there behind x.order k f in
+    let moved = subst (λ (w : World). RunsTo stage w rest more again other) same other_run in
+    let one = run_one stage behind rest later more refusal again new other run moved in
+    (ap (λ (t : List ℕ). printed stage.names x.order behind ++ t) one.0 ∙ ap (λ (w : World). printed stage.names x.order w ++ more) (sym same), one.1, one.2)
+run_one stage old lines text also refusal again new other (follows {behind = behind} {next = x} f run) (refused {fault = fault} r) = absurd (follows_or stage old behind other x.order fault f r)
+run_one stage old lines text also refusal again new other (refused {next = x} {fault = fault} r) (follows {behind = behind} f run) = absurd (follows_or stage old behind new x.order fault f r)
+run_one stage old lines text also refusal again new other (refused {next = x} {fault = a} r) (refused {fault = b} q) =
+    let same = refusal_one stage old new other x.order a b r q in
+    (refl, ap (λ (e : StepFault). Some (x.number, e)) same.0, same.1)

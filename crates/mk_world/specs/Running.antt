@@ -295,16 +295,21 @@ pub record AnswersLine (old new : State) (order : PlanCommand)
       IsRefusal (stage_of old) (world_of old) (world_of new) order fault)
   pub leads : LeadsTo old.scene.graph (setting old.scene) (world_of old) (world_of new)
 
--- The run of these lines, one after another, all of them or up to the first that is refused.
-abbrev pub RunsTo : Stage → World → List line.PlanLine → (text : List ℕ) →
-    (refused : Option (ℕ × StepFault)) → World → Type 0
-RunsTo stage old [] text refused new = (text ≡ []) × (refused ≡ None) × (new ≡ old)
-RunsTo stage old (next ∷ lines) text refused new =
-    ((behind : World) × (later : List ℕ) × Follows stage old behind next.order (Ok tt) ×
-    RunsTo stage behind lines later refused new ×
-    (text ≡ printed stage.names next.order behind ++ later)) ⊎
-    ((fault : StepFault) × IsRefusal stage old new next.order fault × (text ≡ []) ×
-    (refused ≡ Some (next.number, fault)))
+-- The run of these lines, one after another, all of them or up to the first that is refused: the
+-- text that it prints, the refused line's number and fault, and the world that it leaves.
+pub data RunsTo (stage : Stage) : World → List line.PlanLine → (text : List ℕ) →
+    (refusal : Option (ℕ × StepFault)) → World → Type 0 where
+  -- No line is left: nothing is printed or refused, and the world stays.
+  ends : {w : World} → RunsTo stage w [] [] None w
+  -- The next line is followed to its end, and the run goes on behind it.
+  follows : {old behind new : World} {next : line.PlanLine} {lines : List line.PlanLine}
+      {later : List ℕ} {refusal : Option (ℕ × StepFault)} →
+      Follows stage old behind next.order (Ok tt) → RunsTo stage behind lines later refusal new →
+      RunsTo stage old (next ∷ lines) (printed stage.names next.order behind ++ later) refusal new
+  -- The next line is refused: nothing is printed, and the lines behind it aren't run.
+  refused : {old new : World} {next : line.PlanLine} {lines : List line.PlanLine}
+      {fault : StepFault} → IsRefusal stage old new next.order fault →
+      RunsTo stage old (next ∷ lines) [] (Some (next.number, fault)) new
 
 -- Nothing is done, or memory runs out in the first of these lines.
 abbrev pub StopsIn : Stage → (old new : World) → List line.PlanLine → Type 0

@@ -20,7 +20,7 @@ use Rattle.mk_world.specs.State.{number_of}
 use Rattle.mk_world.specs.Steps.{step_of}
 use Rattle.mk_world.specs.StepLaws.{AllowedWhereAllHolds}
 use Rattle.mk_world.specs.Faults.{Check, checks, AllHold, FirstFails}
-use Rattle.mk_world.specs.Running.{Follows, Stage, PassesBefore, IsRefusal, RunsTo, TakesInTurn, is_known, is_node, own_steps, printed}
+use Rattle.mk_world.specs.Running.{Follows, Stage, PassesBefore, IsRefusal, RunsTo, ends, follows, refused, TakesInTurn, is_known, is_node, own_steps, printed}
 use Rattle.mk_world_plan.specs.PlanText.{are_all_named, is_idle}
 use Rattle.mk_world_plan.specs.PlanLaws.{HasARun, WrittenPlanRuns, is_idle_pass, named_goals, command_of_step, plan_line, run_step_of, without_idle_passes}
 use Rattle.mk_world_plan.proofs.Numbers.{busy_is, idle_is, low_known, name_there}
@@ -201,8 +201,8 @@ left_out_first : (g : Graph) (y : model.Step) (steps : List model.Step) → is_i
 left_out_first g y steps e = ap (λ b. cond (not b) (y ∷ without_idle_passes g steps) (without_idle_passes g steps)) e
 
 -- The run went to its end and agrees with the history.
-record WentOn (g : Graph) (s : Setting) (past old : World) (steps : List Step) (refused : Option (ℕ × StepFault)) (new : World) : Type 0 where
-  to_its_end : refused ≡ None
+record WentOn (g : Graph) (s : Setting) (past old : World) (steps : List Step) (refusal : Option (ℕ × StepFault)) (new : World) : Type 0 where
+  to_its_end : refusal ≡ None
   agrees : Agrees g (after_all g s past (map (step_of g) steps)) new
   taken : List model.Step
   legal : IsLegal g s old taken
@@ -211,10 +211,10 @@ record WentOn (g : Graph) (s : Setting) (past old : World) (steps : List Step) (
 
 -- one line more
 one_line : (g : Graph) (s : Setting) (past old behind : World) (step : Step) (steps : List Step)
-    (refused : Option (ℕ × StepFault)) (new : World) → GoesOn g s past old behind (step_of g step)
+    (refusal : Option (ℕ × StepFault)) (new : World) → GoesOn g s past old behind (step_of g step)
     (run_step_of g step) → WentOn g s (after g s past (step_of g step))
-    (after g s behind (run_step_of g step)) steps refused new → WentOn g s past old (step ∷ steps) refused new
-one_line g s past old behind step steps refused new goes rest =
+    (after g s behind (run_step_of g step)) steps refusal new → WentOn g s past old (step ∷ steps) refusal new
+one_line g s past old behind step steps refusal new goes rest =
     let y = run_step_of g step in
     let passes = map (λ n. model.Pass n) goes.prepared.nodes in
     record {
@@ -226,8 +226,8 @@ one_line g s past old behind step steps refused new goes rest =
       same = passes_left_out g goes.prepared.nodes (y ∷ rest.taken) goes.prepared.idle ∙ (counted_first g y rest.taken goes.counted ∙ (ap (λ l. y ∷ l) rest.same ∙ sym (counted_first g y (map (run_step_of g) steps) goes.counted)));
     }
 
-no_line : (g : Graph) (s : Setting) (past old : World) (step : Step) (steps : List Step) (refused : Option (ℕ × StepFault)) (new : World) → IsLeftOut g s past old step → WentOn g s (after g s past (step_of g step)) old steps refused new → WentOn g s past old (step ∷ steps) refused new
-no_line g s past old step steps refused new out rest = record {
+no_line : (g : Graph) (s : Setting) (past old : World) (step : Step) (steps : List Step) (refusal : Option (ℕ × StepFault)) (new : World) → IsLeftOut g s past old step → WentOn g s (after g s past (step_of g step)) old steps refusal new → WentOn g s past old (step ∷ steps) refusal new
+no_line g s past old step steps refusal new out rest = record {
   to_its_end = rest.to_its_end;
   agrees = rest.agrees;
   taken = rest.taken;
@@ -240,40 +240,39 @@ module _ (holds : AllowedWhereAllHolds) (one : NamesHaveOneNumber) (reaches : Se
   -- The run of the lines that are left, numbered on from n.
   abbrev RunsOn : Stage → List Step → Type 0
   RunsOn stage steps =
-      (past old : World) (n : ℕ) (text : List ℕ) (refused : Option (ℕ × StepFault)) (new : World)
+      (past old : World) (n : ℕ) (text : List ℕ) (refusal : Option (ℕ × StepFault)) (new : World)
       → Agrees stage.graph past old → IsLegal stage.graph stage.setting past
       (map (step_of stage.graph) steps) → RunsTo stage old
-      (map plan_line (enumerate_from n (filter_map (command_of_step stage.graph) steps))) text refused new
-      → WentOn stage.graph stage.setting past old steps refused new
+      (map plan_line (enumerate_from n (filter_map (command_of_step stage.graph) steps))) text refusal new
+      → WentOn stage.graph stage.setting past old steps refusal new
 
   goes_on : (stage : Stage) (past old : World) (n : ℕ) (step : Step) (steps : List Step)
-      (o : Option PlanCommand) (text : List ℕ) (refused : Option (ℕ × StepFault)) (new : World)
+      (o : Option PlanCommand) (text : List ℕ) (refusal : Option (ℕ × StepFault)) (new : World)
       → IsDone stage past old step o → IsLegal stage.graph stage.setting
       (after stage.graph stage.setting past (step_of stage.graph step)) (map (step_of stage.graph) steps)
       → RunsOn stage steps → RunsTo stage old (map plan_line
-      (enumerate_from n (cons_option o (filter_map (command_of_step stage.graph) steps)))) text refused new
-      → WentOn stage.graph stage.setting past old (step ∷ steps) refused new
-  goes_on stage past old n step steps None text refused new done legal rest run =
-      no_line stage.graph stage.setting past old step steps refused new done (rest (after stage.graph stage.setting past (step_of stage.graph step)) old n text refused new done.agrees legal run)
-  goes_on stage past old n step steps (Some o) text refused new done legal rest (inr stopped) = absurd (no_refusal holds stage past old new step o stopped.0 done stopped.1)
-  goes_on stage past old n step steps (Some o) text refused new done legal rest (inl run) =
-      let follows = run.2 in
-      let goes = done.goes follows.behind follows.passes in
-      let is = takes_one holds stage.graph stage.setting follows.behind run.0 (run_step_of stage.graph step) (own_steps stage.graph stage.setting (disk_of follows.behind) o) (done.own (disk_of follows.behind)) goes.allowed follows.takes in
-      let later = subst (λ w. RunsTo stage w (map plan_line (enumerate_from (n + 1) (filter_map (command_of_step stage.graph) steps))) run.1 refused new) is run.3 in
-      one_line stage.graph stage.setting past old follows.behind step steps refused new goes (rest (after stage.graph stage.setting past (step_of stage.graph step)) (after stage.graph stage.setting follows.behind (run_step_of stage.graph step)) (n + 1) run.1 refused new goes.agrees legal later)
+      (enumerate_from n (cons_option o (filter_map (command_of_step stage.graph) steps)))) text refusal new
+      → WentOn stage.graph stage.setting past old (step ∷ steps) refusal new
+  goes_on stage past old n step steps None text refusal new done legal rest run =
+      no_line stage.graph stage.setting past old step steps refusal new done (rest (after stage.graph stage.setting past (step_of stage.graph step)) old n text refusal new done.agrees legal run)
+  goes_on stage past old n step steps (Some o) text refusal new done legal rest (refused {fault = fault} stopped) = absurd (no_refusal holds stage past old new step o fault done stopped)
+  goes_on stage past old n step steps (Some o) text refusal new done legal rest (follows {behind = there} {later = later} line run) =
+      let goes = done.goes line.behind line.passes in
+      let is = takes_one holds stage.graph stage.setting line.behind there (run_step_of stage.graph step) (own_steps stage.graph stage.setting (disk_of line.behind) o) (done.own (disk_of line.behind)) goes.allowed line.takes in
+      let moved = subst (λ w. RunsTo stage w (map plan_line (enumerate_from (n + 1) (filter_map (command_of_step stage.graph) steps))) later refusal new) is run in
+      one_line stage.graph stage.setting past old line.behind step steps refusal new goes (rest (after stage.graph stage.setting past (step_of stage.graph step)) (after stage.graph stage.setting line.behind (run_step_of stage.graph step)) (n + 1) later refusal new goes.agrees legal moved)
 
   runs_on : (stage : Stage) (steps : List Step) → IsGraph stage.graph → AreKnown stage → RunsOn stage steps
-  runs_on stage [] is known past old n text refused new agrees legal run = record {
-    to_its_end = run.1;
-    agrees = subst (Agrees stage.graph past) (sym run.2) agrees;
+  runs_on stage [] is known past old n text refusal new agrees legal ends = record {
+    to_its_end = refl;
+    agrees = agrees;
     taken = [];
     legal = tt;
-    takes = run.2;
+    takes = refl;
     same = refl;
   }
-  runs_on stage (step ∷ steps) is known past old n text refused new agrees legal run =
-      goes_on stage past old n step steps (command_of_step stage.graph step) text refused new (step_done one stay reaches stage past old step is known agrees legal.0) legal.1 (runs_on stage steps is known) run
+  runs_on stage (step ∷ steps) is known past old n text refusal new agrees legal run =
+      goes_on stage past old n step steps (command_of_step stage.graph step) text refusal new (step_done one stay reaches stage past old step is known agrees legal.0) legal.1 (runs_on stage steps is known) run
 
   same_disk : (g : Graph) (past old : World) → Agrees g past old → disk_of old ≡ disk_of past
   same_disk g past old at_rest = refl
@@ -301,19 +300,19 @@ module _ (holds : AllowedWhereAllHolds) (one : NamesHaveOneNumber) (reaches : Se
       let behind = after stage.graph stage.setting before.0 (run_step_of stage.graph step) in
       let later = rest (after stage.graph stage.setting past (step_of stage.graph step)) behind (n + 1) goes.agrees legal in
       let takes = subst (λ l. TakesInTurn stage.graph stage.setting before.0 behind l (Ok tt)) (sym (done.own (disk_of before.0))) (inl (goes.allowed, (refl, refl))) in
-      let follows : Follows stage old behind o (Ok tt) = record { known = done.known; behind = before.0; passes = before.1; takes = takes } in
-      (printed stage.names o behind ++ later.0, later.1, inl (behind, later.0, follows, later.2, refl))
+      let line : Follows stage old behind o (Ok tt) = record { known = done.known; behind = before.0; passes = before.1; takes = takes } in
+      (printed stage.names o behind ++ later.0, later.1, follows line later.2)
 
   has_run : (stage : Stage) (steps : List Step) → IsGraph stage.graph → AreKnown stage → HasRunOn stage steps
-  has_run stage [] is known past old n agrees legal = ([], old, (refl, refl, refl))
+  has_run stage [] is known past old n agrees legal = ([], old, ends)
   has_run stage (step ∷ steps) is known past old n agrees legal =
       line_runs stage past old n step steps (command_of_step stage.graph step) is (goals_of stage.graph past old agrees) (step_done one stay reaches stage past old step is known agrees legal.0) legal.1 (has_run stage steps is known)
 
   pub plan_runs : WrittenPlanRuns
   plan_runs stage d steps history = (
     has_run stage steps history.graph history.known (Idle d) (Idle d) 1 at_rest history.legal,
-    λ text refused new run.
-        let went = runs_on stage steps history.graph history.known (Idle d) (Idle d) 1 text refused new at_rest history.legal run in
+    λ text refusal new run.
+        let went = runs_on stage steps history.graph history.known (Idle d) (Idle d) 1 text refusal new at_rest history.legal run in
         record {
           to_its_end = went.to_its_end;
           leaves = same_disk stage.graph _ new went.agrees;
