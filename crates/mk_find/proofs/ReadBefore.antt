@@ -1,5 +1,5 @@
 -- Which files a recipe reads at an earlier place too.
-use Rattle.std.proofs.Common.{◌≡◌, ℕ, zero, suc, ◌<◌, ◌≤◌, Bool, true, false, cond, List, [], ◌∷◌, ◌++◌, ◌+◌, length, take, get_or, refl, sym, ap, ◌∙◌, inl, inr, ⊎_elim, subst, arith}
+use Rattle.std.proofs.Common.{◌≡◌, ℕ, zero, suc, ◌<◌, ◌≤◌, Bool, true, false, cond, List, [], ◌∷◌, ◌++◌, ◌+◌, length, take, get_or, append-nil, refl, sym, ap, ◌∙◌, ⊎_elim, subst, arith}
 use Rattle.std.specs.Prelude.{◌||◌}
 use Rattle.std.specs.Str.{bytes_eq}
 use Rattle.std.proofs.lemmas.Bool.{cases_lt}
@@ -10,8 +10,8 @@ use Rattle.mk_foot.specs.Laws.{OnceKeepsFirst}
 use Rattle.mk_cert_text.specs.Certificate.{Way}
 use Rattle.mk_cert.specs.Subject.{Subject, reads_of}
 use Rattle.mk_cert.specs.Verdict.{Read}
-use Rattle.mk_find.specs.Certifying.{AddsEntries, AddsOnce, ReadNeedsWay}
-use Rattle.mk_find.proofs.AddingEntries.{reads_of_files, adds_more_entries, adds_no_entry, once_same, once_new}
+use Rattle.mk_find.specs.Certifying.{AddsEntries, ReadNeedsWay, new_read}
+use Rattle.mk_find.proofs.AddingEntries.{reads_of_files, adds_more_entries, adds_no_entries, adds_no_entry, once_same, once_new}
 
 or_false : (b : Bool) → (b || false) ≡ b
 or_false true = refl
@@ -75,29 +75,39 @@ answered n is known stands few many same =
     ⊎_elim (λ low. many low ∙ same low) (λ high. few high) (cases_lt 4 n)
 
 -- the entries for the reads before a place, and what is added for the one there
-pub adds_read : OnceKeepsFirst → (x : Subject) (t i : ℕ) (first old new : List Way) → i < length (reads_of x t) → AddsEntries x (reads_of_files t (once (take i (reads_of x t)))) first old → AddsOnce x t i old new → AddsEntries x (reads_of_files t (once (take (i + 1) (reads_of x t)))) first new
-adds_read keeps x t i first old new low so (inl (has, same)) =
-    let files = reads_of x t in
-    let before = take i files in
-    let f = get_or files i [] in
-    let after : take (i + 1) files ≡ before ++ f ∷ [] = take_more files i [] low in
-    subst (λ (l : List (List ℕ)). AddsEntries x (reads_of_files t l) first new) (sym (once_same keeps before f (once before) refl ((keeps before).same f ∙ has)) ∙ ap once (sym after)) (subst (λ (ways : List Way). AddsEntries x (reads_of_files t (once before)) first ways) (sym same) so)
-adds_read keeps x t i first old new low so (inr (lacks, adds)) =
-    let files = reads_of x t in
-    let before = take i files in
-    let f = get_or files i [] in
-    let r : Read = record { recipe = t; file = f } in
-    let after : take (i + 1) files ≡ before ++ f ∷ [] = take_more files i [] low in
-    let reads : reads_of_files t (once before) ++ r ∷ [] ≡ reads_of_files t (once (take (i + 1) files)) = sym
-    (map_push (λ (g : List ℕ). record { recipe = t; file = g }) (once before) f)
-    ∙ ap (reads_of_files t) (sym (once_new keeps before f (once before) refl
-    ((keeps before).same f ∙ lacks)) ∙ ap once (sym after)) in
-    subst (λ (l : List Read). AddsEntries x l first new) reads (adds_more_entries x (reads_of_files t (once before)) (r ∷ []) first old new so adds)
+pub adds_read : OnceKeepsFirst → (x : Subject) (t i : ℕ) (first old new : List Way) → i < length (reads_of x t) → AddsEntries x (reads_of_files t (once (take i (reads_of x t)))) first old → AddsEntries x (new_read x t i) old new → AddsEntries x (reads_of_files t (once (take (i + 1) (reads_of x t)))) first new
+adds_read keeps x t i first old new low so adds = by (has_name before f) refl adds
+  where
+    files : List (List ℕ)
+    files = reads_of x t
+
+    before : List (List ℕ)
+    before = take i files
+
+    f : List ℕ
+    f = get_or files i []
+
+    r : Read
+    r = record { recipe = t; file = f }
+
+    after : take (i + 1) files ≡ before ++ f ∷ []
+    after = take_more files i [] low
+
+    by : (b : Bool) → has_name before f ≡ b → AddsEntries x (cond b [] (r ∷ [])) old new → AddsEntries x (reads_of_files t (once (take (i + 1) files))) first new
+    by true has none =
+        let same : reads_of_files t (once before) ++ [] ≡ reads_of_files t (once (take (i + 1) files)) = append-nil (reads_of_files t (once before)) ∙ ap (reads_of_files t) (sym (once_same keeps before f (once before) refl ((keeps before).same f ∙ has)) ∙ ap once (sym after)) in
+        subst (λ (l : List Read). AddsEntries x l first new) same (adds_more_entries x (reads_of_files t (once before)) [] first old new so none)
+    by false lacks one =
+        let more : reads_of_files t (once before) ++ r ∷ [] ≡ reads_of_files t (once (take (i + 1) files)) = sym
+        (map_push (λ (g : List ℕ). record { recipe = t; file = g }) (once before) f)
+        ∙ ap (reads_of_files t) (sym (once_new keeps before f (once before) refl
+        ((keeps before).same f ∙ lacks)) ∙ ap once (sym after)) in
+        subst (λ (l : List Read). AddsEntries x l first new) more (adds_more_entries x (reads_of_files t (once before)) (r ∷ []) first old new so one)
 
 -- for one that needs no way nothing is added
-pub adds_past : (x : Subject) (t i : ℕ) (ways : List Way) → ¬ (ReadNeedsWay x (record { recipe = t; file = get_or (reads_of x t) i [] })) → AddsOnce x t i ways ways
-adds_past x t i ways out = by (has_name (take i (reads_of x t)) (get_or (reads_of x t) i [])) refl
+pub adds_past : (x : Subject) (t i : ℕ) (ways : List Way) → ¬ (ReadNeedsWay x (record { recipe = t; file = get_or (reads_of x t) i [] })) → AddsEntries x (new_read x t i) ways ways
+adds_past x t i ways out = by (has_name (take i (reads_of x t)) (get_or (reads_of x t) i []))
   where
-    by : (b : Bool) → has_name (take i (reads_of x t)) (get_or (reads_of x t) i []) ≡ b → AddsOnce x t i ways ways
-    by true e = inl (e, refl)
-    by false e = inr (e, adds_no_entry x (record { recipe = t; file = get_or (reads_of x t) i [] }) ways out)
+    by : (b : Bool) → AddsEntries x (cond b [] (record { recipe = t; file = get_or (reads_of x t) i [] } ∷ [])) ways ways
+    by true = adds_no_entries x ways
+    by false = adds_no_entry x (record { recipe = t; file = get_or (reads_of x t) i [] }) ways out

@@ -1,5 +1,5 @@
 -- The certificate of a build without findings.
-use Rattle.std.specs.Prelude.{◌≡◌, ◌⊎◌, ◌≤◌, ℕ, List, [], ◌∷◌, ◌++◌, length, map, take, slice_index_or, true, false}
+use Rattle.std.specs.Prelude.{◌≡◌, ◌≤◌, ℕ, List, [], ◌∷◌, ◌++◌, length, map, take, slice_index_or, if◌then◌else◌}
 use Rattle.std.specs.List.{flat_map}
 use Rattle.mk_lines.specs.Names.{has_name, once}
 use Rattle.mk_graph.specs.Membership.{Has}
@@ -46,15 +46,11 @@ pub record AddsEntries (x : Subject) (reads : List Read) (old new : List Way) : 
   pub right : AreEntriesFor x reads more
   pub added : new ≡ old ++ more
 
--- If the file at `place` among the recipe's reads also stands at an earlier place, nothing is
--- added; else the entry for that read is, if it needs a way.
-abbrev pub AddsOnce : Subject → ℕ → ℕ → List Way → List Way → Type 0
-AddsOnce x t place old new =
-    ((has_name (take place (reads_of x t)) (slice_index_or (reads_of x t) place []) ≡ true) ×
-    (new ≡ old)) ⊎
-    ((has_name (take place (reads_of x t)) (slice_index_or (reads_of x t) place []) ≡ false) ×
-    AddsEntries x
-    (record { recipe = t; file = slice_index_or (reads_of x t) place [] } ∷ []) old new)
+-- The read at this place of the recipe's record; none if the file also stands at an earlier place.
+abbrev pub new_read : Subject → (recipe place : ℕ) → List Read
+new_read x t place =
+    if has_name (take place (reads_of x t)) (slice_index_or (reads_of x t) place []) then []
+    else (record { recipe = t; file = slice_index_or (reads_of x t) place [] } ∷ [])
 
 -- The certificate has the goals of the graph in their order, and an entry for each read that needs
 -- a way, which has the first path.

@@ -4,12 +4,12 @@ use Rattle.mk_graph.specs.Graph.{IsGraph}
 use Rattle.mk_cert_text.specs.declared.certificate.Finish.{Finish}
 use Rattle.mk_cert_text.specs.Certificate.{Way, Certificate}
 use Rattle.mk_cert.specs.declared.finding.Finding.{Finding}
-use Rattle.mk_cert.specs.Candidates.{stale_candidates}
+use Rattle.mk_cert.specs.Candidates.{stale_candidates, static_candidates}
 use Rattle.mk_cert.specs.Listing.{Lists}
-use Rattle.mk_cert.specs.Subject.{Subject}
+use Rattle.mk_cert.specs.Subject.{IsSubject, Subject}
 use Rattle.mk_cert.specs.Verdict.{Read, NothingFound, Verifies}
 use Rattle.mk_find.specs.FirstPaths.{IsPathOver, IsFirstPath}
-use Rattle.mk_find.specs.Findings.{AreFindings}
+use Rattle.mk_find.specs.Findings.{AreFindings, AreHidden}
 use Rattle.mk_find.specs.Certifying.{IsEntryFor, IsCertificate, HasShortestWays}
 
 -- From a recipe to a file there is at most one first path, with one finish.
@@ -36,6 +36,12 @@ FindingsAreOne =
 abbrev pub NoFindings : Type 0
 NoFindings =
     (x : Subject) → AreFindings x [] → NothingFound x × Lists x (stale_candidates x) []
+
+-- If there is no static finding, what such findings would hide are all findings.
+abbrev pub HiddenAreAll : Type 0
+HiddenAreAll =
+    (x : Subject) (found : List Finding) → IsGraph x.graph → IsSubject x →
+    Lists x (static_candidates x) [] → AreHidden x found → AreFindings x found
 
 -- At most one certificate meets `IsCertificate`.
 abbrev pub CertificateIsOne : Type 0

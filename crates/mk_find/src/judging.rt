@@ -11,7 +11,7 @@ ghost use Rattle.mk_cert.specs.WayTables.{AreEnds};
 ghost use Rattle.mk_cert.specs.Listed.{Adds};
 ghost use Rattle.mk_cert.specs.Listing.{Lists};
 ghost use Rattle.mk_cert.specs.Subject.{reads_of, writes_of};
-ghost use Rattle.mk_find.specs.Certifying.{AddsEntries, AddsOnce, AreEntriesFor, ReadNeedsWay, reads_by, reads_once};
+ghost use Rattle.mk_find.specs.Certifying.{AddsEntries, AreEntriesFor, ReadNeedsWay, new_read, reads_by, reads_once};
 ghost use Rattle.mk_find.specs.FirstPaths.{AlwaysNoneBefore, IsAlongFirstPath};
 ghost use Rattle.mk_cert.specs.Target.{target_of};
 
@@ -102,7 +102,8 @@ fn push_once<'s>(
     requires first { IsAlongFirstPath subject.now
         (slice_index_or (reads_of subject.now entry.now.number) place []) entry.now.number
         path.now.nodes.items path.now.finish }
-    ensures ways { OnOk result (AddsOnce subject.now entry.now.number place ways.old ways.new) }
+    ensures ways { OnOk result (AddsEntries subject.now
+        (new_read subject.now entry.now.number place) ways.old ways.new) }
     ensures seen { OnOk result (4 < length (reads_of subject.now entry.now.number) →
         seen.new ≡ with_name seen.old
         (slice_index_or (reads_of subject.now entry.now.number) place [])) }

@@ -1,9 +1,9 @@
 //! Laws about first paths, findings and certificates. Each function exists for its contract alone:
 //! a caller has the law as a fact.
 
-ghost use Rattle.mk_find.specs.Laws.{FirstPathIsOne, FirstPathIsShortest, FindingsAreOne, NoFindings, CertificateIsOne, CertificateIsAccepted, CertificateIsShortest, EntriesAreShortest};
+ghost use Rattle.mk_find.specs.Laws.{FirstPathIsOne, FirstPathIsShortest, FindingsAreOne, HiddenAreAll, NoFindings, CertificateIsOne, CertificateIsAccepted, CertificateIsShortest, EntriesAreShortest};
 
-use mk_cert::laws::list_is_one;
+use mk_cert::laws::{list_is_one, nothing_found_is_sound};
 use mk_graph::growth_laws::names_have_one_number;
 use mk_graph::laws::serial_reaches_each_once;
 use mk_graph_search::laws::{precedes_as_read, precedes_is_an_order};
@@ -33,6 +33,13 @@ pub fn findings_are_one()
 pub fn no_findings()
     ensures { NoFindings }
 {}
+
+/// If there is no static finding, what such findings would hide are all findings.
+pub fn hidden_are_all()
+    ensures { HiddenAreAll }
+{
+    nothing_found_is_sound();
+}
 
 /// At most one certificate meets `IsCertificate`.
 pub fn certificate_is_one()
