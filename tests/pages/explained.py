@@ -34,11 +34,16 @@ class Topic:
     head: str
 
 
+def faults(page: str) -> list[tuple[str, str, str]]:
+    """The rows of the page's table of faults: number, name and sentence."""
+    return [(row[1], row[2], row[3].replace(r"\|", "|")) for row in FAULT.finditer(page)]
+
+
 def topics(page: str) -> Iterator[Topic]:
     """The findings and the faults of the page's tables."""
     for place, (word, sentence) in enumerate(FINDING.findall(page), 1):
         yield Topic(f"### {place}. `{word}`\n", (word,), f"{word}: {sentence}")
-    rows = FAULT.findall(page)
+    rows = faults(page)
     for number in dict.fromkeys(number for number, _, _ in rows):
         names = [(name, sentence) for own, name, sentence in rows if own == number]
         name, sentence = names[0]
@@ -52,7 +57,7 @@ def topics(page: str) -> Iterator[Topic]:
 def overview(page: str) -> list[str]:
     """The lines of the overview, as the page's tables have them."""
     findings = [f"{word}: {sentence}" for word, sentence in FINDING.findall(page)]
-    return findings + [f"{number} {name}: {said}" for number, name, said in FAULT.findall(page)]
+    return findings + [f"{number} {name}: {said}" for number, name, said in faults(page)]
 
 
 def section(page: str, topic: Topic) -> str:

@@ -19,8 +19,8 @@ from pathlib import Path
 ROOT = Path(__file__).resolve().parents[2]
 PAGE = ROOT / "docs" / "REFERENCE.md"
 HEAD = "| word | sentence | `add:` | `do:` |\n|---|---|---|---|\n"
-THEN = "then, as far as can be seen now:"
-MORE = "then check again: races and stale reads may show"
+THEN = "once these are mended, as far as can be seen now:"
+MORE = "once these are mended, check again: races and stale reads may show"
 UNKNOWN = "unexpected argument '-w'"
 # What stands before a sentence, and how it is written below.
 PLACE, PLACED = re.compile(r"^makefile(:\d+)?: ", re.MULTILINE), "FILE:LINE: "

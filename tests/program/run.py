@@ -184,8 +184,8 @@ WORDS = [
 ]
 
 UNPIPED = (
-    "/dev/stdin:1: BadName (27): ./b: a word is no plain file name; "
-    "look for %, *, quotes or CR LF\n"
+    "/dev/stdin:1: BadName (27): ./b: a word is no file name; "
+    "look for %, *, ./, |, &, quotes or CR LF\n"
 )
 # Files that can't be read, or not as usual, and a stream that takes nothing.
 PLACES = [

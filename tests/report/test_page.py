@@ -130,9 +130,10 @@ class RefusalTest(ReportTest):
         page = self.page(2)
         self.assertIn("refused 27 makefile:3", page.text)
         self.assertIn("makefile:3:\n BadName (27): %.o\n", page.text)
-        self.assertIn("A word is no plain file name; look for %, *, quotes or CR LF.", page.text)
+        said = "A word is no file name; look for %, *, ./, |, &, quotes or CR LF."
+        self.assertIn(said, page.text)
         self.assertIn("What BadName means", page.text)
-        self.assertIn("Pattern rules, wildcards", page.text)
+        self.assertIn("Pattern rules (`%`), wildcards", page.text)
         self.assertIn("%.o: %.c", page.text)
 
     def test_no_line(self) -> None:
@@ -189,7 +190,7 @@ class KindsTest(ReportTest):
         self.assertIn("no writers p.c p.h p.h", text)
         self.assertIn("What to do", text)
         self.assertIn("<code>p.h: p.c ;</code>", self.raw)
-        self.assertIn("Then check again: races and stale reads may show.", text)
+        self.assertIn("Once these are mended, check again: races and stale reads may show.", text)
         self.assertNotIn("can be seen", text)
         self.assertIn("no record q", text)
         self.assertNotIn("A schedule that shows", text)
@@ -201,7 +202,7 @@ class KindsTest(ReportTest):
         page = self.page(1)
         self.assertIn("1 finding in 1 group", page.text)
         self.assertIn("Behind these, \n2 groups\n of races and stale reads can be seen", page.text)
-        first, behind = page.text.split("Then, as far as can be seen now")
+        first, behind = page.text.split("Once these are mended, as far as can be seen now")
         self.assertIn("q has no record", first)
         self.assertNotIn("version.h", first)
         for said in ("What \nrace\n means", "What \nstale\n means", "but doesn't wait for it"):
@@ -210,7 +211,7 @@ class KindsTest(ReportTest):
         self.assertEqual(behind.count("main.o: version.h"), 2)
         self.assertEqual(page.inserted, ["version.h", "version.h"])
         self.assertNotIn("A schedule that shows", page.text)
-        self.assertNotIn("Then check again", page.text)
+        self.assertNotIn("Once these are mended, check again", page.text)
 
     def test_many_hidden(self) -> None:
         """Of 100 stale reads behind a finding those are in brief that are behind 60 groups."""

@@ -13,8 +13,8 @@ RENAME_ALL = b"rename the files: a makefile can't hold their names"
 PSEUDO = (b"operand", b"goal", b"(default)")
 SHOWN = 200
 CONTROLS = bytes.maketrans(bytes([*range(9), *range(10, 32), 127]), b"?" * 32)
-THEN = b"then, as far as can be seen now:\n"
-MORE = b"then check again: races and stale reads may show\n"
+THEN = b"once these are mended, as far as can be seen now:\n"
+MORE = b"once these are mended, check again: races and stale reads may show\n"
 
 
 class Group:
@@ -217,6 +217,13 @@ SENTENCES = {
 }
 
 
+def one_recipe(group):
+    """What to do where the first of two recipes makes all that the second one makes."""
+    return (b"; if the recipe of %s makes all that the recipe of %s makes, write `%s: %s ;` in "
+            b"place of the rule of %s"
+            % (group.first, group.second, group.second, group.first, group.second))
+
+
 def advice(group):
     """What to do where no lines mend it."""
     told = {
@@ -230,8 +237,7 @@ def advice(group):
             b"them out of the prerequisites, and write mkdir -p in the recipes that need them",
         ),
         b"writers": b"let each recipe write files of its own, and check a target such as clean by "
-        b"itself; if the recipe of %s makes what that of %s does, the line `%s: %s ;` is enough "
-        b"for %s" % (group.first, group.second, group.second, group.first, group.second),
+        b"itself" + (one_recipe(group) if group.second in group.names else b""),
         b"given": b"let the recipe write %s out of the sources, -include and .PHONY"
         % group.each(b"another file, or take this one", b"other files, or take these"),
         b"own": b"split the recipe in two, or make each file anew from other files alone",
@@ -300,7 +306,7 @@ def faults():
     """The names with the sentences of each number, as the page's tables have them."""
     told = {}
     for number, name, said in FAULT.findall(PAGE.read_bytes()):
-        told.setdefault(int(number), {})[name] = said
+        told.setdefault(int(number), {})[name] = said.replace(rb"\|", b"|")
     return told
 
 

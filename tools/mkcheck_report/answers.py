@@ -29,7 +29,7 @@ NAMES = {"race": 3, "writers": 3, "record": 1, "commands": 1, "varying": 1, "tar
 HEAD = re.compile(r"(([^ ]+?)(?::([0-9]+))?): (.*) \[([a-z]+)\]", re.DOTALL)
 ADD, DO, LISTS = "  add: ", "  do: ", ("  targets: ", "  files: ")
 # The line before the groups of races and stale reads that other findings hide.
-THEN = "then, as far as can be seen now:"
+THEN = "once these are mended, as far as can be seen now:"
 # A refusal: with its number, then its words, of which the first may be a place; in words, after the
 # place, with its name, and after its sentence a line of the file.
 REFUSED = re.compile(r"refused ([0-9]+)(?: (.*))?", re.DOTALL)

@@ -36,7 +36,8 @@ KEY = (
     ' y="1" width="22" height="10"/></svg>not done, or not run</span></p>\n'
 )
 HIDDEN = (
-    '<h2 id="then">Then, as far as can be seen now</h2>\n<p>mkcheck looks for races and stale reads'
+    '<h2 id="then">Once these are mended, as far as can be seen now</h2>\n'
+    "<p>mkcheck looks for races and stale reads"
     " once the findings above are mended. These can be seen already. They are advice: mending the"
     " findings may change them.</p>\n"
 )

@@ -87,7 +87,7 @@ pub const FAULTS: [(u32, &str, &str); 65] = [
     (
         27,
         "BadName",
-        "a word is no plain file name; look for %, *, quotes or CR LF",
+        "a word is no file name; look for %, *, ./, |, &, quotes or CR LF",
     ),
     (
         27,

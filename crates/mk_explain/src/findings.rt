@@ -107,7 +107,9 @@ doesn't write R. If no file R exists, each make runs the recipe again.
     \techo done
 
 The recipe of `all` writes no file: `no target all`. Write `.PHONY: all`, or
-let the recipe write the file that its target names.
+let the recipe write the file that its target names. If R is a folder, which
+is no file, take it out of the prerequisites, and write `mkdir -p R` in the
+recipes that need it.
 ";
 
 /// `no writers R S F`.
@@ -122,8 +124,8 @@ file.
 A rule line with two targets is two rules, and each run of `bison` writes both
 files: `no writers p.c p.h p.c` and `no writers p.c p.h p.h`. Give one of them
 the recipe, and make the other need it: `p.c: p.y` with the command, and
-`p.h: p.c` without. If several recipes append to one log, give each a file of
-its own.
+`p.h: p.c ;` in place of the other rule. If several recipes append to one log,
+give each a file of its own.
 ";
 
 /// `no given R F`.
@@ -178,7 +180,9 @@ while R still writes it.
     p.c: p.y
     \tbison -d p.y -o p.c
 
-The recipe of `p.c` writes `p.h` too: `no loose p.h p.c`. Write `p.h: p.c`.
+The recipe of `p.c` writes `p.h` too: `no loose p.h p.c`. Write `p.h: p.c`. If
+GNU make runs the build, write `p.h: p.c ;`, with an empty recipe: else it
+looks at `p.h` before `p.c` is made.
 ";
 
 /// `no race R S F`.

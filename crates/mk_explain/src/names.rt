@@ -6,11 +6,12 @@ ghost use Rattle.mk_explain.specs.Texts.{names_text};
 
 /// `BadName` (27).
 pub const BAD_NAME: &str = "\
-`refused 27 FILE:LINE`: a word is no name. Pattern rules, wildcards,
-order-only prerequisites, quotes, lines that end in CR LF, and second
-spellings of a file, as `./a.o`, have such words. A goal may be no name
-either, or be `.WAIT` or `-` (`BadGoal`). If the name for `-f` is `-` or no
-plain path, that name is printed in place of FILE:LINE (`BadMakefileName`).
+`refused 27 FILE:LINE`: a word is no name. Pattern rules (`%`), wildcards
+(`*`), order-only prerequisites (`|`), grouped targets (`&:`), quotes, lines
+that end in CR LF, and second spellings of a file, as `./a.o` or `obj/`, have
+such words. A goal may be no name either, or be `.WAIT` or `-` (`BadGoal`). If
+the name for `-f` is `-` or no plain path, that name is printed in place of
+FILE:LINE (`BadMakefileName`).
 
     %.o: %.c
     \tcc -c $<

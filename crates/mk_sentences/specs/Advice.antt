@@ -1,5 +1,6 @@
 -- What to do about a group that no line of the makefile mends.
-use Rattle.std.specs.Prelude.{ℕ, List, ◌++◌, codes}
+use Rattle.std.specs.Prelude.{ℕ, List, [], ◌++◌, codes, if◌then◌else◌}
+use Rattle.mk_lines.specs.Names.{has_name}
 use Rattle.mk_sentences.specs.Topics.{Topic}
 use Rattle.mk_sentences.specs.Phrases.{by}
 use Rattle.mk_sentences.specs.declared.topic.Kind.{Kind}
@@ -11,13 +12,18 @@ rename what =
     by what (codes "rename the file: a makefile can't hold its name")
     (codes "rename the files: a makefile can't hold their names")
 
+-- One recipe that makes all that the other one makes.
+abbrev pub keep_first : (first second : List ℕ) → List ℕ
+keep_first first second =
+    codes "; if the recipe of " ++ (first ++ (codes " makes all that the recipe of " ++ (second ++
+    (codes " makes, write `" ++ (second ++ (codes ": " ++ (first ++
+    (codes " ;` in place of the rule of " ++ second))))))))
+
 -- Two recipes that write the same files.
-abbrev pub keep_one : (first second : List ℕ) → List ℕ
-keep_one first second =
-    codes "let each recipe write files of its own, and check a target such as clean by itself; " ++
-    (codes "if the recipe of " ++ (first ++ (codes " makes what that of " ++ (second ++
-    (codes " does, the line `" ++ (second ++ (codes ": " ++ (first ++
-    (codes " ;` is enough for " ++ second)))))))))
+abbrev pub keep_one : (first second : List ℕ) → (who : List (List ℕ)) → List ℕ
+keep_one first second who =
+    codes "let each recipe write files of its own, and check a target such as clean by itself" ++
+    (if has_name who second then keep_first first second else [])
 
 -- A file from which each make starts.
 abbrev pub write_another : List (List ℕ) → List ℕ
@@ -56,7 +62,7 @@ advice_of NoTarget first second who what =
     codes "take it out of the prerequisites, and write mkdir -p in the recipes that need it")
     (codes "let the recipes write their targets, and record again; if they are folders, " ++
     codes "take them out of the prerequisites, and write mkdir -p in the recipes that need them")
-advice_of TwoWriters first second who what = keep_one first second
+advice_of TwoWriters first second who what = keep_one first second who
 advice_of GivenWritten first second who what = write_another what
 advice_of OwnRead first second who what =
     codes "split the recipe in two, or make each file anew from other files alone"

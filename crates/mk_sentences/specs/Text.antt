@@ -57,9 +57,10 @@ is_static found = true
 
 -- The findings that others hide, in groups after a line that says so, or that there is none to see.
 abbrev pub hidden_text : Makefile → List Claim → List ℕ
-hidden_text m [] = codes "then check again: races and stale reads may show\n"
+hidden_text m [] = codes "once these are mended, check again: races and stale reads may show\n"
 hidden_text m (c ∷ claims) =
-    codes "then, as far as can be seen now:\n" ++ flat_map (group_text m) (groups (c ∷ claims))
+    codes "once these are mended, as far as can be seen now:\n" ++
+    flat_map (group_text m) (groups (c ∷ claims))
 
 -- What follows the findings: where one of them hides others, the hidden ones about files that
 -- mending these doesn't change.

@@ -2,9 +2,10 @@
 
 ghost use Rattle.std.specs.Prelude.{◌≡◌, ◌++◌, OnOk};
 ghost use Rattle.std.specs.String.{string_bytes};
+ghost use Rattle.mk_lines.specs.Names.{has_name};
 ghost use Rattle.mk_repair.specs.Rows.{names_view};
 ghost use Rattle.mk_sentences.specs.Topics.{topic_view};
-ghost use Rattle.mk_sentences.specs.Advice.{advice, keep_one, rename, take_in, write_another, write_rule};
+ghost use Rattle.mk_sentences.specs.Advice.{advice, keep_first, keep_one, rename, take_in, write_another, write_rule};
 
 use crate::phrases::by;
 use crate::topic::{Kind, Topic};
@@ -22,17 +23,47 @@ fn push_rename(out: &mut String, what: &[&str]) -> Result<(), AllocError>
     ))
 }
 
-/// Appends what to do about two recipes that write the same files.
-fn push_keep_one(out: &mut String, first: &str, second: &str) -> Result<(), AllocError>
+/// Whether this name is among the names. Allocates nothing.
+fn has_name(names: &[&str], name: &str) -> bool
+    ensures { result ≡ has_name (names_view names.now) name.now }
+{
+    for other in names {
+        if name == *other {
+            return true;
+        }
+    }
+    false
+}
+
+/// Appends what to do about two recipes, of which the first makes all that the second one makes.
+fn push_keep_first(out: &mut String, first: &str, second: &str) -> Result<(), AllocError>
     ensures { OnOk result (string_bytes out.new ≡
-        string_bytes out.old ++ keep_one first.now second.now) }
+        string_bytes out.old ++ keep_first first.now second.now) }
 {
     write!(
         out,
-        "let each recipe write files of its own, and check a target such as clean by itself; \
-         if the recipe of {first} makes what that of {second} does, \
-         the line `{second}: {first} ;` is enough for {second}"
+        "; if the recipe of {first} makes all that the recipe of {second} makes, \
+         write `{second}: {first} ;` in place of the rule of {second}"
     )
+}
+
+/// Appends what to do about two recipes that write the same files.
+fn push_keep_one(
+    out: &mut String,
+    first: &str,
+    second: &str,
+    who: &[&str],
+) -> Result<(), AllocError>
+    ensures { OnOk result (string_bytes out.new ≡
+        string_bytes out.old ++ keep_one first.now second.now (names_view who.now)) }
+{
+    out.push_str(
+        "let each recipe write files of its own, and check a target such as clean by itself",
+    )?;
+    if has_name(who, second) {
+        return push_keep_first(out, first, second);
+    }
+    Ok(())
 }
 
 /// Appends what to do about a file from which each make starts.
@@ -97,7 +128,7 @@ pub fn push_advice(
             "let the recipes write their targets, and record again; if they are folders, \
              take them out of the prerequisites, and write mkdir -p in the recipes that need them",
         )),
-        Kind::TwoWriters => push_keep_one(out, topic.first, topic.second),
+        Kind::TwoWriters => push_keep_one(out, topic.first, topic.second, who),
         Kind::GivenWritten => push_write_another(out, what),
         Kind::OwnRead => out.push_str(
             "split the recipe in two, or make each file anew from other files alone",

@@ -189,10 +189,10 @@ fn push_hidden(
 {
     let left = untouched(alloc, claims, hidden)?;
     if left.is_empty() {
-        out.push_str("then check again: races and stale reads may show\n")?;
+        out.push_str("once these are mended, check again: races and stale reads may show\n")?;
         return Ok(());
     }
-    out.push_str("then, as far as can be seen now:\n")?;
+    out.push_str("once these are mended, as far as can be seen now:\n")?;
     push_claims(alloc, out, makefile, left.as_slice())
 }
 

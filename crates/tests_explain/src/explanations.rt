@@ -28,7 +28,9 @@ while R still writes it.
     p.c: p.y
     \tbison -d p.y -o p.c
 
-The recipe of `p.c` writes `p.h` too: `no loose p.h p.c`. Write `p.h: p.c`.
+The recipe of `p.c` writes `p.h` too: `no loose p.h p.c`. Write `p.h: p.c`. If
+GNU make runs the build, write `p.h: p.c ;`, with an empty recipe: else it
+looks at `p.h` before `p.c` is made.
 ";
 
 #[test]

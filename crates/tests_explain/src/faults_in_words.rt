@@ -39,7 +39,7 @@ fn says_a_place(rt: HostRuntime) -> Result<(), Fail> {
     let word = Word::new(alloc, b"xdiff/../vim.h")?;
     let fault = Fault::Read(ReadFault::BadName(place(alloc, 3747)?, word));
     let wanted = "makefile:3747: BadName (27): xdiff/../vim.h: \
-                  a word is no plain file name; look for %, *, quotes or CR LF";
+                  a word is no file name; look for %, *, ./, |, &, quotes or CR LF";
     assert!(rt; is_said(alloc, fault, wanted)?);
     Ok(())
 }

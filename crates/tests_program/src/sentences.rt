@@ -23,7 +23,7 @@ p: a.o b.o¶→cc -o p a.o b.o¶a.o: a.c¶→cc -c a.c¶b.o: b.c¶→cc -c b.c¶
 lib.a: a.o¶→ar rv $@ $?¶‖check -w -b B‖a.o‖lib.a: a.o > lib.a = ar rv lib.a a.o‖1
     ‖makefile:1: the commands of lib.a use $?, so what it holds may depend on what was out of date
      [varying]¶  do: write $^ in place of $?, and make the whole file anew in each run¶
-    then check again: races and stale reads may show¶
+    once these are mended, check again: races and stale reads may show¶
 p: a.c¶→cc -o p a.c¶p:¶→cc -o p¶‖check -w -b B‖a.c‖p: a.c > p = cc -o p a.c‖2
     ‖makefile:3: TwoRecipes (31): p: a target has commands on two lines; keep those of one¶  p:¶
 p: a.c¶→cc -o p a.c¶x¶‖check -w -b B‖a.c‖p: a.c > p = cc -o p a.c‖2

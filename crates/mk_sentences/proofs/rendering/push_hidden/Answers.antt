@@ -13,7 +13,7 @@ use Rattle.mk_sentences.specs.Text.{group_text, hidden_text}
 use Rattle.mk_sentences.specs.Untouched.{untouched}
 use Rattle.mk_sentences.proofs.rendering.push_hidden.Goals as goal
 
-hidden_told : (m : Makefile) (claims : List Claim) → ¬ (claims ≡ []) → hidden_text m claims ≡ codes "then, as far as can be seen now:\n" ++ flat_map (group_text m) (groups claims)
+hidden_told : (m : Makefile) (claims : List Claim) → ¬ (claims ≡ []) → hidden_text m claims ≡ codes "once these are mended, as far as can be seen now:\n" ++ flat_map (group_text m) (groups claims)
 hidden_told m [] some = absurd (some refl)
 hidden_told m (c ∷ claims) some = refl
 
@@ -34,5 +34,5 @@ returns c =
     is
     ∙ (ap (λ claims. string_bytes c.push_str-2.new.self ++ told claims) same
     ∙ (ap (λ (o : List ℕ). o ++ told all) c.in_ok-push_str-2.ensures.bytes
-    ∙ (append_assoc old (codes "then, as far as can be seen now:\n") (told all)
+    ∙ (append_assoc old (codes "once these are mended, as far as can be seen now:\n") (told all)
     ∙ ap (λ (t : List ℕ). old ++ t) (sym (hidden_told m all some)))))) c.push_claims.ensures
