@@ -1,7 +1,8 @@
 """Tries the makefiles that docs/FROM_GNU_MAKE.md shows, each of which is refused by its number or
 read, and our own; and the sessions that README.md, examples/ and docs/ show; follows the links from
 page to page; holds the lengths that docs/WHY.md says to the files, and what `mkcheck explain` and
-`mkcheck check -w` print to docs/REFERENCE.md; and reads the manual pages.
+`mkcheck check -w` print to docs/REFERENCE.md; tests that wrong edits apply; and reads the manual
+pages.
 
 The word is the path of mkcheck; without it MKCHECK names it, else it is bin/mkcheck.
 """
@@ -16,6 +17,7 @@ import tempfile
 from collections.abc import Sequence
 from pathlib import Path
 
+from edits import wrong_edits
 from explained import wrong_explanations
 from lengths import wrong_lengths
 from links import broken_links
@@ -105,7 +107,7 @@ def main() -> int:
             print(f"pages: {said or 'read'} and not {number or 'read'}:\n{makefile}")
     print(f"pages: {len(blocks) + 1 - wrong} makefiles as they are said to be, {wrong} not")
     wrong += try_sessions(mkcheck) + wrong_explanations(mkcheck) + wrong_sentences(mkcheck)
-    wrong += broken_links() + wrong_lengths() + read_manuals()
+    wrong += broken_links() + wrong_lengths() + wrong_edits() + read_manuals()
     return 1 if wrong else 0
 
 
