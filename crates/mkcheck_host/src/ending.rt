@@ -84,7 +84,8 @@ impl Ending {
 // Writes to standard error that a write failed, as far as that can be written.
 fn cut<E: Write>(err: &mut Sink<E>) -> Ending
     ensures ending { result ≡ Ending.WriteFailed }
-    ensures line { AppendsSome (E.contents err.old.writer) (E.contents err.new.writer) failure_line }
+    ensures line { AppendsSome (E.contents err.old.writer) (E.contents err.new.writer)
+        failure_line }
 {
     let _ = emit(err, b"write failed\n");
     Ending::WriteFailed

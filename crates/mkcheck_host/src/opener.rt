@@ -23,8 +23,8 @@ pub trait Opener {
             (λ held. IsOpening Self.File.remaining held result) };
 }
 
-/// Opens files on the disk. It doesn't tell what they hold. A pipe or a terminal is opened once: its
-/// bytes are gone then, so a second read would give another text.
+/// Opens files on the disk. It doesn't tell what they hold. A pipe or a terminal is opened once:
+/// its bytes are gone then, so a second read would give another text.
 #[derive(Drop)]
 pub struct HostFiles<'a, R> {
     rt: &'a R,

@@ -141,7 +141,8 @@ fn answered<F: Files>(
         (F.failed files.new) (asked_with (subcommand_rows_of matches.now)) (written outcome)) }
     ensures right { IfOk result (λ outcome. outcome.status ≡ 0 → IfFits (F.fits files.new)
         (λ told. Promises told (asked_with (subcommand_rows_of matches.now)) outcome.out.items)) }
-    ensures untouched { OnErr (macros_for (request_in (asked_with (subcommand_rows_of matches.now))))
+    ensures untouched { OnErr
+        (macros_for (request_in (asked_with (subcommand_rows_of matches.now))))
         (files.new ≡ files.old) }
 {
     let (name, met) = matches.subcommand().unwrap();
