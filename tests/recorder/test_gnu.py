@@ -161,6 +161,54 @@ class DifferenceTest(ProjectTest):
         shutil.rmtree(folder)
         return text
 
+    def test_folders_in_which_make_looks_for_files(self) -> None:
+        told = (
+            "the makefile sets VPATH, by which GNU make takes old/a for a where that isn't there,"
+            " and makes it only if it is old: name each file with its folder, and set no VPATH"
+        )
+        rules = "out: a\n\tcat $< > out\na: x\n\tcp x a\n"
+        self.write({"makefile": f"VPATH = none:old\n{rules}", "x": "1\n", "old/a": "2\n"})
+        os.utime(self.folder / "x", (1e9, 1e9))
+        self.assertEqual(self.recorded().warnings(), [told])
+        self.assertEqual(self.recorded("VPATH=none").warnings(), [])
+        if shutil.which("make"):
+            copy = self.scratch / "copy"
+            shutil.copytree(self.folder, copy)
+            environment = {name: value for name, value in os.environ.items() if name not in OF_MAKE}
+            subprocess.run(["make", "-s"], cwd=copy, env=environment, check=True)
+            self.assertEqual((copy / "out").read_text(), "2\n")
+        self.write({"makefile": rules})
+        self.assertEqual(self.recorded().warnings(), [])
+        said = self.recorded(environment={"VPATH": "old"}).warnings()
+        self.assertEqual(said, [told.replace("the makefile", "the environment")])
+
+    def test_options_of_the_environment(self) -> None:
+        self.write({"makefile": "out: a\n\tcp a out\n", "a": ""})
+        front = "the environment sets"
+        for given, told in (
+            ({"MAKEFLAGS": "-j4 -s --no-print-directory"}, []),
+            ({"MAKEFLAGS": "-t", "MAKELEVEL": "1"}, []),
+            (
+                {"MAKEFLAGS": "-t CC=gcc", "GNUMAKEFLAGS": "-B"},
+                [
+                    f"{front} -t in MAKEFLAGS, by which make touches targets and doesn't run their"
+                    " commands; unset that when make is started",
+                    f"{front} CC=gcc in MAKEFLAGS, by which make does what isn't judged here; unset"
+                    " that when make is started",
+                    f"{front} -B in GNUMAKEFLAGS, by which make makes all anew each time; unset"
+                    " that when make is started",
+                ],
+            ),
+            (
+                {"MAKEFILES": "more.mk"},
+                [
+                    f"{front} MAKEFILES: GNU make reads the files that it names first, which aren't"
+                    " judged here; unset it when make is started"
+                ],
+            ),
+        ):
+            self.assertEqual(self.recorded(environment=given).warnings(), told, given)
+
     def test_a_goal_of_a_text_that_is_made_first(self) -> None:
         rules = "all: a\na:\n\techo > a\ndeps.mk: list\n\tcp list deps.mk\n"
         again = (

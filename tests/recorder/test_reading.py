@@ -23,6 +23,7 @@ from mkcheck_record.calls import (
 from mkcheck_record.faults import Fault  # noqa: E402
 from mkcheck_record.folders import Naming, is_plain_path  # noqa: E402
 from mkcheck_record.graphs import Command, read_graph  # noqa: E402
+from mkcheck_record.orders import OLD, OTHER, OTHER_OF_MADE, with_order  # noqa: E402
 from mkcheck_record.places import Place  # noqa: E402
 from mkcheck_record.trees import Tree  # noqa: E402
 
@@ -204,6 +205,47 @@ class GraphTest(unittest.TestCase):
         self.assertEqual(Command.of("@- + cc -c a.c"), Command("cc -c a.c", True))
         self.assertEqual(Command.of("cc -c a.c").words, ["/bin/sh", "-ec", "cc -c a.c"])
         self.assertEqual(Command.of("-x").words, ["/bin/sh", "-c", "x"])
+
+
+class OrdersTest(unittest.TestCase):
+    """Other orders of stamps, of files that are made as a graph says."""
+
+    def ordered(self, order: str, graph: str, files: str) -> str:
+        """The files of a recipe, oldest first, where they were made or edited in the given order;
+        names in capitals are sources."""
+        names = files.split()
+        ancestors = read_graph(f"goals all\n{graph}").ancestors()
+        stamps = {name: number for number, name in enumerate(names)}
+        made = {name: (name,) for name in names if name.islower()}
+        sources = [name for name in names if name.isupper()]
+        found = {**stamps, **with_order(order, stamps, made, sources, ancestors)}
+        self.assertEqual(len(set(found.values())), len(names))
+        return " ".join(sorted(names, key=lambda name: found[name]))
+
+    def test_orders(self) -> None:
+        graph = "X:\nY:\na recipe: X\nb recipe: Y\nc recipe: a\nall: a b c\n"
+        for files, other, of_made in (
+            ("X Y a b", "X a Y b", "X Y b a"),
+            ("X a b", "b X a", "X b a"),
+            ("X a c", "X a c", "X a c"),
+            ("a b c", "b a c", "b a c"),
+            ("X Y", "X Y", "X Y"),
+            ("Y X a", "Y X a", "Y X a"),
+            ("Y c", "c Y", "Y c"),
+        ):
+            self.assertEqual(self.ordered(OTHER, graph, files), other, files)
+            self.assertEqual(self.ordered(OTHER_OF_MADE, graph, files), of_made, files)
+            self.assertEqual(self.ordered(OLD, graph, files), files)
+
+    def test_side_by_side(self) -> None:
+        for text, beside in (
+            ("goals all\na recipe:\nb recipe:\nall: a b\n", True),
+            ("goals all\na recipe:\nb recipe:\nall: a .WAIT b\n", False),
+            ("goals all b\na recipe:\nb recipe:\nall: a .WAIT b\n", True),
+            ("goals b\na recipe:\nb recipe: a\n", False),
+        ):
+            self.assertEqual(not read_graph(text).ancestors().in_order("a", "b"), beside, text)
+            self.assertEqual(not read_graph(text).ancestors().in_order("b", "a"), beside, text)
 
 
 class NamesTest(unittest.TestCase):

@@ -18,6 +18,7 @@ from mkcheck_record.replaying import (
     AGAIN,
     BARE,
     DAMAGED,
+    ORDERED,
     Outcome,
     Replay,
     lines_that_differ,
@@ -31,6 +32,7 @@ FRONTS = {
     BARE: "in a folder that holds only what it is recorded to read",
     AGAIN: "where its own outputs are already there",
     DAMAGED: "where its outputs are there with other bytes and later stamps",
+    ORDERED: "where the files that it reads have their stamps in another order",
 }
 
 
@@ -245,6 +247,48 @@ class AgainTest(ReplayTest):
         names = [f"o{number}" for number in range(8)]
         rules = "".join(f"{name}:\n\techo > {name}\n" for name in names)
         self.passes(f"all: {' '.join(names)}\n{rules}")
+
+
+@traced
+@namespaces
+class OrderedTest(ReplayTest):
+    """What differs where the stamps of reads come in another order."""
+
+    rules = "a: x\n\tcp x a\nb: y\n\tcp y b\n"
+
+    def test_made_files(self) -> None:
+        files = {"x": "1\n", "y": "2\n"}
+        for way in (
+            "cat a b > out; if test a -nt b; then echo newer; fi >> out",
+            "cat a b > l; ls -t a b > out; rm l",
+            "cat a b > out; find a b -newer a >> out",
+        ):
+            makefile = f"out: a b\n\t{way}\n{self.rules}"
+            said = self.refused(makefile, "writes out with other contents", ORDERED, files)
+            self.assertIn("it compares stamps of files that recipes make, whose order is", said)
+
+    def test_made_files_and_sources(self) -> None:
+        makefile = "out: x b\n\tcat x b > out; test b -nt x\nb: y\n\tcp y b\n"
+        self.refused(makefile, "fails", ORDERED, {"x": "1\n", "y": "2\n"})
+
+    @unittest.skipUnless(shutil.which("tar"), "no tar")
+    def test_stamps_of_sources_that_are_stored(self) -> None:
+        """Each edit of a source gives another one, and each clean build finds the same one."""
+        files = {"x": "1\n", "y": "2\n"}
+        stored = "tar cf out x; cat a b >> out"
+        self.passes(f"out: x a b\n\t{stored}\n{self.rules}", files)
+        makefile = f"out: x a b\n\t{stored}; test b -nt a\n{self.rules}"
+        self.refused(makefile, "fails", ORDERED)
+
+    def test_files_that_are_made_in_one_order(self) -> None:
+        self.passes(
+            "all: out p q\nout: x a b\n\tcat x a b > out; test b -nt a; test a -nt x\n"
+            "a: x\n\tcp x a\nb: a\n\tcp a b\n"
+            # Sources have the same order in each build, and a stamp that is kept is its source's.
+            "p: x y a\n\tcat x y a > p; test y -nt x\n"
+            "q: x y c\n\tcat x y c > q; test c -nt x; test ! c -nt y\nc: y\n\tcp -p y c\n",
+            {"x": "1\n", "y": "2\n"},
+        )
 
 
 @traced

@@ -375,6 +375,43 @@ class ScratchTest(Refusals):
         self.assertEqual((outcome.own("a"), outcome.own("b")), (({"x"}, {"a"}), ({"x"}, {"b"})))
         self.assertEqual((outcome.warnings(), self.check()[0][:3]), ([], "yes"))
 
+    def test_a_private_scratch_file_outside_of_the_folder(self) -> None:
+        """It is made as `mkstemp` makes files, and has the same name in two recipes."""
+        lock = self.scratch / "lock"
+        script = (
+            "import os, sys\n"
+            "os.open(sys.argv[1], os.O_CREAT | os.O_EXCL | os.O_RDWR, 0o600)\n"
+            "os.unlink(sys.argv[1])\n"
+        )
+        python = os.path.realpath(sys.executable)
+        line = f"\t{python} -IB p {lock}; cp x $@\n"
+        outcome = self.of(
+            f"all: a b\na: x p\n{line}b: x p\n{line}",
+            {"x": "", "p": script},
+            *("--fixed", os.path.dirname(os.path.dirname(python))),
+        )
+        self.assertEqual(self.check(), [f"no writers a b {lock}"])
+        self.assertIn(f"the recipe of a makes and takes away {lock}, which", outcome.errors)
+
+    def test_looks_by_the_folder_of_a_process(self) -> None:
+        for path in ("/proc/self/cwd/b", f"/proc/self/root{self.folder}/b", "/proc/$$$$/cwd/b"):
+            outcome = self.of(
+                f"all: a b\na: x\n\ttest -e {path} || cp x a\nb: y\n\tcp y b\n",
+                {"x": "", "y": ""},
+            )
+            self.assertEqual(outcome.own("a"), ({"x", "b"}, {"a"}), path)
+            self.assertIn("no race a b b", self.check(), path)
+        self.of("a: x\n\tcp x t; mv t /proc/self/cwd/a\n")
+        self.assertEqual(self.check()[0][:3], "yes")
+
+    def test_a_stamp_in_vain(self) -> None:
+        """Where the file is there, it gets a stamp later than what it is made from."""
+        outcome = self.of(
+            "all: a b\na: x\n\ttouch -c b; cp x a\nb: y\n\tcp y b\n", {"x": "", "y": ""}
+        )
+        self.assertEqual(outcome.own("a"), ({"x", "b"}, {"a"}))
+        self.assertIn("no race a b b", self.check())
+
     def test_a_shared_scratch_file_that_has_no_name(self) -> None:
         said = self.refused(
             "all: a b\na: x\n\tcp x 't 1'; mv 't 1' a\nb: x\n\tcp x 't 1'; mv 't 1' b\n",
@@ -622,6 +659,30 @@ class ContentTest(Refusals):
                 f"b: a y\n\t{way}\na: x\n\tcp x a; sleep 0.05\n", {"x": "", "y": ""}
             )
             self.assertEqual(outcome.warnings(), told, way)
+
+    def test_a_link_to_an_older_file(self) -> None:
+        """Make goes by the stamp of the file to which a link leads."""
+        rules = "all: p\np: l\n\treadlink l > p\nl: c a b\n"
+        told = (
+            "the recipe of l makes l a link to a, which is older, and make goes by the stamp of"
+            " that: after a change of what the recipe reads, l may still look old, and what needs"
+            " it isn't made again; let the recipe make a file in place of the link"
+        )
+        for way, warnings in (
+            ("ln -sf `cat c` l", [told]),
+            ("cp -P k l; cat c", [told]),
+            ("ln -sf a l", []),
+            ("rm -f l; cp a n; ln -s n l; cat c", []),
+            ("ln -sf none l; cat c", []),
+        ):
+            self.write({"makefile": f"{rules}\t{way}\n", "a": "1\n", "b": "2\n", "c": "a\n"})
+            for name in "abc":
+                os.utime(self.folder / name, (1e9, 1e9))
+            if not os.path.lexists(self.folder / "k"):
+                (self.folder / "k").symlink_to("a")
+            said = [one for one in self.recorded().warnings() if "another name" not in one]
+            said = [one for one in said if "symbolic link" not in one]
+            self.assertEqual(said, warnings, way)
 
     def test_a_stamp_of_the_future(self) -> None:
         outcome = self.of("b: a\n\tcp a b; touch -d '10 seconds' b\n", {"a": ""})
@@ -970,6 +1031,34 @@ class ProcessTest(Refusals):
             "the recipe of out calls unshare with CLONE_NEWNS, mount: after that its paths", said
         )
 
+    @compiled
+    def test_calls_that_strace_does_not_see(self) -> None:
+        """A copy of a tree of files, and a filter that lets calls pass before strace does."""
+        tree = "syscall(428, -100, \".\", 1)"
+        program = (
+            "#include <linux/filter.h>\n#include <linux/seccomp.h>\n#include <sys/prctl.h>\n"
+            "#include <unistd.h>\n"
+            "int main(void) {\n"
+            "    struct sock_filter f = BPF_STMT(BPF_RET | BPF_K, SECCOMP_RET_ALLOW);\n"
+            "    struct sock_fprog p = {1, &f};\n"
+            "    prctl(PR_SET_NO_NEW_PRIVS, 1, 0, 0, 0);\n"
+            "    return CALL < 0;\n"
+            "}\n"
+        )
+        listens = "syscall(317, SECCOMP_SET_MODE_FILTER, SECCOMP_FILTER_FLAG_NEW_LISTENER, &p)"
+        for call, name in (
+            (tree, "open_tree"),
+            (listens, "seccomp with SECCOMP_FILTER_FLAG_NEW_LISTENER"),
+        ):
+            (self.folder / "q.c").write_text(program.replace("CALL", call))
+            done = subprocess.run(
+                ["cc", "-o", "p", "q.c"], cwd=self.folder, capture_output=True, check=False
+            )
+            if done.returncode or subprocess.run([self.folder / "p"], check=False).returncode:
+                continue
+            said = self.refused("out: p\n\t./p; cp p out\n")
+            self.assertIn(f"the recipe of out calls {name}: after that its paths", said)
+
     def test_strace_that_is_killed(self) -> None:
         self.write({"makefile": "out:\n\techo > out; kill -9 $$PPID; sleep 1; echo > late\n"})
         outcome = self.record()
@@ -1104,6 +1193,66 @@ class LateTest(Refusals):
             self.assertEqual(outcome.own("b"), (reads, {"b"}), way)
             self.assertEqual("no race b flag flag" in self.check(), "flag" in reads, way)
 
+    def test_scratch_files_that_are_there_for_a_moment(self) -> None:
+        """It doesn't matter which of the two recipes comes first."""
+        told = (
+            "the recipe of a does something else where t.c is there, which the recipe of b makes"
+            " and takes away: with several jobs it is there, so it counts as read; let a need b,"
+            " and record again"
+        )
+        maker = "b: y\n\tcp y t.c; cat t.c > b; rm t.c\n"
+        for way in (
+            "cat *.c > a",
+            "ls | sed -n /^t/p > a; cat m.c >> a",
+            "find . -name 't*' > a; cat m.c >> a",
+        ):
+            for goals in ("a b", "b a"):
+                user = f"a: m.c\n\t{way}\n"
+                outcome = self.of(f"all: {goals}\n{user}{maker}", {"m.c": "1\n", "y": "2\n"})
+                self.assertIn(told, outcome.warnings(), (way, goals))
+                self.assertIn("t.c", outcome.own("a")[0], (way, goals))
+                self.assertIn("t.c", outcome.own("b")[1], (way, goals))
+                self.assertIn("no race a b t.c", self.check(), (way, goals))
+            for mended in (
+                f"all: a\n{user}{maker}".replace("a: m.c", "a: m.c b"),
+                f"all: b\n{user}{maker}".replace("b: y", "b: y a"),
+                f".NOTPARALLEL:\nall: b a\n{user}{maker}",
+            ):
+                outcome = self.of(mended)
+                self.assertNotIn("t.c", outcome.own("a")[0] | outcome.own("b")[1], mended)
+                self.assertEqual(self.check()[0][:3], "yes", mended)
+
+    def test_scratch_files_that_are_taken_away(self) -> None:
+        rules = "".join(f"{name}: x\n\tcp x {name}.t; cp {name}.t {name}; WAY\n" for name in "ab")
+        for way in ("rm -f *.t", "find . -name '*.t' -delete", "for f in *.t; do rm $$f; done"):
+            outcome = self.of("all: a b\n" + rules.replace("WAY", way), {"x": "1\n"})
+            self.assertEqual(outcome.own("a")[1], {"a", "a.t", "b.t"}, way)
+            self.assertIn("no writers a b a.t", self.check(), way)
+            outcome = self.of("all: b\n" + rules.replace("WAY", way).replace("b: x", "b: x a"))
+            self.assertEqual(outcome.own("a")[1], {"a"}, way)
+            self.assertEqual((outcome.warnings(), self.check()[0][:3]), ([], "yes"), way)
+        for way in ("rm -f $@.*", "rm -f $@.t; ls *.none || :"):
+            outcome = self.of("all: a b\n" + rules.replace("WAY", way), {"x": "1\n"})
+            self.assertEqual((outcome.warnings(), self.check()[0][:3]), ([], "yes"), way)
+
+    def test_folders_without_files(self) -> None:
+        maker = "made: x\n\tmkdir -p d; cp x made\n"
+        for way in (
+            "if test -d d; then echo 1; else echo 2; fi > a; cat x >> a",
+            "find . -type d > a; cat x >> a",
+            "ls -p | grep / > a || cp x a",
+            "cp x a; cd d && cp ../x ../a.2 || :",
+        ):
+            outcome = self.of(f"all: a made\na: x\n\t{way}\n{maker}", {"x": "1\n"})
+            self.assertIn("d", outcome.own("a")[0], way)
+            self.assertEqual(outcome.own("made"), ({"x"}, {"d", "made"}), way)
+            self.assertIn("no race a made d", self.check(), way)
+            outcome = self.of(f"all: a\na: x made\n\t{way}\n{maker}")
+            self.assertEqual((outcome.warnings(), self.check()[0][:3]), ([], "yes"), way)
+        for way in ("test -d d || cp x a; cp x a", "ls > l; rm l; cp x a", "mkdir -p d; cp x a"):
+            outcome = self.of(f"all: a made\na: x\n\t{way}\n{maker}")
+            self.assertEqual((outcome.warnings(), self.check()[0][:3]), ([], "yes"), way)
+
     def test_a_listing_that_is_not_tested(self) -> None:
         makefile = "all: list d/b\nlist: x\n\tls d > list\nd/b: x\n\tcp x d/b\n"
         outcome = self.of(makefile, {"x": "", "d/.keep": ""}, "--no-replay")
@@ -1114,6 +1263,66 @@ class LateTest(Refusals):
                 " files later, such as d/b: nothing tests whether it uses these"
             ],
         )
+
+
+@traced
+class GlanceTest(Refusals):
+    """Files at which a recipe looks, and that it doesn't read: their sizes and stamps."""
+
+    replays = True
+
+    def setUp(self) -> None:
+        super().setUp()
+        if places.namespace() is None:
+            self.skipTest("no mount namespace is allowed")
+
+    def test_files_of_recipes_before(self) -> None:
+        maker = "e: y\n\tgrep none y > e || :\n"
+        script = "import os\ntry:\n    n = os.fstat(os.open('e', os.O_PATH)).st_size\n"
+        script += "except OSError:\n    n = 0\nprint(n)\n"
+        python = os.path.realpath(sys.executable)
+        fixed = ("--fixed", os.path.dirname(os.path.dirname(python)))
+        for way in (
+            "if test -s e; then echo 1; else echo 2; fi > a; cat x >> a",
+            "if test e -ot x; then echo 1; else echo 2; fi > a; cat x >> a",
+            f"{python} -IB p > a; cat x >> a",
+        ):
+            rules = f"a: x p\n\t{way}\n{maker}"
+            outcome = self.of(f"all: e a\n{rules}", {"x": "1\n", "y": "2\n", "p": script}, *fixed)
+            self.assertIn("e", outcome.own("a")[0], way)
+            self.assertIn("no race a e e", self.check(), way)
+            outcome = self.of("all: a\n" + rules.replace("x p", "x p e"), None, *fixed)
+            self.assertIn("e", outcome.own("a")[0], way)
+            self.assertEqual(self.check()[0][:3], "yes", way)
+
+    def test_sources(self) -> None:
+        self.write({"x": "1\n", "y.log": "2\n", "z.log": "", "e": ""})
+        for number, name in enumerate(("z.log", "y.log", "e")):
+            os.utime(self.folder / name, (1e9 + number, 1e9 + number))
+        for way, looked in (
+            ("if test -s e; then cp y.log a; else cp x a; fi", "e"),
+            ("if test z.log -nt e; then echo 1; else cp x a; fi", "e, z.log"),
+            ("cp `ls -t *.log | head -n 1` a", "z.log"),
+        ):
+            said = self.refused(f"a: x y.log\n\t{way}\n")
+            front = "the recipe of a, run where the files at which it only looks have other sizes"
+            self.assertIn(f"mkcheck-record: {front} and stamps, ", said, way)
+            self.assertIn("it depends on the size or the stamp of a file that it doesn't", said)
+            self.assertIn(f"\n\tit looks at {looked}\n", said, way)
+            outcome = self.of(f"a: x y.log\n\t{way}\n", None, "--trust", "a")
+            self.assertIn("and not shown to be right: the recipe of a, run where", outcome.errors)
+
+    def test_files_on_which_nothing_depends(self) -> None:
+        rules = "all: e a\na: x\n\tWAY\ne: y\n\tcp y e\n"
+        for way in (
+            "test -f e || :; cp x a",
+            "ls -l > l; rm l; cp x a",
+            "find . -name '*.none' > l; rm l; cp x a",
+            "for f in *; do test -s $$f || :; done; cp x a",
+        ):
+            outcome = self.of(rules.replace("WAY", way), {"x": "1\n", "y": "2\n"})
+            self.assertEqual((outcome.own("a"), outcome.warnings()), (({"x"}, {"a"}), []), way)
+            self.assertEqual(self.check()[0][:3], "yes", way)
 
 
 @traced

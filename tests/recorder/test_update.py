@@ -165,7 +165,8 @@ class CountTest(UpdateTest):
             text.replace("deep/stamp\n", "deep/stamp extra\n", 1)
             + "extra: deep/stamp\n\tcat deep/er/x > extra\n"
         )
-        self.assertEqual(self.after(lambda: put("makefile", text)), 1)
+        # The new recipe, and the one before which it is always made now.
+        self.assertEqual(self.after(lambda: put("makefile", text)), 2)
 
     def test_outputs_in_the_folder_count_for_nothing(self) -> None:
         self.start()
@@ -357,6 +358,40 @@ class LateTest(UpdateTest):
         self.assert_as_full()
         self.assertIn("d/c", self.full().own("list")[0])
 
+    def test_scratch_files_of_others(self) -> None:
+        """The recipe that makes one may be written anew, or be ordered otherwise."""
+        text = "all: a b\na: x\n\tcat *.t > a || cp x a\nb: x\n\tcp x b\n"
+        self.write({"makefile": text, "x": "1\n"})
+        self.assertEqual(self.count(self.update()), 2)
+        passing = text.replace("\tcp x b\n", "\tcp x b.t; mv b.t b\n")
+        self.write({"makefile": passing})
+        self.assertEqual(self.count(self.update()), 2)
+        self.assertIn("b.t", self.full().own("a")[0])
+        self.assert_as_full()
+        self.write({"makefile": passing.replace("a: x", "a: x b")})
+        self.assert_as_full()
+        self.assertNotIn("b.t", self.full().own("a")[0])
+
+    def test_what_is_always_made_before(self) -> None:
+        """Without it the replay finds no folder, or another order of stamps."""
+        dirs = "dirs: x\n\tmkdir -p d; cp x dirs\n"
+        for text, told in (
+            (f"all: dirs a\na: x dirs\n\tcp x d/x; cp x a\n{dirs}", "the folder d is made by"),
+            (
+                "a: x dirs c\n\tcat x c dirs > a; test c -nt dirs\n"
+                f"{dirs}c: x dirs\n\tcp x c\n",
+                "it compares stamps of files",
+            ),
+        ):
+            self.write({"makefile": text, "x": "1\n"})
+            self.assertEqual(self.update().status, 0)
+            self.assertEqual(self.count(self.update()), 0)
+            other = "a: x\n" if "all" in text else "c: x\n"
+            self.write({"makefile": text.replace(f"{other[:-1]} dirs\n", other)})
+            outcome = self.update()
+            self.assertEqual((outcome.status, self.full().status), (1, 1), outcome.errors)
+            self.assertIn(told, outcome.errors)
+
 
 @traced
 class StateTest(UpdateTest):
@@ -386,13 +421,13 @@ class StateTest(UpdateTest):
             "",
             "[]",
             "{}",
-            '{"format":2,"digest":"","state":{}}',
+            '{"format":3,"digest":"","state":{}}',
         ):
             self.state.write_text(text)
             self.assertEqual(self.all_again(), "isn't whole")
         self.state.write_bytes(b"\xff")
         self.assertEqual(self.all_again(), "can't be read")
-        self.state.write_text(whole.replace('"format":2', '"format":3', 1))
+        self.state.write_text(whole.replace('"format":3', '"format":2', 1))
         self.assertEqual(self.all_again(), "is of another version of mkcheck-record")
 
     def test_changed_by_hand(self) -> None:

@@ -16,11 +16,13 @@ INTERPRETERS_AT_MOST = 4
 EXCHANGE = "RENAME_EXCHANGE"
 DELETED = " (deleted)"
 SPACES = ("CLONE_NEWNS", "CLONE_NEWPID")
+LISTENER = "SECCOMP_FILTER_FLAG_NEW_LISTENER"
 # The programs that count as a make: each reads a makefile or a ninja file whose recipes aren't
 # judged here.
 MAKES = re.compile(r"(?:g|b|p|f|s|re|pdp|ck)?make(?:-[0-9.]+)?|ninja(?:-build)?|samu|kati|ckati")
 # Sockets that look up users and machines, or take log messages: asking them changes no file.
 SYSTEM_SOCKETS = ("/var/run/nscd/", "/run/nscd/", "/run/systemd/", "/var/run/systemd/", "/dev/log")
+OF_PROCESS = re.compile(r"/proc/(self|thread-self|\d+)/(cwd|root)(?=/|$)")
 SOCKET = re.compile(r'sun_path=@?("(?:[^"\\\\]|\\\\.)*")')
 ADDRESS = re.compile(r'inet_(?:addr|pton)\((?:AF_INET6, )?"([^"]*)"')
 PORT = re.compile(r"sin6?_port=htons\((\d+)\)")
@@ -65,9 +67,6 @@ class Accesses:
 
     sought: dict[str, None] = field(default_factory=dict)
     """Paths at which it looked when nothing was there."""
-
-    alone: set[str] = field(default_factory=set)
-    """Files outside of the project that it made as `mkstemp` makes them."""
 
     folders: dict[str, None] = field(default_factory=dict)
     """Folders that it made."""
@@ -346,7 +345,19 @@ class Follower:
             base = self.descriptor(call.arguments[folder]) or base
             if call.arguments[folder].startswith("AT_FDCWD"):
                 standing.path = base
-        return os.path.join(base, name) if name else base
+        return self.plainly(call, os.path.join(base, name) if name else base)
+
+    def plainly(self, call: Call, path: str) -> str:
+        """A path without `/proc/self/cwd` or `/proc/self/root` at its front."""
+        found = OF_PROCESS.match(path)
+        if found is None:
+            return path
+        process, kind = found.groups()
+        if kind == "root":
+            return path[found.end() :] or "/"
+        number = int(process) if process.isdigit() else call.process
+        standing = self.standings.get(number)
+        return path if standing is None else standing.path + path[found.end() :]
 
     def descriptor(self, argument: str) -> str | None:
         """The path behind a descriptor.
@@ -400,6 +411,7 @@ class Follower:
         else:
             self.accesses.reach(name)
         if "O_PATH" in flags or "O_DIRECTORY" in flags or "O_TMPFILE" in flags:
+            self.accesses.look(name)
             return
         if self.accesses.tree.has(real):
             self.at_work.add(call.process)
@@ -407,8 +419,6 @@ class Follower:
         written = "O_WRONLY" in flags or "O_RDWR" in flags
         if not new and not (written and "O_TRUNC" in flags):
             self.accesses.read(real)
-        if new and is_temporary(call, flags) and not self.accesses.tree.has(real):
-            self.accesses.alone.add(real)
         if written or new:
             self.accesses.write(real)
 
@@ -608,6 +618,16 @@ class Follower:
     def on_chroot(self, call: Call) -> None:
         self.accesses.strange.setdefault(call.name)
 
+    def on_open_tree(self, call: Call) -> None:
+        """What is opened below a copy of a tree has paths that begin there."""
+        if any("OPEN_TREE_CLONE" in argument for argument in call.arguments):
+            self.accesses.strange.setdefault(call.name)
+
+    def on_seccomp(self, call: Call) -> None:
+        """Another process may let calls pass before strace sees them."""
+        if any(LISTENER in argument for argument in call.arguments):
+            self.accesses.strange.setdefault(f"seccomp with {LISTENER}")
+
     def on_unshare(self, call: Call) -> None:
         self.standings[call.process] = Standing(self.standing(call).path)
         for space in SPACES:
@@ -634,12 +654,6 @@ class Follower:
                 self.accesses.servers.setdefault(f"the socket {path}")
         elif host is not None and port is not None and port.group(1) not in ("0", "53"):
             self.accesses.servers.setdefault(f"{host.group(1)}, port {port.group(1)}")
-
-
-def is_temporary(call: Call, flags: str) -> bool:
-    """Whether a file is made as `mkstemp` makes it, which takes another name each time."""
-    private = any(one == "0600" or "mode=0600" in one for one in call.arguments)
-    return private and "O_RDWR" in flags and "O_EXCL" in flags
 
 
 def same(known: Owner, mode: str, user: str, group: str) -> bool:

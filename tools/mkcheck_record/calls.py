@@ -42,6 +42,10 @@ TRACED = (
         "setns",
         "bind",
         "connect",
+        "seccomp",
+        "open_tree",
+        "open_tree_attr",
+        "fsmount",
     ),
     *FORKS,
 )
@@ -55,8 +59,14 @@ LOOKS: dict[str, tuple[int | None, int]] = {
 LOOKS_IN_VAIN: dict[str, tuple[int | None, int]] = {
     **dict.fromkeys(("open", "execve", "chdir", "readlink", "mkdir"), (None, 0)),
     **dict.fromkeys(("openat", "openat2", "execveat", "readlinkat", "mkdirat"), (0, 1)),
-    **dict.fromkeys(("unlink", "rmdir", "rename"), (None, 0)),
-    **dict.fromkeys(("unlinkat", "renameat", "renameat2"), (0, 1)),
+    **dict.fromkeys(("unlink", "rmdir", "rename", "link", "mknod"), (None, 0)),
+    **dict.fromkeys(("unlinkat", "renameat", "renameat2", "linkat", "mknodat"), (0, 1)),
+    **dict.fromkeys(("truncate", "truncate64", "utime", "utimes", "chmod", "chown"), (None, 0)),
+    **dict.fromkeys(("lchown", "chown32", "lchown32", "setxattr", "lsetxattr"), (None, 0)),
+    **dict.fromkeys(("utimensat", "utimensat_time64", "futimesat"), (0, 1)),
+    **dict.fromkeys(("fchmodat", "fchmodat2", "fchownat"), (0, 1)),
+    "symlink": (None, 1),
+    "symlinkat": (1, 2),
 }
 # Calls that write, with the arguments that have the folder, if any, and the name. A name of None
 # stands for a file that is open. Where a file system is read-only, they fail by that error, and
@@ -75,8 +85,9 @@ WRITINGS: dict[str, tuple[int | None, int | None]] = {
     **dict.fromkeys(("fchmod", "fchown", "fchown32", "fsetxattr", "fremovexattr"), (0, None)),
 }
 READ_ONLY = "EROFS"
-# How many arguments of a look tell the name.
+# How many arguments tell the name of a look, and of a call that fails.
 NAMES_AT_MOST = 2
+NAMES_IN_VAIN = 3
 # Calls that take a name away. Where nothing stands there, or a folder that isn't empty, they fail,
 # and yet another time they might not: these failures are kept.
 REMOVALS = ("unlink", "unlinkat", "rmdir", "rename", "renameat", "renameat2")
@@ -100,6 +111,8 @@ SAME = {
     "mount": "chroot",
     "move_mount": "chroot",
     "umount2": "chroot",
+    "fsmount": "chroot",
+    "open_tree_attr": "open_tree",
 }
 
 LINE = re.compile(r"(\d+) +(.*)")
@@ -245,7 +258,7 @@ class Trace:
             arguments, _ = split(text, begun.end())
             self.found.append(Call(self.lines, process, name, tuple(arguments), error, True))
         elif removes or (self.looking and name in (*LOOKS, *LOOKS_IN_VAIN)):
-            arguments, _ = split(text, begun.end(), NAMES_AT_MOST)
+            arguments, _ = split(text, begun.end(), NAMES_IN_VAIN)
             self.found.append(Call(self.lines, process, name, tuple(arguments), error, True))
 
     def keep(self, call: Call) -> None:

@@ -1,8 +1,9 @@
-"""Options that a makefile gives to make by the macro MAKEFLAGS: GNU make takes them from there."""
+"""Options that a makefile gives to make by the macro MAKEFLAGS, and those of the environment: GNU
+make takes them from there."""
 
 from __future__ import annotations
 
-from collections.abc import Callable, Iterator
+from collections.abc import Callable, Iterator, Mapping
 
 from .faults import Fault
 
@@ -100,3 +101,26 @@ def check_options(value: str, without_rules: bool, warn: Callable[[str], None]) 
                 warn(f"{front}, by which GNU make {WARNED[letter]}")
         elif not letter or letter not in PLAIN:
             warn(f"{front}: what make does by that isn't judged here")
+
+
+def warn_of_given_options(environment: Mapping[str, str], warn: Callable[[str], None]) -> None:
+    """Warns of variables by which GNU make reads other makefiles, and by which makes take options
+    that change a build. What a make hands down to a recipe that records says nothing of others.
+    """
+    if environment.get("MAKEFILES", "").strip():
+        warn(
+            "the environment sets MAKEFILES: GNU make reads the files that it names first, which"
+            " aren't judged here; unset it when make is started"
+        )
+    if "MAKELEVEL" in environment:
+        return
+    for variable in ("MAKEFLAGS", "GNUMAKEFLAGS"):
+        for shown, letter in options_of(environment.get(variable, "")):
+            does = {**REFUSED, **WARNED}.get(letter)
+            if does is None and (not letter or letter not in PLAIN):
+                does = "does what isn't judged here"
+            if does is not None:
+                warn(
+                    f"the environment sets {shown} in {variable}, by which make {does}; unset that"
+                    " when make is started"
+                )

@@ -83,6 +83,11 @@ def is_plain_path(name: str) -> bool:
     return ".." not in parts[ups:]
 
 
+def is_own(name: str) -> bool:
+    """Whether a name is that of a file in the project's folder."""
+    return not name.startswith("/") and name.split("/", 1)[0] != ".."
+
+
 def plain_folder(folder: str) -> str:
     """A folder for temporary files whose path a makefile can hold as it is: this one, else /tmp."""
     return folder if PLAIN.fullmatch(folder) else "/tmp"

@@ -209,15 +209,11 @@ def listed_in(accesses: Accesses, naming: Naming) -> Iterator[str]:
 
 
 def is_gone(path: str, accesses: Accesses) -> bool:
-    """Whether a file or a folder that a recipe made or took away is gone.
-
-    Outside of the folder those don't count that were made as `mkstemp` makes them: another time
-    they have other names.
-    """
+    """Whether a file or a folder that a recipe made or took away is gone."""
     tree = accesses.tree
     if tree.has(path):
         return kind_of(tree, path) not in (stat.S_IFREG, stat.S_IFLNK, stat.S_IFDIR)
-    if path.startswith(UNWRITTEN) or path.endswith(DELETED) or path in accesses.alone:
+    if path.startswith(UNWRITTEN) or path.endswith(DELETED):
         return False
     return tree.status(path) is None
 
@@ -337,6 +333,7 @@ def warn_of_stamps(
     footprint: Footprint, accesses: Accesses, naming: Naming, begun: int, warn: Warn
 ) -> None:
     """A file is told to which a recipe gave a stamp from before its own begin, or of the future.
+    So is a link to a file that is older.
 
     `begun` is the stamp of a file that was made then, in nanoseconds. The stamp of the only file
     that the recipe reads and that can change is new enough: each change of that file gives a later
@@ -344,6 +341,7 @@ def warn_of_stamps(
     """
     tree = accesses.tree
     changing = [name for name in footprint.reads if not naming.is_fixed(name)]
+    warn_of_old_links(footprint, tree, changing, naming, begun, warn)
     only = tree.status(os.path.join(tree.root, changing[0])) if len(changing) == 1 else None
     for name in footprint.writes:
         path = os.path.join(tree.root, name)
@@ -364,6 +362,33 @@ def warn_of_stamps(
             warn(
                 f"{front} a stamp of the future: make takes it for newer than what changes until"
                 f" then; let the recipe end with touch {name}"
+            )
+
+
+def warn_of_old_links(
+    footprint: Footprint, tree: Tree, changing: list[str], naming: Naming, begun: int, warn: Warn
+) -> None:
+    """A link is told that a recipe makes and that leads to an older file, by whose stamp make goes.
+
+    Where the recipe reads nothing else that can change, the link leads there each time.
+    """
+    for name in footprint.writes:
+        path = os.path.join(tree.root, name)
+        if kind_of(tree, path) != stat.S_IFLNK:
+            continue
+        goal, _ = tree.follow(path)
+        try:
+            status = os.stat(tree.place.real(goal))
+        except OSError:
+            continue
+        apart = 0 if status.st_ctime_ns % SECOND else COARSE
+        other = naming.name(goal) or goal
+        if status.st_mtime_ns < begun - apart and {*changing} - {other}:
+            warn(
+                f"the recipe of {footprint.recipe.target} makes {name} a link to {shown(other)},"
+                " which is older, and make goes by the stamp of that: after a change of what the"
+                f" recipe reads, {name} may still look old, and what needs it isn't made again; let"
+                " the recipe make a file in place of the link"
             )
 
 

@@ -2,6 +2,7 @@
 
 from __future__ import annotations
 
+import hashlib
 import json
 import os
 import re
@@ -105,11 +106,13 @@ class Node:
 class Ancestors:
     """For each name those that are always made before it: its prerequisites, theirs, and so on.
 
-    Each name has a bit, and the bits of its ancestors.
+    Each name has a bit, and the bits of its ancestors. `serial` tells that no two names are ever
+    made side by side.
     """
 
     bits: dict[str, int] = field(default_factory=dict)
     above: dict[str, int] = field(default_factory=dict)
+    serial: bool = False
 
     def add(self, name: str, prerequisites: Iterable[str]) -> None:
         """A name whose prerequisites were added before it."""
@@ -123,11 +126,16 @@ class Ancestors:
         above = self.above.get(name, 0)
         return any(above & self.bits.get(other, 0) for other in others)
 
+    def in_order(self, one: str, other: str) -> bool:
+        """Whether two names are never made side by side, as far as prerequisites tell."""
+        return self.serial or self.any_before((one,), other) or self.any_before((other,), one)
+
 
 @dataclass(frozen=True)
 class Graph:
     """The names of a graph in serial order, its recipes, the whole text, its goals, each name's
-    prerequisites, the phony names, and whether `.WAIT` parts prerequisites of one."""
+    prerequisites, the phony names, whether `.WAIT` parts prerequisites of one, and whether it parts
+    all, so that recipes of the one goal never run side by side."""
 
     names: list[str]
     recipes: list[Recipe]
@@ -136,6 +144,7 @@ class Graph:
     prerequisites: dict[str, list[str]] = field(default_factory=dict)
     phony: frozenset[str] = frozenset()
     waits: bool = False
+    serial: bool = False
 
     @property
     def targets(self) -> frozenset[str]:
@@ -151,9 +160,17 @@ class Graph:
             if name not in self.phony and not self.prerequisites.get(name)
         )
 
+    def orders(self) -> dict[str, str]:
+        """For each name a digest of what is always made before it, and in which order."""
+        found: dict[str, str] = {}
+        for name in self.names:
+            above = sorted(found.get(one, one) for one in self.prerequisites.get(name, []))
+            found[name] = hashlib.sha256("\0".join([name, *above]).encode("utf-8")).hexdigest()
+        return found
+
     def ancestors(self) -> Ancestors:
         """What is always made before what."""
-        found = Ancestors()
+        found = Ancestors(serial=self.serial)
         for name in self.names:
             found.add(name, self.prerequisites.get(name, []))
         return found
@@ -299,6 +316,7 @@ def read_graph(text: str) -> Graph:
     prerequisites: dict[str, list[str]] = {}
     phony: set[str] = set()
     waits = open_ended = False
+    serial = True
     head, *lines = text.split("\n")[:-1]
     for line in lines:
         if open_ended:
@@ -310,6 +328,7 @@ def read_graph(text: str) -> Graph:
             names.append(node.name)
             prerequisites[node.name] = node.prerequisites
             waits |= len(node.groups) > 1
+            serial &= all(len(group) == 1 for group in node.groups)
             if node.phony:
                 phony.add(node.name)
             if node.recipe:
@@ -317,7 +336,8 @@ def read_graph(text: str) -> Graph:
             continue
         open_ended = goes_on(line)
     goals = head.split(" ")[1:]
-    return Graph(names, recipes, text, goals, prerequisites, frozenset(phony), waits)
+    serial &= len(goals) == 1
+    return Graph(names, recipes, text, goals, prerequisites, frozenset(phony), waits, serial)
 
 
 def target_that_is_not_utf8(text: bytes) -> str:

@@ -3,6 +3,9 @@
 A recipe that lists a folder sees no name that isn't there yet, and one that looks for a folder in
 vain, or makes it, doesn't look into it. With several jobs, or another time, the files are there. So
 the replay runs such a recipe once more beside its late files, and tells which of them it uses.
+
+Late are, too, folders that stay empty of files, and the scratch files of recipes that may run
+beside it: these are there for a moment, whether that recipe comes earlier or later.
 """
 
 from __future__ import annotations
@@ -11,7 +14,9 @@ import hashlib
 from collections.abc import Iterator, Mapping, Sequence
 from dataclasses import dataclass, replace
 
+from .folders import is_own, is_plain_path
 from .footprints import Footprint
+from .graphs import Ancestors
 
 # The name of the project's folder.
 ROOT = "."
@@ -40,7 +45,10 @@ def folders_of(name: str) -> Iterator[str]:
 
 
 def late_files(
-    footprints: Sequence[Footprint], given: frozenset[str], with_made: bool = True
+    footprints: Sequence[Footprint],
+    given: frozenset[str],
+    ancestors: Ancestors,
+    with_made: bool = True,
 ) -> Late:
     """The late files of each recipe that has some, by its target.
 
@@ -49,23 +57,53 @@ def late_files(
     `with_made` this doesn't count.
     """
     since = {ROOT: -1, **dict.fromkeys(given, -1)}
-    written: dict[str, None] = {}
+    later: dict[str, None] = {}
     for number, footprint in enumerate(footprints):
         for name in (*footprint.made, *footprint.writes):
             since.setdefault(name, number)
-        written.update(dict.fromkeys(footprint.writes))
+        later.update(dict.fromkeys(footprint.writes))
+    filled = {folder for name in later for folder in folders_of(name)}
+    empty = {name for footprint in footprints for name in footprint.made if name not in filled}
+    later.update(dict.fromkeys(empty))
+    passing: dict[str, list[str]] = {}
+    for footprint in footprints:
+        for name in scratch_of(footprint):
+            if name not in since:
+                passing.setdefault(name, []).append(footprint.recipe.target)
     found: dict[str, tuple[str, ...]] = {}
     for number, footprint in enumerate(footprints):
+        target = footprint.recipe.target
         sought = footprint.sought | footprint.made if with_made else footprint.sought
-        if footprint.listed or sought:
-            names = sorted(
-                name
-                for name in written
-                if since[name] > number and is_met(name, number, since, footprint.listed, sought)
+        if not footprint.listed and not sought:
+            continue
+        met = [name for name in later if since[name] > number]
+        met += [name for name in passing if name not in footprint.scratch]
+        names = sorted(
+            name
+            for name in met
+            if (
+                is_met(name, number, since, footprint.listed, sought)
+                or (name in empty and name in footprint.sought)
             )
-            if names:
-                found[footprint.recipe.target] = tuple(names)
+            and (name not in passing or is_beside(target, passing[name], ancestors))
+        )
+        if names:
+            found[target] = tuple(names)
     return found
+
+
+def is_beside(target: str, others: Sequence[str], ancestors: Ancestors) -> bool:
+    """Whether a recipe may run side by side with one of these."""
+    return not all(other == target or ancestors.in_order(target, other) for other in others)
+
+
+def scratch_of(footprint: Footprint) -> list[str]:
+    """The files of the project that a recipe makes and takes away, without folders that hold some.
+    """
+    names = footprint.scratch - footprint.lost - footprint.dropped
+    names = {name for name in names if is_own(name) and is_plain_path(name)}
+    around = {folder for name in names for folder in folders_of(name)}
+    return sorted(names - around)
 
 
 def is_met(

@@ -6,10 +6,10 @@ import os
 import subprocess
 from collections.abc import Sequence
 
+from .folders import is_own
 from .footprints import Footprint, Warn
 from .graphs import Graph
 from .refusals import listed
-from .worlds import is_own
 
 
 def warn_of_left_over(

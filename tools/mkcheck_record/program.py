@@ -17,6 +17,7 @@ from .comparing import compare_again, compare_make
 from .dates import dated
 from .ending import ended, write_text
 from .faults import Fault, RecipeFault
+from .flags import warn_of_given_options
 from .folders import SYSTEM, Naming, prefix_of, scratch_folder, sources_in
 from .graphs import Checker, Graph, Refused, asked_graph, find_checker, warn_of_varying
 from .late import with_met
@@ -28,6 +29,7 @@ from .recording import Recorded, Workshop, record
 from .remade import warn_of_goal, warn_of_remade
 from .replaying import Replay
 from .refusals import check_opaque, listed
+from .searched import warn_of_searched
 from .states import Unusable, path_of_state
 from .unlooked import warn_of_unlooked
 from .updating import FIRST_TIME, Conditions, Updating, believed, hidden_names
@@ -161,13 +163,15 @@ def record_and_write(asked: argparse.Namespace, folder: str, scratch: str) -> No
     warn_of_remade(prober, warn)
     warn_of_goal(graph, prober, warn)
     warn_of_wait(graph, prober, warn)
+    warn_of_searched(graph, prober, files, warn)
+    warn_of_given_options(os.environ, warn)
     if not warn_of_rules(graph, prober, files, warn) and not graph.recipes:
         warn("the goals reach no recipe: is a macro misspelt?")
     varying = warn_of_varying(checker, fixed, files, scratch, warn)
     shop = workshop(asked, folder, graph, hidden, scratch, warn)
     shop.varying = frozenset(varying)
     shop.macros = handed_down(prober, operands)
-    shop.updating = updating_of(asked, shop, fixed, warn)
+    shop.updating = updating_of(asked, shop, graph, fixed, warn)
     follows = not asked.no_replay or shop.updating is not None
     follow = shop.follow if follows else None
     recorded = record(shop, graph.recipes, tuple(fixed), warn, follow)
@@ -220,7 +224,11 @@ def must_repeat(asked: argparse.Namespace, updating: Updating, recorded: Recorde
 
 
 def updating_of(
-    asked: argparse.Namespace, shop: Workshop, fixed: list[str], warn: Callable[[str], None]
+    asked: argparse.Namespace,
+    shop: Workshop,
+    graph: Graph,
+    fixed: list[str],
+    warn: Callable[[str], None],
 ) -> Updating | None:
     """What an update knows of the recording before; it tells where all has to be recorded."""
     if not asked.update:
@@ -236,7 +244,7 @@ def updating_of(
         shop.environment,
     )
     book = os.path.realpath(asked.update)
-    updating = Updating(book, conditions, warn=warn)
+    updating = Updating(book, conditions, orders=graph.orders(), warn=warn)
     try:
         updating.state = believed(book, conditions)
     except Unusable as reason:

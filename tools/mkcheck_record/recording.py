@@ -14,7 +14,7 @@ from dataclasses import dataclass, field
 from . import tracing
 from .accesses import Accesses, Follower
 from .faults import RecipeFault
-from .folders import UNWRITTEN, Naming, copy
+from .folders import UNWRITTEN, Naming, copy, is_own
 from .footprints import Footprint, Warn, footprint_of, kind_of, named, refuse_forbidden
 from .footprints import warn_of_stamps
 from .graphs import VARYING_HELP, Ancestors, Command, Recipe
@@ -25,7 +25,7 @@ from .refusals import refuse_unmade, refuse_unseen
 from .trees import Tree
 from .versions import Store, Version, version_of
 from .updating import Updating
-from .worlds import Effects, World, is_own
+from .worlds import Effects, World
 
 Follow = Callable[[], World]
 
@@ -83,16 +83,17 @@ class Recorded:
     failures: list[str] = field(default_factory=list)
     world: World | None = None
     given: frozenset[str] = frozenset()
+    ancestors: Ancestors = field(default_factory=Ancestors)
 
     @functools.cached_property
     def late(self) -> Late:
         """The late files of recipes."""
-        return late_files(self.footprints, self.given)
+        return late_files(self.footprints, self.given, self.ancestors)
 
     @functools.cached_property
     def looked_late(self) -> Late:
         """The late files of recipes that listed their folders or looked for them."""
-        return late_files(self.footprints, self.given, with_made=False)
+        return late_files(self.footprints, self.given, self.ancestors, with_made=False)
 
     @functools.cached_property
     def writers(self) -> dict[str, list[str]]:
@@ -122,7 +123,7 @@ def record(
     naming = Naming(shop.place.seen, fixed)
     progress = Progress(len(recipes))
     given = frozenset(named([*tree.there, *tree.folders], naming))
-    done = Recorded([], [], [], world, given)
+    done = Recorded([], [], [], world, given, shop.ancestors)
     failed: set[str] = set()
     try:
         for recipe in recipes:

@@ -1,13 +1,14 @@
 """Runs each recipe again in a folder that holds only what its record names, and compares.
-Three runs, and for a recipe with late files a fourth, each in a folder that appears at the
-project's own path:
+Three runs, and for some recipes more, each in a folder that appears at the project's own path:
 
 - *bare*: the folder holds the recorded reads, as they were when the recipe ran. Those that recipes
   make have later stamps, as in another build.
-- *again*: the same, and the recipe's own outputs.
+- *again*: the same, and the recipe's own outputs. Stamps of reads are in another order.
 - *damaged*: the same, but its outputs hold other bytes and have the newest stamps.
-- *late*: the folder of the bare run, with a short file for each late one. Traced, since it tells
-  which of them the recipe uses.
+- *looked*: where the recipe looked at files that it didn't read. The folder of the bare run, with
+  these files in other sizes, and with newer stamps in another order.
+- *late*: where there are late files. The folder of the bare run, with a short file for each late
+  one. Traced, since it tells which of them the recipe uses.
 
 Folders that no recipe made are there too, folders that recipes make which always run before, and
 the links over which the recipe went when it was recorded.
@@ -21,12 +22,12 @@ import os
 import stat
 import threading
 import time
-from collections.abc import Iterator, Mapping
+from collections.abc import Iterable, Iterator, Mapping
 from concurrent.futures import Future, ThreadPoolExecutor
 from dataclasses import dataclass, field, replace
 from pathlib import Path
 
-from . import places
+from . import orders, places
 from .accesses import Accesses, Follower
 from .faults import Fault
 from .folders import remove
@@ -34,13 +35,13 @@ from .graphs import Ancestors
 from .late import Late, Met, folders_of
 from .places import Place
 from .progress import Progress, first_line
-from .stamps import with_later_stamps
+from .stamps import made_since, with_later_stamps
 from .tracing import read_trace, strace
 from .trees import Tree
 from .versions import FILE, FOLDER, LINK, Version, lay, version_of
 from .worlds import GIVEN, Trial, World, entries, mode_of
 
-BARE, AGAIN, DAMAGED = "bare", "again", "damaged"
+BARE, AGAIN, DAMAGED, LOOKED, ORDERED = "bare", "again", "damaged", "looked", "ordered"
 OTHER_BYTES = (
     b"These bytes were put here by mkcheck-record, to see whether the recipe writes the file"
     b" anew.\n"
@@ -51,6 +52,8 @@ LEAST_SECONDS = 60.0
 TIMES_AS_LONG = 20.0
 LINES_SHOWN = 20
 SHOWN_BYTES = 1 << 16
+# Between the stamps of files that a recipe only looks at, in nanoseconds.
+APART = 1000
 
 
 @dataclass(frozen=True)
@@ -96,6 +99,9 @@ class Outcome:
 
     met: Met | None = None
     """What it needed besides its reads."""
+
+    glanced: tuple[str, ...] = ()
+    """The files at which it only looked, where a run shows that it depends on one."""
 
     @property
     def passed(self) -> bool:
@@ -192,6 +198,9 @@ class Replay:
                 outcome = self.tried(tried, place, folders)
                 if outcome.run != BARE:
                     met = Met(seen=frozenset(seen))
+                    if outcome.passed:
+                        outcome, more = self.glancing(tried, place, folders, outcome)
+                        met = Met(seen=met.seen | more)
                     if late:
                         self.furnish(tried, folder, folders)
                         met = replace(self.beside(tried, place, late), seen=met.seen)
@@ -206,9 +215,27 @@ class Replay:
             remove(folder)
 
     def tried(self, trial: Trial, place: Place, folders: frozenset[str]) -> Outcome:
-        """The runs of a recipe in a folder that is made for them."""
+        """The runs of a recipe in a folder that is made for them.
+
+        Where one fails or differs over outputs, they are repeated with the stamps in the old order.
+        A recipe may store the stamps of sources: then only made files get others.
+        """
+        outcome = self.tried_with(trial, place, folders, orders.OTHER)
+        if outcome.passed or outcome.run == BARE:
+            return outcome
+        found = self.tried_with(trial, place, folders, orders.OLD)
+        if not found.passed:
+            return found
+        if not self.tried_with(trial, place, folders, orders.EARLIER).passed:
+            outcome = self.tried_with(trial, place, folders, orders.OTHER_OF_MADE)
+        return outcome if outcome.passed else replace(outcome, run=ORDERED)
+
+    def tried_with(
+        self, trial: Trial, place: Place, folders: frozenset[str], order: str
+    ) -> Outcome:
+        """The runs of a recipe in a folder that is made for them, with this order of stamps."""
         self.furnish(trial, place.folder, folders)
-        outcome = self.runs(trial, place)
+        outcome = self.runs(trial, place, order)
         remove(place.folder)
         return outcome
 
@@ -232,8 +259,9 @@ class Replay:
         if len(listed) > len(looked):
             yield listed
 
-    def runs(self, trial: Trial, place: Place) -> Outcome:
-        """The runs of a recipe in a folder, up to the first that shows something."""
+    def runs(self, trial: Trial, place: Place, order: str) -> Outcome:
+        """The runs of a recipe in a folder, up to the first that shows something. `order` tells
+        which stamps its reads get when its outputs are there."""
         while int(time.time()) <= int(trial.ended):
             time.sleep(0.05)
         laid = stamps_of(trial, place.folder)
@@ -252,6 +280,8 @@ class Replay:
         if not outputs:
             return outcome
         laid = self.restore(trial, place.folder)
+        if self.reorder(trial, place.folder, order):
+            laid = stamps_of(trial, place.folder)
         paths = {name: os.path.join(place.folder, name) for name in outputs}
         old = {name: aged(path) for name, path in paths.items()}
         self.close(trial, place.folder)
@@ -295,6 +325,74 @@ class Replay:
             return Outcome(trial, run, failed)
         return Outcome(trial, run, "", tuple(self.compared(trial, place.folder, laid)))
 
+    def glancing(
+        self, trial: Trial, place: Place, folders: frozenset[str], outcome: Outcome
+    ) -> tuple[Outcome, frozenset[str]]:
+        """The outcome of a recipe that passed, when it has run beside other versions of the files
+        at which it only looks; and those of them that recipes made, if it depends on these.
+
+        An edit makes a file the newest one, and another edit may leave a made file the oldest one.
+        """
+        made, given = self.world.glanced(trial)
+        newest: frozenset[str] = frozenset()
+        found = self.looking(trial, place, folders, {**made, **given}, {}, newest)
+        if not found.passed:
+            if given and made:
+                apart = self.looking(trial, place, folders, made, given, newest)
+                made = {} if apart.passed else made
+            if made:
+                return outcome, frozenset(made)
+            return replace(found, glanced=tuple(sorted(given))), frozenset()
+        oldest = frozenset(name for name in made if not self.needs_any(name, trial.before))
+        if oldest and not self.looking(trial, place, folders, made, {}, oldest).passed:
+            return outcome, frozenset(made)
+        return outcome, frozenset()
+
+    def needs_any(self, name: str, others: Iterable[str]) -> bool:
+        """Whether one of some files is always made before a file that recipes make."""
+        makers = [maker for other in others for maker in (other, *self.writers.get(other, ()))]
+        return any(self.ancestors.any_before(makers, one) for one in self.writers.get(name, ()))
+
+    def looking(
+        self,
+        trial: Trial,
+        place: Place,
+        folders: frozenset[str],
+        others: Mapping[str, Version],
+        same: Mapping[str, Version],
+        first: frozenset[str],
+    ) -> Outcome:
+        """A run beside other versions of some files, and beside others as they were. The files in
+        `first` are older than all that the recipe reads, the rest are newer.
+        """
+        if not others:
+            return Outcome(trial)
+        self.furnish(trial, place.folder, folders)
+        found = [(name, *self.world.material(name, version)) for name, version in others.items()]
+        found.sort(key=lambda one: (one[0] not in first, -one[2].stamp))
+        paths = [os.path.join(place.folder, name) for name in trial.before]
+        oldest = min(os.lstat(path).st_mtime_ns for path in paths) if paths else time.time_ns()
+        early, late = (stamp - APART * len(found) for stamp in (oldest, time.time_ns()))
+        with contextlib.suppress(OSError):
+            for name in [*others, *same]:
+                os.makedirs(os.path.dirname(os.path.join(place.folder, name)), exist_ok=True)
+            for name, version in same.items():
+                self.lay(name, version, place.folder, {})
+            for number, (name, source, full) in enumerate(found):
+                path = os.path.join(place.folder, name)
+                stamp = (early if name in first else late) + APART * number
+                lay_other(os.path.getsize(source), path, full.mode, stamp)
+        around = {name: stamp_of(os.path.join(place.folder, name)) for name in [*others, *same]}
+        outcome = self.one(trial, place, LOOKED, stamps_of(trial, place.folder))
+        rest = [one for one in outcome.differences if one.name not in around]
+        for name, stamp in around.items():
+            path = os.path.join(place.folder, name)
+            if stamp != stamp_of(path):
+                what = f"{changed(path)} {name}, which it wasn't recorded to write"
+                rest.append(Difference(name, what))
+        remove(place.folder)
+        return replace(outcome, differences=tuple(rest))
+
     def beside(self, trial: Trial, place: Place, late: tuple[str, ...]) -> Met:
         """Runs a recipe beside its late files, and tells which it uses.
 
@@ -331,23 +429,34 @@ class Replay:
         return frozenset(
             name
             for name in late
-            if not all(
-                self.ancestors.any_before((target,), writer) for writer in self.writers[name]
-            )
+            if not (makers := self.makers_of(name))
+            or not all(self.ancestors.any_before((target,), maker) for maker in makers)
         )
 
+    def makers_of(self, name: str) -> list[str]:
+        """The targets whose recipes write a late file or make a late folder; none for one that is
+        there for a moment."""
+        return [*self.writers.get(name, ()), *self.world.makers.get(name, ())]
+
     def stand_in(self, name: str, path: str) -> None:
-        """Puts something at the path of a late file: of its kind and mode, and empty if it is."""
+        """Puts something at the path of a late file: of its kind and mode, and empty if it is.
+
+        What was there for a moment is taken for a file.
+        """
         version = self.world.first_made(name)
-        os.makedirs(os.path.dirname(path), exist_ok=True)
-        if os.path.lexists(path) or version is None:
+        if version is None and name in self.world.makers:
+            os.makedirs(path, exist_ok=True)
             return
-        if version.kind == LINK:
+        os.makedirs(os.path.dirname(path), exist_ok=True)
+        if os.path.lexists(path):
+            return
+        if version is not None and version.kind == LINK:
             os.symlink(version.content, path)
             return
         with open(path, "xb") as file:
-            file.write(b"" if version.content == EMPTY else OTHER_BYTES)
-        os.chmod(path, version.mode)
+            file.write(b"" if version is not None and version.content == EMPTY else OTHER_BYTES)
+        if version is not None:
+            os.chmod(path, version.mode)
 
     def run_commands(
         self, trial: Trial, place: Place, follower: Follower | None = None
@@ -450,6 +559,22 @@ class Replay:
                 os.makedirs(os.path.dirname(path), exist_ok=True)
                 self.lay(name, version, folder, {})
         return stamps_of(trial, folder)
+
+    def reorder(self, trial: Trial, folder: str, order: str) -> bool:
+        """Gives the files that a recipe reads other stamps; tells whether it gave some."""
+        stamps: dict[str, int] = {}
+        for name in trial.before:
+            with contextlib.suppress(OSError):
+                status = os.lstat(os.path.join(folder, name))
+                if stat.S_ISREG(status.st_mode) and status.st_nlink == 1:
+                    stamps[name] = status.st_mtime_ns
+        new = made_since(self.world, trial, time.time_ns())
+        made = {name: self.writers.get(name, ()) for name in new if name in stamps}
+        sources = [name for name in stamps if trial.before[name] == GIVEN]
+        others = orders.with_order(order, stamps, made, sources, self.ancestors)
+        for name, stamp in others.items():
+            os.utime(os.path.join(folder, name), ns=(stamp, stamp))
+        return bool(others)
 
     def close(self, trial: Trial, folder: str) -> None:
         """Gives folders the modes that they had before the recipe gave them others."""
@@ -563,6 +688,15 @@ def damage(path: str) -> None:
     with open(path, "xb") as file:
         file.write(OTHER_BYTES)
     os.chmod(path, mode)
+
+
+def lay_other(size: int, path: str, mode: int, stamp: int) -> None:
+    """Lays a file that is longer than one of this size, with holes where that is long."""
+    with open(path, "xb") as file:
+        file.write(OTHER_BYTES)
+        file.truncate(len(OTHER_BYTES) + 2 * size)
+    os.chmod(path, mode)
+    os.utime(path, ns=(stamp, stamp))
 
 
 def only_touched(version: Version | None, path: str) -> bool:

@@ -9,7 +9,8 @@ is, and the program gets it for a name.
 A folder that a recipe takes away and hadn't made is used by the recipes that made it, too.
 
 A file that a recipe looked for in vain and that another recipe makes counts as read: another time
-it is there, and the recipe may do something else.
+it is there, and the recipe may do something else. A folder only counts where the replay shows that
+it does.
 
 A folder to which a recipe gave a mode is put into its writes, and into the reads of the recipes
 that use it or what is in it.
@@ -39,6 +40,7 @@ class Makers:
     graph: Graph
     makers: dict[str, set[str]] = field(default_factory=dict)
     momentary: set[str] = field(default_factory=set)
+    folders: dict[str, set[str]] = field(default_factory=dict)
 
     def __post_init__(self) -> None:
         self.ancestors = self.graph.ancestors()
@@ -48,14 +50,20 @@ class Makers:
         self.momentary |= footprint.scratch - footprint.lost - footprint.dropped
         for name in (*footprint.writes, *(footprint.scratch & self.momentary)):
             self.makers.setdefault(name, set()).add(footprint.recipe.target)
+        for name in footprint.made:
+            self.folders.setdefault(name, set()).add(footprint.recipe.target)
 
     def others(self, footprint: Footprint, name: str) -> list[str]:
-        """The other recipes that make a name."""
-        return sorted(self.makers.get(name, set()) - {footprint.recipe.target})
+        """The other recipes that make a name; a folder only where the recipe uses it."""
+        makers = self.makers.get(name, set())
+        if name in footprint.met:
+            makers = makers | self.folders.get(name, set())
+        return sorted(makers - {footprint.recipe.target})
 
-    def cure(self, target: str, names: list[str]) -> str:
+    def cure(self, footprint: Footprint, names: list[str]) -> str:
         """What helps a recipe that looks for what others make."""
-        makers = [self.makers[name] - {target} for name in names]
+        target = footprint.recipe.target
+        makers = [self.others(footprint, name) for name in names]
         later = sorted(
             one for others in makers for one in others if self.ancestors.any_before((target,), one)
         )
@@ -70,19 +78,21 @@ class Makers:
 @dataclass
 class Uses:
     """Targets by names: whose recipes use a file, or one in a folder; which write in a folder;
-    which take a name away; and which give a folder a mode.
+    which take a name away; which give a folder a mode; and which do something else where a late
+    file is there.
     """
 
     users: dict[str, set[str]] = field(default_factory=dict)
     fillers: dict[str, set[str]] = field(default_factory=dict)
     takers: dict[str, set[str]] = field(default_factory=dict)
     owners: dict[str, set[str]] = field(default_factory=dict)
+    meeters: dict[str, set[str]] = field(default_factory=dict)
 
     def take(self, footprint: Footprint, makers: Makers) -> None:
         """Takes what a recipe uses."""
         target = footprint.recipe.target
         used = {*footprint.scratch, *footprint.writes, *footprint.reads, *footprint.made}
-        for name in used | (footprint.sought & makers.momentary):
+        for name in used | ((footprint.sought | footprint.met) & makers.momentary):
             for place in (name, *folders_of(name)):
                 self.users.setdefault(place, set()).add(target)
         for name in {*footprint.scratch, *footprint.writes}:
@@ -92,6 +102,8 @@ class Uses:
             self.takers.setdefault(name, set()).add(target)
         for name in footprint.owned:
             self.owners.setdefault(name, set()).add(target)
+        for name in footprint.met:
+            self.meeters.setdefault(name, set()).add(target)
 
     def others(self, footprint: Footprint, name: str) -> set[str]:
         """The other recipes that one would disturb by taking a name away.
@@ -137,24 +149,29 @@ def with_sought(footprint: Footprint, makers: Makers, warn: Warn) -> Footprint:
     met = [name for name in wanted if name not in footprint.sought]
     if sought:
         warn_of_late(footprint, sought, f"looks for {listed(sought)}", makers, warn)
-    if met:
-        they = f"{listed(met)} {'is' if len(met) == 1 else 'are'}"
-        warn_of_late(footprint, met, f"does something else where {they} there", makers, warn)
+    passing = [name for name in met if name in makers.momentary]
+    met = [name for name in met if name not in makers.momentary]
+    for names in filter(None, (met, passing)):
+        they = f"{listed(names)} {'is' if len(names) == 1 else 'are'}"
+        warn_of_late(footprint, names, f"does something else where {they} there", makers, warn)
     seen = sorted(footprint.seen - own)
-    return replace(footprint, reads=[*footprint.reads, *sought, *met, *seen])
+    return replace(footprint, reads=[*footprint.reads, *sought, *met, *passing, *seen])
 
 
 def warn_of_late(
     footprint: Footprint, names: list[str], verb: str, makers: Makers, warn: Warn
 ) -> None:
-    """Warns of files that a recipe looks for and that others make later."""
+    """Warns of files that a recipe looks for and that others make, later or for a moment."""
     target = footprint.recipe.target
     others = sorted({other for name in names for other in makers.others(footprint, name)})
     who = f"the recipe of {others[0]} makes" if len(others) == 1 else "other recipes make"
     they = "it is there, so it counts" if len(names) == 1 else "they are there, so they count"
+    when = "later: with several jobs, or in another make,"
+    if names[0] in footprint.met and names[0] in makers.momentary:
+        when = f"and take{'s' if len(others) == 1 else ''} away: with several jobs"
     warn(
-        f"the recipe of {target} {verb}, which {who} later: with several jobs, or in another make,"
-        f" {they} as read; {makers.cure(target, names)}"
+        f"the recipe of {target} {verb}, which {who} {when}"
+        f" {they} as read; {makers.cure(footprint, names)}"
     )
 
 
@@ -215,6 +232,7 @@ def with_own(footprint: Footprint, uses: Uses, warn: Warn) -> Footprint:
     own = {*footprint.scratch, *footprint.writes, *footprint.made}
     around = {*own, *(place for name in own for place in folders_of(name))}
     shared += sorted(name for name in around if uses.takers.get(name, set()) - {target})
+    shared += sorted(name for name in footprint.made if uses.meeters.get(name, set()) - {target})
     return replace(footprint, writes=list(dict.fromkeys([*footprint.writes, *shared])))
 
 

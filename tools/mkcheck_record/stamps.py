@@ -10,7 +10,7 @@ from __future__ import annotations
 import time
 from dataclasses import replace
 
-from .versions import FILE
+from .versions import FILE, Version
 from .worlds import GIVEN, Trial, World
 
 SECOND = 1_000_000_000
@@ -20,17 +20,22 @@ LEAST = 2 * SECOND
 STEP = SECOND // 50
 
 
+def made_since(world: World, trial: Trial, until: int) -> dict[str, Version]:
+    """The files that a recipe reads and that got their stamps since the recording began."""
+    begun = int(world.begun * SECOND) - STEP
+    return {
+        name: version
+        for name, version in trial.before.items()
+        if version.kind == FILE and begun <= version.stamp <= until
+    }
+
+
 def with_later_stamps(world: World, trial: Trial) -> Trial:
     """The recipe with later stamps of what it reads and recipes made; itself where it reads none.
 
     Waits until there are such stamps. A file whose stamp lies between them keeps all as they are.
     """
-    begun, ended = int(world.begun * SECOND) - STEP, int(trial.ended * SECOND)
-    made = {
-        name: version
-        for name, version in trial.before.items()
-        if version.kind == FILE and begun <= version.stamp <= ended
-    }
+    made = made_since(world, trial, int(trial.ended * SECOND))
     if not made:
         return trial
     stamps = [version.stamp for version in made.values()]

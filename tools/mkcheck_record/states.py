@@ -13,13 +13,13 @@ from collections.abc import Iterable, Mapping
 from dataclasses import dataclass, field
 from pathlib import Path
 
-from .folders import is_plain_path
+from .folders import is_own, is_plain_path
 from .footprints import Footprint
 from .graphs import Recipe
 from .versions import FILE, FOLDER, LINK, THERE, Version
-from .worlds import Effects, Trial, is_own
+from .worlds import Effects, Trial
 
-FORMAT = 2
+FORMAT = 3
 DIGEST = re.compile(r"[0-9a-f]{64}")
 KINDS = (FILE, LINK, FOLDER, THERE, "pipe", "socket", "device")
 
@@ -30,7 +30,8 @@ class Unusable(Exception):
 
 @dataclass(frozen=True)
 class Entry:
-    """What is known of a recipe: its footprint, looks, what it left, and its warnings."""
+    """What is known of a recipe: its footprint, looks, what it left, its warnings, and the digest
+    of what is always made before it."""
 
     footprint: Footprint
     looks: Mapping[str, Version | None]
@@ -38,9 +39,10 @@ class Entry:
     after: Mapping[str, Version | None]
     made: tuple[str, ...]
     warnings: tuple[str, ...]
+    order: str
 
     @classmethod
-    def of(cls, footprint: Footprint, trial: Trial, warnings: Iterable[str]) -> Entry:
+    def of(cls, footprint: Footprint, trial: Trial, warnings: Iterable[str], order: str) -> Entry:
         """What is to be known of a recipe that ran."""
         after = {
             name: version
@@ -48,7 +50,7 @@ class Entry:
             if trial.before.get(name) is not version
         }
         after.update((name, None) for name, version in trial.after.items() if version is None)
-        return cls(footprint, trial.looks, trial.lists, after, trial.made, tuple(warnings))
+        return cls(footprint, trial.looks, trial.lists, after, trial.made, tuple(warnings), order)
 
 
 @dataclass(frozen=True)
@@ -160,6 +162,7 @@ class Writer:
             "taken": sorted(own.taken),
             "seen": sorted(own.seen),
             "warnings": list(entry.warnings),
+            "order": entry.order,
         }
 
     def versions(self, versions: Mapping[str, Version | None]) -> list[int]:
@@ -230,7 +233,8 @@ class Reader:
                 raise ValueError("no name of the project")
         lists = {text(name): text(value) for name, value in entry["lists"].items()}
         looks = self.versions(entry["looks"])
-        return Entry(footprint, looks, lists, after, tuple(made), tuple(texts(entry["warnings"])))
+        warnings, order = tuple(texts(entry["warnings"])), text(entry["order"])
+        return Entry(footprint, looks, lists, after, tuple(made), warnings, order)
 
     def versions(self, numbers: list) -> dict[str, Version | None]:
         """Names with what stood there, by their numbers."""

@@ -1,7 +1,7 @@
 """Decides for each recipe whether it has to be recorded again, by the state of the last time.
-A recipe is kept where its commands are the same, and where at each name that it read, wrote, or
-looked at stands what stood there then, be it nothing, and the folders whose names it read hold the
-same names. What recipes left that are kept is laid into the copy when another recipe has to run.
+A recipe is kept where its commands are the same, and what is always made before it, on which the
+replay depends; and where at each name that it read, wrote, or looked at stands what stood there
+then, be it nothing, and the folders whose names it read hold the same names. What recipes left that are kept is laid into the copy when another recipe has to run.
 """
 
 from __future__ import annotations
@@ -75,7 +75,8 @@ class Updating:
 
     `state` is what is believed of the recording before, if anything. `pending` are recipes that are
     kept, and whose files aren't in the copy yet. `warnings` are those of this recording, by target,
-    and `refused` are targets whose recipes aren't kept.
+    and `refused` are targets whose recipes aren't kept. `orders` has a digest for each target of
+    what is always made before it.
     """
 
     book: str
@@ -86,6 +87,7 @@ class Updating:
     reused: dict[str, Entry] = field(default_factory=dict)
     warnings: dict[str, list[str]] = field(default_factory=dict)
     refused: set[str] = field(default_factory=set)
+    orders: Mapping[str, str] = field(default_factory=dict)
     warn: Warn = print
 
     def begin(self, world: World) -> None:
@@ -115,7 +117,7 @@ class Updating:
         world, entry = self.world, self.entry(recipe.target)
         if world is None or entry is None or entry.footprint.recipe != recipe:
             return None
-        if recipe.target in self.refused:
+        if recipe.target in self.refused or entry.order != self.orders.get(recipe.target, ""):
             return None
         if not all(world.is_as_before(name, version) for name, version in entry.looks.items()):
             return None
@@ -200,7 +202,8 @@ class Updating:
     def entry_of(self, footprint: Footprint, trial: Trial, replayed: list[str]) -> Entry:
         """What is to be known of a recipe that was recorded now."""
         warnings = [*self.warnings.get(footprint.recipe.target, []), *replayed]
-        return Entry.of(footprint, trial, warnings)
+        order = self.orders.get(footprint.recipe.target, "")
+        return Entry.of(footprint, trial, warnings, order)
 
     def keep(self, digests: set[str]) -> None:
         """Keeps the files that recipes left and that aren't kept yet."""

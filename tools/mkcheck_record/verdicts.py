@@ -9,7 +9,8 @@ from dataclasses import dataclass, field
 from .faults import Fault
 from .graphs import Recipe
 from .late import Met
-from .replaying import AGAIN, BARE, DAMAGED, Outcome
+from .refusals import listed
+from .replaying import AGAIN, BARE, DAMAGED, LOOKED, ORDERED, Outcome
 
 SHOWN_AT_MOST = 10
 
@@ -18,6 +19,8 @@ SETTINGS = {
     BARE: "in a folder that holds only what it is recorded to read",
     AGAIN: "where its own outputs are already there",
     DAMAGED: "where its outputs are there with other bytes and later stamps",
+    LOOKED: "where the files at which it only looks have other sizes and stamps",
+    ORDERED: "where the files that it reads have their stamps in another order",
 }
 MEANINGS = {
     BARE: (
@@ -32,11 +35,18 @@ MEANINGS = {
         "what it leaves depends on what was left before, so a make after a stop may leave other"
         " files"
     ),
+    LOOKED: "it depends on the size or the stamp of a file that it doesn't read",
+    ORDERED: (
+        "it compares stamps of files that recipes make, whose order is another one after an edit,"
+        " or with several jobs"
+    ),
 }
 CURES = {
     BARE: "Take that out of the recipe",
     AGAIN: "Let the recipe begin with rm -f of its outputs, or write them anew",
     DAMAGED: "Let the recipe begin with rm -f of its outputs, or write them anew",
+    LOOKED: "Let the recipe read that file, and its target need it",
+    ORDERED: "Let the recipe go by what the files hold",
 }
 KEPT = (
     "it writes only where it finds that it has to, as a make in a subfolder, cmp -s or test -nt do,"
@@ -54,10 +64,14 @@ FAILURES = {
         " there this time"
     ),
     AGAIN: "each make that runs it again will stop here",
+    LOOKED: MEANINGS[LOOKED],
+    ORDERED: MEANINGS[ORDERED],
 }
 FAILURE_CURES = {
     BARE: "Let the recipe read what it needs as a file, or make it itself",
     AGAIN: "Let the recipe begin with rm -f of its outputs",
+    LOOKED: CURES[LOOKED],
+    ORDERED: CURES[ORDERED],
 }
 
 
@@ -126,13 +140,14 @@ def complaint(outcome: Outcome, makers: Mapping[str, list[str]]) -> str:
         meaning, cure = STAMPS, STAMPS_CURE
     elif outcome.failed:
         meaning, cure = FAILURES[outcome.run], FAILURE_CURES[outcome.run]
-    elif outcome.differences[0].kept:
+    elif outcome.differences[0].kept and outcome.run != ORDERED:
         meaning, cure = KEPT, KEPT_CURE
     lines = [
         f"{subject(outcome)}: {meaning}. {cure}, or give --trust {target} to take the recipe as"
         " it is"
     ]
     lines += [f"\t{line}" for line in likely_causes(outcome, makers)]
+    lines += [f"\tit looks at {listed(outcome.glanced)}"] if outcome.glanced else []
     lines += [f"\t{line}" for line in outcome.failed.split("\n") if line]
     if outcome.differences:
         lines += [f"\t{line}" for line in outcome.differences[0].details]

@@ -10,6 +10,7 @@ from collections.abc import Iterable, Iterator, Mapping
 from dataclasses import dataclass, field, replace
 
 from .faults import Fault
+from .folders import is_own
 from .graphs import Recipe
 from .versions import FILE, FOLDER, LINK, THERE, Store, Version, version_of
 
@@ -123,6 +124,9 @@ class World:
     given_folders: frozenset[str] = frozenset()
     """The folders that were there before any recipe."""
 
+    given_files: frozenset[str] = frozenset()
+    """The files that were there before any recipe."""
+
     given_links: dict[str, str] = field(default_factory=dict)
     """The links that were there before any recipe, each with its text."""
 
@@ -163,13 +167,17 @@ class World:
         os.makedirs(store.folder, exist_ok=True)
         world = cls(folder, place, store, time.time())
         folders: dict[str, int] = {}
+        files: set[str] = set()
         for name, entry in entries(place):
             world.inside.setdefault(os.path.dirname(name), set()).add(entry.name)
             if entry.is_symlink():
                 world.given_links[name] = os.readlink(entry.path)
             elif entry.is_dir(follow_symlinks=False):
                 folders[name] = mode_of(entry.path)
+            elif entry.is_file(follow_symlinks=False):
+                files.add(name)
         world.given_folders, world.modes = frozenset(folders), folders
+        world.given_files = frozenset(files)
         return world
 
     def took(self, recipe: Recipe, effects: Effects, begun: float) -> Trial:
@@ -287,6 +295,23 @@ class World:
             if version is not None and version.kind in (FILE, LINK) and name not in trial.after
         }
 
+    def glanced(self, trial: Trial) -> tuple[dict[str, Version], dict[str, Version]]:
+        """The files at which a recipe looked and that it didn't read: those that recipes before had
+        made, and those that were there before any.
+        """
+        noticed = self.noticed(trial, False)
+        made = {name: version for name, version in noticed.items() if version.kind == FILE}
+        kept = self.current if self.place == self.folder else {}
+        given = {
+            name: GIVEN
+            for name in trial.looked
+            if name in self.given_files and name not in trial.after and name not in kept
+        }
+        for name in [name for name in given if name in self.history]:
+            if self.made_before(name, trial.number) is not None:
+                del given[name]
+        return made, given
+
     def made_before(self, name: str, number: int) -> Version | None:
         """What recipes before this one left at a name."""
         left = [version for count, version in self.history[name] if count < number]
@@ -389,11 +414,6 @@ def mode_of(path: str) -> int:
         return stat.S_IMODE(os.lstat(path).st_mode)
     except OSError:
         return 0o777
-
-
-def is_own(name: str) -> bool:
-    """Whether a name is that of a file in the project's folder."""
-    return not name.startswith("/") and name.split("/", 1)[0] != ".."
 
 
 def entries(place: str, front: str = "") -> Iterator[tuple[str, os.DirEntry[str]]]:
