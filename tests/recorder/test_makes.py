@@ -8,7 +8,7 @@ import subprocess
 import sys
 import unittest
 
-from project import OF_MAKE, ROOT, ProjectTest, traced
+from project import OF_MAKE, ROOT, ProjectTest, compiled, traced
 
 sys.path.insert(0, str(ROOT / "tools"))
 
@@ -240,6 +240,56 @@ class MacroTest(ProjectTest):
             (self.folder / origin).unlink()
             self.write({"makefile": rule})
             self.assertEqual(self.recorded().warnings(), [])
+
+    @compiled
+    def test_macros_of_built_in_rules(self) -> None:
+        """GNU make's rule may read a file that the rule of POSIX doesn't."""
+        code = "#ifdef LONG\n#include \"n.h\"\n#endif\nint main(void) {return 0;}\n"
+        self.write({"p.c": code, "n.h": "#define N 2\n"})
+        rule = ".c.o:\n\t$(CC) $(CPPFLAGS) -c $<\n"
+        for macro, target, front, rules, told in (
+            ("CPPFLAGS = -DLONG", "p.o", "the makefile", "", True),
+            ("CPPFLAGS = -DLONG", "p.o", "the makefile", rule, False),
+            ("LDLIBS = -lm", "p", "the makefile", "", True),
+            ("LDLIBS = -lm", "p.o", "the makefile", "", False),
+            ("LDFLAGS = -lm", "p", "the makefile", "", False),
+            ("CPPFLAGS=-DLONG", "p.o", "the environment", "", True),
+        ):
+            name, value = macro.replace(" ", "").split("=")
+            given = {name: value} if front == "the environment" else {}
+            own = "" if given else f"{macro}\n"
+            self.write({"makefile": f"CC = cc\n{own}all: {target}\n{target}: p.c\n{rules}"})
+            said = [
+                f"{front} sets {name}, which GNU make uses in its own rule for {target}, and the"
+                " default rule of POSIX and mkcheck doesn't: write that rule, with its command,"
+                " into the makefile"
+            ]
+            outcome = self.recorded("all", environment=given)
+            self.assertEqual(outcome.warnings(), said if told else [], (macro, target))
+            if GNU:
+                done = subprocess.run(
+                    ["make", "-n"],
+                    cwd=self.folder,
+                    env={**{one: os.environ[one] for one in os.environ.keys() - OF_MAKE}, **given},
+                    capture_output=True,
+                    text=True,
+                    check=True,
+                )
+                uses = value in done.stdout
+                self.assertEqual(uses, told or rules != "" or name == "LDFLAGS", done.stdout)
+        self.write({"makefile": "CC = cc\nCPPFLAGS = -DLONG\np.o: p.c\n\t$(CC) -c p.c\n"})
+        self.assertEqual(self.recorded("-r").warnings(), [])
+
+    def test_macros_by_which_gnu_make_reads_otherwise(self) -> None:
+        for text, told in (
+            (".SHELLFLAGS = -e -u -c", "the makefile sets .SHELLFLAGS to -e -u -c, by which GNU"),
+            (".SHELLFLAGS = -ec", ""),
+            (".RECIPEPREFIX = >", "the makefile sets .RECIPEPREFIX: for GNU make a line that"),
+            (".EXTRA_PREREQS = b", "the makefile sets .EXTRA_PREREQS, by which GNU make lets all"),
+        ):
+            self.write({"makefile": f"{text}\nout: a\n\tcp a out\n", "a": ""})
+            said = self.recorded().warnings()
+            self.assertEqual([one[: len(told)] for one in said], [told] if told else [], text)
 
     def runs_a_rule(self, origin: str, *words: str) -> bool:
         """Whether make would run more than the recipes of the makefile, where a file is newer than

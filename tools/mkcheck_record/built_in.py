@@ -1,15 +1,16 @@
 """Built-in rules of GNU make that mkcheck's default text lacks, where they make what has no recipe
-here, or has another one.
+here, or has another one; and macros that only its rules use.
 """
 
 from __future__ import annotations
 
 import os
-from collections.abc import Callable, Iterable
+from collections.abc import Callable, Iterable, Mapping
 from dataclasses import replace
 
 from .graphs import Graph
 from .macros import PROBE, Prober
+from .refusals import listed
 
 # By the suffix of what is made, the suffixes of what it is made from, in the order of GNU make 4.
 LINKED = (".o", ".c", ".cc", ".C", ".cpp", ".p", ".f", ".F", ".m", ".r", ".s", ".S", ".mod", ".sh")
@@ -29,6 +30,21 @@ RULES = {
     ".dvi": (".tex", *TEXINFO),
     ".tex": (".web", ".w"),
 }
+# Macros that rules of GNU make use and those of the default text don't, by the suffixes of what is
+# made, which may be none, and of what it is made from.
+OF_COMPILING = ("CPPFLAGS", "TARGET_ARCH", "COMPILE.c", "OUTPUT_OPTION")
+MACROS = {
+    ("", ".c"): ("CPPFLAGS", "TARGET_ARCH", "LOADLIBES", "LDLIBS", "LINK.c"),
+    ("", ".f"): ("TARGET_ARCH", "LOADLIBES", "LDLIBS", "LINK.f"),
+    (".o", ".c"): OF_COMPILING,
+    (".o", ".y"): (*OF_COMPILING, "YACC.y"),
+    (".o", ".l"): (*OF_COMPILING, "LEX.l"),
+    (".o", ".f"): ("TARGET_ARCH", "COMPILE.f", "OUTPUT_OPTION"),
+    (".c", ".y"): ("YACC.y",),
+    (".c", ".l"): ("LEX.l",),
+}
+# The suffixes of the default text, so that rules of the makefile for these are kept without it.
+SUFFIXES = ".o .c .y .l .a .sh .f"
 # A rule that needs no suffix on the list.
 PLAIN = ".out"
 
@@ -89,11 +105,39 @@ def warn_of_rules(
     return bool(found)
 
 
+def warn_of_rule_macros(
+    graph: Graph, prober: Prober, environment: Mapping[str, str], warn: Callable[[str], None]
+) -> None:
+    """Warns of each macro that the makefile or the environment sets, and that GNU make's rules use
+    for targets which the default text of mkcheck makes without it."""
+    if "-r" in prober.checker.options:
+        return
+    names = dict.fromkeys(name for names in MACROS.values() for name in names)
+    own = dict(zip(names, prober.values(*names)))
+    values = {name: own[name] or environment.get(name, "") for name in names}
+    if not any(values.values()):
+        return
+    made: dict[str, list[str]] = {}
+    for target in sorted(inferred(prober, graph)):
+        first = next(iter(graph.prerequisites[target]), "")
+        suffixes = (os.path.splitext(target)[1], os.path.splitext(first)[1])
+        for name in MACROS.get(suffixes, MACROS.get(("", suffixes[1]), ())):
+            if values[name]:
+                made.setdefault(name, []).append(target)
+    for name, targets in made.items():
+        who = "the makefile" if own[name] else "the environment"
+        warn(
+            f"{who} sets {name}, which GNU make uses in its own rule for {listed(targets)}, and the"
+            " default rule of POSIX and mkcheck doesn't: write that rule, with its command, into"
+            " the makefile"
+        )
+
+
 def inferred(prober: Prober, graph: Graph) -> frozenset[str]:
     """The targets whose commands are those of the default text."""
     options = (*prober.checker.options, "-r")
     bare = replace(prober, checker=replace(prober.checker, options=options))
-    other = bare.ask("", "", prober.checker.words)
+    other = bare.ask(f".SUFFIXES: {SUFFIXES}\n", "", prober.checker.words)
     return graph.targets - other.targets if other is not None else frozenset()
 
 

@@ -8,8 +8,12 @@ from collections.abc import Iterator
 from .versions import FILE, LINK, Version
 from .worlds import Trial, World
 
-# As C's __DATE__ and `date +%F` have it.
-FORMATS = ("%b %e %Y", "%Y-%m-%d")
+# As C's __DATE__ and `date +%F` have it, and other usual ways, down to the month of a manual page.
+FORMATS = (
+    *("%b %e %Y", "%Y-%m-%d", "%Y%m%d", "%Y/%m/%d", "%d.%m.%Y", "%d/%m/%Y", "%m/%d/%Y", "%m/%d/%y"),
+    *("%-d.%-m.%Y", "%d %b %Y", "%-d %b %Y", "%d-%b-%Y", "%b %d, %Y", "%b %-d, %Y"),
+    *("%d %B %Y", "%-d %B %Y", "%B %d, %Y", "%B %-d, %Y", "%B %Y"),
+)
 BYTES_AT_MOST = 1 << 26
 
 

@@ -103,6 +103,29 @@ def check_options(value: str, without_rules: bool, warn: Callable[[str], None]) 
             warn(f"{front}: what make does by that isn't judged here")
 
 
+def warn_of_other_reading(value_of: Callable[[str], str], warn: Callable[[str], None]) -> None:
+    """Warns of macros by which GNU make reads a makefile otherwise, or starts another shell.
+
+    `value_of` gives the value of a macro, empty where the makefile sets none.
+    """
+    flags, prefix, extra = map(value_of, (".SHELLFLAGS", ".RECIPEPREFIX", ".EXTRA_PREREQS"))
+    if flags not in ("", "-c", "-ec", "-e -c", "-ce"):
+        warn(
+            f"the makefile sets .SHELLFLAGS to {flags}, by which GNU make starts the shell; here"
+            " commands are run by -ec: let the commands set these options"
+        )
+    if prefix:
+        warn(
+            "the makefile sets .RECIPEPREFIX: for GNU make a line that begins with a tab is no"
+            " command then; take it out"
+        )
+    if extra:
+        warn(
+            f"the makefile sets .EXTRA_PREREQS, by which GNU make lets all targets need {extra};"
+            " write them down as prerequisites"
+        )
+
+
 def warn_of_given_options(environment: Mapping[str, str], warn: Callable[[str], None]) -> None:
     """Warns of variables by which GNU make reads other makefiles, and by which makes take options
     that change a build. What a make hands down to a recipe that records says nothing of others.

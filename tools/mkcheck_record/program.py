@@ -12,12 +12,12 @@ from pathlib import Path
 
 from . import VERSION, places, tracing
 from .books import make_book
-from .built_in import warn_of_rules
+from .built_in import warn_of_rule_macros, warn_of_rules
 from .comparing import compare_again, compare_make
 from .dates import dated
 from .ending import ended, write_text
 from .faults import Fault, RecipeFault
-from .flags import warn_of_given_options
+from .flags import warn_of_given_options, warn_of_other_reading
 from .folders import SYSTEM, Naming, prefix_of, scratch_folder, sources_in
 from .graphs import Checker, Graph, Refused, asked_graph, find_checker, warn_of_varying
 from .late import with_met
@@ -165,6 +165,8 @@ def record_and_write(asked: argparse.Namespace, folder: str, scratch: str) -> No
     warn_of_wait(graph, prober, warn)
     warn_of_searched(graph, prober, files, warn)
     warn_of_given_options(os.environ, warn)
+    warn_of_other_reading(lambda name: prober.values(name)[0], warn)
+    warn_of_rule_macros(graph, prober, os.environ, warn)
     if not warn_of_rules(graph, prober, files, warn) and not graph.recipes:
         warn("the goals reach no recipe: is a macro misspelt?")
     varying = warn_of_varying(checker, fixed, files, scratch, warn)

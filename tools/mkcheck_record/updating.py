@@ -1,7 +1,8 @@
 """Decides for each recipe whether it has to be recorded again, by the state of the last time.
 A recipe is kept where its commands are the same, and what is always made before it, on which the
 replay depends; and where at each name that it read, wrote, or looked at stands what stood there
-then, be it nothing, and the folders whose names it read hold the same names. What recipes left that are kept is laid into the copy when another recipe has to run.
+then, be it nothing, and the folders whose names it read hold the same names. What recipes left that
+are kept is laid into the copy when another recipe has to run.
 """
 
 from __future__ import annotations
