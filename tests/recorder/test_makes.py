@@ -250,12 +250,14 @@ class MacroTest(ProjectTest):
         for macro, target, front, rules, told in (
             ("CPPFLAGS = -DLONG", "p.o", "the makefile", "", True),
             ("CPPFLAGS = -DLONG", "p.o", "the makefile", rule, False),
+            ("CPPFLAGS = $(shell echo -DLONG)", "p.o", "the makefile", "", True),
             ("LDLIBS = -lm", "p", "the makefile", "", True),
             ("LDLIBS = -lm", "p.o", "the makefile", "", False),
             ("LDFLAGS = -lm", "p", "the makefile", "", False),
             ("CPPFLAGS=-DLONG", "p.o", "the environment", "", True),
         ):
             name, value = macro.replace(" ", "").split("=")
+            value = "-DLONG" if "$" in value else value
             given = {name: value} if front == "the environment" else {}
             own = "" if given else f"{macro}\n"
             self.write({"makefile": f"CC = cc\n{own}all: {target}\n{target}: p.c\n{rules}"})

@@ -1312,6 +1312,18 @@ class GlanceTest(Refusals):
             outcome = self.of(f"a: x y.log\n\t{way}\n", None, "--trust", "a")
             self.assertIn("and not shown to be right: the recipe of a, run where", outcome.errors)
 
+    def test_files_that_are_always_older(self) -> None:
+        """As javac asks whether a class is newer than its source."""
+        rules = "o: c\n\tcp c o\np: o\n\tcp o p\n"
+        for needed, way in (
+            ("o", "test ! c -nt o; cat o > a"),
+            ("p", "test ! o -nt p; cat p > a"),
+            ("p", "test ! c -nt o; test ! o -nt p; cat p > a"),
+        ):
+            outcome = self.of(f"a: {needed}\n\t{way}\n{rules}", {"c": "1\n"})
+            self.assertEqual((outcome.warnings(), self.check()[0][:3]), ([], "yes"), way)
+        self.refused("a: o\n\ttest ! d -nt o; cat o > a\no: c\n\tcp c o\n", {"d": "1\n"})
+
     def test_files_on_which_nothing_depends(self) -> None:
         rules = "all: e a\na: x\n\tWAY\ne: y\n\tcp y e\n"
         for way in (

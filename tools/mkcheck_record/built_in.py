@@ -113,7 +113,7 @@ def warn_of_rule_macros(
     if "-r" in prober.checker.options:
         return
     names = dict.fromkeys(name for names in MACROS.values() for name in names)
-    own = dict(zip(names, prober.values(*names)))
+    own = dict(zip(names, values_of(prober, list(names))))
     values = {name: own[name] or environment.get(name, "") for name in names}
     if not any(values.values()):
         return
@@ -131,6 +131,18 @@ def warn_of_rule_macros(
             " default rule of POSIX and mkcheck doesn't: write that rule, with its command, into"
             " the makefile"
         )
+
+
+def values_of(prober: Prober, names: list[str]) -> list[str]:
+    """The values of macros; the name itself for one that mkcheck refuses to expand, and that no
+    command here needs."""
+    found = prober.tried([f"$({name})" for name in names], {})
+    if found is not None:
+        return found
+    if len(names) == 1:
+        return names
+    middle = len(names) // 2
+    return [*values_of(prober, names[:middle]), *values_of(prober, names[middle:])]
 
 
 def inferred(prober: Prober, graph: Graph) -> frozenset[str]:

@@ -126,6 +126,13 @@ class Ancestors:
         above = self.above.get(name, 0)
         return any(above & self.bits.get(other, 0) for other in others)
 
+    def union(self, names: Iterable[str]) -> int:
+        """The bits of all that is always made before one of some names."""
+        above = 0
+        for name in names:
+            above |= self.above.get(name, 0)
+        return above
+
     def in_order(self, one: str, other: str) -> bool:
         """Whether two names are never made side by side, as far as prerequisites tell."""
         return self.serial or self.any_before((one,), other) or self.any_before((other,), one)

@@ -332,6 +332,7 @@ class Replay:
         at which it only looks; and those of them that recipes made, if it depends on these.
 
         An edit makes a file the newest one, and another edit may leave a made file the oldest one.
+        What is always made before another file keeps its stamp, since that is never older.
         """
         made, given = self.world.glanced(trial)
         newest: frozenset[str] = frozenset()
@@ -343,15 +344,33 @@ class Replay:
             if made:
                 return outcome, frozenset(made)
             return replace(found, glanced=tuple(sorted(given))), frozenset()
-        oldest = frozenset(name for name in made if not self.needs_any(name, trial.before))
+        near = {*trial.before, *made}
+        oldest = frozenset(name for name in made if not self.needs_any(name, near - {name}))
         if oldest and not self.looking(trial, place, folders, made, {}, oldest).passed:
             return outcome, frozenset(made)
         return outcome, frozenset()
 
     def needs_any(self, name: str, others: Iterable[str]) -> bool:
         """Whether one of some files is always made before a file that recipes make."""
-        makers = [maker for other in others for maker in (other, *self.writers.get(other, ()))]
+        makers = [maker for other in others for maker in self.as_targets(other)]
         return any(self.ancestors.any_before(makers, one) for one in self.writers.get(name, ()))
+
+    def bound(self, names: Iterable[str], others: Iterable[str]) -> frozenset[str]:
+        """Those of some files that are always made, or there, before another one of them or of the
+        others is made."""
+        names = list(names)
+        above = self.ancestors.union(
+            maker for name in (*names, *others) for maker in self.writers.get(name, ())
+        )
+        return frozenset(
+            name
+            for name in names
+            if any(above & self.ancestors.bits.get(one, 0) for one in self.as_targets(name))
+        )
+
+    def as_targets(self, name: str) -> tuple[str, ...]:
+        """A file's name, and the targets whose recipes write it."""
+        return (name, *self.writers.get(name, ()))
 
     def looking(
         self,
@@ -373,6 +392,7 @@ class Replay:
         paths = [os.path.join(place.folder, name) for name in trial.before]
         oldest = min(os.lstat(path).st_mtime_ns for path in paths) if paths else time.time_ns()
         early, late = (stamp - APART * len(found) for stamp in (oldest, time.time_ns()))
+        bound = self.bound(others, trial.before) - first
         with contextlib.suppress(OSError):
             for name in [*others, *same]:
                 os.makedirs(os.path.dirname(os.path.join(place.folder, name)), exist_ok=True)
@@ -381,6 +401,7 @@ class Replay:
             for number, (name, source, full) in enumerate(found):
                 path = os.path.join(place.folder, name)
                 stamp = (early if name in first else late) + APART * number
+                stamp = full.stamp if name in bound else stamp
                 lay_other(os.path.getsize(source), path, full.mode, stamp)
         around = {name: stamp_of(os.path.join(place.folder, name)) for name in [*others, *same]}
         outcome = self.one(trial, place, LOOKED, stamps_of(trial, place.folder))
