@@ -1018,6 +1018,33 @@ class ProcessTest(Refusals):
             self.recorded("--fixed", os.path.dirname(os.path.dirname(python))).warnings(), []
         )
 
+    def test_an_address_at_which_two_recipes_serve(self) -> None:
+        script = (
+            "import socket, sys\n"
+            "if sys.argv[1] == '@':\n"
+            "    socket.socket(socket.AF_UNIX).bind('\\0mkcheck-record-test')\n"
+            "else:\n"
+            "    socket.socket().bind(('127.0.0.1', int(sys.argv[1])))\n"
+        )
+        python = os.path.realpath(sys.executable)
+        fixed = ("--fixed", os.path.dirname(os.path.dirname(python)))
+        for address, name in (
+            ("@", "the socket @mkcheck-record-test"),
+            ("45671", "the port 45671"),
+        ):
+            line = f"\t{python} -IB p {address}; cp x"
+            rules = f"a: x p\n{line} a\nb: x p\n{line} b\n"
+            told = (
+                f"the recipes of a and b both serve at {name}: with several jobs one of them fails,"
+                " or is asked what the other is; let one need the other, or take other addresses"
+            )
+            outcome = self.of(f"all: a b\n{rules}", {"x": "", "p": script}, *fixed)
+            self.assertEqual(outcome.warnings(), [told])
+            outcome = self.of("all: b\n" + rules.replace("b: x", "b: x a"), None, *fixed)
+            self.assertEqual(outcome.warnings(), [])
+            outcome = self.of(f"all: a b\n{rules}".replace(f"p {address}", "p 0"), None, *fixed)
+            self.assertEqual(outcome.warnings(), [])
+
     def test_another_root_of_all_files(self) -> None:
         if (
             subprocess.run(

@@ -23,7 +23,7 @@ MAKES = re.compile(r"(?:g|b|p|f|s|re|pdp|ck)?make(?:-[0-9.]+)?|ninja(?:-build)?|
 # Sockets that look up users and machines, or take log messages: asking them changes no file.
 SYSTEM_SOCKETS = ("/var/run/nscd/", "/run/nscd/", "/run/systemd/", "/var/run/systemd/", "/dev/log")
 OF_PROCESS = re.compile(r"/proc/(self|thread-self|\d+)/(cwd|root)(?=/|$)")
-SOCKET = re.compile(r'sun_path=@?("(?:[^"\\\\]|\\\\.)*")')
+SOCKET = re.compile(r'sun_path=(@?)("(?:[^"\\\\]|\\\\.)*")')
 ADDRESS = re.compile(r'inet_(?:addr|pton)\((?:AF_INET6, )?"([^"]*)"')
 PORT = re.compile(r"sin6?_port=htons\((\d+)\)")
 
@@ -103,6 +103,9 @@ class Accesses:
 
     sockets: set[str] = field(default_factory=set)
     """Addresses at which its own processes serve."""
+
+    ports: set[str] = field(default_factory=set)
+    """Those of them that only one process of the machine can have, and that are no files."""
 
     looked: dict[str, None] = field(default_factory=dict)
     """Paths at which it looked, where such calls are traced."""
@@ -640,16 +643,21 @@ class Follower:
 
     def on_bind(self, call: Call) -> None:
         """A process of the recipe is a server itself."""
-        socket = SOCKET.search(call.arguments[1])
+        socket, port = SOCKET.search(call.arguments[1]), PORT.search(call.arguments[1])
         if socket is not None:
-            self.accesses.sockets.add(text_of(socket.group(1)) or "")
+            path = text_of(socket.group(2)) or ""
+            self.accesses.sockets.add(path)
+            if socket.group(1) and path:
+                self.accesses.ports.add(f"the socket @{path}")
+        elif port is not None and port.group(1) != "0":
+            self.accesses.ports.add(f"the port {port.group(1)}")
 
     def on_connect(self, call: Call) -> None:
         """A server is asked. What it does for the recipe isn't seen."""
         address = call.arguments[1]
         socket, host, port = SOCKET.search(address), ADDRESS.search(address), PORT.search(address)
         if socket is not None:
-            path = text_of(socket.group(1)) or ""
+            path = text_of(socket.group(2)) or ""
             if not path.startswith(SYSTEM_SOCKETS) and path not in self.accesses.sockets:
                 self.accesses.servers.setdefault(f"the socket {path}")
         elif host is not None and port is not None and port.group(1) not in ("0", "53"):

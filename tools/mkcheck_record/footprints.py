@@ -71,6 +71,9 @@ class Footprint:
     seen: frozenset[str] = frozenset()
     """Files of other recipes at which it looked, and without which its replay fails."""
 
+    ports: frozenset[str] = frozenset()
+    """Addresses, other than files, at which its processes serve."""
+
     def record(self) -> dict[str, object]:
         """The record of format 1."""
         target, commands = self.recipe.target, self.recipe.lines
@@ -162,6 +165,7 @@ def footprint_of(recipe: Recipe, accesses: Accesses, naming: Naming, warn: Warn)
         frozenset(naming.name(path) or path for path in dropped),
         frozenset(named(folders_made(accesses), naming)),
         frozenset(listed_in(accesses, naming)),
+        ports=frozenset(accesses.ports),
     )
 
 

@@ -26,7 +26,7 @@ from dataclasses import dataclass, field, replace
 from .faults import RecipeFault
 from .folders import is_plain_path
 from .footprints import Footprint, Warn, shown, warn_of_lost
-from .graphs import Graph
+from .graphs import Ancestors, Graph
 from .late import Late, folders_of
 from .refusals import listed
 
@@ -133,6 +133,7 @@ def with_shared(
         uses.take(footprint, makers)
     if late is not None:
         warn_of_untested(footprints, late, warn)
+    warn_of_ports(footprints, makers.ancestors, warn)
     found = [with_sought(footprint, makers, warn) for footprint in footprints]
     return [with_modes(with_own(footprint, uses, warn), uses, warn) for footprint in found]
 
@@ -187,6 +188,23 @@ def warn_of_untested(footprints: list[Footprint], late: Late, warn: Warn) -> Non
             f" in which other recipes make files later, such as {example}: nothing tests whether"
             f" {'it uses' if one else 'they use'} these"
         )
+
+
+def warn_of_ports(footprints: list[Footprint], ancestors: Ancestors, warn: Warn) -> None:
+    """Warns of addresses at which two recipes serve that may run side by side."""
+    users: dict[str, list[str]] = {}
+    for footprint in footprints:
+        target = footprint.recipe.target
+        for port in sorted(footprint.ports):
+            others = users.setdefault(port, [])
+            other = next((one for one in others if not ancestors.in_order(one, target)), None)
+            if other is not None:
+                warn(
+                    f"the recipes of {other} and {target} both serve at {port}: with several jobs"
+                    " one of them fails, or is asked what the other is; let one need the other, or"
+                    " take other addresses"
+                )
+            others.append(target)
 
 
 def with_matches(footprints: list[Footprint]) -> list[Footprint]:

@@ -161,6 +161,7 @@ class Writer:
             "met": sorted(own.met),
             "taken": sorted(own.taken),
             "seen": sorted(own.seen),
+            "ports": sorted(own.ports),
             "warnings": list(entry.warnings),
             "order": entry.order,
         }
@@ -225,6 +226,7 @@ class Reader:
             met=frozenset(texts(entry["met"])),
             taken=frozenset(texts(entry["taken"])),
             seen=frozenset(texts(entry["seen"])),
+            ports=frozenset(texts(entry["ports"])),
         )
         after = self.versions(entry["after"])
         made = texts(entry["made"])
