@@ -61,6 +61,37 @@ class FaultTest(ProjectTest):
         )
         self.assertNotIn("looks for", self.record().errors)
 
+    def test_a_recipe_that_fails_for_a_rule_that_the_goals_dont_reach(self) -> None:
+        """The header of `p.c p.h: p.y` isn't reached where nothing names it."""
+        makefile = "p: a.o p.o\n\tcat a.o p.o > p\n.PHONY: clean\nclean:\n\trm -f p\n"
+        makefile += "p.c p.h: p.y\n\tcp p.y p.c; cp p.y p.h\np.o: p.c\n\tcp p.c p.o\n"
+        said = "\n\ta.o looks for p.h, which has a rule that the goals don't reach: add a.o: p.h\n"
+        for names in ("p.h", "clean /nowhere p.h none"):
+            rule = f"a.o: a\n\tcat a {names} > a.o\n"
+            self.write({"makefile": makefile + rule, "a": "", "p.y": ""})
+            outcome = self.record()
+            self.assertEqual((outcome.status, outcome.book), (1, None))
+            self.assertIn(said, outcome.errors)
+            self.assertEqual(outcome.errors.count("looks for"), 1)
+        self.write({"makefile": "a.o:\n\tcat p.h > a.o\np.h: a.o\n\tcp a.o p.h\n"})
+        self.assertNotIn("looks for", self.record().errors)
+
+    def test_a_recipe_without_its_program_whose_target_came_with_the_sources(self) -> None:
+        said = (
+            "\n\tp.c is there, but a recording makes each target anew: if it came with the sources,"
+            " leave out the commands of its rule, or use mkcheck-import, which takes it as it is\n"
+        )
+        self.write({"makefile": "p: p.c\n\tcp p.c p\np.c: p.y\n\tno-such-yacc p.y\n", "p.y": ""})
+        self.assertNotIn("is there", self.record().errors)
+        self.write({"p.c": "int a;\n"})
+        outcome = self.record()
+        self.assertEqual((outcome.status, outcome.book), (1, None))
+        self.assertIn(said, outcome.errors)
+        self.write({"makefile": "p: p.c\n\tcp p.c p\np.c: p.y\n"})
+        self.assertEqual(self.recorded().own("p"), ({"p.c"}, {"p"}))
+        self.write({"makefile": "p.c: p.y\n\texit 1\n"})
+        self.assertNotIn("is there", self.record().errors)
+
     def test_a_recipe_that_fails_for_names_that_another_lacks(self) -> None:
         """`$?` is empty, so the list of the recipe before has no lines."""
         makefile = "p: m list\n\ttest -s list\nm: x\n\tcp x m\nlist: x\n\tprintf '%s' $? > list\n"
@@ -193,6 +224,8 @@ class FaultTest(ProjectTest):
             said = self.record().errors
             self.assertTrue(said.startswith(f"{front} {number}: {sentence}"), said)
             self.assertIn(by, said)
+            line = text.split("\n")[int(number[-1]) - 1].replace("\r", "?")
+            self.assertTrue(said.endswith(f"\n\t{line}\n"), said)
         for text, words, number, sentence in (
             ("a: b$\n", (), "16 makefile:1", "a $ stands alone; "),
             ("a:\n", ("-f", "none"), "37 none", "there is no makefile; -f names it, and -C its"),
@@ -203,6 +236,31 @@ class FaultTest(ProjectTest):
             said = self.record(*words).errors
             self.assertTrue(said.startswith(f"{front} {number}: {sentence}"), said)
             self.assertNotIn(by, said)
+
+    def test_a_folder_without_a_makefile(self) -> None:
+        front = "mkcheck-record: mkcheck graph: refused 37: there is"
+        self.assertIn(f"{front} no makefile; -f names it, ", self.record().errors)
+        self.write({"configure": "#!/bin/sh\n"})
+        self.assertEqual(f"{front} no makefile yet; run ./configure first\n", self.record().errors)
+        self.write({"GNUmakefile": "a: x\n\tcp x a\n", "x": ""})
+        outcome = self.record()
+        self.assertEqual((outcome.status, outcome.book), (2, None))
+        said = "only GNUmakefile, GNU make's own: give -f GNUmakefile; mkcheck-import judges"
+        self.assertIn(f"{front} {said}", outcome.errors)
+        self.assertEqual(self.recorded("-f", "GNUmakefile").own("a"), ({"x"}, {"a"}))
+
+    def test_fixed_prefixes_under_which_nothing_lies(self) -> None:
+        self.write({"makefile": "a: d/x\n\tcp d/x a\n", "d/x": ""})
+        self.assertEqual(
+            self.recorded("--fixed", "e", "--fixed", str(self.folder / "d")).warnings(),
+            [
+                "--fixed e/: there is no such folder",
+                f"--fixed {self.folder}/d/: files of the project are named from its folder, so none"
+                " lies under this prefix; write --fixed d/",
+            ],
+        )
+        outcome = self.recorded("--fixed", "d", "--fixed", str(self.scratch), "--fixed", "..")
+        self.assertEqual((outcome.warnings(), outcome.book["sources"]), ([], []))
 
     def test_a_name_that_nothing_makes(self) -> None:
         self.write({"makefile": "a: b\n\tcp b a\n"})

@@ -14,22 +14,30 @@ from pathlib import Path
 
 from .faults import Fault
 from .folders import is_plain_path
-from .meanings import meaning
+from .meanings import IMPORT, meaning
 
 PREFIXES = "@-+ \t"
 NO_RULE = "refused 41 "
 BAD_NAME = "refused 27 "
+NO_MAKEFILE = "refused 37"
 BAD_WORD = re.compile(r"(?:.*: )?BadName \(27\): ([^ \t\n]+): ")
+# What is said where the folder has such a file and no makefile.
+NOT_READ = {
+    "GNUmakefile": f"there is only GNUmakefile, GNU make's own: give -f GNUmakefile; {IMPORT}",
+    "configure": "there is no makefile yet; run ./configure first",
+}
 VARYING = "no varying "
 VARYING_HELP = "use $?, which is empty here: write $^"
 
 
 class Refused(Fault):
-    """mkcheck refused the makefile, by these words; `word` is the one that is no name, if known."""
+    """mkcheck refused the makefile, by these words, which `sentence` explains. `line` is the one of
+    the makefile, if known."""
 
-    def __init__(self, said: str, word: str = "") -> None:
-        sentence = meaning(said, word)
-        super().__init__(f"mkcheck graph: {said}{': ' if sentence else ''}{sentence}")
+    def __init__(self, said: str, sentence: str | None = None, line: str = "") -> None:
+        sentence = meaning(said) if sentence is None else sentence
+        text = f"mkcheck graph: {said}{': ' if sentence else ''}{sentence}"
+        super().__init__(f"{text}\n\t{line}" if line else text)
         self.said = said
 
     @property
@@ -231,18 +239,19 @@ class Checker:
         """What mkcheck prints, unless it refuses."""
         done = self.asked(request, fixed, sources, scratch)
         if done.returncode != 0:
-            said = (done.stdout.strip() or done.stderr).decode("utf-8", "replace").strip()
-            raise Refused(said, self.bad_word(said, fixed, sources, scratch))
+            raise Refused((done.stdout.strip() or done.stderr).decode("utf-8", "replace").strip())
         return done.stdout
 
-    def bad_word(self, said: str, fixed: list[str], sources: list[str], scratch: str) -> str:
-        """The word of the makefile that is no name, if that is why mkcheck refused it: `check -w`
-        tells it."""
-        if not said.startswith(BAD_NAME):
-            return ""
+    def explained(self, said: str, fixed: list[str], sources: list[str], scratch: str) -> Refused:
+        """A refusal with what else is known of it: the word that is no name, and the line of the
+        makefile, as `check -w` tells them; what the folder has in place of a makefile."""
+        if said == NO_MAKEFILE:
+            there = (name for name in NOT_READ if os.path.isfile(os.path.join(self.folder, name)))
+            return Refused(said, next((NOT_READ[name] for name in there), None))
         done = self.asked(["check", "-w"], fixed, sources, scratch)
-        found = BAD_WORD.match(done.stdout.decode("utf-8", "replace"))
-        return found[1] if found else ""
+        head, _, line = done.stdout.decode("utf-8", "replace").partition("\n")
+        found = BAD_WORD.match(head) if said.startswith(BAD_NAME) else None
+        return Refused(said, meaning(said, found[1] if found else ""), line.strip())
 
     def refuse_open_end(
         self, graph: Graph, fixed: list[str], sources: list[str], scratch: str
@@ -279,7 +288,7 @@ def asked_graph(
             name = refused.missing
             path = os.path.join(checker.folder, name or "")
             if name is None:
-                raise
+                raise checker.explained(refused.said, fixed, files, scratch) from None
             if not os.path.isfile(path) or name in files:
                 raise Fault(f"{refused}: {why_missing(name, path)}") from None
             front = os.path.dirname(name)

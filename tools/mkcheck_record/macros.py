@@ -16,7 +16,7 @@ from dataclasses import dataclass, replace
 
 from .faults import Fault
 from .flags import check_options
-from .folders import plain_folder
+from .folders import PLAIN, plain_folder
 from .graphs import Checker, Graph
 
 NAME = re.compile(r"[A-Za-z_][A-Za-z0-9_]*")
@@ -72,6 +72,17 @@ class Prober:
     def with_files(self, *names: str) -> Prober:
         """One that asks as if these files were there too."""
         return replace(self, files=[*self.files, *names])
+
+    def ruled(self, names: Sequence[str], user: str) -> list[str]:
+        """Those of some names, none of which is there, that the makefile makes by recipes, and that
+        `user` may need without a cycle; none where mkcheck refuses one of the rules."""
+        names = [name for name in names if PLAIN.fullmatch(name) and not name.startswith("-")]
+        operands = tuple(word for word in self.checker.words if "=" in word)
+        graph = self.with_files(*names).ask("", "", (*operands, *names)) if names else None
+        if graph is None:
+            return []
+        made, ancestors = graph.targets - graph.phony, graph.ancestors()
+        return [name for name in names if name in made and not ancestors.any_before((user,), name)]
 
     def values(self, *names: str, front: Mapping[str, str] | None = None) -> list[str]:
         """The values of macros, each empty where the makefile sets none. `front` has macros that

@@ -151,6 +151,7 @@ def record_and_write(asked: argparse.Namespace, folder: str, scratch: str) -> No
     ]
     files, graph = asked_graph(checker, fixed, sources, scratch)
     warn = warner()
+    warn_of_prefixes(folder, prefixes, warn)
     if asked.f is None and os.path.exists(os.path.join(folder, "GNUmakefile")):
         warn("GNU make reads GNUmakefile first, which isn't judged here; -f GNUmakefile judges it")
     check_trust(asked.trust, graph.recipes)
@@ -172,6 +173,7 @@ def record_and_write(asked: argparse.Namespace, folder: str, scratch: str) -> No
     varying = warn_of_varying(checker, fixed, files, scratch, warn)
     shop = workshop(asked, folder, graph, hidden, scratch, warn)
     shop.varying = frozenset(varying)
+    shop.ruled = prober.ruled
     shop.macros = handed_down(prober, operands)
     shop.updating = updating_of(asked, shop, graph, fixed, warn)
     follows = not asked.no_replay or shop.updating is not None
@@ -211,6 +213,19 @@ def record_and_write(asked: argparse.Namespace, folder: str, scratch: str) -> No
         targets = [name for name in graph.names if name not in asked.trust]
         passed = {target: verdict.warnings.get(target, []) for target in targets}
         shop.updating.save(text, footprints, passed)
+
+
+def warn_of_prefixes(folder: str, prefixes: list[str], warn: Callable[[str], None]) -> None:
+    """Warns of each prefix that was given under which no file can have its name."""
+    for prefix in prefixes:
+        inside = os.path.relpath(os.path.realpath(os.path.join(folder, prefix)), folder)
+        if not os.path.isdir(os.path.join(folder, prefix)):
+            warn(f"--fixed {prefix}: there is no such folder")
+        elif os.path.isabs(prefix) and inside.split("/")[0] not in (".", ".."):
+            warn(
+                f"--fixed {prefix}: files of the project are named from its folder, so none lies"
+                f" under this prefix; write --fixed {inside}/"
+            )
 
 
 def makefile_of(asked: argparse.Namespace, folder: str) -> str:

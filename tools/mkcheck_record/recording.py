@@ -28,6 +28,8 @@ from .updating import Updating
 from .worlds import Effects, World
 
 Follow = Callable[[], World]
+# The status of a shell that doesn't find a program.
+NOT_FOUND = 127
 
 
 @dataclass
@@ -51,6 +53,7 @@ class Workshop:
     updating: Updating | None = None
     macros: Mapping[str, str] = field(default_factory=dict)
     varying: frozenset[str] = frozenset()
+    ruled: Callable[[list[str], str], list[str]] = field(default=lambda _names, _user: [])
 
     @property
     def environment(self) -> dict[str, str]:
@@ -247,7 +250,8 @@ def run(
         if done.status != 0 and not command.ignored:
             said = failure(recipe, command, done.status, output)
             missed = missed_targets(recipe, accesses, naming, shop)
-            raise RecipeFault("\n".join([said, *missed, *varying_before(recipe, shop)]))
+            more = [*missed, *varying_before(recipe, shop), *was_there(recipe, done.status, shop)]
+            raise RecipeFault("\n".join([said, *more]))
     return accesses
 
 
@@ -255,7 +259,7 @@ def missed_targets(
     recipe: Recipe, accesses: Accesses, naming: Naming, shop: Workshop
 ) -> Iterator[str]:
     """What is said of targets for which a recipe that failed looked in vain, or in whose folders it
-    would have looked, had these been there."""
+    would have looked, had these been there; and of names with rules that the goals don't reach."""
     target = recipe.target
     missing = [path for path in accesses.sought if accesses.tree.status(path) is None]
     sought, absent = named(accesses.sought, naming), set(named(missing, naming))
@@ -266,6 +270,24 @@ def missed_targets(
             front = f"\t{target} looks for {folder}{name}, which the recipe of {name} makes later"
             needed = shop.ancestors.any_before((target,), name)
             yield f"{front}, and needs {target}" if needed else f"{front}: add {target}: {name}"
+    own = [name for name in sought if name in absent and is_own(name)]
+    for name in shop.ruled([name for name in own if name not in shop.ancestors.bits], target):
+        front = f"\t{target} looks for {name}, which has a rule that the goals don't reach"
+        yield f"{front}: add {target}: {name}"
+
+
+def was_there(recipe: Recipe, status: int, shop: Workshop) -> Iterator[str]:
+    """What is said of a target that the folder has, where a program wasn't found that makes it: a
+    release holds such files, so that nobody needs these programs."""
+    target = recipe.target
+    if status != NOT_FOUND or shop.place.folder == shop.folder or target not in shop.absent:
+        return
+    if os.path.isfile(os.path.join(shop.folder, target)):
+        yield (
+            f"\t{target} is there, but a recording makes each target anew: if it came with the"
+            " sources, leave out the commands of its rule, or use mkcheck-import, which takes it as"
+            " it is"
+        )
 
 
 def varying_before(recipe: Recipe, shop: Workshop) -> Iterator[str]:
