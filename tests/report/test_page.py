@@ -171,6 +171,21 @@ class RefusalTest(ReportTest):
         self.race()
         self.assertIn("BadMakefileName (27): a\nb", self.page(2, "-f", "a\nb").text)
 
+    def test_reason_on_standard_error(self) -> None:
+        """A log says why there is no answer, in one line."""
+        self.race()
+        no_path = "a b: the name for `-f` is `-` or no plain path; mend it"
+        no_goal = "a goal is no name, or is `.WAIT` or `-`; give another one"
+        no_rule = "x: no rule makes it and it is no source; mend it, or record again"
+        for word, said in (
+            ("-fa\nb", f"BadMakefileName (27): {no_path}"),
+            ("50%", f"goal:1: BadGoal (27): {no_goal}"),
+            ("x", f"NoRule (41): {no_rule}"),
+        ):
+            for form, path in ((), "report.html"), (("--sarif", "-o", "s"), "s"):
+                errors = self.report(*form, word).errors
+                self.assertEqual(errors, f"mkcheck-report: {path}: refused, {said}\n")
+
     def test_no_makefile(self) -> None:
         """Nothing is there to be shown."""
         self.write("B", '{"format":1,"fixed":[],"sources":[],"records":[]}')

@@ -14,7 +14,8 @@ from mkcheck_record.faults import Fault
 from mkcheck_record.graphs import find_checker
 
 from .asking import Checker
-from .judging import graph_and_book, judge
+from .escaping import clipped, visible
+from .judging import Judged, graph_and_book, judge
 from .page import page
 from .pictures import whole
 from .sarif import sarif
@@ -68,9 +69,19 @@ def report(asked: argparse.Namespace) -> int:
     judged = judge(checker)
     write_text(sarif(judged) if asked.sarif else page(judged), path)
     if path is not None:
-        said = f"no, {judged.counts}" if judged.findings else judged.yes or judged.answer
-        print(f"mkcheck-report: {path}: {said}", file=sys.stderr)
+        print(f"mkcheck-report: {path}: {answer_of(judged)}", file=sys.stderr)
     return judged.status
+
+
+def answer_of(judged: Judged) -> str:
+    """The answer in one line: a no with its counts, a refusal with its reason."""
+    one = judged.refusal
+    if one is None:
+        return f"no, {judged.counts}" if judged.findings else judged.yes or judged.answer
+    words = f"{one.words}: " if one.words else ""
+    place = f"{one.file}:{one.line}: " if one.line else ""
+    said = f"{place}{one.name} ({one.number}): {words}{one.sentence}".replace("\n", " ")
+    return f"{judged.answer}, {visible(clipped(said))}"
 
 
 def output_of(asked: argparse.Namespace, checker: Checker) -> str | None:
