@@ -2,7 +2,9 @@
 
 from __future__ import annotations
 
-from make_folder import MakeFolderTest, can_judge
+import subprocess
+
+from make_folder import MKCHECK, MakeFolderTest, can_judge
 
 
 @can_judge
@@ -405,9 +407,53 @@ class SeveralTargetsTest(MakeFolderTest):
         self.assertEqual(answer.findings, ["no writers p.c p.h p.c", "no writers p.c p.h p.h"])
         self.assertEqual(answer.status, 1)
         self.assertIn(
-            "Makefile:4: the recipes of p.c and p.h (Makefile:4) both write p.c and p.h;",
+            "Makefile:4: the recipes of p.c and p.h (Makefile:4) both write p.c and p.h; let only"
+            " one of them do so, as with `p.h: p.c ;` in place of the recipe of p.h, or with"
+            " `p.c p.h &: ..` (GNU make 4.3)\n",
             answer.output,
         )
+        self.assertNotIn("can be seen already", answer.output)
+        for rules in (
+            "p.c: p.y\n\tcp p.y p.c; cp p.y p.h\np.h: p.c ;\n",
+            "p.c p.h &: p.y\n\tcp p.y p.c; cp p.y p.h\n",
+        ):
+            self.write({"Makefile": f"all: p.c p.h\n.PHONY: all\n{rules}"})
+            answer = self.imported()
+            self.assertEqual((answer.status, answer.findings), (0, []), answer.output)
+
+    def test_two_writers_of_two_rules(self) -> None:
+        """Two recipes that write a third file aren't one."""
+        front = "all: p.c p.h\n.PHONY: all\np.c: p.y\n\tcp p.y p.c; cp p.y"
+        for more, end in (
+            ("p.h\np.h: p.y\n\tcp p.y p.h; cp p.y p.c\n", " in place of the recipe of p.h\n"),
+            ("log\np.h: p.y\n\tcp p.y p.h; cp p.y log\n", "; let only one of them do so\n"),
+        ):
+            self.write({"Makefile": f"{front} {more}", "p.y": "p\n"})
+            answer = self.imported()
+            self.assertEqual(answer.status, 1)
+            self.assertIn(end, answer.output)
+            self.assertNotIn("&:", answer.output)
+
+    def test_findings_that_others_hide(self) -> None:
+        """The command that the answer names shows the stale read of `h`."""
+        self.write(
+            {
+                "Makefile": "all: p.c p.h x\n.PHONY: all\n"
+                "p.c p.h: p.y\n\tcp p.y p.c; cp p.y p.h\nx: a\n\tcat a h > x\n",
+                **{"p.y": "p\n", "a": "a\n", "h": "h\n"},
+            }
+        )
+        answer = self.imported()
+        words = "check -w -f .mkcheck/makefile -b .mkcheck/footprint.json"
+        self.assertIn(
+            "Races and stale reads are looked for when all of these are mended.\n"
+            f"Those that can be seen already are told by `mkcheck {words}`.\n",
+            answer.output,
+        )
+        done = subprocess.run(
+            [MKCHECK, *words.split()], cwd=self.folder, capture_output=True, text=True, check=False
+        )
+        self.assertIn("\n  add: x: h\n", done.stdout)
 
     def test_double_colon(self) -> None:
         self.write(

@@ -46,6 +46,8 @@ class RefusedTest(MakeFolderTest):
     def test_no_rule(self) -> None:
         self.write({"Makefile": "x: missing\n\tcp missing x\n"})
         self.refused("the build failed, so it can't be recorded:\nmake: *** No rule to make target")
+        self.write({"Makefile": "x: a\n\tcp a x\n", "a": "a\n"})
+        self.refused("mend it until `make X=y none` in . succeeds, and import again", "X=y", "none")
 
     def test_build_that_fails(self) -> None:
         self.write({"Makefile": "x: a\n\tcp a x; echo no such luck >&2; false\n", "a": "a\n"})

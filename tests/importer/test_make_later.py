@@ -119,7 +119,8 @@ class DependencyFilesTest(MakeFolderTest):
         self.assertEqual(answer.status, 0, answer.output + answer.errors)
         self.assertEqual(answer.first, "")
         self.assertEqual(answer.rules(), "a.o: a.in h\n\tset +e; cat a.in h > a.o\n")
-        self.assertIn("1 makefile that make makes anew", answer.log)
+        said = "1 makefile that make makes anew when what it is made from changes (a.d): that is"
+        self.assertIn(said, answer.log)
         self.try_answer(answer)
 
     def test_file_without_include(self) -> None:

@@ -259,7 +259,7 @@ class HarmTest(LeftoversTestCase):
         """`make clean` succeeds, and its answer is taken."""
         answer = self.cleaned(recipe, **environment)
         self.stale(answer)
-        self.assertIn("    1 file (a.o) of an earlier build are left out", answer.output)
+        self.assertIn("    1 file (a.o) of an earlier build is left out", answer.output)
 
     def not_told(self, recipe: str) -> None:
         """It fails, so that nothing tells what is there."""

@@ -247,6 +247,16 @@ class WhileReadingTest(UnseenTestCase):
         )
         self.refused("    version: it is made when make reads its makefiles")
 
+    def test_a_file_at_which_make_only_looks(self) -> None:
+        makefile = "$(shell test -f flag)\nx: a\n\tcp a x\n"
+        self.write({"Makefile": makefile, "a": "a\n", "flag": "1\n"})
+        said = (
+            "    commands that make starts when it reads its makefiles look at files without"
+            " reading them, as `test -f` does (flag): import again when one of these comes or goes,"
+            " or gets another size or mode"
+        )
+        self.assertIn(said, self.accepted().output.splitlines())
+
     def test_each_time(self) -> None:
         self.write(
             {

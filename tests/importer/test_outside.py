@@ -37,6 +37,10 @@ class MakeOutsideTest(OutsideTestCase):
         for command in (f"cp a {self.outside}/new", f"echo > {self.outside}/there"):
             self.write({"Makefile": f"x: a\n\t{command}\n\tcp a x\n", "a": "a\n"})
             self.refused(WRITES)
+            self.refused(
+                "\nlet it write in the project or in the folders for temporary files, or import"
+                " goals that don't need it\n"
+            )
 
     def test_recipe_that_goes_on(self) -> None:
         self.write({"Makefile": f"x: a\n\t-rm {self.outside}/there\n\tcp a x\n", "a": "a\n"})

@@ -92,7 +92,8 @@ def build_fault(failure: Failure, command: str, advice: str = "") -> BuildFault:
     if any(re.search(OUTSIDE, line) for line in failure.lines):
         front = f"the build failed{where}, since it writes outside of the project, which an import"
         front += " doesn't allow:"
-        end = "let it write in the project, or in the folders for temporary files"
+        end = "let it write in the project or in the folders for temporary files, or import goals"
+        end += " that don't need it"
     else:
         front = f"the build failed{where}, so it can't be recorded:"
         end = f"mend it until {command} succeeds, and import again"

@@ -300,7 +300,11 @@ class Import:
 
     def sentences(self) -> list[str]:
         """The findings as sentences."""
-        return Sentences(self.build, self.footprints, self.has_first).texts(self.verdict.findings)
+        told = Sentences(self.build, self.footprints, self.has_first)
+        folder = os.path.relpath(self.output, self.root)
+        folder = self.output if folder.startswith("../") else folder
+        words = f"-f {folder}/makefile -b {folder}/footprint.json"
+        return told.texts(self.verdict.findings, f"mkcheck check -w {words}" * self.verdict.hides)
 
     def write_output(self) -> None:
         """Writes what was made so far, and the log, into the folder for it."""

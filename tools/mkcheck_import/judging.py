@@ -29,6 +29,8 @@ OWN_ADVICE = re.compile(
     r"(?:name its goals on the command line of mkcheck-record|record that folder by itself"
     r" \(mkcheck-record -C (.*)\)), or give --opaque \S+ to take it as one recipe"
 )
+# The line of `check -w` before races and stale reads that other findings hide.
+HIDDEN = "once these are mended, as far as can be seen now:"
 # The front of the recorder's lines of progress.
 PROGRESS = re.compile(r"\[(?:\w+ )?\d+/\d+(?: [\d:]+ left)?\] ")
 
@@ -54,6 +56,8 @@ class Verdict:
     findings: list[Finding] = field(default_factory=list)
     ways: list[tuple[str, ...]] = field(default_factory=list)
     refused: str = ""
+    hides: bool = False
+    """Whether `check -w` sees races and stale reads that these findings hide."""
 
     @property
     def is_yes(self) -> bool:
@@ -259,6 +263,7 @@ class Judge:
         kept = [found for found in one.findings if found.kind != "stale"]
         both = {(found.kind, found.words) for found in later.findings}
         verdict = Verdict(later.recipes, later.reads, ways=later.ways, refused=later.refused)
+        verdict.hides = later.hides
         for found in kept:
             in_later = (found.kind, found.words) in both
             verdict.findings.append(Finding(found.kind, found.words, True, in_later))
@@ -298,6 +303,8 @@ class Judge:
                 found = tuple(back.get(word, word) for word in rest[1:])
                 verdict.findings.append(Finding(rest[0], found, False, True))
         if status == 1:
+            _, told, _ = self.ask("check", "-w", *words[1:])
+            verdict.hides = HIDDEN in told.splitlines()
             records = read_footprints(self.path("footprint.json")).records.values()
             reached = {names[name] for name in self.build.reached(True)}
             used = [record for record in records if record.target in reached]

@@ -104,9 +104,11 @@ class Leftovers:
         """Names what was hidden, and targets of which it isn't known whose they are. With `keep`
         all that is there is the project's. `times` are those of the files before the build."""
         if self.copies.hidden:
+            some = self.some(self.copies.hidden)
+            left, taken = ("is", "it is") if some.startswith("1 ") else ("are", "they are")
             build.note(
-                f"{self.some(self.copies.hidden)} of an earlier build are left out, so that the"
-                " build begins from nothing; with --keep they are taken as they are"
+                f"{some} of an earlier build {left} left out, so that the build begins from"
+                f" nothing; with --keep {taken} taken as {taken}"
             )
         build.old_dependencies = self.dependencies
         if keep or self.is_cleaned:

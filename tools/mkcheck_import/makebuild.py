@@ -4,6 +4,7 @@ from __future__ import annotations
 
 import functools
 import os
+import shlex
 from dataclasses import dataclass, field
 
 from mkcheck_record.faults import Fault
@@ -180,7 +181,8 @@ class MakeBuild:
         self.built = self.run("built", is_real=True)
         if self.built[0].status != 0:
             found = failure_of_make(self.copies.seen, self.built[0], self.built)
-            raise build_fault(found, f"`make` in {self.folder}", self.leftovers.sentence())
+            command = f"`{shlex.join(['make', *self.words])}` in {self.folder}"
+            raise build_fault(found, command, self.leftovers.sentence())
         times = times_in(self.copies.place("built").folder)
         self.after = self.run("built", is_real=True)
         again = [rule.name for rule in all_rules(self.after) if rule.ran and not rule.is_phony]
@@ -356,8 +358,9 @@ class MakeBuild:
                         translation.build.remade.setdefault(path, needed)
         if found:
             some = ", ".join(list(found)[:5]) + (" .." if len(found) > 5 else "")
+            made = "they are" if len(found) > 1 else "it is"
             translation.build.note(
-                f"{counted(len(found), 'makefile')} that make makes anew when what they are made"
+                f"{counted(len(found), 'makefile')} that make makes anew when what {made} made"
                 f" from changes ({some}): that is left out"
             )
 

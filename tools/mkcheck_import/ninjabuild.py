@@ -2,6 +2,7 @@
 
 from __future__ import annotations
 
+import shlex
 from dataclasses import dataclass, field
 
 from mkcheck_record.faults import Fault
@@ -51,7 +52,7 @@ class NinjaFolder:
             status, said, errors = run_here(place, command, environment)
             self.is_late = status == 0
         if status != 0:
-            words = f"`ninja` in {self.folder}"
+            words = f"`{shlex.join(['ninja', *self.words])}` in {self.folder}"
             raise build_fault(failure_of_ninja(said, errors), words)
         self.is_built = True
         return ""

@@ -288,9 +288,9 @@ class Readings:
             build.problem(text)
         if self.looked:
             build.note(
-                f"commands that make starts when it reads its makefiles look at"
-                f" {first(self.looked)} and don't read what they hold, as `test -f` does: import"
-                " again when these files come or go, or get another size or mode"
+                "commands that make starts when it reads its makefiles look at files without"
+                f" reading them, as `test -f` does ({first(self.looked)}): import again when one of"
+                " these comes or goes, or gets another size or mode"
             )
         if self.programs:
             build.note(

@@ -145,8 +145,9 @@ class Sentences:
         above = self.starter(self.node(self.writers[file][0]).make, node.make)
         return None if above is None else self.node(above).known_as or self.called(above)
 
-    def texts(self, findings: list[Finding]) -> list[str]:
-        """The sentences, those of one recipe together, and after them the lines to add."""
+    def texts(self, findings: list[Finding], asking: str = "") -> list[str]:
+        """The sentences, those of one recipe together, and after them the lines to add. `asking` is
+        a command that shows findings which these hide."""
         found: list[str] = []
         stale: dict[str, list[str]] = {}
         shared: dict[tuple[str, str], list[str]] = {}
@@ -167,7 +168,7 @@ class Sentences:
             found.append(
                 f"{self.place(recipe)}: the recipes of {self.called(recipe)} and"
                 f" {self.called(other)} ({self.place(other)}) both write {listed(files, 'and')};"
-                " let only one of them do so"
+                f" let only one of them do so{self.one_of_two(recipe, other, files)}"
             )
         for recipe, files in stale.items():
             found.append(
@@ -180,7 +181,19 @@ class Sentences:
             found += ["", heading, *(f"    {line}" for line in advice.texts()), *advice.notes()]
         if findings and not {finding.kind for finding in findings} & {"race", "stale"}:
             found += ["", "Races and stale reads are looked for when all of these are mended."]
+            found += [f"Those that can be seen already are told by `{asking}`."] if asking else []
         return found
+
+    def one_of_two(self, recipe: str, other: str, files: list[str]) -> str:
+        """How only one of two targets that make each other gets a recipe."""
+        one, two = self.node(recipe), self.node(other)
+        if self.tool != "make" or one.make != two.make or not {one.name, two.name} <= {*files}:
+            return ""
+        names = [node.known_as or node.name for node in (one, two)]
+        text = f", as with `{names[1]}: {names[0]} ;` in place of the recipe of {names[1]}"
+        if one.origin is None or one.origin != two.origin:
+            return text
+        return f"{text}, or with `{' '.join(names)} &: ..` (GNU make 4.3)"
 
     def is_unseen(self, recipe: str, file: str) -> bool:
         """Whether make doesn't look at the file again, and it would help little to need its writer,
