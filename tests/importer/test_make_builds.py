@@ -121,6 +121,10 @@ class PlainTest(MakeFolderTest):
             "    x: b\n",
             answer.output,
         )
+        for name in ("Makefile.in", "Makefile.am"):
+            self.write({name: ""})
+            said = f"Add to Makefile (config.status writes it, so say it in {name}):\n    x: b\n"
+            self.assertIn(said, self.imported().output)
 
     def test_findings_of_one_sentence(self) -> None:
         """The first line counts findings, and says how many sentences tell of them."""

@@ -29,12 +29,13 @@ TAKEN_AWAY = (
     " doesn't find it; let it leave that file there"
 )
 
+CONFIGURING = "config.status"
 # What is said of a makefile that a tool wrote, to which lines are to be added.
 GENERATED = {
     "CMake": "CMake writes it, so say it in CMakeLists.txt, by DEPENDS, OBJECT_DEPENDS or"
     " LINK_DEPENDS",
     "Meson": "Meson writes it, so say it in meson.build, by depends, depend_files or link_depends",
-    "config.status": "config.status writes it, so say it in Makefile.am or Makefile.in",
+    CONFIGURING: "config.status writes it, so say it in Makefile.am or Makefile.in",
 }
 
 
@@ -176,13 +177,22 @@ class Sentences:
                 f" {listed(files)} changes"
             )
         for makefile, advice in self.advice.items():
-            how = GENERATED.get(self.build.generators.get(makefile, ""))
+            how = self.generated(makefile)
             heading = f"Add to {makefile} ({how}):" if how else f"Add to {makefile}:"
             found += ["", heading, *(f"    {line}" for line in advice.texts()), *advice.notes()]
         if findings and not {finding.kind for finding in findings} & {"race", "stale"}:
             found += ["", "Races and stale reads are looked for when all of these are mended."]
             found += [f"Those that can be seen already are told by `{asking}`."] if asking else []
         return found
+
+    def generated(self, makefile: str) -> str | None:
+        """What is said of a makefile that a tool wrote, to which lines are to be added."""
+        tool = self.build.generators.get(makefile, "")
+        if tool == CONFIGURING:
+            for name in (f"{makefile}.am", f"{makefile}.in"):
+                if os.path.exists(os.path.join(self.build.root, name)):
+                    return f"{tool} writes it, so say it in {name}"
+        return GENERATED.get(tool)
 
     def one_of_two(self, recipe: str, other: str, files: list[str]) -> str:
         """How only one of two targets that make each other gets a recipe."""
