@@ -139,6 +139,27 @@ class BareTest(ReplayTest):
             said,
         )
 
+    def test_modules_that_python_compiles(self) -> None:
+        """Of a compiled module Python looks at the text, and doesn't read it."""
+        python = os.path.realpath(sys.executable)
+        script = "import one\nopen('{}', 'w').close()\n"
+        rules = "all: a b\na: d/a.py d/one.py\n\t@P@ d/a.py\nb: d/b.py d/one.py\n\t@P@ d/b.py\n"
+        self.write({f"d/{name}.py": script.format(name) for name in "ab"})
+        self.write({"makefile": rules.replace("@P@", python), "d/one.py": "x = 1\n"})
+        words = ("--fixed", os.path.dirname(os.path.dirname(python)))
+        environment = {"PYTHONDONTWRITEBYTECODE": None, "PYTHONPYCACHEPREFIX": None}
+        outcome = self.record(*words, environment=environment)
+        self.assertEqual((outcome.status, outcome.book), (1, None), outcome.errors)
+        said = (
+            "\n\tPython keeps compiled modules in d/__pycache__, and then only looks at their"
+            " texts: remove that folder, and write python3 -B in the recipes\n"
+        )
+        self.assertEqual(outcome.errors.count(said), 2, outcome.errors)
+        self.write({"makefile": rules.replace("@P@", f"{python} -B")})
+        outcome = self.record(*words, environment=environment)
+        self.assertEqual(outcome.status, 0, outcome.errors)
+        self.assertEqual(outcome.own("b")[0] & {"d/b.py", "d/one.py"}, {"d/b.py", "d/one.py"})
+
     def test_a_file_that_the_recipe_takes_away(self) -> None:
         makefile = "a:\n\techo 1 > x; echo > a\n"
         self.passes("out: a\n\tcat x > out; rm x\n" + makefile)

@@ -7,8 +7,10 @@ import shutil
 import socket
 import subprocess
 import sys
+import tempfile
 import time
 import unittest
+from pathlib import Path
 
 from project import ROOT, Outcome, ProjectTest, compiled, traced
 
@@ -947,11 +949,30 @@ class NameTest(Refusals):
             (
                 "mkcheck-record: the recipe of out reads files above the folder: record from the"
                 " folder that holds both, where a makefile there builds this one, or give --fixed"
-                f" PREFIX where they never change\n\tout reads {self.scratch}/above/a\n"
+                f" ../above/ where they never change\n\tout reads {self.scratch}/above/a\n"
             ),
         )
+        (self.scratch / "b").write_text("")
+        said = self.refused("out:\n\tcat ../above/a ../b > out\n")
+        self.assertIn("or give --fixed PREFIX where they never change", said)
         outcome = self.of("out:\n\tcat ../above/a > out\n", {}, "--fixed", "../above")
         self.assertEqual(outcome.own("out"), ({"../above/a"}, {"out"}))
+
+    def test_files_elsewhere(self) -> None:
+        """A prefix is named that holds all of them, unless it is a home."""
+        with tempfile.TemporaryDirectory() as room:
+            other = Path(room).resolve()
+            (other / "d").mkdir()
+            (other / "d" / "a").write_text("")
+            (other / "b").write_text("")
+            makefile = f"out:\n\tcat {other}/d/a {other}/b > out\n"
+            said = self.refused(makefile)
+            self.assertIn(f" nor under a fixed prefix: give --fixed {other}/ where they", said)
+            self.recorded("--fixed", f"{other}/")
+            said = self.record(environment={"HOME": str(other)}).errors
+            self.assertIn(" nor under a fixed prefix: give --fixed PREFIX where they", said)
+            said = self.refused(f"out:\n\tcp {other}/d/a out\n")
+            self.assertIn(f"give --fixed {other}/d/ where they", said)
 
 
 @traced

@@ -16,6 +16,8 @@ from .trees import Tree
 
 Warn = Callable[[str], None]
 TOLD_AT_MOST = 10
+# Stands for an option, till the files are known that need it.
+ANY_PREFIX = "--fixed PREFIX"
 TWINS = "which are one file: mkcheck takes them for two, so let rules and recipes use one name"
 # Some file systems keep stamps by two seconds.
 COARSE = 2_500_000_000
@@ -260,17 +262,30 @@ def refuse_nameless(recipe: Recipe, read: list[str], written: list[str], naming:
     ]
     if not nameless:
         return
-    told: dict[str, list[str]] = {}
+    told: dict[str, list[tuple[str, str]]] = {}
     for verb, path in nameless:
-        told.setdefault(what_helps(verb, path, naming), []).append(
-            f"\t{recipe.target} {verb} {shown(path)}"
-        )
+        told.setdefault(what_helps(verb, path, naming), []).append((verb, path))
     lines: list[str] = []
-    for text, names in told.items():
-        more = len(names) - TOLD_AT_MOST
-        lines += [f"the recipe of {recipe.target} {text}", *names[:TOLD_AT_MOST]]
+    for text, files in told.items():
+        text = text.replace(ANY_PREFIX, f"--fixed {prefix_above([p for _, p in files], naming)}")
+        more = len(files) - TOLD_AT_MOST
+        lines.append(f"the recipe of {recipe.target} {text}")
+        lines += [f"\t{recipe.target} {verb} {shown(p)}" for verb, p in files[:TOLD_AT_MOST]]
         lines += [f"\tand {more} more"] if more > 0 else []
     raise RecipeFault("\n".join(lines))
+
+
+def prefix_above(paths: list[str], naming: Naming) -> str:
+    """The innermost folder that holds all these files, as it is given to --fixed; `PREFIX` where
+    that is a home, or holds the project, and so may hold anything."""
+    folder = os.path.commonpath([os.path.dirname(path) for path in paths])
+    home = os.path.realpath(os.path.expanduser("~"))
+    if folder.count("/") < 2 or folder == home or not is_plain_path(folder):
+        return "PREFIX"
+    if f"{naming.root}/".startswith(f"{folder}/"):
+        return "PREFIX"
+    is_near = folder.startswith(os.path.dirname(naming.root) + "/")
+    return f"{os.path.relpath(folder, naming.root) if is_near else folder}/"
 
 
 def what_helps(verb: str, path: str, naming: Naming) -> str:
@@ -289,10 +304,10 @@ def what_helps(verb: str, path: str, naming: Naming) -> str:
     if above != "/" and path.startswith(above + "/"):
         return (
             "reads files above the folder: record from the folder that holds both, where a makefile"
-            " there builds this one, or give --fixed PREFIX where they never change"
+            f" there builds this one, or give {ANY_PREFIX} where they never change"
         )
     return (
-        "reads files that are neither in the folder nor under a fixed prefix: give --fixed PREFIX"
+        f"reads files that are neither in the folder nor under a fixed prefix: give {ANY_PREFIX}"
         " where they never change, else copy them into the folder"
     )
 

@@ -11,6 +11,7 @@ from .graphs import Recipe
 from .late import Met
 from .refusals import listed
 from .replaying import AGAIN, BARE, DAMAGED, LOOKED, ORDERED, Outcome
+from .worlds import Trial
 
 SHOWN_AT_MOST = 10
 
@@ -160,10 +161,12 @@ def complaint(outcome: Outcome, makers: Mapping[str, list[str]]) -> str:
 
 
 def likely_causes(outcome: Outcome, makers: Mapping[str, list[str]]) -> list[str]:
-    """What a recipe uses and no record can name: folders of others, files that it takes away."""
-    if outcome.run != BARE:
-        return []
+    """What a recipe uses and no record can name: folders of others, files that it takes away; and
+    what Python keeps."""
     trial = outcome.trial
+    compiled = said_of_modules(trial)
+    if compiled or outcome.run != BARE:
+        return compiled
     text = "\n".join(trial.recipe.lines)
     above = {os.path.dirname(name) for name in trial.writes}
     said = []
@@ -179,6 +182,18 @@ def likely_causes(outcome: Outcome, makers: Mapping[str, list[str]]) -> list[str
         f"it takes away {name}, which it neither made nor read: let it do without (rm -f {name})"
         for name in gone[:SHOWN_AT_MOST]
         if name not in trial.before
+    ]
+
+
+def said_of_modules(trial: Trial) -> list[str]:
+    """What is said of a recipe that reads or writes a module that Python compiled in the project:
+    the module's text is only looked at then."""
+    folders = {os.path.dirname(name) for name in (*trial.before, *trial.writes)}
+    kept = sorted(name for name in folders if os.path.basename(name) == "__pycache__")
+    return [
+        f"Python keeps compiled modules in {name}, and then only looks at their texts: remove that"
+        " folder, and write python3 -B in the recipes"
+        for name in kept[:1]
     ]
 
 
