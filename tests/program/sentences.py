@@ -293,6 +293,21 @@ HIDDEN = [
             "  add: c: s",
         ],
     ),
+    # A target whose recipe has no record: that its file isn't waited for is left out, for the line
+    # that would be told stands there already.
+    (
+        "all: y.c m.o\ny.c y.h: y.y\n\tyacc\nm.o: m.c y.h\n\tcc\n",
+        "y.y m.c k.h",
+        "y.c: y.y > y.c y.h = yacc; m.o: m.c y.h k.h > m.o = cc",
+        [
+            f"makefile:2: y.h {NO_RECORD}",
+            RECORD,
+            THEN,
+            "makefile:4: m.o reads k.h, but doesn't depend on it: when it changes, m.o stays old "
+            "[stale]",
+            "  add: m.o: k.h",
+        ],
+    ),
     # A recipe that reads what it writes: all reads of that file are left out.
     (
         TWO,
@@ -386,8 +401,10 @@ HIDDEN = [
         [
             "makefile:3: d isn't phony, but its recipe doesn't write it: as long as there is no "
             "such file, each make runs the recipe again [target]",
-            "  do: let the recipe write its target, and record again; if it is a folder, take it "
-            "out of the prerequisites, and write mkdir -p in the recipes that need it",
+            "  do: let the recipe write its target, and record again; if another recipe writes "
+            "it, write that recipe's target as a prerequisite, and `;` in place of the commands; "
+            "if it is a folder, take it out of the prerequisites, and write mkdir -p in the "
+            "recipes that need it",
             THEN,
             "makefile:3: d reads s, but doesn't depend on it: when it changes, d stays old [stale]",
             "  add: d: s",

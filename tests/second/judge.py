@@ -158,7 +158,8 @@ class Subject:
         unsettled = {
             finding[1] if finding[0] == b"loose" else finding[-1]
             for finding in found
-            if finding[0] in (b"given", b"own", b"unknown", b"writers", b"loose")
+            if finding[0]
+            in (b"record", b"target", b"given", b"own", b"unknown", b"writers", b"loose")
         }
         stale = [
             finding

@@ -231,10 +231,14 @@ def advice(group):
         b"commands": b"record again, with the goals and macros that are checked",
         b"varying": b"write $^ in place of $?, and make the whole file anew in each run",
         b"target": group.one(
-            b"let the recipe write its target, and record again; if it is a folder, take it out of "
-            b"the prerequisites, and write mkdir -p in the recipes that need it",
-            b"let the recipes write their targets, and record again; if they are folders, take "
-            b"them out of the prerequisites, and write mkdir -p in the recipes that need them",
+            b"let the recipe write its target, and record again; if another recipe writes it, "
+            b"write that recipe's target as a prerequisite, and `;` in place of the commands; if "
+            b"it is a folder, take it out of the prerequisites, and write mkdir -p in the recipes "
+            b"that need it",
+            b"let the recipes write their targets, and record again; if other recipes write them, "
+            b"write those recipes' targets as prerequisites, and `;` in place of the commands; if "
+            b"they are folders, take them out of the prerequisites, and write mkdir -p in the "
+            b"recipes that need them",
         ),
         b"writers": b"let each recipe write files of its own, and check a target such as clean by "
         b"itself" + (one_recipe(group) if group.second in group.names else b""),

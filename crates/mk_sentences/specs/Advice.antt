@@ -58,10 +58,14 @@ advice_of VaryingCommands first second who what =
     codes "write $^ in place of $?, and make the whole file anew in each run"
 advice_of NoTarget first second who what =
     by who
-    (codes "let the recipe write its target, and record again; if it is a folder, " ++
-    codes "take it out of the prerequisites, and write mkdir -p in the recipes that need it")
-    (codes "let the recipes write their targets, and record again; if they are folders, " ++
-    codes "take them out of the prerequisites, and write mkdir -p in the recipes that need them")
+    (codes "let the recipe write its target, and record again; if another recipe writes it, " ++
+    (codes "write that recipe's target as a prerequisite, and `;` in place of the commands; " ++
+    (codes "if it is a folder, take it out of the prerequisites, " ++
+    codes "and write mkdir -p in the recipes that need it")))
+    (codes "let the recipes write their targets, and record again; if other recipes write them, " ++
+    (codes "write those recipes' targets as prerequisites, and `;` in place of the commands; " ++
+    (codes "if they are folders, take them out of the prerequisites, " ++
+    codes "and write mkdir -p in the recipes that need them")))
 advice_of TwoWriters first second who what = keep_one first second who
 advice_of GivenWritten first second who what = write_another what
 advice_of OwnRead first second who what =

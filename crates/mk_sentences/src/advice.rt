@@ -123,10 +123,14 @@ pub fn push_advice(
         }
         Kind::NoTarget => out.push_str(by(
             who,
-            "let the recipe write its target, and record again; if it is a folder, \
-             take it out of the prerequisites, and write mkdir -p in the recipes that need it",
-            "let the recipes write their targets, and record again; if they are folders, \
-             take them out of the prerequisites, and write mkdir -p in the recipes that need them",
+            "let the recipe write its target, and record again; if another recipe writes it, \
+             write that recipe's target as a prerequisite, and `;` in place of the commands; \
+             if it is a folder, take it out of the prerequisites, \
+             and write mkdir -p in the recipes that need it",
+            "let the recipes write their targets, and record again; if other recipes write them, \
+             write those recipes' targets as prerequisites, and `;` in place of the commands; \
+             if they are folders, take them out of the prerequisites, \
+             and write mkdir -p in the recipes that need them",
         )),
         Kind::TwoWriters => push_keep_one(out, topic.first, topic.second, who),
         Kind::GivenWritten => push_write_another(out, what),

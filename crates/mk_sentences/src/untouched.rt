@@ -15,7 +15,7 @@ fn file_about<'a>(claim: &Claim<'a>) -> &'a str
     ensures { result.now ≡ file_about (claim_view claim.now) }
 {
     match claim.topic.kind {
-        Kind::TwoWriters | Kind::Loose => claim.who,
+        Kind::NoRecord | Kind::NoTarget | Kind::TwoWriters | Kind::Loose => claim.who,
         Kind::GivenWritten | Kind::OwnRead | Kind::UnknownRead => claim.what,
         _ => "",
     }

@@ -92,7 +92,7 @@ fn only_certificate_option<'a>(alloc: Global) -> Arg<'a>
     Arg::new(alloc, "only-certificate")
         .short('c')
         .action(ArgAction::Count)
-        .help("Prints of a yes the certificate alone, on one line")
+        .help("On yes, prints only the certificate, on one line")
 }
 
 fn in_words_option<'a>(alloc: Global) -> Arg<'a>
@@ -113,7 +113,7 @@ fn evidence_option<'a>(alloc: Global) -> Arg<'a>
         .short('e')
         .value_name("N")
         .value_parser(value_parser!(u64).range(1..))
-        .help("Prints of a no the plan that shows its finding N alone, or no plan")
+        .help("On no, prints only the plan that shows finding N, or `no plan`")
 }
 
 fn certificate_option<'a>(alloc: Global) -> Arg<'a>

@@ -126,8 +126,9 @@ obj/p: obj a.c¶→cc -o obj/p a.c¶obj:¶→mkdir obj¶‖‖a.c
     ‖obj/p: a.c > obj/p = cc -o obj/p a.c; obj: > = mkdir obj
     ‖makefile:3: obj isn't phony, but its recipe doesn't write it: as long as there is no such
      file, each make runs the recipe again [target]¶
-      do: let the recipe write its target, and record again; if it is a folder, take it out of the
-     prerequisites, and write mkdir -p in the recipes that need it¶
+      do: let the recipe write its target, and record again; if another recipe writes it, write
+     that recipe's target as a prerequisite, and `;` in place of the commands; if it is a folder,
+     take it out of the prerequisites, and write mkdir -p in the recipes that need it¶
     once these are mended, check again: races and stale reads may show¶
 all: y.tab.c .WAIT m.o¶m.o: m.c y.tab.h¶→cc -c m.c¶y.tab.h:¶y.tab.c: gram.y¶→yacc -d gram.y¶‖
     ‖m.c gram.y
