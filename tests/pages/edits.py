@@ -12,8 +12,9 @@ ROOT = Path(__file__).resolve().parents[2]
 
 
 def faults_of(edit: Path, crate: Path) -> Iterator[str]:
-    """What is wrong with an edit: no file, or a line of it that doesn't stand there exactly once."""
-    text = None
+    """What is wrong with an edit: a file that isn't there, a line that doesn't stand in it exactly
+    once, or nothing that changes."""
+    text, old = "", ""
     for line in edit.read_text(encoding="utf-8").splitlines():
         if line.startswith("file: "):
             file = crate / line.removeprefix("file: ")
@@ -22,9 +23,11 @@ def faults_of(edit: Path, crate: Path) -> Iterator[str]:
                 return
             text = file.read_text(encoding="utf-8")
         elif line.startswith("old: "):
-            count = (text or "").count(line.removeprefix("old: "))
-            if count != 1:
-                yield f"stands {count} times: {line}"
+            old = line.removeprefix("old: ")
+            if text.count(old) != 1:
+                yield f"stands {text.count(old)} times: {line}"
+        elif line.startswith("new:") and line.removeprefix("new:").strip() == old.strip():
+            yield f"changes nothing: {line}"
 
 
 def wrong_edits() -> int:
