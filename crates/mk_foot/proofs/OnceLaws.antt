@@ -2,6 +2,7 @@
 use Rattle.std.proofs.Common.{◌≡◌, ℕ, Bool, true, false, not, ◌||◌, ◌&&◌, cond, List, [], ◌∷◌, ◌++◌, refl, sym, ap, ◌∙◌}
 use Rattle.std.specs.Prelude.{filter}
 use Rattle.std.specs.Str.{bytes_eq}
+use Rattle.std.proofs.lemmas.Bool.{false≢true}
 use Rattle.std.proofs.lemmas.Slice.Eq.{bytes_eq-Decides}
 use Rattle.mk_foot.specs.Names.{has_name, once}
 use Rattle.mk_foot.specs.Laws.{EachOnce, OnceKeepsFirst}
@@ -76,3 +77,22 @@ once_keeps_first names = record {
   apart = each_once names;
   order = λ name. once_push names name ∙ ap (λ b. cond b (once names) (once names ++ name ∷ [])) (has_once names name);
 }
+
+-- names that differ from the first are all kept
+none_dropped : (name : List ℕ) (names : List (List ℕ)) → has_name names name ≡ false → others name names ≡ names
+none_dropped name [] h = refl
+none_dropped name (x ∷ names) h = by (bytes_eq name x) h (none_dropped name names)
+  where
+    by : (b : Bool) → (b || has_name names name) ≡ false → (has_name names name ≡ false → others name names ≡ names) → cond (not b) (x ∷ others name names) (others name names) ≡ x ∷ names
+    by true e rest = absurd (false≢true (sym e))
+    by false e rest = ap (λ ns. x ∷ ns) (rest e)
+
+-- names without repeats stay as they are
+once_same : (names : List (List ℕ)) → EachOnce names → once names ≡ names
+once_same [] h = refl
+once_same (name ∷ names) h =
+    ap (λ ns. name ∷ others name ns) (once_same names h.1) ∙ ap (λ ns. name ∷ ns) (none_dropped name names h.0)
+
+-- so dropping repeats twice is dropping them once
+pub once_again : (names : List (List ℕ)) → once (once names) ≡ once names
+once_again names = once_same (once names) (each_once names)

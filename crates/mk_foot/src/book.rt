@@ -20,8 +20,9 @@ pub struct Record {
 }
 
 impl Model for Record {
-    ghost use Rattle.std.specs.Prelude.{map};
+    ghost use Rattle.std.specs.Prelude.{◌≡◌, map};
     ghost use Rattle.std.specs.String.{string_bytes};
+    ghost use Rattle.mk_lines.specs.Names.{once};
     ghost use Rattle.mk_foot.specs.Book as value;
 
     ghost Value = { value.Record };
@@ -33,6 +34,9 @@ impl Model for Record {
           reads = map string_bytes r.reads.items;
           writes = map string_bytes r.writes.items;
         } };
+
+    ghost invariant = { λ r. once (map string_bytes r.reads.items) ≡
+        map string_bytes r.reads.items };
 }
 
 /// What a footprint file says for some goals. A contract sees lists of bytes.

@@ -93,6 +93,7 @@ fn reads_of(
 }
 
 /// Converts a record of the file to one of the book.
+#[tactic(auto, using(crate::proofs::OnceLaws::once_again))]
 fn record_of(
     alloc: Global,
     names: &NameTable,

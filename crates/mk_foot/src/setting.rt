@@ -1,10 +1,10 @@
 //! The files that a build starts from.
 
-ghost use Rattle.std.specs.Prelude.{◌≡◌, ℕ, List, map, IfOk};
+ghost use Rattle.std.specs.Prelude.{◌≡◌, ℕ, List, map, IfOk, IfSome};
 ghost use Rattle.std.specs.Option.{option_copied};
 ghost use Rattle.std.specs.String.{string_bytes};
 ghost use Rattle.mk_lines.specs.Places.{place_in};
-ghost use Rattle.mk_foot.specs.Names.{has_name, place_from};
+ghost use Rattle.mk_foot.specs.Names.{has_name, once, place_from};
 ghost use Rattle.mk_foot.specs.Setting.{record_for, is_given, is_editable};
 
 use crate::book::{Book, Record};
@@ -165,12 +165,17 @@ impl Setting {
         self.sources.contains(name) && !self.texts.contains(name)
     }
 
-    /// Returns the first record of a target. It allocates nothing.
+    /// Returns the first record of a target. Its reads have no repeats. It allocates nothing.
     pub fn record_of(&self, name: &str) -> Option<&Record>
-        ensures { option_copied result ≡ record_for self.now.records name.now }
+        ensures found { option_copied result ≡ record_for self.now.records name.now }
+        ensures distinct { IfSome result (λ r. once r.now.reads ≡ r.now.reads) }
     {
         match self.targets.place(name) {
-            Some(place) => Some(&self.records[place]),
+            Some(place) => {
+                let first = &self.records[place];
+                let _reads = &first.reads;
+                Some(first)
+            }
             None => None,
         }
     }
