@@ -1,6 +1,6 @@
 -- What is looked up for the nodes of a subject.
 use Rattle.std.specs.Prelude.{◌≡◌, ◌⊎◌, ℕ, Bool, true, false, not, ◌&&◌, bytes_eq, ◌<◌, ◌==◌, List, [], ◌∷◌, All, filter, length, map, slice_index, Option, None, Some, is_some, Ok, Err, if◌then◌else◌}
-use Rattle.mk_lines.specs.Names.{has_name}
+use Rattle.mk_lines.specs.Names.{has_name, once}
 use Rattle.mk_graph.specs.declared.node.Node.{Node}
 use Rattle.mk_graph.specs.Graph.{node}
 use Rattle.mk_graph.specs.Serial.{serial_order}
@@ -69,10 +69,11 @@ choice_after x n = choice x.makefile (with_more x.there (all_writes x)) (name_of
 abbrev pub StaysChosen : Subject → ℕ → Type 0
 StaysChosen x n = choice_after x n ≡ choice x.makefile x.there (name_of x n)
 
--- The entry holds what is so of the node with its number.
+-- The entry holds what is so of the node with its number, and its record lists no read twice.
 pub record IsEntry (x : Subject) (e : NodeRow) : Type 0 where
   pub same_node : e.node ≡ node x.graph e.number
   pub same_record : e.recorded ≡ record_of x e.number
+  pub distinct : once (reads_in e.recorded) ≡ reads_in e.recorded
   pub same_commands : commands_of x e.number ≡ Ok e.commands
   pub same_others : e.others ≡ has_others e.recorded e.commands.lines
   pub same_unwritten : e.unwritten ≡ is_unwritten e.node e.recorded

@@ -3,10 +3,12 @@
 ghost use Rattle.std.specs.Prelude.{◌≡◌, ◌<◌, length, map, IfOk};
 ghost use Rattle.std.specs.Option.{option_copied};
 ghost use Rattle.std.specs.String.{string_bytes};
+ghost use Rattle.mk_lines.specs.Names.{once};
 ghost use Rattle.mk_foot.specs.Setting as foot;
 ghost use Rattle.mk_graph.specs.Graph.{node};
 ghost use Rattle.mk_graph.specs.Setting as build;
-ghost use Rattle.mk_cert.specs.Records.{recorded_of, records_for};
+ghost use Rattle.mk_cert.specs.NodeRow.{reads_in};
+ghost use Rattle.mk_cert.specs.Records.{HaveDistinctReads, recorded_of, records_for};
 ghost use Rattle.mk_cert.specs.Subject.{footprints};
 
 use crate::node_row::{reads_in, writes_in};
@@ -32,8 +34,9 @@ impl<'a> Model for Records<'a> {
 
     ghost view = { λ r. value.recorded_of r.graph.now r.setting.now };
 
-    ghost invariant = { λ r. map (λ found. option_copied found) r.found.items ≡
-        value.records_for r.graph.now r.setting.now };
+    ghost invariant = { λ r. (map (λ found. option_copied found) r.found.items ≡
+        value.records_for r.graph.now r.setting.now) ×
+        value.HaveDistinctReads (value.records_for r.graph.now r.setting.now) };
 }
 
 /// The record of each node, at its number.
@@ -42,8 +45,9 @@ fn found_for<'a>(
     graph: &Graph,
     setting: &'a Setting,
 ) -> Result<Vec<Option<&'a Record>>, AllocError>
-    ensures { IfOk result (λ found. map (λ found. option_copied found) found.items ≡
+    ensures found { IfOk result (λ found. map (λ found. option_copied found) found.items ≡
         records_for graph.now setting.now) }
+    ensures distinct { IfOk result (λ _. HaveDistinctReads (records_for graph.now setting.now)) }
 {
     let nodes = graph.nodes();
     let mut found = Vec::with_capacity(alloc, nodes.len())?;
@@ -84,11 +88,13 @@ impl<'a> Records<'a> {
         self.setting
     }
 
-    /// The record of a node, if it has one.
+    /// The record of a node, if it has one. It lists no read twice.
     pub fn at(&self, number: usize) -> Option<&'a Record>
         requires { number < length self.now.graph.nodes }
-        ensures { option_copied result ≡
+        ensures found { option_copied result ≡
             foot.record_for self.now.setting.records (node self.now.graph number).name }
+        ensures distinct { once (reads_in (option_copied result)) ≡
+            reads_in (option_copied result) }
     {
         self.found[number]
     }
