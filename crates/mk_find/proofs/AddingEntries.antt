@@ -1,8 +1,6 @@
 -- Entries of a certificate that grow.
-use Rattle.std.proofs.Common.{◌≡◌, ℕ, ◌+◌, ◌<◌, Bool, true, false, cond, inl, inr, length, length-append, reverse, List, [], ◌∷◌, ◌++◌, map, sym, ap, subst, ◌∙◌, append_assoc, append-nil, arith}
-use Rattle.std.proofs.lemmas.List.{length-map, nil_from_length}
-use Rattle.mk_lines.specs.Names.{has_name, once}
-use Rattle.mk_foot.specs.Laws.{OnceKeepsFirst}
+use Rattle.std.proofs.Common.{◌≡◌, ℕ, ◌+◌, ◌<◌, inl, inr, length, length-append, reverse, List, [], ◌∷◌, ◌++◌, get_or, map, take, sym, ap, subst, ◌∙◌, append_assoc, append-nil, arith}
+use Rattle.std.proofs.lemmas.List.{length-map, map_push, nil_from_length, take_more}
 use Rattle.mk_graph.specs.Membership.{Has}
 use Rattle.mk_cert_text.specs.declared.certificate.Finish.{Finish}
 use Rattle.mk_cert.specs.declared.finding.Finding.{Finding}
@@ -49,6 +47,15 @@ adds_entry x r w old new needs is e = record { more = w ∷ []; right = entry ne
 pub adds_no_entry : (x : Subject) (r : Read) (old : List Way) → ¬ (ReadNeedsWay x r) → AddsEntries x (r ∷ []) old old
 adds_no_entry x r old out = record { more = []; right = none out nothing; added = sym (append-nil old) }
 
+-- what is added for the files before a place, and then for the one there
+pub adds_next : (x : Subject) (t i : ℕ) (files : List (List ℕ)) (first old new : List Way) → i < length files → AddsEntries x (reads_of_files t (take i files)) first old → AddsEntries x (record { recipe = t; file = get_or files i [] } ∷ []) old new → AddsEntries x (reads_of_files t (take (i + 1) files)) first new
+adds_next x t i files first old new low so one =
+    let f = get_or files i [] in
+    let r : Read = record { recipe = t; file = f } in
+    let before = take i files in
+    let more : reads_of_files t before ++ r ∷ [] ≡ reads_of_files t (take (i + 1) files) = sym (map_push (λ (g : List ℕ). record { recipe = t; file = g }) before f) ∙ ap (reads_of_files t) (sym (take_more files i [] low)) in
+    subst (λ (l : List Read). AddsEntries x l first new) more (adds_more_entries x (reads_of_files t before) (r ∷ []) first old new so one)
+
 -- the nodes along a first path are nodes of the graph
 pub nodes_low : (x : Subject) (f : List ℕ) (t : ℕ) (nodes : List ℕ) (finish : Finish) → t < length x.graph.nodes → IsAlongFirstPath x f t nodes finish → (n : ℕ) → Has nodes n → n < length x.graph.nodes
 nodes_low x f t nodes finish low goes n h = by (subst (λ (l : List ℕ). Has l n) goes.goes h)
@@ -56,16 +63,6 @@ nodes_low x f t nodes finish low goes n h = by (subst (λ (l : List ℕ). Has l 
     by : Has (t ∷ reverse goes.way) n → n < length x.graph.nodes
     by (inl here) = subst (λ (m : ℕ). m < length x.graph.nodes) here low
     by (inr there) = recipe_is_node x.graph n (carried_are_recipes x t (reverse goes.way) goes.first.path.carried n there)
-
--- one that was there
-pub once_same : OnceKeepsFirst → (files : List (List ℕ)) (f : List ℕ) (seen : List (List ℕ)) → seen ≡ once files → has_name seen f ≡ true → once (files ++ f ∷ []) ≡ once files
-once_same keeps files f seen is e =
-    (keeps files).order f ∙ ap (λ (b : Bool). cond b (once files) (once files ++ f ∷ [])) (sym ((keeps files).same f) ∙ (ap (λ (l : List (List ℕ)). has_name l f) (sym is) ∙ e))
-
--- one that was not
-pub once_new : OnceKeepsFirst → (files : List (List ℕ)) (f : List ℕ) (seen : List (List ℕ)) → seen ≡ once files → has_name seen f ≡ false → once (files ++ f ∷ []) ≡ once files ++ f ∷ []
-once_new keeps files f seen is e =
-    (keeps files).order f ∙ ap (λ (b : Bool). cond b (once files) (once files ++ f ∷ [])) (sym ((keeps files).same f) ∙ (ap (λ (l : List (List ℕ)). has_name l f) (sym is) ∙ e))
 
 -- where nothing is found behind the reads of a recipe, nothing was found before them
 pub nothing_before : (x : Subject) (all : List Candidate) (old new : List Finding) → Adds x all old new → new ≡ [] → old ≡ []

@@ -8,5 +8,4 @@ pub mod Accepted
 pub mod Trying
 pub mod Noting
 pub mod AddingEntries
-pub mod ReadBefore
 pub mod OwnReads

@@ -1,8 +1,9 @@
 -- Whether a read is stale, by the paths that lead to the file.
-use Rattle.std.proofs.Common.{◌≡◌, ◌<◌, ℕ, zero, suc, ◌∷◌, get_or, inl, inr, arith, map, String, Global, true, false, cond, List, [], length, Option, Some, None, MatchOption, is_some, ap, refl, sym, ◌∙◌}
+use Rattle.std.proofs.Common.{◌≡◌, ◌<◌, ℕ, zero, suc, ◌∷◌, get_or, inl, inr, arith, map, String, Global, true, false, cond, List, [], length, Option, Some, None, MatchOption, is_some, Bool, ap, refl, sym, subst, ◌∙◌}
 use Rattle.std.specs.String.{string_bytes}
 use Rattle.std.proofs.lemmas.List.{length-map}
 use Rattle.std.proofs.lemmas.Bool.{false≢true}
+use Rattle.mk_lines.specs.Names.{once}
 use Rattle.mk_foot.specs.Book.{Record}
 use Rattle.mk_foot.specs.Setting as foot
 use Rattle.mk_graph.specs.declared.node.Node.{Node}
@@ -28,6 +29,14 @@ reads_by s name (Some r) e = rw e refl
 -- so an entry reads what the recipe of its node does
 pub same_reads : (x : Subject) (e : NodeRow) → IsEntry x e → entry_reads e ≡ reads_of x e.number
 same_reads x e is = ap (λ (n : Node). cond n.recipe (reads_in e.recorded) []) is.same_node ∙ ap (λ fs. cond (node x.graph e.number).recipe fs []) (reads_by x.setting (name_of x e.number) e.recorded (sym is.same_record))
+
+-- and no file twice
+pub reads_distinct : (x : Subject) (e : NodeRow) → IsEntry x e → once (reads_of x e.number) ≡ reads_of x e.number
+reads_distinct x e is = subst (λ (files : List (List ℕ)). once files ≡ files) (same_reads x e is) (by e.node.recipe)
+  where
+    by : (b : Bool) → once (cond b (reads_in e.recorded) []) ≡ cond b (reads_in e.recorded) []
+    by true = is.distinct
+    by false = refl
 
 -- as many files as the recipe reads
 pub count_is : (x : Subject) (e : NodeRow) (files : List (String Global)) → IsEntry x e → map string_bytes files ≡ entry_reads e → length files ≡ length (reads_of x e.number)

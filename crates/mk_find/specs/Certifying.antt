@@ -1,7 +1,7 @@
 -- The certificate of a build without findings.
-use Rattle.std.specs.Prelude.{◌≡◌, ◌≤◌, ℕ, List, [], ◌∷◌, ◌++◌, length, map, take, slice_index_or, if◌then◌else◌}
+use Rattle.std.specs.Prelude.{◌≡◌, ◌≤◌, ℕ, List, [], ◌∷◌, ◌++◌, length, map}
 use Rattle.std.specs.List.{flat_map}
-use Rattle.mk_lines.specs.Names.{has_name, once}
+use Rattle.mk_lines.specs.Names.{once}
 use Rattle.mk_graph.specs.Membership.{Has}
 use Rattle.mk_graph.specs.Serial.{serial_order}
 use Rattle.mk_cert_text.specs.Certificate.{Way, Certificate}
@@ -45,12 +45,6 @@ pub record AddsEntries (x : Subject) (reads : List Read) (old new : List Way) : 
   pub more : List Way
   pub right : AreEntriesFor x reads more
   pub added : new ≡ old ++ more
-
--- The read at this place of the recipe's record; none if the file also stands at an earlier place.
-abbrev pub new_read : Subject → (recipe place : ℕ) → List Read
-new_read x t place =
-    if has_name (take place (reads_of x t)) (slice_index_or (reads_of x t) place []) then []
-    else (record { recipe = t; file = slice_index_or (reads_of x t) place [] } ∷ [])
 
 -- The certificate has the goals of the graph in their order, and an entry for each read that needs
 -- a way, which has the first path.

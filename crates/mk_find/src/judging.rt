@@ -1,34 +1,30 @@
 //! Judges each read of each recipe once, both for findings and for the certificate.
 
-ghost use Rattle.std.specs.Prelude.{◌≡◌, ◌<◌, ◌∷◌, [], ℕ, length, map, take, slice_index_or, IfOk, MatchOption, OnOk};
-ghost use Rattle.mk_lines.specs.Names.{has_name, with_name};
+ghost use Rattle.std.specs.Prelude.{◌≡◌, ◌∷◌, [], ℕ, map, IfOk, MatchOption, OnOk};
 ghost use Rattle.mk_graph.specs.Membership.{Has};
 ghost use Rattle.mk_graph_search.specs.Ways.{successors};
 ghost use Rattle.mk_cert.specs.Candidates.{stale, stale_candidates, static_candidates};
 ghost use Rattle.mk_cert.specs.Carried.{carried};
-ghost use Rattle.mk_cert.specs.NodeRow.{IsEntry, entry_reads};
+ghost use Rattle.mk_cert.specs.NodeRow.{IsEntry};
 ghost use Rattle.mk_cert.specs.WayTables.{AreEnds};
 ghost use Rattle.mk_cert.specs.Listed.{Adds};
 ghost use Rattle.mk_cert.specs.Listing.{Lists};
 ghost use Rattle.mk_cert.specs.Subject.{reads_of, writes_of};
-ghost use Rattle.mk_find.specs.Certifying.{AddsEntries, AreEntriesFor, ReadNeedsWay, new_read, reads_by, reads_once};
+ghost use Rattle.mk_find.specs.Certifying.{AddsEntries, AreEntriesFor, ReadNeedsWay, reads_by, reads_once};
 ghost use Rattle.mk_find.specs.FirstPaths.{AlwaysNoneBefore, IsAlongFirstPath};
 ghost use Rattle.mk_cert.specs.Target.{target_of};
 
 use crate::certifying::CertificateBuilder;
 use crate::first_path::FirstPath;
 use crate::read_status::{ReadStatus, read_status_of};
-use crate::repeats::is_repeated_read;
 use crate::stale::note_stale;
 use mk_cert::laws::{listed_exactly, nothing_found_is_sound, paths_are_ways};
 use mk_cert::{
     EndTables, FileNames, Finding, NodeRow, Subject, Target, carried_lists, end_tables_of,
 };
 use mk_cert_text::Ways;
-use mk_foot::laws::once_keeps_first;
 use mk_graph::Groups;
 use mk_graph_search::Search;
-use mk_lines::BorrowedNames;
 use std::alloc::{AllocError, Global};
 
 /// Adds the finding `Stale`, if the read is stale. Returns the first path for its certificate
@@ -78,45 +74,8 @@ pub(crate) fn judge_read(
     }
 }
 
-/// Appends the entry for a read that needs one, unless the recipe lists the same file at an earlier
-/// place. If the recipe has many reads, `seen` has the files of the earlier places that needed a
-/// way; this file is added to it.
-fn push_once<'s>(
-    subject: &'s Subject<'_>,
-    entry: &NodeRow<'_>,
-    place: usize,
-    path: &FirstPath,
-    seen: &mut BorrowedNames<'s>,
-    ways: &mut CertificateBuilder,
-) -> Result<(), AllocError>
-    requires entry { IsEntry subject.now entry.now }
-    requires place { place < length (entry_reads entry.now) }
-    requires seen { 4 < length (reads_of subject.now entry.now.number) →
-        has_name seen.old (slice_index_or (reads_of subject.now entry.now.number) place []) ≡
-        has_name (take place (reads_of subject.now entry.now.number))
-        (slice_index_or (reads_of subject.now entry.now.number) place []) }
-    requires needs { ReadNeedsWay subject.now (record {
-      recipe = entry.now.number;
-      file = slice_index_or (reads_of subject.now entry.now.number) place [];
-    }) }
-    requires first { IsAlongFirstPath subject.now
-        (slice_index_or (reads_of subject.now entry.now.number) place []) entry.now.number
-        path.now.nodes.items path.now.finish }
-    ensures ways { OnOk result (AddsEntries subject.now
-        (new_read subject.now entry.now.number place) ways.old ways.new) }
-    ensures seen { OnOk result (4 < length (reads_of subject.now entry.now.number) →
-        seen.new ≡ with_name seen.old
-        (slice_index_or (reads_of subject.now entry.now.number) place [])) }
-{
-    if is_repeated_read(subject, entry, place, seen)? {
-        return Ok(());
-    }
-    let file = subject.read(entry, place).file;
-    ways.push(subject, entry, file, path)
-}
-
 /// Adds the finding `Stale` for each stale read of a recipe; as long as there are no findings, also
-/// appends the entries for its reads.
+/// appends the entries for its reads. A record lists no file twice, so no read gets two entries.
 fn judge_reads(
     subject: &Subject<'_>,
     ends: &EndTables<'_>,
@@ -140,9 +99,7 @@ fn judge_reads(
         (reads_by subject.now entry.now.number) ways.old ways.new) }
 {
     nothing_found_is_sound();
-    once_keeps_first();
     let _graph = subject.graph();
-    let mut seen = BorrowedNames::new(*found.allocator());
     let mut passed = 0;
     for place in 0..subject.count_of_reads(entry.number) {
         let file = subject.read(entry, place);
@@ -157,7 +114,7 @@ fn judge_reads(
             found,
         )?;
         if let Some(path) = path {
-            push_once(subject, entry, place, &path, &mut seen, ways)?;
+            ways.push(subject, entry, file.file, &path)?;
         }
     }
     Ok(())

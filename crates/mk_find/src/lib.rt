@@ -8,7 +8,6 @@ mod hidden;
 mod judging;
 pub mod laws;
 mod read_status;
-mod repeats;
 mod stale;
 
 pub use certifying::certify;

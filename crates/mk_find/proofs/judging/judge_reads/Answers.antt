@@ -1,7 +1,8 @@
--- Each file of the record is judged in its turn, and has its entry once.
+-- Each file of the record is judged in its turn, and has its entry once, as the record has no
+-- repeats.
 use Rattle.std.proofs.Common.{◌≡◌, ◌∙◌, ◌<◌, ◌≤◌, ◌+◌, ◌∷◌, ◌++◌, [], refl, ℕ, List, Option, MatchOption, ap, sym, subst, length, get_or, map, drop, take, arith}
-use Rattle.std.proofs.lemmas.List.{take_more, take_all}
-use Rattle.mk_lines.specs.Names.{has_name, once}
+use Rattle.std.proofs.lemmas.List.{take_all}
+use Rattle.mk_lines.specs.Names.{once}
 use Rattle.mk_graph.specs.Membership.{Has}
 use Rattle.mk_graph_search.specs.Places.{SearchInput}
 use Rattle.mk_graph_search.specs.Ways.{successors}
@@ -13,17 +14,16 @@ use Rattle.mk_cert.specs.NodeRow.{NodeRow}
 use Rattle.mk_cert.specs.Listed.{Adds}
 use Rattle.mk_cert.specs.Subject.{reads_of}
 use Rattle.mk_cert.specs.Target.{Target, target_of}
-use Rattle.mk_find.specs.Certifying.{ReadNeedsWay, AddsEntries}
+use Rattle.mk_find.specs.Certifying.{ReadNeedsWay, IsEntryFor, AddsEntries}
 use Rattle.mk_cert.proofs.Adding.{drop_past, leads_map, leads_done}
-use Rattle.mk_find.proofs.AddingEntries.{reads_of_files, adds_no_entries, nothing_before}
-use Rattle.mk_find.proofs.Noting.{at_place, reader_writes_not, same_reads}
-use Rattle.mk_find.proofs.ReadBefore.{Knows, adds_past, adds_read, knows_more, knows_past}
+use Rattle.mk_find.proofs.AddingEntries.{reads_of_files, adds_entry, adds_next, adds_no_entries, adds_no_entry, nothing_before}
+use Rattle.mk_find.proofs.Noting.{at_place, reader_writes_not, reads_distinct, same_reads}
 use Rattle.mk_find.proofs.Trying.{always_none_before_first}
 use Rattle.mk_find.proofs.judging.judge_reads.Goals as goal
-use Rattle.mk_find.proofs.judging.judge_reads.Goals.{in-Some+in_ok-push_once, in_default}
+use Rattle.mk_find.proofs.judging.judge_reads.Goals.{in-Some+in_ok-push, in_default}
 
 pub loop-place-init : goal.loop-place-init
-loop-place-init c = (refl, λ last h. h, (λ none many g needs. ap (λ (names : List (List ℕ)). has_name names g) c.new-seen.ensures), λ none. adds_no_entries c.args.subject.now c.args.ways.now, always_none_before_first c.args.subject.now c.args.search.now.start)
+loop-place-init c = (refl, λ last h. h, λ none. adds_no_entries c.args.subject.now c.args.ways.now, always_none_before_first c.args.subject.now c.args.search.now.start)
 
 pub read-file-requires-clause-place : goal.read-file-requires-clause-place
 read-file-requires-clause-place c =
@@ -62,25 +62,23 @@ judge_read-requires-clause-out c =
     let reads : Has (reads_of x e.number) c.read-file.result.file = subst (λ (v : Target). Has (reads_of x e.number) v.file) (sym c.read-file.ensures) (at_place (reads_of x e.number) i [] low) in
     reader_writes_not c.nothing_found_is_sound.ensures x c.graph-graph.ensures.graph c.graph-graph.ensures.subject c.requires.nothing e.number c.read-file.result.file reads
 
-pub push_once-requires : goal.push_once-requires
-push_once-requires c =
+pub push-requires : goal.push-requires
+push-requires c =
     let x = c.args.subject.now in
     let e = c.args.entry.now in
     let t = e.number in
     let i = c.loop-place.place in
-    let g = get_or (reads_of x t) i [] in
     let f = c.read-file.result.file in
-    let is : f ≡ g = ap (λ (v : Target). v.file) c.read-file.ensures in
+    let is : c.file.inside.file.now ≡ f = ap (λ (v : Target). v.file) c.file.view_is in
     let count = c.count_of_reads-place-end.ensures ∙ ap (λ (k : NodeRow). length (reads_of x k.number)) c.entry.view_is in
+    let low : i < length (reads_of x t) = omega (arith, c.loop-place-test.true, count) in
     let told = λ (o : Option FirstPath). MatchOption o (c.judge_read.new.found.items ≡ [] → ¬ (ReadNeedsWay x (record { recipe = t; file = f }))) (λ path. (c.judge_read.new.found.items ≡ []) × ReadNeedsWay x (record { recipe = t; file = f }) × IsAlongFirstPath x f t path.nodes.items path.finish) in
     let (none, needs, first) = subst told c.in-Some.is c.in_ok-path.ensures.path in
-    let needed = subst (λ (k : List ℕ). ReadNeedsWay x (record { recipe = t; file = k })) is needs in
+    let reads : Has (reads_of x t) f = subst (λ (v : Target). Has (reads_of x t) v.file) (sym c.read-file.ensures) (at_place (reads_of x t) i [] low) in
     record {
       entry = c.requires.entry;
-      place = omega (arith, c.loop-place-test.true, count, ap (λ (l : List (List ℕ)). length l) (same_reads x e c.requires.entry));
-      seen = λ many. c.loop-place.invariant.2 (nothing_before x (stale t f ∷ []) c.loop-place.found.items c.judge_read.new.found.items c.in_ok-path.ensures.found none) many g needed;
-      needs = needed;
-      first = subst (λ (k : List ℕ). IsAlongFirstPath x k t c.in-Some.path.nodes.items c.in-Some.path.finish) is first;
+      read = subst (λ (k : List ℕ). Has (reads_of x t) k) (sym is) reads;
+      first = subst (λ (k : List ℕ). IsAlongFirstPath x k t c.in-Some.path.nodes.items c.in-Some.path.finish) (sym is) first;
     }
 
 pub loop-place-preserved : goal.loop-place-preserved
@@ -91,31 +89,29 @@ loop-place-preserved c =
     let i = c.loop-place.place in
     let g = get_or files i [] in
     let f = c.read-file.result.file in
-    let before = take i files in
     let is : f ≡ g = ap (λ (v : Target). v.file) c.read-file.ensures in
     let count = c.count_of_reads-place-end.ensures ∙ ap (λ (k : NodeRow). length (reads_of x k.number)) c.entry.view_is in
     let low : i < length files = omega (arith, c.loop-place-test.true, count) in
-    let after : take (i + 1) files ≡ before ++ g ∷ [] = take_more files i [] low in
     let inv = c.loop-place.invariant in
     let found = c.judge_read.new.found.items in
     let added = c.in_ok-path.ensures.found in
     let earlier : found ≡ [] → c.loop-place.found.items ≡ [] = λ none. nothing_before x (stale t f ∷ []) c.loop-place.found.items found added none in
     let told = λ (o : Option FirstPath). MatchOption o (found ≡ [] → ¬ (ReadNeedsWay x (record { recipe = t; file = f }))) (λ path. (found ≡ []) × ReadNeedsWay x (record { recipe = t; file = f }) × IsAlongFirstPath x f t path.nodes.items path.finish) in
     let out : (found ≡ [] → ¬ (ReadNeedsWay x (record { recipe = t; file = f }))) → found ≡ [] → ¬ (ReadNeedsWay x (record { recipe = t; file = g })) = λ h none. subst (λ (k : List ℕ). ¬ (ReadNeedsWay x (record { recipe = t; file = k }))) is (h none) in
-    let knows : found ≡ [] → 4 < length files → Knows x t (take (i + 1) files) c.match-path.seen = λ none many.
-    subst (λ (l : List (List ℕ)). Knows x t l c.match-path.seen) (sym after)
-    (elim c.match-path.branch [
-      | in-Some+in_ok-push_once w ↦ rw w.seen-is (subst (λ (names : List (List ℕ)). Knows x t (before ++ g ∷ []) names) (sym (w.in_ok-push_once.ensures.seen many)) (knows_more x t before c.loop-place.seen g (inv.2 (earlier none) many)))
-      | in_default w ↦ rw w.seen-is (knows_past x t before c.loop-place.seen g (out (subst told w.in_default.is c.in_ok-path.ensures.path) none) (inv.2 (earlier none) many))
-    ]) in
-    let ways : found ≡ [] → AddsEntries x (reads_of_files t (once (take (i + 1) files))) c.args.ways.now c.match-path.ways = λ none.
+    let ways : found ≡ [] → AddsEntries x (reads_of_files t (take (i + 1) files)) c.args.ways.now c.match-path.ways = λ none.
+    let so = inv.2 (earlier none) in
     elim c.match-path.branch [
-      | in-Some+in_ok-push_once w ↦ rw w.ways-is (adds_read c.once_keeps_first.ensures x t i c.args.ways.now c.loop-place.ways w.push_once.new.ways low (inv.3 (earlier none)) w.in_ok-push_once.ensures.ways)
-      | in_default w ↦ rw w.ways-is (adds_read c.once_keeps_first.ensures x t i c.args.ways.now c.loop-place.ways c.loop-place.ways low (inv.3 (earlier none)) (adds_past x t i c.loop-place.ways (out (subst told w.in_default.is c.in_ok-path.ensures.path) none)))
+      | in-Some+in_ok-push w ↦
+          let (empty, needs, first) = subst told w.in-Some.is c.in_ok-path.ensures.path in
+          let (way, right, grown) = w.in_ok-push.ensures in
+          let file : c.file.inside.file.now ≡ g = ap (λ (v : Target). v.file) c.file.view_is ∙ is in
+          let needed = subst (λ (k : List ℕ). ReadNeedsWay x (record { recipe = t; file = k })) is needs in
+          let entry = subst (λ (k : List ℕ). IsEntryFor x (record { recipe = t; file = k }) way) file right in
+          rw w.ways-is (adds_next x t i files c.args.ways.now c.loop-place.ways w.push.new.self low so (adds_entry x (record { recipe = t; file = g }) way c.loop-place.ways w.push.new.self needed entry grown))
+      | in_default w ↦ rw w.ways-is (adds_next x t i files c.args.ways.now c.loop-place.ways c.loop-place.ways low so (adds_no_entry x (record { recipe = t; file = g }) c.loop-place.ways (out (subst told w.in_default.is c.in_ok-path.ensures.path) none)))
     ] in (
       c.in_ok-path.ensures.same ∙ inv.0,
       leads_map x (λ k. stale t k) files i [] _ c.loop-place.found.items found c.args.found.now.items low inv.1 (subst (λ (k : List ℕ). Adds x (stale t k ∷ []) c.loop-place.found.items found) is added),
-      knows,
       ways,
       subst (λ (task : SearchInput). AlwaysNoneBefore x task.start c.judge_read.new.passed) (sym c.in_ok-path.ensures.same) c.in_ok-path.ensures.passed,
     )
@@ -136,4 +132,5 @@ returns-clause-ways c none =
     let i = c.loop-place.place in
     let count = c.count_of_reads-place-end.ensures ∙ ap (λ (k : NodeRow). length (reads_of x k.number)) c.entry.view_is in
     let past : length (reads_of x e.number) ≤ i = omega (arith, c.loop-place-test.false, count) in
-    subst (λ (l : List (List ℕ)). AddsEntries x (reads_of_files e.number (once l)) c.args.ways.now c.loop-place.ways) (take_all i (reads_of x e.number) past) (c.loop-place.invariant.3 none)
+    let all : take i (reads_of x e.number) ≡ once (reads_of x e.number) = take_all i (reads_of x e.number) past ∙ sym (reads_distinct x e c.requires.entry) in
+    subst (λ (l : List (List ℕ)). AddsEntries x (reads_of_files e.number l) c.args.ways.now c.loop-place.ways) all (c.loop-place.invariant.2 none)
